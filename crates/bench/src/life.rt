@@ -1,7 +1,7 @@
 //! The machine that is measured, from its first visit to its last.
 ghost use Rattle.std.specs.Prelude.{◌≡◌, ◌≤◌};
 ghost use Rattle.frame_word.specs.Seats.{IsShut, first_zone_view, first_cpu_view};
-ghost use Rattle.stock_word.specs.Stock.{first_machine, first_processor};
+ghost use Rattle.stock_word.specs.Stock.{first_zone_stock, first_processor};
 ghost use Rattle.cpu_part.specs.Cpus.{IsIdle};
 
 use crate::costs::Pace;
@@ -29,7 +29,7 @@ struct Parts {
     payer: StockSeat,
     ghost sizes: { (frames.cpus ≡ 1) × (stocks.cpus ≡ 1) },
     ghost zone_is: { (zone.table ≡ frames.table) × (zone.view ≡ first_zone_view frames.frames) },
-    ghost machine_is: { (machine.table ≡ stocks.table) × (machine.view ≡ first_machine) },
+    ghost machine_is: { (machine.table ≡ stocks.table) × (machine.view ≡ first_zone_stock) },
     ghost seat_is: { (seat.table ≡ frames.table) × (seat.view ≡ first_cpu_view 1) },
     ghost payer_is: { (payer.table ≡ stocks.table) × (payer.view ≡ first_processor 1) },
 }

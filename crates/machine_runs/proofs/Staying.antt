@@ -42,7 +42,7 @@ pub zone_stays : (t : KnownTable) (m n : KnownMachine) (c : KnownCpu) → Visits
 zone_stays t m n c visit zone = seats_stay t m n c c visit zone refl refl
 
 pub made_stays : {E : Type 0} (r : Result ℕ E) (t : KnownTable) (m n : KnownMachine) (c : KnownCpu) (path : List ℕ) → Visits t (side m c)
-    → IfOk r (λ g. AddsGroup m g path n) → OnErr r (n ≡ m) → Stays t m c n c
+    → IfOk r (λ g. AddsGroup g path m n) → OnErr r (n ≡ m) → Stays t m c n c
 made_stays (Ok g) t m n c path visit made same = zone_stays t m n c visit (ap (λ (k : KnownMachine). k.seat) made.machine)
 made_stays (Err e) t m n c path visit made same = zone_stays t m n c visit (ap (λ (k : KnownMachine). k.seat) same)
 
@@ -50,10 +50,10 @@ made_stays (Err e) t m n c path visit made same = zone_stays t m n c visit (ap (
 
 lent_seats : (frames : List ℕ) (m : KnownMachine) (c : KnownCpu) (n : KnownMachine) (d : KnownCpu) → LendsMany frames (side m c) (side n d)
     → (n.seat.view.opened ≡ m.seat.view.opened) × (d.number ≡ c.number)
-lent_seats [] m c n d lends = (ap (λ (k : KnownMachine). k.seat.view.opened) lends.0, ap (λ (e : KnownCpu). e.number) lends.1)
+lent_seats [] m c n d lends = (ap (λ (k : KnownMachine). k.seat.view.opened) lends.machine, ap (λ (e : KnownCpu). e.number) lends.cpu)
 lent_seats (f ∷ frames) m c n d lends =
     let rest = lent_seats frames lends.0.machine lends.0.cpu n d lends.2 in
-    (rest.0 ∙ ap (λ (k : KnownMachine). k.seat.view.opened) lends.1.machine, rest.1 ∙ ap (λ (e : KnownCpu). e.number) lends.1.cpu)
+    (rest.0 ∙ ap (λ (k : KnownMachine). k.seat.view.opened) lends.1.lends.machine, rest.1 ∙ ap (λ (e : KnownCpu). e.number) lends.1.lends.cpu)
 
 pub refill_stays : (t : KnownTable) (k : ℕ) (m : KnownMachine) (c : KnownCpu) (n : KnownMachine) (d : KnownCpu) → Refills t k (side m c) (side n d) → Visits t (side n d)
     → Stays t m c n d
@@ -63,7 +63,7 @@ refill_stays t k m c n d refills visit =
 
 taken_seats : (frames : List ℕ) (m : KnownMachine) (c : KnownCpu) (n : KnownMachine) (d : KnownCpu) → TakesManyBack frames (side m c) (side n d)
     → (n.seat.view.opened ≡ m.seat.view.opened) × (d.number ≡ c.number)
-taken_seats [] m c n d takes = (ap (λ (k : KnownMachine). k.seat.view.opened) takes.0, ap (λ (e : KnownCpu). e.number) takes.1)
+taken_seats [] m c n d takes = (ap (λ (k : KnownMachine). k.seat.view.opened) takes.machine, ap (λ (e : KnownCpu). e.number) takes.cpu)
 taken_seats (f ∷ frames) m c n d takes =
     let rest = taken_seats frames takes.0.machine takes.0.cpu n d takes.2 in
     (rest.0 ∙ ap (λ (k : KnownMachine). k.seat.view.opened) takes.1.machine, rest.1 ∙ ap (λ (e : KnownCpu). e.number) takes.1.cpu)
@@ -76,7 +76,7 @@ drain_list_stays t frames m c n d takes visit =
 
 -- ---- stocks
 
-below_seat : (g : ℕ) (m : KnownMachine) (q : ℕ) (drains : List Drain) (n : KnownMachine) → DrainsBelow g m q drains n → n.seat ≡ m.seat
+below_seat : (g : ℕ) (m : KnownMachine) (q : ℕ) (drains : List Drain) (n : KnownMachine) → DrainsBelow g q drains m n → n.seat ≡ m.seat
 below_seat g m q [] n d = ap (λ (k : KnownMachine). k.seat) d.1
 below_seat g m q (e ∷ []) n d = ap (λ (k : KnownMachine). k.seat) d.1.drains.drains.machine
 below_seat g m q (e ∷ f ∷ more) n d = absurd d
@@ -108,14 +108,14 @@ fresh_one f m c n d settles false e = ap (λ (k : KnownMachine). k.seat.view.ope
 
 fresh_opened : (frames : List ℕ) (m : KnownMachine) (c : KnownCpu) (n : KnownMachine) (d : KnownCpu) → SettlesAllFresh frames (side m c) (side n d)
     → n.seat.view.opened ≡ m.seat.view.opened
-fresh_opened [] m c n d settles = ap (λ (k : KnownMachine). k.seat.view.opened) settles.0
+fresh_opened [] m c n d settles = ap (λ (k : KnownMachine). k.seat.view.opened) settles.machine
 fresh_opened (f ∷ frames) m c n d settles =
     fresh_opened frames settles.0.machine settles.0.cpu n d settles.2
     ∙ fresh_one f m c settles.0.machine settles.0.cpu settles.1 (is_killed m.killed (fresh_group c)) refl
 
 back_opened : (frames : List ℕ) (m : KnownMachine) (c : KnownCpu) (n : KnownMachine) (d : KnownCpu) → ReturnsAllBack frames (side m c) (side n d)
     → n.seat.view.opened ≡ m.seat.view.opened
-back_opened [] m c n d returns = ap (λ (k : KnownMachine). k.seat.view.opened) returns.0
+back_opened [] m c n d returns = ap (λ (k : KnownMachine). k.seat.view.opened) returns.machine
 back_opened (f ∷ frames) m c n d returns =
     back_opened frames returns.0.machine returns.0.cpu n d returns.2 ∙ ap (λ (k : KnownMachine). k.seat.view.opened) returns.1.machine
 
@@ -127,12 +127,12 @@ settle_stays t m c n d settles others visit = record {
   number = others.number;
 }
 
-refused_opened : (m : KnownMachine) (g k : ℕ) (f : TakeFault) (n : KnownMachine) → RefusesBlock m g k f n → n.seat.view.opened ≡ m.seat.view.opened
+refused_opened : (m : KnownMachine) (g k : ℕ) (f : TakeFault) (n : KnownMachine) → RefusesBlock g k f m n → n.seat.view.opened ≡ m.seat.view.opened
 refused_opened m g k (fault.Over over) n refuses = ap (λ (x : KnownMachine). x.seat.view.opened) refuses.1
 refused_opened m g k fault.NoBlock n refuses = ap (λ (x : KnownMachine). x.seat.view.opened) refuses.machine
 
 pub block_stays : (r : Result ℕ TakeFault) (t : KnownTable) (g k : ℕ) (m : KnownMachine) (c : KnownCpu) (n : KnownMachine) (d : KnownCpu)
-    → IfOk r (λ head. TakesBlock m g k head n) → IfErr r (λ f. RefusesBlock m g k f n) → d ≡ c → Visits t (side n d) → Stays t m c n d
+    → IfOk r (λ head. TakesBlock g k head m n) → IfErr r (λ f. RefusesBlock g k f m n) → d ≡ c → Visits t (side n d) → Stays t m c n d
 block_stays (Ok head) t g k m c n d takes refuses same visit = record {
   visit = visit;
   opened = ap (λ (x : KnownMachine). x.seat.view.opened) takes.machine;
@@ -144,7 +144,7 @@ block_stays (Err f) t g k m c n d takes refuses same visit = record {
   number = ap (λ (e : KnownCpu). e.number) same;
 }
 
-pub release_stays : (r : Released) (t : KnownTable) (f : ℕ) (m : KnownMachine) (c : KnownCpu) (n : KnownMachine) → Releases m f r n → Visits t (side n c)
+pub release_stays : (r : Released) (t : KnownTable) (f : ℕ) (m : KnownMachine) (c : KnownCpu) (n : KnownMachine) → Releases f r m n → Visits t (side n c)
     → Stays t m c n c
 release_stays (Left left) t f m c n releases visit =
     record { visit = visit; opened = ap (λ (x : KnownMachine). x.seat.view.opened) releases.machine; number = refl }

@@ -1,7 +1,7 @@
 //! A machine of the greatest sizes, 65,536 frames and 16 processors, of which the last is lent frames and gives them back.
 ghost use Rattle.std.specs.Prelude.{◌≡◌, ◌≤◌};
 ghost use Rattle.frame_word.specs.Seats.{IsShut, first_zone_view, first_cpu_view};
-ghost use Rattle.stock_word.specs.Stock.{first_machine, first_processor};
+ghost use Rattle.stock_word.specs.Stock.{first_zone_stock, first_processor};
 
 use crate::agrees::machine_agrees;
 use crate::parts::{ProcessorSeats, close_processor, new_processor};
@@ -23,7 +23,7 @@ struct LargeParts<const F: u32> {
     last: ProcessorSeats,
     ghost sizes: { (frames.frames ≡ F) × (frames.cpus ≡ 16) × (stocks.cpus ≡ 16) },
     ghost zone_is: { (zone.table ≡ frames.table) × (zone.view ≡ first_zone_view F) },
-    ghost machine_is: { (machine.table ≡ stocks.table) × (machine.view ≡ first_machine) },
+    ghost machine_is: { (machine.table ≡ stocks.table) × (machine.view ≡ first_zone_stock) },
     ghost last_is: { (last.frames.table ≡ frames.table) × (last.frames.view ≡ first_cpu_view 16) },
     ghost last_pays: { (last.stock.table ≡ stocks.table) × (last.stock.view ≡ first_processor 16) },
 }

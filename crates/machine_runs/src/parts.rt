@@ -1,7 +1,7 @@
 //! The tables and the seats of a boot with four processors.
 ghost use Rattle.std.specs.Prelude.{◌≡◌, ◌≤◌};
 ghost use Rattle.frame_word.specs.Seats.{first_zone_view, first_cpu_view, number_of, IsCpuSeat};
-ghost use Rattle.stock_word.specs.Stock.{first_machine, first_processor, IsProcessor};
+ghost use Rattle.stock_word.specs.Stock.{first_zone_stock, first_processor, IsProcessor};
 
 use cpu_part::{BootName, Cpu};
 use frame_word::{FrameSeat, FrameWords};
@@ -29,7 +29,7 @@ pub struct MachineParts<const F: u32> {
     pub fourth: ProcessorSeats,
     pub ghost sizes: { (frames.frames ≡ F) × (frames.cpus ≡ 4) × (stocks.cpus ≡ 4) },
     pub ghost zone_is: { (zone.table ≡ frames.table) × (zone.view ≡ first_zone_view F) },
-    pub ghost machine_is: { (machine.table ≡ stocks.table) × (machine.view ≡ first_machine) },
+    pub ghost machine_is: { (machine.table ≡ stocks.table) × (machine.view ≡ first_zone_stock) },
     pub ghost first_is: { (first.frames.table ≡ frames.table) × (first.frames.view ≡ first_cpu_view 1) },
     pub ghost second_is: { (second.frames.table ≡ frames.table) × (second.frames.view ≡ first_cpu_view 2) },
     pub ghost third_is: { (third.frames.table ≡ frames.table) × (third.frames.view ≡ first_cpu_view 3) },

@@ -2,7 +2,7 @@
 
 ghost use Rattle.std.specs.Prelude.{◌≡◌};
 ghost use Rattle.frame_word.specs.Seats.{first_zone_view};
-ghost use Rattle.stock_word.specs.Stock.{first_machine};
+ghost use Rattle.stock_word.specs.Stock.{first_zone_stock};
 ghost use Rattle.machine_runs.specs.Visiting.{AllShut};
 
 use crate::account::MachineAccount;
@@ -86,7 +86,7 @@ fn new_machine<N: BootName>(
     stock: StockSeat,
 ) -> Machine<N>
     requires zone { zone ≡ record { table = N.frames.table; view = first_zone_view N.frames.frames } }
-    requires stock { stock ≡ record { table = N.stocks.table; view = first_machine } }
+    requires stock { stock ≡ record { table = N.stocks.table; view = first_zone_stock } }
     requires cpus { N.stocks.cpus ≡ N.frames.cpus }
     ensures { AllShut result }
 {

@@ -144,15 +144,15 @@ pub record LentPart (frames : List ℕ) (m : KnownMachine) (c : KnownCpu) (n : K
 
 pub lent_part : (frames : List ℕ) (m n : KnownMachine) (c d : KnownCpu) → LendsMany frames (side m c) (side n d) → LentPart frames m c n d
 lent_part [] m n c d h = record {
-  opened = ap (λ (y : KnownMachine). y.seat.view.opened) h.0;
-  number = ap (λ (e : KnownCpu). e.number) h.1;
-  list = ap (λ (e : KnownCpu). e.list) h.1 ∙ sym (append-nil c.list);
-  fresh = ap (λ (e : KnownCpu). e.fresh) h.1;
-  back = ap (λ (e : KnownCpu). e.back) h.1;
-  stock = ap (λ (y : KnownMachine). y.stock) h.0;
+  opened = ap (λ (y : KnownMachine). y.seat.view.opened) h.machine;
+  number = ap (λ (e : KnownCpu). e.number) h.cpu;
+  list = ap (λ (e : KnownCpu). e.list) h.cpu ∙ sym (append-nil c.list);
+  fresh = ap (λ (e : KnownCpu). e.fresh) h.cpu;
+  back = ap (λ (e : KnownCpu). e.back) h.cpu;
+  stock = ap (λ (y : KnownMachine). y.stock) h.machine;
 }
 lent_part (f ∷ frames) m n c d h =
-    let one = h.1 in
+    let one = h.1.lends in
     let more = lent_part frames h.0.machine n h.0.cpu d h.2 in
     record {
       opened = more.opened ∙ ap (λ (y : KnownMachine). y.seat.view.opened) one.machine;
@@ -206,13 +206,13 @@ module _ (t : KnownTable) (sizes : Config) (g over : ℕ) (m x n : KnownMachine)
 
 -- the own stock is drained first
 module _ (t : KnownTable) (sizes : Config) (g pages q : ℕ) (m k x n : KnownMachine) (c e d : KnownCpu) (same : k ≡ m) (mine : e ≡ c) (named : q ≡ e.number)
-    (lacks : ¬ HoldsPage (side m c) g) (drains : Drains k q pages x) (draining : (h : KnownCpu) → MakesAs t h.number (side k h)
+    (lacks : ¬ HoldsPage (side m c) g) (drains : Drains q pages k x) (draining : (h : KnownCpu) → MakesAs t h.number (side k h)
     (drain_steps q (stock_group k q) pages) (side x h)) where
   number_is : q ≡ c.number
   number_is = named ∙ ap (λ (h : KnownCpu). h.number) mine
 
-  drained : Drains m c.number pages x
-  drained = subst (λ (z : KnownMachine × ℕ). Drains z.0 z.1 pages x) (λ i. (same i, number_is i)) drains
+  drained : Drains c.number pages m x
+  drained = subst (λ (z : KnownMachine × ℕ). Drains z.1 pages z.0 x) (λ i. (same i, number_is i)) drains
 
   drained_own : DrainsOwn g (side m c) (drain_steps c.number (stock_group m c.number) pages) x
   drained_own = record { lacks = lacks; drained = pages; drains = drained; steps_are = refl }
@@ -257,7 +257,7 @@ module _ (t : KnownTable) (sizes : Config) (g pages q : ℕ) (m k x n : KnownMac
 -- ---- the list
 
 none_lent : (frames : List ℕ) (m n : KnownMachine) (c d : KnownCpu) → length frames ≡ 0 → LendsMany frames (side m c) (side n d) → (n ≡ m) × (d ≡ c)
-none_lent [] m n c d none h = h
+none_lent [] m n c d none h = (h.machine, h.cpu)
 none_lent (f ∷ frames) m n c d none h = absurd (omega (arith, none))
 
 -- no frame was lent, since none is free
@@ -316,7 +316,7 @@ module _ (t : KnownTable) (sizes : Config) (m k x n : KnownMachine) (c e y : Kno
   from_first : (P : KnownMachine → KnownCpu → Type 0) → P k e → P m c
   from_first P p = subst (λ (z : KnownMachine × KnownCpu). P z.0 z.1) (λ i. (first.1.stays.machine i, first.1.stays.cpu i)) p
 
-  pub no_frame : (pages q : ℕ) → BySteps t (side k e) (side x y) (RefillsInRounds sizes.batch false) → q ≡ y.number → Drains x q pages n
+  pub no_frame : (pages q : ℕ) → BySteps t (side k e) (side x y) (RefillsInRounds sizes.batch false) → q ≡ y.number → Drains q pages x n
       → ((h : KnownCpu) → MakesAs t h.number (side x h) (drain_steps q (stock_group x q) pages) (side n h))
       → BySteps t (side m c) (side n y) (HasNoFrame NoFrames)
   no_frame pages q rounds named drains steps =
@@ -337,7 +337,7 @@ module _ (t : KnownTable) (sizes : Config) (m k x n : KnownMachine) (c e y : Kno
           rounds = here.1;
           none_still = none_after t 16 m x c c here.0 first.1.none here.1;
           drained = pages;
-          drains = subst (λ (p : ℕ). Drains x p pages n) number drains;
+          drains = subst (λ (p : ℕ). Drains p pages x n) number drains;
           cpu = refl;
           steps_are = refl;
         },

@@ -74,7 +74,7 @@ emptied_at view q k p is = elim (cases_eq p q) [
   | inr ne ↦ ap (λ (a : Account). a.filled) (drained_else view q k p ne) ∙ is
 ]
 
-pub drain_lowers : (t : KnownTable) (m n : KnownMachine) (q k : ℕ) → Drains m q k n → Lowers t m n
+pub drain_lowers : (t : KnownTable) (m n : KnownMachine) (q k : ℕ) → Drains q k m n → Lowers t m n
 drain_lowers t m n q k d = record {
   killed = λ v dead. ap (λ (y : KnownMachine). is_killed y.killed v) d.machine ∙ dead;
   opened = ap (λ (y : KnownMachine). y.seat.view.opened) d.machine;
@@ -105,7 +105,7 @@ look_lowers t m n q (Some g) is = record {
   emptied = λ p e. ap (λ (y : KnownMachine). (account_of y.stock.view p).filled) is ∙ e;
 }
 
-below_lowers : (t : KnownTable) (g q : ℕ) (m n : KnownMachine) (drains : List Drain) → DrainsBelow g m q drains n → Lowers t m n
+below_lowers : (t : KnownTable) (g q : ℕ) (m n : KnownMachine) (drains : List Drain) → DrainsBelow g q drains m n → Lowers t m n
 below_lowers t g q m n [] h = look_lowers t m n q (stock_group m q) h.1
 below_lowers t g q m n (drain ∷ []) h =
     let l = drain_lowers t m (record n { notes = m.notes }) q drain.pages h.1.drains.drains in

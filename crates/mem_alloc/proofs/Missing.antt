@@ -60,7 +60,7 @@ counts_rest t m n steps same none =
 
 -- ---- drains, notes and kills
 
-counts_drain : (t : KnownTable) (q k : ℕ) (m n : KnownMachine) → Drains m q k n → CountsMisses (course t m (drain_steps q (stock_group m q) k) n)
+counts_drain : (t : KnownTable) (q k : ℕ) (m n : KnownMachine) → Drains q k m n → CountsMisses (course t m (drain_steps q (stock_group m q) k) n)
 counts_drain t q k m n d =
     counts_same t m n (drain_steps q (stock_group m q) k) (quiet_drain q (stock_group m q) k) (ap (λ (x : KnownMachine). x.seat) d.machine)
 
@@ -157,13 +157,13 @@ back_calm p [] = calm
 back_calm p (f ∷ frames) = quiet_both (back_steps p f) (drain_list_steps p frames) (record { quiet = refl; no_miss = λ g. refl }) (back_calm p frames)
 
 lent_same : (frames : List ℕ) (m n : Side) → LendsMany frames m n → (g : ℕ) → misses_of n.machine.seat g ≡ misses_of m.machine.seat g
-lent_same [] m n h g = ap (λ (x : KnownMachine). misses_of x.seat g) h.0
+lent_same [] m n h g = ap (λ (x : KnownMachine). misses_of x.seat g) h.machine
 lent_same (f ∷ frames) m n h g =
-    lent_same frames h.0 n h.2 g ∙ ap (λ (x : KnownMachine). misses_of x.seat g) h.1.machine
+    lent_same frames h.0 n h.2 g ∙ ap (λ (x : KnownMachine). misses_of x.seat g) h.1.lends.machine
     ∙ misses_put m.machine.seat f g (passed_out_to m.cpu.number) (λ k. refl)
 
 pub back_same : (frames : List ℕ) (m n : Side) → TakesManyBack frames m n → (g : ℕ) → misses_of n.machine.seat g ≡ misses_of m.machine.seat g
-back_same [] m n h g = ap (λ (x : KnownMachine). misses_of x.seat g) h.0
+back_same [] m n h g = ap (λ (x : KnownMachine). misses_of x.seat g) h.machine
 back_same (f ∷ frames) m n h g =
     back_same frames h.0 n h.2 g ∙ ap (λ (x : KnownMachine). misses_of x.seat g) h.1.machine
     ∙ misses_put m.machine.seat f g (collected_from m.cpu.number) (λ k. refl)

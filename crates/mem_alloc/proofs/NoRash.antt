@@ -177,14 +177,14 @@ pub record SameUnits (m n : KnownMachine) : Type 0 where
   pub links : n.links ≡ m.links
   pub groups : n.ledger.groups ≡ m.ledger.groups
 
-pub drain_same : (m n : KnownMachine) (q k : ℕ) → Drains m q k n → SameUnits m n
+pub drain_same : (m n : KnownMachine) (q k : ℕ) → Drains q k m n → SameUnits m n
 drain_same m n q k d = record {
   seat = ap (λ (x : KnownMachine). x.seat) d.machine;
   links = ap (λ (x : KnownMachine). x.links) d.machine;
   groups = ap (λ (x : KnownMachine). x.ledger.groups) d.machine ∙ groups_stay m.ledger (stock_group m q) k;
 }
 
-one_same : (g q : ℕ) (m n : KnownMachine) (drains : List Drain) → DrainsBelow g m q drains n → SameUnits m n
+one_same : (g q : ℕ) (m n : KnownMachine) (drains : List Drain) → DrainsBelow g q drains m n → SameUnits m n
 one_same g q m n [] h = record {
   seat = ap (λ (x : KnownMachine). x.seat) h.1;
   links = ap (λ (x : KnownMachine). x.links) h.1;

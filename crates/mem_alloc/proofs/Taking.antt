@@ -34,17 +34,17 @@ use Rattle.mem_machine.proofs.Followed.{makes_both}
 -- ---- one try
 
 -- the limit of a group had no room
-pub is_refused : (m n : KnownMachine) (g k : ℕ) (e : TakeFault) (o : OverLimit) → e ≡ fault.Over o → RefusesBlock m g k e n
+pub is_refused : (m n : KnownMachine) (g k : ℕ) (e : TakeFault) (o : OverLimit) → e ≡ fault.Over o → RefusesBlock g k e m n
     → IsLowestOver m.ledger.groups (current_of m.ledger) g (2 ^ k) o.group × (n ≡ m)
-is_refused m n g k e o is refuses = subst (λ (x : TakeFault). RefusesBlock m g k x n) is refuses
+is_refused m n g k e o is refuses = subst (λ (x : TakeFault). RefusesBlock g k x m n) is refuses
 
 pub by_refusal : {t : KnownTable} (p g k : ℕ) (a b : Side) (e : TakeFault) (o : OverLimit) → e ≡ fault.Over o → MakesAs t p a (block_steps g k (Err e)) b
     → MakesAs t p a (over_steps g (2 ^ k) o.group) b
 by_refusal {t = t} p g k a b e o is steps = subst (λ (x : TakeFault). MakesAs t p a (block_steps g k (Err x)) b) is steps
 
 -- no block was free
-pub is_none : (m n : KnownMachine) (g k : ℕ) (e : TakeFault) → e ≡ fault.NoBlock → RefusesBlock m g k e n → TakesNoBlock m g k n
-is_none m n g k e is refuses = subst (λ (x : TakeFault). RefusesBlock m g k x n) is refuses
+pub is_none : (m n : KnownMachine) (g k : ℕ) (e : TakeFault) → e ≡ fault.NoBlock → RefusesBlock g k e m n → TakesNoBlock g k m n
+is_none m n g k e is refuses = subst (λ (x : TakeFault). RefusesBlock g k x m n) is refuses
 
 pub by_none : {t : KnownTable} (p g k : ℕ) (a b : Side) (e : TakeFault) → e ≡ fault.NoBlock → MakesAs t p a (block_steps g k (Err e)) b
     → MakesAs t p a (unplaced_steps g k) b
@@ -59,7 +59,7 @@ module _ (t : KnownTable) (g k : ℕ) (c : KnownCpu) (m x : KnownMachine) (so_fa
   runs_on steps run = makes_both t c.number so_far.making steps (side m c) (side x c) (side n d) so_far.runs
       (subst (λ (e : KnownCpu). MakesAs t e.number (side x e) steps (side n d)) mine run)
 
-  pub so_far_takes : (head : ℕ) → TakesBlock x g k head n → MakesAs t y.number (side x y) (taken_steps g k head) (side n d)
+  pub so_far_takes : (head : ℕ) → TakesBlock g k head x n → MakesAs t y.number (side x y) (taken_steps g k head) (side n d)
       → BySteps t (side m c) (side n d) (OfMachine (TakesAfterRoom g k head))
   so_far_takes head takes run = (
     so_far.making ++ taken_steps g k head,
@@ -67,7 +67,7 @@ module _ (t : KnownTable) (g k : ℕ) (c : KnownCpu) (m x : KnownMachine) (so_fa
     runs_on (taken_steps g k head) run,
   )
 
-  pub so_far_no_block : TakesNoBlock x g k n → MakesAs t y.number (side x y) (unplaced_steps g k) (side n d)
+  pub so_far_no_block : TakesNoBlock g k x n → MakesAs t y.number (side x y) (unplaced_steps g k) (side n d)
       → BySteps t (side m c) (side n d) (OfMachine (FindsNoBlock g k))
   so_far_no_block none run = (
     so_far.making ++ unplaced_steps g k,
@@ -76,7 +76,7 @@ module _ (t : KnownTable) (g k : ℕ) (c : KnownCpu) (m x : KnownMachine) (so_fa
   )
 
   -- what a call for which no block is free leaves
-  pub room_still : TakesNoBlock x g k n → has_group m.ledger.groups g ≡ true → HasRoomFor m (2 ^ k) → MayHaveBlock g k n
+  pub room_still : TakesNoBlock g k x n → has_group m.ledger.groups g ≡ true → HasRoomFor m (2 ^ k) → MayHaveBlock g k n
   room_still none there fits =
       let ledger : n.ledger ≡ with_uncharge (with_charge x.ledger g (2 ^ k)) g (2 ^ k) = ap (λ (z : KnownMachine). z.ledger) none.machine in
       let groups : n.ledger.groups ≡ m.ledger.groups = ap (λ (z : KnownMachine). z.ledger.groups) none.machine ∙ so_far.lowers.groups in
@@ -89,10 +89,10 @@ module _ (t : KnownTable) (g k : ℕ) (c : KnownCpu) (m x : KnownMachine) (so_fa
         room = subst (λ l. PathHasRoom l.groups (current_of l) g (2 ^ k)) (sym ledger) (room_back x.ledger g (2 ^ k) none.room);
       }
 
-  pub none_opened : TakesNoBlock x g k n → n.seat.view.opened ≡ m.seat.view.opened
+  pub none_opened : TakesNoBlock g k x n → n.seat.view.opened ≡ m.seat.view.opened
   none_opened none = ap (λ (z : KnownMachine). z.seat.view.opened) none.machine ∙ so_far.lowers.opened
 
-  pub taken_opened : (head : ℕ) → TakesBlock x g k head n → n.seat.view.opened ≡ m.seat.view.opened
+  pub taken_opened : (head : ℕ) → TakesBlock g k head x n → n.seat.view.opened ≡ m.seat.view.opened
   taken_opened head takes = ap (λ (z : KnownMachine). z.seat.view.opened) takes.machine ∙ so_far.lowers.opened
 
 -- a charge is refused for good
@@ -134,13 +134,13 @@ pub record BackPart (frames : List ℕ) (m : KnownMachine) (c : KnownCpu) (n : K
 
 pub back_part : (frames : List ℕ) (m n : KnownMachine) (c d : KnownCpu) → TakesManyBack frames (side m c) (side n d) → BackPart frames m c n d
 back_part [] m n c d h = record {
-  split = sym (ap (λ (e : KnownCpu). e.list) h.1);
-  number = ap (λ (e : KnownCpu). e.number) h.1;
-  fresh = ap (λ (e : KnownCpu). e.fresh) h.1;
-  back = ap (λ (e : KnownCpu). e.back) h.1;
-  opened = ap (λ (z : KnownMachine). z.seat.view.opened) h.0;
-  ledger = ap (λ (z : KnownMachine). z.ledger) h.0;
-  killed = ap (λ (z : KnownMachine). z.killed) h.0;
+  split = sym (ap (λ (e : KnownCpu). e.list) h.cpu);
+  number = ap (λ (e : KnownCpu). e.number) h.cpu;
+  fresh = ap (λ (e : KnownCpu). e.fresh) h.cpu;
+  back = ap (λ (e : KnownCpu). e.back) h.cpu;
+  opened = ap (λ (z : KnownMachine). z.seat.view.opened) h.machine;
+  ledger = ap (λ (z : KnownMachine). z.ledger) h.machine;
+  killed = ap (λ (z : KnownMachine). z.killed) h.machine;
 }
 back_part (f ∷ frames) m n c d h =
     let one = h.1 in
@@ -189,12 +189,12 @@ none_spares t g k m n c d steps h = record {
 }
 
 -- what one try that finds no block leaves
-pub none_leaves : (t : KnownTable) (g k : ℕ) (m n : KnownMachine) (c d : KnownCpu) → TakesNoBlock m g k n → is_killed m.killed g ≡ false → has_group m.ledger.groups g ≡ true
+pub none_leaves : (t : KnownTable) (g k : ℕ) (m n : KnownMachine) (c d : KnownCpu) → TakesNoBlock g k m n → is_killed m.killed g ≡ false → has_group m.ledger.groups g ≡ true
     → HasRoomFor m (2 ^ k) → MayHaveBlock g k n
 none_leaves t g k m n c d none alive there fits = room_still t g k c m m (so_far_none t g (2 ^ k) c m alive) c refl n d none there fits
 
 -- rounds open and shut no visit
-taken_opens : (m n : KnownMachine) (g k head : ℕ) → TakesBlock m g k head n → n.seat.view.opened ≡ m.seat.view.opened
+taken_opens : (m n : KnownMachine) (g k head : ℕ) → TakesBlock g k head m n → n.seat.view.opened ≡ m.seat.view.opened
 taken_opens m n g k head takes = ap (λ (y : KnownMachine). y.seat.view.opened) takes.machine
 
 rounds_open : (t : KnownTable) (g k : ℕ) (r : Result ℕ AllocFault) (m n : KnownMachine) (c d : KnownCpu) (steps : Run)
@@ -242,13 +242,13 @@ module _ (t : KnownTable) (g k : ℕ) (m x n : KnownMachine) (c y d : KnownCpu) 
   )
 
   -- it takes the block
-  pub takes_after : (head : ℕ) → TakesBlock x g k head n → MakesAs t y.number (side x y) (taken_steps g k head) (side n d)
+  pub takes_after : (head : ℕ) → TakesBlock g k head x n → MakesAs t y.number (side x y) (taken_steps g k head) (side n d)
       → BySteps t (side m c) (side n d) (TakesAgain g k (Ok head))
   takes_after head takes run =
       takes_again (Ok head) (taken_steps g k head, inl (record { takes = takes; cpu = stays; steps_are = refl }), run)
 
   -- or finds none, and rounds of reclaim follow
-  module _ (w : KnownMachine) (z : KnownCpu) (none : TakesNoBlock x g k w) (same : z ≡ y)
+  module _ (w : KnownMachine) (z : KnownCpu) (none : TakesNoBlock g k x w) (same : z ≡ y)
       (vain : MakesAs t y.number (side x y) (unplaced_steps g k) (side w z)) where
     in_rounds : (r : Result ℕ AllocFault) → BySteps t (side w z) (side n d) (TakesInRounds g k r) → BySteps t (side x y) (side n d) (TriesInRounds g k r)
     in_rounds r there =

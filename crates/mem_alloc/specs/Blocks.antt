@@ -25,7 +25,7 @@ pub record TakesAfterRoom (group order head : ℕ) (way : Course KnownMachine) :
   pub cleared : KnownMachine
   pub making : Run
   pub makes : MakesRoom group (2 ^ order) refused_at (course way.table way.before making cleared)
-  pub takes : TakesBlock cleared group order head way.after
+  pub takes : TakesBlock group order head cleared way.after
   pub steps_are : way.steps ≡ making ++ taken_steps group order head
 
 -- the charge of the block may be refused first, at the groups `refused_at`, which have room then; after that no block
@@ -35,7 +35,7 @@ pub record FindsNoBlock (group order : ℕ) (way : Course KnownMachine) : Type 0
   pub cleared : KnownMachine
   pub making : Run
   pub makes : MakesRoom group (2 ^ order) refused_at (course way.table way.before making cleared)
-  pub none : TakesNoBlock cleared group order way.after
+  pub none : TakesNoBlock group order cleared way.after
   pub steps_are : way.steps ≡ making ++ unplaced_steps group order
 
 -- the block is charged and taken, or the charge is refused for good, or no block is free
@@ -60,13 +60,13 @@ pub record LeavesRoom (group order : ℕ) (answer : Result ℕ AllocFault) (befo
 
 -- one try: the block is charged and taken
 pub record TryTakes (group order head : ℕ) (way : Course Side) : Type 0 where
-  pub takes : TakesBlock way.before.machine group order head way.after.machine
+  pub takes : TakesBlock group order head way.before.machine way.after.machine
   pub cpu : way.after.cpu ≡ way.before.cpu
   pub steps_are : way.steps ≡ taken_steps group order head
 
 -- one try: no block is free, and the pages go back
 pub record TryFindsNone (group order : ℕ) (way : Course Side) : Type 0 where
-  pub none : TakesNoBlock way.before.machine group order way.after.machine
+  pub none : TakesNoBlock group order way.before.machine way.after.machine
   pub cpu : way.after.cpu ≡ way.before.cpu
   pub steps_are : way.steps ≡ unplaced_steps group order
 

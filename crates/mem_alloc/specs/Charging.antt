@@ -54,7 +54,7 @@ RefusesFrame sizes group cause way = LacksBatch sizes group (RefusesOne group ca
 pub record DrainsOwn (group : ℕ) (before : Side) (steps : Run) (emptied : KnownMachine) : Type 0 where
   pub lacks : ¬ HoldsPage before group
   pub drained : ℕ
-  pub drains : Drains before.machine before.cpu.number drained emptied
+  pub drains : Drains before.cpu.number drained before.machine emptied
   pub steps_are : steps ≡ drain_steps before.cpu.number (stock_group before.machine before.cpu.number) drained
 
 -- the processor's stock holds a page of the group, and nothing changed

@@ -69,7 +69,7 @@ pub record HasNoFrame (cause : AllocFault) (way : Course Side) : Type 0 where
       (course way.table way.before reclaiming (side reclaimed way.before.cpu))
   pub none_still : HasNoneFrom reclaimed.blocks 0
   pub drained : ℕ
-  pub drains : Drains reclaimed way.before.cpu.number drained way.after.machine
+  pub drains : Drains way.before.cpu.number drained reclaimed way.after.machine
   pub cpu : way.after.cpu ≡ way.before.cpu
   pub steps_are : way.steps
       ≡ reclaiming ++ drain_steps way.before.cpu.number (stock_group reclaimed way.before.cpu.number) drained

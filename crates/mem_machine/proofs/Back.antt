@@ -78,7 +78,7 @@ back_passes t w m now same c h tied visit f seat inside hands is =
 
 module _ (t : KnownTable) (w : Words) (m : KnownMachine) (c : KnownCpu) (tied : IsTied t w c) (ok : IsConsistent t w m) (visit : Visits t (side m c))
     (f : ℕ) (was : WasBack t m f) (unit : ChargedUnit) (heads : spot_at m.spots f ≡ Head unit) (rest : List ℕ) (front : c.back ≡ f ∷ rest)
-    (new : List Spot) (frees : FreesFrames m.spots f (2 ^ unit.order) new) (blocks : List Block) (areas : AreMaximalBlocks (free_of new) blocks)
+    (new : List Spot) (frees : FreesFrames f (2 ^ unit.order) m.spots new) (blocks : List Block) (areas : AreMaximalBlocks (free_of new) blocks)
     (counts : Counts) (counted : counts ≡ with_last_put m.counts) where
   at : IsBackFront c f rest
   at = back_front t w c tied f rest front
@@ -162,7 +162,7 @@ pub return_all : (t : KnownTable) (w : Words) (m now : KnownMachine) → m ≡ n
     → (before free : List Bool) → before ≡ free_of m.spots → (f : ℕ) → WasBack t m f → HandsBack f c h → d ≡ h → (i : ℕ) → i ≡ f
     → (unit : ChargedUnit) → spot_at m.spots i ≡ Head unit
     → (seat : KnownSeat) → seat ≡ seat_with m.seat f (collected_from h.number)
-    → (spots : List Spot) → FreesFrames m.spots i (2 ^ unit.order) spots → (blocks : List Block)
+    → (spots : List Spot) → FreesFrames i (2 ^ unit.order) m.spots spots → (blocks : List Block)
     → GivesFrames before (record { at = i; order = unit.order }) free → AreMaximalBlocks free blocks
     → (ledger : Ledger) → ledger ≡ with_uncharge m.ledger unit.group (2 ^ unit.order) → (counts : Counts) → counts ≡ with_last_put m.counts
     → AllReturned t w now c f (record m { blocks = blocks; spots = spots; ledger = ledger; seat = seat; counts = counts }) d free
@@ -172,7 +172,7 @@ return_all t w m now same c h d tied ok visit_now before free free_was f was han
     let rest = hands.0 in
     let front : c.back ≡ f ∷ rest = hands.1 in
     let heads : spot_at m.spots f ≡ Head unit = ap (spot_at m.spots) (sym index) ∙ heads_i in
-    let frees : FreesFrames m.spots f (2 ^ unit.order) spots = subst (λ (x : ℕ). FreesFrames m.spots x (2 ^ unit.order) spots) index frees_i in
+    let frees : FreesFrames f (2 ^ unit.order) m.spots spots = subst (λ (x : ℕ). FreesFrames x (2 ^ unit.order) m.spots spots) index frees_i in
     let gives : GivesFrames before (record { at = f; order = unit.order }) free =
     subst (λ (x : ℕ). GivesFrames before (record { at = x; order = unit.order }) free) index gives_i in
     let sized = ok.sizes.spots in

@@ -68,7 +68,7 @@ counts_same h g e = ap (λ (x : Bool). cond x 1 0) (eq-eqb g h (sym e))
 counts_else : (h g : ℕ) → (h ≡ g → ⊥) → count_of h (Some g) ≡ 0
 counts_else h g ne = ap (λ (x : Bool). cond x 1 0) (ne_eqb g h (λ e. ne (sym e)))
 
-module _ (old new : List Spot) (g : ℕ) (b : Block) (placed : PlacesUnit old g b new) (block : IsBlock (length old) b)
+module _ (old new : List Spot) (g : ℕ) (b : Block) (placed : PlacesUnit g b old new) (block : IsBlock (length old) b)
     (uncharged : (f : ℕ) → b.at ≤ f → f < b.at + 2 ^ b.order → group_of (spot_at old f) ≡ None) (h : ℕ) where
   abbrev size : ℕ
   size = 2 ^ b.order

@@ -6,7 +6,7 @@ use Rattle.std.proofs.lemmas.List.{get_or-set_same, get_or-set_other, length-set
 use Rattle.frame_word.specs.Seats.{KnownTable}
 use Rattle.stock_word.specs.declared.view.Account.{Account}
 use Rattle.stock_word.specs.declared.view.StockView.{StockView}
-use Rattle.stock_word.specs.Stock.{Words, Seated, account_of, with_account, first_machine}
+use Rattle.stock_word.specs.Stock.{Words, Seated, account_of, with_account, first_zone_stock}
 use Rattle.stock_word.specs.Kinds.{absorbing, draining, filling, noting, with_steps}
 use Rattle.stock_word.specs.Calls.{after_look, with_view}
 use Rattle.stock_word.proofs.CallerLemmas.{account_of-with_account, account_of-with_account_other}
@@ -149,7 +149,7 @@ absorbed_books t stock p g inside group enough h =
 
 -- ---- the calls
 
-pub first_counted : (t : KnownTable) (w : Words) (m : Seated) (sums : List ℕ) → w.cpus ≡ t.cpus → m.table ≡ w.table → m.view ≡ first_machine → sums ≡ replicate 64 0
+pub first_counted : (t : KnownTable) (w : Words) (m : Seated) (sums : List ℕ) → w.cpus ≡ t.cpus → m.table ≡ w.table → m.view ≡ first_zone_stock → sums ≡ replicate 64 0
     → AreBooked t w m sums
 first_counted t w m sums cpus table first zeros = record {
   table = table;

@@ -65,13 +65,13 @@ module _ (t : KnownTable) (w : Words) (m : KnownMachine) (ok : IsConsistent t w 
       spots = λ g within. fits_home t.cpus (note_of m.seat.view g) (home_of m.links g) (home_of links g) (spot_at m.spots g) (owners g) (ok.spots g within);
       units = ok.units;
       lists = all_stand;
-      noted = ok.noted;
+      absorbed = ok.absorbed;
       bounded = ok.bounded;
       charged = ok.charged;
       balances = ok.balances;
     }
 
-    pub dirty_does : Dirties m f d (record m { links = links })
+    pub dirty_does : Dirties f d m (record m { links = links })
     dirty_does = record {
       group = h.owner;
       list = h.list;
@@ -80,7 +80,7 @@ module _ (t : KnownTable) (w : Words) (m : KnownMachine) (ok : IsConsistent t w 
       inactive = subst (λ (x : Lru). entries_of links x Inactive ≡ changed_at f (dirtied d) (entries_of m.links x Inactive)) (sym its_lists)
           (entries Inactive);
       active = subst (λ (x : Lru). entries_of links x Active ≡ changed_at f (dirtied d) (entries_of m.links x Active)) (sym its_lists) (entries Active);
-      others = subst (λ (l : List Lru). OthersStay m.links m.lists h.owner links l) same_lists
+      others = subst (λ (l : List Lru). OthersStay h.owner m.links m.lists links l) same_lists
           (others_stay m.links links m.lists h.owner lru lru ok.lists ok.sizes.lists owned changes others_stand);
       loose = λ g none. loose_stay m.links links lru.owner g changes (owners g) none;
     }
@@ -93,7 +93,7 @@ has_home m now same f i is kept none =
 -- all of it, of the machine as it was seen before
 pub record AllDirtied (t : KnownTable) (w : Words) (now : KnownMachine) (f : ℕ) (d : Bool) (n : KnownMachine) : Type 0 where
   pub consistent : IsConsistent t w n
-  pub dirties : Dirties now f d n
+  pub dirties : Dirties f d now n
   pub steps : (c : KnownCpu) → MakesAs t c.number (side now c) [] (side n c)
 
 pub dirty_all : (t : KnownTable) (w : Words) (m now : KnownMachine) → m ≡ now → IsConsistent t w m → (f i : ℕ) → f < t.frames → i ≡ f → (h : Home)

@@ -147,7 +147,7 @@ stocks_consistent t w m l stock ok table machine noted bounded charged = record 
   spots = ok.spots;
   units = ok.units;
   lists = ok.lists;
-  noted = noted;
+  absorbed = noted;
   bounded = bounded;
   charged = charged;
   balances = ok.balances;
@@ -188,7 +188,7 @@ module _ (t : KnownTable) (w : Words) (m : KnownMachine) (ok : IsConsistent t w 
   drain_consistent none = stocks_consistent t w m (uncharged m.ledger (stock_group m q) k) emptied ok refl ok.seats.stocks
       (λ p. drained_read m.stock.view q k (λ (a : Account). a.noted) p
       ∙ at_each (λ j. (account_of m.stock.view j).noted) q (drained_account m.stock.view q k).noted
-      (λ j x. x ≡ 0) (ok.noted q) (λ j ne. ok.noted j) p)
+      (λ j x. x ≡ 0) (ok.absorbed q) (λ j ne. ok.absorbed j) p)
       (λ p.
       let read = drained_read m.stock.view q k (λ (a : Account). a.book) p in
       let at = at_each (λ j. (account_of m.stock.view j).book) q (drained_account m.stock.view q k).book (λ j x. x < 65536)
@@ -310,7 +310,7 @@ drain_runs t m n q k is some inside there c =
 -- what `drain_of` and `drain_stock` leave, of the machine as it was seen before
 pub record Drained (t : KnownTable) (w : Words) (m now : KnownMachine) (q k : ℕ) (l : Ledger) (stock : Seated) : Type 0 where
   pub consistent : IsConsistent t w (record m { ledger = l; stock = stock })
-  pub drains : Drains now q k (record m { ledger = l; stock = stock })
+  pub drains : Drains q k now (record m { ledger = l; stock = stock })
   pub steps : (c : KnownCpu) → MakesAs t c.number (side now c) (drain_steps q (stock_group now q) k)
       (side (record m { ledger = l; stock = stock }) c)
 

@@ -38,22 +38,22 @@ look_group view q None = ap (λ (a : Account). a.group) (drained_at view q 0)
 look_group view q (Some g) = refl
 
 module _ (test : List Group → Option ℕ → Bool) (q : ℕ) (x n : KnownMachine) where
-  pub below_groups : (drains : List Drain) → DrainsIf test x q drains n → n.ledger.groups ≡ x.ledger.groups
+  pub below_groups : (drains : List Drain) → DrainsIf test q drains x n → n.ledger.groups ≡ x.ledger.groups
   below_groups [] d = ap (λ (y : KnownMachine). y.ledger.groups) d.1
   below_groups (e ∷ []) d = ap (λ (y : KnownMachine). y.ledger.groups) d.1.drains.drains.machine ∙ groups_stay x.ledger (stock_group x q) e.pages
   below_groups (e ∷ f ∷ more) d = absurd d
 
-  pub below_else : (drains : List Drain) → DrainsIf test x q drains n → (p : ℕ) → (p ≡ q → ⊥) → account_of n.stock.view p ≡ account_of x.stock.view p
+  pub below_else : (drains : List Drain) → DrainsIf test q drains x n → (p : ℕ) → (p ≡ q → ⊥) → account_of n.stock.view p ≡ account_of x.stock.view p
   below_else [] d p ne = ap (λ (y : KnownMachine). account_of y.stock.view p) d.1 ∙ look_else x.stock.view q p (stock_group x q) ne
   below_else (e ∷ []) d p ne = ap (λ (y : KnownMachine). account_of y.stock.view p) d.1.drains.drains.machine ∙ drained_else x.stock.view q e.pages p ne
   below_else (e ∷ f ∷ more) d p ne = absurd d
 
-  pub below_group : (drains : List Drain) → DrainsIf test x q drains n → stock_group n q ≡ stock_group x q
+  pub below_group : (drains : List Drain) → DrainsIf test q drains x n → stock_group n q ≡ stock_group x q
   below_group [] d = ap (λ (y : KnownMachine). stock_group y q) d.1 ∙ look_group x.stock.view q (stock_group x q)
   below_group (e ∷ []) d = ap (λ (y : KnownMachine). stock_group y q) d.1.drains.drains.machine ∙ ap (λ (a : Account). a.group) (drained_at x.stock.view q e.pages)
   below_group (e ∷ f ∷ more) d = absurd d
 
-  pub below_filled : (drains : List Drain) → DrainsIf test x q drains n → test x.ledger.groups (stock_group x q) ≡ true
+  pub below_filled : (drains : List Drain) → DrainsIf test q drains x n → test x.ledger.groups (stock_group x q) ≡ true
       → (account_of n.stock.view q).filled ≡ false
   below_filled [] d below = absurd (false≢true (sym d.0 ∙ below))
   below_filled (e ∷ []) d below = ap (λ (y : KnownMachine). (account_of y.stock.view q).filled) d.1.drains.drains.machine
@@ -63,7 +63,7 @@ module _ (test : List Group → Option ℕ → Bool) (q : ℕ) (x n : KnownMachi
 -- ---- one processor's stock
 
 -- it is of the subtree, and is drained
-pub drained_one : (t : KnownTable) (test : List Group → Option ℕ → Bool) (q pages : ℕ) (m n : KnownMachine) → test m.ledger.groups (stock_group m q) ≡ true → DrainsNoted m q pages n
+pub drained_one : (t : KnownTable) (test : List Group → Option ℕ → Bool) (q pages : ℕ) (m n : KnownMachine) → test m.ledger.groups (stock_group m q) ≡ true → DrainsNoted q pages m n
     → ((c : KnownCpu) → MakesAs t c.number (side m c) (drain_steps q (stock_group m q) pages) (side n c)) → DrainsIfChosen t test q pages m n
 drained_one t test q pages m n below drains steps = record {
   drains = record { cpu = q; group = stock_group m q; pages = pages } ∷ [];
@@ -119,7 +119,7 @@ module _ (t : KnownTable) (m : KnownMachine) (q : ℕ) (none : stock_group m q �
 
 -- the stock of a group that the test chooses, of the machine as it was seen before the look
 pub looked_own : (t : KnownTable) (m now : KnownMachine) → m ≡ now → (stock : Seated) → stock ≡ m.stock → (test : List Group → Option ℕ → Bool)
-    → (q h pages : ℕ) (n : KnownMachine) → Some h ≡ stock_group m q → test m.ledger.groups (Some h) ≡ true → DrainsNoted (record m { stock = stock }) q pages n
+    → (q h pages : ℕ) (n : KnownMachine) → Some h ≡ stock_group m q → test m.ledger.groups (Some h) ≡ true → DrainsNoted q pages (record m { stock = stock }) n
     → ((c : KnownCpu) → MakesAs t c.number (side (record m { stock = stock }) c) (drain_steps q (stock_group (record m { stock = stock }) q) pages)
     (side n c)) → DrainsIfChosen t test q pages now n
 looked_own t m now same stock is test q h pages n of chosen drains steps =
@@ -171,7 +171,7 @@ drained_start t test m = record {
   small = omega arith;
 }
 
-drained_now : (test : List Group → Option ℕ → Bool) (k : ℕ) (x n : KnownMachine) (last : List Drain) → DrainsIf test x (k + 1) last n → AreDrainedIf test k x → AreDrainedIf test (k + 1) n
+drained_now : (test : List Group → Option ℕ → Bool) (k : ℕ) (x n : KnownMachine) (last : List Drain) → DrainsIf test (k + 1) last x n → AreDrainedIf test k x → AreDrainedIf test (k + 1) n
 drained_now test k x n last d before q some few below =
     let groups = below_groups test (k + 1) x n last d in
     elim (cases_eq q (k + 1)) [
@@ -198,7 +198,7 @@ drained_more t test k pages more m x n before last bound =
     record {
       drains = before.drains ++ last.drains;
       all = subst (λ (j : ℕ). DrainsAllIf test j (before.drains ++ last.drains) m n) next
-          (before.drains, last.drains, x, refl, before.all, subst (λ (j : ℕ). DrainsIf test x j last.drains n) (sym next) last.one);
+          (before.drains, last.drains, x, refl, before.all, subst (λ (j : ℕ). DrainsIf test j last.drains x n) (sym next) last.one);
       sum = omega (arith, both, a, b);
       groups = below_groups test (k + 1) x n last.drains last.one ∙ before.groups;
       drained = drained_now test k x n last.drains last.one before.drained;

@@ -58,7 +58,7 @@ references_stay seat c f word q x =
 
 pub record AllMissed (t : KnownTable) (w : Words) (now : KnownMachine) (f : ℕ) (n : KnownMachine) : Type 0 where
   pub consistent : IsConsistent t w n
-  pub misses : MissesUnit now f n
+  pub misses : MissesUnit f now n
   pub visit : (c : KnownCpu) → Visits t (side now c) → Visits t (side n c)
   pub steps : MakesForAny t now (evict_steps f None) n
 
@@ -90,7 +90,7 @@ missed_all t w m now same ok f inside kept seat answered counts counted =
         spots = missed_fits t w m ok f word;
         units = ok.units;
         lists = ok.lists;
-        noted = ok.noted;
+        absorbed = ok.absorbed;
         bounded = ok.bounded;
         charged = ok.charged;
         balances = ok.balances;
@@ -125,16 +125,16 @@ same_group t w m ok f inside unit heads h home =
 pub record AllEvicted (t : KnownTable) (w : Words) (now : KnownMachine) (f pages : ℕ) (free : List Bool) (n : KnownMachine) : Type 0 where
   pub consistent : IsConsistent t w n
   pub free_is : free ≡ free_of n.spots
-  pub evicts : EvictsUnit now f pages n
+  pub evicts : EvictsUnit f pages now n
   pub visit : (c : KnownCpu) → Visits t (side now c) → Visits t (side n c)
   pub steps : MakesForAny t now (evict_steps f (Some pages)) n
 
 pub evicted_all : (t : KnownTable) (w : Words) (m now : KnownMachine) → m ≡ now → IsConsistent t w m → (f i : ℕ)
-    → f < t.frames → i ≡ f → home_of now.links f ≢ None → (links : List Link) (lists : List Lru) → LeavesList m.links m.lists i links lists
+    → f < t.frames → i ≡ f → home_of now.links f ≢ None → (links : List Link) (lists : List Lru) → LeavesList i m.links m.lists links lists
     → AllStand links lists → length links ≡ length m.links → length lists ≡ 64 → (seat : KnownSeat) → FreezeAnswers m.seat f 1 true seat
     → (unit : ChargedUnit) → spot_at m.spots i ≡ Head unit
     → (before free : List Bool) (blocks : List Block) (spots : List Spot) (ledger : Ledger) (counts : Counts) (pages : ℕ)
-    → before ≡ free_of m.spots → FreesFrames m.spots i (2 ^ unit.order) spots → GivesFrames before (record { at = i; order = unit.order }) free
+    → before ≡ free_of m.spots → FreesFrames i (2 ^ unit.order) m.spots spots → GivesFrames before (record { at = i; order = unit.order }) free
     → AreMaximalBlocks free blocks → ledger ≡ with_uncharge m.ledger unit.group (2 ^ unit.order)
     → UsageRises ledger m.ledger unit.group (2 ^ unit.order) → counts ≡ with_freeze m.counts → pages ≡ 2 ^ unit.order
     → AllEvicted t w now f pages free (record m {
@@ -161,7 +161,7 @@ evicted_all t w m now same ok f i inside is kept_now links lists left_list stand
     (Freeze f 1) answer.Done (λ c held. zone_step (local_of t m c) c.number (Freeze f 1) answer.Done refl (may_freeze t m f inside held c) tt) refl (λ c. refl)
     unit head before free blocks spots ledger counts was frees_i gives_i areas_free uncharged (rw counted (balanced_freeze m.counts ok.balances)) in
     let here : spot_at m.spots f ≡ Head unit = subst (λ (x : ℕ). spot_at m.spots x ≡ Head unit) is head in
-    let list : LeavesList now.links now.lists f links lists = back.list in
+    let list : LeavesList f now.links now.lists links lists = back.list in
     let home : home_of m.links f ≡ Some (record { owner = list.group; list = list.list }) =
     ap (λ (x : KnownMachine). home_of x.links f) same ∙ list.stands in
     record {

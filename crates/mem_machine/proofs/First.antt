@@ -7,7 +7,7 @@ use Rattle.zone_blocks.specs.Areas.{AreMaximalBlocks}
 use Rattle.frame_word.specs.declared.view.FrameNote.{FrameNote}
 use Rattle.frame_word.specs.Views.{note_of, blank}
 use Rattle.frame_word.specs.Seats.{KnownTable, KnownSeat, number_of, first_zone_view}
-use Rattle.stock_word.specs.Stock.{Words, Seated, account_of, first_machine}
+use Rattle.stock_word.specs.Stock.{Words, Seated, account_of, first_zone_stock}
 use Rattle.group_charge.specs.Charges.{Ledger, initial_ledger, pages_of, account_at}
 use Rattle.lru_lists.specs.declared.record.Link.{Link}
 use Rattle.lru_lists.specs.declared.record.Home.{Home}
@@ -133,7 +133,7 @@ module _ (t : KnownTable) (w : Words) (m : KnownMachine) (first : IsFirst t w m)
     spots = spots_first;
     units = units_first;
     lists = stand;
-    noted = λ p. ap (λ (s : Seated). (account_of s.view p).noted) first.stock;
+    absorbed = λ p. ap (λ (s : Seated). (account_of s.view p).noted) first.stock;
     bounded = λ p. let none = ap (λ (s : Seated). (account_of s.view p).book) first.stock in omega (arith, none);
     charged = charged_first;
     balances = balances_first;
@@ -151,7 +151,7 @@ starts t w m free frames first sized links empty all areas cpus =
 
 pub first_is : (t : KnownTable) (w : Words) (m : KnownMachine) (frames : ℕ) → frames ≡ t.frames → m.spots ≡ replicate frames Free
     → m.ledger ≡ initial_ledger → AreNowhere m.links → m.seat ≡ record { table = t.table; view = first_zone_view t.frames }
-    → m.stock ≡ record { table = w.table; view = first_machine } → m.killed ≡ replicate 64 false → m.counts ≡ no_counts
+    → m.stock ≡ record { table = w.table; view = first_zone_stock } → m.killed ≡ replicate 64 false → m.counts ≡ no_counts
     → m.notes ≡ [] → IsFirst t w m
 first_is t w m frames sized spots ledger nowhere seat stock killed counts notes = record {
   spots = spots ∙ ap (λ (n : ℕ). replicate n Free) sized;

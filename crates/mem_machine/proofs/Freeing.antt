@@ -42,14 +42,14 @@ is_in at n f from below = elim (within_cases at n f) [ inl w ↦ w.0 | inr out �
 pub is_out : (at n f : ℕ) → (at ≤ f → f < at + n → ⊥) → is_within at n f ≡ false
 is_out at n f not = elim (within_cases at n f) [ inl w ↦ absurd (not w.1 w.2) | inr out ↦ out.0 ]
 
-pub frees_none : (spots : List Spot) (at : ℕ) → FreesFrames spots at 0 spots
+pub frees_none : (spots : List Spot) (at : ℕ) → FreesFrames at 0 spots spots
 frees_none spots at = record {
   frames = refl;
   records = λ f. sym (ap (λ (b : Bool). cond b Free (spot_at spots f)) (is_out at 0 f (λ a b. absurd (omega (arith, a, b)))));
 }
 
-pub frees_more : (spots now : List Spot) (at n : ℕ) → at + n < length spots → FreesFrames spots at n now
-    → FreesFrames spots at (n + 1) (slice_set now (at + n) Free)
+pub frees_more : (spots now : List Spot) (at n : ℕ) → at + n < length spots → FreesFrames at n spots now
+    → FreesFrames at (n + 1) spots (slice_set now (at + n) Free)
 frees_more spots now at n below so_far =
     let long = so_far.frames in
     let inside : at + n < length now = omega (arith, long, below) in
@@ -76,7 +76,7 @@ power_some k n is = let some = pow_pos k in omega (arith, some, is)
 -- ---- which frames are free
 
 pub free_block_given : (before after : List Bool) (spots new : List Spot) (at k : ℕ) → at + 2 ^ k ≤ length spots → before ≡ free_of spots
-    → GivesFrames before (record { at = at; order = k }) after → FreesFrames spots at (2 ^ k) new → after ≡ free_of new
+    → GivesFrames before (record { at = at; order = k }) after → FreesFrames at (2 ^ k) spots new → after ≡ free_of new
 free_block_given before after spots new at k inside was gives frees =
     let long : length after ≡ length spots = sym gives.same_length ∙ ap length was ∙ length_free spots in
     let sized : length after ≡ length (free_of new) = long ∙ sym frees.frames ∙ sym (length_free new) in
@@ -137,7 +137,7 @@ sum_within (suc l) at n =
     ]
 
 module _ (spots new : List Spot) (f : ℕ) (unit : ChargedUnit) (heads : spot_at spots f ≡ Head unit) (units : AreUnits spots)
-    (frees : FreesFrames spots f (2 ^ unit.order) new) where
+    (frees : FreesFrames f (2 ^ unit.order) spots new) where
   abbrev n : ℕ
   n = 2 ^ unit.order
 
@@ -274,7 +274,7 @@ module _ (t : KnownTable) (w : Words) (m : KnownMachine) (ok : IsConsistent t w 
   -- the pages of the unit are charged to its group
   pub unit_charged : 2 ^ unit.order ≤ pages_of m.ledger unit.group
   unit_charged =
-      let some : FreesFrames m.spots f (2 ^ unit.order) (freed m.spots f (2 ^ unit.order)) =
+      let some : FreesFrames f (2 ^ unit.order) m.spots (freed m.spots f (2 ^ unit.order)) =
       freed_frees m.spots f (2 ^ unit.order) (ok.units.heads f unit heads).block.inside in
       let a = charges_freed m.spots (freed m.spots f (2 ^ unit.order)) f unit heads ok.units some unit.group in
       let b : cond (unit.group == unit.group) (2 ^ unit.order) 0 ≡ 2 ^ unit.order =
@@ -286,10 +286,10 @@ module _ (t : KnownTable) (w : Words) (m : KnownMachine) (ok : IsConsistent t w 
       freed spots at zero = spots
       freed spots at (suc k) = slice_set (freed spots at k) (at + k) Free
 
-      freed_frees : (spots : List Spot) (at k : ℕ) → at + k ≤ length spots → FreesFrames spots at k (freed spots at k)
+      freed_frees : (spots : List Spot) (at k : ℕ) → at + k ≤ length spots → FreesFrames at k spots (freed spots at k)
       freed_frees spots at zero inside = frees_none spots at
       freed_frees spots at (suc k) inside =
-          subst (λ (j : ℕ). FreesFrames spots at j (slice_set (freed spots at k) (at + k) Free)) (omega arith)
+          subst (λ (j : ℕ). FreesFrames at j spots (slice_set (freed spots at k) (at + k) Free)) (omega arith)
           (frees_more spots (freed spots at k) at k (omega (arith, inside)) (freed_frees spots at k (omega (arith, inside))))
 
   -- the head is one of the zone's frames
@@ -297,7 +297,7 @@ module _ (t : KnownTable) (w : Words) (m : KnownMachine) (ok : IsConsistent t w 
   head_inside = let a = (ok.units.heads f unit heads).block.inside in let b = ok.sizes.spots in omega (arith, a, b)
 
   pub unit_freed_consistent : (spots : List Spot) (blocks : List Block) (links : List Link) (lists : List Lru) (seat : KnownSeat) (counts : Counts)
-      → FreesFrames m.spots f (2 ^ unit.order) spots → AreMaximalBlocks (free_of spots) blocks → IsZoneSeat t seat
+      → FreesFrames f (2 ^ unit.order) m.spots spots → AreMaximalBlocks (free_of spots) blocks → IsZoneSeat t seat
       → length links ≡ t.frames → length lists ≡ 64 → AllStand links lists
       → ((x : ℕ) → x < t.frames → (x ≡ f → ⊥) → FitsSpot t.cpus (note_of seat.view x) (home_of links x) (spot_at m.spots x))
       → FitsSpot t.cpus (note_of seat.view f) (home_of links f) Free → BalancesCounts counts
@@ -332,7 +332,7 @@ module _ (t : KnownTable) (w : Words) (m : KnownMachine) (ok : IsConsistent t w 
     ];
     units = units_freed m.spots spots f unit heads ok.units frees;
     lists = stand;
-    noted = ok.noted;
+    absorbed = ok.absorbed;
     bounded = ok.bounded;
     charged = λ g.
         let a = ok.charged g in
@@ -342,7 +342,7 @@ module _ (t : KnownTable) (w : Words) (m : KnownMachine) (ok : IsConsistent t w 
     balances = balances;
   }
     where
-      freed_head : (spots : List Spot) → FreesFrames m.spots f (2 ^ unit.order) spots → spot_at spots f ≡ Free
+      freed_head : (spots : List Spot) → FreesFrames f (2 ^ unit.order) m.spots spots → spot_at spots f ≡ Free
       freed_head spots frees =
           let some = pow_pos unit.order in
           frees.records f ∙ ap (λ (b : Bool). cond b Free (spot_at m.spots f)) (is_in f (2 ^ unit.order) f (omega arith) (omega (arith, some)))

@@ -74,7 +74,7 @@ free_stays spots f x inside was now =
 
 -- a unit of one frame
 placed_one : (spots : List Spot) (g f : ℕ) → f < length spots
-    → PlacesUnit spots g (record { at = f; order = 0 }) (slice_set spots f (Head (record { group = g; order = 0 })))
+    → PlacesUnit g (record { at = f; order = 0 }) spots (slice_set spots f (Head (record { group = g; order = 0 })))
 placed_one spots g f inside =
     let b : Block = record { at = f; order = 0 } in
     record {
@@ -88,7 +88,7 @@ placed_one spots g f inside =
     }
 
 -- where one frame came back
-frees_one : (spots new : List Spot) (f k : ℕ) → k ≡ 0 → f < length spots → FreesFrames spots f (2 ^ k) new → new ≡ slice_set spots f Free
+frees_one : (spots new : List Spot) (f k : ℕ) → k ≡ 0 → f < length spots → FreesFrames f (2 ^ k) spots new → new ≡ slice_set spots f Free
 frees_one spots new f k zero_is inside frees =
     let one : 2 ^ k ≡ 1 = ap (λ (j : ℕ). 2 ^ j) zero_is in
     ext_get_or Free new (slice_set spots f Free) (frees.frames ∙ sym (length-set spots f Free)) (λ g within.
@@ -112,7 +112,7 @@ module _ (t : KnownTable) (w : Words) (m : KnownMachine) (c : KnownCpu) (tied : 
   at = fresh_front t w c tied f rest front
 
   noted : (account_of m.stock.view c.number).noted ≡ 0
-  noted = ok.noted c.number
+  noted = ok.absorbed c.number
 
   books : (h : ℕ) → pages_booked t m.stock h ≡ pages_booked t (with_page_absorbed m.stock c.number) h + cond (h == g) 1 0
   books = books_fall t m.stock c.number g tied.seats.frame_cpus was.of_group noted (let a = was.booked in omega (arith, a))
@@ -156,7 +156,7 @@ module _ (t : KnownTable) (w : Words) (m : KnownMachine) (c : KnownCpu) (tied : 
           areas = subst (λ (l : List Bool). AreMaximalBlocks l m.blocks) kept_free ok.areas;
           table = seats.table;
           stocks = seats.stocks;
-          noted = none_noted m.stock.view c.number ok.noted;
+          absorbed = none_noted m.stock.view c.number ok.absorbed;
           bounded = still_bounded m.stock.view c.number ok.bounded;
           charged = λ h. let a = ok.charged h in let b = books h in omega (arith, a, b);
         }) ok.balances
@@ -183,7 +183,7 @@ module _ (t : KnownTable) (w : Words) (m : KnownMachine) (c : KnownCpu) (tied : 
 
   -- ---- dropped
 
-  module _ (new : List Spot) (frees : FreesFrames m.spots f (2 ^ 0) new) (blocks : List Block) (areas : AreMaximalBlocks (free_of new) blocks)
+  module _ (new : List Spot) (frees : FreesFrames f (2 ^ 0) m.spots new) (blocks : List Block) (areas : AreMaximalBlocks (free_of new) blocks)
       (counts : Counts) (counted : counts ≡ with_drop m.counts) where
     abbrev dropped : KnownMachine
     dropped = record m {
@@ -231,7 +231,7 @@ module _ (t : KnownTable) (w : Words) (m : KnownMachine) (c : KnownCpu) (tied : 
       spots = spots_changed t.cpus m.seat m.links m.spots f (collected_from c.number) Free t.frames within ok.spots dropped_fits;
       units = units_stay m.spots f Free within (ap spot_group is_lent) refl ok.units;
       lists = ok.lists;
-      noted = none_noted m.stock.view c.number ok.noted;
+      absorbed = none_noted m.stock.view c.number ok.absorbed;
       bounded = still_bounded m.stock.view c.number ok.bounded;
       charged = λ h.
           let a = ok.charged h in
@@ -329,7 +329,7 @@ pub drop_all : (t : KnownTable) (w : Words) (m now : KnownMachine) → m ≡ now
     → (i k : ℕ) → i ≡ f → k ≡ 0
     → (seat : KnownSeat) → seat ≡ seat_with m.seat f (collected_from c.number)
     → (stock : Seated) → stock ≡ with_page_absorbed m.stock c.number
-    → (spots : List Spot) → FreesFrames m.spots i (2 ^ k) spots → (blocks : List Block) → GivesFrames before (record { at = i; order = k }) free
+    → (spots : List Spot) → FreesFrames i (2 ^ k) m.spots spots → (blocks : List Block) → GivesFrames before (record { at = i; order = k }) free
     → AreMaximalBlocks free blocks → (ledger : Ledger) → ledger ≡ with_uncharge m.ledger g (2 ^ k) → (counts : Counts) → counts ≡ with_drop m.counts
     → AllDropped t w now c g f (record m { blocks = blocks; spots = spots; ledger = ledger; seat = seat; stock = stock; counts = counts }) h free
 drop_all t w m now same c h tied ok visit_now before free free_was f g was killed_now hands i k index zero_is seat collects stock absorbs spots frees_i blocks
@@ -338,7 +338,7 @@ drop_all t w m now same c h tied ok visit_now before free free_was f g was kille
     let killed : is_killed m.killed g ≡ true = ap (λ (x : KnownMachine). is_killed x.killed g) same ∙ killed_now in
     let rest = hands.0 in
     let front : c.fresh ≡ f ∷ rest = hands.1 in
-    let frees : FreesFrames m.spots f (2 ^ 0) spots = subst (λ (x : ℕ × ℕ). FreesFrames m.spots x.0 (2 ^ x.1) spots) (λ j. (index j, zero_is j)) frees_i in
+    let frees : FreesFrames f (2 ^ 0) m.spots spots = subst (λ (x : ℕ × ℕ). FreesFrames x.0 (2 ^ x.1) m.spots spots) (λ j. (index j, zero_is j)) frees_i in
     let gives : GivesFrames before (record { at = f; order = 0 }) free =
     subst (λ (x : ℕ × ℕ). GivesFrames before (record { at = x.0; order = x.1 }) free) (λ j. (index j, zero_is j)) gives_i in
     let sized = ok.sizes.spots in

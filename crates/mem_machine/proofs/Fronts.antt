@@ -45,7 +45,7 @@ pub own_is : (t : KnownTable) (w : Words) (m now : KnownMachine) → m ≡ now �
 own_is t w m now same c stock tied ok balanced group held = subst (λ (x : KnownMachine). IsOwnStock (side x c) stock) same (record {
   group = group;
   held = held;
-  pages = let none = ok.noted c.number in let fresh = tied.within.pages_are in omega (arith, balanced, none, fresh);
+  pages = let none = ok.absorbed c.number in let fresh = tied.within.pages_are in omega (arith, balanced, none, fresh);
 })
 
 -- ---- the room for more
@@ -90,7 +90,7 @@ pub has_page : (t : KnownTable) (w : Words) (m now : KnownMachine) → m ≡ now
     → 0 < stocked m.stock.view c.stock.view
 has_page t w m now same c g tied ok page =
     let some : 1 ≤ pages_held (side m c) = subst (λ (x : KnownMachine). 1 ≤ pages_held (side x c)) (sym same) page.some in
-    let none = ok.noted c.number in
+    let none = ok.absorbed c.number in
     let fresh = tied.within.pages_are in
     let at : stocked m.stock.view c.stock.view ≡ (account_of m.stock.view c.number).book - c.stock.view.fresh - (account_of m.stock.view c.number).noted
     = ap (λ (p : ℕ). (account_of m.stock.view p).book - c.stock.view.fresh - (account_of m.stock.view p).noted) tied.seats.stock_number in
@@ -99,7 +99,7 @@ has_page t w m now same c g tied ok page =
 pub left_after : (t : KnownTable) (w : Words) (m : KnownMachine) (c : KnownCpu) → IsTied t w c → IsConsistent t w m
     → stocked m.stock.view c.stock.view - 1 ≡ pages_held (side m c) - 1
 left_after t w m c tied ok =
-    let none = ok.noted c.number in
+    let none = ok.absorbed c.number in
     let fresh = tied.within.pages_are in
     let at : stocked m.stock.view c.stock.view ≡ (account_of m.stock.view c.number).book - c.stock.view.fresh - (account_of m.stock.view c.number).noted
     = ap (λ (p : ℕ). (account_of m.stock.view p).book - c.stock.view.fresh - (account_of m.stock.view p).noted) tied.seats.stock_number in
@@ -170,7 +170,7 @@ module _ (t : KnownTable) (w : Words) (m : KnownMachine) (c : KnownCpu) (tied : 
   part_paid =
       let a = account_of m.stock.view c.number in
       let long = length-append c.fresh (f ∷ []) in
-      let noted = ok.noted c.number in
+      let noted = ok.absorbed c.number in
       let pages : a.book - length (c.fresh ++ f ∷ []) - a.noted ≡ a.book - length c.fresh - a.noted - 1 = omega (arith, long, noted) in
       sym (ap paid (own_part m c)
       ∙ (λ i. record (part_with rest (c.fresh ++ f ∷ []) c.back a) {
@@ -192,7 +192,7 @@ module _ (t : KnownTable) (w : Words) (m : KnownMachine) (c : KnownCpu) (tied : 
       let cpu : is_cpu s.zone p ≡ true = seated_cpu t c (record { some_number = tied.seats.some_number; cpus = tied.seats.frame_cpus }) in
       let legal : is_legal s p (Consume g) ≡ true = and_from _ _ (and_from _ _ cpu some) room in
       let pages : 1 ≤ (part_of m.stock c p).stock.pages
-      = subst (λ (x : Part). 1 ≤ x.stock.pages) (sym own) (let k = page.some in let n = ok.noted p in omega (arith, k, n)) in
+      = subst (λ (x : Part). 1 ≤ x.stock.pages) (sym own) (let k = page.some in let n = ok.absorbed p in omega (arith, k, n)) in
       let drained : (part_of m.stock c p).stock.is_drained ≡ false = ap (λ (x : Part). x.stock.is_drained) own
       ∙ ap (λ (b : Bool). is_some a.group && not b) page.held ∙ and_no (is_some a.group) in
       let answer : IsAnswer s p (Consume g) Took = (ap (λ (x : Part). x.stock.group) own ∙ page.group, drained, pages) in

@@ -108,7 +108,7 @@ kills t m now same g inside there alive l is counts peaks marks set =
     (subst (λ (k : KnownMachine). CountsEvent with_oom_kill k.ledger l g) same counts) (subst (λ (k : KnownMachine). SamePeaks k.ledger l) same peaks)
 
 make_runs : (t : KnownTable) (m n : KnownMachine) (g : ℕ) (path : List ℕ) → g < length m.killed → is_none (make_fault m.ledger.groups path) ≡ true
-    → AreCharges m.ledger → AddsGroup m g path n → (c : KnownCpu) → MakesAs t c.number (side m c) (make_steps path g) (side n c)
+    → AreCharges m.ledger → AddsGroup g path m n → (c : KnownCpu) → MakesAs t c.number (side m c) (make_steps path g) (side n c)
 make_runs t m n g path inside allowed facts makes c =
     let s = local_of t m c in
     subst (λ (k : KnownMachine). MakesAs t c.number (side m c) (make_steps path g) (side k c)) (sym makes.machine) (record {
@@ -124,7 +124,7 @@ none_of x e = ap is_none e
 
 module _ (t : KnownTable) (m now : KnownMachine) (same : m ≡ now) where
   pub makes : (l : Ledger) (marks : List Bool) (g : ℕ) (path : List ℕ) → IsLeastFreeNumber m.ledger.groups g → l ≡ with_new_group m.ledger g path
-      → marks ≡ slice_set m.killed g false → AddsGroup now g path (record m { ledger = l; killed = marks })
+      → marks ≡ slice_set m.killed g false → AddsGroup g path now (record m { ledger = l; killed = marks })
   makes l marks g path least is set = record {
     least = subst (λ (k : KnownMachine). IsLeastFreeNumber k.ledger.groups g) same least;
     machine = (λ i. record m { ledger = is i; killed = set i })

@@ -25,7 +25,7 @@ pub record IsAdded (links : List Link) (lru : Lru) (f : ℕ) (after : List Link)
 
 -- all that `join_list` leaves
 pub record AllJoin (links : List Link) (lists : List Lru) (g f : ℕ) (after : List Link) (new : List Lru) : Type 0 where
-  pub joins : JoinsList links lists g f after new
+  pub joins : JoinsList g f links lists after new
   pub stand : AllStand after new
   pub frames : length after ≡ length links
   pub groups : length new ≡ 64

@@ -91,7 +91,7 @@ head_fits : (cpus : ℕ) (note : FrameNote) (g k : ℕ) → g < 64 → IsUsed no
 head_fits cpus note g k fits used = record { own = used.own; lent = ap some_cpu used.lent; borrower = tt; references = used.references; kept = (fits, refl) }
 
 module _ (t : KnownTable) (w : Words) (m : KnownMachine) (ok : IsConsistent t w m) (g : ℕ) (fits : g < 64) (b : Block) (spots : List Spot)
-    (placed : PlacesUnit m.spots g b spots)
+    (placed : PlacesUnit g b m.spots spots)
     (rest : (x : ℕ) → b.at ≤ x → x < b.at + 2 ^ b.order → x ≢ b.at → spot_at m.spots x ≡ Free)
     (links : List Link) (joined : home_of links b.at ≡ Some (record { owner = g; list = Inactive }))
     (homes : (x : ℕ) → x ≢ b.at → home_of links x ≡ home_of m.links x) (change : FrameNote → FrameNote)
@@ -128,14 +128,14 @@ pub record JoinsCharges (t : KnownTable) (w : Words) (m : KnownMachine) (g pages
   pub areas : AreMaximalBlocks (free_of spots) blocks
   pub table : stock.table ≡ w.table
   pub stocks : IsZoneStock stock.view
-  pub noted : (p : ℕ) → (account_of stock.view p).noted ≡ 0
+  pub absorbed : (p : ℕ) → (account_of stock.view p).noted ≡ 0
   pub bounded : (p : ℕ) → (account_of stock.view p).book < 65536
   pub charged : (h : ℕ) → pages_of ledger h ≡ frames_charged m.spots h + cond (h == g) pages 0 + pages_booked t stock h
 
 -- The frames of a block that were charged to no group (all but the first were free) are a unit of the group now, and its head
 -- is on the group's inactive list, in use with one reference of the zone: the machine is consistent
 pub unit_kept : (t : KnownTable) (w : Words) (m : KnownMachine) → IsConsistent t w m → (g : ℕ) → g < 64 → (b : Block) → IsBlock (length m.spots) b
-    → (spots : List Spot) → PlacesUnit m.spots g b spots → group_of (spot_at m.spots b.at) ≡ None
+    → (spots : List Spot) → PlacesUnit g b m.spots spots → group_of (spot_at m.spots b.at) ≡ None
     → ((x : ℕ) → b.at ≤ x → x < b.at + 2 ^ b.order → x ≢ b.at → spot_at m.spots x ≡ Free)
     → (links : List Link) (lists : List Lru) → AllJoin m.links m.lists g b.at links lists
     → (change : FrameNote → FrameNote) → IsUsed (change (note_of m.seat.view b.at))
@@ -171,7 +171,7 @@ unit_kept t w m ok g fits b block spots placed first rest links lists joined cha
       spots = unit_fits t w m ok g fits b spots placed rest links joined.joins.stands joined.joins.homes change used;
       units = units_placed m.spots spots g b placed block uncharged ok.units;
       lists = joined.stand;
-      noted = joins.noted;
+      absorbed = joins.absorbed;
       bounded = joins.bounded;
       charged = λ h. let a = joins.charged h in let c = charges_rise m.spots spots g b placed block uncharged h in omega (arith, a, c);
       balances = balances;

@@ -16,7 +16,7 @@ use Rattle.mem_machine.proofs.Dirties.{on_list}
 
 -- all that `leave_list` leaves
 pub record AllLeave (links : List Link) (lists : List Lru) (f : ℕ) (after : List Link) (new : List Lru) : Type 0 where
-  pub leaves : LeavesList links lists f after new
+  pub leaves : LeavesList f links lists after new
   pub stand : AllStand after new
   pub frames : length after ≡ length links
   pub groups : length new ≡ 64

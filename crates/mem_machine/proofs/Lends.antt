@@ -140,7 +140,7 @@ module _ (t : KnownTable) (w : Words) (m : KnownMachine) (c : KnownCpu) (tied : 
     spots = spots_changed t.cpus m.seat m.links m.spots f (passed_out_to c.number) (Lent c.number) t.frames within ok.spots lent_fits;
     units = units_stay m.spots f (Lent c.number) within (ap group_of free) refl ok.units;
     lists = ok.lists;
-    noted = ok.noted;
+    absorbed = ok.absorbed;
     bounded = ok.bounded;
     charged = λ g. let a = ok.charged g in let b = charges_stay m.spots f (Lent c.number) within (ap group_of free) refl g in omega (arith, a, b);
     balances = ok.balances;
@@ -235,7 +235,7 @@ lend_all t w m now same c d tied ok visit_now before free k b blocks f i q seat 
       free_is = free_is;
       lends = record {
         frame = f;
-        lends = record { front = front; areas = areas_f; machine = refl; cpu = refl };
+        lends = record { front = front; lends = record { areas = areas_f; machine = refl; cpu = refl } };
         steps = lend_runs t w m c tied ok visit f inside there.1 blocks none;
       };
       visit = lend_visits t w m c tied ok visit f inside there.1 blocks;
@@ -258,8 +258,7 @@ pub lent_to_none : (m now : KnownMachine) → m ≡ now → (c : KnownCpu) (bloc
     → LendsNone (side now c) (side (record m { blocks = blocks }) c)
 lent_to_none m now same c blocks k zero_is none is = record {
   none = subst (λ (x : KnownMachine × ℕ). HasNoneFrom x.0.blocks x.1) (λ j. (same j, zero_is j)) none;
-  machine = (λ i. record m { blocks = is i }) ∙ same;
-  cpu = refl;
+  stays = record { machine = (λ i. record m { blocks = is i }) ∙ same; cpu = refl };
 }
 
 -- the block that was taken is one frame of the zone, which was free

@@ -8,11 +8,15 @@ use Rattle.zone_blocks.specs.Areas.{HasNoneFrom}
 use Rattle.frame_word.specs.Seats.{KnownTable}
 use Rattle.cpu_part.specs.Cpus.{KnownCpu}
 use Rattle.step_rules.specs.After.{Run}
-use Rattle.mem_machine.specs.Machines.{KnownMachine, Visits}
+use Rattle.mem_machine.specs.Machines.{KnownMachine, SideStays, Visits}
 use Rattle.mem_machine.specs.Lending.{LendsOne, LendsNone, LendsMany, LendsByStep, Refills, TakesOneBack, TakesNoneBack, TakesManyBack, TakesBackByStep}
 use Rattle.mem_machine.specs.Local.{MakesAs, Side, side}
 use Rattle.mem_machine.specs.Steps.{lend_steps, back_steps, drain_list_steps}
 use Rattle.mem_machine.proofs.Followed.{makes_none, makes_both}
+
+-- a side that stays
+side_stays : (now : Side) → SideStays now now
+side_stays now = record { machine = refl; cpu = refl }
 
 -- the steps of frames, and then of one more
 steps_more : (t : KnownTable) (p : ℕ) (steps : ℕ → Run) (frames : List ℕ) (f : ℕ) (a b c : Side) → MakesAs t p a (flat_map steps frames) b
@@ -29,7 +33,7 @@ length_more frames f k all = let a = length-append frames (f ∷ []) in omega (a
 lends_more : (frames : List ℕ) (f : ℕ) (m : KnownMachine) (c : KnownCpu) (x : KnownMachine) (y : KnownCpu) (n : KnownMachine) (d : KnownCpu)
     → LendsMany frames (side m c) (side x y) → LendsOne f (side x y) (side n d) → LendsMany (frames ++ f ∷ []) (side m c) (side n d)
 lends_more [] f m c x y n d before one =
-    (side n d, subst (λ (z : KnownMachine × KnownCpu). LendsOne f (side z.0 z.1) (side n d)) (λ i. (before.0 i, before.1 i)) one, (refl, refl))
+    (side n d, subst (λ (z : KnownMachine × KnownCpu). LendsOne f (side z.0 z.1) (side n d)) (λ i. (before.machine i, before.cpu i)) one, side_stays (side n d))
 lends_more (g ∷ frames) f m c x y n d before one = (before.0, before.1, lends_more frames f before.0.machine before.0.cpu x y n d before.2 one)
 
 -- what the loop of `refill` keeps after k frames
@@ -41,7 +45,7 @@ pub record LentSoFar (t : KnownTable) (k : ℕ) (m : KnownMachine) (c : KnownCpu
 
 pub lent_start : (t : KnownTable) (m : KnownMachine) (c : KnownCpu) → Visits t (side m c) → LentSoFar t 0 m c m c
 lent_start t m c visit = record {
-  refills = record { frames = []; all = refl; lends = (refl, refl); steps = makes_none t c.number (side m c) };
+  refills = record { frames = []; all = refl; lends = side_stays (side m c); steps = makes_none t c.number (side m c) };
   visit = visit;
   number = refl;
   count = omega arith;
@@ -52,8 +56,8 @@ pub lent_more : (t : KnownTable) (k : ℕ) (m : KnownMachine) (c : KnownCpu) (x 
 lent_more t k m c x y n d before one visit =
     let so_far = before.refills in
     let f = one.frame in
-    let longer : length d.list ≡ length y.list + 1 = ap (λ (e : KnownCpu). length e.list) one.lends.cpu ∙ length-append y.list (f ∷ []) in
-    let fresh : length d.fresh ≡ length y.fresh = ap (λ (e : KnownCpu). length e.fresh) one.lends.cpu in
+    let longer : length d.list ≡ length y.list + 1 = ap (λ (e : KnownCpu). length e.list) one.lends.lends.cpu ∙ length-append y.list (f ∷ []) in
+    let fresh : length d.fresh ≡ length y.fresh = ap (λ (e : KnownCpu). length e.fresh) one.lends.lends.cpu in
     let count = before.count in
     record {
       refills = record {
@@ -64,7 +68,7 @@ lent_more t k m c x y n d before one visit =
             (subst (λ (p : ℕ). MakesAs t p (side x y) (lend_steps p f) (side n d)) before.number one.steps);
       };
       visit = visit;
-      number = ap (λ (e : KnownCpu). e.number) one.lends.cpu ∙ before.number;
+      number = ap (λ (e : KnownCpu). e.number) one.lends.lends.cpu ∙ before.number;
       count = omega (arith, longer, fresh, count);
     }
 
@@ -72,8 +76,8 @@ pub lent_end : (t : KnownTable) (k : ℕ) (m : KnownMachine) (c : KnownCpu) (x :
     → LentSoFar t k m c x y
     → LendsNone (side x y) (side n d) → LentSoFar t k m c n d × HasNoneFrom n.blocks 0
 lent_end t k m c x y n d before none = (
-  subst (λ (z : KnownMachine × KnownCpu). LentSoFar t k m c z.0 z.1) (λ i. (sym none.machine i, sym none.cpu i)) before,
-  subst (λ (z : KnownMachine). HasNoneFrom z.blocks 0) (sym none.machine) none.none,
+  subst (λ (z : KnownMachine × KnownCpu). LentSoFar t k m c z.0 z.1) (λ i. (sym none.stays.machine i, sym none.stays.cpu i)) before,
+  subst (λ (z : KnownMachine). HasNoneFrom z.blocks 0) (sym none.stays.machine) none.none,
 )
 
 -- ---- back
@@ -82,7 +86,7 @@ lent_end t k m c x y n d before none = (
 takes_more : (frames : List ℕ) (f : ℕ) (m : KnownMachine) (c : KnownCpu) (x : KnownMachine) (y : KnownCpu) (n : KnownMachine) (d : KnownCpu)
     → TakesManyBack frames (side m c) (side x y) → TakesOneBack f (side x y) (side n d) → TakesManyBack (frames ++ f ∷ []) (side m c) (side n d)
 takes_more [] f m c x y n d before one =
-    (side n d, subst (λ (z : KnownMachine × KnownCpu). TakesOneBack f (side z.0 z.1) (side n d)) (λ i. (before.0 i, before.1 i)) one, (refl, refl))
+    (side n d, subst (λ (z : KnownMachine × KnownCpu). TakesOneBack f (side z.0 z.1) (side n d)) (λ i. (before.machine i, before.cpu i)) one, side_stays (side n d))
 takes_more (g ∷ frames) f m c x y n d before one = (before.0, before.1, takes_more frames f before.0.machine before.0.cpu x y n d before.2 one)
 
 -- what the loop of `drain_list` keeps after k frames
@@ -97,7 +101,7 @@ pub record TakenSoFar (t : KnownTable) (k : ℕ) (m : KnownMachine) (c : KnownCp
 
 pub taken_start : (t : KnownTable) (m : KnownMachine) (c : KnownCpu) → Visits t (side m c) → TakenSoFar t 0 m c m c
 taken_start t m c visit =
-    record { frames = []; all = refl; split = refl; takes = (refl, refl); visit = visit; steps = makes_none t c.number (side m c); number = refl }
+    record { frames = []; all = refl; split = refl; takes = side_stays (side m c); visit = visit; steps = makes_none t c.number (side m c); number = refl }
 
 pub taken_more : (t : KnownTable) (k : ℕ) (m : KnownMachine) (c : KnownCpu) (x : KnownMachine) (y : KnownCpu) (n : KnownMachine) (d : KnownCpu)
     → TakenSoFar t k m c x y → TakesBackByStep t (side x y) (side n d) → Visits t (side n d) → TakenSoFar t (k + 1) m c n d
@@ -119,8 +123,8 @@ pub taken_end : (t : KnownTable) (k : ℕ) (m : KnownMachine) (c : KnownCpu) (x 
     → TakenSoFar t k m c x y
     → TakesNoneBack (side x y) (side n d) → TakenSoFar t k m c n d × (d.list ≡ [])
 taken_end t k m c x y n d before none = (
-  subst (λ (z : KnownMachine × KnownCpu). TakenSoFar t k m c z.0 z.1) (λ i. (sym none.machine i, sym none.cpu i)) before,
-  ap (λ (e : KnownCpu). e.list) none.cpu ∙ none.none,
+  subst (λ (z : KnownMachine × KnownCpu). TakenSoFar t k m c z.0 z.1) (λ i. (sym none.stays.machine i, sym none.stays.cpu i)) before,
+  ap (λ (e : KnownCpu). e.list) none.stays.cpu ∙ none.none,
 )
 
 -- what was taken after k frames, said of the front of the list

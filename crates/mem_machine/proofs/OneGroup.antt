@@ -73,7 +73,7 @@ pub record GroupChanged (t : KnownTable) (w : Words) (now : KnownMachine) (g : �
   pub machine : n ≡ record now { links = n.links; lists = n.lists }
   pub before : lists_at now.lists g ≡ lru
   pub after : lists_at n.lists g ≡ new
-  pub others : OthersStay now.links now.lists g n.links n.lists
+  pub others : OthersStay g now.links now.lists n.links n.lists
   pub owners : SameOwners now.links n.links
   pub loose : LooseStay now.links n.links
   pub steps : MakesForAny t now [] n
@@ -110,7 +110,7 @@ module _ (t : KnownTable) (w : Words) (m : KnownMachine) (ok : IsConsistent t w 
       spots = λ f within. fits_home t.cpus (note_of m.seat.view f) (home_of m.links f) (home_of links f) (spot_at m.spots f) (mapped f) (ok.spots f within);
       units = ok.units;
       lists = all_stand;
-      noted = ok.noted;
+      absorbed = ok.absorbed;
       bounded = ok.bounded;
       charged = ok.charged;
       balances = ok.balances;
@@ -136,7 +136,7 @@ change_all t w m now same ok g i fits is any lru read links new stands owner cha
 -- ---- the group was aged
 
 pub ages_group : (t : KnownTable) (w : Words) (m now : KnownMachine) → m ≡ now → (g : ℕ) (lru new : Lru) (n : KnownMachine) → GroupChanged t w now g lru new n
-    → Ages m.links lru n.links new → AgesGroup now g n
+    → Ages m.links lru n.links new → AgesGroup g now n
 ages_group t w m now same g lru new n changed ages = record {
   machine = changed.machine;
   ages = subst (λ (x : KnownMachine × Lru × Lru). Ages x.0.links x.1 n.links x.2) (λ j. (same j, sym changed.before j, sym changed.after j)) ages;
@@ -150,7 +150,7 @@ ages_group t w m now same g lru new n changed ages = record {
 pub renews_unit : (t : KnownTable) (w : Words) (m now : KnownMachine) → m ≡ now → (g f i : ℕ) → i ≡ f → (lru new : Lru) (n : KnownMachine)
     → GroupChanged t w now g lru new n
     → inactive_of n.links new ≡ entries_without i (inactive_of m.links lru) ++ marked false (entry_of m.links i) ∷ []
-    → active_of n.links new ≡ active_of m.links lru → RenewsUnit now g f n
+    → active_of n.links new ≡ active_of m.links lru → RenewsUnit g f now n
 renews_unit t w m now same g f i is lru new n changed inactive active = record {
   machine = changed.machine;
   inactive = subst (λ (x : KnownMachine × Lru × Lru × ℕ). inactive_of n.links x.2 ≡ entries_without x.3 (inactive_of x.0.links x.1)

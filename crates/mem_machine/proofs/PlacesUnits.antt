@@ -60,7 +60,7 @@ tail_of_block spots g b f w ne =
 
 -- all are tails, and then the first one heads the unit
 pub unit_placed : (old now : List Spot) (g : ℕ) (b : Block) (first end : ℕ) → first ≡ b.at → end ≡ b.at + 2 ^ b.order → end ≤ length old
-    → TailsTo old first g end now → PlacesUnit old g b (slice_set now first (Head (record { group = g; order = b.order })))
+    → TailsTo old first g end now → PlacesUnit g b old (slice_set now first (Head (record { group = g; order = b.order })))
 unit_placed old now g b first end at last room is =
     let head : Spot = Head (record { group = g; order = b.order }) in
     let some = pow_pos b.order in

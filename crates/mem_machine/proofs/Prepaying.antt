@@ -92,7 +92,7 @@ fill_consistent t w m q g k l ok inside empty small rise =
     let a = account_of m.stock.view q in
     stocks_consistent t w m l stock ok refl ok.seats.stocks
     (λ p. filled_read m.stock.view q g k (λ (x : Account). x.noted) p
-    ∙ at_each (λ j. (account_of m.stock.view j).noted) q a.noted (λ j x. x ≡ 0) (ok.noted q) (λ j ne. ok.noted j) p)
+    ∙ at_each (λ j. (account_of m.stock.view j).noted) q a.noted (λ j x. x ≡ 0) (ok.absorbed q) (λ j ne. ok.absorbed j) p)
     (λ p.
     let read = filled_read m.stock.view q g k (λ (x : Account). x.book) p in
     let at = at_each (λ j. (account_of m.stock.view j).book) q (filled_account m.stock.view q g k).book (λ j x. x < 65536) (omega (arith, empty, small))
@@ -175,7 +175,7 @@ fill_runs t w m c g k ok facts tied visit none there alive empty has =
     let acts = zone_may_act m.seat p in
     let len : length c.fresh ≡ 0 = ap length none in
     let own = own_part m c in
-    let noted = ok.noted p in
+    let noted = ok.absorbed p in
     let pages : (part_of m.stock c p).stock.pages ≡ 0
     = ap (λ (x : Part). x.stock.pages) own ∙ (let a : (account_of m.stock.view p).book - length c.fresh -
     (account_of m.stock.view p).noted ≡ 0 = omega (arith, empty) in a) in
@@ -287,7 +287,7 @@ none_in NoGroup is = refl
 none_in (HeldBy g n) is = absurd (false≢true (sym is))
 none_in (DrainedOf g) is = refl
 
-module _ (m x : KnownMachine) (q p k : ℕ) (named : q ≡ p) (d : Drains m q k x) where
+module _ (m x : KnownMachine) (q p k : ℕ) (named : q ≡ p) (d : Drains q k m x) where
   pub emptied_visits : (t : KnownTable) (c : KnownCpu) → Visits t (side m c) → Visits t (side x c)
   emptied_visits t c visit = subst (λ (y : KnownMachine). Visits t (side y c)) (sym d.machine) (record {
     is_open = visit.is_open;
@@ -313,8 +313,8 @@ module _ (m x : KnownMachine) (q p k : ℕ) (named : q ≡ p) (d : Drains m q k 
   emptied_drained = ap (λ (n : ℕ). (account_of x.stock.view n).filled) (sym named) ∙ ap (λ (y : KnownMachine). (account_of y.stock.view q).filled) d.machine
       ∙ ap (λ (a : Account). a.filled) (drained_at m.stock.view q k)
 
-  pub emptied_own : Drains m p k x
-  emptied_own = subst (λ (n : ℕ). Drains m n k x) named d
+  pub emptied_own : Drains p k m x
+  emptied_own = subst (λ (n : ℕ). Drains n k m x) named d
 
   -- all of its pages came back, as a look at the stock tells
   pub emptied_whole : (c : KnownCpu) (y : KnownMachine) (stock : Stock) → y ≡ x → c.number ≡ p → c.fresh ≡ [] → IsOwnStock (side y c) stock
@@ -343,8 +343,8 @@ module _ (m x : KnownMachine) (q p k : ℕ) (named : q ≡ p) (d : Drains m q k 
     drained_own = subst (λ (z : ℕ × ℕ). MakesAs t c.number (side m c) (drain_steps z.0 (stock_group m z.0) z.1) (side x c))
         (λ i. (its_number i, whole i)) drained
 
-    own_drain : Drains m c.number (pages_held (side m c)) x
-    own_drain = subst (λ (z : ℕ × ℕ). Drains m z.0 z.1 x) (λ i. (its_number i, whole i)) d
+    own_drain : Drains c.number (pages_held (side m c)) m x
+    own_drain = subst (λ (z : ℕ × ℕ). Drains z.0 z.1 m x) (λ i. (its_number i, whole i)) d
 
     -- what follows begins at the machine and the part that were looked at
     module _ (y : KnownMachine) (e : KnownCpu) (same : y ≡ x) (stays : e ≡ c) (g pages : ℕ) (n : KnownMachine) (f : KnownCpu) where

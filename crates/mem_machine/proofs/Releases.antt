@@ -150,7 +150,7 @@ module _ (t : KnownTable) (w : Words) (m : KnownMachine) (ok : IsConsistent t w 
   pub held_once : holds m.seat f ≡ 1
   held_once = kept_once (home_of m.links f) (holds m.seat f) (ok.spots f inside).references kept
 
-  module _ (links : List Link) (lists : List Lru) (leaves : LeavesList m.links m.lists f links lists) (stand : AllStand links lists)
+  module _ (links : List Link) (lists : List Lru) (leaves : LeavesList f m.links m.lists links lists) (stand : AllStand links lists)
       (linked : length links ≡ t.frames) (listed : length lists ≡ 64) where
     homeless : home_of links f ≡ None
     homeless = ap (λ (k : Link). k.home) leaves.forgotten
@@ -195,7 +195,7 @@ module _ (t : KnownTable) (w : Words) (m : KnownMachine) (ok : IsConsistent t w 
         spots = left_fits;
         units = ok.units;
         lists = stand;
-        noted = ok.noted;
+        absorbed = ok.absorbed;
         bounded = ok.bounded;
         charged = ok.charged;
         balances = ok.balances;
@@ -246,7 +246,7 @@ module _ (t : KnownTable) (w : Words) (m : KnownMachine) (ok : IsConsistent t w 
             and_from _ _ (and_from _ _ (zone_may_act m.seat c.number) (lt-ltb f t.frames inside)) (ap (may_return (is_killed m.killed)) head_ended)
 
         -- the frames of the unit are free, and all others have the phases that they had
-        phases_after : (spots : List Spot) → FreesFrames m.spots f (2 ^ unit.order) spots → (x : ℕ)
+        phases_after : (spots : List Spot) → FreesFrames f (2 ^ unit.order) m.spots spots → (x : ℕ)
             → without_unit ended.phases f x ≡ phase_of c x (spot_at spots x)
         phases_after spots frees x =
             let some = pow_pos unit.order in
@@ -263,7 +263,7 @@ module _ (t : KnownTable) (w : Words) (m : KnownMachine) (ok : IsConsistent t w 
 
         -- its return leads to the machine in which its frames are free
         pub return_runs : (change : FrameNote → FrameNote) → TakesInHand change → (spots : List Spot) (blocks : List Block) (counts : Counts)
-            → FreesFrames m.spots f (2 ^ unit.order) spots
+            → FreesFrames f (2 ^ unit.order) m.spots spots
             → IsLocalRun c.number ended (zone_makes (Return f) answer.Done ∷ []) (local_of t (record m {
               blocks = blocks;
               spots = spots;
@@ -297,12 +297,12 @@ pub record AllLeft (t : KnownTable) (w : Words) (now : KnownMachine) (f left : �
   pub visit : (c : KnownCpu) → Visits t (side now c) → Visits t (side n c)
   pub steps : MakesForAny t now (release_steps f (Left left)) n
 
-pub left_all : (t : KnownTable) (w : Words) (m now : KnownMachine) → m ≡ now → IsConsistent t w m → (f i : ℕ) → f < t.frames → i ≡ f → home_of now.links f ≢ None → (links : List Link) (lists : List Lru) → LeavesList m.links m.lists i links lists → AllStand links lists
+pub left_all : (t : KnownTable) (w : Words) (m now : KnownMachine) → m ≡ now → IsConsistent t w m → (f i : ℕ) → f < t.frames → i ≡ f → home_of now.links f ≢ None → (links : List Link) (lists : List Lru) → LeavesList i m.links m.lists links lists → AllStand links lists
     → length links ≡ length m.links → length lists ≡ 64 → (left : ℕ) (seat : KnownSeat) → seat ≡ seat_with m.seat f (let_go left)
     → AllLeft t w now f left (record m { links = links; lists = lists; seat = seat })
 left_all t w m now same ok f i inside is kept_now links lists left_list stand linked listed left seat put =
     let kept : home_of m.links f ≢ None = subst (λ (x : KnownMachine). home_of x.links f ≢ None) (sym same) kept_now in
-    let leaves : LeavesList m.links m.lists f links lists = subst (λ (x : ℕ). LeavesList m.links m.lists x links lists) is left_list in
+    let leaves : LeavesList f m.links m.lists links lists = subst (λ (x : ℕ). LeavesList x m.links m.lists links lists) is left_list in
     let sized : length links ≡ t.frames = linked ∙ ok.sizes.links in
     let n : KnownMachine = record m { links = links; lists = lists; seat = seat_with m.seat f (let_go left) } in
     let all : AllLeft t w m f left n = record {
@@ -317,15 +317,15 @@ pub record AllBack (t : KnownTable) (w : Words) (now : KnownMachine) (f : ℕ) (
   pub consistent : IsConsistent t w n
   pub free_is : free ≡ free_of n.spots
   pub heads : spot_at now.spots f ≡ Head unit
-  pub list : LeavesList now.links now.lists f n.links n.lists
-  pub frees : FreesFrames now.spots f (2 ^ unit.order) n.spots
+  pub list : LeavesList f now.links now.lists n.links n.lists
+  pub frees : FreesFrames f (2 ^ unit.order) now.spots n.spots
   pub areas : AreMaximalBlocks (free_of n.spots) n.blocks
   pub visit : (c : KnownCpu) → Visits t (side now c) → Visits t (side n c)
   pub runs : MakesForAny t now steps n
 
 -- where the step before the last one leaves the state that the zone's last put leaves
 pub back_all : (t : KnownTable) (w : Words) (m now : KnownMachine) → m ≡ now → IsConsistent t w m → (f i : ℕ)
-    → f < t.frames → i ≡ f → home_of now.links f ≢ None → (links : List Link) (lists : List Lru) → LeavesList m.links m.lists i links lists
+    → f < t.frames → i ≡ f → home_of now.links f ≢ None → (links : List Link) (lists : List Lru) → LeavesList i m.links m.lists links lists
     → AllStand links lists → length links ≡ length m.links → length lists ≡ 64
     → (change : FrameNote → FrameNote) → TakesInHand change → (seat : KnownSeat) → seat ≡ seat_with m.seat f change
     → (action : Action) (answered : Answer)
@@ -333,7 +333,7 @@ pub back_all : (t : KnownTable) (w : Words) (m now : KnownMachine) → m ≡ now
     → ((c : KnownCpu) → after (local_of t m c) 0 action answered ≡ after (local_of t m c) 0 (Put f) answer.Last)
     → (unit : ChargedUnit) → spot_at m.spots i ≡ Head unit
     → (before free : List Bool) (blocks : List Block) (spots : List Spot) (ledger : Ledger) (counts : Counts)
-    → before ≡ free_of m.spots → FreesFrames m.spots i (2 ^ unit.order) spots → GivesFrames before (record { at = i; order = unit.order }) free
+    → before ≡ free_of m.spots → FreesFrames i (2 ^ unit.order) m.spots spots → GivesFrames before (record { at = i; order = unit.order }) free
     → AreMaximalBlocks free blocks → ledger ≡ with_uncharge m.ledger unit.group (2 ^ unit.order) → BalancesCounts counts
     → AllBack t w now f unit free (zone_makes action answered ∷ zone_makes (Return f) answer.Done ∷ []) (record m {
       blocks = blocks;
@@ -347,10 +347,10 @@ pub back_all : (t : KnownTable) (w : Words) (m now : KnownMachine) → m ≡ now
 back_all t w m now same ok f i inside is kept_now links lists left_list stand linked listed change takes seat put action answered first still ends unit head before
     free blocks spots ledger counts was frees_i gives_i areas_free uncharged balances =
     let kept : home_of m.links f ≢ None = subst (λ (x : KnownMachine). home_of x.links f ≢ None) (sym same) kept_now in
-    let leaves : LeavesList m.links m.lists f links lists = subst (λ (x : ℕ). LeavesList m.links m.lists x links lists) is left_list in
+    let leaves : LeavesList f m.links m.lists links lists = subst (λ (x : ℕ). LeavesList x m.links m.lists links lists) is left_list in
     let sized : length links ≡ t.frames = linked ∙ ok.sizes.links in
     let heads : spot_at m.spots f ≡ Head unit = subst (λ (x : ℕ). spot_at m.spots x ≡ Head unit) is head in
-    let frees : FreesFrames m.spots f (2 ^ unit.order) spots = subst (λ (x : ℕ). FreesFrames m.spots x (2 ^ unit.order) spots) is frees_i in
+    let frees : FreesFrames f (2 ^ unit.order) m.spots spots = subst (λ (x : ℕ). FreesFrames x (2 ^ unit.order) m.spots spots) is frees_i in
     let gives : GivesFrames before (record { at = f; order = unit.order }) free =
     subst (λ (x : ℕ). GivesFrames before (record { at = x; order = unit.order }) free) is gives_i in
     let free_is : free ≡ free_of spots =
@@ -403,16 +403,16 @@ back_all t w m now same ok f i inside is kept_now links lists left_list stand li
 pub record AllReturned (t : KnownTable) (w : Words) (now : KnownMachine) (f : ℕ) (free : List Bool) (n : KnownMachine) : Type 0 where
   pub consistent : IsConsistent t w n
   pub free_is : free ≡ free_of n.spots
-  pub returns : ReturnsUnit now f n
+  pub returns : ReturnsUnit f now n
   pub visit : (c : KnownCpu) → Visits t (side now c) → Visits t (side n c)
   pub steps : MakesForAny t now (release_steps f Returned) n
 
 pub returned_all : (t : KnownTable) (w : Words) (m now : KnownMachine) → m ≡ now → IsConsistent t w m → (f i : ℕ)
-    → f < t.frames → i ≡ f → home_of now.links f ≢ None → (links : List Link) (lists : List Lru) → LeavesList m.links m.lists i links lists
+    → f < t.frames → i ≡ f → home_of now.links f ≢ None → (links : List Link) (lists : List Lru) → LeavesList i m.links m.lists links lists
     → AllStand links lists → length links ≡ length m.links → length lists ≡ 64 → (seat : KnownSeat) → seat ≡ seat_with m.seat f let_go_last
     → (unit : ChargedUnit) → spot_at m.spots i ≡ Head unit
     → (before free : List Bool) (blocks : List Block) (spots : List Spot) (ledger : Ledger) (counts : Counts)
-    → before ≡ free_of m.spots → FreesFrames m.spots i (2 ^ unit.order) spots → GivesFrames before (record { at = i; order = unit.order }) free
+    → before ≡ free_of m.spots → FreesFrames i (2 ^ unit.order) m.spots spots → GivesFrames before (record { at = i; order = unit.order }) free
     → AreMaximalBlocks free blocks → ledger ≡ with_uncharge m.ledger unit.group (2 ^ unit.order) → counts ≡ with_last_put m.counts
     → AllReturned t w now f free (record m {
       blocks = blocks;

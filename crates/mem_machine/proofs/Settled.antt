@@ -138,14 +138,14 @@ pub fresh_end : (t : KnownTable) (m : KnownMachine) (c : KnownCpu) (x : KnownMac
 fresh_end t m c x y n d so_far none =
     let k : Bool = is_killed m.killed (fresh_group c) in
     record {
-      settles = so_far.settles n d (subst (λ (l : List ℕ). SettlesAllFresh l (side x y) (side n d)) (sym none.none_fresh) (none.machine, none.cpu));
+      settles = so_far.settles n d (subst (λ (l : List ℕ). SettlesAllFresh l (side x y) (side n d)) (sym none.none_fresh) none.stays);
       steps = so_far.steps (side n d)
           (subst (λ (l : List ℕ). MakesAs t c.number (side x y) (flat_map (fresh_steps k c.number) l) (side n d)) (sym none.none_fresh)
-          (subst (λ (z : KnownMachine × KnownCpu). MakesAs t c.number (side x y) [] (side z.0 z.1)) (λ i. (sym none.machine i, sym none.cpu i))
+          (subst (λ (z : KnownMachine × KnownCpu). MakesAs t c.number (side x y) [] (side z.0 z.1)) (λ i. (sym none.stays.machine i, sym none.stays.cpu i))
           (makes_none t c.number (side x y))));
-      others = subst (λ (e : KnownCpu). LeavesOthers c e) (sym none.cpu) so_far.others;
-      back = ap (λ (e : KnownCpu). e.back) none.cpu ∙ so_far.back;
-      none_fresh = ap (λ (e : KnownCpu). e.fresh) none.cpu ∙ none.none_fresh;
+      others = subst (λ (e : KnownCpu). LeavesOthers c e) (sym none.stays.cpu) so_far.others;
+      back = ap (λ (e : KnownCpu). e.back) none.stays.cpu ∙ so_far.back;
+      none_fresh = ap (λ (e : KnownCpu). e.fresh) none.stays.cpu ∙ none.none_fresh;
     }
 
 -- ---- all back frames
@@ -192,14 +192,14 @@ pub record BackSettled (t : KnownTable) (m : KnownMachine) (c : KnownCpu) (n : K
 pub back_end : (t : KnownTable) (m : KnownMachine) (c : KnownCpu) (x : KnownMachine) (y : KnownCpu) (n : KnownMachine) (d : KnownCpu)
     → BackSoFar t m c x y → FindsNoneBack (side x y) (side n d) → BackSettled t m c n d
 back_end t m c x y n d so_far none = record {
-  returns = so_far.returns n d (subst (λ (l : List ℕ). ReturnsAllBack l (side x y) (side n d)) (sym none.none_back) (none.machine, none.cpu));
+  returns = so_far.returns n d (subst (λ (l : List ℕ). ReturnsAllBack l (side x y) (side n d)) (sym none.none_back) none.stays);
   steps = so_far.steps (side n d)
       (subst (λ (l : List ℕ). MakesAs t c.number (side x y) (flat_map (return_steps c.number) l) (side n d)) (sym none.none_back)
-      (subst (λ (z : KnownMachine × KnownCpu). MakesAs t c.number (side x y) [] (side z.0 z.1)) (λ i. (sym none.machine i, sym none.cpu i))
+      (subst (λ (z : KnownMachine × KnownCpu). MakesAs t c.number (side x y) [] (side z.0 z.1)) (λ i. (sym none.stays.machine i, sym none.stays.cpu i))
       (makes_none t c.number (side x y))));
-  others = subst (λ (e : KnownCpu). LeavesOthers c e) (sym none.cpu) so_far.others;
-  fresh = ap (λ (e : KnownCpu). e.fresh) none.cpu ∙ so_far.fresh;
-  none_back = ap (λ (e : KnownCpu). e.back) none.cpu ∙ none.none_back;
+  others = subst (λ (e : KnownCpu). LeavesOthers c e) (sym none.stays.cpu) so_far.others;
+  fresh = ap (λ (e : KnownCpu). e.fresh) none.stays.cpu ∙ so_far.fresh;
+  none_back = ap (λ (e : KnownCpu). e.back) none.stays.cpu ∙ none.none_back;
 }
 
 -- ---- both

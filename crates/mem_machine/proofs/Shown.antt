@@ -102,7 +102,7 @@ module _ (c d : KnownCpu) (spots : List Spot) (f : ℕ) (others : (g : ℕ) (y :
   ]
 
   -- where the frames of the unit came back
-  pub phases_freed : (new : List Spot) (unit : ChargedUnit) (stage : Stage) → FreesFrames spots f (2 ^ unit.order) new → (g : ℕ)
+  pub phases_freed : (new : List Spot) (unit : ChargedUnit) (stage : Stage) → FreesFrames f (2 ^ unit.order) spots new → (g : ℕ)
       → phase_of d g (spot_at new g) ≡ without_unit (with_at old f (phase.Head unit stage)) f g
   phases_freed new unit stage frees g =
       let x : Phase = phase.Head unit stage in

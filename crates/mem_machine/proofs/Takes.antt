@@ -112,7 +112,7 @@ module _ (t : KnownTable) (w : Words) (m : KnownMachine) (c : KnownCpu) (tied : 
     spots = spots_changed t.cpus m.seat m.links m.spots f (collected_from c.number) Free t.frames within ok.spots taken_fits;
     units = units_stay m.spots f Free within (ap group_of is_lent_spot) refl ok.units;
     lists = ok.lists;
-    noted = ok.noted;
+    absorbed = ok.absorbed;
     bounded = ok.bounded;
     charged = λ g. let a = ok.charged g in let b = charges_stay m.spots f Free within (ap group_of is_lent_spot) refl g in omega (arith, a, b);
     balances = ok.balances;
@@ -241,7 +241,7 @@ take_all t w m now same c h d tied ok visit_now before free k blocks f i seat wa
 -- the list is empty
 pub taken_none : (m now : KnownMachine) → m ≡ now → (c d : KnownCpu) (seat : KnownSeat) → (c.list ≡ []) × (d ≡ c) → seat ≡ m.seat
     → TakesNoneBack (side now c) (side (record m { seat = seat }) d)
-taken_none m now same c d seat none is = record { none = none.0; machine = (λ i. record m { seat = is i }) ∙ same; cpu = none.1 }
+taken_none m now same c d seat none is = record { none = none.0; stays = record { machine = (λ i. record m { seat = is i }) ∙ same; cpu = none.1 } }
 
 -- the frame passes for the processor once it was handed
 pub passes_back_to : (t : KnownTable) (w : Words) (m now : KnownMachine) → m ≡ now → (c h : KnownCpu) → IsTied t w c → Visits t (side now c)

@@ -83,7 +83,7 @@ module _ (old : List Spot) (blocks : List Block) (areas : AreMaximalBlocks (free
   head_inside = let h = taken_inside.inside in let some = pow_pos b.order in omega (arith, h, some)
 
   -- the free frames are those of the records once the unit is placed
-  pub free_then : (spots : List Spot) (g : ℕ) → PlacesUnit old g b spots → free ≡ free_of spots
+  pub free_then : (spots : List Spot) (g : ℕ) → PlacesUnit g b old spots → free ≡ free_of spots
   free_then spots g placed =
       let sized : length free ≡ length (free_of spots) =
       takes.same_length ∙ ap (λ (l : List Bool). length l) was ∙ length_free old ∙ sym placed.frames ∙ sym (length_free spots) in
@@ -170,7 +170,7 @@ free_in_hand t w m ok f g inside is named =
 pub record AllTaken (t : KnownTable) (w : Words) (now : KnownMachine) (c : KnownCpu) (g k at : ℕ) (n : KnownMachine) (d : KnownCpu) (free : List Bool) : Type 0 where
   pub consistent : IsConsistent t w n
   pub free_is : free ≡ free_of n.spots
-  pub takes : TakesBlock now g k at n
+  pub takes : TakesBlock g k at now n
   pub visit : Visits t (side n d)
   pub steps : MakesAs t c.number (side now c) (taken_steps g k at) (side n d)
 
@@ -199,7 +199,7 @@ taken_machine m g b blocks spots links lists = record {
 taken_here : (t : KnownTable) (w : Words) (m : KnownMachine) (c : KnownCpu) → IsConsistent t w m → AreCharges m.ledger → (g : ℕ) → g < 64 → (b : Block)
     → MayTake t m c g → PathHasRoom m.ledger.groups (current_of m.ledger) g (2 ^ b.order) → PagesRise m.ledger (with_charge m.ledger g (2 ^ b.order)) g (2 ^ b.order)
     → (before free : List Bool) (blocks : List Block) → before ≡ free_of m.spots → IsFrontOfSmallest m.blocks b.order b → TakesFrames before b free
-    → AreMaximalBlocks free blocks → (spots : List Spot) → PlacesUnit m.spots g b spots → holds m.seat b.at ≡ 0
+    → AreMaximalBlocks free blocks → (spots : List Spot) → PlacesUnit g b m.spots spots → holds m.seat b.at ≡ 0
     → (links : List Link) (lists : List Lru) → AllJoin m.links m.lists g b.at links lists
     → AllTaken t w m c g b.order b.at (taken_machine m g b blocks spots links lists) c free
 taken_here t w m c ok facts g fits b may room rise before free blocks was front takes areas spots placed unreferred links lists joined =
@@ -220,7 +220,7 @@ taken_here t w m c ok facts g fits b may room rise before free blocks was front 
       areas = maximal;
       table = ok.seats.table;
       stocks = ok.seats.stocks;
-      noted = ok.noted;
+      absorbed = ok.absorbed;
       bounded = ok.bounded;
       charged = λ h. let a = rise h in let old = ok.charged h in omega (arith, a, old);
     } in
@@ -251,7 +251,7 @@ taken_here t w m c ok facts g fits b may room rise before free blocks was front 
 pub taken_all : (t : KnownTable) (w : Words) (m now : KnownMachine) → m ≡ now → (c d : KnownCpu) → d ≡ c → IsConsistent t w m → AreCharges m.ledger → (g : ℕ) → g < 64
     → (k pages : ℕ) → pages ≡ 2 ^ k → MayTake t now c g → PathHasRoom m.ledger.groups (current_of m.ledger) g pages → (ledger : Ledger) → ledger ≡ with_charge m.ledger g pages
     → PagesRise m.ledger ledger g pages → (before free : List Bool) (b : Block) (blocks : List Block) → before ≡ free_of m.spots
-    → IsFrontOfSmallest m.blocks k b → TakesFrames before b free → AreMaximalBlocks free blocks → (spots : List Spot) → PlacesUnit m.spots g b spots
+    → IsFrontOfSmallest m.blocks k b → TakesFrames before b free → AreMaximalBlocks free blocks → (spots : List Spot) → PlacesUnit g b m.spots spots
     → (f u : ℕ) → f ≡ b.at → u ≡ f → holds m.seat f ≡ 0 → (seat : KnownSeat) → seat ≡ seat_with m.seat f (unfrozen 1)
     → (links : List Link) (lists : List Lru) → AllJoin m.links m.lists g u links lists
     → AllTaken t w now c g k f (record m { blocks = blocks; spots = spots; ledger = ledger; links = links; lists = lists; seat = seat }) d free
@@ -290,7 +290,7 @@ taken_all t w m now same c d stays ok facts g fits k pages size may room ledger 
 
 -- what it leaves where there is none
 pub record NoneTaken (t : KnownTable) (now : KnownMachine) (c : KnownCpu) (g k : ℕ) (n : KnownMachine) (d : KnownCpu) : Type 0 where
-  pub none : TakesNoBlock now g k n
+  pub none : TakesNoBlock g k now n
   pub steps : MakesAs t c.number (side now c) (unplaced_steps g k) (side n d)
 
 pub none_all : (t : KnownTable) (w : Words) (m now : KnownMachine) → m ≡ now → (c d : KnownCpu) → d ≡ c → IsConsistent t w m → AreCharges m.ledger → (g k pages : ℕ) → pages ≡ 2 ^ k

@@ -53,13 +53,13 @@ module _ (t : KnownTable) (w : Words) (m : KnownMachine) (ok : IsConsistent t w 
     spots = λ g within. fits_home t.cpus (note_of m.seat.view g) (home_of m.links g) (home_of links g) (spot_at m.spots g) (owners g) (ok.spots g within);
     units = ok.units;
     lists = all_stand;
-    noted = ok.noted;
+    absorbed = ok.absorbed;
     bounded = ok.bounded;
     charged = ok.charged;
     balances = ok.balances;
   }
 
-  pub touch_does : TouchesUnit m f touched (record m { links = links; lists = slice_set m.lists h.owner new })
+  pub touch_does : TouchesUnit f touched m (record m { links = links; lists = slice_set m.lists h.owner new })
   touch_does = record {
     group = h.owner;
     list = h.list;
@@ -74,7 +74,7 @@ module _ (t : KnownTable) (w : Words) (m : KnownMachine) (ok : IsConsistent t w 
 -- all of it, of the machine as it was seen before
 pub record AllTouched (t : KnownTable) (w : Words) (now : KnownMachine) (f : ℕ) (touched : Touched) (n : KnownMachine) : Type 0 where
   pub consistent : IsConsistent t w n
-  pub touches : TouchesUnit now f touched n
+  pub touches : TouchesUnit f touched now n
   pub steps : (c : KnownCpu) → MakesAs t c.number (side now c) [] (side n c)
 
 pub touch_all : (t : KnownTable) (w : Words) (m now : KnownMachine) → m ≡ now → IsConsistent t w m → (f i : ℕ) → f < t.frames → i ≡ f → (h : Home)

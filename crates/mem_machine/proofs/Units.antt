@@ -22,7 +22,7 @@ abbrev told_group : Spot → ℕ
 told_group (Tail g) = g
 told_group x = 0
 
-module _ (old new : List Spot) (g : ℕ) (b : Block) (placed : PlacesUnit old g b new) (block : IsBlock (length old) b)
+module _ (old new : List Spot) (g : ℕ) (b : Block) (placed : PlacesUnit g b old new) (block : IsBlock (length old) b)
     (uncharged : (f : ℕ) → b.at ≤ f → f < b.at + 2 ^ b.order → group_of (spot_at old f) ≡ None) (units : AreUnits old) where
   abbrev mine : ChargedUnit
   mine = record { group = g; order = b.order }

@@ -164,7 +164,7 @@ module _ (t : KnownTable) (w : Words) (m : KnownMachine) (c : KnownCpu) (is : Is
         let mine : stock_below groups g (part_of m.stock c q) ≡ stock_below groups g (part_with c.list c.fresh c.back (book q)) =
         ap (λ (b : Bool). stock_below groups g (cond b (part_with c.list c.fresh c.back (book q)) (part_with [] [] [] (book q)))) (eq-eqb q c.number e) in
         let covers : length c.fresh ≤ (book q).book = subst (λ (p : ℕ). length c.fresh ≤ (book p).book) (sym e) balanced.covers in
-        let a = own_part (is_below groups g (book q).group) (book q).book (length c.fresh) (book q).noted (is.noted q) covers in
+        let a = own_part (is_below groups g (book q).group) (book q).book (length c.fresh) (book q).noted (is.absorbed q) covers in
         let b : cond (is_below groups g (book q).group) (length c.fresh) 0 ≡ fresh_pages =
         ap (λ (p : ℕ). cond (is_below groups g (book p).group) (length c.fresh) 0) e ∙ fresh_is in
         let d : cond (q == c.number) fresh_pages 0 ≡ fresh_pages = ap (λ (b : Bool). cond b fresh_pages 0) (eq-eqb q c.number e) in
@@ -172,7 +172,7 @@ module _ (t : KnownTable) (w : Words) (m : KnownMachine) (c : KnownCpu) (is : Is
     | inr ne ↦
         let other : stock_below groups g (part_of m.stock c q) ≡ stock_below groups g (part_with [] [] [] (book q)) =
         ap (λ (b : Bool). stock_below groups g (cond b (part_with c.list c.fresh c.back (book q)) (part_with [] [] [] (book q)))) (ne_eqb q c.number ne) in
-        let a = plain_part (is_below groups g (book q).group) (book q).book (book q).noted (is.noted q) in
+        let a = plain_part (is_below groups g (book q).group) (book q).book (book q).noted (is.absorbed q) in
         let d : cond (q == c.number) fresh_pages 0 ≡ 0 = ap (λ (b : Bool). cond b fresh_pages 0) (ne_eqb q c.number ne) in
         omega arith
   ]

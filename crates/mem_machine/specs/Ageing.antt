@@ -8,20 +8,20 @@ pub use Rattle.mem_machine.specs.Machines.{entries_in}
 -- The group's oldest active units, as few as leave its active list no longer than the inactive one, are at the newest
 -- end of that, unmarked, and each frame stands on a list of the group on whose lists it stood, as dirty as it was;
 -- nothing else changed
-pub record AgesGroup (before : KnownMachine) (group : ℕ) (after : KnownMachine) : Type 0 where
+pub record AgesGroup (group : ℕ) (before after : KnownMachine) : Type 0 where
   pub machine : after ≡ record before { links = after.links; lists = after.lists }
   pub ages : Ages before.links (lists_at before.lists group) after.links (lists_at after.lists group)
-  pub others : OthersStay before.links before.lists group after.links after.lists
+  pub others : OthersStay group before.links before.lists after.links after.lists
   pub owners : SameOwners before.links after.links
   pub loose : LooseStay before.links after.links
 
 -- The unit is at the newest end of the group's inactive list, unmarked, and each frame stands on a list of the group on
 -- whose lists it stood, as dirty as it was; nothing else changed
-pub record RenewsUnit (before : KnownMachine) (group frame : ℕ) (after : KnownMachine) : Type 0 where
+pub record RenewsUnit (group frame : ℕ) (before after : KnownMachine) : Type 0 where
   pub machine : after ≡ record before { links = after.links; lists = after.lists }
   pub inactive : inactive_in after group
       ≡ entries_without frame (inactive_in before group) ++ marked false (entry_of before.links frame) ∷ []
   pub active : active_in after group ≡ active_in before group
-  pub others : OthersStay before.links before.lists group after.links after.lists
+  pub others : OthersStay group before.links before.lists after.links after.lists
   pub owners : SameOwners before.links after.links
   pub loose : LooseStay before.links after.links

@@ -31,35 +31,35 @@ placed_spot spots group block frame =
     else spot_at spots frame
 
 -- the block is a unit of the group, and all other frames have the records that they had
-pub record PlacesUnit (before : List Spot) (group : ℕ) (block : Block) (after : List Spot) : Type 0 where
+pub record PlacesUnit (group : ℕ) (block : Block) (before after : List Spot) : Type 0 where
   pub frames : length after ≡ length before
   pub records : (frame : ℕ) → spot_at after frame ≡ placed_spot before group block frame
 
 -- the unit comes to the newest end of its group's inactive list, clean and unmarked; every other frame and the lists of
 -- all other groups are as they were, and each other frame on no list has the record that it had
-pub record JoinsList (before : List Link) (old : List Lru) (group frame : ℕ)
+pub record JoinsList (group frame : ℕ) (before : List Link) (old : List Lru)
     (after : List Link) (new : List Lru) : Type 0 where
   pub stands : home_of after frame ≡ Some (record { owner = group; list = Inactive })
   pub homes : (other : ℕ) → other ≢ frame → home_of after other ≡ home_of before other
   pub inactive : inactive_of after (lists_at new group)
       ≡ inactive_of before (lists_at old group) ++ record { number = frame; is_marked = false; is_dirty = false } ∷ []
   pub active : active_of after (lists_at new group) ≡ active_of before (lists_at old group)
-  pub others : OthersStay before old group after new
+  pub others : OthersStay group before old after new
   pub loose : (other : ℕ) → other ≢ frame → home_of before other ≡ None → link_at after other ≡ link_at before other
 
 -- the unit comes onto its group's inactive list, in the machine
-abbrev pub ListsUnit : KnownMachine → (group frame : ℕ) → KnownMachine → Type 0
-ListsUnit before group frame after = JoinsList before.links before.lists group frame after.links after.lists
+abbrev pub ListsUnit : ℕ → ℕ → KnownMachine → KnownMachine → Type 0
+ListsUnit group frame before after = JoinsList group frame before.links before.lists after.links after.lists
 
 -- The group is charged for a block of this order, and has it: the front of the free block of the least sufficient order
 -- that has the least address. Its head is in use, with one reference of the zone, and stands on the group's inactive
 -- list
-pub record TakesBlock (before : KnownMachine) (group order at : ℕ) (after : KnownMachine) : Type 0 where
+pub record TakesBlock (group order at : ℕ) (before after : KnownMachine) : Type 0 where
   pub room : PathHasRoom before.ledger.groups (current_of before.ledger) group (2 ^ order)
   pub front : IsFrontOfSmallest before.blocks order (record { at = at; order = order })
   pub areas : AreMaximalBlocks (free_of after.spots) after.blocks
-  pub unit : PlacesUnit before.spots group (record { at = at; order = order }) after.spots
-  pub listed : ListsUnit before group at after
+  pub unit : PlacesUnit group (record { at = at; order = order }) before.spots after.spots
+  pub listed : ListsUnit group at before after
   pub machine : after ≡ record before {
     blocks = after.blocks;
     spots = after.spots;
@@ -71,7 +71,7 @@ pub record TakesBlock (before : KnownMachine) (group order at : ℕ) (after : Kn
 
 -- there is no free block of the order or above: the pages were charged and went back, so that the peaks alone may be
 -- higher
-pub record TakesNoBlock (before : KnownMachine) (group order : ℕ) (after : KnownMachine) : Type 0 where
+pub record TakesNoBlock (group order : ℕ) (before after : KnownMachine) : Type 0 where
   pub room : PathHasRoom before.ledger.groups (current_of before.ledger) group (2 ^ order)
   pub none : HasNoneFrom before.blocks order
   pub machine : after ≡ record before {
@@ -80,10 +80,10 @@ pub record TakesNoBlock (before : KnownMachine) (group order : ℕ) (after : Kno
 
 -- The machine where no block was taken. A limit had no room for it, that of the named group the lowest, and nothing
 -- changed; or no free block of the order or above is there
-abbrev pub RefusesBlock : KnownMachine → ℕ → ℕ → TakeFault → KnownMachine → Type 0
-RefusesBlock before group order (fault.Over over) after =
+abbrev pub RefusesBlock : ℕ → ℕ → TakeFault → KnownMachine → KnownMachine → Type 0
+RefusesBlock group order (fault.Over over) before after =
     LacksRoom before group (2 ^ order) over.group × (after ≡ before)
-RefusesBlock before group order fault.NoBlock after = TakesNoBlock before group order after
+RefusesBlock group order fault.NoBlock before after = TakesNoBlock group order before after
 
 -- the steps of a block of this order that is charged to the group and begins at this frame
 abbrev pub taken_steps : ℕ → ℕ → ℕ → Run

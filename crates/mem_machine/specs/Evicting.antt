@@ -18,7 +18,7 @@ use Rattle.mem_machine.specs.Steps.{zone_makes}
 
 -- someone else has a reference: the zone's seat noted one miss more on the frame, which is counted, and nothing else
 -- changed
-pub record MissesUnit (before : KnownMachine) (frame : ℕ) (after : KnownMachine) : Type 0 where
+pub record MissesUnit (frame : ℕ) (before after : KnownMachine) : Type 0 where
   pub word : ℕ
   pub others : word ≢ 1
   pub machine : after ≡ record before {
@@ -28,14 +28,14 @@ pub record MissesUnit (before : KnownMachine) (frame : ℕ) (after : KnownMachin
 
 -- the unit was frozen and came back: it is off its list, its frames are free, and its pages, so many, off the charge of
 -- its group, whose list it stood on; nothing else changed
-pub record EvictsUnit (before : KnownMachine) (frame pages : ℕ) (after : KnownMachine) : Type 0 where
+pub record EvictsUnit (frame pages : ℕ) (before after : KnownMachine) : Type 0 where
   pub unit : ChargedUnit
   pub heads : spot_at before.spots frame ≡ Head unit
   pub size : pages ≡ 2 ^ unit.order
-  pub list : LeavesList before.links before.lists frame after.links after.lists
+  pub list : LeavesList frame before.links before.lists after.links after.lists
   pub own : unit.group ≡ list.group
   pub usage : UsageRises after.ledger before.ledger unit.group pages
-  pub frees : FreesFrames before.spots frame (2 ^ unit.order) after.spots
+  pub frees : FreesFrames frame (2 ^ unit.order) before.spots after.spots
   pub areas : AreMaximalBlocks (free_of after.spots) after.blocks
   pub machine : after ≡ record before {
     blocks = after.blocks;
@@ -48,9 +48,9 @@ pub record EvictsUnit (before : KnownMachine) (frame pages : ℕ) (after : Known
   }
 
 -- what a try leaves, by what it tells: the pages that came back, or none where it missed
-abbrev pub Evicts : KnownMachine → ℕ → Option ℕ → KnownMachine → Type 0
-Evicts before frame None after = MissesUnit before frame after
-Evicts before frame (Some pages) after = EvictsUnit before frame pages after
+abbrev pub Evicts : ℕ → Option ℕ → KnownMachine → KnownMachine → Type 0
+Evicts frame None before after = MissesUnit frame before after
+Evicts frame (Some pages) before after = EvictsUnit frame pages before after
 
 -- the steps of a try: the zone freezes the frame, and where that is done the unit comes back
 abbrev pub evict_steps : ℕ → Option ℕ → Run

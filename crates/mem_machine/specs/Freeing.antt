@@ -6,6 +6,6 @@ use Rattle.mem_machine.specs.declared.spot.Spot.TheVariants.{Free}
 use Rattle.mem_machine.specs.Spots.{spot_at}
 
 -- so many frames from this one on are free, and all other frames have the records that they had
-pub record FreesFrames (before : List Spot) (at count : ℕ) (after : List Spot) : Type 0 where
+pub record FreesFrames (at count : ℕ) (before after : List Spot) : Type 0 where
   pub frames : length after ≡ length before
   pub records : (frame : ℕ) → spot_at after frame ≡ (if is_within at count frame then Free else spot_at before frame)

@@ -9,23 +9,9 @@ use Rattle.cpu_part.specs.Cpus.{KnownCpu}
 use Rattle.step_rules.specs.After.{Run}
 use Rattle.mem_machine.specs.declared.spot.Spot.TheVariants.{Free, Lent}
 use Rattle.mem_machine.specs.Spots.{free_of}
+use Rattle.mem_machine.specs.Machines.{SideStays}
 use Rattle.mem_machine.specs.Local.{Side, Makes}
 use Rattle.mem_machine.specs.Steps.{lend_steps, back_steps, refill_steps, drain_list_steps}
-
--- the frame, the free frame of the least sufficient order that has the least address, is at the end of the processor's
--- list
-pub record LendsOne (frame : ℕ) (before after : Side) : Type 0 where
-  pub front : IsFrontOfSmallest before.machine.blocks 0 (record { at = frame; order = 0 })
-  pub areas : AreMaximalBlocks (free_of after.machine.spots) after.machine.blocks
-  pub machine : after.machine ≡ record before.machine {
-    blocks = after.machine.blocks;
-    spots = slice_set before.machine.spots frame (Lent before.cpu.number);
-    seat = seat_with before.machine.seat frame (passed_out_to before.cpu.number);
-  }
-  pub cpu : after.cpu ≡ record before.cpu {
-    list = before.cpu.list ++ frame ∷ [];
-    seat = seat_with before.cpu.seat frame took_in;
-  }
 
 -- the frame, which was free, is at the end of the processor's list; nothing else changed
 pub record LendsFrame (frame : ℕ) (before after : Side) : Type 0 where
@@ -40,11 +26,16 @@ pub record LendsFrame (frame : ℕ) (before after : Side) : Type 0 where
     seat = seat_with before.cpu.seat frame took_in;
   }
 
+-- the frame, the free one of the least sufficient order that has the least address, is at the end of the processor's
+-- list
+pub record LendsOne (frame : ℕ) (before after : Side) : Type 0 where
+  pub front : IsFrontOfSmallest before.machine.blocks 0 (record { at = frame; order = 0 })
+  pub lends : LendsFrame frame before after
+
 -- there is no free frame, and nothing changed
 pub record LendsNone (before after : Side) : Type 0 where
   pub none : HasNoneFrom before.machine.blocks 0
-  pub machine : after.machine ≡ before.machine
-  pub cpu : after.cpu ≡ before.cpu
+  pub stays : SideStays before after
 
 -- so many frames more fit the processor's list: with those it has fresh it lists 256 at most
 abbrev pub HasListRoom : KnownCpu → ℕ → Type 0
@@ -52,7 +43,7 @@ HasListRoom cpu count = length cpu.list + length cpu.fresh + count ≤ MOST_LIST
 
 -- these frames are lent, one after the other
 abbrev pub LendsMany : List ℕ → Side → Side → Type 0
-LendsMany [] before after = (after.machine ≡ before.machine) × (after.cpu ≡ before.cpu)
+LendsMany [] before after = SideStays before after
 LendsMany (frame ∷ rest) before after = (mid : Side) × LendsOne frame before mid × LendsMany rest mid after
 
 -- one frame is lent, by its steps
@@ -88,12 +79,11 @@ pub record TakesOneBack (frame : ℕ) (before after : Side) : Type 0 where
 -- the list is empty, and nothing changed
 pub record TakesNoneBack (before after : Side) : Type 0 where
   pub none : before.cpu.list ≡ []
-  pub machine : after.machine ≡ before.machine
-  pub cpu : after.cpu ≡ before.cpu
+  pub stays : SideStays before after
 
 -- these frames are taken back, one after the other
 abbrev pub TakesManyBack : List ℕ → Side → Side → Type 0
-TakesManyBack [] before after = (after.machine ≡ before.machine) × (after.cpu ≡ before.cpu)
+TakesManyBack [] before after = SideStays before after
 TakesManyBack (frame ∷ rest) before after =
     (mid : Side) × TakesOneBack frame before mid × TakesManyBack rest mid after
 

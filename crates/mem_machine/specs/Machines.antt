@@ -9,7 +9,7 @@ use Rattle.frame_word.specs.Views.{note_of}
 use Rattle.frame_word.specs.Seats.{KnownTable, KnownSeat, IsZoneSeat, IsOpen, NothingPasses, LentIsBorrowed}
 use Rattle.frame_word.specs.Seats.{first_zone_view}
 use Rattle.stock_word.specs.declared.view.Account.{Account}
-use Rattle.stock_word.specs.Stock.{Words, Seated, IsZoneStock, account_of, first_machine}
+use Rattle.stock_word.specs.Stock.{Words, Seated, IsZoneStock, account_of, first_zone_stock}
 use Rattle.group_charge.specs.Charges.{Ledger, pages_of, current_of, initial_ledger, with_new_group}
 use Rattle.group_tree.specs.declared.group.TheConstants.{MAX_GROUPS}
 use Rattle.group_tree.specs.Groups.{IsLeastFreeNumber}
@@ -88,8 +88,8 @@ abbrev pub HeadsKeptUnit : KnownMachine → ℕ → Type 0
 HeadsKeptUnit machine frame = home_of machine.links frame ≢ None
 
 -- the lists of all groups but this one stand as they stood: the same units in the same order, with their marks and dirt
-abbrev pub OthersStay : List Link → List Lru → ℕ → List Link → List Lru → Type 0
-OthersStay before old group after new = (other : ℕ) (list : LruList) → other < MAX_GROUPS → other ≢ group
+abbrev pub OthersStay : ℕ → List Link → List Lru → List Link → List Lru → Type 0
+OthersStay group before old after new = (other : ℕ) (list : LruList) → other < MAX_GROUPS → other ≢ group
     → entries_of after (lists_at new other) list ≡ entries_of before (lists_at old other) list
 
 -- each frame on no list has the record that it had, mark and dirt included
@@ -156,14 +156,14 @@ pub record IsConsistent (table : KnownTable) (words : Words) (machine : KnownMac
       (spot_at machine.spots frame)
   pub units : AreUnits machine.spots
   pub lists : AllStand machine.links machine.lists
-  pub noted : (processor : ℕ) → (account_of machine.stock.view processor).noted ≡ 0
+  pub absorbed : (processor : ℕ) → (account_of machine.stock.view processor).noted ≡ 0
   pub bounded : (processor : ℕ) → (account_of machine.stock.view processor).book < 65536
   pub charged : (group : ℕ)
       → pages_of machine.ledger group ≡ frames_charged machine.spots group + pages_booked table machine.stock group
   pub balances : BalancesCounts machine.counts
 
 -- a group of this path was made, and got the least free number
-pub record AddsGroup (before : KnownMachine) (number : ℕ) (path : List ℕ) (after : KnownMachine) : Type 0 where
+pub record AddsGroup (number : ℕ) (path : List ℕ) (before after : KnownMachine) : Type 0 where
   pub least : IsLeastFreeNumber before.ledger.groups number
   pub machine : after ≡ record before {
     ledger = with_new_group before.ledger number path;
@@ -184,6 +184,11 @@ pub record Side : Type 0 where
 -- the side of this machine and this part
 abbrev pub side : KnownMachine → KnownCpu → Side
 side machine cpu = record { machine = machine; cpu = cpu }
+
+-- nothing of the side changed
+pub record SideStays (before after : Side) : Type 0 where
+  pub machine : after.machine ≡ before.machine
+  pub cpu : after.cpu ≡ before.cpu
 
 -- The processor is visited: its visit was opened and not shut yet, no frame passes between it and the zone, and what is
 -- lent to it are its listed and fresh frames
@@ -215,7 +220,7 @@ pub record IsFirst (table : KnownTable) (words : Words) (machine : KnownMachine)
   pub ledger : machine.ledger ≡ initial_ledger
   pub nowhere : AreNowhere machine.links
   pub seat : machine.seat ≡ record { table = table.table; view = first_zone_view table.frames }
-  pub stock : machine.stock ≡ record { table = words.table; view = first_machine }
+  pub stock : machine.stock ≡ record { table = words.table; view = first_zone_stock }
   pub killed : machine.killed ≡ replicate MAX_GROUPS false
   pub counts : machine.counts ≡ no_counts
   pub notes : machine.notes ≡ []

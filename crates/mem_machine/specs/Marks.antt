@@ -6,23 +6,23 @@ use Rattle.lru_lists.specs.declared.lru.Touched.{Touched}
 use Rattle.mem_machine.specs.Machines.{KnownMachine, OthersStay, LooseStay, home_of, lists_at, inactive_in, active_in}
 
 -- the unit is noted as dirty, or not, on the list of its group that it stands on, and nothing else changed
-pub record Dirties (before : KnownMachine) (frame : ℕ) (is_dirty : Bool) (after : KnownMachine) : Type 0 where
+pub record Dirties (frame : ℕ) (is_dirty : Bool) (before after : KnownMachine) : Type 0 where
   pub group : ℕ
   pub list : LruList
   pub stands : home_of before.links frame ≡ Some (record { owner = group; list = list })
   pub machine : after ≡ record before { links = after.links }
   pub inactive : inactive_in after group ≡ changed_at frame (dirtied is_dirty) (inactive_in before group)
   pub active : active_in after group ≡ changed_at frame (dirtied is_dirty) (active_in before group)
-  pub others : OthersStay before.links before.lists group after.links after.lists
+  pub others : OthersStay group before.links before.lists after.links after.lists
   pub loose : LooseStay before.links after.links
 
 -- the unit was touched on the list of its group that it stands on, and nothing else changed
-pub record TouchesUnit (before : KnownMachine) (frame : ℕ) (touched : Touched) (after : KnownMachine) : Type 0 where
+pub record TouchesUnit (frame : ℕ) (touched : Touched) (before after : KnownMachine) : Type 0 where
   pub group : ℕ
   pub list : LruList
   pub stands : home_of before.links frame ≡ Some (record { owner = group; list = list })
   pub machine : after ≡ record before { links = after.links; lists = after.lists }
   pub touches : Touches before.links (lists_at before.lists group) frame touched
       after.links (lists_at after.lists group)
-  pub others : OthersStay before.links before.lists group after.links after.lists
+  pub others : OthersStay group before.links before.lists after.links after.lists
   pub loose : LooseStay before.links after.links

@@ -24,7 +24,7 @@ use Rattle.mem_machine.specs.Steps.{zone_makes}
 
 -- the unit is off the list that it stood on, of the group of this number; every other unit stands on the list that it
 -- stood on, at its place there, marked and dirty as it was, and each frame on no list has the record that it had
-pub record LeavesList (before : List Link) (old : List Lru) (frame : ℕ)
+pub record LeavesList (frame : ℕ) (before : List Link) (old : List Lru)
     (after : List Link) (new : List Lru) : Type 0 where
   pub group : ℕ
   pub list : LruList
@@ -37,11 +37,11 @@ pub record LeavesList (before : List Link) (old : List Lru) (frame : ℕ)
       ≡ entries_without frame (inactive_of before (lists_at old group))
   pub active : active_of after (lists_at new group)
       ≡ entries_without frame (active_of before (lists_at old group))
-  pub others : OthersStay before old group after new
+  pub others : OthersStay group before old after new
 
 -- the unit is off its list, and so many references of processors are left; nothing else changed
-pub record LeavesReferences (before : KnownMachine) (frame left : ℕ) (after : KnownMachine) : Type 0 where
-  pub list : LeavesList before.links before.lists frame after.links after.lists
+pub record LeavesReferences (frame left : ℕ) (before after : KnownMachine) : Type 0 where
+  pub list : LeavesList frame before.links before.lists after.links after.lists
   pub some : 1 ≤ left
   pub machine : after ≡ record before {
     links = after.links;
@@ -51,11 +51,11 @@ pub record LeavesReferences (before : KnownMachine) (frame left : ℕ) (after : 
 
 -- the unit is off its list and came back: its frames are free, and its pages off the charge of its group; nothing else
 -- changed
-pub record ReturnsUnit (before : KnownMachine) (frame : ℕ) (after : KnownMachine) : Type 0 where
+pub record ReturnsUnit (frame : ℕ) (before after : KnownMachine) : Type 0 where
   pub unit : ChargedUnit
   pub heads : spot_at before.spots frame ≡ Head unit
-  pub list : LeavesList before.links before.lists frame after.links after.lists
-  pub frees : FreesFrames before.spots frame (2 ^ unit.order) after.spots
+  pub list : LeavesList frame before.links before.lists after.links after.lists
+  pub frees : FreesFrames frame (2 ^ unit.order) before.spots after.spots
   pub areas : AreMaximalBlocks (free_of after.spots) after.blocks
   pub machine : after ≡ record before {
     blocks = after.blocks;
@@ -68,9 +68,9 @@ pub record ReturnsUnit (before : KnownMachine) (frame : ℕ) (after : KnownMachi
   }
 
 -- what a release leaves, by what it tells
-abbrev pub Releases : KnownMachine → ℕ → Released → KnownMachine → Type 0
-Releases before frame (Left left) after = LeavesReferences before frame left after
-Releases before frame Returned after = ReturnsUnit before frame after
+abbrev pub Releases : ℕ → Released → KnownMachine → KnownMachine → Type 0
+Releases frame (Left left) before after = LeavesReferences frame left before after
+Releases frame Returned before after = ReturnsUnit frame before after
 
 -- the steps of a release: the zone puts its reference, and where it was the last one the unit comes back
 abbrev pub release_steps : ℕ → Released → Run

@@ -19,7 +19,7 @@ use Rattle.step_rules.specs.declared.step.Answer.TheVariants.{Done, Pages}
 use Rattle.step_rules.specs.After.{Run}
 use Rattle.mem_machine.specs.declared.spot.Spot.TheVariants.{Head}
 use Rattle.mem_machine.specs.Spots.{spot_at, free_of}
-use Rattle.mem_machine.specs.Machines.{Side, is_killed}
+use Rattle.mem_machine.specs.Machines.{Side, SideStays, is_killed}
 use Rattle.mem_machine.specs.Local.{Makes, fresh_group}
 use Rattle.mem_machine.specs.Steps.{zone_makes, cpu_makes}
 use Rattle.mem_machine.specs.Blocks.{ListsUnit}
@@ -67,7 +67,7 @@ pub record HandsOver (frame : ℕ) (before after : KnownCpu) : Type 0 where
 -- The oldest fresh frame is a kept unit of one frame, of the group: in use, with one reference of the zone, and on the
 -- group's inactive list. Its page, which was booked, is charged for it
 pub record KeepsFresh (group frame : ℕ) (before after : Side) : Type 0 where
-  pub listed : ListsUnit before.machine group frame after.machine
+  pub listed : ListsUnit group frame before.machine after.machine
   pub machine : after.machine ≡ record before.machine {
     spots = slice_set before.machine.spots frame (Head (record { group = group; order = 0 }));
     links = after.machine.links;
@@ -79,7 +79,7 @@ pub record KeepsFresh (group frame : ℕ) (before after : Side) : Type 0 where
 
 -- the oldest fresh frame is free again, and its page, which was booked, is off the charge of the group: a drop
 pub record DropsFresh (group frame : ℕ) (before after : Side) : Type 0 where
-  pub frees : FreesFrames before.machine.spots frame 1 after.machine.spots
+  pub frees : FreesFrames frame 1 before.machine.spots after.machine.spots
   pub areas : AreMaximalBlocks (free_of after.machine.spots) after.machine.blocks
   pub machine : after.machine ≡ record before.machine {
     blocks = after.machine.blocks;
@@ -95,7 +95,7 @@ pub record DropsFresh (group frame : ℕ) (before after : Side) : Type 0 where
 pub record ReturnsBack (frame : ℕ) (before after : Side) : Type 0 where
   pub unit : ChargedUnit
   pub heads : spot_at before.machine.spots frame ≡ Head unit
-  pub frees : FreesFrames before.machine.spots frame (2 ^ unit.order) after.machine.spots
+  pub frees : FreesFrames frame (2 ^ unit.order) before.machine.spots after.machine.spots
   pub areas : AreMaximalBlocks (free_of after.machine.spots) after.machine.blocks
   pub machine : after.machine ≡ record before.machine {
     blocks = after.machine.blocks;
@@ -119,14 +119,12 @@ pub record SettlesFresh (frame : ℕ) (before after : Side) : Type 0 where
 -- no frame of the processor is fresh, and nothing changed
 pub record FindsNoneFresh (before after : Side) : Type 0 where
   pub none_fresh : before.cpu.fresh ≡ []
-  pub machine : after.machine ≡ before.machine
-  pub cpu : after.cpu ≡ before.cpu
+  pub stays : SideStays before after
 
 -- no frame of the processor is back, and nothing changed
 pub record FindsNoneBack (before after : Side) : Type 0 where
   pub none_back : before.cpu.back ≡ []
-  pub machine : after.machine ≡ before.machine
-  pub cpu : after.cpu ≡ before.cpu
+  pub stays : SideStays before after
 
 -- what settling the oldest fresh frame leaves, by what it tells: the frame; or that there is none
 abbrev pub SettlesNext : Option ℕ → Side → Side → Type 0
@@ -140,13 +138,13 @@ ReturnsNext (Some frame) before after = ReturnsBack frame before after
 
 -- these fresh frames are settled, one after the other
 abbrev pub SettlesAllFresh : List ℕ → Side → Side → Type 0
-SettlesAllFresh [] before after = (after.machine ≡ before.machine) × (after.cpu ≡ before.cpu)
+SettlesAllFresh [] before after = SideStays before after
 SettlesAllFresh (frame ∷ rest) before after =
     (mid : Side) × SettlesFresh frame before mid × SettlesAllFresh rest mid after
 
 -- these back frames come back, one after the other
 abbrev pub ReturnsAllBack : List ℕ → Side → Side → Type 0
-ReturnsAllBack [] before after = (after.machine ≡ before.machine) × (after.cpu ≡ before.cpu)
+ReturnsAllBack [] before after = SideStays before after
 ReturnsAllBack (frame ∷ rest) before after =
     (mid : Side) × ReturnsBack frame before mid × ReturnsAllBack rest mid after
 

@@ -41,7 +41,7 @@ pages_held now = (account_of now.machine.stock.view now.cpu.number).book - lengt
 
 -- The stock of the processor, in which so many pages were, is drained: they come off its book and off the charge of its
 -- group. A stock that was drained before has none
-pub record Drains (before : KnownMachine) (processor pages : ℕ) (after : KnownMachine) : Type 0 where
+pub record Drains (processor pages : ℕ) (before after : KnownMachine) : Type 0 where
   pub machine : after ≡ record before {
     ledger = uncharged before.ledger (stock_group before processor) pages;
     stock = with_view before.stock (draining before.stock.view processor pages);
@@ -50,15 +50,15 @@ pub record Drains (before : KnownMachine) (processor pages : ℕ) (after : Known
   pub drained_before : IsDrained before processor → pages ≡ 0
 
 -- the stock of the processor is drained, and that is noted
-pub record DrainsNoted (before : KnownMachine) (processor pages : ℕ) (after : KnownMachine) : Type 0 where
-  pub drains : Drains before processor pages (record after { notes = before.notes })
+pub record DrainsNoted (processor pages : ℕ) (before after : KnownMachine) : Type 0 where
+  pub drains : Drains processor pages before (record after { notes = before.notes })
   pub noted : after.notes ≡ noted before.notes (Stock processor pages)
 
 -- the stock of the processor is drained, and this is the drain
-pub record DrainsOne (before : KnownMachine) (processor : ℕ) (drain : Drain) (after : KnownMachine) : Type 0 where
+pub record DrainsOne (processor : ℕ) (drain : Drain) (before after : KnownMachine) : Type 0 where
   pub cpu : drain.cpu ≡ processor
   pub group : drain.group ≡ stock_group before processor
-  pub drains : DrainsNoted before processor drain.pages after
+  pub drains : DrainsNoted processor drain.pages before after
 
 -- which stocks a call means: a test of the groups that are there and of the group that a stock is of
 abbrev pub StockTest : Type 0
@@ -78,25 +78,25 @@ is_chosen test machine processor = test machine.ledger.groups (stock_group machi
 
 -- The processor's stock is drained where the test chooses it: that is the one drain. Else there is none, and nothing
 -- changed but that a stock of no group, of which the zone's seat now knows, counts as drained of no page
-abbrev pub DrainsIf : StockTest → KnownMachine → ℕ → List Drain → KnownMachine → Type 0
-DrainsIf test before processor [] after =
+abbrev pub DrainsIf : StockTest → ℕ → List Drain → KnownMachine → KnownMachine → Type 0
+DrainsIf test processor [] before after =
     (is_chosen test before processor ≡ false) × (after ≡ record before {
       stock = with_view before.stock (after_look before.stock.view processor (stock_group before processor));
     })
-DrainsIf test before processor (drain ∷ []) after =
-    (is_chosen test before processor ≡ true) × DrainsOne before processor drain after
-DrainsIf test before processor (one ∷ two ∷ more) after = ⊥
+DrainsIf test processor (drain ∷ []) before after =
+    (is_chosen test before processor ≡ true) × DrainsOne processor drain before after
+DrainsIf test processor (one ∷ two ∷ more) before after = ⊥
 
 -- the stocks of so many processors, from number 1 on, are drained where the test chooses them, one after the other
 abbrev pub DrainsAllIf : StockTest → ℕ → List Drain → KnownMachine → KnownMachine → Type 0
 DrainsAllIf test zero drains before after = (drains ≡ []) × (after ≡ before)
 DrainsAllIf test (suc count) drains before after =
     (first last : List Drain) × (mid : KnownMachine) × (drains ≡ first ++ last)
-    × DrainsAllIf test count first before mid × DrainsIf test mid (suc count) last after
+    × DrainsAllIf test count first before mid × DrainsIf test (suc count) last mid after
 
 -- the processor's stock is drained where it is of the group's subtree
-abbrev pub DrainsBelow : ℕ → KnownMachine → ℕ → List Drain → KnownMachine → Type 0
-DrainsBelow group before processor drains after = DrainsIf (of_subtree group) before processor drains after
+abbrev pub DrainsBelow : ℕ → ℕ → List Drain → KnownMachine → KnownMachine → Type 0
+DrainsBelow group processor drains before after = DrainsIf (of_subtree group) processor drains before after
 
 -- the stocks of so many processors, from number 1 on, are drained where they are of the group's subtree
 abbrev pub DrainsAllBelow : ℕ → ℕ → List Drain → KnownMachine → KnownMachine → Type 0
@@ -106,7 +106,7 @@ DrainsAllBelow group count drains before after = DrainsAllIf (of_subtree group) 
 pub record DrainsIfChosen (table : KnownTable) (test : StockTest) (processor pages : ℕ)
     (before after : KnownMachine) : Type 0 where
   pub drains : List Drain
-  pub one : DrainsIf test before processor drains after
+  pub one : DrainsIf test processor drains before after
   pub sum : pages ≡ pages_drained drains
   pub steps : MakesForAny table before (drain_stocks_steps drains) after
 
@@ -155,8 +155,8 @@ abbrev pub own_fill_steps : ℕ → ℕ → Side → Run
 own_fill_steps group pages now = fill_steps now.cpu.number group pages
 
 -- the charge is refused at the group that the error names, and nothing is done
-abbrev pub RefusesGrant : KnownTable → ℕ → ℕ → Side → Over → Type 0
-RefusesGrant table group pages now over = Makes table now (over_steps group pages over.group) now
+abbrev pub RefusesGrant : KnownTable → ℕ → ℕ → Over → Side → Type 0
+RefusesGrant table group pages over now = Makes table now (over_steps group pages over.group) now
 
 -- the steps by which the processor's own stock is drained of all its pages
 abbrev pub own_drain_steps : Side → Run
@@ -165,13 +165,13 @@ own_drain_steps now = drain_steps now.cpu.number (stock_group now.machine now.cp
 -- what `prepay` leaves: the processor's own stock is drained of all its pages, and then filled
 pub record Prepays (group pages : ℕ) (before after : Side) : Type 0 where
   pub emptied : KnownMachine
-  pub drains : Drains before.machine before.cpu.number (pages_held before) emptied
+  pub drains : Drains before.cpu.number (pages_held before) before.machine emptied
   pub fills : Fills group pages (side emptied before.cpu) after
 
 -- what it leaves where a limit has no room for the pages, that of `over` the lowest: the stock is drained of all its
 -- pages, and nothing is charged
 pub record IsOver (group pages over : ℕ) (before after : Side) : Type 0 where
-  pub drains : Drains before.machine before.cpu.number (pages_held before) after.machine
+  pub drains : Drains before.cpu.number (pages_held before) before.machine after.machine
   pub lowest : LacksRoom after.machine group pages over
   pub cpu : after.cpu ≡ before.cpu
 
@@ -180,6 +180,6 @@ abbrev pub prepay_steps : ℕ → ℕ → Side → Run
 prepay_steps group pages now = own_drain_steps now ++ fill_steps now.cpu.number group pages
 
 -- the own stock is drained, and then the charge is refused at the group that the error names
-abbrev pub RefusesPrepay : KnownTable → ℕ → ℕ → Side → Side → Over → Type 0
-RefusesPrepay table group pages before after over =
+abbrev pub RefusesPrepay : KnownTable → ℕ → ℕ → Over → Side → Side → Type 0
+RefusesPrepay table group pages over before after =
     Makes table before (own_drain_steps before ++ over_steps group pages over.group) after

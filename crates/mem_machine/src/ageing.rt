@@ -18,7 +18,7 @@ impl<N: BootName> Machine<N> {
     /// Moves the oldest active units of a group, as few as leave its active list no longer than the inactive one, to
     /// the newest end of that, unmarked.
     pub fn age(&mut self, group: GroupId)
-        ensures ages { AgesGroup self.old group self.new }
+        ensures ages { AgesGroup group self.old self.new }
         ensures steps { MakesForAny N.frames self.old [] self.new }
     {
         let owner = group.number() as usize;
@@ -32,7 +32,7 @@ impl<N: BootName> Machine<N> {
     pub fn renew(&mut self, group: GroupId, head: Frame)
         requires frame { head < N.frames.frames }
         requires stands { home_of self.old.links head ≡ Some (record { owner = group; list = Inactive }) }
-        ensures renews { RenewsUnit self.old group head self.new }
+        ensures renews { RenewsUnit group head self.old self.new }
         ensures steps { MakesForAny N.frames self.old [] self.new }
     {
         let at = head.number();

@@ -29,7 +29,7 @@ pub enum TakeFault {
 // Notes that the block is a unit of the group: its first frame heads it, and the others are tails.
 fn place_unit(spots: &mut Vec<Spot>, block: Block, group: GroupId)
     requires { block.at + 2 ^ block.order ≤ length spots.old.items }
-    ensures { PlacesUnit spots.old.items group block spots.new.items }
+    ensures { PlacesUnit group block spots.old.items spots.new.items }
 {
     let first = block.at as usize;
     let end = first + block.order.frames() as usize;
@@ -56,8 +56,8 @@ impl<N: BootName> Machine<N> {
         requires visit { Visits N.frames (side self.old cpu.old) }
         requires charges { MayCharge self.old group (2 ^ order) }
         requires none_back { cpu.old.back ≡ [] }
-        ensures takes { IfOk result (λ head. TakesBlock self.old group order head self.new) }
-        ensures refuses { IfErr result (λ fault. RefusesBlock self.old group order fault self.new) }
+        ensures takes { IfOk result (λ head. TakesBlock group order head self.old self.new) }
+        ensures refuses { IfErr result (λ fault. RefusesBlock group order fault self.old self.new) }
         ensures cpu { cpu.new ≡ cpu.old }
         ensures visit { Visits N.frames (side self.new cpu.new) }
         ensures steps { Makes N.frames (side self.old cpu.old)

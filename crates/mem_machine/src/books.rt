@@ -4,7 +4,7 @@ ghost use Rattle.std.specs.Prelude.{◌≡◌, ◌≢◌, ◌+◌, ◌-◌, ◌^
 ghost use Rattle.std.specs.Prelude.{Some, IfSome};
 ghost use Rattle.frame_word.specs.Views.{collected_from};
 ghost use Rattle.frame_word.specs.Seats.{seat_with};
-ghost use Rattle.stock_word.specs.Stock.{account_of, drained_of, first_machine, group_of, is_held, pages_of, stocked};
+ghost use Rattle.stock_word.specs.Stock.{account_of, drained_of, first_zone_stock, group_of, is_held, pages_of, stocked};
 ghost use Rattle.stock_word.specs.Kinds.{after_fill, draining, filling, with_steps};
 ghost use Rattle.stock_word.specs.Calls.{after_look, steps_of_drain, with_view};
 ghost use Rattle.cpu_part.specs.Calls.{CanTake, HandsFresh, TakesFront};
@@ -43,7 +43,7 @@ impl<N: BootName> Model for Books<N> {
 impl<N: BootName> Books<N> {
     /// The books of a new boot, where nothing is booked: the seat is the zone's at the boot's table.
     pub(crate) fn new(seat: StockSeat) -> Books<N>
-        requires first { seat.view ≡ first_machine }
+        requires first { seat.view ≡ first_zone_stock }
         requires table { seat.table ≡ N.stocks.table }
         requires cpus { N.stocks.cpus ≡ N.frames.cpus }
         ensures { result ≡ seat }
@@ -79,7 +79,7 @@ impl<N: BootName> Books<N> {
         requires processor { IsCpuOf N.frames processor }
         ensures group { result ≡ (account_of self.old.view processor).group }
         ensures fits { IfSome result (λ group. group < MAX_GROUPS) }
-        ensures machine { self.new ≡ with_view self.old (with_steps 1 (after_look self.old.view processor result)) }
+        ensures seat { self.new ≡ with_view self.old (with_steps 1 (after_look self.old.view processor result)) }
     {
         tables.stocks.group(&mut self.seat, processor)
     }
@@ -89,7 +89,7 @@ impl<N: BootName> Books<N> {
         requires processor { IsCpuOf N.frames processor }
         requires group { (account_of self.old.view processor).group ≡ Some group }
         requires fits { group < MAX_GROUPS }
-        ensures machine { self.new ≡ with_view self.old
+        ensures seat { self.new ≡ with_view self.old
             (with_steps (steps_of_drain (account_of self.old.view processor).group)
             (draining self.old.view processor result)) }
         ensures booked { result ≤ (account_of self.old.view processor).book }
@@ -106,9 +106,10 @@ impl<N: BootName> Books<N> {
         requires pages { FitsStock pages }
         requires fits { pages_booked N.frames self.old group + pages < 2 ^ 32 }
         requires drained { (account_of self.old.view cpu.old.number).filled ≡ false }
-        requires settled { (cpu.old.fresh ≡ []) × ((account_of self.old.view cpu.old.number).noted ≡ 0) }
+        requires none_fresh { cpu.old.fresh ≡ [] }
+        requires absorbed { (account_of self.old.view cpu.old.number).noted ≡ 0 }
         ensures nothing_booked { (account_of self.old.view cpu.old.number).book ≡ 0 }
-        ensures machine { self.new ≡ with_view self.old (filling self.old.view cpu.old.number group pages) }
+        ensures seat { self.new ≡ with_view self.old (filling self.old.view cpu.old.number group pages) }
         ensures cpu { cpu.new ≡ record cpu.old {
           stock = with_view cpu.old.stock (after_fill cpu.old.stock.view group pages);
         } }
@@ -126,7 +127,7 @@ impl<N: BootName> Books<N> {
         ensures group { group_of result ≡ (account_of self.old.view cpu.old.number).group }
         ensures held { is_held result ≡ (account_of self.old.view cpu.old.number).filled }
         ensures last { (result ≡ cpu.old.stock.view.last) ⊎ (result ≡ drained_of cpu.old.stock.view.last) }
-        ensures machine { self.new ≡ with_view self.old (with_steps 1 self.old.view) }
+        ensures seat { self.new ≡ with_view self.old (with_steps 1 self.old.view) }
         ensures cpu { cpu.new ≡ cpu.old }
     {
         cpu.look(tables, &mut self.seat)
@@ -137,7 +138,7 @@ impl<N: BootName> Books<N> {
         requires group { (account_of self.old.view cpu.old.number).group ≡ Some group }
         requires page { 0 < stocked self.old.view cpu.old.stock.view }
         requires front { CanTake cpu.old }
-        ensures machine { self.new ≡ self.old }
+        ensures seat { self.new ≡ self.old }
         ensures cpu { TakesFront group (stocked self.old.view cpu.old.stock.view - 1) result cpu.old cpu.new }
         ensures frame { result < N.frames.frames }
     {
@@ -159,7 +160,7 @@ impl<N: BootName> Books<N> {
         ensures known { KnowsFresh N.frames zone.old self.old cpu.old result }
         ensures cpu { HandsFresh result cpu.old cpu.new }
         ensures zone { zone.new ≡ seat_with zone.old result (collected_from cpu.old.number) }
-        ensures machine { self.new ≡ after_page_absorbed self.old cpu.old.number }
+        ensures seat { self.new ≡ after_page_absorbed self.old cpu.old.number }
     {
         let number = cpu.number();
         let Some(frame) = cpu.hand_fresh(tables, zone, &mut self.seat) else {

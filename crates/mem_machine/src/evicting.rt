@@ -19,7 +19,7 @@ impl<N: BootName> Machine<N> {
     pub fn evict(&mut self, tables: &Tables<N>, head: Frame) -> Option<u32>
         requires frame { head < N.frames.frames }
         requires kept { HeadsKeptUnit self.old head }
-        ensures evicts { Evicts self.old head result self.new }
+        ensures evicts { Evicts head result self.old self.new }
         ensures visit { StaysVisited N.frames self.old self.new }
         ensures steps { MakesForAny N.frames self.old (evict_steps head result) self.new }
     {

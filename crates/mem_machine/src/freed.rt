@@ -15,7 +15,7 @@ use zone_buddy::buddy::Buddy;
 // Notes so many frames from this one on as free.
 fn free_frames(spots: &mut Vec<Spot>, at: u32, frames: u32)
     requires { at + frames ≤ length spots.old.items }
-    ensures { FreesFrames spots.old.items at frames spots.new.items }
+    ensures { FreesFrames at frames spots.old.items spots.new.items }
 {
     for k in 0..frames as usize {
         spots[at as usize + k] = Spot::Free;
@@ -33,7 +33,7 @@ pub(crate) fn free_unit(
     requires in_use { IsInUse zone.old.free (record { at = at; order = unit.order }) }
     requires inside { at + 2 ^ unit.order ≤ length spots.old.items }
     requires charged { 2 ^ unit.order ≤ pages_of charges.old unit.group }
-    ensures spots { FreesFrames spots.old.items at (2 ^ unit.order) spots.new.items }
+    ensures spots { FreesFrames at (2 ^ unit.order) spots.old.items spots.new.items }
     ensures frames { GivesFrames zone.old.free (record { at = at; order = unit.order }) zone.new.free }
     ensures areas { AreMaximalBlocks zone.new.free zone.new.blocks }
     ensures charges { charges.new ≡ with_uncharge charges.old unit.group (2 ^ unit.order) }

@@ -57,7 +57,7 @@ impl<N: BootName> Machine<N> {
 
     /// Makes a group, as `Tree::make` does. It has no page, peak 0 and all counts 0, and isn't killed.
     pub fn make(&mut self, path: &[u8]) -> Result<GroupId, Fault>
-        ensures made { IfOk result (λ number. AddsGroup self.old number path.now self.new) }
+        ensures made { IfOk result (λ number. AddsGroup number path.now self.old self.new) }
         ensures refused { result_err result ≡ make_fault self.old.ledger.groups path.now }
         ensures unchanged { OnErr result (self.new ≡ self.old) }
         ensures steps { IfOk result (λ number. MakesForAny N.frames self.old (make_steps path.now number) self.new) }

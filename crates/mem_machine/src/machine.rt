@@ -2,7 +2,7 @@
 
 ghost use Rattle.std.specs.Prelude.{◌≡◌, IfOk};
 ghost use Rattle.frame_word.specs.Seats.{first_zone_view};
-ghost use Rattle.stock_word.specs.Stock.{first_machine};
+ghost use Rattle.stock_word.specs.Stock.{first_zone_stock};
 ghost use Rattle.stock_word.specs.Calls.{uncounted};
 ghost use Rattle.mem_machine.specs.Machines.{IsConsistent, IsFirst};
 
@@ -76,7 +76,7 @@ impl<N: BootName> Machine<N> {
         stock: StockSeat,
     ) -> Result<Machine<N>, AllocError>
         requires seat { seat ≡ record { table = N.frames.table; view = first_zone_view N.frames.frames } }
-        requires stock { stock ≡ record { table = N.stocks.table; view = first_machine } }
+        requires stock { stock ≡ record { table = N.stocks.table; view = first_zone_stock } }
         requires cpus { N.stocks.cpus ≡ N.frames.cpus }
         ensures { IfOk result (λ machine. IsFirst N.frames N.stocks machine) }
     {
@@ -107,7 +107,8 @@ impl<N: BootName> Machine<N> {
     /// Takes the machine apart, for the end of the two tables: the zone's seats at the frames' table and at the
     /// stocks'.
     pub fn into_seats(self) -> (FrameSeat, StockSeat)
-        ensures seats { (result.0 ≡ self.seat) × (uncounted result.1 ≡ self.stock) }
+        ensures seat { result.0 ≡ self.seat }
+        ensures stock { uncounted result.1 ≡ self.stock }
         ensures consistent { IsConsistent N.frames N.stocks self }
     {
         let Machine {

@@ -17,7 +17,7 @@ impl<N: BootName> Machine<N> {
     pub fn touch(&mut self, head: Frame) -> Touched
         requires frame { head < N.frames.frames }
         requires kept { HeadsKeptUnit self.old head }
-        ensures touches { TouchesUnit self.old head result self.new }
+        ensures touches { TouchesUnit head result self.old self.new }
         ensures steps { MakesForAny N.frames self.old [] self.new }
     {
         let at = head.number();
@@ -37,7 +37,7 @@ impl<N: BootName> Machine<N> {
     pub fn set_dirty(&mut self, head: Frame, is_dirty: bool)
         requires frame { head < N.frames.frames }
         requires kept { HeadsKeptUnit self.old head }
-        ensures dirties { Dirties self.old head is_dirty self.new }
+        ensures dirties { Dirties head is_dirty self.old self.new }
         ensures steps { MakesForAny N.frames self.old [] self.new }
     {
         let at = head.number();

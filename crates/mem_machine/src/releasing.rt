@@ -31,7 +31,7 @@ pub(crate) fn leave_list(links: &mut Links, lists: &mut Vec<Lru>, head: u32)
     requires kept { home_of links.old head ≢ None }
     requires owner { IfSome (home_of links.old head) (λ home. home.owner < MAX_GROUPS) }
     requires lists { AreGroupLists links.old lists.old.items }
-    ensures leaves { LeavesList links.old lists.old.items head links.new lists.new.items }
+    ensures leaves { LeavesList head links.old lists.old.items links.new lists.new.items }
     ensures lists { AreGroupLists links.new lists.new.items }
     ensures frames { length links.new ≡ length links.old }
 {
@@ -47,11 +47,11 @@ pub(crate) fn leave_list(links: &mut Links, lists: &mut Vec<Lru>, head: u32)
 
 impl<N: BootName> Machine<N> {
     /// Takes a kept unit off its list, and gives up the zone's reference on it. Where that was the last one, the unit
-    /// comes back. The unit goes by its head, which stands on a list of its group. Whose visit is open is all the same.
+    /// comes back. The unit goes by its head, which stands on a list of its group. It may be called in any processor's visit.
     pub fn let_go(&mut self, tables: &Tables<N>, head: Frame) -> Released
         requires frame { head < N.frames.frames }
         requires kept { HeadsKeptUnit self.old head }
-        ensures releases { Releases self.old head result self.new }
+        ensures releases { Releases head result self.old self.new }
         ensures visit { StaysVisited N.frames self.old self.new }
         ensures steps { MakesForAny N.frames self.old (release_steps head result) self.new }
     {
@@ -76,7 +76,7 @@ impl<N: BootName> Machine<N> {
         requires visit { Visits N.frames (side self.old cpu.now) }
         requires frame { head < N.frames.frames }
         requires kept { HeadsKeptUnit self.old head }
-        ensures releases { Releases self.old head result self.new }
+        ensures releases { Releases head result self.old self.new }
         ensures visit { Visits N.frames (side self.new cpu.now) }
         ensures steps { Makes N.frames (side self.old cpu.now) (release_steps head result) (side self.new cpu.now) }
     {

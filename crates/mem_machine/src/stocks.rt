@@ -3,7 +3,7 @@
 ghost use Rattle.std.specs.Prelude.{◌≡◌, ◌<◌, [], Some, IsTrue, OnOk, OnErr, IfErr};
 ghost use Rattle.group_tree.specs.declared.group.TheConstants.{MAX_GROUPS};
 ghost use Rattle.group_tree.specs.Groups.{has_group, in_subtree};
-ghost use Rattle.mem_machine.specs.Machines.{IsCpuOf, LacksRoom, Visits};
+ghost use Rattle.mem_machine.specs.Machines.{IsCpuOf, LacksRoom, SideStays, Visits};
 ghost use Rattle.mem_machine.specs.Stocks.{IsDrained, AreDrained, AreOwnDrained, FitsStock, stock_group};
 ghost use Rattle.mem_machine.specs.Stocks.{of_group, of_subtree, Drains, DrainsIfChosen, DrainsNoted};
 ghost use Rattle.mem_machine.specs.Stocks.{DrainsGroup, DrainsSubtree, Fills, Prepays, IsOver};
@@ -24,7 +24,7 @@ impl<N: BootName> Machine<N> {
         requires processor { IsCpuOf N.frames processor }
         requires group { stock_group self.old processor ≡ Some group }
         requires fits { group < MAX_GROUPS }
-        ensures drains { Drains self.old processor result self.new }
+        ensures drains { Drains processor result self.old self.new }
         ensures steps { MakesForAny N.frames self.old
             (drain_steps processor (stock_group self.old processor) result) self.new }
     {
@@ -41,7 +41,7 @@ impl<N: BootName> Machine<N> {
         requires processor { IsCpuOf N.frames processor }
         requires group { stock_group self.old processor ≡ Some group }
         requires fits { group < MAX_GROUPS }
-        ensures drains { DrainsNoted self.old processor result self.new }
+        ensures drains { DrainsNoted processor result self.old self.new }
         ensures steps { MakesForAny N.frames self.old
             (drain_steps processor (stock_group self.old processor) result) self.new }
     {
@@ -57,7 +57,7 @@ impl<N: BootName> Machine<N> {
     /// off its book and off the charge of the group that it is of. The processor's own calls may go on meanwhile.
     pub fn drain_stock(&mut self, tables: &Tables<N>, processor: u32) -> u32
         requires processor { IsCpuOf N.frames processor }
-        ensures drains { Drains self.old processor result self.new }
+        ensures drains { Drains processor result self.old self.new }
         ensures steps { MakesForAny N.frames self.old
             (drain_steps processor (stock_group self.old processor) result) self.new }
     {
@@ -154,11 +154,11 @@ impl<N: BootName> Machine<N> {
         requires drained { IsDrained self.old cpu.old.number }
         ensures fills { OnOk result (Fills group pages (side self.old cpu.old) (side self.new cpu.new)) }
         ensures over { IfErr result (λ over. LacksRoom self.old group pages over.group) }
-        ensures unchanged { OnErr result ((self.new ≡ self.old) × (cpu.new ≡ cpu.old)) }
+        ensures unchanged { OnErr result (SideStays (side self.old cpu.old) (side self.new cpu.new)) }
         ensures visit { Visits N.frames (side self.new cpu.new) }
         ensures steps { OnOk result
             (MakesBy N.frames (own_fill_steps group pages) (side self.old cpu.old) (side self.new cpu.new)) }
-        ensures refused { IfErr result (RefusesGrant N.frames group pages (side self.old cpu.old)) }
+        ensures refused { IfErr result (λ over. RefusesGrant N.frames group pages over (side self.old cpu.old)) }
     {
         let _number = cpu.number(); // For the clauses.
         let _tree = self.charges.tree(); // For the clauses.
@@ -189,7 +189,7 @@ impl<N: BootName> Machine<N> {
         ensures steps { OnOk result
             (MakesBy N.frames (prepay_steps group pages) (side self.old cpu.old) (side self.new cpu.new)) }
         ensures refused { IfErr result
-            (RefusesPrepay N.frames group pages (side self.old cpu.old) (side self.new cpu.new)) }
+            (λ over. RefusesPrepay N.frames group pages over (side self.old cpu.old) (side self.new cpu.new)) }
     {
         let number = cpu.number();
         self.drain_stock(tables, number);

@@ -100,7 +100,7 @@ on_path_low : (b : Bool) (n pages : ℕ) → n ≤ cond b (n + pages) n
 on_path_low true n pages = omega arith
 on_path_low false n pages = omega arith
 
-pub keeps_missed : (t : KnownTable) (m n : KnownMachine) (f : ℕ) → MissesUnit m f n → ((c : KnownCpu) → Visits t (side m c) → Visits t (side n c)) → Keeps t m n
+pub keeps_missed : (t : KnownTable) (m n : KnownMachine) (f : ℕ) → MissesUnit f m n → ((c : KnownCpu) → Visits t (side m c) → Visits t (side n c)) → Keeps t m n
 keeps_missed t m n f is visit =
     let links : n.links ≡ m.links = ap (λ (x : KnownMachine). x.links) is.machine in
     record {
@@ -116,7 +116,7 @@ keeps_missed t m n f is visit =
       misses = λ g. let e = misses_rose m n f is g in omega (arith, e);
     }
 
-pub keeps_evicted : (t : KnownTable) (m n : KnownMachine) (f pages : ℕ) → EvictsUnit m f pages n → ((c : KnownCpu) → Visits t (side m c) → Visits t (side n c))
+pub keeps_evicted : (t : KnownTable) (m n : KnownMachine) (f pages : ℕ) → EvictsUnit f pages m n → ((c : KnownCpu) → Visits t (side m c) → Visits t (side n c))
     → (link_at m.links f).is_dirty ≡ false → Keeps t m n
 keeps_evicted t m n f pages is visit clean =
     let gone : home_of n.links f ≡ None = ap (λ (k : Link). k.home) is.list.forgotten in
@@ -136,7 +136,7 @@ keeps_evicted t m n f pages is visit clean =
       misses = λ g. let e = misses_stay m n f pages is g in omega (arith, e);
     }
 
-pub keeps_try : (t : KnownTable) (m n : KnownMachine) (f : ℕ) (answer : Option ℕ) → Evicts m f answer n
+pub keeps_try : (t : KnownTable) (m n : KnownMachine) (f : ℕ) (answer : Option ℕ) → Evicts f answer m n
     → ((c : KnownCpu) → Visits t (side m c) → Visits t (side n c)) → (link_at m.links f).is_dirty ≡ false → Keeps t m n
 keeps_try t m n f None is visit clean = keeps_missed t m n f is visit
 keeps_try t m n f (Some pages) is visit clean = keeps_evicted t m n f pages is visit clean
@@ -146,7 +146,7 @@ keeps_try t m n f (Some pages) is visit clean = keeps_evicted t m n f pages is v
 on_path_true : (b : Bool) (n pages : ℕ) → b ≡ true → ◌≡◌ {A = ℕ} (cond b (n + pages) n) (n + pages)
 on_path_true b n pages is = rw is refl
 
-pub usage_evicted : (m n : KnownMachine) (f pages k g : ℕ) → EvictsUnit m f pages n → (list : LruList) → home_of m.links f ≡ Some (record { owner = k; list = list })
+pub usage_evicted : (m n : KnownMachine) (f pages k g : ℕ) → EvictsUnit f pages m n → (list : LruList) → home_of m.links f ≡ Some (record { owner = k; list = list })
     → in_subtree m.ledger.groups g k ≡ true → current_of n.ledger g + pages ≡ current_of m.ledger g
 usage_evicted m n f pages k g is list home below =
     let groups : n.ledger.groups ≡ m.ledger.groups = ap (λ (x : KnownMachine). x.ledger.groups) is.machine in
@@ -158,7 +158,7 @@ usage_evicted m n f pages k g is list home below =
     same_owner : (a b : Home) → Some a ≡ Some b → a.owner ≡ b.owner
     same_owner a b e = cc
 
-pub usage_try : (m n : KnownMachine) (f k g : ℕ) (answer : Option ℕ) → Evicts m f answer n → (list : LruList)
+pub usage_try : (m n : KnownMachine) (f k g : ℕ) (answer : Option ℕ) → Evicts f answer m n → (list : LruList)
     → home_of m.links f ≡ Some (record { owner = k; list = list })
     → in_subtree m.ledger.groups g k ≡ true → current_of n.ledger g + unwrap_or answer 0 ≡ current_of m.ledger g
 usage_try m n f k g None is list home below =

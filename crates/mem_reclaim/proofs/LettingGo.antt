@@ -106,7 +106,7 @@ misses_put seat f g change keeps = elim (cases_eq g f) [
   | inr ne ↦ ap (λ (k : FrameNote). k.misses) (note_else seat.view f g change ne)
 ]
 
-off_list : (t : KnownTable) (m n : KnownMachine) (f : ℕ) → LeavesList m.links m.lists f n.links n.lists → n.ledger.groups ≡ m.ledger.groups
+off_list : (t : KnownTable) (m n : KnownMachine) (f : ℕ) → LeavesList f m.links m.lists n.links n.lists → n.ledger.groups ≡ m.ledger.groups
     → ((g : ℕ) → current_of n.ledger g ≤ current_of m.ledger g) → n.seat.view.opened ≡ m.seat.view.opened → ((g : ℕ) → misses_of n.seat g ≡ misses_of m.seat g)
     → ((c : KnownCpu) → Visits t (side m c) → Visits t (side n c)) → OnlyLetsGo t m n
 off_list t m n f list groups usage opened misses visit =
@@ -124,7 +124,7 @@ off_list t m n f list groups usage opened misses visit =
       misses = misses;
     }
 
-pub release_lets : (t : KnownTable) (m n : KnownMachine) (f : ℕ) (left : Released) → Releases m f left n
+pub release_lets : (t : KnownTable) (m n : KnownMachine) (f : ℕ) (left : Released) → Releases f left m n
     → ((c : KnownCpu) → Visits t (side m c) → Visits t (side n c)) → OnlyLetsGo t m n
 release_lets t m n f (Left left) is visit = off_list t m n f is.list (ap (λ (x : KnownMachine). x.ledger.groups) is.machine)
     (λ g. let e = ap (λ (x : KnownMachine). current_of x.ledger g) is.machine in omega (arith, e))
@@ -138,18 +138,18 @@ release_lets t m n f Returned is visit = off_list t m n f is.list (ap (λ (x : K
     (ap (λ (x : KnownMachine). x.seat.view.opened) is.machine)
     (λ g. ap (λ (x : KnownMachine). misses_of x.seat g) is.machine ∙ misses_put m.seat f g let_go_last (λ k. refl)) visit
 
-release_stocks : (m n : KnownMachine) (f : ℕ) (left : Released) → Releases m f left n → KeepsStocks m n
+release_stocks : (m n : KnownMachine) (f : ℕ) (left : Released) → Releases f left m n → KeepsStocks m n
 release_stocks m n f (Left left) is = record { stock = ap (λ (x : KnownMachine). x.stock) is.machine; killed = ap (λ (x : KnownMachine). x.killed) is.machine }
 release_stocks m n f Returned is = record { stock = ap (λ (x : KnownMachine). x.stock) is.machine; killed = ap (λ (x : KnownMachine). x.killed) is.machine }
 
-release_list : (m n : KnownMachine) (f : ℕ) (left : Released) → Releases m f left n → LeavesList m.links m.lists f n.links n.lists
+release_list : (m n : KnownMachine) (f : ℕ) (left : Released) → Releases f left m n → LeavesList f m.links m.lists n.links n.lists
 release_list m n f (Left left) is = is.list
 release_list m n f Returned is = is.list
 
 same_home : (a b : Home) → Some a ≡ Some b → a.owner ≡ b.owner
 same_home a b e = cc
 
-off_entries : (m n : KnownMachine) (g f : ℕ) (list : LruList) → LeavesList m.links m.lists f n.links n.lists
+off_entries : (m n : KnownMachine) (g f : ℕ) (list : LruList) → LeavesList f m.links m.lists n.links n.lists
     → home_of m.links f ≡ Some (record { owner = g; list = list }) → entries_in n g list ≡ entries_without f (entries_in m g list)
 off_entries m n g f Inactive is home =
     let own : is.group ≡ g = same_home (record { owner = is.group; list = is.list }) (record { owner = g; list = Inactive }) (sym is.stands ∙ home) in
@@ -218,10 +218,10 @@ without_first : (u : Entry) (rest : List Entry) → entries_without u.number (u 
 without_first u rest = let t : (u.number == u.number) ≡ true = eq-eqb u.number u.number refl in rw t refl
 
 pub let_go_more : (t : KnownTable) (g : ℕ) (list : LruList) (m : KnownMachine) (i : ℕ) (now : KnownMachine) → LetGoSoFar t g list m i now
-    → (u : Entry) → Oldest t g list now u → (f : ℕ) → f ≡ u.number → (left : Released) (then : KnownMachine) → Releases now f left then
+    → (u : Entry) → Oldest t g list now u → (f : ℕ) → f ≡ u.number → (left : Released) (then : KnownMachine) → Releases f left now then
     → ((c : KnownCpu) → Visits t (side now c) → Visits t (side then c)) → MakesForAny t now (release_steps f left) then → LetGoSoFar t g list m (i + 1) then
 let_go_more t g list m i now s u o f at left then releases_f visit runs_f =
-    let releases : Releases now u.number left then = subst (λ (x : ℕ). Releases now x left then) at releases_f in
+    let releases : Releases u.number left now then = subst (λ (x : ℕ). Releases x left now then) at releases_f in
     let runs : MakesForAny t now (release_steps u.number left) then = subst (λ (x : ℕ). MakesForAny t now (release_steps x left) then) at runs_f in
     let tail : entries_in then g list ≡ o.rest =
     off_entries now then g u.number list (release_list now then u.number left releases) o.home ∙ ap (entries_without u.number) o.entries
@@ -302,7 +302,7 @@ looked_filled : (view : StockView) (q : ℕ) (o : Option ℕ) → (account_of vi
 looked_filled view q None is = ap (λ (a : Account). a.filled) (drained_at view q 0)
 looked_filled view q (Some g) is = is
 
-filled_after : (test : List Group → Option ℕ → Bool) (q : ℕ) (m n : KnownMachine) (drains : List Drain) → DrainsIf test m q drains n
+filled_after : (test : List Group → Option ℕ → Bool) (q : ℕ) (m n : KnownMachine) (drains : List Drain) → DrainsIf test q drains m n
     → (account_of m.stock.view q).filled ≡ false → (account_of n.stock.view q).filled ≡ false
 filled_after test q m n [] h is =
     ap (λ (x : KnownMachine). (account_of x.stock.view q).filled) h.1 ∙ looked_filled m.stock.view q (stock_group m q) is
@@ -310,7 +310,7 @@ filled_after test q m n (drain ∷ []) h is =
     ap (λ (x : KnownMachine). (account_of x.stock.view q).filled) h.1.drains.drains.machine ∙ ap (λ (a : Account). a.filled) (drained_at m.stock.view q drain.pages)
 filled_after test q m n (one ∷ two ∷ more) h is = absurd h
 
-one_drains : (test : List Group → Option ℕ → Bool) (q : ℕ) (m n : KnownMachine) (drains : List Drain) → DrainsIf test m q drains n → OnlyDrains m n
+one_drains : (test : List Group → Option ℕ → Bool) (q : ℕ) (m n : KnownMachine) (drains : List Drain) → DrainsIf test q drains m n → OnlyDrains m n
 one_drains test q m n drains h = record {
   of = λ p. elim (cases_eq p q) [
     | inl e ↦ subst (λ (x : ℕ). stock_group n x ≡ stock_group m x) (sym e) (below_group test q m n drains h)
@@ -324,7 +324,7 @@ one_drains test q m n drains h = record {
   ];
 }
 
-drain_leaves : (m n : KnownMachine) (q pages : ℕ) → DrainsNoted m q pages n → OnlyDrains m n → LeavesUnits m n
+drain_leaves : (m n : KnownMachine) (q pages : ℕ) → DrainsNoted q pages m n → OnlyDrains m n → LeavesUnits m n
 drain_leaves m n q pages d stocks = record {
   groups = ap (λ (x : KnownMachine). x.ledger.groups) d.drains.machine ∙ groups_stay m.ledger (stock_group m q) pages;
   seat = ap (λ (x : KnownMachine). x.seat) d.drains.machine;
@@ -338,7 +338,7 @@ drain_leaves m n q pages d stocks = record {
   stocks = stocks;
 }
 
-one_leaves : (test : List Group → Option ℕ → Bool) (q : ℕ) (m n : KnownMachine) (drains : List Drain) → DrainsIf test m q drains n → LeavesUnits m n
+one_leaves : (test : List Group → Option ℕ → Bool) (q : ℕ) (m n : KnownMachine) (drains : List Drain) → DrainsIf test q drains m n → LeavesUnits m n
 one_leaves test q m n [] h = record {
   groups = ap (λ (x : KnownMachine). x.ledger.groups) h.1;
   seat = ap (λ (x : KnownMachine). x.seat) h.1;

@@ -35,7 +35,7 @@ meets_dirty t marks_count g e m dirty = record {
 }
 
 pub meets_spared : (t : KnownTable) (marks_count : Bool) (g f : ℕ) (e : Entry) (m n : KnownMachine) → e.is_dirty ≡ false → (marks_count && e.is_marked) ≡ true
-    → e.number ≡ f → RenewsUnit m g f n → MakesForAny t m [] n → Leads t 0 m n (MeetsUnit marks_count g e 1)
+    → e.number ≡ f → RenewsUnit g f m n → MakesForAny t m [] n → Leads t 0 m n (MeetsUnit marks_count g e 1)
 meets_spared t marks_count g f e m n clean spared is renews runs = record {
   steps = [];
   does = subst (λ (x : Bool × Bool × ℕ). MeetsAs x.0 x.1 g x.2 0 m [] n) (λ i. (sym clean i, sym spared i, sym is i))
@@ -44,7 +44,7 @@ meets_spared t marks_count g f e m n clean spared is renews runs = record {
 }
 
 pub meets_tried : (t : KnownTable) (marks_count : Bool) (g f : ℕ) (e : Entry) (m n : KnownMachine) (answer : Option ℕ) (given : ℕ) → e.is_dirty ≡ false
-    → (marks_count && e.is_marked) ≡ false → e.number ≡ f → Evicts m f answer n → MakesForAny t m (evict_steps f answer) n → given ≡ unwrap_or answer 0
+    → (marks_count && e.is_marked) ≡ false → e.number ≡ f → Evicts f answer m n → MakesForAny t m (evict_steps f answer) n → given ≡ unwrap_or answer 0
     → Leads t given m n (MeetsUnit marks_count g e 1)
 meets_tried t marks_count g f e m n answer given clean spared is evicts runs pages =
     subst (λ (p : ℕ). Leads t p m n (MeetsUnit marks_count g e 1)) (sym pages) (record {
@@ -64,7 +64,7 @@ MetList g list f m n =
 same_home : (a b : Home) → Some a ≡ Some b → a.owner ≡ b.owner
 same_home a b e = cc
 
-evicted_entries : (m n : KnownMachine) (g f pages : ℕ) (list : LruList) → EvictsUnit m f pages n → home_of m.links f ≡ Some (record { owner = g; list = list })
+evicted_entries : (m n : KnownMachine) (g f pages : ℕ) (list : LruList) → EvictsUnit f pages m n → home_of m.links f ≡ Some (record { owner = g; list = list })
     → entries_in n g list ≡ entries_without f (entries_in m g list)
 evicted_entries m n g f pages Inactive is home =
     let own : is.list.group ≡ g = same_home (record { owner = is.list.group; list = is.list.list }) (record { owner = g; list = Inactive }) (sym is.list.stands ∙ home) in
@@ -73,7 +73,7 @@ evicted_entries m n g f pages Active is home =
     let own : is.list.group ≡ g = same_home (record { owner = is.list.group; list = is.list.list }) (record { owner = g; list = Active }) (sym is.list.stands ∙ home) in
     subst (λ (k : ℕ). entries_in n k Active ≡ entries_without f (entries_in m k Active)) own is.list.active
 
-tried_list : (m n : KnownMachine) (g f : ℕ) (list : LruList) (answer : Option ℕ) → Evicts m f answer n → home_of m.links f ≡ Some (record { owner = g; list = list })
+tried_list : (m n : KnownMachine) (g f : ℕ) (list : LruList) (answer : Option ℕ) → Evicts f answer m n → home_of m.links f ≡ Some (record { owner = g; list = list })
     → MetList g list f m n
 tried_list m n g f list None is home = inl (ap (λ (x : KnownMachine). entries_in x g list) is.machine)
 tried_list m n g f list (Some pages) is home =
@@ -93,14 +93,14 @@ met_list false m n g want given e steps list is inactive home = met_as e.is_dirt
 
 -- ---- where marks don't count, units leave and none comes, and one that stays clean is missed
 
-try_leaves : (m n : KnownMachine) (f : ℕ) (answer : Option ℕ) → Evicts m f answer n → OnlyLeave m n
+try_leaves : (m n : KnownMachine) (f : ℕ) (answer : Option ℕ) → Evicts f answer m n → OnlyLeave m n
 try_leaves m n f None is x h home = ap (λ (k : KnownMachine). home_of k.links x) (sym is.machine) ∙ home
 try_leaves m n f (Some pages) is x h home = elim (cases_eq x f) [
   | inl e ↦ absurd (none-some h (sym (ap (home_of n.links) e ∙ ap (λ (k : Link). k.home) is.list.forgotten) ∙ home))
   | inr ne ↦ sym (is.list.homes x ne) ∙ home
 ]
 
-try_misses : (m n : KnownMachine) (f : ℕ) (answer : Option ℕ) → Evicts m f answer n → (h : Home) → IsMissed m n f h
+try_misses : (m n : KnownMachine) (f : ℕ) (answer : Option ℕ) → Evicts f answer m n → (h : Home) → IsMissed m n f h
 try_misses m n f None is h home clean =
     let a = misses_rose m n f is f in
     let one : ◌≡◌ {A = ℕ} (cond (f == f) 1 0) 1 = ap (λ (b : Bool). cond b 1 0) (eq-eqb f f refl) in

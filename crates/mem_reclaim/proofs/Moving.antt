@@ -121,13 +121,13 @@ misses_frozen seat f g = elim (cases_eq g f) [
 ]
 
 -- a miss counts on the frame
-pub misses_rose : (m n : KnownMachine) (f : ℕ) → MissesUnit m f n → (g : ℕ) → misses_of n.seat g ≡ misses_of m.seat g + cond (f == g) 1 0
+pub misses_rose : (m n : KnownMachine) (f : ℕ) → MissesUnit f m n → (g : ℕ) → misses_of n.seat g ≡ misses_of m.seat g + cond (f == g) 1 0
 misses_rose m n f is g = ap (λ (x : KnownMachine). misses_of x.seat g) is.machine ∙ misses_more m.seat f is.word g
 
-pub misses_stay : (m n : KnownMachine) (f pages : ℕ) → EvictsUnit m f pages n → (g : ℕ) → misses_of n.seat g ≡ misses_of m.seat g
+pub misses_stay : (m n : KnownMachine) (f pages : ℕ) → EvictsUnit f pages m n → (g : ℕ) → misses_of n.seat g ≡ misses_of m.seat g
 misses_stay m n f pages is g = ap (λ (x : KnownMachine). misses_of x.seat g) is.machine ∙ misses_frozen m.seat f g
 
-pub moves_try : (t : KnownTable) (m n : KnownMachine) (f : ℕ) (answer : Option ℕ) → Evicts m f answer n → MakesForAny t m (evict_steps f answer) n
+pub moves_try : (t : KnownTable) (m n : KnownMachine) (f : ℕ) (answer : Option ℕ) → Evicts f answer m n → MakesForAny t m (evict_steps f answer) n
     → Moves t m (unwrap_or answer 0) (evict_steps f answer) n
 moves_try t m n f None is runs = record {
   runs = runs;

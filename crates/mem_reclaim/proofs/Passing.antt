@@ -27,7 +27,7 @@ use Rattle.mem_reclaim.proofs.Listing.{home_inside}
 
 -- ---- a group's first pass
 
-pub aged_leads : (t : KnownTable) (m aged n : KnownMachine) (g want given : ℕ) → AgesGroup m g aged → MakesForAny t m [] aged
+pub aged_leads : (t : KnownTable) (m aged n : KnownMachine) (g want given : ℕ) → AgesGroup g m aged → MakesForAny t m [] aged
     → Leads t given aged n (ScansList true g Inactive want)
     → Leads t given m n (AgesAndScans g want)
 aged_leads t m aged n g want given ages runs scans =
@@ -40,7 +40,7 @@ aged_leads t m aged n g want given ages runs scans =
           (moves_none t m aged runs (ap (λ (x : KnownMachine). x.seat) ages.machine) (ap (λ (x : KnownMachine). x.counts) ages.machine)) scans.moves);
     }
 
-pub aged_keeps : (t : KnownTable) (m aged : KnownMachine) (g : ℕ) → AgesGroup m g aged → Keeps t m aged
+pub aged_keeps : (t : KnownTable) (m aged : KnownMachine) (g : ℕ) → AgesGroup g m aged → Keeps t m aged
 aged_keeps t m aged g ages = keeps_owners t m aged ages.machine ages.owners
 
 -- usage falls by both parts
@@ -53,7 +53,7 @@ usage_both t a b c g x some more keeps first second below =
     let v = second (ap (λ (l : List Group). in_subtree l x g) keeps.groups ∙ below) in
     omega (arith, u, v)
 
-pub aged_usage : (t : KnownTable) (m aged n : KnownMachine) (g x given : ℕ) → AgesGroup m g aged
+pub aged_usage : (t : KnownTable) (m aged n : KnownMachine) (g x given : ℕ) → AgesGroup g m aged
     → (in_subtree aged.ledger.groups x g ≡ true → current_of n.ledger x + given ≡ current_of aged.ledger x)
     → in_subtree m.ledger.groups x g ≡ true → current_of n.ledger x + given ≡ current_of m.ledger x
 aged_usage t m aged n g x given ages second below =

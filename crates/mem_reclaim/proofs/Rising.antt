@@ -59,7 +59,7 @@ drains_return_none (d ∷ rest) =
 
 -- ---- units that are let go
 
-release_rises : (m n : KnownMachine) (f : ℕ) (left : Released) → Releases m f left n
+release_rises : (m n : KnownMachine) (f : ℕ) (left : Released) → Releases f left m n
     → Rises m.counts.last_puts (returned_in (release_steps f left)) n.counts.last_puts
 release_rises m n f (Left left) is = rises_none m.counts.last_puts n.counts.last_puts (ap (λ (x : KnownMachine). x.counts.last_puts) is.machine)
 release_rises m n f Returned is = rises_one m.counts.last_puts n.counts.last_puts (ap (λ (x : KnownMachine). x.counts.last_puts) is.machine)

@@ -27,7 +27,7 @@ use Rattle.mem_reclaim.specs.Victim.{IsNext, own_frames, victim_note}
 abbrev pub LetsGoAll : List Entry → KnownMachine → Run → KnownMachine → Type 0
 LetsGoAll [] before steps after = (after ≡ before) × (steps ≡ [])
 LetsGoAll (unit ∷ others) before steps after =
-    (between : KnownMachine) × (left : Released) × (later : Run) × Releases before unit.number left between
+    (between : KnownMachine) × (left : Released) × (later : Run) × Releases unit.number left before between
     × LetsGoAll others between later after × (steps ≡ release_steps unit.number left ++ later)
 
 -- the units are let go by some steps, whoever holds the lock

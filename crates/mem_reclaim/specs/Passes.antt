@@ -14,7 +14,7 @@ use Rattle.mem_reclaim.specs.Units.{ScansList}
 pub record AgesAndScans (group want given : ℕ) (before : KnownMachine) (steps : Run)
     (after : KnownMachine) : Type 0 where
   pub aged : KnownMachine
-  pub ages : AgesGroup before group aged
+  pub ages : AgesGroup group before aged
   pub scans : ScansList true group Inactive want given aged steps after
 
 -- what a pass does with a group: in the second one its inactive and then its active units are met, and marks don't

@@ -12,13 +12,13 @@ use Rattle.mem_reclaim.specs.Wanted.{GivesNothing, Reclaiming, WhileWanted}
 pub record SparesUnit (group frame given : ℕ) (before : KnownMachine) (steps : Run)
     (after : KnownMachine) : Type 0 where
   pub no_page : given ≡ 0
-  pub renews : RenewsUnit before group frame after
+  pub renews : RenewsUnit group frame before after
   pub no_step : steps ≡ []
 
 -- the unit is tried: it comes back where nobody but the zone has a reference, and is missed else
 pub record TriesUnit (frame given : ℕ) (before : KnownMachine) (steps : Run) (after : KnownMachine) : Type 0 where
   pub answer : Option ℕ
-  pub evicts : Evicts before frame answer after
+  pub evicts : Evicts frame answer before after
   pub pages : given ≡ unwrap_or answer 0
   pub tries : steps ≡ evict_steps frame answer
 

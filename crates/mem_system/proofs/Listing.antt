@@ -37,12 +37,12 @@ pub record Cut (frames : List ℕ) (m : KnownMachine) (c : KnownCpu) (n : KnownM
 
 pub cut_off : (frames : List ℕ) (m : KnownMachine) (c : KnownCpu) (n : KnownMachine) (d : KnownCpu) → TakesManyBack frames (side m c) (side n d) → Cut frames m c n d
 cut_off [] m c n d t = record {
-  split = sym (ap (λ (e : KnownCpu). e.list) t.1);
-  number = ap (λ (e : KnownCpu). e.number) t.1;
-  fresh = ap (λ (e : KnownCpu). e.fresh) t.1;
-  back = ap (λ (e : KnownCpu). e.back) t.1;
-  opened = ap (λ (k : KnownMachine). k.seat.view.opened) t.0;
-  free = λ f is. ap (λ (k : KnownMachine). spot_at k.spots f) t.0 ∙ is;
+  split = sym (ap (λ (e : KnownCpu). e.list) t.cpu);
+  number = ap (λ (e : KnownCpu). e.number) t.cpu;
+  fresh = ap (λ (e : KnownCpu). e.fresh) t.cpu;
+  back = ap (λ (e : KnownCpu). e.back) t.cpu;
+  opened = ap (λ (k : KnownMachine). k.seat.view.opened) t.machine;
+  free = λ f is. ap (λ (k : KnownMachine). spot_at k.spots f) t.machine ∙ is;
 }
 cut_off (f ∷ rest) m c n d t =
     let one = t.1 in
@@ -74,7 +74,7 @@ left_over k list left listed split =
     ap length split ∙ length-append (take k list) left ∙ ap (λ (n : ℕ). n + length left) (length-take-le k list listed)
 
 -- a single frame came back and went to the list
-pub returned_single : (t : KnownTable) (sizes : Config) (f : ℕ) (m freed n : KnownMachine) (c d : KnownCpu) (returns : ReturnsUnit m f freed)
+pub returned_single : (t : KnownTable) (sizes : Config) (f : ℕ) (m freed n : KnownMachine) (c d : KnownCpu) (returns : ReturnsUnit f m freed)
     → returns.unit.order ≡ 0 → MakesAs t c.number (side m c) (release_steps f Returned) (side freed c)
     → BySteps t (side freed c) (side n d) (ListsFrame sizes f) → BySteps t (side m c) (side n d) (ReturnsFrames sizes f)
 returned_single t sizes f m freed n c d returns single first lists = (
@@ -91,7 +91,7 @@ returned_single t sizes f m freed n c d returns single first lists = (
 )
 
 -- a block came back
-pub returned_block : (t : KnownTable) (sizes : Config) (f : ℕ) (m freed : KnownMachine) (c : KnownCpu) (returns : ReturnsUnit m f freed)
+pub returned_block : (t : KnownTable) (sizes : Config) (f : ℕ) (m freed : KnownMachine) (c : KnownCpu) (returns : ReturnsUnit f m freed)
     → returns.unit.order ≢ 0 → MakesAs t c.number (side m c) (release_steps f Returned) (side freed c)
     → BySteps t (side m c) (side freed c) (ReturnsFrames sizes f)
 returned_block t sizes f m freed c returns more first = (

@@ -90,9 +90,9 @@ pub record TakenAlone (m : KnownMachine) (c : KnownCpu) (n : KnownMachine) (d : 
 
 pub taken_alone : (frames : List ℕ) (m : KnownMachine) (c : KnownCpu) (n : KnownMachine) (d : KnownCpu) → TakesManyBack frames (side m c) (side n d) → TakenAlone m c n d
 taken_alone [] m c n d t = record {
-  lent = λ f p is. sym (ap (λ (k : KnownMachine). spot_at k.spots f) t.0) ∙ is;
-  stock = ap (λ (k : KnownMachine). k.stock) t.0;
-  pins = ap (λ (e : KnownCpu). e.pins) t.1;
+  lent = λ f p is. sym (ap (λ (k : KnownMachine). spot_at k.spots f) t.machine) ∙ is;
+  stock = ap (λ (k : KnownMachine). k.stock) t.machine;
+  pins = ap (λ (e : KnownCpu). e.pins) t.cpu;
 }
 taken_alone (f ∷ rest) m c n d t =
     let one = t.1 in
@@ -105,7 +105,7 @@ taken_alone (f ∷ rest) m c n d t =
 
 -- the visit leaves alone whom a frame is lent to, and which stocks are drained
 pub emptied_alone : (m entered x y n : KnownMachine) (c1 c2 : KnownCpu) (frames : List ℕ) (p q k : ℕ) → entered ≡ with_visit_of m p 1
-    → TakesManyBack frames (side entered c1) (side x c2) → Drains x q k y → n ≡ with_visit_of y p 0 → LeavesAlone m n
+    → TakesManyBack frames (side entered c1) (side x c2) → Drains q k x y → n ≡ with_visit_of y p 0 → LeavesAlone m n
 emptied_alone m entered x y n c1 c2 frames p q k opened takes drains shut =
     let taken = taken_alone frames entered c1 x c2 takes in
     let spots : n.spots ≡ x.spots = ap (λ (z : KnownMachine). z.spots) shut ∙ ap (λ (z : KnownMachine). z.spots) drains.machine in
@@ -123,7 +123,7 @@ emptied_alone m entered x y n c1 c2 frames p q k opened takes drains shut =
     }
 
 -- and the processor's own stock is drained
-pub emptied_drained : (x y n : KnownMachine) (p q k : ℕ) → Drains x q k y → n ≡ with_visit_of y p 0 → (account_of n.stock.view q).filled ≡ false
+pub emptied_drained : (x y n : KnownMachine) (p q k : ℕ) → Drains q k x y → n ≡ with_visit_of y p 0 → (account_of n.stock.view q).filled ≡ false
 emptied_drained x y n p q k drains shut =
     ap (λ (z : KnownMachine). (account_of z.stock.view q).filled) (shut ∙ ap (λ (z : KnownMachine). with_visit_of z p 0) drains.machine)
     ∙ ap (λ (a : Account). a.filled) (drained_at x.stock.view q k)
@@ -134,7 +134,7 @@ pub emptied : (t : KnownTable) (m n : KnownMachine) (c d : KnownCpu) (entered x 
     → take k c1.list ≡ c1.list → MakesAs t c.number (side m c) (open_steps c.number) (side entered c1)
     → TakesManyBack (take k c1.list) (side entered c1) (side x c2)
     → MakesAs t c1.number (side entered c1) (drain_list_steps c1.number (take k c1.list)) (side x c2)
-    → Drains x q pages y
+    → Drains q pages x y
     → ((e : KnownCpu) → MakesAs t e.number (side x e) (drain_steps q (stock_group x q) pages) (side y e))
     → MakesAs t c2.number (side y c2) (shut_steps c2.number) (side n d)
     → BySteps t (side m c) (side n d) Empties
@@ -160,7 +160,7 @@ emptied t m n c d entered x y c1 c2 k q pages opened same second named shut afte
         takes = subst (λ (z : KnownCpu). TakesManyBack c.list (side begins c) (side x z)) (sym after) taken;
         pages = pages;
         drained = y;
-        drains = subst (λ (r : ℕ). Drains x r pages y) its drains;
+        drains = subst (λ (r : ℕ). Drains r pages x y) its drains;
         machine = shut ∙ ap (λ (r : ℕ). with_visit_of y r 0) two;
         steps_are = refl;
       },

@@ -36,11 +36,11 @@ settled_fresh f m n c d s = elim (cases_Bool (is_killed m.killed (fresh_group c)
 ]
 
 settled_all : (frames : List ℕ) (m n : KnownMachine) (c d : KnownCpu) → SettlesAllFresh frames (side m c) (side n d) → n.seat.view.opened ≡ m.seat.view.opened
-settled_all [] m n c d s = ap (λ (k : KnownMachine). k.seat.view.opened) s.0
+settled_all [] m n c d s = ap (λ (k : KnownMachine). k.seat.view.opened) s.machine
 settled_all (f ∷ rest) m n c d s = settled_all rest s.0.machine n s.0.cpu d s.2 ∙ settled_fresh f m s.0.machine c s.0.cpu s.1
 
 returned_all : (frames : List ℕ) (m n : KnownMachine) (c d : KnownCpu) → ReturnsAllBack frames (side m c) (side n d) → n.seat.view.opened ≡ m.seat.view.opened
-returned_all [] m n c d s = ap (λ (k : KnownMachine). k.seat.view.opened) s.0
+returned_all [] m n c d s = ap (λ (k : KnownMachine). k.seat.view.opened) s.machine
 returned_all (f ∷ rest) m n c d s = returned_all rest s.0.machine n s.0.cpu d s.2 ∙ ap (λ (k : KnownMachine). k.seat.view.opened) s.1.machine
 
 pub settled_opened : (m n : KnownMachine) (c d : KnownCpu) → Settles (side m c) (side n d) → n.seat.view.opened ≡ m.seat.view.opened

@@ -1,7 +1,7 @@
 -- What a contract sees of a boot, and of the parts of its processors at first.
 use Rattle.std.specs.Prelude.{◌≡◌, ℕ, zero, suc, ◌+◌, List, [], ◌∷◌}
 use Rattle.frame_word.specs.Seats.{KnownTable, KnownSeat, first_zone_view, first_cpu_view, first_cpu_seats}
-use Rattle.stock_word.specs.Stock.{Words, Seated, first_machine, first_processor, first_seats}
+use Rattle.stock_word.specs.Stock.{Words, Seated, first_zone_stock, first_processor, first_seats}
 use Rattle.cpu_part.specs.Cpus.{KnownCpu, first_cpu}
 use Rattle.zone_sizes.specs.declared.config.Config.{Config}
 use Rattle.zone_sizes.specs.Config.{IsValidConfig}
@@ -25,7 +25,7 @@ pub record IsBooted (boot : KnownBoot) (zone : KnownSeat) (stock : Seated)
   pub valid : IsValidConfig boot.sizes
   pub sized : IsSizedAs boot.sizes boot.frames boot.stocks
   pub zone_is : zone ≡ record { table = boot.frames.table; view = first_zone_view boot.frames.frames }
-  pub stock_is : stock ≡ record { table = boot.stocks.table; view = first_machine }
+  pub stock_is : stock ≡ record { table = boot.stocks.table; view = first_zone_stock }
   pub frame_seats_are : frame_seats ≡ first_cpu_seats boot.frames.table 1 boot.sizes.cpus
   pub stock_seats_are : stock_seats ≡ first_seats boot.stocks.table 1 boot.sizes.cpus
 

@@ -43,7 +43,7 @@ pub record Empties (way : Course Side) : Type 0 where
   pub takes : TakesManyBack way.before.cpu.list (visited way.before) (side emptied way.after.cpu)
   pub pages : ℕ
   pub drained : KnownMachine
-  pub drains : Drains emptied way.before.cpu.number pages drained
+  pub drains : Drains way.before.cpu.number pages emptied drained
   pub machine : way.after.machine ≡ with_visit_of drained way.before.cpu.number 0
   pub steps_are : way.steps ≡ open_steps way.before.cpu.number
       ++ (drain_list_steps way.before.cpu.number way.before.cpu.list

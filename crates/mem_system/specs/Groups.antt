@@ -15,7 +15,7 @@ use Rattle.mem_system.specs.Usage.{LowersUsage}
 -- no cause of a refusal holds, and the group of this path is made under this number, as the machine makes it
 pub record MakesNewGroup (path : List ℕ) (number : ℕ) (way : Course KnownMachine) : Type 0 where
   pub no_fault : make_fault way.before.ledger.groups path ≡ None
-  pub adds : AddsGroup way.before number path way.after
+  pub adds : AddsGroup number path way.before way.after
   pub steps_are : way.steps ≡ make_steps path number
 
 -- Mkdir: the group is made; or it is refused for the first cause that holds, and nothing changed

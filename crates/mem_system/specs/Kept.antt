@@ -16,13 +16,13 @@ pub record HeadsNoUnit (frame : ℕ) (way : Course KnownMachine) : Type 0 where
 -- Touch: the unit is marked, on the inactive list; or it is at the newest end of the active list, unmarked; or there
 -- is none
 abbrev pub TouchesFrame : (frame : ℕ) → Reply → Course KnownMachine → Type 0
-TouchesFrame frame Marked way = TouchesUnit way.before frame touched.Marked way.after × (way.steps ≡ [])
-TouchesFrame frame Active way = TouchesUnit way.before frame touched.Moved way.after × (way.steps ≡ [])
+TouchesFrame frame Marked way = TouchesUnit frame touched.Marked way.before way.after × (way.steps ≡ [])
+TouchesFrame frame Active way = TouchesUnit frame touched.Moved way.before way.after × (way.steps ≡ [])
 TouchesFrame frame (Refused NotKept) way = HeadsNoUnit frame way
 TouchesFrame frame other way = ⊥
 
 -- Dirty and Clean: the unit is noted as dirty, or as not dirty; or there is none
 abbrev pub NotesDirt : (frame : ℕ) (is_dirty : Bool) → Reply → Course KnownMachine → Type 0
-NotesDirt frame is_dirty Done way = Dirties way.before frame is_dirty way.after × (way.steps ≡ [])
+NotesDirt frame is_dirty Done way = Dirties frame is_dirty way.before way.after × (way.steps ≡ [])
 NotesDirt frame is_dirty (Refused NotKept) way = HeadsNoUnit frame way
 NotesDirt frame is_dirty other way = ⊥

@@ -34,7 +34,7 @@ pub record ListsFrame (sizes : Config) (frame : ℕ) (way : Course Side) : Type 
 -- stays free
 pub record ReturnsFrames (sizes : Config) (frame : ℕ) (way : Course Side) : Type 0 where
   pub freed : KnownMachine
-  pub returns : ReturnsUnit way.before.machine frame freed
+  pub returns : ReturnsUnit frame way.before.machine freed
   pub listing : Run
   pub single : returns.unit.order ≡ 0
       → ListsFrame sizes frame (course way.table (side freed way.before.cpu) listing way.after)
@@ -43,7 +43,7 @@ pub record ReturnsFrames (sizes : Config) (frame : ℕ) (way : Course Side) : Ty
 
 -- the unit is off its list and stays charged, with so many references of processors
 pub record LeavesUnit (frame left : ℕ) (way : Course Side) : Type 0 where
-  pub leaves : LeavesReferences way.before.machine frame left way.after.machine
+  pub leaves : LeavesReferences frame left way.before.machine way.after.machine
   pub cpu : way.after.cpu ≡ way.before.cpu
   pub steps_are : way.steps ≡ release_steps frame (released.Left left)
 

@@ -1,7 +1,7 @@
 //! A small machine: 16 frames and one processor, whose visit is open.
 ghost use Rattle.std.specs.Prelude.{◌≡◌, ◌≤◌, ◌<◌, ◌^◌};
 ghost use Rattle.frame_word.specs.Seats.{first_zone_view, first_cpu_view};
-ghost use Rattle.stock_word.specs.Stock.{first_machine, first_processor};
+ghost use Rattle.stock_word.specs.Stock.{first_zone_stock, first_processor};
 ghost use Rattle.mem_machine.specs.Machines.{Visits, side};
 
 use cpu_part::{BootName, Cpu, Tables};
@@ -25,7 +25,7 @@ pub struct SmallParts {
     pub payer: StockSeat,
     pub ghost sizes: { (frames.frames ≡ 16) × (frames.cpus ≡ 1) × (stocks.cpus ≡ 1) },
     pub ghost zone_is: { (zone.table ≡ frames.table) × (zone.view ≡ first_zone_view 16) },
-    pub ghost machine_is: { (machine.table ≡ stocks.table) × (machine.view ≡ first_machine) },
+    pub ghost machine_is: { (machine.table ≡ stocks.table) × (machine.view ≡ first_zone_stock) },
     pub ghost seat_is: { (seat.table ≡ frames.table) × (seat.view ≡ first_cpu_view 1) },
     pub ghost payer_is: { (payer.table ≡ stocks.table) × (payer.view ≡ first_processor 1) },
 }

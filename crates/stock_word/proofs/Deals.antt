@@ -4,7 +4,7 @@ use Rattle.std.proofs.lemmas.List.{append-nil}
 use Rattle.atomic_table.specs.Seated.{TableId}
 use Rattle.stock_word.specs.declared.view.StockView.{StockView}
 use Rattle.stock_word.specs.Kinds.{IsAlone}
-use Rattle.stock_word.specs.Stock.{Seated, first_machine, first_processor, first_processors, first_seats, first_of, view_in, AreOf}
+use Rattle.stock_word.specs.Stock.{Seated, first_zone_stock, first_processor, first_processors, first_seats, first_of, view_in, AreOf}
 use Rattle.stock_word.specs.Stock.{without_second, second_alone}
 
 -- one more of a count that is left
@@ -14,20 +14,20 @@ one_more cpus p h = omega arith
 pub none_more : (cpus p : ℕ) → cpus + 1 ≤ p → cpus + 1 - p ≡ 0
 none_more cpus p h = omega arith
 
-pub next_views : (views : List StockView) (p n k : ℕ) → views ≡ first_machine ∷ first_processors p n → n ≡ suc k
-    → views ≡ first_machine ∷ first_processor p ∷ first_processors (p + 1) k
-next_views views p n k is more = is ∙ (λ i. first_machine ∷ first_processors p (more i))
+pub next_views : (views : List StockView) (p n k : ℕ) → views ≡ first_zone_stock ∷ first_processors p n → n ≡ suc k
+    → views ≡ first_zone_stock ∷ first_processor p ∷ first_processors (p + 1) k
+next_views views p n k is more = is ∙ (λ i. first_zone_stock ∷ first_processors p (more i))
 
-pub last_views : (views : List StockView) (p n : ℕ) → views ≡ first_machine ∷ first_processors p n → n ≡ 0 → views ≡ first_machine ∷ []
-last_views views p n is more = is ∙ (λ i. first_machine ∷ first_processors p (more i))
+pub last_views : (views : List StockView) (p n : ℕ) → views ≡ first_zone_stock ∷ first_processors p n → n ≡ 0 → views ≡ first_zone_stock ∷ []
+last_views views p n is more = is ∙ (λ i. first_zone_stock ∷ first_processors p (more i))
 
 -- what is split off, and what stays
-pub split_off : (views off : List StockView) (p k : ℕ) → views ≡ first_machine ∷ first_processor p ∷ first_processors (p + 1) k → off ≡ second_alone views
+pub split_off : (views off : List StockView) (p k : ℕ) → views ≡ first_zone_stock ∷ first_processor p ∷ first_processors (p + 1) k → off ≡ second_alone views
     → off ≡ first_processor p ∷ []
 split_off views off p k is cut = cut ∙ ap second_alone is
 
-pub split_rest : (views rest : List StockView) (p k : ℕ) → views ≡ first_machine ∷ first_processor p ∷ first_processors (p + 1) k → rest ≡ without_second views
-    → rest ≡ first_machine ∷ first_processors (p + 1) k
+pub split_rest : (views rest : List StockView) (p k : ℕ) → views ≡ first_zone_stock ∷ first_processor p ∷ first_processors (p + 1) k → rest ≡ without_second views
+    → rest ≡ first_zone_stock ∷ first_processors (p + 1) k
 split_rest views rest p k is cut = cut ∙ ap without_second is
 
 pub one_view_is : (views : List StockView) (v : StockView) → views ≡ v ∷ [] → IsAlone views
@@ -54,9 +54,9 @@ last_seats table p n seats all is more = sym (append-nil seats) ∙ ap (λ c. se
 pub all_left : (cpus : ℕ) → cpus ≡ cpus + 1 - 1
 all_left cpus = omega arith
 
-pub first_views : (views : List StockView) (cpus : ℕ) → views ≡ first_machine ∷ first_processors 1 cpus
-    → views ≡ first_machine ∷ first_processors 1 (cpus + 1 - 1)
-first_views views cpus is = is ∙ (λ i. first_machine ∷ first_processors 1 (all_left cpus i))
+pub first_views : (views : List StockView) (cpus : ℕ) → views ≡ first_zone_stock ∷ first_processors 1 cpus
+    → views ≡ first_zone_stock ∷ first_processors 1 (cpus + 1 - 1)
+first_views views cpus is = is ∙ (λ i. first_zone_stock ∷ first_processors 1 (all_left cpus i))
 
 pub no_seats : (table : TableId) (cpus : ℕ) (seats : List Seated) → seats ≡ [] → seats ++ first_seats table 1 (cpus + 1 - 1) ≡ first_seats table 1 cpus
 no_seats table cpus seats is = (λ i. is i ++ first_seats table 1 (sym (all_left cpus) i))

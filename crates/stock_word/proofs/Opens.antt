@@ -8,7 +8,7 @@ use lib.ListN.{get_elem?}
 use Rattle.seat_sums.specs.Totals.{sum_over}
 use Rattle.stock_word.specs.declared.view.Stock.TheVariants.{NoGroup}
 use Rattle.stock_word.specs.declared.view.StockView.{StockView}
-use Rattle.stock_word.specs.Stock.{no_account, first_machine, first_processor, first_processors}
+use Rattle.stock_word.specs.Stock.{no_account, first_zone_stock, first_processor, first_processors}
 use Rattle.stock_word.specs.StockRule.{stock_place, report_place, at_seat, IsStock, StockRule}
 use Rattle.stock_word.proofs.Only.{at_mine, at_other}
 
@@ -52,23 +52,23 @@ long : (n : ℕ) → length (replicate n zero) ≡ n
 long zero = refl
 long (suc n) = ap suc (long n)
 
-pub opens_at : (cpus : ℕ) → StockRule cpus (replicate (16 * (cpus + 1)) 0) ((first_machine ∷ first_processors 1 cpus) ∷ [])
+pub opens_at : (cpus : ℕ) → StockRule cpus (replicate (16 * (cpus + 1)) 0) ((first_zone_stock ∷ first_processors 1 cpus) ∷ [])
 opens_at cpus = record {
   rows = long (16 * (cpus + 1));
-  machine = first_machine;
-  only = (λ f. let a = at_mine 0 f first_machine refl in let b = none_in 0 1 cpus f (omega arith) in omega arith);
+  machine = first_zone_stock;
+  only = (λ f. let a = at_mine 0 f first_zone_stock refl in let b = none_in 0 1 cpus f (omega arith) in omega arith);
   no_more = (let c = count_in 1 cpus in omega arith);
   each = (λ p low high. record {
     view = first_processor p;
-    only = (λ f. let a = at_other p f first_machine (λ e. omega (arith, e)) in let b = one_in p 1 cpus f low (omega arith) in omega arith);
+    only = (λ f. let a = at_other p f first_zone_stock (λ e. omega (arith, e)) in let b = one_in p 1 cpus f low (omega arith) in omega arith);
     stock = subst (λ x. IsStock x (slice_index (replicate (16 * (cpus + 1)) 0) (report_place p)) no_account (first_processor p))
         (sym (zeros (16 * (cpus + 1)) (stock_place p)))
         (subst (λ y. IsStock 0 y no_account (first_processor p)) (sym (zeros (16 * (cpus + 1)) (report_place p))) (no_stock p));
   });
 }
 
-pub opens : (cpus : ℕ) (words : List ℕ) → words ≡ replicate (16 * (cpus + 1)) 0 → StockRule cpus words ((first_machine ∷ first_processors 1 cpus) ∷ [])
-opens cpus words is = subst (λ (w : List ℕ). StockRule cpus w ((first_machine ∷ first_processors 1 cpus) ∷ [])) (sym is) (opens_at cpus)
+pub opens : (cpus : ℕ) (words : List ℕ) → words ≡ replicate (16 * (cpus + 1)) 0 → StockRule cpus words ((first_zone_stock ∷ first_processors 1 cpus) ∷ [])
+opens cpus words is = subst (λ (w : List ℕ). StockRule cpus w ((first_zone_stock ∷ first_processors 1 cpus) ∷ [])) (sym is) (opens_at cpus)
 
 pub index_is : (words : List ℕ) (k n : ℕ) → get_elem? words k ≡ some n → slice_index words k ≡ n
 index_is [] k n e = absurd (some-ne-none n (sym e))

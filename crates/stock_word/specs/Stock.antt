@@ -83,8 +83,8 @@ abbrev pub with_account : StockView → ℕ → Account → StockView
 with_account machine p account = record machine { accounts = with_account_at machine.accounts p account }
 
 -- what the machine's seat knows at first
-abbrev pub first_machine : StockView
-first_machine = record { number = 0; fresh = 0; last = NoGroup; accounts = []; steps = 0 }
+abbrev pub first_zone_stock : StockView
+first_zone_stock = record { number = 0; fresh = 0; last = NoGroup; accounts = []; steps = 0 }
 
 -- what the seat of processor p knows at first
 abbrev pub first_processor : ℕ → StockView
@@ -124,7 +124,7 @@ AreOf table (seat ∷ seats) = (seat.table ≡ table) × AreOf table seats
 
 -- the view of the seat at place k of a list
 abbrev pub view_in : List Seated → ℕ → StockView
-view_in [] k = first_machine
+view_in [] k = first_zone_stock
 view_in (seat ∷ seats) zero = seat.view
 view_in (seat ∷ seats) (suc k) = view_in seats k
 
@@ -135,12 +135,12 @@ views_of (seat ∷ seats) = seat.view ∷ views_of seats
 
 -- the first view of a seat that has one, and the second of joined seats
 abbrev pub first_of : List StockView → StockView
-first_of [] = first_machine
+first_of [] = first_zone_stock
 first_of (v ∷ views) = v
 
 -- the second view of joined seats; where there is none, what the machine's seat knows at first
 abbrev pub second_of : List StockView → StockView
-second_of [] = first_machine
+second_of [] = first_zone_stock
 second_of (v ∷ views) = first_of views
 
 -- the machine's account of the processor that has this view

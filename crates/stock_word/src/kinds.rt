@@ -13,7 +13,7 @@ ghost use Rattle.std.specs.Prelude.{◌≡◌, ◌≢◌, ◌*◌, ◌+◌, ◌-
 ghost use Rattle.std.specs.Mem.Slots.{slots_items, slots_len, IsFull};
 ghost use Rattle.stock_word.specs.declared.view.Stock.TheVariants.{HeldBy, DrainedOf};
 ghost use Rattle.stock_word.specs.Stock.{Words, Placed, IsSized, HasWord, word_of, IsProcessor, IsZoneStock, account_of, account_for, stocked, IsSettled};
-ghost use Rattle.stock_word.specs.Stock.{first_of, second_of, first_machine, first_processors, without_second, second_alone};
+ghost use Rattle.stock_word.specs.Stock.{first_of, second_of, first_zone_stock, first_processors, without_second, second_alone};
 ghost use Rattle.stock_word.specs.Kinds.{IsAlone, IsPair, Ends, Consumes, Credits, SeesDrained, Reports, ConsumesHeld, Fills, SeesStock};
 ghost use Rattle.stock_word.specs.Kinds.{DrainsNone, LooksAt, Drains, Absorbs, Alone, Joined, consuming, crediting, looking, draining_step};
 ghost use Rattle.stock_word.specs.Kinds.{absorbing_step, reporting_step, consuming_held, filling_step, seeing_stock};
@@ -35,7 +35,7 @@ pub struct StockRule;
 impl TableRule<(), Views, u32> for StockRule {
     ghost holds = { λ cpus s. rule.StockRule cpus s.words s.views };
 
-    ghost first = { λ cpus. first_machine ∷ first_processors 1 cpus };
+    ghost first = { λ cpus. first_zone_stock ∷ first_processors 1 cpus };
 }
 
 /// The stock words and report words of all processors, which are numbered from 1. A contract sees
@@ -373,7 +373,7 @@ impl StockWords {
     pub(crate) fn begin(alloc: Global, cpus: u32) -> Result<(StockWords, Place), AllocError>
         requires { (1 ≤ cpus) × (cpus ≤ 64) }
         ensures cpus { IfOk result (λ r. r.0.cpus ≡ cpus) }
-        ensures all { IfOk result (λ r. r.1 ≡ record { table = r.0.table; views = first_machine ∷ first_processors 1 cpus }) }
+        ensures all { IfOk result (λ r. r.1 ≡ record { table = r.0.table; views = first_zone_stock ∷ first_processors 1 cpus }) }
     {
         let words = vec![in alloc; 0u64; 16 * (cpus as usize + 1)]?;
         let (table, seat) = Table::of_words(alloc, words.as_slice(), &cpus)?;

@@ -1,7 +1,7 @@
 //! A new stock table.
 ghost use Rattle.std.specs.Prelude.{◌≡◌, ◌+◌, ◌<◌, ◌≤◌, ℕ, [], ◌∷◌, length, IfOk, OnOk};
 ghost use Rattle.stock_word.specs.Kinds.{IsAlone};
-ghost use Rattle.stock_word.specs.Stock.{first_machine, first_processor, first_processors, first_seats, first_of, view_in, AreOf, StartsAs};
+ghost use Rattle.stock_word.specs.Stock.{first_zone_stock, first_processor, first_processors, first_seats, first_of, view_in, AreOf, StartsAs};
 
 use crate::kinds::{Place, StockWords};
 use crate::seat::StockSeat;
@@ -30,7 +30,7 @@ impl StockWords {
     ) -> Result<(StockWords, StockSeat, Vec<StockSeat>), AllocError>
         requires { (1 ≤ cpus) × (cpus ≤ 64) }
         ensures cpus { IfOk result (λ r. r.0.cpus ≡ cpus) }
-        ensures machine { IfOk result (λ r. r.1 ≡ record { table = r.0.table; view = first_machine }) }
+        ensures machine { IfOk result (λ r. r.1 ≡ record { table = r.0.table; view = first_zone_stock }) }
         ensures processors { IfOk result (λ r. r.2.items ≡ first_seats r.0.table 1 cpus) }
         ensures count { IfOk result (λ r. length r.2.items ≡ cpus) }
         ensures tables { IfOk result (λ r. AreOf r.0.table r.2.items) }
@@ -49,9 +49,9 @@ impl StockWords {
         cpus: u32,
     ) -> Result<Vec<StockSeat>, AllocError>
         requires table { (place.old.table ≡ self.now.table) × (cpus ≤ 64) }
-        requires views { place.old.views ≡ first_machine ∷ first_processors 1 cpus }
+        requires views { place.old.views ≡ first_zone_stock ∷ first_processors 1 cpus }
         ensures table { place.new.table ≡ self.now.table }
-        ensures machine { OnOk result (place.new.views ≡ first_machine ∷ []) }
+        ensures machine { OnOk result (place.new.views ≡ first_zone_stock ∷ []) }
         ensures processors { IfOk result (λ seats. seats.items ≡ first_seats self.now.table 1 cpus) }
     {
         let mut seats = Vec::new(alloc);

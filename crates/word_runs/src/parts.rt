@@ -2,7 +2,7 @@
 ghost use Rattle.std.specs.Prelude.{◌≡◌, ◌≢◌, ◌+◌, ◌<◌, ◌≤◌, ℕ, [], length};
 ghost use Rattle.frame_word.specs.Seats.{IsInOwnHand, IsOpen, IsShut, IsZoneSeat, NothingPasses};
 ghost use Rattle.frame_word.specs.Seats.{first_cpu_view, first_zone_view, holds};
-ghost use Rattle.stock_word.specs.Stock.{IsZoneStock, first_machine, first_processor};
+ghost use Rattle.stock_word.specs.Stock.{IsZoneStock, first_zone_stock, first_processor};
 
 use crate::rows::same;
 use cpu_part::{BootName, Cpu, Dropped, Fast, Tables};
@@ -25,7 +25,7 @@ pub(crate) struct WordParts<const F: u32> {
     pub payers: (StockSeat, StockSeat),
     pub ghost sizes: { (frames.frames ≡ F) × (frames.cpus ≡ 2) × (stocks.cpus ≡ 2) },
     pub ghost zone_is: { (zone.table ≡ frames.table) × (zone.view ≡ first_zone_view F) },
-    pub ghost machine_is: { (machine.table ≡ stocks.table) × (machine.view ≡ first_machine) },
+    pub ghost machine_is: { (machine.table ≡ stocks.table) × (machine.view ≡ first_zone_stock) },
     pub ghost first_is: { (seats.0.table ≡ frames.table) × (seats.0.view ≡ first_cpu_view 1) },
     pub ghost second_is: { (seats.1.table ≡ frames.table) × (seats.1.view ≡ first_cpu_view 2) },
     pub ghost first_pays: { (payers.0.table ≡ stocks.table) × (payers.0.view ≡ first_processor 1) },
@@ -59,7 +59,7 @@ pub(crate) fn set_up<N: BootName, const F: u32>(
     requires { (parts.frames ≡ N.frames) × (parts.stocks ≡ N.stocks) }
     ensures sizes { (N.frames.frames ≡ F) × (N.frames.cpus ≡ 2) × (N.stocks.cpus ≡ 2) }
     ensures zone { (result.1.table ≡ N.frames.table) × (result.1.view ≡ first_zone_view F) }
-    ensures machine { (result.2.table ≡ N.stocks.table) × (result.2.view ≡ first_machine) }
+    ensures machine { (result.2.table ≡ N.stocks.table) × (result.2.view ≡ first_zone_stock) }
     ensures first { (result.3.number ≡ 1) × (result.3.list ≡ []) × (result.3.fresh ≡ []) }
     ensures second { (result.4.number ≡ 2) × (result.4.list ≡ []) × (result.4.fresh ≡ []) }
 {
@@ -418,7 +418,7 @@ fn begins<N: BootName>(
     cpu: &mut Cpu<N>,
 ) -> Frame
     requires zone { IsZoneSeat N.frames zone.old × (zone.old.view ≡ first_zone_view 8) × (N.frames.frames ≡ 8) }
-    requires machine { (machine.old.table ≡ N.stocks.table) × (machine.old.view ≡ first_machine) }
+    requires machine { (machine.old.table ≡ N.stocks.table) × (machine.old.view ≡ first_zone_stock) }
     requires cpu { (cpu.old.number ≡ 1) × (cpu.old.list ≡ []) × (cpu.old.fresh ≡ []) }
     ensures zone { IsZoneSeat N.frames zone.new × IsShut zone.new 1 }
     ensures machine { (machine.new.table ≡ N.stocks.table) × IsZoneStock machine.new.view }

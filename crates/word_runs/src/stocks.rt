@@ -1,6 +1,6 @@
 //! Worked rows on a stock's word, and its drain beside the processor that pays from it.
 ghost use Rattle.std.specs.Prelude.{◌≡◌, ◌≤◌, ◌+◌, false, length};
-ghost use Rattle.stock_word.specs.Stock.{IsProcessor, IsZoneStock, IsSettled, account_of, first_machine, first_processor};
+ghost use Rattle.stock_word.specs.Stock.{IsProcessor, IsZoneStock, IsSettled, account_of, first_zone_stock, first_processor};
 ghost use Rattle.stock_word.specs.Kinds.{draining, with_steps};
 ghost use Rattle.stock_word.specs.Calls.{steps_of_drain};
 
@@ -17,7 +17,7 @@ fn drained_beside_a_page(
     seat: &mut StockSeat,
 )
     requires tables { (machine.old.table ≡ words.now.table) × (seat.old.table ≡ words.now.table) }
-    requires views { (machine.old.view ≡ first_machine) × (seat.old.view ≡ first_processor 1) × (words.now.cpus ≡ 1) }
+    requires views { (machine.old.view ≡ first_zone_stock) × (seat.old.view ≡ first_processor 1) × (words.now.cpus ≡ 1) }
 {
     words.fill(machine, seat, 1, 4);
     same(rt, words.consume(seat, 1), Consume::Took);
@@ -44,7 +44,7 @@ fn takes_all_pages(
     seat: &mut StockSeat,
 )
     requires tables { (machine.old.table ≡ words.now.table) × (seat.old.table ≡ words.now.table) }
-    requires views { (machine.old.view ≡ first_machine) × (seat.old.view ≡ first_processor 2) × (words.now.cpus ≡ 2) }
+    requires views { (machine.old.view ≡ first_zone_stock) × (seat.old.view ≡ first_processor 2) × (words.now.cpus ≡ 2) }
 {
     words.fill(machine, seat, 63, 2);
     same(rt, words.consume(seat, 63), Consume::Took);

@@ -16,13 +16,13 @@ returns-in_default-clause-charges g c =
 
 pub fill_one-requires-clause-fits : goal.fill_one-requires-clause-fits
 fill_one-requires-clause-fits g c =
-    subst (λ (y : KnownMachine). HasRoomFor y 1) (sym c.in-Err.ensures.unchanged.0) (c.see_room.ensures.room 1 (omega arith))
+    subst (λ (y : KnownMachine). HasRoomFor y 1) (sym c.in-Err.ensures.unchanged.machine) (c.see_room.ensures.room 1 (omega arith))
 
 pub returns-clause-charges : goal.returns-clause-charges
 returns-clause-charges g c =
     match_both c.fill_one.result _ _ _ _
-    (λ v b. one_fits g.N.BootName.frames c.args.sizes c.args.group c.in-Err._batch.group _ _ _ _ _ _ c.in-Err.ensures.unchanged.0
-    c.in-Err.ensures.unchanged.1 c.in-Err.ensures.over c.in-Err.ensures.refused b)
-    (λ e b. none_fits g.N.BootName.frames c.args.sizes c.args.group c.in-Err._batch.group _ _ _ _ _ _ c.in-Err.ensures.unchanged.0
-    c.in-Err.ensures.unchanged.1 c.in-Err.ensures.over c.in-Err.ensures.refused e b)
+    (λ v b. one_fits g.N.BootName.frames c.args.sizes c.args.group c.in-Err._batch.group _ _ _ _ _ _ c.in-Err.ensures.unchanged.machine
+    c.in-Err.ensures.unchanged.cpu c.in-Err.ensures.over c.in-Err.ensures.refused b)
+    (λ e b. none_fits g.N.BootName.frames c.args.sizes c.args.group c.in-Err._batch.group _ _ _ _ _ _ c.in-Err.ensures.unchanged.machine
+    c.in-Err.ensures.unchanged.cpu c.in-Err.ensures.over c.in-Err.ensures.refused e b)
     c.fill_one.ensures.fills

@@ -18,22 +18,22 @@ returns-in_default-clause-fills g c =
 
 pub make_room-requires : goal.make_room-requires
 make_room-requires g c =
-    subst (λ (y : KnownMachine). has_group y.ledger.groups c.in-Err.over.group ≡ true) (sym c.in-Err.ensures.unchanged.0)
+    subst (λ (y : KnownMachine). has_group y.ledger.groups c.in-Err.over.group ≡ true) (sym c.in-Err.ensures.unchanged.machine)
     (in_subtree-above c.tries.machine.ledger.groups c.in-Err.over.group c.args.group c.in-Err.ensures.over.on_path)
 
 pub tries-smaller : goal.tries-smaller
 tries-smaller g c =
     usages_fall g.N.BootName.frames c.tries.machine c.make_room.new.machine c.in-Err.over.group 1
     (relieving_lowers g.N.BootName.frames c.args.group c.in-Err.over.group 1 c.tries.machine c.make_room.new.machine
-    (subst (λ (y : KnownMachine). ByStepsOfAny g.N.BootName.frames y c.make_room.new.machine (RelievesLimit c.args.group c.in-Err.over.group 1)) c.in-Err.ensures.unchanged.0
+    (subst (λ (y : KnownMachine). ByStepsOfAny g.N.BootName.frames y c.make_room.new.machine (RelievesLimit c.args.group c.in-Err.over.group 1)) c.in-Err.ensures.unchanged.machine
     c.make_room.ensures.clears)) c.make_room.ensures.below c.in-Err.ensures.over.over c.in_ok-make_room.ensures.room.room
 
 pub tries-preserved : goal.tries-preserved
 tries-preserved g c = (
   so_far_more g.N.BootName.frames c.args.group 1 c.args.cpu.now c.args.machine.now c.tries.machine c.tries.invariant.0 c.fill_stock.new.self c.tries.machine
-      c.make_room.new.machine c.tries.cpu c.in-Err.over.group c.in-Err.ensures.unchanged.0 c.tries.invariant.1 c.in-Err.ensures.over refl
+      c.make_room.new.machine c.tries.cpu c.in-Err.over.group c.in-Err.ensures.unchanged.machine c.tries.invariant.1 c.in-Err.ensures.over refl
       c.in-Err.ensures.refused c.make_room.ensures.clears c.in_ok-make_room.ensures.room,
-  c.in-Err.ensures.unchanged.1 ∙ c.tries.invariant.1,
+  c.in-Err.ensures.unchanged.cpu ∙ c.tries.invariant.1,
 )
 
 pub returns-in_err-make_room-clause-fills : goal.returns-in_err-make_room-clause-fills
@@ -41,9 +41,9 @@ returns-in_err-make_room-clause-fills g c =
     let is : IfErr c.from_residual.result (λ e. e ≡ c.in_err-make_room.field-0.0) = search rules in
     refused_with c.from_residual.result c.in_err-make_room.field-0.0 _ _ c.from_residual.ensures.0 is
     (λ e same. refuses_one g.N.BootName.frames c.args.group e c.args.machine.now c.args.cpu.now c.make_room.new.machine
-    c.fill_stock.new.cpu (c.in-Err.ensures.unchanged.1 ∙ c.tries.invariant.1)
+    c.fill_stock.new.cpu (c.in-Err.ensures.unchanged.cpu ∙ c.tries.invariant.1)
     (so_far_over g.N.BootName.frames c.args.group 1 c.args.cpu.now c.args.machine.now c.tries.machine c.tries.invariant.0 c.fill_stock.new.self c.tries.machine
-    c.make_room.new.machine c.tries.cpu c.in-Err.over.group c.in-Err.ensures.unchanged.0 c.tries.invariant.1 c.in-Err.ensures.over refl
+    c.make_room.new.machine c.tries.cpu c.in-Err.over.group c.in-Err.ensures.unchanged.machine c.tries.invariant.1 c.in-Err.ensures.over refl
     c.in-Err.ensures.refused c.make_room.ensures.clears e
     (subst (λ (z : AllocFault). IsCause c.args.group c.in-Err.over.group 1 z c.make_room.new.machine) (sym same) c.in_err-make_room.ensures.room)))
 

@@ -8,19 +8,19 @@ use Rattle.mem_machine.proofs.machine.Machine.drain_if_below.Goals as goal
 pub invariant_of-self : goal.invariant_of-self
 invariant_of-self g c = (
   (never_drained g.N.BootName.frames g.N.BootName.stocks _ _ c.self.view_is c.self.invariant.0 c.args.processor c.requires.processor.0 c.requires.processor.1
-      c.in-None.ensures.group _ (ap uncounted c.in-None.ensures.machine)).consistent,
+      c.in-None.ensures.group _ (ap uncounted c.in-None.ensures.seat)).consistent,
   c.self.invariant.1,
 )
 
 pub returns-in-None : goal.returns-in-None
-returns-in-None g c = looked_never g.N.BootName.frames _ _ c.self.view_is (of_subtree c.args.group) c.args.processor c.in-None.ensures.group refl _ (ap uncounted c.in-None.ensures.machine)
+returns-in-None g c = looked_never g.N.BootName.frames _ _ c.self.view_is (of_subtree c.args.group) c.args.processor c.in-None.ensures.group refl _ (ap uncounted c.in-None.ensures.seat)
 
 pub returns-in-Some : goal.returns-in-Some
 returns-in-Some g c =
-    looked_own g.N.BootName.frames _ _ c.self.view_is _ (ap uncounted c.in-Some.ensures.machine) (of_subtree c.args.group) c.args.processor c.in-Some.number c.drain_noted.result _
+    looked_own g.N.BootName.frames _ _ c.self.view_is _ (ap uncounted c.in-Some.ensures.seat) (of_subtree c.args.group) c.args.processor c.in-Some.number c.drain_noted.result _
     c.in-Some.ensures.group (sym c.is_below.ensures ∙ c.if-is_below.true) c.drain_noted.ensures.drains c.drain_noted.ensures.steps
 
 pub returns-in-Some-2 : goal.returns-in-Some-2
 returns-in-Some-2 g c =
     looked_other g.N.BootName.frames _ _ c.self.view_is (of_subtree c.args.group) c.args.processor c.in-Some.number c.in-Some.ensures.group
-    (sym c.is_below.ensures ∙ c.if-is_below.false) _ (ap uncounted c.in-Some.ensures.machine)
+    (sym c.is_below.ensures ∙ c.if-is_below.false) _ (ap uncounted c.in-Some.ensures.seat)

@@ -27,7 +27,7 @@ invariant_of-self g c =
           (λ some. c.tree-tree.ensures.legal) c.requires.processor.0 c.requires.processor.1
           c.drain-pages.ensures.booked c.drain-pages.ensures.drained_before (Some c.args.group) c.requires.group (some_not_none _ _) _ _
           (c.uncharge.ensures.uncharged ∙ ap (λ (n : ℕ). with_uncharge c.self.inside.charges n c.drain-pages.result) id)
-          (ap uncounted c.drain-pages.ensures.machine)).consistent,
+          (ap uncounted c.drain-pages.ensures.seat)).consistent,
       c.self.invariant.1,
     )
 
@@ -37,7 +37,7 @@ invariant_of-self-else-pages-gt0 g c =
       (drained_all g.N.BootName.frames g.N.BootName.stocks _ _ _ _ c.self.view_is c.self.invariant.0
           (λ some. c.tree-tree.ensures.legal) c.requires.processor.0 c.requires.processor.1
           c.drain-pages.ensures.booked c.drain-pages.ensures.drained_before (Some c.args.group) c.requires.group (some_not_none _ _) _ _
-          (drained_none c.self.inside.charges (Some c.args.group) _ none) (ap uncounted c.drain-pages.ensures.machine)).consistent,
+          (drained_none c.self.inside.charges (Some c.args.group) _ none) (ap uncounted c.drain-pages.ensures.seat)).consistent,
       c.self.invariant.1,
     )
 
@@ -47,7 +47,7 @@ returns-then-pages-gt0-clause-steps g c =
     (drained_all g.N.BootName.frames g.N.BootName.stocks _ _ _ _ c.self.view_is c.self.invariant.0
     (λ some. c.tree-tree.ensures.legal) c.requires.processor.0 c.requires.processor.1
     c.drain-pages.ensures.booked c.drain-pages.ensures.drained_before (Some c.args.group) c.requires.group (some_not_none _ _) _ _
-    (c.uncharge.ensures.uncharged ∙ ap (λ (n : ℕ). with_uncharge c.self.inside.charges n c.drain-pages.result) id) (ap uncounted c.drain-pages.ensures.machine)).steps
+    (c.uncharge.ensures.uncharged ∙ ap (λ (n : ℕ). with_uncharge c.self.inside.charges n c.drain-pages.result) id) (ap uncounted c.drain-pages.ensures.seat)).steps
 
 pub returns-else-pages-gt0 : goal.returns-else-pages-gt0
 returns-else-pages-gt0 g c =
@@ -55,7 +55,7 @@ returns-else-pages-gt0 g c =
     let all = drained_all g.N.BootName.frames g.N.BootName.stocks _ _ _ _ c.self.view_is c.self.invariant.0
     (λ some. c.tree-tree.ensures.legal) c.requires.processor.0 c.requires.processor.1
     c.drain-pages.ensures.booked c.drain-pages.ensures.drained_before (Some c.args.group) c.requires.group (some_not_none _ _) _ _
-    (drained_none c.self.inside.charges (Some c.args.group) _ none) (ap uncounted c.drain-pages.ensures.machine) in
+    (drained_none c.self.inside.charges (Some c.args.group) _ none) (ap uncounted c.drain-pages.ensures.seat) in
     record { drains = all.drains; steps = all.steps }
 
 pub returns-then-pages-gt0-clause-drains : goal.returns-then-pages-gt0-clause-drains

@@ -12,7 +12,7 @@ pub invariant_of-self : goal.invariant_of-self
 invariant_of-self g c = (
   (never_drained g.N.BootName.frames g.N.BootName.stocks _ _ c.self.view_is c.self.invariant.0 c.args.processor c.requires.processor.0
       c.requires.processor.1 c.in-None.ensures.group _
-      (ap uncounted c.in-None.ensures.machine)).consistent,
+      (ap uncounted c.in-None.ensures.seat)).consistent,
   c.self.invariant.1,
 )
 
@@ -20,11 +20,11 @@ pub returns-in-None : goal.returns-in-None
 returns-in-None g c =
     let all = never_drained g.N.BootName.frames g.N.BootName.stocks _ _ c.self.view_is c.self.invariant.0 c.args.processor c.requires.processor.0
     c.requires.processor.1 c.in-None.ensures.group _
-    (ap uncounted c.in-None.ensures.machine) in
+    (ap uncounted c.in-None.ensures.seat) in
     record { drains = all.drains; steps = all.steps }
 
 pub returns-in-Some-clause-steps : goal.returns-in-Some-clause-steps
 returns-in-Some-clause-steps g c =
     subst (λ (x : KnownMachine). (d : KnownCpu) → MakesAs g.N.BootName.frames d.number (side x d)
     (drain_steps c.args.processor (stock_group x c.args.processor) c.drain_of.result) (side c.drain_of.new.self d))
-    (looked_now _ _ c.self.view_is _ (ap uncounted c.in-Some.ensures.machine)) c.drain_of.ensures.steps
+    (looked_now _ _ c.self.view_is _ (ap uncounted c.in-Some.ensures.seat)) c.drain_of.ensures.steps

@@ -16,7 +16,7 @@ invariant_of-self g c =
     let a = c.join_list.ensures in
     let all = (keep_all g.N.BootName.frames g.N.BootName.stocks _ _ c.self.view_is c.args.cpu.now _ c.number-number.ensures.tied c.self.invariant.0
     c.requires.visit _ c.self.invariant.1 _ c.args.group was e.cpu _ c.unwrap-order.result c.number-at.ensures k0 _ _
-    e.zone c.unfreeze.ensures.seat _ (ap uncounted e.machine) _ _
+    e.zone c.unfreeze.ensures.seat _ (ap uncounted e.seat) _ _
     (record { joins = a.joins; stand = a.lists.stand; frames = a.frames; groups = a.lists.groups })) in
     (all.consistent, all.free_is)
 
@@ -30,6 +30,6 @@ returns g c =
     let a = c.join_list.ensures in
     let all = keep_all g.N.BootName.frames g.N.BootName.stocks _ _ c.self.view_is c.args.cpu.now _ c.number-number.ensures.tied c.self.invariant.0
     c.requires.visit _ c.self.invariant.1 _ c.args.group was e.cpu _ c.unwrap-order.result c.number-at.ensures k0 _ _
-    e.zone c.unfreeze.ensures.seat _ (ap uncounted e.machine) _ _
+    e.zone c.unfreeze.ensures.seat _ (ap uncounted e.seat) _ _
     (record { joins = a.joins; stand = a.lists.stand; frames = a.frames; groups = a.lists.groups }) in
     record { keeps = all.keeps; visit = all.visit; steps = all.steps }

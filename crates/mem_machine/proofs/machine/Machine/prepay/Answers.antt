@@ -51,7 +51,7 @@ returns-clause-over g c =
     let steps = c.drain_stock.ensures.steps c.args.cpu.now in
     if_err_both c.fill_stock.result
     (λ e same low run. is_refused _ _ _ _ _ number drains g.N.BootName.frames c.args.cpu.now refl whole steps _ _ c.own_stock-emptied.ensures.machine
-    c.own_stock-emptied.ensures.cpu c.args.group c.args.pages _ _ e.group same.0 same.1 low)
+    c.own_stock-emptied.ensures.cpu c.args.group c.args.pages _ _ e.group same.machine same.cpu low)
     c.fill_stock.ensures.unchanged c.fill_stock.ensures.over c.fill_stock.ensures.refused
 
 pub returns-clause-refused : goal.returns-clause-refused
@@ -62,5 +62,5 @@ returns-clause-refused g c =
     let steps = c.drain_stock.ensures.steps c.args.cpu.now in
     if_err_both c.fill_stock.result
     (λ e same low run. refused_runs _ _ _ _ _ number drains g.N.BootName.frames c.args.cpu.now refl whole steps _ _ c.own_stock-emptied.ensures.machine
-    c.own_stock-emptied.ensures.cpu c.args.group c.args.pages _ _ e.group same.0 same.1 run)
+    c.own_stock-emptied.ensures.cpu c.args.group c.args.pages _ _ e.group same.machine same.cpu run)
     c.fill_stock.ensures.unchanged c.fill_stock.ensures.over c.fill_stock.ensures.refused

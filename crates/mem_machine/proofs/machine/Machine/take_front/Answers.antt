@@ -12,7 +12,7 @@ pub invariant_of-self : goal.invariant_of-self
 invariant_of-self g c = (
   (front_paid g.N.BootName.frames g.N.BootName.stocks _ _ c.self.view_is c.args.cpu.now c.number-number.ensures.tied c.self.invariant.0 c.requires.visit
       c.args.group c.take_front.result c.number.result c.number.ensures.value c.requires.page c.requires.none_fresh c.take_front.ensures.frame
-      _ (ap uncounted c.take_front.ensures.machine) _ c.take_front.ensures.cpu).consistent,
+      _ (ap uncounted c.take_front.ensures.seat) _ c.take_front.ensures.cpu).consistent,
   c.self.invariant.1,
 )
 
@@ -20,5 +20,5 @@ pub returns : goal.returns
 returns g c =
     let all = front_paid g.N.BootName.frames g.N.BootName.stocks _ _ c.self.view_is c.args.cpu.now c.number-number.ensures.tied c.self.invariant.0
     c.requires.visit c.args.group c.take_front.result c.number.result c.number.ensures.value c.requires.page c.requires.none_fresh
-    c.take_front.ensures.frame _ (ap uncounted c.take_front.ensures.machine) _ c.take_front.ensures.cpu in
+    c.take_front.ensures.frame _ (ap uncounted c.take_front.ensures.seat) _ c.take_front.ensures.cpu in
     record { pays = all.pays; frame = c.take_front.ensures.frame; visit = all.visit; steps = all.steps }
