@@ -151,7 +151,7 @@ module _ (t : KnownTable) (w : Words) (m : KnownMachine) (cpus : List KnownCpu) 
       let drained = ap (λ (q : ℕ). (account_of m.stock.view q).filled) (at.number ∙ sym number) ∙ spent.drained in
       let empty : pages_of words.stock ≡ 0 = not_held words.stock (words.held ∙ drained) in
       let fresh : (view_in (map stock_seat_of cpus) k).fresh ≡ 0 = ap (λ v. v.fresh) view ∙ spent.tied.within.pages_are ∙ ap length spent.idle.1 in
-      let noted = words.reported ∙ ok.noted (view_in (map stock_seat_of cpus) k).number in
+      let noted = words.reported ∙ ok.absorbed (view_in (map stock_seat_of cpus) k).number in
       let balanced = words.balanced in
       let book : (account_of m.stock.view (view_in (map stock_seat_of cpus) k).number).book ≡ 0 = omega (arith, balanced, empty, fresh, noted) in (
         c,

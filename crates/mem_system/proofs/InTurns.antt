@@ -9,7 +9,7 @@ use Rattle.stock_word.specs.Stock.{Words}
 use Rattle.cpu_part.specs.Cpus.{KnownCpu}
 use Rattle.mem_machine.specs.Machines.{KnownMachine}
 use Rattle.mem_system.specs.Locked.{AllShut}
-use Rattle.mem_system.specs.Ends.{ForEachCpu, IsSpent, LeavesAlone, pins_of}
+use Rattle.mem_system.specs.Ends.{ForEachCpu, IsSpent, LendsAndFillsNone, pins_of}
 use Rattle.mem_machine.specs.Local.{Side, side}
 
 -- the visits of the first i processors lead from the first machine to this one, and the others are as they were
@@ -73,7 +73,7 @@ no_pin_at cpus now i any inside long left none =
     let part = get_or-le-sum_by (λ (c : KnownCpu). length c.pins) cpus i any within in
     ap (λ (l : List KnownCpu). (get_or l 0 any).pins) (same_next i cpus now any within long left) ∙ nothing_left _ (omega (arith, part, none))
 
-pub spent_still : (t : KnownTable) (w : Words) (x y : KnownMachine) → LeavesAlone x y → (c : KnownCpu) → IsSpent t w x c → IsSpent t w y c
+pub spent_still : (t : KnownTable) (w : Words) (x y : KnownMachine) → LendsAndFillsNone x y → (c : KnownCpu) → IsSpent t w x c → IsSpent t w y c
 spent_still t w x y alone c spent =
     record { tied = spent.tied; idle = spent.idle; none_lent = alone.none_lent c.number spent.none_lent; drained = alone.drained c.number spent.drained }
 

@@ -77,7 +77,7 @@ pub record IsSpent (table : KnownTable) (words : Words) (machine : KnownMachine)
   pub drained : (account_of machine.stock.view cpu.number).filled ≡ false
 
 -- no frame was lent to anyone, and no stock was filled
-pub record LeavesAlone (before after : KnownMachine) : Type 0 where
+pub record LendsAndFillsNone (before after : KnownMachine) : Type 0 where
   pub none_lent : (processor : ℕ) → NoneLentTo processor before.spots → NoneLentTo processor after.spots
   pub drained : (processor : ℕ) → (account_of before.stock.view processor).filled ≡ false
       → (account_of after.stock.view processor).filled ≡ false

@@ -6,7 +6,7 @@ ghost use Rattle.mem_machine.specs.Machines.{KeepsVisit};
 ghost use Rattle.mem_machine.specs.Local.{side};
 ghost use Rattle.mem_alloc.specs.declared.faults.AllocFault.TheVariants as cause_is;
 ghost use Rattle.mem_system.specs.Allocs.{Allocates, AllocatesAs, FreshOf, HasFreshFor, outcome_of};
-ghost use Rattle.mem_system.specs.Outcomes.{HasItsGroups, reply_of};
+ghost use Rattle.mem_system.specs.Outcomes.{ComesTo, HasItsGroups, reply_of};
 ghost use Rattle.mem_system.specs.Commands.{BySteps, ListAndFreshStayWithin, MayObey};
 ghost use Rattle.mem_system.specs.Visits.{EndsVisit, IsCarriedOutFor, holder};
 
@@ -70,8 +70,8 @@ pub(crate) fn allocate<N: BootName>(
     order: u32,
 ) -> Outcome
     requires visit { MayObey N.frames N.stocks sizes (side machine.old cpu.old) }
-    ensures allocates { BySteps N.frames (side machine.old cpu.old) (side machine.new cpu.new)
-        (Allocates sizes path.now order (reply_of machine.new.ledger result)) }
+    ensures allocates { ComesTo N.frames result (Allocates sizes path.now order)
+        (side machine.old cpu.old) (side machine.new cpu.new) }
     ensures groups { HasItsGroups machine.new.ledger result }
     ensures stays { KeepsVisit N.frames (side machine.old cpu.old) (side machine.new cpu.new) }
     ensures fresh { FreshOf (reply_of machine.new.ledger result) order cpu.new.fresh }

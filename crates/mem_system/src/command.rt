@@ -2,8 +2,8 @@
 
 ghost use Rattle.mem_machine.specs.Machines.{KeepsVisit};
 ghost use Rattle.mem_machine.specs.Local.{side};
-ghost use Rattle.mem_system.specs.Outcomes.{HasItsGroups, reply_of};
-ghost use Rattle.mem_system.specs.Commands.{BySteps, FreshAfter, IsOfZone, ListAndFreshStayWithin, MayObey, Obeys};
+ghost use Rattle.mem_system.specs.Outcomes.{ComesTo, HasItsGroups, reply_of};
+ghost use Rattle.mem_system.specs.Commands.{FreshAfter, IsOfZone, ListAndFreshStayWithin, MayObey, Obeys};
 
 use crate::allocations::allocate;
 use crate::files::{read_file, write_file};
@@ -116,8 +116,8 @@ pub(crate) fn obey<N: BootName>(
 ) -> Outcome
     requires zone { IsOfZone N.frames cmd.now }
     requires visit { MayObey N.frames N.stocks sizes (side machine.old cpu.old) }
-    ensures obeyed { BySteps N.frames (side machine.old cpu.old) (side machine.new cpu.new)
-        (Obeys sizes cmd.now (reply_of machine.new.ledger result)) }
+    ensures obeyed { ComesTo N.frames result (Obeys sizes cmd.now)
+        (side machine.old cpu.old) (side machine.new cpu.new) }
     ensures groups { HasItsGroups machine.new.ledger result }
     ensures stays { KeepsVisit N.frames (side machine.old cpu.old) (side machine.new cpu.new) }
     ensures fresh { FreshAfter cmd.now (reply_of machine.new.ledger result) cpu.new.fresh }

@@ -5,7 +5,7 @@ ghost use Rattle.frame_word.specs.Seats.{IsShut};
 ghost use Rattle.mem_machine.specs.Machines.{KnownMachine};
 ghost use Rattle.mem_system.specs.Locked.{AllShut};
 ghost use Rattle.mem_system.specs.Ends.{ByVisit, Empties, ForEachCpu, SettlesInVisit};
-ghost use Rattle.mem_system.specs.Ends.{IsSettledUnpinned, IsSpent, LeavesAlone, pins_of};
+ghost use Rattle.mem_system.specs.Ends.{IsSettledUnpinned, IsSpent, LendsAndFillsNone, pins_of};
 ghost use Rattle.mem_machine.specs.Local.{side};
 
 use cpu_part::{BootName, Cpu, Tables};
@@ -31,7 +31,7 @@ fn empty_cpu<N: BootName>(machine: &mut Machine<N>, tables: &Tables<N>, cpu: &mu
     ensures empties { ByVisit N.frames Empties (side machine.old cpu.old) (side machine.new cpu.new) }
     ensures shut { AllShut machine.new }
     ensures spent { IsSpent N.frames N.stocks machine.new cpu.new }
-    ensures others { LeavesAlone machine.old machine.new }
+    ensures others { LendsAndFillsNone machine.old machine.new }
 {
     machine.open(tables, cpu);
     let listed = cpu.list_len() as u32;

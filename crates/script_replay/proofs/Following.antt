@@ -189,7 +189,7 @@ module _ (t : KnownTable) (w : Words) (run : Run) (locked : KnownLocked) (cpus :
 
   -- served under the lock, after a look at its own stock
   served_follows : (seen : KnownCpu) → IsUnseen t m c seen → (command : Cmd) (reply : Reply) (after : Holder) →
-      (is : IsServed t command (holder locked seen) reply after) → AllShut after.locked.machine → Decided (under_lock p is.steps) → Follows (under_lock p is.steps) after
+      (is : IsServed t command reply (holder locked seen) after) → AllShut after.locked.machine → Decided (under_lock p is.steps) → Follows (under_lock p is.steps) after
   served_follows seen unseen command reply after is shut decided =
       let serves : ServesAt t cpus k (side m c) is.steps (side after.locked.machine after.cpu) = record {
         is_part = is_part;

@@ -10,7 +10,7 @@ use Rattle.mem_system.specs.declared.command.Cmd.TheVariants as cmd
 use Rattle.mem_system.specs.declared.command.Reply.{Reply}
 use Rattle.mem_system.specs.declared.command.Reply.TheVariants.{Done}
 use Rattle.mem_system.specs.Locked.{KnownLocked, IsQuiet}
-use Rattle.mem_system.specs.Visits.{holder, IsVisited}
+use Rattle.mem_system.specs.Visits.{holder, IsServed, IsVisited}
 use Rattle.reply_texts.specs.Answer.{Answer, Served}
 use Rattle.script_lines.specs.declared.line.Command.{Command}
 use Rattle.script_lines.specs.declared.line.Line.{Line}
@@ -24,8 +24,8 @@ use Rattle.script_replay.specs.Ranges.{LineIsThere}
 -- ---- one visit
 
 -- a Settle is answered that it was done
-pub settled_done : (t : KnownTable) (w : Words) (c d : KnownCpu) (reply : Reply) → IsVisited t w cmd.Settle c reply d → IsVisited t w cmd.Settle c Done d
-settled_done t w c d reply is = subst (λ (r : Reply). IsVisited t w cmd.Settle c r d) is.served.serves.obeys.0 is
+pub settled_done : (t : KnownTable) (w : Words) (c d : KnownCpu) (reply : Reply) → IsVisited t w (IsServed t cmd.Settle reply) c d → IsVisited t w (IsServed t cmd.Settle Done) c d
+settled_done t w c d reply is = subst (λ (r : Reply). IsVisited t w (IsServed t cmd.Settle r) c d) is.served.serves.obeys.0 is
 
 -- where there is no frame for the group, the command is served by a visit
 pub visited_after : (t : KnownTable) (w : Words) (path : Bor (List ℕ)) (l : KnownLocked) (c seen : KnownCpu) (said : Answer) (d : KnownCpu) →

@@ -77,7 +77,7 @@ AnswersPut frame before answer after = PutsPin frame before.cpu answer after.cpu
 
 -- the command was served under the lock, and its reply is the answer
 abbrev pub RepliesServed : KnownTable → Cmd → Holder → Answer → Holder → Type 0
-RepliesServed table command before (answer.Served reply) after = IsServed table command before reply after
+RepliesServed table command before (answer.Served reply) after = IsServed table command reply before after
 RepliesServed table command before other after = ⊥
 
 -- Settle: it was served
@@ -104,7 +104,7 @@ pub record ReleasesUnderLock (table : KnownTable) (frame : ℕ) (before : Holder
     : Type 0 where
   pub seen : KnownCpu
   pub not_listed : CanNotList frame before.cpu seen
-  pub served : IsServed table (cmd.Release frame) (holder before.locked seen) reply after
+  pub served : IsServed table (cmd.Release frame) reply (holder before.locked seen) after
 
 -- what a Release is answered
 abbrev pub AnswersRelease : KnownTable → ℕ → Holder → Answer → Holder → Type 0
@@ -141,7 +141,7 @@ pub record AllocatesUnderLock (table : KnownTable) (path : Bor (List ℕ)) (befo
     (after : Holder) : Type 0 where
   pub seen : KnownCpu
   pub none : GetsNoneFast path.now before seen
-  pub served : IsServed table (cmd.Alloc path 0) (holder before.locked seen) reply after
+  pub served : IsServed table (cmd.Alloc path 0) reply (holder before.locked seen) after
 
 -- what an Alloc of a single frame is answered
 abbrev pub AnswersFrame : KnownTable → Bor (List ℕ) → Holder → Answer → Holder → Type 0

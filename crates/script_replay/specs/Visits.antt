@@ -13,8 +13,8 @@ use Rattle.mem_system.specs.declared.command.Cmd.{Cmd}
 use Rattle.mem_system.specs.declared.command.Cmd.TheVariants as cmd
 use Rattle.mem_system.specs.declared.command.Reply.{Reply}
 use Rattle.mem_system.specs.declared.command.Reply.TheVariants.{Done}
-use Rattle.mem_system.specs.Locked.{KnownLocked, IsQuiet}
-use Rattle.mem_system.specs.Visits.{holder, IsVisited}
+use Rattle.mem_system.specs.Locked.{BehindLock}
+use Rattle.mem_system.specs.Visits.{holder, IsServed, IsVisited}
 use Rattle.mem_system.specs.Shown.{TellsOf}
 use Rattle.reply_texts.specs.Answer.{Answer}
 use Rattle.reply_texts.specs.Answer as answer
@@ -29,22 +29,16 @@ use Rattle.script_replay.specs.Answers.{CanNotList, FindsNoGroup, GetsFast, Gets
 use Rattle.script_replay.specs.Lines.{InOrder}
 use Rattle.script_replay.specs.Works.{work_of}
 
--- this is so of some value that lay behind the lock, with no visit open
-pub record BehindLock (table : KnownTable) (stock_table : Words) (is_so : KnownLocked → Type 0) : Type 0 where
-  pub locked : KnownLocked
-  pub quiet : IsQuiet table stock_table locked
-  pub so : is_so locked
-
 -- the command was served by a visit, and its reply is the answer
 abbrev pub RepliesVisited : KnownTable → Words → Cmd → KnownCpu → Answer → KnownCpu → Type 0
 RepliesVisited table stock_table command before (answer.Served reply) after =
-    IsVisited table stock_table command before reply after
+    IsVisited table stock_table (IsServed table command reply) before after
 RepliesVisited table stock_table command before other after = ⊥
 
 -- Settle: it was served by a visit
 abbrev pub VisitsSettle : KnownTable → Words → KnownCpu → Answer → KnownCpu → Type 0
 VisitsSettle table stock_table before answer.Settled after =
-    IsVisited table stock_table cmd.Settle before Done after
+    IsVisited table stock_table (IsServed table cmd.Settle Done) before after
 VisitsSettle table stock_table before other after = ⊥
 
 -- Fast: what a call answers for this group, and the lock isn't taken
@@ -57,7 +51,7 @@ pub record ReleasesByVisit (table : KnownTable) (stock_table : Words) (frame : �
     (after : KnownCpu) : Type 0 where
   pub seen : KnownCpu
   pub not_listed : CanNotList frame before seen
-  pub visited : IsVisited table stock_table (cmd.Release frame) seen reply after
+  pub visited : IsVisited table stock_table (IsServed table (cmd.Release frame) reply) seen after
 
 -- Release: a fresh frame is listed again without the lock, where it can be; else the command is served by a visit
 abbrev pub VisitsRelease : KnownTable → Words → ℕ → KnownCpu → Answer → KnownCpu → Type 0
@@ -71,7 +65,7 @@ pub record AllocatesByVisit (table : KnownTable) (stock_table : Words) (path : B
     (reply : Reply) (after : KnownCpu) : Type 0 where
   pub seen : KnownCpu
   pub none : BehindLock table stock_table (λ locked. GetsNoneFast path.now (holder locked before) seen)
-  pub visited : IsVisited table stock_table (cmd.Alloc path 0) seen reply after
+  pub visited : IsVisited table stock_table (IsServed table (cmd.Alloc path 0) reply) seen after
 
 -- Alloc of a single frame: the group is found under the lock. Without it the processor gets one of its list, where it
 -- can; else the command is served by a visit of its own, and what lies behind the lock may be another value then
