@@ -7,8 +7,8 @@ use Rattle.cpu_part.specs.Cpus.{KnownCpu}
 use Rattle.mem_system.specs.declared.command.Cmd.TheVariants as cmd
 use Rattle.mem_system.specs.declared.command.Reply.{Reply}
 use Rattle.mem_system.specs.declared.command.Reply.TheVariants.{Done}
-use Rattle.mem_system.specs.Boots.{KnownLocked, IsQuiet}
-use Rattle.mem_system.specs.Commands.{holder}
+use Rattle.mem_system.specs.Locked.{KnownLocked, IsQuiet}
+use Rattle.mem_system.specs.Visits.{holder}
 use Rattle.reply_texts.specs.Answer.{Answer, Served}
 use Rattle.script_lines.specs.declared.line.Command.{Command}
 use Rattle.script_lines.specs.declared.line.Line.{Line}

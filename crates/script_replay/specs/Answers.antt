@@ -78,7 +78,7 @@ AnswersPut frame before after answer = PutsPin frame before.cpu after.cpu answer
 
 -- the command was served under the lock, and its reply is the answer
 abbrev pub RepliesServed : KnownTable → Cmd → (before after : Holder) → Answer → Type 0
-RepliesServed table command before after (answer.Served reply) = IsServed table command before reply after
+RepliesServed table command before after (answer.Served reply) = IsServed table command reply before after
 RepliesServed table command before after other = ⊥
 
 -- Settle: it was served

@@ -1,8 +1,8 @@
 -- What lines are answered, one after the other.
 use Rattle.std.specs.Prelude.{◌≡◌, ℕ, ◌-◌, ◌≤◌, List, [], ◌∷◌, ◌++◌, Some, length, slice_get, slice_set, take}
 use Rattle.cpu_part.specs.Cpus.{KnownCpu}
-use Rattle.mem_system.specs.Boots.{KnownLocked}
-use Rattle.mem_system.specs.Commands.{holder}
+use Rattle.mem_system.specs.Locked.{KnownLocked}
+use Rattle.mem_system.specs.Visits.{holder}
 use Rattle.script_lines.specs.declared.line.Line.{Line}
 use Rattle.script_lines.specs.declared.line.Line.TheVariants.{Go, At}
 use Rattle.script_replay.specs.Terms.{Terms}

@@ -28,15 +28,10 @@ use Rattle.script_replay.specs.Lines.{AtPart, InOrder}
 use Rattle.script_replay.specs.Terms.{BootTables}
 use Rattle.script_replay.specs.Works.{work_of}
 
--- this is so of some value that lay behind the lock, with no visit open
-pub record BehindLock (tables : BootTables) (is_so : KnownLocked → Type 0) : Type 0 where
-  pub locked : KnownLocked
-  pub quiet : IsQuiet tables.frames tables.stocks locked
-  pub so : is_so locked
-
 -- the command was served by a visit, and this was its reply
 abbrev pub VisitsCommand : BootTables → Cmd → (before after : KnownCpu) → Reply → Type 0
-VisitsCommand tables command before after reply = IsVisited tables.frames tables.stocks command before reply after
+VisitsCommand tables command before after reply =
+    IsVisited tables.frames tables.stocks (IsServed tables.frames command reply) before after
 
 -- the command was served by a visit, and its reply is the answer
 abbrev pub RepliesVisited : BootTables → Cmd → (before after : KnownCpu) → Answer → Type 0
@@ -69,16 +64,16 @@ VisitsRelease tables frame before after other = ⊥
 pub record AllocatesByVisit (tables : BootTables) (path : Bor (List ℕ)) (before after : KnownCpu) (reply : Reply)
     : Type 0 where
   pub seen : KnownCpu
-  pub none : BehindLock tables (λ locked. GetsNoneFast path.now (holder locked before) seen)
+  pub none : BehindLock tables.frames tables.stocks (λ locked. GetsNoneFast path.now (holder locked before) seen)
   pub visited : VisitsCommand tables (cmd.Alloc path 0) seen after reply
 
 -- Alloc of a single frame: the group is found under the lock. Without it the processor gets one of its list, where it
 -- can; else the command is served by a visit of its own, and what lies behind the lock may be another value then
 abbrev pub VisitsFrame : BootTables → (path : Bor (List ℕ)) (before after : KnownCpu) → Answer → Type 0
 VisitsFrame tables path before after (answer.Fast (Got frame)) =
-    BehindLock tables (λ locked. GetsFast path.now (holder locked before) after frame)
+    BehindLock tables.frames tables.stocks (λ locked. GetsFast path.now (holder locked before) after frame)
 VisitsFrame tables path before after (answer.Served reply) =
-    BehindLock tables (λ locked. FindsNoGroup path.now (holder locked before) (holder locked after) reply)
+    BehindLock tables.frames tables.stocks (λ locked. FindsNoGroup path.now (holder locked before) (holder locked after) reply)
     ⊎ AllocatesByVisit tables path before after reply
 VisitsFrame tables path before after other = ⊥
 

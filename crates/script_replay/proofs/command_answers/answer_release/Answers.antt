@@ -1,6 +1,6 @@
 use Rattle.std.proofs.Common.{refl, rules}
 use Rattle.std.specs.String.{string_bytes}
-use Rattle.mem_system.specs.Commands.{holder}
+use Rattle.mem_system.specs.Visits.{holder}
 use Rattle.reply_texts.specs.Answer.{Listed}
 use Rattle.script_replay.specs.Answers.{AnswersRelease, RepliesServed, kills_text, release_kills}
 use Rattle.mem_system.specs.declared.command.Cmd.TheVariants as cmd

@@ -2,7 +2,7 @@ use Rattle.std.proofs.Common.{◌++◌, ap, rules, ◌∙◌}
 use Rattle.std.specs.String.{string_bytes}
 use Rattle.group_charge.specs.Charges.{Ledger}
 use Rattle.mem_system.specs.Outcomes.{reply_of}
-use Rattle.mem_system.specs.Commands.{holder}
+use Rattle.mem_system.specs.Visits.{holder}
 use Rattle.reply_texts.specs.Answer.{Served}
 use Rattle.reply_texts.specs.Replies.{reply_text}
 use Rattle.script_replay.specs.Answers.{RepliesServed, kills_text}
