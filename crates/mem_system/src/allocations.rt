@@ -5,7 +5,7 @@ ghost use Rattle.group_tree.specs.Groups.{has_group};
 ghost use Rattle.mem_machine.specs.Machines.{KeepsVisit};
 ghost use Rattle.mem_machine.specs.Local.{side};
 ghost use Rattle.mem_alloc.specs.declared.faults.AllocFault.TheVariants as cause_is;
-ghost use Rattle.mem_system.specs.Allocs.{Allocates, AllocatesAs, FreshOf, HasFreshFor, outcome_of};
+ghost use Rattle.mem_system.specs.Allocs.{Allocates, AllocatesAs, FreshOf, outcome_of};
 ghost use Rattle.mem_system.specs.Outcomes.{ComesTo, HasItsGroups, reply_of};
 ghost use Rattle.mem_system.specs.Commands.{BySteps, ListAndFreshStayWithin, MayObey};
 ghost use Rattle.mem_system.specs.Visits.{EndsVisit, IsCarriedOutFor, holder};
@@ -49,7 +49,7 @@ fn allocate_as<N: BootName>(
     ensures allocates { BySteps N.frames (side machine.old cpu.old) (side machine.new cpu.new)
         (AllocatesAs sizes group order result) }
     ensures stays { KeepsVisit N.frames (side machine.old cpu.old) (side machine.new cpu.new) }
-    ensures fresh { HasFreshFor order result cpu.new.fresh }
+    ensures fresh { FreshOf (reply_of machine.new.ledger (outcome_of result)) order cpu.new.fresh }
     ensures at_most_high { ListAndFreshStayWithin sizes cpu.old cpu.new }
     ensures there { (g : ℕ) → result ≡ Err (cause_is.Over g) → IsTrue (has_group machine.new.ledger.groups g) }
 {
