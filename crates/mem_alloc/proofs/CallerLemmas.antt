@@ -17,19 +17,24 @@ use Rattle.mem_alloc.proofs.Filling.{refused_lowers}
 use Rattle.mem_machine.specs.Local.{side}
 use Rattle.mem_alloc.specs.Stepping.{course}
 
-over_there : (t : KnownTable) (g pages over : ℕ) (m n : KnownMachine) (steps : Run) → IsRefusedFor g pages (Over over) (course t m steps n) → has_group n.ledger.groups over ≡ true
-over_there t g pages over m n steps h =
-    subst (λ (o : ℕ). has_group n.ledger.groups o ≡ true) (sym h.is_cause.0)
-    (lowered_there t h.cleared n h.over (refused_lowers t g pages h.over h.cleared n h.last h.refused)
-    (in_subtree-above h.cleared.ledger.groups h.over g h.refused.lowest.on_path))
+over_there : (t : KnownTable) (g pages over : ℕ) (m n : KnownMachine) (c d : KnownCpu) (steps : Run)
+    → IsRefusedFor g pages (Over over) (course t (side m c) steps (side n d)) → has_group n.ledger.groups over ≡ true
+over_there t g pages over m n c d steps h =
+    let at = h.does.does.0 in
+    let refused = h.does.does.1 in
+    subst (λ (o : ℕ). has_group n.ledger.groups o ≡ true) (sym refused.room.0)
+    (lowered_there t h.cleared n at (refused_lowers t g pages at (Err (Over over)) h.cleared n h.later refused)
+    (in_subtree-above h.cleared.ledger.groups at g refused.lowest.on_path))
 
 -- after a frame was refused
 pub frame_over_there : (t : KnownTable) (sizes : Config) (g over : ℕ) (m n : KnownMachine) (c d : KnownCpu) (steps : Run)
     → AllocatesFrame sizes g (Err (Over over)) (course t (side m c) steps (side n d)) → has_group n.ledger.groups over ≡ true
 frame_over_there t sizes g over m n c d steps h =
-    over_there t g 1 over h.refuses.emptied n h.refuses.next.later h.refuses.next.next.refuses
+    let anew = h.does.does in
+    let charges = anew.second in
+    over_there t g 1 over anew.between.machine n anew.between.cpu d charges.later charges.does
 
 -- after a block was refused
 pub block_over_there : (t : KnownTable) (g k over : ℕ) (m n : KnownMachine) (c d : KnownCpu) (steps : Run)
     → AllocatesBlock g k (Err (Over over)) (course t (side m c) steps (side n d)) → has_group n.ledger.groups over ≡ true
-block_over_there t g k over m n c d steps h = over_there t g (2 ^ k) over m n steps h.refuses
+block_over_there t g k over m n c d steps h = over_there t g (2 ^ k) over m n c d steps h.does

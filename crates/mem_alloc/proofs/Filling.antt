@@ -2,8 +2,7 @@
 -- `alloc_frame`.
 use Rattle.std.proofs.Common.{◌≡◌, ℕ, zero, suc, ◌+◌, ◌<◌, ◌≤◌, true, false, List, [], ◌∷◌, ◌++◌, length, refl, sym, ap, ◌∙◌, subst, inl, inr}
 use Rattle.std.proofs.Common.{arith, length-append}
-use Rattle.std.specs.Prelude.{Result, Ok, Err, IsErr, IfErr}
-use Rattle.std.proofs.lemmas.Bool.{false≢true}
+use Rattle.std.specs.Prelude.{Result, Ok, Err, IsErr, IfErr, OnOk}
 use Rattle.std.proofs.lemmas.List.{append_assoc, append-nil}
 use Rattle.zone_blocks.specs.Areas.{HasNoneFrom}
 use Rattle.frame_word.specs.Seats.{KnownTable}
@@ -16,7 +15,7 @@ use Rattle.zone_sizes.specs.declared.config.Config.{Config}
 use Rattle.zone_sizes.specs.Config.{IsValidConfig}
 use Rattle.step_rules.specs.After.{Run}
 use Rattle.mem_machine.specs.Machines.{KnownMachine, is_killed}
-use Rattle.mem_machine.specs.Local.{side, MakesAs}
+use Rattle.mem_machine.specs.Local.{Side, side, MakesAs}
 use Rattle.mem_machine.specs.Lending.{LendsMany, Refills}
 use Rattle.mem_machine.specs.Paying.{HoldsPage, PaysForFront}
 use Rattle.mem_machine.specs.Stocks.{Drains, Fills, stock_group}
@@ -24,13 +23,12 @@ use Rattle.mem_machine.specs.Steps.{drain_steps, fill_steps, over_steps, refill_
 use Rattle.mem_machine.proofs.Prepaying.{filled_account, filled_at}
 use Rattle.mem_alloc.specs.declared.faults.AllocFault.{AllocFault}
 use Rattle.mem_alloc.specs.declared.faults.AllocFault.TheVariants.{Over, NoFrames, Killed}
-use Rattle.mem_alloc.specs.Stepping.{BySteps, course}
-use Rattle.mem_alloc.specs.Room.{IsRefusedAt, IsRefusedFor, MakesRoom}
-use Rattle.mem_alloc.specs.Charging.{FillsAfterRoom, RefusesOne, ChargesFrame, RefusesFrame, DrainsOwn, PaysForFrame}
-use Rattle.mem_alloc.specs.Charging.{RefusesToPay}
+use Rattle.mem_alloc.specs.Stepping.{BySteps, Course, OfMachineAlone, Where, course}
+use Rattle.mem_alloc.specs.Room.{AfterRoom, IsRefusedAt, IsRefusedFor, IsRefusedOnce, MakesRoom}
+use Rattle.mem_alloc.specs.Charging.{ChargesAfterDrain, ChargesFrame, ChargesOne, DrainsStock, FillsStock, LacksBatch, PaysForFrame}
 use Rattle.mem_alloc.specs.Rounds.{FailsInRounds}
-use Rattle.mem_alloc.specs.Frames.{FillsList, HasNoFrame, GetsFrame, AllocatesFrame}
-use Rattle.mem_alloc.specs.Frames.{LendsBatch, LendsNoFrame, ReclaimsForList, RefillsInRounds}
+use Rattle.mem_alloc.specs.Frames.{AllocatesFrame, FillsList, HasNoFreeFrame, LendsBatch, LendsNoFrame, RefillsInRounds, RefillsList}
+use Rattle.mem_alloc.proofs.Making.{answer_is}
 use Rattle.mem_alloc.proofs.Lowering.{Lowers, lowers_none, lowers_both, drain_lowers}
 use Rattle.mem_alloc.proofs.Killing.{relieves_lower}
 use Rattle.mem_alloc.proofs.Rounding.{Spares, FailureSpares, InTheEnd, spares_same, fails_spare, in_the_end}
@@ -73,43 +71,58 @@ fills_keep g k m n c d f = record {
   back = ap (λ (e : KnownCpu). e.back) f.cpu;
 }
 
-pub refused_lowers : (t : KnownTable) (g pages over : ℕ) (m n : KnownMachine) (steps : Run) → IsRefusedAt g pages over (course t m steps n) → Lowers t m n
-refused_lowers t g pages over m n steps r = relieves_lower t g over pages m n r.relieving r.relieves
+pub refused_lowers : (t : KnownTable) (g pages over : ℕ) (answer : Result (Unit {0}) AllocFault) (m n : KnownMachine) (steps : Run)
+    → IsRefusedAt g pages over answer (course t m steps n) → Lowers t m n
+refused_lowers t g pages over answer m n steps r = relieves_lower t g over pages m n r.relieving r.relieves
 
 pub makes_lower : (t : KnownTable) (g pages : ℕ) (before : List ℕ) (m n : KnownMachine) (steps : Run) → MakesRoom g pages before (course t m steps n) → Lowers t m n
 makes_lower t g pages [] m n steps h = subst (λ (x : KnownMachine). Lowers t m x) (sym h.machine) (lowers_none t m)
 makes_lower t g pages (over ∷ later) m n steps h =
-    lowers_both t m h.between n (refused_lowers t g pages over m h.between h.earlier h.first.refused)
+    lowers_both t m h.between n (refused_lowers t g pages over (Ok tt) m h.between h.earlier h.first)
     (makes_lower t g pages later h.between n h.later h.second)
 
-pub over_lowers : (t : KnownTable) (g pages : ℕ) (cause : AllocFault) (m n : KnownMachine) (steps : Run) → IsRefusedFor g pages cause (course t m steps n) → Lowers t m n
-over_lowers t g pages cause m n steps h =
-    lowers_both t m h.cleared n (makes_lower t g pages h.refused_at m h.cleared h.making h.makes) (refused_lowers t g pages h.over h.cleared n h.last h.refused)
+-- after room was made, what is kept is what the rest keeps
+after_room_keeps : (t : KnownTable) (g pages : ℕ) (Does : Course Side → Type 0) (m n : KnownMachine) (c d : KnownCpu) (steps : Run)
+    → ((x : KnownMachine) (later : Run) → Does (course t (side x c) later (side n d)) → KeepsPart x c n d)
+    → AfterRoom g pages Does (course t (side m c) steps (side n d)) → KeepsPart m c n d
+after_room_keeps t g pages Does m n c d steps keeps h =
+    keeps_both m h.cleared n c c d (lowers_keep t m h.cleared c c (makes_lower t g pages h.refused_at m h.cleared h.making h.makes) refl)
+    (keeps h.cleared h.later h.does)
 
-after_room_keeps : (t : KnownTable) (g k : ℕ) (m n : KnownMachine) (c d : KnownCpu) (steps : Run) → FillsAfterRoom g k (course t (side m c) steps (side n d)) → KeepsPart m c n d
-after_room_keeps t g k m n c d steps h =
-    keeps_both m h.cleared n c c d (lowers_keep t m h.cleared c c (makes_lower t g k h.refused_at m h.cleared h.making h.makes) refl)
-    (fills_keep g k h.cleared n c d h.fills)
+refusal_keeps : (t : KnownTable) (g pages : ℕ) (cause : AllocFault) (m n : KnownMachine) (c d : KnownCpu) (steps : Run)
+    → IsRefusedFor g pages cause (course t (side m c) steps (side n d)) → KeepsPart m c n d
+refusal_keeps t g pages cause m n c d steps h =
+    after_room_keeps t g pages (OfMachineAlone (IsRefusedOnce g pages cause)) m n c d steps
+    (λ x later r. lowers_keep t x n c d (refused_lowers t g pages r.does.0 (Err cause) x n later r.does.1) r.cpu) h
 
-charges_keep : (t : KnownTable) (sizes : Config) (g : ℕ) (m n : KnownMachine) (c d : KnownCpu) (steps : Run)
-    → ChargesFrame sizes g (course t (side m c) steps (side n d)) → KeepsPart m c n d
-charges_keep t sizes g m n c d steps (inl h) = fills_keep g sizes.stock m n c d h.fills
-charges_keep t sizes g m n c d steps (inr h) = after_room_keeps t g 1 m n c d h.later h.next
+one_keeps : (t : KnownTable) (g : ℕ) (r : Result (Unit {0}) AllocFault) (m n : KnownMachine) (c d : KnownCpu) (steps : Run)
+    → ChargesOne g r (course t (side m c) steps (side n d)) → KeepsPart m c n d
+one_keeps t g (Ok v) m n c d steps h =
+    after_room_keeps t g 1 (FillsStock g 1) m n c d steps (λ x later f. fills_keep g 1 x n c d f.fills) h
+one_keeps t g (Err e) m n c d steps h = refusal_keeps t g 1 e m n c d steps h
 
-pub pays_keep : (t : KnownTable) (sizes : Config) (g : ℕ) (m n : KnownMachine) (c d : KnownCpu) (steps : Run)
-    → PaysForFrame sizes g (course t (side m c) steps (side n d)) → KeepsPart m c n d
-pays_keep t sizes g m n c d steps (inl h) =
-    lowers_keep t m n c d (subst (λ (x : KnownMachine). Lowers t m x) (sym h.machine) (lowers_none t m)) h.cpu
-pays_keep t sizes g m n c d steps (inr h) =
-    keeps_both m h.emptied n c c d (lowers_keep t m h.emptied c c (drain_lowers t m h.emptied c.number h.drains.drained h.drains.drains) refl)
-    (charges_keep t sizes g h.emptied n c d h.later h.next)
+charges_keep : (t : KnownTable) (sizes : Config) (g : ℕ) (r : Result (Unit {0}) AllocFault) (m n : KnownMachine) (c d : KnownCpu) (steps : Run)
+    → ChargesFrame sizes g r (course t (side m c) steps (side n d)) → KeepsPart m c n d
+charges_keep t sizes g (Ok v) m n c d steps (inl h) = fills_keep g sizes.stock m n c d h.fills
+charges_keep t sizes g (Ok v) m n c d steps (inr h) = one_keeps t g (Ok v) m n c d h.later h.does
+charges_keep t sizes g (Err e) m n c d steps h = one_keeps t g (Err e) m n c d h.later h.does
 
-pub refuses_keep : (t : KnownTable) (sizes : Config) (g : ℕ) (cause : AllocFault) (m n : KnownMachine) (c d : KnownCpu) (steps : Run)
-    → RefusesToPay sizes g cause (course t (side m c) steps (side n d)) → KeepsPart m c n d
-refuses_keep t sizes g cause m n c d steps h =
-    let over = h.next.next in
-    keeps_both m h.emptied n c c d (lowers_keep t m h.emptied c c (drain_lowers t m h.emptied c.number h.drains.drained h.drains.drains) refl)
-    (lowers_keep t h.emptied n c d (over_lowers t g 1 cause h.emptied n h.next.later over.refuses) over.cpu)
+own_drain_keeps : (t : KnownTable) (m n : KnownMachine) (c d : KnownCpu) (steps : Run) → DrainsStock (course t (side m c) steps (side n d)) → KeepsPart m c n d
+own_drain_keeps t m n c d steps h = lowers_keep t m n c d (drain_lowers t m n c.number h.drained h.drains) h.cpu
+
+drain_charges_keep : (t : KnownTable) (sizes : Config) (g : ℕ) (r : Result (Unit {0}) AllocFault) (m n : KnownMachine) (c d : KnownCpu) (steps : Run)
+    → ChargesAfterDrain sizes g r (course t (side m c) steps (side n d)) → KeepsPart m c n d
+drain_charges_keep t sizes g r m n c d steps h =
+    let x = h.does.between in
+    keeps_both m x.machine n c x.cpu d (own_drain_keeps t m x.machine c x.cpu h.does.earlier h.does.first)
+    (charges_keep t sizes g r x.machine n x.cpu d h.does.later h.does.second)
+
+pub pays_keep : (t : KnownTable) (sizes : Config) (g : ℕ) (r : Result (Unit {0}) AllocFault) (m n : KnownMachine) (c d : KnownCpu) (steps : Run)
+    → PaysForFrame sizes g r (course t (side m c) steps (side n d)) → KeepsPart m c n d
+pays_keep t sizes g (Ok v) m n c d steps (inl h) =
+    lowers_keep t m n c d (subst (λ (x : KnownMachine). Lowers t m x) (sym h.does.machine) (lowers_none t m)) h.does.cpu
+pays_keep t sizes g (Ok v) m n c d steps (inr h) = drain_charges_keep t sizes g (Ok v) m n c d steps h
+pays_keep t sizes g (Err e) m n c d steps h = drain_charges_keep t sizes g (Err e) m n c d steps h
 
 -- ---- the stock holds a page
 
@@ -121,16 +134,12 @@ filled_page g k m n c d f some none =
     let fresh : length d.fresh ≡ 0 = ap (λ (e : KnownCpu). length e.fresh) f.cpu ∙ ap length none in
     record { group = ap (λ (a : Account). a.group) at; held = ap (λ (a : Account). a.filled) at; some = omega (arith, book, fresh, some) }
 
-pub charged_page : (t : KnownTable) (sizes : Config) (g : ℕ) (m n : KnownMachine) (c d : KnownCpu) (steps : Run) → IsValidConfig sizes
-    → ChargesFrame sizes g (course t (side m c) steps (side n d)) → c.fresh ≡ [] → HoldsPage (side n d) g
-charged_page t sizes g m n c d steps valid (inl h) none = filled_page g sizes.stock m n c d h.fills valid.stock_low none
-charged_page t sizes g m n c d steps valid (inr h) none = filled_page g 1 h.next.cleared n c d h.next.fills (omega arith) none
-
-pub paid_page : (t : KnownTable) (sizes : Config) (g : ℕ) (m n : KnownMachine) (c d : KnownCpu) (steps : Run) → IsValidConfig sizes
-    → PaysForFrame sizes g (course t (side m c) steps (side n d)) → c.fresh ≡ [] → HoldsPage (side n d) g
-paid_page t sizes g m n c d steps valid (inl h) none =
-    subst (λ (x : KnownMachine × KnownCpu). HoldsPage (side x.0 x.1) g) (λ i. (sym h.machine i, sym h.cpu i)) h.page
-paid_page t sizes g m n c d steps valid (inr h) none = charged_page t sizes g h.emptied n c d h.later valid h.next none
+pub charged_page : (t : KnownTable) (sizes : Config) (g : ℕ) (r : Result (Unit {0}) AllocFault) (m n : KnownMachine) (c d : KnownCpu) (steps : Run)
+    → IsValidConfig sizes → ChargesFrame sizes g r (course t (side m c) steps (side n d)) → c.fresh ≡ [] → OnOk r (HoldsPage (side n d) g)
+charged_page t sizes g (Ok v) m n c d steps valid (inl h) none = filled_page g sizes.stock m n c d h.fills valid.stock_low none
+charged_page t sizes g (Ok v) m n c d steps valid (inr h) none =
+    filled_page g 1 h.does.cleared n c d h.does.does.fills (omega arith) none
+charged_page t sizes g (Err e) m n c d steps valid h none = tt
 
 -- ---- frames that are lent
 
@@ -180,79 +189,77 @@ lent_page frames g m n c d lends page =
 
 -- the batch fits
 pub batch_fits : (t : KnownTable) (sizes : Config) (g : ℕ) (m n : KnownMachine) (c d : KnownCpu) → Fills g sizes.stock (side m c) (side n d)
-    → MakesAs t c.number (side m c) (fill_steps c.number g sizes.stock) (side n d) → BySteps t (side m c) (side n d) (ChargesFrame sizes g)
+    → MakesAs t c.number (side m c) (fill_steps c.number g sizes.stock) (side n d) → BySteps t (side m c) (side n d) (ChargesFrame sizes g (Ok tt))
 batch_fits t sizes g m n c d fills steps = (fill_steps c.number g sizes.stock, inl (record { fills = fills; steps_are = refl }), steps)
 
 -- the batch doesn't fit, and then one page is charged, or is refused
 module _ (t : KnownTable) (sizes : Config) (g over : ℕ) (m x n : KnownMachine) (c y d : KnownCpu) (stays : x ≡ m) (its : y ≡ c)
     (lowest : IsLowestOver m.ledger.groups (current_of m.ledger) g sizes.stock over)
     (refused : MakesAs t c.number (side m c) (over_steps g sizes.stock over) (side m c)) where
-  pub one_fits : BySteps t (side x y) (side n d) (FillsAfterRoom g 1) → BySteps t (side m c) (side n d) (ChargesFrame sizes g)
-  one_fits b =
-      let here = subst (λ (z : KnownMachine × KnownCpu). BySteps t (side z.0 z.1) (side n d) (FillsAfterRoom g 1)) (λ i. (stays i, its i)) b in (
+  lacks : (r : Result (Unit {0}) AllocFault) → BySteps t (side x y) (side n d) (ChargesOne g r)
+      → BySteps t (side m c) (side n d) (LacksBatch sizes g (ChargesOne g r))
+  lacks r b =
+      let here = subst (λ (z : KnownMachine × KnownCpu). BySteps t (side z.0 z.1) (side n d) (ChargesOne g r)) (λ i. (stays i, its i)) b in (
         over_steps g sizes.stock over ++ here.0,
-        inr (record { over = over; batch = lowest; later = here.0; next = here.1; steps_are = refl }),
+        record { over = over; batch = lowest; later = here.0; does = here.1; steps_are = refl },
         makes_both t c.number (over_steps g sizes.stock over) here.0 (side m c) (side m c) (side n d) refused here.2,
       )
 
-  pub none_fits : (cause : AllocFault) → BySteps t (side x y) (side n d) (RefusesOne g cause)
-      → BySteps t (side m c) (side n d) (RefusesFrame sizes g cause)
-  none_fits cause b =
-      let here = subst (λ (z : KnownMachine × KnownCpu). BySteps t (side z.0 z.1) (side n d) (RefusesOne g cause)) (λ i. (stays i, its i)) b in (
-        over_steps g sizes.stock over ++ here.0,
-        record { over = over; batch = lowest; later = here.0; next = here.1; steps_are = refl },
-        makes_both t c.number (over_steps g sizes.stock over) here.0 (side m c) (side m c) (side n d) refused here.2,
-      )
+  pub one_charged : (r : Result (Unit {0}) AllocFault) → BySteps t (side x y) (side n d) (ChargesOne g r)
+      → BySteps t (side m c) (side n d) (ChargesFrame sizes g r)
+  one_charged (Ok v) b = let l = lacks (Ok v) b in (l.0, inr l.1, l.2)
+  one_charged (Err e) b = lacks (Err e) b
 
 -- the own stock is drained first
-module _ (t : KnownTable) (sizes : Config) (g pages q : ℕ) (m k x n : KnownMachine) (c e d : KnownCpu) (same : k ≡ m) (mine : e ≡ c) (named : q ≡ e.number)
-    (lacks : ¬ HoldsPage (side m c) g) (drains : Drains q pages k x) (draining : (h : KnownCpu) → MakesAs t h.number (side k h)
+module _ (t : KnownTable) (pages q : ℕ) (m k x : KnownMachine) (c e : KnownCpu) (same : k ≡ m) (mine : e ≡ c) (named : q ≡ e.number)
+    (drains : Drains q pages k x) (draining : (h : KnownCpu) → MakesAs t h.number (side k h)
     (drain_steps q (stock_group k q) pages) (side x h)) where
   number_is : q ≡ c.number
   number_is = named ∙ ap (λ (h : KnownCpu). h.number) mine
 
-  drained : Drains c.number pages m x
-  drained = subst (λ (z : KnownMachine × ℕ). Drains z.1 pages z.0 x) (λ i. (same i, number_is i)) drains
+  abbrev own_steps : Run
+  own_steps = drain_steps c.number (stock_group m c.number) pages
 
-  drained_own : DrainsOwn g (side m c) (drain_steps c.number (stock_group m c.number) pages) x
-  drained_own = record { lacks = lacks; drained = pages; drains = drained; steps_are = refl }
-
-  by_drain : MakesAs t c.number (side m c) (drain_steps c.number (stock_group m c.number) pages) (side x c)
+  by_drain : MakesAs t c.number (side m c) own_steps (side x c)
   by_drain = subst (λ (z : KnownMachine × ℕ). MakesAs t c.number (side z.0 c) (drain_steps z.1 (stock_group z.0 z.1) pages) (side x c))
       (λ i. (same i, number_is i)) (draining c)
 
-  pub pays_anew : BySteps t (side x e) (side n d) (ChargesFrame sizes g) → BySteps t (side m c) (side n d) (PaysForFrame sizes g)
-  pays_anew b =
-      let here = subst (λ (z : KnownCpu). BySteps t (side x z) (side n d) (ChargesFrame sizes g)) mine b in (
-        drain_steps c.number (stock_group m c.number) pages ++ here.0,
-        inr (record {
-          emptied = x;
-          first = drain_steps c.number (stock_group m c.number) pages;
-          later = here.0;
-          drains = drained_own;
-          empties = by_drain;
-          next = here.1;
-          steps_are = refl;
-        }),
-        makes_both t c.number (drain_steps c.number (stock_group m c.number) pages) here.0 (side m c) (side x c) (side n d) by_drain here.2,
-      )
+  drains_own : DrainsStock (course t (side m c) own_steps (side x c))
+  drains_own = record {
+    drained = pages;
+    drains = subst (λ (z : KnownMachine × ℕ). Drains z.1 pages z.0 x) (λ i. (same i, number_is i)) drains;
+    cpu = refl;
+    runs = by_drain;
+    steps_are = refl;
+  }
 
-  pub refuses_anew : (cause : AllocFault) → BySteps t (side x e) (side n d) (RefusesFrame sizes g cause)
-      → BySteps t (side m c) (side n d) (RefusesToPay sizes g cause)
-  refuses_anew cause b =
-      let here = subst (λ (z : KnownCpu). BySteps t (side x z) (side n d) (RefusesFrame sizes g cause)) mine b in (
-        drain_steps c.number (stock_group m c.number) pages ++ here.0,
-        record {
-          emptied = x;
-          first = drain_steps c.number (stock_group m c.number) pages;
-          later = here.0;
-          drains = drained_own;
-          empties = by_drain;
-          next = here.1;
-          steps_are = refl;
-        },
-        makes_both t c.number (drain_steps c.number (stock_group m c.number) pages) here.0 (side m c) (side x c) (side n d) by_drain here.2,
-      )
+  pub drained_own : BySteps t (side m c) (side x c) DrainsStock
+  drained_own = (own_steps, drains_own, by_drain)
+
+  module _ (sizes : Config) (g : ℕ) (n : KnownMachine) (d : KnownCpu) (lacks : ¬ HoldsPage (side m c) g) where
+    charges_anew : (r : Result (Unit {0}) AllocFault) → BySteps t (side x e) (side n d) (ChargesFrame sizes g r)
+        → BySteps t (side m c) (side n d) (ChargesAfterDrain sizes g r)
+    charges_anew r b =
+        let here = subst (λ (z : KnownCpu). BySteps t (side x z) (side n d) (ChargesFrame sizes g r)) mine b in (
+          own_steps ++ here.0,
+          record {
+            is = lacks;
+            does = record {
+              between = side x c;
+              earlier = own_steps;
+              later = here.0;
+              first = drains_own;
+              second = here.1;
+              steps_are = refl;
+            };
+          },
+          makes_both t c.number own_steps here.0 (side m c) (side x c) (side n d) by_drain here.2,
+        )
+
+    pub pays_anew : (r : Result (Unit {0}) AllocFault) → BySteps t (side x e) (side n d) (ChargesFrame sizes g r)
+        → BySteps t (side m c) (side n d) (PaysForFrame sizes g r)
+    pays_anew (Ok v) b = let h = charges_anew (Ok v) b in (h.0, inr h.1, h.2)
+    pays_anew (Err cause) b = charges_anew (Err cause) b
 
 -- ---- the list
 
@@ -275,7 +282,7 @@ lent_none t count batch m n c d refills few fewer some =
     let same = none_lent refills.frames m n c d none refills.lends in
     let free : HasNoneFrom m.blocks 0 = subst (λ (x : KnownMachine). HasNoneFrom x.blocks 0) same.0 (fewer (omega (arith, few, some))) in (
       [],
-      record { none = free; stays = record { machine = same.0; cpu = same.1; steps_are = refl } },
+      record { is = free; does = record { machine = same.0; cpu = same.1; steps_are = refl } },
       no_steps t refills.frames m n c d none refills.steps,
     )
 
@@ -297,67 +304,72 @@ lent_batch t count batch m n c d refills many low fewer =
 -- ---- rounds of reclaim for the list
 
 pub no_frame_spares : (t : KnownTable) → FailureSpares t LendsNoFrame
-no_frame_spares t m n c d steps h = spares_same t m n c d h.stays.machine h.stays.cpu
+no_frame_spares t m n c d steps h = spares_same t m n c d h.does.machine h.does.cpu
 
 none_after : (t : KnownTable) (rounds : ℕ) (m n : KnownMachine) (c d : KnownCpu) (steps : Run) → HasNoneFrom m.blocks 0
     → FailsInRounds rounds 1 LendsNoFrame (course t (side m c) steps (side n d)) → HasNoneFrom n.blocks 0
 none_after t zero m n c d steps none h = subst (λ (x : KnownMachine). HasNoneFrom x.blocks 0) (sym h.machine) none
 none_after t (suc more) m n c d steps none (inl h) =
-    subst (λ (x : KnownMachine). HasNoneFrom x.blocks 0) (sym h.tries.stays.machine) h.tries.none
+    subst (λ (x : KnownMachine). HasNoneFrom x.blocks 0) (sym h.tries.does.machine) h.tries.is
 none_after t (suc more) m n c d steps none (inr h) =
     let tries = h.first.round.tries in
     let here : HasNoneFrom h.between.machine.blocks 0 =
-    subst (λ (x : KnownMachine). HasNoneFrom x.blocks 0) (sym tries.stays.machine) tries.none in
+    subst (λ (x : KnownMachine). HasNoneFrom x.blocks 0) (sym tries.does.machine) tries.is in
     none_after t more h.between.machine n h.between.cpu d h.later here h.second
 
 -- no frame is free, also after rounds of reclaim, and the stock is drained
 module _ (t : KnownTable) (sizes : Config) (m k x n : KnownMachine) (c e y : KnownCpu) (empty : c.list ≡ [])
     (first : BySteps t (side m c) (side k e) LendsNoFrame) where
   from_first : (P : KnownMachine → KnownCpu → Type 0) → P k e → P m c
-  from_first P p = subst (λ (z : KnownMachine × KnownCpu). P z.0 z.1) (λ i. (first.1.stays.machine i, first.1.stays.cpu i)) p
+  from_first P p = subst (λ (z : KnownMachine × KnownCpu). P z.0 z.1) (λ i. (first.1.does.machine i, first.1.does.cpu i)) p
 
   pub no_frame : (pages q : ℕ) → BySteps t (side k e) (side x y) (RefillsInRounds sizes.batch false) → q ≡ y.number → Drains q pages x n
       → ((h : KnownCpu) → MakesAs t h.number (side x h) (drain_steps q (stock_group x q) pages) (side n h))
-      → BySteps t (side m c) (side n y) (HasNoFrame NoFrames)
+      → BySteps t (side m c) (side n y) (FillsList sizes (Err NoFrames))
   no_frame pages q rounds named drains steps =
       let there = from_first (λ u v. BySteps t (side u v) (side x y) (RefillsInRounds sizes.batch false)) rounds in
       let cpu : y ≡ c = (fails_spare t 1 LendsNoFrame (no_frame_spares t) 16 m x c y there.0 there.1).cpu in
-      let here = subst (λ (z : KnownCpu). BySteps t (side m c) (side x z) (RefillsInRounds sizes.batch false)) cpu there in
-      let number : q ≡ c.number = named ∙ ap (λ (h : KnownCpu). h.number) cpu in
-      let last : MakesAs t c.number (side x c) (drain_steps c.number (stock_group x c.number) pages) (side n c) =
-      subst (λ (p : ℕ). MakesAs t c.number (side x c) (drain_steps p (stock_group x p) pages) (side n c)) number (steps c) in
-      subst (λ (z : KnownCpu). BySteps t (side m c) (side n z) (HasNoFrame NoFrames)) (sym cpu) (
-        here.0 ++ drain_steps c.number (stock_group x c.number) pages,
+      let last = drained_own t pages q x x n y y refl refl named drains steps in
+      let number = ap (λ (h : KnownCpu). h.number) cpu in (
+        there.0 ++ last.0,
         record {
-          named = refl;
-          empty = empty;
-          none = first.1.none;
-          reclaimed = x;
-          reclaiming = here.0;
-          rounds = here.1;
-          none_still = none_after t 16 m x c c here.0 first.1.none here.1;
-          drained = pages;
-          drains = subst (λ (p : ℕ). Drains p pages x n) number drains;
-          cpu = refl;
-          steps_are = refl;
+          is = empty;
+          does = record {
+            is = first.1.is;
+            does = record {
+              between = side x y;
+              earlier = there.0;
+              later = last.0;
+              first = there.1;
+              second = record { is = none_after t 16 m x c y there.0 first.1.is there.1; does = last.1 };
+              steps_are = refl;
+            };
+          };
         },
-        makes_both t c.number here.0 (drain_steps c.number (stock_group x c.number) pages) (side m c) (side x c) (side n c) here.2 last,
+        makes_both t c.number there.0 last.0 (side m c) (side x y) (side n y) there.2
+            (subst (λ (p : ℕ). MakesAs t p (side x y) last.0 (side n y)) number last.2),
       )
 
   -- or free frames come to the list after rounds
-  pub reclaims_for : BySteps t (side k e) (side x y) (RefillsInRounds sizes.batch true) → BySteps t (side m c) (side x y) (ReclaimsForList sizes)
+  pub reclaims_for : BySteps t (side k e) (side x y) (RefillsInRounds sizes.batch true)
+      → BySteps t (side m c) (side x y) (Where HasNoFreeFrame (RefillsInRounds sizes.batch true))
   reclaims_for rounds =
       let here = from_first (λ u v. BySteps t (side u v) (side x y) (RefillsInRounds sizes.batch true)) rounds in (
         here.0,
-        record { empty = empty; none = first.1.none; rounds = here.1 },
+        record { is = first.1.is; does = here.1 },
         here.2,
       )
 
-pub no_frame_keeps : (t : KnownTable) (cause : AllocFault) (m n : KnownMachine) (c d : KnownCpu) (steps : Run)
-    → HasNoFrame cause (course t (side m c) steps (side n d)) → KeepsPart m c n d
-no_frame_keeps t cause m n c d steps h =
-    let rounds = fails_spare t 1 LendsNoFrame (no_frame_spares t) 16 m h.reclaimed c c h.reclaiming h.rounds in
-    lowers_keep t m n c d (lowers_both t m h.reclaimed n rounds.lowers (drain_lowers t h.reclaimed n c.number h.drained h.drains)) h.cpu
+pub no_frame_keeps : (t : KnownTable) (sizes : Config) (cause : AllocFault) (m n : KnownMachine) (c d : KnownCpu) (steps : Run)
+    → FillsList sizes (Err cause) (course t (side m c) steps (side n d)) → KeepsPart m c n d
+no_frame_keeps t sizes (Over over) m n c d steps h = absurd h
+no_frame_keeps t sizes Killed m n c d steps h = absurd h
+no_frame_keeps t sizes NoFrames m n c d steps h =
+    let all = h.does.does in
+    let x = all.between in
+    let rounds = fails_spare t 1 LendsNoFrame (no_frame_spares t) 16 m x.machine c x.cpu all.earlier all.first in
+    keeps_both m x.machine n c x.cpu d (lowers_keep t m x.machine c x.cpu rounds.lowers rounds.cpu)
+    (own_drain_keeps t x.machine n x.cpu d all.later all.second.does)
 
 -- a reclaim leaves the stock's page
 spared_page : (t : KnownTable) (g : ℕ) (m n : KnownMachine) (c d : KnownCpu) → Spares t m c n d → HoldsPage (side m c) g → HoldsPage (side n d) g
@@ -373,9 +385,9 @@ spared_page t g m n c d s page =
     }
 
 module _ (t : KnownTable) (sizes : Config) (m n : KnownMachine) (c d : KnownCpu) (steps : Run)
-    (h : ReclaimsForList sizes (course t (side m c) steps (side n d))) where
+    (h : Where HasNoFreeFrame (RefillsInRounds sizes.batch true) (course t (side m c) steps (side n d))) where
   abbrev last : InTheEnd t 1 LendsNoFrame (no_frame_spares t) (LendsBatch sizes.batch) m c (side n d)
-  last = in_the_end t 1 LendsNoFrame (no_frame_spares t) (LendsBatch sizes.batch) 16 m c (side n d) steps h.rounds
+  last = in_the_end t 1 LendsNoFrame (no_frame_spares t) (LendsBatch sizes.batch) 16 m c (side n d) steps h.does
 
   pub reclaimed_page : (g : ℕ) → HoldsPage (side m c) g → HoldsPage (side n d) g
   reclaimed_page g page =
@@ -414,20 +426,13 @@ batch_part t sizes m n c d steps valid empty h =
           omega (arith, a, b, e, v);
     }
 
-pub filled_part : (t : KnownTable) (sizes : Config) (m n : KnownMachine) (c d : KnownCpu) (steps : Run) → IsValidConfig sizes → FillsList sizes (course t (side m c) steps (side n d))
-    → FilledPart sizes m c n d
-filled_part t sizes m n c d steps valid (inl h) = record {
-  opened = ap (λ (y : KnownMachine). y.seat.view.opened) h.stays.machine;
-  number = ap (λ (e : KnownCpu). e.number) h.stays.cpu;
-  fresh = ap (λ (e : KnownCpu). e.fresh) h.stays.cpu;
-  back = ap (λ (e : KnownCpu). e.back) h.stays.cpu;
-  high = λ low. let a : length d.list ≡ length c.list = ap (λ (e : KnownCpu). length e.list) h.stays.cpu in omega (arith, a, low);
-}
-filled_part t sizes m n c d steps valid (inr (inl h)) = batch_part t sizes m n c d steps valid h.empty h.lends
-filled_part t sizes m n c d steps valid (inr (inr h)) =
-    let e = in_the_end t 1 LendsNoFrame (no_frame_spares t) (LendsBatch sizes.batch) 16 m c (side n d) steps h.rounds in
+refilled_part : (t : KnownTable) (sizes : Config) (m n : KnownMachine) (c d : KnownCpu) (steps : Run) → IsValidConfig sizes → c.list ≡ []
+    → RefillsList sizes.batch (course t (side m c) steps (side n d)) → FilledPart sizes m c n d
+refilled_part t sizes m n c d steps valid empty (inl h) = batch_part t sizes m n c d steps valid empty h
+refilled_part t sizes m n c d steps valid empty (inr h) =
+    let e = in_the_end t 1 LendsNoFrame (no_frame_spares t) (LendsBatch sizes.batch) 16 m c (side n d) steps h.does in
     let cpu = e.spares.cpu in
-    let b = batch_part t sizes e.before n e.cpu d e.trying valid (ap (λ (y : KnownCpu). y.list) cpu ∙ h.empty) e.succeeds in
+    let b = batch_part t sizes e.before n e.cpu d e.trying valid (ap (λ (y : KnownCpu). y.list) cpu ∙ empty) e.succeeds in
     record {
       opened = b.opened ∙ e.spares.lowers.opened;
       number = b.number ∙ ap (λ (y : KnownCpu). y.number) cpu;
@@ -436,50 +441,61 @@ filled_part t sizes m n c d steps valid (inr (inr h)) =
       high = λ low. let a : length e.cpu.list ≡ length c.list = ap (λ (y : KnownCpu). length y.list) cpu in b.high (omega (arith, a, low));
     }
 
--- ---- the whole allocation
+pub filled_part : (t : KnownTable) (sizes : Config) (m n : KnownMachine) (c d : KnownCpu) (steps : Run) → IsValidConfig sizes → FillsList sizes (Ok tt) (course t (side m c) steps (side n d))
+    → FilledPart sizes m c n d
+filled_part t sizes m n c d steps valid (inl h) = record {
+  opened = ap (λ (y : KnownMachine). y.seat.view.opened) h.does.machine;
+  number = ap (λ (e : KnownCpu). e.number) h.does.cpu;
+  fresh = ap (λ (e : KnownCpu). e.fresh) h.does.cpu;
+  back = ap (λ (e : KnownCpu). e.back) h.does.cpu;
+  high = λ low. let a : length d.list ≡ length c.list = ap (λ (e : KnownCpu). length e.list) h.does.cpu in omega (arith, a, low);
+}
+filled_part t sizes m n c d steps valid (inr h) = refilled_part t sizes m n c d steps valid h.is h.does
 
--- the answer is a refusal of this cause
-answer_is : (r : Result ℕ AllocFault) (x : AllocFault) → IsErr r → IfErr r (λ e. e ≡ x) → r ≡ Err x
-answer_is (Ok f) x not is = absurd (false≢true not)
-answer_is (Err e) x not is = ap (λ (z : AllocFault). Err z) is
+-- ---- the whole allocation
 
 module _ (t : KnownTable) (sizes : Config) (g : ℕ) (m : KnownMachine) (c : KnownCpu) (alive : is_killed m.killed g ≡ false) where
   -- a charge is refused for good
-  refused_for : (x : AllocFault) (n : KnownMachine) (d : KnownCpu) → BySteps t (side m c) (side n d) (RefusesToPay sizes g x)
+  refused_for : (x : AllocFault) (n : KnownMachine) (d : KnownCpu) → BySteps t (side m c) (side n d) (PaysForFrame sizes g (Err x))
       → BySteps t (side m c) (side n d) (AllocatesFrame sizes g (Err x))
-  refused_for (Over over) n d b = (b.0, record { alive = alive; refuses = b.1 }, b.2)
-  refused_for NoFrames n d b = absurd b.1.next.next.refuses.is_cause
-  refused_for Killed n d b = (b.0, inr (record { alive = alive; refuses = b.1 }), b.2)
+  refused_for (Over over) n d b = (b.0, record { is = alive; does = b.1 }, b.2)
+  refused_for NoFrames n d b = absurd b.1.does.second.does.does.does.1.room
+  refused_for Killed n d b = (b.0, inr (record { is = alive; does = b.1 }), b.2)
 
   pub not_paid : (r : Result ℕ AllocFault) (x : AllocFault) (n : KnownMachine) (d : KnownCpu) → IsErr r → IfErr r (λ e. e ≡ x)
-      → BySteps t (side m c) (side n d) (RefusesToPay sizes g x) → BySteps t (side m c) (side n d) (AllocatesFrame sizes g r)
+      → BySteps t (side m c) (side n d) (PaysForFrame sizes g (Err x)) → BySteps t (side m c) (side n d) (AllocatesFrame sizes g r)
   not_paid r x n d not is b =
       subst (λ (z : Result ℕ AllocFault). BySteps t (side m c) (side n d) (AllocatesFrame sizes g z))
       (sym (answer_is r x not is))
       (refused_for x n d b)
 
-  module _ (k : KnownMachine) (y : KnownCpu) (number : y.number ≡ c.number) (pays : BySteps t (side m c) (side k y) (PaysForFrame sizes g)) where
+  module _ (k : KnownMachine) (y : KnownCpu) (number : y.number ≡ c.number) (pays : BySteps t (side m c) (side k y) (PaysForFrame sizes g (Ok tt))) where
     -- no frame is free
-    none_found : (n : KnownMachine) (d : KnownCpu) → BySteps t (side k y) (side n d) (HasNoFrame NoFrames)
-        → BySteps t (side m c) (side n d) (AllocatesFrame sizes g (Err NoFrames))
-    none_found n d b = (
+    none_found : (x : AllocFault) (n : KnownMachine) (d : KnownCpu) → BySteps t (side k y) (side n d) (FillsList sizes (Err x))
+        → BySteps t (side m c) (side n d) (AllocatesFrame sizes g (Err x))
+    none_found (Over over) n d b = absurd b.1
+    none_found Killed n d b = absurd b.1
+    none_found NoFrames n d b = (
       pays.0 ++ b.0,
-      record { paid = side k y; paying = pays.0; draining = b.0; alive = alive; pays = pays.1; none = b.1; steps_are = refl },
+      record {
+        is = alive;
+        does = record { between = side k y; earlier = pays.0; later = b.0; first = pays.1; second = b.1; steps_are = refl };
+      },
       makes_both t c.number pays.0 b.0 (side m c) (side k y) (side n d) pays.2
           (subst (λ (p : ℕ). MakesAs t p (side k y) b.0 (side n d)) number b.2),
     )
 
     pub not_found : (r : Result ℕ AllocFault) (x : AllocFault) (n : KnownMachine) (d : KnownCpu) → IsErr r → IfErr r (λ e. e ≡ x)
-        → BySteps t (side k y) (side n d) (HasNoFrame x) → BySteps t (side m c) (side n d) (AllocatesFrame sizes g r)
+        → BySteps t (side k y) (side n d) (FillsList sizes (Err x)) → BySteps t (side m c) (side n d) (AllocatesFrame sizes g r)
     not_found r x n d not is b =
         subst (λ (z : Result ℕ AllocFault). BySteps t (side m c) (side n d) (AllocatesFrame sizes g z))
-        (sym (answer_is r x not is ∙ ap (λ (e : AllocFault). Err e) b.1.named))
-        (none_found n d (subst (λ (e : AllocFault). BySteps t (side k y) (side n d) (HasNoFrame e)) b.1.named b))
+        (sym (answer_is r x not is))
+        (none_found x n d b)
 
     -- the front of the list is paid for
-    pub gets_frame : (f : ℕ) (l n : KnownMachine) (z d : KnownCpu) → z.number ≡ y.number → BySteps t (side k y) (side l z) (FillsList sizes)
+    pub gets_frame : (f : ℕ) (l n : KnownMachine) (z d : KnownCpu) → z.number ≡ y.number → BySteps t (side k y) (side l z) (FillsList sizes (Ok tt))
         → PaysForFront g f (side l z) (side n d) → MakesAs t z.number (side l z) (take_front_steps z.number g) (side n d)
-        → BySteps t (side m c) (side n d) (GetsFrame sizes g f)
+        → BySteps t (side m c) (side n d) (AllocatesFrame sizes g (Ok f))
     gets_frame f l n z d named fills takes steps =
         let last : MakesAs t c.number (side l z) (take_front_steps c.number g) (side n d) =
         subst (λ (p : ℕ). MakesAs t p (side l z) (take_front_steps p g) (side n d)) (named ∙ number) steps in
@@ -487,15 +503,17 @@ module _ (t : KnownTable) (sizes : Config) (g : ℕ) (m : KnownMachine) (c : Kno
         subst (λ (p : ℕ). MakesAs t p (side k y) fills.0 (side l z)) number fills.2 in (
           pays.0 ++ (fills.0 ++ take_front_steps c.number g),
           record {
-            paid = side k y;
-            filled = side l z;
-            paying = pays.0;
-            filling = fills.0;
-            alive = alive;
-            pays = pays.1;
-            fills = fills.1;
-            takes = takes;
-            steps_are = refl;
+            is = alive;
+            does = record {
+              paid = side k y;
+              filled = side l z;
+              paying = pays.0;
+              filling = fills.0;
+              pays = pays.1;
+              fills = fills.1;
+              takes = takes;
+              steps_are = refl;
+            };
           },
           makes_both t c.number pays.0 (fills.0 ++ take_front_steps c.number g) (side m c) (side k y) (side n d) pays.2
               (makes_both t c.number fills.0 (take_front_steps c.number g) (side k y) (side l z) (side n d) next last),

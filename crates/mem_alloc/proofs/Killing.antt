@@ -1,5 +1,5 @@
 -- What kills keep, and kills one after the other. Serves `kill_for`, `make_room`, and those who call them.
-use Rattle.std.proofs.Common.{◌≡◌, ℕ, zero, suc, ◌+◌, ◌<◌, ◌≤◌, Bool, true, false, Option, Some, None, List, [], ◌∷◌, ◌++◌, map, refl, sym, ap, ◌∙◌}
+use Rattle.std.proofs.Common.{◌≡◌, ℕ, zero, suc, ◌<◌, ◌≤◌, Bool, true, false, Option, Some, None, List, [], ◌∷◌, ◌++◌, map, refl, sym, ap, ◌∙◌}
 use Rattle.std.proofs.Common.{subst, inl, inr, arith, cond, length}
 use Rattle.std.specs.Prelude.{set, slice_set}
 use Rattle.std.proofs.lemmas.Bool.{and_parts, cases_Bool, cases_lt, false≢true, not-true}
@@ -19,10 +19,10 @@ use Rattle.mem_machine.specs.Machines.{IsConsistent, KnownMachine, is_killed}
 use Rattle.mem_machine.specs.Local.{MakesForAny, side}
 use Rattle.mem_machine.specs.Steps.{note_oom_steps}
 use Rattle.mem_reclaim.specs.Killing.{IsKilledBy, OnlyDrains, OnlyLetsGo}
-use Rattle.mem_reclaim.specs.Victim.{HasMostFrames, IsVictim}
+use Rattle.mem_reclaim.specs.Victim.{IsVictim}
 use Rattle.mem_reclaim.proofs.Choosing.{chosen_there}
 use Rattle.mem_alloc.specs.Stepping.{ByStepsOfAny, Rests, course}
-use Rattle.mem_alloc.specs.Kills.{IsWanting, KillsEach, KillsFor, KillsOne, KillsVictims, has_room_for, with_oom_noted_at}
+use Rattle.mem_alloc.specs.Kills.{IsWanting, KillsEach, KillsFor, KillsOne, has_room_at, with_oom_noted_at}
 use Rattle.mem_alloc.specs.Room.{KillsForFew, RelievesLimit}
 use Rattle.mem_alloc.proofs.Lowering.{Lowers, lowers_none, lowers_both, same_visit, clears_lower, keeps_lower, sum_less}
 use Rattle.mem_machine.proofs.Followed.{makes_both, makes_none}
@@ -74,7 +74,7 @@ rests_lower : (t : KnownTable) (m n : KnownMachine) (steps : Run) → Rests (cou
 rests_lower t m n steps h = subst (λ (x : KnownMachine). Lowers t m x) (sym h.machine) (lowers_none t m)
 
 pub kills_lower : (r : Option ℕ) (t : KnownTable) (g pages : ℕ) (m n : KnownMachine) (steps : Run) → KillsFor r g pages (course t m steps n) → Lowers t m n
-kills_lower r t g pages m n steps k = elim (cases_Bool (has_room_for m.ledger g pages)) [
+kills_lower r t g pages m n steps k = elim (cases_Bool (has_room_at m.ledger g pages)) [
   | inl room ↦ rests_lower t m n steps (k.room room)
   | inr over ↦
       let h = k.over over in
@@ -90,9 +90,10 @@ few_lower t r g pages m n steps k = elim (cases_lt 8 pages) [
 pub relieves_lower : (t : KnownTable) (r g pages : ℕ) (m n : KnownMachine) (steps : Run) → RelievesLimit r g pages (course t m steps n)
     → Lowers t m n
 relieves_lower t r g pages m n steps h =
-    lowers_both t m h.cleared n (clears_lower t g pages m h.cleared h.clearing h.clears)
-    (lowers_both t h.cleared h.reclaimed n (keeps_lower t h.cleared h.reclaimed h.reclaims.keeps)
-    (few_lower t r g pages h.reclaimed n h.killing h.kills))
+    let x = h.between in
+    let y = h.second.between in
+    lowers_both t m x n (clears_lower t g pages m x h.earlier h.first)
+    (lowers_both t x y n (keeps_lower t x y h.second.first.keeps) (few_lower t r g pages y n h.second.later h.second.second))
 
 pub relieving_lowers : (t : KnownTable) (r g pages : ℕ) (m n : KnownMachine) → ByStepsOfAny t m n (RelievesLimit r g pages) → Lowers t m n
 relieving_lowers t r g pages m n b = relieves_lower t r g pages m n b.0 b.1
@@ -118,10 +119,10 @@ alive_falls false true stays = omega arith
 alive_falls true false stays = absurd (false≢true (stays refl))
 alive_falls true true stays = omega arith
 
-pub victim_below : (m : KnownMachine) → AreCharges m.ledger → (g v : ℕ) → HasMostFrames m g v → v < 64
+pub victim_below : (m : KnownMachine) → AreCharges m.ledger → (g v : ℕ) → IsVictim m g (Some v) → v < 64
 victim_below m charges g v most = number_below m.ledger.groups v charges.groups (chosen_there m g v most.chosen)
 
-pub fewer_alive : (t : KnownTable) (w : Words) (m n : KnownMachine) (g v : ℕ) → IsConsistent t w m → AreCharges m.ledger → HasMostFrames m g v
+pub fewer_alive : (t : KnownTable) (w : Words) (m n : KnownMachine) (g v : ℕ) → IsConsistent t w m → AreCharges m.ledger → IsVictim m g (Some v)
     → n.killed ≡ slice_set m.killed v true → count_alive n < count_alive m
 fewer_alive t w m n g v whole charges most marked =
     let low = victim_below m charges g v most in
@@ -191,7 +192,7 @@ so_far_there r t g pages m n so_far there =
     ap (λ (x : List Group). has_group x g) l.groups ∙ there
 
 -- the kills are over
-pub kills_end : (r : Option ℕ) (t : KnownTable) (g pages : ℕ) (m x n : KnownMachine) → has_room_for m.ledger g pages ≡ false
+pub kills_end : (r : Option ℕ) (t : KnownTable) (g pages : ℕ) (m x n : KnownMachine) → has_room_at m.ledger g pages ≡ false
     → x ≡ record m { ledger = with_oom_noted m.ledger g } → MakesForAny t m (note_oom_steps g) x → KillsSoFar r t g pages (with_oom_noted_at m g) n
     → (IsWanting r g pages n → IsVictim n g None) → ByStepsOfAny t m n (KillsFor r g pages)
 kills_end r t g pages m x n over noted noting so_far ended = (
@@ -215,14 +216,6 @@ kills_end r t g pages m x n over noted noting so_far ended = (
 
     told : MakesForAny t m (note_oom_steps g) (with_oom_noted_at m g)
     told c = record { leads = (noting_m c).leads; follows = (noting_m c).follows }
-
--- there is room
-pub no_kills : (r : Option ℕ) (t : KnownTable) (g pages : ℕ) (m : KnownMachine) → has_room_for m.ledger g pages ≡ true → ByStepsOfAny t m m (KillsFor r g pages)
-no_kills r t g pages m room = (
-  [],
-  record { room = λ _. record { machine = refl; steps_are = refl }; over = λ over. absurd (false≢true (sym over ∙ room)) },
-  λ c. makes_none t c.number (side m c),
-)
 
 -- ---- kills for a few pages alone
 

@@ -2,7 +2,7 @@
 use Rattle.std.proofs.Common.{◌≡◌, ℕ, zero, suc, ◌+◌, ◌-◌, ◌<◌, ◌≤◌, ◌==◌, Bool, true, false, Option, Some, None, List, [], ◌∷◌, map, refl, sym, ap, ◌∙◌}
 use Rattle.std.proofs.Common.{subst, inl, inr, arith, cond, eq-eqb}
 use Rattle.std.specs.List.{sum_by}
-use Rattle.std.proofs.lemmas.Bool.{cases_eq, cases_lt, ne_eqb, cond-true, cond-false, leb-true, le-leb, false≢true}
+use Rattle.std.proofs.lemmas.Bool.{cases_eq, cases_lt, ne_eqb, cond-true, cond-false, false≢true}
 use Rattle.std.proofs.lemmas.List.Sums.{sum_by-cons}
 use Rattle.frame_word.specs.Seats.{KnownTable, KnownSeat, IsOpen, NothingPasses, LentIsBorrowed}
 use Rattle.group_tree.specs.declared.group.Group.{Group}
@@ -28,7 +28,7 @@ use Rattle.mem_machine.proofs.Draining.{groups_stay, drained_at, drained_else}
 use Rattle.mem_machine.proofs.Prepaying.{current_falls}
 use Rattle.mem_reclaim.specs.Staying.{Keeps}
 use Rattle.mem_alloc.specs.Stepping.{course}
-use Rattle.mem_alloc.specs.Room.{ClearsBelow, has_room_for, with_max_noted_at}
+use Rattle.mem_alloc.specs.Room.{ClearsBelow, has_room_at, with_max_noted_at}
 use Rattle.mem_machine.specs.Local.{side}
 
 -- the groups and the visits stay, who was killed stays killed, no usage is higher, and no stock is filled that wasn't
@@ -165,19 +165,6 @@ lowered_there t m n g l there = ap (λ (x : List Group). has_group x g) l.groups
 pub lowered_fits : (t : KnownTable) (m n : KnownMachine) (pages : ℕ) → Lowers t m n → HasRoomFor m pages → HasRoomFor n pages
 lowered_fits t m n pages l fits = let a = l.falls 0 in omega (arith, a, fits)
 
--- less usage fits the limit still
-less_fits : (o : Option ℕ) (a b : ℕ) → b ≤ a → fits_limit o a ≡ true → fits_limit o b ≡ true
-less_fits None a b low fits = refl
-less_fits (Some limit) a b low fits = le-leb b limit (let l = leb-true a limit fits in omega (arith, l, low))
-
-pub lowered_room : (t : KnownTable) (m n : KnownMachine) (g pages : ℕ) → Lowers t m n → PathHasRoom m.ledger.groups (current_of m.ledger) g pages
-    → PathHasRoom n.ledger.groups (current_of n.ledger) g pages
-lowered_room t m n g pages l room =
-    subst (λ (x : List Group). PathHasRoom x (current_of n.ledger) g pages) (sym l.groups)
-    (λ h on.
-    let low = l.falls h in
-    less_fits (limit_of m.ledger.groups h) (current_of m.ledger h + pages) (current_of n.ledger h + pages) (omega (arith, low)) (room h on))
-
 -- ---- each try that is refused, where there is room then, lowers the sum of all usages
 
 sum_le : (n : ℕ) (f g : ℕ → ℕ) → ((i : ℕ) → f i ≤ g i) → sum_to n f ≤ sum_to n g
@@ -208,7 +195,7 @@ room_falls o a b pages was now low = elim (cases_lt b a) [
 abbrev pub all_usages : KnownMachine → ℕ
 all_usages m = sum_to 64 (current_of m.ledger)
 
-pub usages_fall : (t : KnownTable) (m n : KnownMachine) (over pages : ℕ) → Lowers t m n → over < 64 → has_room_for m.ledger over pages ≡ false → has_room_for n.ledger over pages ≡ true
+pub usages_fall : (t : KnownTable) (m n : KnownMachine) (over pages : ℕ) → Lowers t m n → over < 64 → has_room_at m.ledger over pages ≡ false → has_room_at n.ledger over pages ≡ true
     → all_usages n < all_usages m
 usages_fall t m n over pages l inside was now =
     let limit : limit_of n.ledger.groups over ≡ limit_of m.ledger.groups over = ap (λ (x : List Group). limit_of x over) l.groups in

@@ -1,29 +1,26 @@
--- Tries that are refused, one after the other. Serves the loops of `fill_one` and `take_charged`.
-use Rattle.std.proofs.Common.{◌≡◌, ℕ, ◌+◌, ◌<◌, ◌≤◌, true, false, Option, Some, None, List, [], ◌∷◌, ◌++◌, refl, sym, ap, ◌∙◌, subst, arith}
-use Rattle.std.specs.Prelude.{Result, Ok, Err, IsErr, IfErr, IfOk, OnOk, MatchResult, nat_le}
-use Rattle.std.proofs.lemmas.Bool.{false≢true, leb-false}
+-- Charges that are refused, one after the other. Serves the loops of `fill_one` and `charge_block`.
+use Rattle.std.proofs.Common.{◌≡◌, ℕ, ◌+◌, false, Option, None, List, [], ◌∷◌, ◌++◌, refl, sym, ap, ◌∙◌, subst}
+use Rattle.std.specs.Prelude.{Result, Ok, Err, IsErr, IfErr, IfOk, MatchResult}
+use Rattle.std.proofs.lemmas.Bool.{false≢true}
 use Rattle.std.proofs.lemmas.List.{append_assoc, append-nil}
 use Rattle.frame_word.specs.Seats.{KnownTable}
-use Rattle.group_tree.specs.declared.group.Group.{Group}
 use Rattle.group_tree.specs.Groups.{limit_of}
 use Rattle.group_tree.specs.Room.{IsLowestOver, fits_limit}
 use Rattle.group_charge.specs.Charges.{current_of, with_max_noted}
 use Rattle.cpu_part.specs.Cpus.{KnownCpu}
 use Rattle.step_rules.specs.After.{Run}
 use Rattle.mem_machine.specs.Machines.{KnownMachine, is_killed}
-use Rattle.mem_machine.specs.Local.{MakesForAny, side, MakesAs}
+use Rattle.mem_machine.specs.Local.{MakesForAny, Side, side, MakesAs}
 use Rattle.mem_machine.specs.Steps.{over_steps, note_max_steps, drain_stocks_steps, fill_steps}
 use Rattle.mem_machine.specs.Stocks.{Fills, DrainsSubtree, DrainsAllBelow, AreDrained}
-use Rattle.mem_alloc.specs.Stepping.{BySteps, ByStepsOfAny, course, OfMachine}
-use Rattle.mem_reclaim.specs.Moves.{Leads}
-use Rattle.mem_reclaim.specs.Rounds.{MakesRounds, pages_missing}
-use Rattle.mem_reclaim.specs.Staying.{Keeps, MissedAll}
+use Rattle.mem_alloc.specs.Stepping.{BySteps, ByStepsOfAny, Course, course}
+use Rattle.mem_reclaim.specs.Wanted.{progress}
 use Rattle.mem_reclaim.proofs.Keeping.{keeps_none}
-use Rattle.mem_alloc.specs.Kills.{KillsFor, has_room_for}
-use Rattle.mem_alloc.specs.Room.{ClearsBelow, HasMadeRoom, IsCause, IsRefusedAt, IsRefusedFor, KillsForFew, MakesRoom, ReclaimsFor, RelievesLimit, RoundsBefore}
+use Rattle.mem_reclaim.proofs.Moving.{moves_rest}
+use Rattle.mem_alloc.specs.Room.{AfterRoom, ClearsBelow, HasMadeRoom, IsRefusedAt, IsRefusedFor, KillsForFew, MakesRoom, ReclaimsBefore, ReclaimsFor, RelievesLimit, TellsRoom}
 use Rattle.mem_alloc.specs.Room.{with_limit_noted, with_max_noted_at}
 use Rattle.mem_alloc.specs.declared.faults.AllocFault.{AllocFault}
-use Rattle.mem_alloc.specs.Charging.{FillsAfterRoom, RefusesOne}
+use Rattle.mem_alloc.specs.Charging.{ChargesOne, FillsStock}
 use Rattle.mem_alloc.proofs.Lowering.{Lowers, lowers_none, lowers_both}
 use Rattle.mem_alloc.proofs.Killing.{relieving_lowers}
 use Rattle.mem_machine.proofs.Followed.{makes_both, makes_none}
@@ -58,31 +55,15 @@ pub relieves_by : (t : KnownTable) (r g pages : ℕ) (m x y n : KnownMachine) �
 relieves_by t r g pages m x y n first next last = (
   first.0 ++ (next.0 ++ last.0),
   record {
-    cleared = x;
-    reclaimed = y;
-    clearing = first.0;
-    reclaiming = next.0;
-    killing = last.0;
-    clears = first.1;
-    reclaims = next.1;
-    kills = last.1;
+    between = x;
+    earlier = first.0;
+    later = next.0 ++ last.0;
+    first = first.1;
+    second = record { between = y; earlier = next.0; later = last.0; first = next.1; second = last.1; steps_are = refl };
     steps_are = refl;
   },
   λ c. makes_both t c.number first.0 (next.0 ++ last.0) (side m c) (side x c) (side n c) (first.2 c)
       (makes_both t c.number next.0 last.0 (side x c) (side y c) (side n c) (next.2 c) (last.2 c)),
-)
-
--- victims are killed for few pages
-pub kills_few : (t : KnownTable) (r g pages : ℕ) (m n : KnownMachine) → pages ≤ 8 → ByStepsOfAny t m n (KillsFor (Some r) g pages)
-    → ByStepsOfAny t m n (KillsForFew r g pages)
-kills_few t r g pages m n few b = (b.0, record { few = λ _. b.1; many = λ many. absurd (omega (arith, few, many)) }, b.2)
-
--- and nobody for more
-pub kills_nobody : (t : KnownTable) (r g pages : ℕ) (m : KnownMachine) → 8 < pages → ByStepsOfAny t m m (KillsForFew r g pages)
-kills_nobody t r g pages m many = (
-  [],
-  record { few = λ few. absurd (omega (arith, few, many)); many = λ _. record { machine = refl; steps_are = refl } },
-  λ c. makes_none t c.number (side m c),
 )
 
 -- there is no limit
@@ -90,57 +71,36 @@ pub no_rounds : (t : KnownTable) (g pages : ℕ) (m : KnownMachine) → limit_of
 no_rounds t g pages m none = (
   [],
   record {
-    rounds = subst (λ (o : Option ℕ). RoundsBefore o g pages (course t m [] m)) (sym none) (record { machine = refl; steps_are = refl });
+    given = 0;
+    reclaims = subst (λ (o : Option ℕ). ReclaimsBefore o g pages (progress 0 m [] m)) (sym none) (record { no_page = refl; machine = refl; no_step = refl });
     missed = λ over. absurd (false≢true (sym over ∙ ap (λ (o : Option ℕ). fits_limit o (current_of m.ledger g + pages)) none));
     keeps = keeps_none t m;
-    none_killed = record { runs = λ c. makes_none t c.number (side m c); quiet = refl; misses = λ f. omega arith };
+    moves = moves_rest t m;
   },
   λ c. makes_none t c.number (side m c),
 )
 
--- there is one
-pub rounds_for : (t : KnownTable) (g pages limit given : ℕ) (m n : KnownMachine) → limit_of m.ledger.groups g ≡ Some limit
-    → Leads t given m n (MakesRounds g (pages_missing g pages limit) 16) → Keeps t m n
-    → (limit < current_of n.ledger g + pages → MissedAll g m n) → ByStepsOfAny t m n (ReclaimsFor g pages)
-rounds_for t g pages limit given m n is leads keeps missed = (
-  leads.steps,
-  record {
-    rounds = subst (λ (o : Option ℕ). RoundsBefore o g pages (course t m leads.steps n)) (sym is) (given, leads.does);
-    missed = λ over.
-        let here : limit_of n.ledger.groups g ≡ Some limit = ap (λ (x : List Group). limit_of x g) keeps.groups ∙ is in
-        let full : nat_le (current_of n.ledger g + pages) limit ≡ false =
-        sym (ap (λ (o : Option ℕ). fits_limit o (current_of n.ledger g + pages)) here) ∙ over in
-        missed (let ne = leb-false (current_of n.ledger g + pages) limit full in omega (arith, ne));
-    keeps = keeps;
-    none_killed = record { runs = leads.moves.runs; quiet = leads.moves.quiet; misses = leads.moves.misses };
-  },
-  leads.moves.runs,
-)
-
--- tries that were refused, and then one more
+-- charges that were refused, and then one more
 room_more : (t : KnownTable) (g pages over : ℕ) (before : List ℕ) (m x n : KnownMachine) (making last : Run) → MakesRoom g pages before (course t m making x)
-    → IsRefusedAt g pages over (course t x last n) → HasMadeRoom g over pages n → MakesRoom g pages (before ++ over ∷ []) (course t m (making ++ last) n)
-room_more t g pages over [] m x n making last makes refused room = record {
+    → IsRefusedAt g pages over (Ok tt) (course t x last n) → MakesRoom g pages (before ++ over ∷ []) (course t m (making ++ last) n)
+room_more t g pages over [] m x n making last makes refused = record {
   between = n;
   earlier = last;
   later = [];
-  first = record {
-    refused = subst (λ (y : KnownMachine). IsRefusedAt g pages over (course t y last n)) makes.machine refused;
-    room = room;
-  };
+  first = subst (λ (y : KnownMachine). IsRefusedAt g pages over (Ok tt) (course t y last n)) makes.machine refused;
   second = record { machine = refl; steps_are = refl };
   steps_are = ap (λ (r : Run). r ++ last) makes.steps_are ∙ sym (append-nil last);
 }
-room_more t g pages over (h ∷ before) m x n making last makes refused room = record {
+room_more t g pages over (h ∷ before) m x n making last makes refused = record {
   between = makes.between;
   earlier = makes.earlier;
   later = makes.later ++ last;
   first = makes.first;
-  second = room_more t g pages over before makes.between x n makes.later last makes.second refused room;
+  second = room_more t g pages over before makes.between x n makes.later last makes.second refused;
   steps_are = ap (λ (r : Run). r ++ last) makes.steps_are ∙ append_assoc makes.earlier makes.later last;
 }
 
--- what the loops keep: the tries so far were refused at groups that have room now, and nothing else happened
+-- what the loops keep: the charges so far were refused at groups that have room now, and nothing else happened
 pub record RoomSoFar (t : KnownTable) (g pages : ℕ) (c : KnownCpu) (m n : KnownMachine) : Type 0 where
   pub refused_at : List ℕ
   pub making : Run
@@ -160,18 +120,20 @@ so_far_none t g pages c m alive = record {
 }
 
 module _ (t : KnownTable) (g pages : ℕ) (c : KnownCpu) (m x : KnownMachine) (so_far : RoomSoFar t g pages c m x) where
-  -- one more try was refused, by its steps
+  -- one more charge was refused, by its steps
   module _ (y z n : KnownMachine) (d : KnownCpu) (over : ℕ) (same : y ≡ x) (mine : d ≡ c)
       (low : IsLowestOver z.ledger.groups (current_of z.ledger) g pages over) (before_it : z ≡ x)
       (refusing : MakesAs t d.number (side z d) (over_steps g pages over) (side z d)) (relieves : ByStepsOfAny t y n (RelievesLimit g over pages)) where
     its : ByStepsOfAny t x n (RelievesLimit g over pages)
     its = subst (λ (k : KnownMachine). ByStepsOfAny t k n (RelievesLimit g over pages)) same relieves
 
-    refused : IsRefusedAt g pages over (course t x (over_steps g pages over ++ its.0) n)
-    refused = record {
+    refused : (answer : Result (Unit {0}) AllocFault) → TellsRoom g over pages answer n
+        → IsRefusedAt g pages over answer (course t x (over_steps g pages over ++ its.0) n)
+    refused answer room = record {
       lowest = subst (λ (k : KnownMachine). IsLowestOver k.ledger.groups (current_of k.ledger) g pages over) before_it low;
       relieving = its.0;
       relieves = its.1;
+      room = room;
       steps_are = refl;
     }
 
@@ -191,50 +153,53 @@ module _ (t : KnownTable) (g pages : ℕ) (c : KnownCpu) (m x : KnownMachine) (s
       refused_at = so_far.refused_at ++ over ∷ [];
       making = so_far.making ++ (over_steps g pages over ++ its.0);
       makes = room_more t g pages over so_far.refused_at m x n so_far.making
-          (over_steps g pages over ++ its.0) so_far.makes refused room;
+          (over_steps g pages over ++ its.0) so_far.makes (refused (Ok tt) room);
       runs = runs_on;
       lowers = lowers_both t m x n so_far.lowers (relieving_lowers t g over pages x n its);
       alive = room.alive;
     }
 
     -- or it is refused for good
-    pub so_far_over : (cause : AllocFault) → IsCause g over pages cause n → BySteps t (side m c) (side n c) (OfMachine (IsRefusedFor g pages cause))
+    pub so_far_over : (cause : AllocFault) → TellsRoom g over pages (Err cause) n → BySteps t (side m c) (side n c) (IsRefusedFor g pages cause)
     so_far_over cause is = (
       so_far.making ++ (over_steps g pages over ++ its.0),
       record {
-        over = over;
         refused_at = so_far.refused_at;
         cleared = x;
         making = so_far.making;
-        last = over_steps g pages over ++ its.0;
+        later = over_steps g pages over ++ its.0;
         makes = so_far.makes;
-        refused = refused;
-        is_cause = is;
+        does = record { does = (over, refused (Err cause) is); cpu = refl };
         steps_are = refl;
       },
       runs_on,
     )
 
-    pub lowers_here : Lowers t x n
-    lowers_here = relieving_lowers t g over pages x n its
-
-  -- the pages are granted, and fill the stock
-  pub so_far_fills : (y : KnownCpu) → y ≡ c → (n : KnownMachine) (d : KnownCpu) → Fills g pages (side x y) (side n d)
-      → MakesAs t y.number (side x y) (fill_steps y.number g pages) (side n d)
-      → BySteps t (side m c) (side n d) (FillsAfterRoom g pages)
-  so_far_fills y mine n d fills steps = (
-    so_far.making ++ fill_steps c.number g pages,
+  -- this is done by steps of its own, now that there is room
+  pub so_far_does : (Does : Course Side → Type 0) (n : KnownMachine) (d : KnownCpu) → BySteps t (side x c) (side n d) Does
+      → BySteps t (side m c) (side n d) (AfterRoom g pages Does)
+  so_far_does Does n d b = (
+    so_far.making ++ b.0,
     record {
       refused_at = so_far.refused_at;
       cleared = x;
       making = so_far.making;
+      later = b.0;
       makes = so_far.makes;
-      fills = subst (λ (k : KnownCpu). Fills g pages (side x k) (side n d)) mine fills;
+      does = b.1;
       steps_are = refl;
     },
-    makes_both t c.number so_far.making (fill_steps c.number g pages) (side m c) (side x c) (side n d) so_far.runs
-        (subst (λ (k : KnownCpu). MakesAs t k.number (side x k) (fill_steps k.number g pages) (side n d)) mine steps),
+    makes_both t c.number so_far.making b.0 (side m c) (side x c) (side n d) so_far.runs b.2,
   )
+
+  -- the pages are granted, and fill the stock
+  pub so_far_fills : (y : KnownCpu) → y ≡ c → (n : KnownMachine) (d : KnownCpu) → Fills g pages (side x y) (side n d)
+      → MakesAs t y.number (side x y) (fill_steps y.number g pages) (side n d)
+      → BySteps t (side m c) (side n d) (AfterRoom g pages (FillsStock g pages))
+  so_far_fills y mine n d fills steps =
+      let there : BySteps t (side x y) (side n d) (FillsStock g pages) =
+      (fill_steps y.number g pages, record { fills = fills; steps_are = refl }, steps) in
+      so_far_does (FillsStock g pages) n d (subst (λ (k : KnownCpu). BySteps t (side x k) (side n d) (FillsStock g pages)) mine there)
 
 -- an answer that is a refusal, of this cause
 pub refused_with : {T E : Type 0} (r : Result T E) (x : E) (P : T → Type 0) (Q : E → Type 0) → IsErr r → IfErr r (λ e. e ≡ x)
@@ -242,24 +207,17 @@ pub refused_with : {T E : Type 0} (r : Result T E) (x : E) (P : T → Type 0) (Q
 refused_with (Ok v) x P Q not is q = absurd (false≢true not)
 refused_with (Err e) x P Q is same q = q e same
 
+-- an answer that is a refusal of this cause is this one
+pub answer_is : {T : Type 0} (r : Result T AllocFault) (x : AllocFault) → IsErr r → IfErr r (λ e. e ≡ x) → r ≡ Err x
+answer_is (Ok v) x not is = absurd (false≢true not)
+answer_is (Err e) x not is = ap (λ (z : AllocFault). Err z) is
+
 -- a refusal for good of a charge of one page
-pub refuses_one : (t : KnownTable) (g : ℕ) (cause : AllocFault) (m : KnownMachine) (c : KnownCpu) (n : KnownMachine) (d : KnownCpu)
-    → d ≡ c → BySteps t (side m c) (side n c) (OfMachine (IsRefusedFor g 1 cause)) → BySteps t (side m c) (side n d) (RefusesOne g cause)
-refuses_one t g cause m c n d cpu b = (
-  b.0,
-  record { refuses = b.1; cpu = cpu },
-  subst (λ (k : KnownCpu). MakesAs t c.number (side m c) b.0 (side n k)) (sym cpu) b.2,
-)
-
--- what holds of an answer in either case
-pub match_both : {T E : Type 0} (r : Result T E) (P R : T → Type 0) (Q S : E → Type 0) → ((v : T) → P v → R v) → ((e : E) → Q e → S e)
-    → MatchResult r P Q → MatchResult r R S
-match_both (Ok v) P R Q S one two is = one v is
-match_both (Err e) P R Q S one two is = two e is
-
-pub on_ok_from : {T E : Type 0} (r : Result T E) (P : T → Type 0) (Q : E → Type 0) (X : Type 0) → ((v : T) → P v → X) → MatchResult r P Q → OnOk r X
-on_ok_from (Ok v) P Q X one is = one v is
-on_ok_from (Err e) P Q X one is = tt
+pub refuses_one : (t : KnownTable) (g : ℕ) (r : Result (Unit {0}) AllocFault) (cause : AllocFault) (m : KnownMachine) (c : KnownCpu) (n : KnownMachine) (d : KnownCpu)
+    → r ≡ Err cause → d ≡ c → BySteps t (side m c) (side n c) (IsRefusedFor g 1 cause) → BySteps t (side m c) (side n d) (ChargesOne g r)
+refuses_one t g r cause m c n d is cpu b =
+    subst (λ (z : KnownCpu × Result (Unit {0}) AllocFault). BySteps t (side m c) (side n z.0) (ChargesOne g z.1))
+    (λ i. (sym cpu i, sym is i)) b
 
 pub if_ok_none : {T E : Type 0} (r : Result T E) (P : T → Type 0) → IsErr r → IfOk r P
 if_ok_none (Ok v) P not = absurd (false≢true not)

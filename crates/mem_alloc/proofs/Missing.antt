@@ -1,5 +1,5 @@
 -- The misses that are noted are those among the steps. Serves whoever tells the steps of a command.
-use Rattle.std.proofs.Common.{◌≡◌, ℕ, zero, suc, ◌+◌, ◌<◌, ◌≤◌, ◌^◌, true, false, Option, Some, None, List, [], ◌∷◌, ◌++◌, refl, sym, ap, ◌∙◌, subst, inl, inr, arith}
+use Rattle.std.proofs.Common.{◌≡◌, ℕ, zero, suc, ◌^◌, Bool, true, false, Option, Some, List, [], ◌∷◌, ◌++◌, refl, sym, ap, ◌∙◌, subst, inl, inr, arith}
 use Rattle.std.specs.Prelude.{Result, Ok, Err}
 use Rattle.std.proofs.lemmas.Bool.{cases_Bool, cases_lt}
 use Rattle.frame_word.specs.Seats.{KnownTable, KnownSeat, misses_of}
@@ -16,13 +16,13 @@ use Rattle.mem_reclaim.specs.Moves.{missed_in}
 use Rattle.mem_reclaim.proofs.LettingGo.{AreQuiet, misses_put, quiet_both, quiet_drain, quiet_drains}
 use Rattle.mem_alloc.specs.declared.faults.AllocFault.{AllocFault}
 use Rattle.mem_alloc.specs.declared.faults.AllocFault.TheVariants.{Over, NoFrames, Killed}
-use Rattle.mem_alloc.specs.Stepping.{CountsMisses, Course, InTurn, OfMachineAlone, Rests, Stays, course, of_machine}
-use Rattle.mem_alloc.specs.Kills.{KillsEach, KillsFor, KillsOne, KillsVictims, has_room_for, with_oom_noted_at}
-use Rattle.mem_alloc.specs.Room.{ClearsBelow, IsRefusedAt, IsRefusedFor, KillsForFew, MakesRoom, RelievesLimit, with_max_noted_at}
-use Rattle.mem_alloc.specs.Charging.{ChargesFrame, DrainsOwn, FillsAfterRoom, PaysForFrame, RefusesFrame, RefusesToPay}
+use Rattle.mem_alloc.specs.Stepping.{CountsMisses, Course, InTurn, OfMachineAlone, Stays, Where, course, of_machine}
+use Rattle.mem_alloc.specs.Kills.{KillsEach, KillsFor, KillsOne, has_room_at, with_oom_noted_at}
+use Rattle.mem_alloc.specs.Room.{AfterRoom, ClearsBelow, IsRefusedAt, IsRefusedFor, IsRefusedOnce, KillsForFew, MakesRoom, RelievesLimit, with_max_noted_at}
+use Rattle.mem_alloc.specs.Charging.{ChargesAfterDrain, ChargesFrame, ChargesOne, DrainsStock, FillsStock, LacksBatch, PaysForFrame}
 use Rattle.mem_alloc.specs.Rounds.{FailsInRounds, GivesInRound, MakesRound, SucceedsInRounds}
-use Rattle.mem_alloc.specs.Frames.{AllocatesFrame, FillsList, HasNoFrame, LendsBatch, LendsNoFrame}
-use Rattle.mem_alloc.specs.Blocks.{AllocatesBlock, FindsNoBlock, TakesAfterRoom, TakesAgain, TakesInRounds, TakesSecond, TriesAgain, TriesInRounds, TryFindsNone, TryTakes}
+use Rattle.mem_alloc.specs.Frames.{AllocatesFrame, FillsList, HasNoFreeFrame, LendsBatch, LendsNoFrame, RefillsInRounds}
+use Rattle.mem_alloc.specs.Blocks.{AllocatesBlock, ChargesBlock, FindsNoBlock, RetriesBlock, TakesAfterDrain, TakesFreeBlock, TakesInRounds, TakesOrReclaims}
 use Rattle.mem_alloc.proofs.NoRash.{all_same, missed_both}
 
 -- ---- one after another
@@ -91,7 +91,7 @@ counts_each r t g pages (v ∷ later) m n steps h =
 
 pub counts_kills : (r : Option ℕ) (t : KnownTable) (g pages : ℕ) (m n : KnownMachine) (steps : Run) → KillsFor r g pages (course t m steps n)
     → CountsMisses (course t m steps n)
-counts_kills r t g pages m n steps k = elim (cases_Bool (has_room_for m.ledger g pages)) [
+counts_kills r t g pages m n steps k = elim (cases_Bool (has_room_at m.ledger g pages)) [
   | inl room ↦ counts_rest t m n steps (k.room room).machine (k.room room).steps_are
   | inr over ↦
       let h = k.over over in
@@ -118,18 +118,20 @@ counts_clear t g pages m n steps h =
 counts_relief : (t : KnownTable) (r g pages : ℕ) (m n : KnownMachine) (steps : Run) → RelievesLimit r g pages (course t m steps n)
     → CountsMisses (course t m steps n)
 counts_relief t r g pages m n steps h =
-    let x = h.cleared in
-    let y = h.reclaimed in
-    counts_as t m n steps (h.clearing ++ (h.reclaiming ++ h.killing)) h.steps_are
-    (counts_both t m x n h.clearing (h.reclaiming ++ h.killing) (counts_clear t g pages m x h.clearing h.clears)
-    (counts_both t x y n h.reclaiming h.killing h.reclaims.none_killed.misses (counts_few t r g pages y n h.killing h.kills)))
+    let x = h.between in
+    let next = h.second in
+    let y = next.between in
+    counts_as t m n steps (h.earlier ++ h.later) h.steps_are
+    (counts_both t m x n h.earlier h.later (counts_clear t g pages m x h.earlier h.first)
+    (counts_as t x n h.later (next.earlier ++ next.later) next.steps_are
+    (counts_both t x y n next.earlier next.later next.first.moves.misses (counts_few t r g pages y n next.later next.second))))
 
 over_counts : (t : KnownTable) (g pages over : ℕ) (m : KnownMachine) → CountsMisses (course t m (over_steps g pages over) m)
 over_counts t g pages over m = counts_same t m m (over_steps g pages over) (record { quiet = refl; no_miss = λ f. refl }) refl
 
-counts_refused : (t : KnownTable) (g pages over : ℕ) (m n : KnownMachine) (steps : Run) → IsRefusedAt g pages over (course t m steps n)
-    → CountsMisses (course t m steps n)
-counts_refused t g pages over m n steps h =
+counts_refused : (t : KnownTable) (g pages over : ℕ) (answer : Result (Unit {0}) AllocFault) (m n : KnownMachine) (steps : Run)
+    → IsRefusedAt g pages over answer (course t m steps n) → CountsMisses (course t m steps n)
+counts_refused t g pages over answer m n steps h =
     counts_as t m n steps (over_steps g pages over ++ h.relieving) h.steps_are
     (counts_both t m m n (over_steps g pages over) h.relieving (over_counts t g pages over m) (counts_relief t g over pages m n h.relieving h.relieves))
 
@@ -138,13 +140,7 @@ counts_room : (t : KnownTable) (g pages : ℕ) (refused : List ℕ) (m n : Known
 counts_room t g pages [] m n steps h = counts_rest t m n steps h.machine h.steps_are
 counts_room t g pages (over ∷ later) m n steps h =
     counts_as t m n steps (h.earlier ++ h.later) h.steps_are (counts_both t m h.between n h.earlier h.later
-    (counts_refused t g pages over m h.between h.earlier h.first.refused) (counts_room t g pages later h.between n h.later h.second))
-
-counts_refusal : (t : KnownTable) (g pages : ℕ) (cause : AllocFault) (m n : KnownMachine) (steps : Run) → IsRefusedFor g pages cause (course t m steps n)
-    → CountsMisses (course t m steps n)
-counts_refusal t g pages cause m n steps h =
-    counts_as t m n steps (h.making ++ h.last) h.steps_are (counts_both t m h.cleared n h.making h.last
-    (counts_room t g pages h.refused_at m h.cleared h.making h.makes) (counts_refused t g pages h.over h.cleared n h.last h.refused))
+    (counts_refused t g pages over (Ok tt) m h.between h.earlier h.first) (counts_room t g pages later h.between n h.later h.second))
 
 -- ---- lists
 
@@ -168,7 +164,7 @@ back_same (f ∷ frames) m n h g =
     back_same frames h.0 n h.2 g ∙ ap (λ (x : KnownMachine). misses_of x.seat g) h.1.machine
     ∙ misses_put m.machine.seat f g (collected_from m.cpu.number) (λ k. refl)
 
--- ---- rounds of reclaim
+-- ---- parts put together
 
 -- the misses are counted in each such course
 abbrev pub AllCounted : (Course Side → Type 0) → Type 0
@@ -183,12 +179,33 @@ counts_turns First Second one two way h =
     (counts_both way.table way.before.machine h.between.machine way.after.machine h.earlier h.later
     (one (course way.table way.before h.earlier h.between) h.first) (two (course way.table h.between h.later way.after) h.second))
 
+counts_alone : (Does : Course KnownMachine → Type 0)
+    → ((t : KnownTable) (m n : KnownMachine) (steps : Run) → Does (course t m steps n) → CountsMisses (course t m steps n))
+    → AllCounted (OfMachineAlone Does)
+counts_alone Does counts way h = counts way.table way.before.machine way.after.machine way.steps h.does
+
+after_room_counts : (g pages : ℕ) (Does : Course Side → Type 0) → AllCounted Does → AllCounted (AfterRoom g pages Does)
+after_room_counts g pages Does counts way h =
+    let t = way.table in
+    let m = way.before.machine in
+    let n = way.after.machine in
+    counts_as t m n way.steps (h.making ++ h.later) h.steps_are (counts_both t m h.cleared n h.making h.later
+    (counts_room t g pages h.refused_at m h.cleared h.making h.makes)
+    (counts (course t (side h.cleared way.before.cpu) h.later way.after) h.does))
+
+refusal_counts : (g pages : ℕ) (cause : AllocFault) → AllCounted (IsRefusedFor g pages cause)
+refusal_counts g pages cause way h =
+    after_room_counts g pages (OfMachineAlone (IsRefusedOnce g pages cause))
+    (counts_alone (IsRefusedOnce g pages cause) (λ t m n steps r. counts_refused t g pages r.0 (Err cause) m n steps r.1)) way h
+
+-- ---- rounds of reclaim
+
 module _ (want : ℕ) (Fails : Course Side → Type 0) (failing : AllCounted Fails) where
   round_counts : (given : ℕ) (Tries : Course Side → Type 0) → AllCounted Tries → AllCounted (MakesRound want given Tries)
   round_counts given Tries trying way h =
       let m = way.before.machine in
       let n = way.after.machine in
-      counts_as way.table m n way.steps (h.reclaiming ++ h.trying) h.steps_are (counts_both way.table m h.reclaimed n h.reclaiming h.trying h.misses
+      counts_as way.table m n way.steps (h.reclaiming ++ h.trying) h.steps_are (counts_both way.table m h.reclaimed n h.reclaiming h.trying h.moves.misses
       (trying (course way.table (side h.reclaimed way.before.cpu) h.trying way.after) h.tries))
 
   gives_count : AllCounted (GivesInRound want Fails)
@@ -216,75 +233,66 @@ lends_count batch way h =
     (counts_none way.table way.before.machine way.after.machine (refill_steps p h.frames) (refill_calm p h.frames) (lent_same h.frames way.before way.after h.lends))
 
 lends_none_count : AllCounted LendsNoFrame
-lends_none_count way h = counts_stay way h.stays
+lends_none_count way h = counts_stay way h.does
 
-fills_count : (sizes : Config) → AllCounted (FillsList sizes)
-fills_count sizes way (inl h) = counts_stay way h.stays
-fills_count sizes way (inr (inl h)) = lends_count sizes.batch way h.lends
-fills_count sizes way (inr (inr h)) = succeeds_count 1 LendsNoFrame lends_none_count 16 (LendsBatch sizes.batch) (lends_count sizes.batch) way h.rounds
+drains_count : AllCounted DrainsStock
+drains_count way h =
+    counts_as way.table way.before.machine way.after.machine way.steps
+    (drain_steps way.before.cpu.number (stock_group way.before.machine way.before.cpu.number) h.drained) h.steps_are
+    (counts_drain way.table way.before.cpu.number h.drained way.before.machine way.after.machine h.drains)
 
-no_frame_counts : (cause : AllocFault) → AllCounted (HasNoFrame cause)
-no_frame_counts cause way h =
-    let t = way.table in
-    let m = way.before.machine in
-    let n = way.after.machine in
-    let last = drain_steps way.before.cpu.number (stock_group h.reclaimed way.before.cpu.number) h.drained in
-    counts_as t m n way.steps (h.reclaiming ++ last) h.steps_are (counts_both t m h.reclaimed n h.reclaiming last
-    (fails_count 1 LendsNoFrame lends_none_count 16 (course t way.before h.reclaiming (side h.reclaimed way.before.cpu)) h.rounds)
-    (counts_drain t way.before.cpu.number h.drained h.reclaimed n h.drains))
+refills_count : (batch : ℕ) (filled : Bool) → AllCounted (RefillsInRounds batch filled)
+refills_count batch true way h = succeeds_count 1 LendsNoFrame lends_none_count 16 (LendsBatch batch) (lends_count batch) way h
+refills_count batch false way h = fails_count 1 LendsNoFrame lends_none_count 16 way h
 
-fill_counts : (g : ℕ) → AllCounted (FillsAfterRoom g 1)
-fill_counts g way h =
-    let t = way.table in
-    let m = way.before.machine in
-    let n = way.after.machine in
-    let last = fill_steps way.before.cpu.number g 1 in
-    counts_as t m n way.steps (h.making ++ last) h.steps_are (counts_both t m h.cleared n h.making last
-    (counts_room t g 1 h.refused_at m h.cleared h.making h.makes)
-    (counts_same t h.cleared n last (record { quiet = refl; no_miss = λ f. refl }) (ap (λ (x : KnownMachine). x.seat) h.fills.machine)))
+fills_count : (sizes : Config) (answer : Result (Unit {0}) AllocFault) → AllCounted (FillsList sizes answer)
+fills_count sizes (Ok v) way (inl h) = counts_stay way h.does
+fills_count sizes (Ok v) way (inr h) = elim h.does [
+  | inl lends ↦ lends_count sizes.batch way lends
+  | inr rounds ↦ refills_count sizes.batch true way rounds.does
+]
+fills_count sizes (Err NoFrames) way h =
+    counts_turns (RefillsInRounds sizes.batch false) (Where HasNoFreeFrame DrainsStock) (refills_count sizes.batch false)
+    (λ last drains. drains_count last drains.does) way h.does.does
+fills_count sizes (Err (Over over)) way h = absurd h
+fills_count sizes (Err Killed) way h = absurd h
 
-charges_count : (sizes : Config) (g : ℕ) → AllCounted (ChargesFrame sizes g)
-charges_count sizes g way (inl h) =
-    let last = fill_steps way.before.cpu.number g sizes.stock in
+stock_counts : (g pages : ℕ) → AllCounted (FillsStock g pages)
+stock_counts g pages way h =
+    let last = fill_steps way.before.cpu.number g pages in
     counts_as way.table way.before.machine way.after.machine way.steps last h.steps_are
     (counts_same way.table way.before.machine way.after.machine last (record { quiet = refl; no_miss = λ f. refl })
     (ap (λ (x : KnownMachine). x.seat) h.fills.machine))
-charges_count sizes g way (inr h) =
+
+one_counts : (g : ℕ) (answer : Result (Unit {0}) AllocFault) → AllCounted (ChargesOne g answer)
+one_counts g (Ok v) way h = after_room_counts g 1 (FillsStock g 1) (stock_counts g 1) way h
+one_counts g (Err cause) way h = refusal_counts g 1 cause way h
+
+lacks_counts : (sizes : Config) (g : ℕ) (answer : Result (Unit {0}) AllocFault) → AllCounted (LacksBatch sizes g (ChargesOne g answer))
+lacks_counts sizes g answer way h =
     let t = way.table in
     let m = way.before.machine in
     let first = over_steps g sizes.stock h.over in
     counts_as t m way.after.machine way.steps (first ++ h.later) h.steps_are (counts_both t m m way.after.machine first h.later
-    (over_counts t g sizes.stock h.over m) (fill_counts g (course t way.before h.later way.after) h.next))
+    (over_counts t g sizes.stock h.over m) (one_counts g answer (course t way.before h.later way.after) h.does))
 
-refuses_count : (sizes : Config) (g : ℕ) (cause : AllocFault) → AllCounted (RefusesFrame sizes g cause)
-refuses_count sizes g cause way h =
-    let t = way.table in
-    let m = way.before.machine in
-    let first = over_steps g sizes.stock h.over in
-    counts_as t m way.after.machine way.steps (first ++ h.later) h.steps_are (counts_both t m m way.after.machine first h.later
-    (over_counts t g sizes.stock h.over m) (counts_refusal t g 1 cause m way.after.machine h.later h.next.refuses))
+charges_count : (sizes : Config) (g : ℕ) (answer : Result (Unit {0}) AllocFault) → AllCounted (ChargesFrame sizes g answer)
+charges_count sizes g (Ok v) way (inl h) = stock_counts g sizes.stock way h
+charges_count sizes g (Ok v) way (inr h) = lacks_counts sizes g (Ok v) way h
+charges_count sizes g (Err cause) way h = lacks_counts sizes g (Err cause) way h
 
-own_counts : (t : KnownTable) (g : ℕ) (before : Side) (steps : Run) (x : KnownMachine) → DrainsOwn g before steps x
-    → CountsMisses (course t before.machine steps x)
-own_counts t g before steps x h =
-    counts_as t before.machine x steps (drain_steps before.cpu.number (stock_group before.machine before.cpu.number) h.drained) h.steps_are
-    (counts_drain t before.cpu.number h.drained before.machine x h.drains)
+anew_counts : (sizes : Config) (g : ℕ) (answer : Result (Unit {0}) AllocFault) → AllCounted (ChargesAfterDrain sizes g answer)
+anew_counts sizes g answer way h =
+    counts_turns DrainsStock (ChargesFrame sizes g answer) drains_count (charges_count sizes g answer) way h.does
 
-pays_count : (sizes : Config) (g : ℕ) → AllCounted (PaysForFrame sizes g)
-pays_count sizes g way (inl h) = counts_rest way.table way.before.machine way.after.machine way.steps h.machine h.steps_are
-pays_count sizes g way (inr h) =
-    counts_as way.table way.before.machine way.after.machine way.steps (h.first ++ h.later) h.steps_are
-    (counts_both way.table way.before.machine h.emptied way.after.machine h.first h.later (own_counts way.table g way.before h.first h.emptied h.drains)
-    (charges_count sizes g (course way.table (side h.emptied way.before.cpu) h.later way.after) h.next))
-
-pays_not_count : (sizes : Config) (g : ℕ) (cause : AllocFault) → AllCounted (RefusesToPay sizes g cause)
-pays_not_count sizes g cause way h =
-    counts_as way.table way.before.machine way.after.machine way.steps (h.first ++ h.later) h.steps_are
-    (counts_both way.table way.before.machine h.emptied way.after.machine h.first h.later (own_counts way.table g way.before h.first h.emptied h.drains)
-    (refuses_count sizes g cause (course way.table (side h.emptied way.before.cpu) h.later way.after) h.next))
+pays_count : (sizes : Config) (g : ℕ) (answer : Result (Unit {0}) AllocFault) → AllCounted (PaysForFrame sizes g answer)
+pays_count sizes g (Ok v) way (inl h) = counts_stay way h.does
+pays_count sizes g (Ok v) way (inr h) = anew_counts sizes g (Ok v) way h
+pays_count sizes g (Err cause) way h = anew_counts sizes g (Err cause) way h
 
 pub frame_counts : (sizes : Config) (g : ℕ) (answer : Result ℕ AllocFault) → AllCounted (AllocatesFrame sizes g answer)
-frame_counts sizes g (Ok f) way h =
+frame_counts sizes g (Ok f) way all =
+    let h = all.does in
     let t = way.table in
     let m = way.before.machine in
     let n = way.after.machine in
@@ -292,17 +300,15 @@ frame_counts sizes g (Ok f) way h =
     let y = h.filled.machine in
     let last = take_front_steps way.before.cpu.number g in
     counts_as t m n way.steps (h.paying ++ (h.filling ++ last)) h.steps_are (counts_both t m x n h.paying (h.filling ++ last)
-    (pays_count sizes g (course t way.before h.paying h.paid) h.pays) (counts_both t x y n h.filling last
-    (fills_count sizes (course t h.paid h.filling h.filled) h.fills)
+    (pays_count sizes g (Ok tt) (course t way.before h.paying h.paid) h.pays) (counts_both t x y n h.filling last
+    (fills_count sizes (Ok tt) (course t h.paid h.filling h.filled) h.fills)
     (counts_same t y n last (record { quiet = refl; no_miss = λ f. refl }) (ap (λ (k : KnownMachine). k.seat) h.takes.machine))))
-frame_counts sizes g (Err (Over over)) way h = pays_not_count sizes g (Over over) way h.refuses
+frame_counts sizes g (Err (Over over)) way h = pays_count sizes g (Err (Over over)) way h.does
 frame_counts sizes g (Err NoFrames) way h =
-    counts_as way.table way.before.machine way.after.machine way.steps (h.paying ++ h.draining) h.steps_are
-    (counts_both way.table way.before.machine h.paid.machine way.after.machine h.paying h.draining
-    (pays_count sizes g (course way.table way.before h.paying h.paid) h.pays)
-    (no_frame_counts NoFrames (course way.table h.paid h.draining way.after) h.none))
-frame_counts sizes g (Err Killed) way (inl h) = counts_stay way h.stays
-frame_counts sizes g (Err Killed) way (inr h) = pays_not_count sizes g Killed way h.refuses
+    counts_turns (PaysForFrame sizes g (Ok tt)) (FillsList sizes (Err NoFrames)) (pays_count sizes g (Ok tt))
+    (fills_count sizes (Err NoFrames)) way h.does
+frame_counts sizes g (Err Killed) way (inl h) = counts_stay way h.does
+frame_counts sizes g (Err Killed) way (inr h) = pays_count sizes g (Err Killed) way h.does
 
 -- ---- a block
 
@@ -310,14 +316,14 @@ taken_counts : (t : KnownTable) (g k head : ℕ) (m n : KnownMachine) → ((f : 
     → CountsMisses (course t m (taken_steps g k head) n)
 taken_counts t g k head m n same = counts_none t m n (taken_steps g k head) (record { quiet = refl; no_miss = λ f. refl }) same
 
-takes_count : (g k head : ℕ) → AllCounted (TryTakes g k head)
+takes_count : (g k head : ℕ) → AllCounted (TakesFreeBlock g k head)
 takes_count g k head way h =
     let m = way.before.machine in
     let n = way.after.machine in
     counts_as way.table m n way.steps (taken_steps g k head) h.steps_are (taken_counts way.table g k head m n
     (λ f. ap (λ (x : KnownMachine). misses_of x.seat f) h.takes.machine ∙ misses_put m.seat head f (unfrozen 1) (λ x. refl)))
 
-finds_none_counts : (g k : ℕ) → AllCounted (TryFindsNone g k)
+finds_none_counts : (g k : ℕ) → AllCounted (FindsNoBlock g k)
 finds_none_counts g k way h =
     let m = way.before.machine in
     let n = way.after.machine in
@@ -326,56 +332,41 @@ finds_none_counts g k way h =
 
 rounds_count : (g k : ℕ) (answer : Result ℕ AllocFault) → AllCounted (TakesInRounds g k answer)
 rounds_count g k (Ok head) way h =
-    succeeds_count (2 ^ k) (TryFindsNone g k) (finds_none_counts g k) 16 (TryTakes g k head) (takes_count g k head) way h
-rounds_count g k (Err NoFrames) way h = fails_count (2 ^ k) (TryFindsNone g k) (finds_none_counts g k) 16 way h
+    succeeds_count (2 ^ k) (FindsNoBlock g k) (finds_none_counts g k) 16 (TakesFreeBlock g k head) (takes_count g k head) way h
+rounds_count g k (Err NoFrames) way h = fails_count (2 ^ k) (FindsNoBlock g k) (finds_none_counts g k) 16 way h
 rounds_count g k (Err (Over over)) way h = absurd h
 rounds_count g k (Err Killed) way h = absurd h
 
-tries_count : (g k : ℕ) (answer : Result ℕ AllocFault) → AllCounted (TriesInRounds g k answer)
-tries_count g k answer way h =
-    counts_turns (TryFindsNone g k) (TakesInRounds g k answer) (finds_none_counts g k) (rounds_count g k answer) way h
+or_reclaims_count : (g k : ℕ) (answer : Result ℕ AllocFault) → AllCounted (TakesOrReclaims g k answer)
+or_reclaims_count g k (Ok head) way (inl h) = takes_count g k head way h
+or_reclaims_count g k (Err cause) way (inl h) = absurd h
+or_reclaims_count g k answer way (inr h) =
+    counts_turns (FindsNoBlock g k) (TakesInRounds g k answer) (finds_none_counts g k) (rounds_count g k answer) way h
 
-second_counts : (g k : ℕ) (answer : Result ℕ AllocFault) → AllCounted (TakesSecond g k answer)
-second_counts g k (Ok head) way (inl h) = takes_count g k head way h
-second_counts g k (Ok head) way (inr h) = tries_count g k (Ok head) way h
-second_counts g k (Err cause) way h = tries_count g k (Err cause) way h
-
-again_counts : (g k : ℕ) (answer : Result ℕ AllocFault) → AllCounted (TakesAgain g k answer)
-again_counts g k answer way h =
+drained_counts : (g k : ℕ) (answer : Result ℕ AllocFault) → AllCounted (TakesAfterDrain g k answer)
+drained_counts g k answer way h =
     let first = drain_list_steps way.before.cpu.number way.before.cpu.list in
     counts_as way.table way.before.machine way.after.machine way.steps (first ++ h.later) h.steps_are
-    (counts_both way.table way.before.machine h.returned way.after.machine first h.later
-    (counts_none way.table way.before.machine h.returned first (back_calm way.before.cpu.number way.before.cpu.list)
-    (back_same way.before.cpu.list way.before (side h.returned way.after.cpu) h.gives))
-    (second_counts g k answer (course way.table (side h.returned way.after.cpu) h.later way.after) h.takes))
+    (counts_both way.table way.before.machine h.drained way.after.machine first h.later
+    (counts_none way.table way.before.machine h.drained first (back_calm way.before.cpu.number way.before.cpu.list)
+    (back_same way.before.cpu.list way.before (side h.drained way.after.cpu) h.drains))
+    (or_reclaims_count g k answer (course way.table (side h.drained way.after.cpu) h.later way.after) h.takes))
 
-none_found_counts : (t : KnownTable) (g k : ℕ) (m n : KnownMachine) (steps : Run) → FindsNoBlock g k (course t m steps n) → CountsMisses (course t m steps n)
-none_found_counts t g k m n steps h =
-    let last = unplaced_steps g k in
-    counts_as t m n steps (h.making ++ last) h.steps_are (counts_both t m h.cleared n h.making last
-    (counts_room t g (2 ^ k) h.refused_at m h.cleared h.making h.makes)
-    (counts_same t h.cleared n last (record { quiet = refl; no_miss = λ f. refl }) (ap (λ (x : KnownMachine). x.seat) h.none.machine)))
+charged_counts : (g k : ℕ) (answer : Result ℕ AllocFault) → AllCounted (ChargesBlock g k answer)
+charged_counts g k (Ok head) way h = after_room_counts g (2 ^ k) (TakesFreeBlock g k head) (takes_count g k head) way h
+charged_counts g k (Err (Over over)) way h = refusal_counts g (2 ^ k) (Over over) way h
+charged_counts g k (Err NoFrames) way h = after_room_counts g (2 ^ k) (FindsNoBlock g k) (finds_none_counts g k) way h
+charged_counts g k (Err Killed) way h = refusal_counts g (2 ^ k) Killed way h
 
-once_counts : (t : KnownTable) (g k head : ℕ) (m n : KnownMachine) (steps : Run) → TakesAfterRoom g k head (course t m steps n)
-    → CountsMisses (course t m steps n)
-once_counts t g k head m n steps h =
-    let last = taken_steps g k head in
-    counts_as t m n steps (h.making ++ last) h.steps_are (counts_both t m h.cleared n h.making last
-    (counts_room t g (2 ^ k) h.refused_at m h.cleared h.making h.makes) (taken_counts t g k head h.cleared n
-    (λ f. ap (λ (x : KnownMachine). misses_of x.seat f) h.takes.machine ∙ misses_put h.cleared.seat head f (unfrozen 1) (λ x. refl))))
-
-tries_again_counts : (g k : ℕ) (answer : Result ℕ AllocFault) → AllCounted (TriesAgain g k answer)
-tries_again_counts g k answer way h =
-    counts_turns (OfMachineAlone (FindsNoBlock g k)) (TakesAgain g k answer)
-    (λ first found. none_found_counts first.table g k first.before.machine first.after.machine first.steps found.does)
-    (again_counts g k answer) way h
+retries_count : (g k : ℕ) (answer : Result ℕ AllocFault) → AllCounted (RetriesBlock g k answer)
+retries_count g k answer way h =
+    counts_turns (ChargesBlock g k (Err NoFrames)) (TakesAfterDrain g k answer) (charged_counts g k (Err NoFrames))
+    (drained_counts g k answer) way h
 
 pub block_counts : (g k : ℕ) (answer : Result ℕ AllocFault) → AllCounted (AllocatesBlock g k answer)
-block_counts g k (Ok head) way h = elim h.1 [
-  | inl once ↦ once_counts way.table g k head way.before.machine way.after.machine way.steps once.takes
-  | inr again ↦ tries_again_counts g k (Ok head) way again
-]
-block_counts g k (Err (Over over)) way h = counts_refusal way.table g (2 ^ k) (Over over) way.before.machine way.after.machine way.steps h.refuses
-block_counts g k (Err NoFrames) way h = tries_again_counts g k (Err NoFrames) way h.1
-block_counts g k (Err Killed) way (inl h) = counts_stay way h.stays
-block_counts g k (Err Killed) way (inr h) = counts_refusal way.table g (2 ^ k) Killed way.before.machine way.after.machine way.steps h.refuses
+block_counts g k (Ok head) way (inl h) = charged_counts g k (Ok head) way h.does
+block_counts g k (Ok head) way (inr h) = retries_count g k (Ok head) way h.does
+block_counts g k (Err (Over over)) way h = charged_counts g k (Err (Over over)) way h.does
+block_counts g k (Err NoFrames) way h = retries_count g k (Err NoFrames) way h.does
+block_counts g k (Err Killed) way (inl h) = counts_stay way h.does
+block_counts g k (Err Killed) way (inr h) = charged_counts g k (Err Killed) way h.does

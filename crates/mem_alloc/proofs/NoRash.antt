@@ -1,6 +1,7 @@
 -- No kill comes before everything else was tried. Serves whoever tells the steps of a command.
-use Rattle.std.proofs.Common.{◌≡◌, ◌≢◌, ℕ, zero, suc, ◌+◌, ◌<◌, ◌≤◌, ◌^◌, Bool, true, false, Option, Some, None, List, [], ◌∷◌, ◌++◌, refl, sym, ap, ◌∙◌}
+use Rattle.std.proofs.Common.{◌≡◌, ◌≢◌, ℕ, zero, suc, ◌+◌, ◌≤◌, Bool, true, false, Option, Some, None, List, [], ◌∷◌, ◌++◌, refl, sym, ap, ◌∙◌}
 use Rattle.std.proofs.Common.{subst, inl, inr, arith, cond, eq-eqb, ◌==◌, ◌||◌, ◌⊎◌}
+use Rattle.std.specs.Prelude.{Result, Ok, Err}
 use Rattle.std.proofs.lemmas.Option.{none-some}
 use Rattle.std.proofs.lemmas.Bool.{cases_Bool, cases_lt, false≢true}
 use Rattle.std.proofs.lemmas.List.{append_assoc, append-nil}
@@ -10,7 +11,6 @@ use Rattle.frame_word.specs.Seats.{KnownTable, misses_of}
 use Rattle.stock_word.specs.Stock.{Seated, account_of}
 use Rattle.group_tree.specs.declared.group.Group.{Group}
 use Rattle.group_tree.specs.Groups.{in_subtree}
-use Rattle.group_charge.specs.Charges.{AreCharges}
 use Rattle.lru_lists.specs.declared.record.Link.{Link}
 use Rattle.lru_lists.specs.declared.record.Home.{Home}
 use Rattle.lru_lists.specs.Lists.{owner_of}
@@ -24,18 +24,19 @@ use Rattle.step_rules.specs.declared.step.Step.{Step}
 use Rattle.step_rules.specs.State.{State}
 use Rattle.step_rules.specs.After.{Run, after}
 use Rattle.mem_machine.specs.Machines.{KnownMachine, home_of}
-use Rattle.mem_machine.specs.Local.{IsLocalRun, MakesForAny, local_of}
-use Rattle.mem_machine.specs.Steps.{Drain, drain_steps, drain_stocks_steps, kill_steps, note_max_steps, note_oom_steps, over_steps}
+use Rattle.mem_machine.specs.Local.{IsLocalRun, MakesForAny, Side, local_of, side}
+use Rattle.mem_machine.specs.Steps.{Drain, drain_stocks_steps, kill_steps, note_max_steps, note_oom_steps, over_steps}
 use Rattle.mem_machine.specs.Stocks.{AreDrained, Drains, DrainsBelow, DrainsAllBelow, of_subtree, stock_group}
 use Rattle.mem_machine.proofs.Draining.{groups_stay}
 use Rattle.mem_machine.proofs.Reaching.{run_both}
 use Rattle.mem_reclaim.specs.Moves.{has_kill, is_kill, is_miss, missed_in}
 use Rattle.mem_reclaim.specs.Staying.{Keeps, MissedAll}
 use Rattle.mem_reclaim.specs.Killing.{IsKilledBy, OnlyDrains, OnlyLetsGo}
-use Rattle.mem_reclaim.proofs.LettingGo.{AreQuiet, quiet_both, quiet_drain, quiet_drains}
-use Rattle.mem_alloc.specs.Stepping.{Rests, course}
-use Rattle.mem_alloc.specs.Kills.{KillsEach, KillsFor, KillsOne, KillsVictims, has_room_for, with_oom_noted_at}
-use Rattle.mem_alloc.specs.Room.{ClearsBelow, IsRefusedAt, IsRefusedFor, KillsForFew, MakesRoom, ReclaimsFor, RelievesLimit, with_max_noted_at}
+use Rattle.mem_reclaim.proofs.LettingGo.{AreQuiet, quiet_both, quiet_drains}
+use Rattle.mem_alloc.specs.Stepping.{Course, OfMachineAlone, Rests, course}
+use Rattle.mem_alloc.specs.Kills.{KillsEach, KillsFor, KillsOne, KillsUntilRoom, has_room_at, with_oom_noted_at}
+use Rattle.mem_alloc.specs.Room.{AfterRoom, ClearsBelow, IsRefusedAt, IsRefusedFor, IsRefusedOnce, KillsForFew, MakesRoom, ReclaimsFor, RelievesLimit}
+use Rattle.mem_alloc.specs.Room.{with_max_noted_at}
 use Rattle.mem_alloc.specs.declared.faults.AllocFault.{AllocFault}
 use Rattle.mem_alloc.specs.NoRash.{IsLeftBySteps, MayKill, has_oom_note, is_oom_note}
 
@@ -232,7 +233,7 @@ abbrev pub RashFree : KnownTable → (List Group → ℕ → ℕ → Type 0) →
 RashFree t MayAsk start c made steps =
     (before rest : Run) (e : Step × Answer) (victim : ℕ) → steps ≡ before ++ e ∷ rest → e.0.action ≡ Kill victim
     → (now : KnownMachine) × IsLocalRun c.number (local_of t start c) (made ++ before) (local_of t now c)
-    × MayKill t MayAsk start (made ++ before) now victim
+    × MayKill MayAsk (course t start (made ++ before) now) victim
 
 module _ (t : KnownTable) (MayAsk : List Group → ℕ → ℕ → Type 0) (s : KnownMachine) (c : KnownCpu) where
   pub rash_quiet : (made steps : Run) → has_kill steps ≡ false → RashFree t MayAsk s c made steps
@@ -246,19 +247,19 @@ module _ (t : KnownTable) (MayAsk : List Group → ℕ → ℕ → Type 0) (s : 
     | inr there ↦
         let same : (made ++ one) ++ there.0 ≡ made ++ before =
         append_assoc made one there.0 ∙ ap (λ (r : Run). made ++ r) (sym there.1) in
-        subst (λ (done : Run). (now : KnownMachine) × IsLocalRun c.number (local_of t s c) done (local_of t now c) × MayKill t MayAsk s done now v) same
+        subst (λ (done : Run). (now : KnownMachine) × IsLocalRun c.number (local_of t s c) done (local_of t now c) × MayKill MayAsk (course t s done now) v) same
         (last there.0 rest e v there.2 kill)
   ]
 
   -- a kill, and then steps without one
   pub rash_kill : (made later : Run) (m : KnownMachine) (v : ℕ) → IsLocalRun c.number (local_of t s c) made (local_of t m c)
-      → MayKill t MayAsk s made m v → has_kill later ≡ false → RashFree t MayAsk s c made (kill_steps v ++ later)
+      → MayKill MayAsk (course t s made m) v → has_kill later ≡ false → RashFree t MayAsk s c made (kill_steps v ++ later)
   rash_kill made later m v runs may quiet before rest e u is kill = elim (stands_in (kill_steps v) later before rest e is) [
     | inl here ↦
         let only = only_one (record { seat = 0; action = Kill v }, Done) before here.0 e here.1 in
         let who : v ≡ u = same_victim v u (ap (λ (x : Step × Answer). x.0.action) only.1 ∙ kill) in
         let done : made ≡ made ++ before = sym (append-nil made) ∙ ap (λ (r : Run). made ++ r) (sym only.0) in
-        subst (λ (z : Run × ℕ). (now : KnownMachine) × IsLocalRun c.number (local_of t s c) z.0 (local_of t now c) × MayKill t MayAsk s z.0 now z.1)
+        subst (λ (z : Run × ℕ). (now : KnownMachine) × IsLocalRun c.number (local_of t s c) z.0 (local_of t now c) × MayKill MayAsk (course t s z.0 now) z.1)
         (λ i. (done i, who i)) (m, runs, may)
     | inr there ↦ absurd (false≢true (sym quiet ∙ ap has_kill there.2 ∙ kills_there there.0 rest e u kill))
   ]
@@ -352,7 +353,7 @@ module _ (t : KnownTable) (MayAsk : List Group → ℕ → ℕ → Type 0) (s : 
       }
 
   may_kill : (r : Option ℕ) (g pages v : ℕ) (made : Run) (m : KnownMachine) (steps : Run) (n : KnownMachine) → MayAsk m.ledger.groups g pages
-      → Ready g made m → KillsOne r g pages v (course t m steps n) → MayKill t MayAsk s made m v
+      → Ready g made m → KillsOne r g pages v (course t m steps n) → MayKill MayAsk (course t s made m) v
   may_kill r g pages v made m steps n asked ready one = record {
     limited = g;
     need = pages;
@@ -392,7 +393,7 @@ module _ (t : KnownTable) (MayAsk : List Group → ℕ → ℕ → Type 0) (s : 
 
   -- where everything was tried, and what is noted then is one more `oom`
   tame_victims : (r : Option ℕ) (g pages : ℕ) (made : Run) (m : KnownMachine) (steps : Run) (n : KnownMachine) → MayAsk m.ledger.groups g pages
-      → Passes t c s made m → AreDrained g t.cpus m → MissedAll g s m → KillsVictims r g pages (course t m steps n) → Tame made m steps n
+      → Passes t c s made m → AreDrained g t.cpus m → MissedAll g s m → KillsUntilRoom r g pages (course t m steps n) → Tame made m steps n
   tame_victims r g pages made m steps n asked since drained missed h =
       let x = with_oom_noted_at m g in
       let note = passes_same t c m x (note_oom_steps g) (h.notes c).leads refl refl (record { quiet = refl; no_miss = λ f. refl }) in
@@ -407,9 +408,9 @@ module _ (t : KnownTable) (MayAsk : List Group → ℕ → ℕ → Type 0) (s : 
       (tame_each r g pages h.victims (made ++ note_oom_steps g) x h.killing n asked ready h.kills))
 
   pub tame_kills : (r : Option ℕ) (g pages : ℕ) (made : Run) (m : KnownMachine) (steps : Run) (n : KnownMachine) → MayAsk m.ledger.groups g pages
-      → Passes t c s made m → AreDrained g t.cpus m → (has_room_for m.ledger g pages ≡ false → MissedAll g s m)
+      → Passes t c s made m → AreDrained g t.cpus m → (has_room_at m.ledger g pages ≡ false → MissedAll g s m)
       → KillsFor r g pages (course t m steps n) → Tame made m steps n
-  tame_kills r g pages made m steps n asked since drained missed h = elim (cases_Bool (has_room_for m.ledger g pages)) [
+  tame_kills r g pages made m steps n asked since drained missed h = elim (cases_Bool (has_room_at m.ledger g pages)) [
     | inl room ↦ tame_rests made m steps n (h.room room)
     | inr over ↦ tame_victims r g pages made m steps n asked since drained (missed over) (h.over over)
   ]
@@ -438,10 +439,10 @@ module _ (t : KnownTable) (MayAsk : List Group → ℕ → ℕ → Type 0) (s : 
   reclaims_tame : (g pages : ℕ) (made : Run) (m : KnownMachine) (steps : Run) (n : KnownMachine) → ReclaimsFor g pages (course t m steps n)
       → Tame made m steps n
   reclaims_tame g pages made m steps n h =
-      tame_quiet made m steps n (keeps_pass t c m n steps h.none_killed.runs h.keeps h.none_killed.misses) h.keeps.groups h.none_killed.quiet
+      tame_quiet made m steps n (keeps_pass t c m n steps h.moves.runs h.keeps h.moves.misses) h.keeps.groups h.moves.quiet
 
   few_tame : (r g pages : ℕ) (made : Run) (m : KnownMachine) (steps : Run) (n : KnownMachine) → (pages ≤ 8 → MayAsk m.ledger.groups g pages)
-      → Passes t c s made m → AreDrained g t.cpus m → (has_room_for m.ledger g pages ≡ false → MissedAll g s m)
+      → Passes t c s made m → AreDrained g t.cpus m → (has_room_at m.ledger g pages ≡ false → MissedAll g s m)
       → KillsForFew r g pages (course t m steps n) → Tame made m steps n
   few_tame r g pages made m steps n asked since drained missed h = elim (cases_lt 8 pages) [
     | inl many ↦ tame_rests made m steps n (h.many many)
@@ -451,26 +452,28 @@ module _ (t : KnownTable) (MayAsk : List Group → ℕ → ℕ → Type 0) (s : 
   relieves_tame : (r g pages : ℕ) (made : Run) (m : KnownMachine) (steps : Run) (n : KnownMachine) → (pages ≤ 8 → MayAsk m.ledger.groups g pages)
       → Passes t c s made m → RelievesLimit r g pages (course t m steps n) → Tame made m steps n
   relieves_tame r g pages made m steps n asked since h =
-      let x = h.cleared in
-      let y = h.reclaimed in
-      let one = clears_tame g pages made m h.clearing x h.clears in
-      let after_one = passes_both t c s m x made h.clearing since one.passes in
-      let two = reclaims_tame g pages (made ++ h.clearing) x h.reclaiming y h.reclaims in
-      let after_two = passes_both t c s x y (made ++ h.clearing) h.reclaiming after_one two.passes in
-      let drained = drained_on g x y h.reclaims.keeps.groups h.reclaims.keeps.stock h.clears.drained in
+      let x = h.between in
+      let next = h.second in
+      let y = next.between in
+      let one = clears_tame g pages made m h.earlier x h.first in
+      let after_one = passes_both t c s m x made h.earlier since one.passes in
+      let two = reclaims_tame g pages (made ++ h.earlier) x next.earlier y next.first in
+      let after_two = passes_both t c s x y (made ++ h.earlier) next.earlier after_one two.passes in
+      let drained = drained_on g x y next.first.keeps.groups next.first.keeps.stock h.first.drained in
       let still = λ (few : pages ≤ 8). subst (λ (l : List Group). MayAsk l g pages) (sym (two.groups ∙ one.groups)) (asked few) in
-      let three = few_tame r g pages ((made ++ h.clearing) ++ h.reclaiming) y h.killing n still after_two drained
-      (λ over. missed_since g (made ++ h.clearing) x y after_one (h.reclaims.missed over)) h.kills in
-      subst (λ (k : Run). Tame made m k n) (sym h.steps_are) (tame_both made m x n h.clearing (h.reclaiming ++ h.killing) one
-      (tame_both (made ++ h.clearing) x y n h.reclaiming h.killing two three))
+      let three = few_tame r g pages ((made ++ h.earlier) ++ next.earlier) y next.later n still after_two drained
+      (λ over. missed_since g (made ++ h.earlier) x y after_one (next.first.missed over)) next.second in
+      let rest = subst (λ (k : Run). Tame (made ++ h.earlier) x k n) (sym next.steps_are)
+      (tame_both (made ++ h.earlier) x y n next.earlier next.later two three) in
+      subst (λ (k : Run). Tame made m k n) (sym h.steps_are) (tame_both made m x n h.earlier h.later one rest)
 
   -- ---- charges to the group, of so many pages, for which these may be asked
 
   module _ (g pages : ℕ) (base : List Group) (asks : (over : ℕ) → in_subtree base over g ≡ true → pages ≤ 8 → MayAsk base over pages) where
     -- where the charge is refused, and the group named has room afterwards or not
-    refused_tame : (over : ℕ) (made : Run) (m : KnownMachine) (steps rest : Run) (n : KnownMachine) (z : State) → m.ledger.groups ≡ base → Passes t c s made m
-        → IsLocalRun c.number (local_of t m c) (steps ++ rest) z → IsRefusedAt g pages over (course t m steps n) → Tame made m steps n
-    refused_tame over made m steps rest n z is since whole h =
+    refused_tame : (over : ℕ) (answer : Result (Unit {0}) AllocFault) (made : Run) (m : KnownMachine) (steps rest : Run) (n : KnownMachine) (z : State) → m.ledger.groups ≡ base → Passes t c s made m
+        → IsLocalRun c.number (local_of t m c) (steps ++ rest) z → IsRefusedAt g pages over answer (course t m steps n) → Tame made m steps n
+    refused_tame over answer made m steps rest n z is since whole h =
         let first = over_steps g pages over in
         let grant = over_runs c.number g pages over (h.relieving ++ rest) (local_of t m c) z
         (subst (λ (k : Run). IsLocalRun c.number (local_of t m c) (k ++ rest) z) h.steps_are whole) in
@@ -490,27 +493,40 @@ module _ (t : KnownTable) (MayAsk : List Group → ℕ → ℕ → Type 0) (s : 
         let last = h.later in
         let all : IsLocalRun c.number (local_of t m c) (first ++ (last ++ rest)) z =
         subst (λ (k : Run). IsLocalRun c.number (local_of t m c) k z) (ap (λ (k : Run). k ++ rest) h.steps_are ∙ append_assoc first last rest) whole in
-        let one = refused_tame over made m first (last ++ rest) x z is since all h.first.refused in
+        let one = refused_tame over (Ok tt) made m first (last ++ rest) x z is since all h.first in
         let on = run_rest c.number first (last ++ rest) (local_of t m c) (local_of t x c) z one.passes.runs all in
         let two = makes_tame later (made ++ first) x last rest n z (one.groups ∙ is) (passes_both t c s m x made first since one.passes) on h.second in
         subst (λ (k : Run). Tame made m k n) (sym h.steps_are) (tame_both made m x n first last one two)
 
-    pub refusal_rash : (cause : AllocFault) (made : Run) (m : KnownMachine) (steps : Run) (n : KnownMachine) (z : State) → m.ledger.groups ≡ base → Passes t c s made m
-        → IsLocalRun c.number (local_of t m c) steps z → IsRefusedFor g pages cause (course t m steps n) → RashFree t MayAsk s c made steps
-    refusal_rash cause made m steps n z is since whole h =
+    -- this is done after room was made for the charge, and comes no kill of it too early
+    pub after_room_rash : (Does : Course Side → Type 0) (made : Run) (m : KnownMachine) (steps rest : Run) (n : Side) (z : State) → m.ledger.groups ≡ base
+        → Passes t c s made m → IsLocalRun c.number (local_of t m c) (steps ++ rest) z
+        → ((done later : Run) (x : KnownMachine) → x.ledger.groups ≡ base → Passes t c s done x → IsLocalRun c.number (local_of t x c) (later ++ rest) z
+        → Does (course t (side x c) later n) → RashFree t MayAsk s c done later)
+        → AfterRoom g pages Does (course t (side m c) steps n) → RashFree t MayAsk s c made steps
+    after_room_rash Does made m steps rest n z is since whole free h =
         let x = h.cleared in
-        let all = subst (λ (k : Run). IsLocalRun c.number (local_of t m c) k z) h.steps_are whole in
-        let one = makes_tame h.refused_at made m h.making h.last x z is since all h.makes in
-        let on = run_rest c.number h.making h.last (local_of t m c) (local_of t x c) z one.passes.runs all in
-        let on_all = subst (λ (k : Run). IsLocalRun c.number (local_of t x c) k z) (sym (append-nil h.last)) on in
-        let two = refused_tame h.over (made ++ h.making) x h.last [] n z (one.groups ∙ is) (passes_both t c s m x made h.making since one.passes) on_all h.refused in
-        subst (λ (k : Run). RashFree t MayAsk s c made k) (sym h.steps_are) (rash_both made h.making h.last one.rash two.rash)
+        let all : IsLocalRun c.number (local_of t m c) (h.making ++ (h.later ++ rest)) z =
+        subst (λ (k : Run). IsLocalRun c.number (local_of t m c) k z) (ap (λ (k : Run). k ++ rest) h.steps_are ∙ append_assoc h.making h.later rest) whole in
+        let one = makes_tame h.refused_at made m h.making (h.later ++ rest) x z is since all h.makes in
+        let on = run_rest c.number h.making (h.later ++ rest) (local_of t m c) (local_of t x c) z one.passes.runs all in
+        let done = passes_both t c s m x made h.making since one.passes in
+        subst (λ (k : Run). RashFree t MayAsk s c made k) (sym h.steps_are) (rash_both made h.making h.later one.rash
+        (free (made ++ h.making) h.later x (one.groups ∙ is) done on h.does))
 
-    -- the charge is made after room was made for it, and then comes no kill
-    pub after_room_rash : (refused : List ℕ) (made : Run) (m : KnownMachine) (making last rest : Run) (x : KnownMachine) (z : State) → m.ledger.groups ≡ base → Passes t c s made m
-        → IsLocalRun c.number (local_of t m c) ((making ++ last) ++ rest) z → MakesRoom g pages refused (course t m making x) → has_kill last ≡ false
-        → RashFree t MayAsk s c made (making ++ last)
-    after_room_rash refused made m making last rest x z is since whole h quiet =
-        let all = subst (λ (k : Run). IsLocalRun c.number (local_of t m c) k z) (append_assoc making last rest) whole in
-        let one = makes_tame refused made m making (last ++ rest) x z is since all h in
-        rash_both made making last one.rash (rash_quiet (made ++ making) last quiet)
+    -- so it is where what is done then makes no kill
+    pub quiet_after_room : (Does : Course Side → Type 0) (made : Run) (m : KnownMachine) (steps rest : Run) (n : Side) (z : State) → m.ledger.groups ≡ base
+        → Passes t c s made m → IsLocalRun c.number (local_of t m c) (steps ++ rest) z → ((way : Course Side) → Does way → has_kill way.steps ≡ false)
+        → AfterRoom g pages Does (course t (side m c) steps n) → RashFree t MayAsk s c made steps
+    quiet_after_room Does made m steps rest n z is since whole quiet h =
+        after_room_rash Does made m steps rest n z is since whole
+        (λ done later x groups passes on does. rash_quiet done later (quiet (course t (side x c) later n) does)) h
+
+    -- and where the charge is refused for good
+    pub refusal_rash : (cause : AllocFault) (made : Run) (m : KnownMachine) (steps rest : Run) (n : Side) (z : State) → m.ledger.groups ≡ base
+        → Passes t c s made m → IsLocalRun c.number (local_of t m c) (steps ++ rest) z → IsRefusedFor g pages cause (course t (side m c) steps n)
+        → RashFree t MayAsk s c made steps
+    refusal_rash cause made m steps rest n z is since whole h =
+        after_room_rash (OfMachineAlone (IsRefusedOnce g pages cause)) made m steps rest n z is since whole
+        (λ done later x groups passes on does.
+        (refused_tame does.does.0 (Err cause) done x later rest n.machine z groups passes on does.does.1).rash) h

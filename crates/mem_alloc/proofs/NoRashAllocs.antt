@@ -1,5 +1,5 @@
 -- No kill of an allocation comes before everything else was tried. Serves whoever tells the steps of an Alloc.
-use Rattle.std.proofs.Common.{◌≡◌, ◌≢◌, ℕ, zero, suc, ◌≤◌, ◌^◌, Bool, true, false, List, [], ◌∷◌, ◌++◌, refl, sym, ap, ◌∙◌, subst, inl, inr, arith, ◌||◌}
+use Rattle.std.proofs.Common.{◌≡◌, ℕ, zero, suc, ◌≤◌, ◌^◌, Bool, true, false, List, [], ◌++◌, refl, sym, ap, ◌∙◌, subst, inl, inr, ◌||◌}
 use Rattle.std.specs.Prelude.{Result, Ok, Err}
 use Rattle.std.proofs.lemmas.List.{append_assoc, append-nil}
 use Rattle.std.proofs.lemmas.List.Folds.{list_any-append}
@@ -14,21 +14,20 @@ use Rattle.step_rules.specs.State.{State}
 use Rattle.step_rules.specs.After.{Run}
 use Rattle.mem_machine.specs.Machines.{KnownMachine}
 use Rattle.mem_machine.specs.Local.{IsLocalRun, Side, local_of, side}
-use Rattle.mem_machine.specs.Blocks.{taken_steps, unplaced_steps}
 use Rattle.mem_machine.specs.Stocks.{stock_group}
-use Rattle.mem_machine.specs.Steps.{drain_list_steps, drain_steps, fill_steps, over_steps, take_front_steps}
+use Rattle.mem_machine.specs.Steps.{drain_list_steps, drain_steps, over_steps, take_front_steps}
 use Rattle.mem_reclaim.specs.Moves.{has_kill, is_kill}
 use Rattle.mem_reclaim.proofs.LettingGo.{quiet_drain}
 use Rattle.mem_alloc.specs.declared.faults.AllocFault.{AllocFault}
 use Rattle.mem_alloc.specs.declared.faults.AllocFault.TheVariants.{Over, NoFrames, Killed}
-use Rattle.mem_alloc.specs.Stepping.{Course, InTurn, course}
-use Rattle.mem_alloc.specs.Charging.{ChargesFrame, FillsAfterRoom, PaysForFrame, RefusesFrame, RefusesToPay, DrainsOwn}
+use Rattle.mem_alloc.specs.Stepping.{Course, InTurn, Where, course}
+use Rattle.mem_alloc.specs.Charging.{ChargesAfterDrain, ChargesFrame, ChargesOne, DrainsStock, FillsStock, LacksBatch, PaysForFrame}
 use Rattle.mem_alloc.specs.Rounds.{FailsInRounds, GivesInRound, MakesRound, SucceedsInRounds}
-use Rattle.mem_alloc.specs.Frames.{AllocatesFrame, FillsList, HasNoFrame, LendsBatch, LendsNoFrame}
-use Rattle.mem_alloc.specs.Blocks.{AllocatesBlock, FindsNoBlock, TakesAfterRoom, TakesAgain, TakesInRounds, TakesSecond, TriesAgain, TriesInRounds, TryFindsNone, TryTakes}
+use Rattle.mem_alloc.specs.Frames.{AllocatesFrame, FillsList, HasNoFreeFrame, LendsBatch, LendsNoFrame, RefillsInRounds}
+use Rattle.mem_alloc.specs.Blocks.{AllocatesBlock, ChargesBlock, FindsNoBlock, RetriesBlock, TakesAfterDrain, TakesFreeBlock, TakesInRounds, TakesOrReclaims}
 use Rattle.mem_alloc.specs.NoRash.{NoRashKill}
 use Rattle.mem_alloc.proofs.Missing.{back_calm, refill_calm}
-use Rattle.mem_alloc.proofs.NoRash.{Passes, RashFree, after_room_rash, drain_same, over_runs, passes_both, passes_none, passes_same, rash_both, rash_quiet, refusal_rash, run_rest}
+use Rattle.mem_alloc.proofs.NoRash.{Passes, RashFree, drain_same, over_runs, passes_both, passes_none, passes_same, quiet_after_room, rash_both, rash_quiet, refusal_rash, run_rest}
 
 -- ---- lists of steps without a kill
 
@@ -50,7 +49,7 @@ module _ (want : ℕ) (Fails : Course Side → Type 0) (failing : AllQuiet Fails
   round_quiet : (given : ℕ) (Tries : Course Side → Type 0) → AllQuiet Tries → (way : Course Side) → MakesRound want given Tries way
       → has_kill way.steps ≡ false
   round_quiet given Tries trying way h =
-      ap has_kill h.steps_are ∙ no_kill_both h.reclaiming h.trying h.none_killed
+      ap has_kill h.steps_are ∙ no_kill_both h.reclaiming h.trying h.moves.quiet
       (trying (course way.table (side h.reclaimed way.before.cpu) h.trying way.after) h.tries)
 
   gives_quiet : AllQuiet (GivesInRound want Fails)
@@ -75,49 +74,54 @@ lends_quiet : (batch : ℕ) → AllQuiet (LendsBatch batch)
 lends_quiet batch way h = ap has_kill h.steps_are ∙ (refill_calm way.before.cpu.number h.frames).quiet
 
 lends_none_quiet : AllQuiet LendsNoFrame
-lends_none_quiet way h = ap has_kill h.stays.steps_are
+lends_none_quiet way h = ap has_kill h.does.steps_are
 
-fills_quiet : (sizes : Config) → AllQuiet (FillsList sizes)
-fills_quiet sizes way (inl h) = ap has_kill h.stays.steps_are
-fills_quiet sizes way (inr (inl h)) = lends_quiet sizes.batch way h.lends
-fills_quiet sizes way (inr (inr h)) = succeeds_quiet 1 LendsNoFrame lends_none_quiet 16 (LendsBatch sizes.batch) (lends_quiet sizes.batch) way h.rounds
+drains_quiet : AllQuiet DrainsStock
+drains_quiet way h =
+    ap has_kill h.steps_are ∙ (quiet_drain way.before.cpu.number (stock_group way.before.machine way.before.cpu.number) h.drained).quiet
 
-no_frame_quiet : (cause : AllocFault) → AllQuiet (HasNoFrame cause)
-no_frame_quiet cause way h =
-    let last = drain_steps way.before.cpu.number (stock_group h.reclaimed way.before.cpu.number) h.drained in
-    ap has_kill h.steps_are ∙ no_kill_both h.reclaiming last
-    (fails_quiet 1 LendsNoFrame lends_none_quiet 16 (course way.table way.before h.reclaiming (side h.reclaimed way.before.cpu)) h.rounds)
-    (quiet_drain way.before.cpu.number (stock_group h.reclaimed way.before.cpu.number) h.drained).quiet
+refills_quiet : (batch : ℕ) (filled : Bool) → AllQuiet (RefillsInRounds batch filled)
+refills_quiet batch true way h = succeeds_quiet 1 LendsNoFrame lends_none_quiet 16 (LendsBatch batch) (lends_quiet batch) way h
+refills_quiet batch false way h = fails_quiet 1 LendsNoFrame lends_none_quiet 16 way h
+
+fills_quiet : (sizes : Config) (answer : Result (Unit {0}) AllocFault) → AllQuiet (FillsList sizes answer)
+fills_quiet sizes (Ok v) way (inl h) = ap has_kill h.does.steps_are
+fills_quiet sizes (Ok v) way (inr h) = elim h.does [
+  | inl lends ↦ lends_quiet sizes.batch way lends
+  | inr rounds ↦ refills_quiet sizes.batch true way rounds.does
+]
+fills_quiet sizes (Err NoFrames) way h =
+    turns_quiet (RefillsInRounds sizes.batch false) (Where HasNoFreeFrame DrainsStock) (refills_quiet sizes.batch false)
+    (λ last drains. drains_quiet last drains.does) way h.does.does
+fills_quiet sizes (Err (Over over)) way h = absurd h
+fills_quiet sizes (Err Killed) way h = absurd h
 
 -- ---- a block
 
-takes_quiet : (g k head : ℕ) → AllQuiet (TryTakes g k head)
+takes_quiet : (g k head : ℕ) → AllQuiet (TakesFreeBlock g k head)
 takes_quiet g k head way h = ap has_kill h.steps_are
 
-finds_none_quiet : (g k : ℕ) → AllQuiet (TryFindsNone g k)
+finds_none_quiet : (g k : ℕ) → AllQuiet (FindsNoBlock g k)
 finds_none_quiet g k way h = ap has_kill h.steps_are
 
 rounds_quiet : (g k : ℕ) (answer : Result ℕ AllocFault) → AllQuiet (TakesInRounds g k answer)
 rounds_quiet g k (Ok head) way h =
-    succeeds_quiet (2 ^ k) (TryFindsNone g k) (finds_none_quiet g k) 16 (TryTakes g k head) (takes_quiet g k head) way h
-rounds_quiet g k (Err NoFrames) way h = fails_quiet (2 ^ k) (TryFindsNone g k) (finds_none_quiet g k) 16 way h
+    succeeds_quiet (2 ^ k) (FindsNoBlock g k) (finds_none_quiet g k) 16 (TakesFreeBlock g k head) (takes_quiet g k head) way h
+rounds_quiet g k (Err NoFrames) way h = fails_quiet (2 ^ k) (FindsNoBlock g k) (finds_none_quiet g k) 16 way h
 rounds_quiet g k (Err (Over over)) way h = absurd h
 rounds_quiet g k (Err Killed) way h = absurd h
 
-tries_quiet : (g k : ℕ) (answer : Result ℕ AllocFault) → AllQuiet (TriesInRounds g k answer)
-tries_quiet g k answer way h =
-    turns_quiet (TryFindsNone g k) (TakesInRounds g k answer) (finds_none_quiet g k) (rounds_quiet g k answer) way h
+or_reclaims_quiet : (g k : ℕ) (answer : Result ℕ AllocFault) → AllQuiet (TakesOrReclaims g k answer)
+or_reclaims_quiet g k (Ok head) way (inl h) = takes_quiet g k head way h
+or_reclaims_quiet g k (Err cause) way (inl h) = absurd h
+or_reclaims_quiet g k answer way (inr h) =
+    turns_quiet (FindsNoBlock g k) (TakesInRounds g k answer) (finds_none_quiet g k) (rounds_quiet g k answer) way h
 
-second_quiet : (g k : ℕ) (answer : Result ℕ AllocFault) → AllQuiet (TakesSecond g k answer)
-second_quiet g k (Ok head) way (inl h) = takes_quiet g k head way h
-second_quiet g k (Ok head) way (inr h) = tries_quiet g k (Ok head) way h
-second_quiet g k (Err cause) way h = tries_quiet g k (Err cause) way h
-
-again_quiet : (g k : ℕ) (answer : Result ℕ AllocFault) → AllQuiet (TakesAgain g k answer)
-again_quiet g k answer way h =
+drained_quiet : (g k : ℕ) (answer : Result ℕ AllocFault) → AllQuiet (TakesAfterDrain g k answer)
+drained_quiet g k answer way h =
     ap has_kill h.steps_are ∙ no_kill_both (drain_list_steps way.before.cpu.number way.before.cpu.list) h.later
     (back_calm way.before.cpu.number way.before.cpu.list).quiet
-    (second_quiet g k answer (course way.table (side h.returned way.after.cpu) h.later way.after) h.takes)
+    (or_reclaims_quiet g k answer (course way.table (side h.drained way.after.cpu) h.later way.after) h.takes)
 
 -- ---- the whole of an allocation
 
@@ -127,18 +131,22 @@ module _ (t : KnownTable) (MayAsk : List Group → ℕ → ℕ → Type 0) (s : 
 
   -- ---- single frames
 
-  module _ (asks : Asks 1) where
-    fills_rash : (made : Run) (x : KnownMachine) (steps rest : Run) (n : Side) (z : State) → x.ledger.groups ≡ s.ledger.groups → Passes t c s made x
-        → IsLocalRun c.number (local_of t x c) (steps ++ rest) z → FillsAfterRoom g 1 (course t (side x c) steps n) → RashFree t MayAsk s c made steps
-    fills_rash made x steps rest n z is since whole h =
-        let all = subst (λ (k : Run). IsLocalRun c.number (local_of t x c) (k ++ rest) z) h.steps_are whole in
-        subst (λ (k : Run). RashFree t MayAsk s c made k) (sym h.steps_are)
-        (after_room_rash t MayAsk s c g 1 s.ledger.groups asks h.refused_at made x h.making (fill_steps c.number g 1) rest h.cleared z is since all h.makes refl)
+  stock_quiet : (pages : ℕ) → AllQuiet (FillsStock g pages)
+  stock_quiet pages way h = ap has_kill h.steps_are
 
-    charges_rash : (sizes : Config) (made : Run) (x : KnownMachine) (steps rest : Run) (n : Side) (z : State) → x.ledger.groups ≡ s.ledger.groups → Passes t c s made x
-        → IsLocalRun c.number (local_of t x c) (steps ++ rest) z → ChargesFrame sizes g (course t (side x c) steps n) → RashFree t MayAsk s c made steps
-    charges_rash sizes made x steps rest n z is since whole (inl h) = rash_quiet t MayAsk s c made steps (ap has_kill h.steps_are)
-    charges_rash sizes made x steps rest n z is since whole (inr h) =
+  module _ (asks : Asks 1) where
+    one_rash : (answer : Result (Unit {0}) AllocFault) (made : Run) (x : KnownMachine) (steps rest : Run) (n : Side) (z : State) → x.ledger.groups ≡ s.ledger.groups
+        → Passes t c s made x → IsLocalRun c.number (local_of t x c) (steps ++ rest) z → ChargesOne g answer (course t (side x c) steps n)
+        → RashFree t MayAsk s c made steps
+    one_rash (Ok v) made x steps rest n z is since whole h =
+        quiet_after_room t MayAsk s c g 1 s.ledger.groups asks (FillsStock g 1) made x steps rest n z is since whole (stock_quiet 1) h
+    one_rash (Err cause) made x steps rest n z is since whole h =
+        refusal_rash t MayAsk s c g 1 s.ledger.groups asks cause made x steps rest n z is since whole h
+
+    lacks_rash : (sizes : Config) (answer : Result (Unit {0}) AllocFault) (made : Run) (x : KnownMachine) (steps rest : Run) (n : Side) (z : State)
+        → x.ledger.groups ≡ s.ledger.groups → Passes t c s made x → IsLocalRun c.number (local_of t x c) (steps ++ rest) z
+        → LacksBatch sizes g (ChargesOne g answer) (course t (side x c) steps n) → RashFree t MayAsk s c made steps
+    lacks_rash sizes answer made x steps rest n z is since whole h =
         let first = over_steps g sizes.stock h.over in
         let all = subst (λ (k : Run). IsLocalRun c.number (local_of t x c) (k ++ rest) z) h.steps_are whole in
         let grant = over_runs c.number g sizes.stock h.over (h.later ++ rest) (local_of t x c) z all in
@@ -146,105 +154,106 @@ module _ (t : KnownTable) (MayAsk : List Group → ℕ → ℕ → Type 0) (s : 
         let on = run_rest c.number first (h.later ++ rest) (local_of t x c) (local_of t x c) z grant all in
         subst (λ (k : Run). RashFree t MayAsk s c made k) (sym h.steps_are) (rash_both t MayAsk s c made first h.later
         (rash_quiet t MayAsk s c made first refl)
-        (fills_rash (made ++ first) x h.later rest n z is (passes_both t c s x x made first since refused) on h.next))
+        (one_rash answer (made ++ first) x h.later rest n z is (passes_both t c s x x made first since refused) on h.does))
 
-    refuses_rash : (sizes : Config) (cause : AllocFault) (made : Run) (x : KnownMachine) (steps : Run) (n : Side) (z : State) → x.ledger.groups ≡ s.ledger.groups → Passes t c s made x
-        → IsLocalRun c.number (local_of t x c) steps z → RefusesFrame sizes g cause (course t (side x c) steps n) → RashFree t MayAsk s c made steps
-    refuses_rash sizes cause made x steps n z is since whole h =
-        let first = over_steps g sizes.stock h.over in
-        let all = subst (λ (k : Run). IsLocalRun c.number (local_of t x c) k z) h.steps_are whole in
-        let grant = over_runs c.number g sizes.stock h.over h.later (local_of t x c) z all in
-        let refused = passes_same t c x x first grant refl refl (record { quiet = refl; no_miss = λ f. refl }) in
-        let on = run_rest c.number first h.later (local_of t x c) (local_of t x c) z grant all in
-        subst (λ (k : Run). RashFree t MayAsk s c made k) (sym h.steps_are) (rash_both t MayAsk s c made first h.later
-        (rash_quiet t MayAsk s c made first refl)
-        (refusal_rash t MayAsk s c g 1 s.ledger.groups asks cause (made ++ first) x h.later n.machine z is (passes_both t c s x x made first since refused) on h.next.refuses))
+    charges_rash : (sizes : Config) (answer : Result (Unit {0}) AllocFault) (made : Run) (x : KnownMachine) (steps rest : Run) (n : Side) (z : State)
+        → x.ledger.groups ≡ s.ledger.groups → Passes t c s made x → IsLocalRun c.number (local_of t x c) (steps ++ rest) z
+        → ChargesFrame sizes g answer (course t (side x c) steps n) → RashFree t MayAsk s c made steps
+    charges_rash sizes (Ok v) made x steps rest n z is since whole (inl h) = rash_quiet t MayAsk s c made steps (ap has_kill h.steps_are)
+    charges_rash sizes (Ok v) made x steps rest n z is since whole (inr h) = lacks_rash sizes (Ok v) made x steps rest n z is since whole h
+    charges_rash sizes (Err cause) made x steps rest n z is since whole h = lacks_rash sizes (Err cause) made x steps rest n z is since whole h
 
     -- the own stock is drained
-    drain_passes : (x : KnownMachine) (steps : Run) → DrainsOwn g (side s c) steps x → IsLocalRun c.number (local_of t s c) steps (local_of t x c)
-        → Passes t c s steps x
-    drain_passes x steps h runs =
-        let same = drain_same s x c.number h.drained h.drains in
-        subst (λ (k : Run). IsLocalRun c.number (local_of t s c) k (local_of t x c) → Passes t c s k x) (sym h.steps_are)
-        (λ r. passes_same t c s x (drain_steps c.number (stock_group s c.number) h.drained) r same.seat same.links
+    drain_passes : (x : Side) (steps : Run) → DrainsStock (course t (side s c) steps x) → Passes t c s steps x.machine
+    drain_passes x steps h =
+        let same = drain_same s x.machine c.number h.drained h.drains in
+        let runs : IsLocalRun c.number (local_of t s c) steps (local_of t x.machine c) =
+        subst (λ (y : KnownCpu). IsLocalRun c.number (local_of t s c) steps (local_of t x.machine y)) h.cpu h.runs.leads in
+        subst (λ (k : Run). IsLocalRun c.number (local_of t s c) k (local_of t x.machine c) → Passes t c s k x.machine) (sym h.steps_are)
+        (λ r. passes_same t c s x.machine (drain_steps c.number (stock_group s c.number) h.drained) r same.seat same.links
         (quiet_drain c.number (stock_group s c.number) h.drained)) runs
 
-    drain_quiet : (x : KnownMachine) (steps : Run) → DrainsOwn g (side s c) steps x → has_kill steps ≡ false
-    drain_quiet x steps h = ap has_kill h.steps_are ∙ (quiet_drain c.number (stock_group s c.number) h.drained).quiet
-
-    pays_rash : (sizes : Config) (steps rest : Run) (n : Side) (z : State) → IsLocalRun c.number (local_of t s c) (steps ++ rest) z
-        → PaysForFrame sizes g (course t (side s c) steps n) → RashFree t MayAsk s c [] steps
-    pays_rash sizes steps rest n z whole (inl h) = rash_quiet t MayAsk s c [] steps (ap has_kill h.steps_are)
-    pays_rash sizes steps rest n z whole (inr h) =
-        let all = subst (λ (k : Run). IsLocalRun c.number (local_of t s c) k z) (ap (λ (k : Run). k ++ rest) h.steps_are ∙ append_assoc h.first h.later rest)
+    anew_rash : (sizes : Config) (answer : Result (Unit {0}) AllocFault) (steps rest : Run) (n : Side) (z : State)
+        → IsLocalRun c.number (local_of t s c) (steps ++ rest) z → ChargesAfterDrain sizes g answer (course t (side s c) steps n)
+        → RashFree t MayAsk s c [] steps
+    anew_rash sizes answer steps rest n z whole all =
+        let h = all.does in
+        let x = h.between in
+        let told : IsLocalRun c.number (local_of t s c) (h.earlier ++ (h.later ++ rest)) z =
+        subst (λ (k : Run). IsLocalRun c.number (local_of t s c) k z) (ap (λ (k : Run). k ++ rest) h.steps_are ∙ append_assoc h.earlier h.later rest)
         whole in
-        let on = run_rest c.number h.first (h.later ++ rest) (local_of t s c) (local_of t h.emptied c) z h.empties.leads all in
-        subst (λ (k : Run). RashFree t MayAsk s c [] k) (sym h.steps_are) (rash_both t MayAsk s c [] h.first h.later
-        (rash_quiet t MayAsk s c [] h.first (drain_quiet h.emptied h.first h.drains))
-        (charges_rash sizes h.first h.emptied h.later rest n z (drain_same s h.emptied c.number h.drains.drained h.drains.drains).groups (drain_passes h.emptied h.first h.drains h.empties.leads) on h.next))
+        let passes = drain_passes x h.earlier h.first in
+        let on = run_rest c.number h.earlier (h.later ++ rest) (local_of t s c) (local_of t x.machine c) z passes.runs told in
+        let charges = subst (λ (y : KnownCpu). ChargesFrame sizes g answer (course t (side x.machine y) h.later n)) h.first.cpu h.second in
+        subst (λ (k : Run). RashFree t MayAsk s c [] k) (sym h.steps_are) (rash_both t MayAsk s c [] h.earlier h.later
+        (rash_quiet t MayAsk s c [] h.earlier (drains_quiet (course t (side s c) h.earlier x) h.first))
+        (charges_rash sizes answer h.earlier x.machine h.later rest n z (drain_same s x.machine c.number h.first.drained h.first.drains).groups passes on charges))
 
-    pays_not_rash : (sizes : Config) (cause : AllocFault) (steps : Run) (n : Side) (z : State) → IsLocalRun c.number (local_of t s c) steps z
-        → RefusesToPay sizes g cause (course t (side s c) steps n) → RashFree t MayAsk s c [] steps
-    pays_not_rash sizes cause steps n z whole h =
-        let all = subst (λ (k : Run). IsLocalRun c.number (local_of t s c) k z) h.steps_are whole in
-        let on = run_rest c.number h.first h.later (local_of t s c) (local_of t h.emptied c) z h.empties.leads all in
-        subst (λ (k : Run). RashFree t MayAsk s c [] k) (sym h.steps_are) (rash_both t MayAsk s c [] h.first h.later
-        (rash_quiet t MayAsk s c [] h.first (drain_quiet h.emptied h.first h.drains))
-        (refuses_rash sizes cause h.first h.emptied h.later n z (drain_same s h.emptied c.number h.drains.drained h.drains.drains).groups (drain_passes h.emptied h.first h.drains h.empties.leads) on h.next))
+    pays_rash : (sizes : Config) (answer : Result (Unit {0}) AllocFault) (steps rest : Run) (n : Side) (z : State)
+        → IsLocalRun c.number (local_of t s c) (steps ++ rest) z → PaysForFrame sizes g answer (course t (side s c) steps n) → RashFree t MayAsk s c [] steps
+    pays_rash sizes (Ok v) steps rest n z whole (inl h) = rash_quiet t MayAsk s c [] steps (ap has_kill h.does.steps_are)
+    pays_rash sizes (Ok v) steps rest n z whole (inr h) = anew_rash sizes (Ok v) steps rest n z whole h
+    pays_rash sizes (Err cause) steps rest n z whole h = anew_rash sizes (Err cause) steps rest n z whole h
+
+    -- a page is paid for, or not, and nothing is done after that
+    pays_all_rash : (sizes : Config) (answer : Result (Unit {0}) AllocFault) (steps : Run) (n : Side) (z : State) → IsLocalRun c.number (local_of t s c) steps z
+        → PaysForFrame sizes g answer (course t (side s c) steps n) → RashFree t MayAsk s c [] steps
+    pays_all_rash sizes answer steps n z whole h =
+        pays_rash sizes answer steps [] n z (subst (λ (k : Run). IsLocalRun c.number (local_of t s c) k z) (sym (append-nil steps)) whole) h
 
     pub frame_no_rash : (sizes : Config) (answer : Result ℕ AllocFault) (steps : Run) (n : Side) (z : State) → IsLocalRun c.number (local_of t s c) steps z
         → AllocatesFrame sizes g answer (course t (side s c) steps n) → NoRashKill t MayAsk s c steps
-    frame_no_rash sizes (Ok f) steps n z whole h =
+    frame_no_rash sizes (Ok f) steps n z whole living =
+        let h = living.does in
         let last = h.filling ++ take_front_steps c.number g in
         let all = subst (λ (k : Run). IsLocalRun c.number (local_of t s c) k z) h.steps_are whole in
-        let quiet = no_kill_both h.filling (take_front_steps c.number g) (fills_quiet sizes (course t h.paid h.filling h.filled) h.fills) refl in
+        let quiet = no_kill_both h.filling (take_front_steps c.number g) (fills_quiet sizes (Ok tt) (course t h.paid h.filling h.filled) h.fills) refl in
         subst (λ (k : Run). RashFree t MayAsk s c [] k) (sym h.steps_are) (rash_both t MayAsk s c [] h.paying last
-        (pays_rash sizes h.paying last h.paid z all h.pays) (rash_quiet t MayAsk s c h.paying last quiet))
-    frame_no_rash sizes (Err (Over over)) steps n z whole h = pays_not_rash sizes (Over over) steps n z whole h.refuses
-    frame_no_rash sizes (Err NoFrames) steps n z whole h =
+        (pays_rash sizes (Ok tt) h.paying last h.paid z all h.pays) (rash_quiet t MayAsk s c h.paying last quiet))
+    frame_no_rash sizes (Err (Over over)) steps n z whole h = pays_all_rash sizes (Err (Over over)) steps n z whole h.does
+    frame_no_rash sizes (Err NoFrames) steps n z whole living =
+        let h = living.does in
         let all = subst (λ (k : Run). IsLocalRun c.number (local_of t s c) k z) h.steps_are whole in
-        let quiet = no_frame_quiet NoFrames (course t h.paid h.draining n) h.none in
-        subst (λ (k : Run). RashFree t MayAsk s c [] k) (sym h.steps_are) (rash_both t MayAsk s c [] h.paying h.draining
-        (pays_rash sizes h.paying h.draining h.paid z all h.pays) (rash_quiet t MayAsk s c h.paying h.draining quiet))
-    frame_no_rash sizes (Err Killed) steps n z whole (inl h) = rash_quiet t MayAsk s c [] steps (ap has_kill h.stays.steps_are)
-    frame_no_rash sizes (Err Killed) steps n z whole (inr h) = pays_not_rash sizes Killed steps n z whole h.refuses
+        let quiet = fills_quiet sizes (Err NoFrames) (course t h.between h.later n) h.second in
+        subst (λ (k : Run). RashFree t MayAsk s c [] k) (sym h.steps_are) (rash_both t MayAsk s c [] h.earlier h.later
+        (pays_rash sizes (Ok tt) h.earlier h.later h.between z all h.first) (rash_quiet t MayAsk s c h.earlier h.later quiet))
+    frame_no_rash sizes (Err Killed) steps n z whole (inl h) = rash_quiet t MayAsk s c [] steps (ap has_kill h.does.steps_are)
+    frame_no_rash sizes (Err Killed) steps n z whole (inr h) = pays_all_rash sizes (Err Killed) steps n z whole h.does
 
   -- ---- blocks
 
   module _ (k : ℕ) (asks : Asks (2 ^ k)) where
-    takes_rash : (head : ℕ) (steps : Run) (n : KnownMachine) (z : State) → IsLocalRun c.number (local_of t s c) steps z
-        → TakesAfterRoom g k head (course t s steps n) → RashFree t MayAsk s c [] steps
-    takes_rash head steps n z whole h =
-        let last = taken_steps g k head in
-        let all = subst (λ (r : Run). IsLocalRun c.number (local_of t s c) r z) (h.steps_are ∙ sym (append-nil (h.making ++ last))) whole in
-        subst (λ (r : Run). RashFree t MayAsk s c [] r) (sym h.steps_are)
-        (after_room_rash t MayAsk s c g (2 ^ k) s.ledger.groups asks h.refused_at [] s h.making last [] h.cleared z refl (passes_none t c s) all h.makes refl)
+    charged_rash : (answer : Result ℕ AllocFault) (steps rest : Run) (n : Side) (z : State) → IsLocalRun c.number (local_of t s c) (steps ++ rest) z
+        → ChargesBlock g k answer (course t (side s c) steps n) → RashFree t MayAsk s c [] steps
+    charged_rash (Ok head) steps rest n z whole h =
+        quiet_after_room t MayAsk s c g (2 ^ k) s.ledger.groups asks (TakesFreeBlock g k head) [] s steps rest n z refl (passes_none t c s) whole
+        (takes_quiet g k head) h
+    charged_rash (Err (Over over)) steps rest n z whole h =
+        refusal_rash t MayAsk s c g (2 ^ k) s.ledger.groups asks (Over over) [] s steps rest n z refl (passes_none t c s) whole h
+    charged_rash (Err NoFrames) steps rest n z whole h =
+        quiet_after_room t MayAsk s c g (2 ^ k) s.ledger.groups asks (FindsNoBlock g k) [] s steps rest n z refl (passes_none t c s) whole
+        (finds_none_quiet g k) h
+    charged_rash (Err Killed) steps rest n z whole h =
+        refusal_rash t MayAsk s c g (2 ^ k) s.ledger.groups asks Killed [] s steps rest n z refl (passes_none t c s) whole h
 
-    finds_none_rash : (steps rest : Run) (n : KnownMachine) (z : State) → IsLocalRun c.number (local_of t s c) (steps ++ rest) z
-        → FindsNoBlock g k (course t s steps n) → RashFree t MayAsk s c [] steps
-    finds_none_rash steps rest n z whole h =
-        let last = unplaced_steps g k in
-        let all = subst (λ (r : Run). IsLocalRun c.number (local_of t s c) (r ++ rest) z) h.steps_are whole in
-        subst (λ (r : Run). RashFree t MayAsk s c [] r) (sym h.steps_are)
-        (after_room_rash t MayAsk s c g (2 ^ k) s.ledger.groups asks h.refused_at [] s h.making last rest h.cleared z refl (passes_none t c s) all h.makes refl)
+    charged_all_rash : (answer : Result ℕ AllocFault) (steps : Run) (n : Side) (z : State) → IsLocalRun c.number (local_of t s c) steps z
+        → ChargesBlock g k answer (course t (side s c) steps n) → RashFree t MayAsk s c [] steps
+    charged_all_rash answer steps n z whole h =
+        charged_rash answer steps [] n z (subst (λ (r : Run). IsLocalRun c.number (local_of t s c) r z) (sym (append-nil steps)) whole) h
 
-    again_rash : (answer : Result ℕ AllocFault) (steps : Run) (n : Side) (z : State) → IsLocalRun c.number (local_of t s c) steps z
-        → TriesAgain g k answer (course t (side s c) steps n) → RashFree t MayAsk s c [] steps
-    again_rash answer steps n z whole h =
+    retries_rash : (answer : Result ℕ AllocFault) (steps : Run) (n : Side) (z : State) → IsLocalRun c.number (local_of t s c) steps z
+        → RetriesBlock g k answer (course t (side s c) steps n) → RashFree t MayAsk s c [] steps
+    retries_rash answer steps n z whole h =
         let all = subst (λ (r : Run). IsLocalRun c.number (local_of t s c) r z) h.steps_are whole in
-        let quiet = again_quiet g k answer (course t h.between h.later n) h.second in
+        let quiet = drained_quiet g k answer (course t h.between h.later n) h.second in
         subst (λ (r : Run). RashFree t MayAsk s c [] r) (sym h.steps_are) (rash_both t MayAsk s c [] h.earlier h.later
-        (finds_none_rash h.earlier h.later h.between.machine z all h.first.does) (rash_quiet t MayAsk s c h.earlier h.later quiet))
+        (charged_rash (Err NoFrames) h.earlier h.later h.between z all h.first) (rash_quiet t MayAsk s c h.earlier h.later quiet))
 
     pub block_no_rash : (answer : Result ℕ AllocFault) (steps : Run) (n : Side) (z : State) → IsLocalRun c.number (local_of t s c) steps z
         → AllocatesBlock g k answer (course t (side s c) steps n) → NoRashKill t MayAsk s c steps
-    block_no_rash (Ok head) steps n z whole h = elim h.1 [
-      | inl once ↦ takes_rash head steps n.machine z whole once.takes
-      | inr again ↦ again_rash (Ok head) steps n z whole again
-    ]
-    block_no_rash (Err (Over over)) steps n z whole h =
-        refusal_rash t MayAsk s c g (2 ^ k) s.ledger.groups asks (Over over) [] s steps n.machine z refl (passes_none t c s) whole h.refuses
-    block_no_rash (Err NoFrames) steps n z whole h = again_rash (Err NoFrames) steps n z whole h.1
-    block_no_rash (Err Killed) steps n z whole (inl h) = rash_quiet t MayAsk s c [] steps (ap has_kill h.stays.steps_are)
-    block_no_rash (Err Killed) steps n z whole (inr h) =
-        refusal_rash t MayAsk s c g (2 ^ k) s.ledger.groups asks Killed [] s steps n.machine z refl (passes_none t c s) whole h.refuses
+    block_no_rash (Ok head) steps n z whole (inl h) = charged_all_rash (Ok head) steps n z whole h.does
+    block_no_rash (Ok head) steps n z whole (inr h) = retries_rash (Ok head) steps n z whole h.does
+    block_no_rash (Err (Over over)) steps n z whole h = charged_all_rash (Err (Over over)) steps n z whole h.does
+    block_no_rash (Err NoFrames) steps n z whole h = retries_rash (Err NoFrames) steps n z whole h.does
+    block_no_rash (Err Killed) steps n z whole (inl h) = rash_quiet t MayAsk s c [] steps (ap has_kill h.does.steps_are)
+    block_no_rash (Err Killed) steps n z whole (inr h) = charged_all_rash (Err Killed) steps n z whole h.does

@@ -156,8 +156,7 @@ module _ (t : KnownTable) (want : ℕ) (Fails : Course Side → Type 0) (Succeed
         reclaims = leads.does;
         missed = missed;
         keeps = keeps;
-        none_killed = leads.moves.quiet;
-        misses = leads.moves.misses;
+        moves = leads.moves;
         tries = does;
         steps_are = refl;
       }

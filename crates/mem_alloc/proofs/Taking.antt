@@ -1,6 +1,6 @@
--- Blocks that are charged and taken. Serves `take_charged`, `take_again` and `alloc_block`.
+-- Blocks that are charged and taken. Serves `charge_block`, `take_after_drain` and `alloc_block`.
 use Rattle.std.proofs.Common.{◌≡◌, ℕ, ◌^◌, ◌<◌, ◌≤◌, true, false, List, [], ◌∷◌, ◌++◌, length, take, refl, sym, ap, ◌∙◌, subst, inl, inr, arith}
-use Rattle.std.specs.Prelude.{Result, Ok, Err, IsErr, IfErr}
+use Rattle.std.specs.Prelude.{Result, Ok, Err}
 use Rattle.std.proofs.lemmas.Bool.{cases_lt, false≢true}
 use Rattle.std.proofs.lemmas.List.{append-nil, length-append, take_all}
 use Rattle.frame_word.specs.Seats.{KnownTable}
@@ -22,12 +22,12 @@ use Rattle.mem_machine.specs.Paying.{HasRoomFor}
 use Rattle.mem_machine.specs.Steps.{over_steps, drain_list_steps}
 use Rattle.mem_alloc.specs.declared.faults.AllocFault.{AllocFault}
 use Rattle.mem_alloc.specs.declared.faults.AllocFault.TheVariants.{Over, NoFrames, Killed}
-use Rattle.mem_alloc.specs.Stepping.{BySteps, course, OfMachine}
-use Rattle.mem_alloc.specs.Room.{IsCause, IsRefusedFor}
-use Rattle.mem_alloc.specs.Blocks.{TakesAfterRoom, FindsNoBlock, ChargesBlock, LeavesRoom, MayHaveBlock, TakesAgain}
-use Rattle.mem_alloc.specs.Blocks.{TryTakes, TryFindsNone, TakesInRounds, TriesInRounds, TakesSecond, TriesAgain, AllocatesBlock}
+use Rattle.mem_alloc.specs.Stepping.{BySteps, Course, course}
+use Rattle.mem_alloc.specs.Room.{AfterRoom, IsRefusedFor, TellsRoom}
+use Rattle.mem_alloc.specs.Blocks.{AllocatesBlock, ChargesBlock, FindsNoBlock, LeavesRoom, MayHaveBlock, RetriesBlock}
+use Rattle.mem_alloc.specs.Blocks.{TakesAfterDrain, TakesFreeBlock, TakesInRounds, TakesOrReclaims}
 use Rattle.mem_alloc.proofs.Lowering.{Lowers, same_visit, lowered_fits, usage_back, room_back}
-use Rattle.mem_alloc.proofs.Making.{RoomSoFar, so_far_none}
+use Rattle.mem_alloc.proofs.Making.{RoomSoFar, so_far_does, so_far_none}
 use Rattle.mem_alloc.proofs.Rounding.{FailureSpares, fails_spare, in_the_end}
 use Rattle.mem_machine.proofs.Followed.{makes_both}
 
@@ -54,26 +54,18 @@ by_none {t = t} p g k a b e is steps = subst (λ (x : TakeFault). MakesAs t p a 
 
 module _ (t : KnownTable) (g k : ℕ) (c : KnownCpu) (m x : KnownMachine) (so_far : RoomSoFar t g (2 ^ k) c m x) (y : KnownCpu) (mine : y ≡ c)
     (n : KnownMachine) (d : KnownCpu) where
-  runs_on : (steps : Run) → MakesAs t y.number (side x y) steps (side n d)
-      → MakesAs t c.number (side m c) (so_far.making ++ steps) (side n d)
-  runs_on steps run = makes_both t c.number so_far.making steps (side m c) (side x c) (side n d) so_far.runs
-      (subst (λ (e : KnownCpu). MakesAs t e.number (side x e) steps (side n d)) mine run)
+  does_here : (Does : Course Side → Type 0) → BySteps t (side x y) (side n d) Does → BySteps t (side m c) (side n d) (AfterRoom g (2 ^ k) Does)
+  does_here Does b = so_far_does t g (2 ^ k) c m x so_far Does n d (subst (λ (e : KnownCpu). BySteps t (side x e) (side n d) Does) mine b)
 
-  pub so_far_takes : (head : ℕ) → TakesBlock g k head x n → MakesAs t y.number (side x y) (taken_steps g k head) (side n d)
-      → BySteps t (side m c) (side n d) (OfMachine (TakesAfterRoom g k head))
-  so_far_takes head takes run = (
-    so_far.making ++ taken_steps g k head,
-    record { refused_at = so_far.refused_at; cleared = x; making = so_far.making; makes = so_far.makes; takes = takes; steps_are = refl },
-    runs_on (taken_steps g k head) run,
-  )
+  pub so_far_takes : (head : ℕ) → TakesBlock g k head x n → d ≡ y → MakesAs t y.number (side x y) (taken_steps g k head) (side n d)
+      → BySteps t (side m c) (side n d) (AfterRoom g (2 ^ k) (TakesFreeBlock g k head))
+  so_far_takes head takes cpu run =
+      does_here (TakesFreeBlock g k head) (taken_steps g k head, record { takes = takes; cpu = cpu; steps_are = refl }, run)
 
-  pub so_far_no_block : TakesNoBlock g k x n → MakesAs t y.number (side x y) (unplaced_steps g k) (side n d)
-      → BySteps t (side m c) (side n d) (OfMachine (FindsNoBlock g k))
-  so_far_no_block none run = (
-    so_far.making ++ unplaced_steps g k,
-    record { refused_at = so_far.refused_at; cleared = x; making = so_far.making; makes = so_far.makes; none = none; steps_are = refl },
-    runs_on (unplaced_steps g k) run,
-  )
+  pub so_far_no_block : TakesNoBlock g k x n → d ≡ y → MakesAs t y.number (side x y) (unplaced_steps g k) (side n d)
+      → BySteps t (side m c) (side n d) (AfterRoom g (2 ^ k) (FindsNoBlock g k))
+  so_far_no_block none cpu run =
+      does_here (FindsNoBlock g k) (unplaced_steps g k, record { none = none; cpu = cpu; steps_are = refl }, run)
 
   -- what a call for which no block is free leaves
   pub room_still : TakesNoBlock g k x n → has_group m.ledger.groups g ≡ true → HasRoomFor m (2 ^ k) → MayHaveBlock g k n
@@ -83,42 +75,39 @@ module _ (t : KnownTable) (g k : ℕ) (c : KnownCpu) (m x : KnownMachine) (so_fa
       let here : HasRoomFor x (2 ^ k) = lowered_fits t m x (2 ^ k) so_far.lowers fits in
       let back : current_of n.ledger 0 ≡ current_of x.ledger 0 = ap (λ l. current_of l 0) ledger ∙ usage_back x.ledger g (2 ^ k) 0 in
       record {
-        there = ap (λ (l : List Group). has_group l g) groups ∙ there;
-        alive = ap (λ (z : KnownMachine). is_killed z.killed g) none.machine ∙ so_far.alive;
-        fits = omega (arith, here, back);
+        charges = record {
+          there = ap (λ (l : List Group). has_group l g) groups ∙ there;
+          alive = ap (λ (z : KnownMachine). is_killed z.killed g) none.machine ∙ so_far.alive;
+          fits = omega (arith, here, back);
+        };
         room = subst (λ l. PathHasRoom l.groups (current_of l) g (2 ^ k)) (sym ledger) (room_back x.ledger g (2 ^ k) none.room);
       }
 
   pub none_opened : TakesNoBlock g k x n → n.seat.view.opened ≡ m.seat.view.opened
   none_opened none = ap (λ (z : KnownMachine). z.seat.view.opened) none.machine ∙ so_far.lowers.opened
 
-  pub taken_opened : (head : ℕ) → TakesBlock g k head x n → n.seat.view.opened ≡ m.seat.view.opened
-  taken_opened head takes = ap (λ (z : KnownMachine). z.seat.view.opened) takes.machine ∙ so_far.lowers.opened
-
 -- a charge is refused for good
-charges_refused : (t : KnownTable) (g k : ℕ) (e : AllocFault) (m n : KnownMachine) (c d : KnownCpu)
-    → BySteps t (side m c) (side n d) (OfMachine (IsRefusedFor g (2 ^ k) e)) → BySteps t (side m c) (side n d) (OfMachine (ChargesBlock g k (Err e)))
-charges_refused t g k (Over over) m n c d b = b
-charges_refused t g k NoFrames m n c d b = absurd b.1.is_cause
-charges_refused t g k Killed m n c d b = b
+charges_refused : (t : KnownTable) (g k : ℕ) (e : AllocFault) (a b : Side)
+    → BySteps t a b (IsRefusedFor g (2 ^ k) e) → BySteps t a b (ChargesBlock g k (Err e))
+charges_refused t g k (Over over) a b by = by
+charges_refused t g k NoFrames a b by = absurd by.1.does.does.1.room
+charges_refused t g k Killed a b by = by
 
-pub over_charges : (t : KnownTable) (g k : ℕ) (r : Result ℕ AllocFault) (x : AllocFault) (m n : KnownMachine) (c d : KnownCpu) → IsErr r
-    → IfErr r (λ e. e ≡ x) → d ≡ c → BySteps t (side m c) (side n c) (OfMachine (IsRefusedFor g (2 ^ k) x))
-    → BySteps t (side m c) (side n d) (OfMachine (ChargesBlock g k r))
-over_charges t g k (Ok h) x m n c d not is cpu b = absurd (false≢true not)
-over_charges t g k (Err e) x m n c d not is cpu b =
-    charges_refused t g k e m n c d (
-      b.0,
-      subst (λ (z : AllocFault). IsRefusedFor g (2 ^ k) z (course t m b.0 n)) (sym is) b.1,
-      subst (λ (e : KnownCpu). MakesAs t c.number (side m c) b.0 (side n e)) (sym cpu) b.2,
-    )
+pub over_charges : (t : KnownTable) (g k : ℕ) (r : Result ℕ AllocFault) (x : AllocFault) (m n : KnownMachine) (c d : KnownCpu) → r ≡ Err x
+    → d ≡ c → BySteps t (side m c) (side n c) (IsRefusedFor g (2 ^ k) x) → BySteps t (side m c) (side n d) (ChargesBlock g k r)
+over_charges t g k r x m n c d is cpu by =
+    subst (λ (z : KnownCpu × Result ℕ AllocFault). BySteps t (side m c) (side n z.0) (ChargesBlock g k z.1)) (λ i. (sym cpu i, sym is i))
+    (charges_refused t g k x (side m c) (side n c) by)
 
-pub over_leaves : (t : KnownTable) (g k over : ℕ) (r : Result ℕ AllocFault) (x : AllocFault) (m n : KnownMachine) → IsErr r → IfErr r (λ e. e ≡ x)
-    → IsCause g over (2 ^ k) x n → Lowers t m n → LeavesRoom g k r m n
-over_leaves t g k over (Ok h) x m n not is why l = absurd (false≢true not)
-over_leaves t g k over (Err e) x m n not is why l = record {
+abbrev fault_of : Result ℕ AllocFault → AllocFault
+fault_of (Ok head) = Killed
+fault_of (Err cause) = cause
+
+pub over_leaves : (t : KnownTable) (g k over : ℕ) (r : Result ℕ AllocFault) (x : AllocFault) (m n : KnownMachine) → r ≡ Err x
+    → TellsRoom g over (2 ^ k) (Err x) n → Lowers t m n → LeavesRoom g k r m n
+over_leaves t g k over r x m n is why l = record {
   opened = l.opened;
-  still = λ none. let same : e ≡ NoFrames = cc in absurd (subst (λ (z : AllocFault). IsCause g over (2 ^ k) z n) (sym is ∙ same) why);
+  still = λ none. let same : x ≡ NoFrames = sym (ap fault_of is) ∙ ap fault_of none in absurd (subst (λ (z : AllocFault). TellsRoom g over (2 ^ k) (Err z) n) same why);
 }
 
 -- ---- the list given back
@@ -170,7 +159,7 @@ never_over m g pages over room low = false≢true (sym low.over ∙ room over lo
 -- ---- rounds of reclaim
 
 -- a try that finds no block keeps usages and stocks
-pub none_spares : (t : KnownTable) (g k : ℕ) → FailureSpares t (TryFindsNone g k)
+pub none_spares : (t : KnownTable) (g k : ℕ) → FailureSpares t (FindsNoBlock g k)
 none_spares t g k m n c d steps h = record {
   lowers = record {
     groups = ap (λ (y : KnownMachine). y.ledger.groups) h.none.machine;
@@ -200,10 +189,10 @@ taken_opens m n g k head takes = ap (λ (y : KnownMachine). y.seat.view.opened) 
 rounds_open : (t : KnownTable) (g k : ℕ) (r : Result ℕ AllocFault) (m n : KnownMachine) (c d : KnownCpu) (steps : Run)
     → TakesInRounds g k r (course t (side m c) steps (side n d)) → n.seat.view.opened ≡ m.seat.view.opened
 rounds_open t g k (Ok head) m n c d steps h =
-    let last = in_the_end t (2 ^ k) (TryFindsNone g k) (none_spares t g k) (TryTakes g k head) 16 m c (side n d) steps h in
+    let last = in_the_end t (2 ^ k) (FindsNoBlock g k) (none_spares t g k) (TakesFreeBlock g k head) 16 m c (side n d) steps h in
     taken_opens last.before n g k head last.succeeds.takes ∙ last.spares.lowers.opened
 rounds_open t g k (Err NoFrames) m n c d steps h =
-    (fails_spare t (2 ^ k) (TryFindsNone g k) (none_spares t g k) 16 m n c d steps h).lowers.opened
+    (fails_spare t (2 ^ k) (FindsNoBlock g k) (none_spares t g k) 16 m n c d steps h).lowers.opened
 rounds_open t g k (Err (Over over)) m n c d steps h = absurd h
 rounds_open t g k (Err Killed) m n c d steps h = absurd h
 
@@ -228,50 +217,47 @@ module _ (t : KnownTable) (g k : ℕ) (m x n : KnownMachine) (c y d : KnownCpu) 
   then steps run = makes_both t c.number (drain_list_steps c.number c.list) steps (side m c) (side x y) (side n d) by_giving
       (subst (λ (p : ℕ). MakesAs t p (side x y) steps (side n d)) part.number run)
 
-  takes_again : (r : Result ℕ AllocFault) → BySteps t (side x y) (side n d) (TakesSecond g k r) → BySteps t (side m c) (side n d) (TakesAgain g k r)
-  takes_again r second = (
-    drain_list_steps c.number c.list ++ second.0,
+  takes_drained : (r : Result ℕ AllocFault) → BySteps t (side x y) (side n d) (TakesOrReclaims g k r)
+      → BySteps t (side m c) (side n d) (TakesAfterDrain g k r)
+  takes_drained r b = (
+    drain_list_steps c.number c.list ++ b.0,
     record {
-      returned = x;
-      later = second.0;
-      gives = given;
-      takes = subst (λ (z : KnownCpu). TakesSecond g k r (course t (side x z) second.0 (side n d))) (sym stays) second.1;
+      drained = x;
+      later = b.0;
+      drains = given;
+      takes = subst (λ (z : KnownCpu). TakesOrReclaims g k r (course t (side x z) b.0 (side n d))) (sym stays) b.1;
       steps_are = refl;
     },
-    then second.0 second.2,
+    then b.0 b.2,
   )
 
   -- it takes the block
   pub takes_after : (head : ℕ) → TakesBlock g k head x n → MakesAs t y.number (side x y) (taken_steps g k head) (side n d)
-      → BySteps t (side m c) (side n d) (TakesAgain g k (Ok head))
+      → BySteps t (side m c) (side n d) (TakesAfterDrain g k (Ok head))
   takes_after head takes run =
-      takes_again (Ok head) (taken_steps g k head, inl (record { takes = takes; cpu = stays; steps_are = refl }), run)
+      takes_drained (Ok head) (taken_steps g k head, inl (record { takes = takes; cpu = stays; steps_are = refl }), run)
 
   -- or finds none, and rounds of reclaim follow
   module _ (w : KnownMachine) (z : KnownCpu) (none : TakesNoBlock g k x w) (same : z ≡ y)
       (vain : MakesAs t y.number (side x y) (unplaced_steps g k) (side w z)) where
-    in_rounds : (r : Result ℕ AllocFault) → BySteps t (side w z) (side n d) (TakesInRounds g k r) → BySteps t (side x y) (side n d) (TriesInRounds g k r)
+    in_rounds : (r : Result ℕ AllocFault) → BySteps t (side w z) (side n d) (TakesInRounds g k r) → BySteps t (side x y) (side n d) (TakesOrReclaims g k r)
     in_rounds r there =
         let rounds = subst (λ (u : KnownCpu). BySteps t (side w u) (side n d) (TakesInRounds g k r)) same there in
         let first = subst (λ (u : KnownCpu). MakesAs t y.number (side x y) (unplaced_steps g k) (side w u)) same vain in (
           unplaced_steps g k ++ rounds.0,
-          record {
+          inr (record {
             between = side w y;
             earlier = unplaced_steps g k;
             later = rounds.0;
             first = record { none = none; cpu = refl; steps_are = refl };
             second = rounds.1;
             steps_are = refl;
-          },
+          }),
           makes_both t y.number (unplaced_steps g k) rounds.0 (side x y) (side w y) (side n d) first rounds.2,
         )
 
-    as_second : (r : Result ℕ AllocFault) → BySteps t (side x y) (side n d) (TriesInRounds g k r) → BySteps t (side x y) (side n d) (TakesSecond g k r)
-    as_second (Ok head) b = (b.0, inr b.1, b.2)
-    as_second (Err cause) b = b
-
-    pub reclaims_after : (r : Result ℕ AllocFault) → BySteps t (side w z) (side n d) (TakesInRounds g k r) → BySteps t (side m c) (side n d) (TakesAgain g k r)
-    reclaims_after r there = takes_again r (as_second r (in_rounds r there))
+    pub reclaims_after : (r : Result ℕ AllocFault) → BySteps t (side w z) (side n d) (TakesInRounds g k r) → BySteps t (side m c) (side n d) (TakesAfterDrain g k r)
+    reclaims_after r there = takes_drained r (in_rounds r there)
 
     pub reclaims_open : (r : Result ℕ AllocFault) → BySteps t (side w z) (side n d) (TakesInRounds g k r) → n.seat.view.opened ≡ m.seat.view.opened
     reclaims_open r there =
@@ -283,35 +269,45 @@ module _ (t : KnownTable) (g k : ℕ) (m x n : KnownMachine) (c y d : KnownCpu) 
       let b = ap (λ (e : KnownCpu). length e.list) stays in
       omega (arith, a, b)
 
--- the first try found no free block
-pub first_none : (t : KnownTable) (g k : ℕ) (m x : KnownMachine) (c y : KnownCpu) (cause : AllocFault) → cause ≡ NoFrames
-    → BySteps t (side m c) (side x y) (OfMachine (ChargesBlock g k (Err cause))) → BySteps t (side m c) (side x y) (OfMachine (FindsNoBlock g k))
-first_none t g k m x c y cause named b = subst (λ (f : AllocFault). BySteps t (side m c) (side x y) (OfMachine (ChargesBlock g k (Err f)))) named b
-
 -- ---- the whole allocation
 
-module _ (t : KnownTable) (g k : ℕ) (m : KnownMachine) (c : KnownCpu) (alive : is_killed m.killed g ≡ false) where
-  by_answer : (r : Result ℕ AllocFault) (x n : KnownMachine) (d : KnownCpu) (first later : Run) → TakesAgain g k r (course t (side x c) later (side n d))
-      → (TakesAgain g k r (course t (side x c) later (side n d)) → TriesAgain g k r (course t (side m c) (first ++ later) (side n d)))
-      → MakesAs t c.number (side m c) (first ++ later) (side n d) → BySteps t (side m c) (side n d) (AllocatesBlock g k r)
-  by_answer (Ok head) x n d first later told tries run = (first ++ later, (alive, inr (tries told)), run)
-  by_answer (Err (Over over)) x n d first later told tries run = absurd told.takes.second
-  by_answer (Err NoFrames) x n d first later told tries run = (first ++ later, (alive, tries told), run)
-  by_answer (Err Killed) x n d first later told tries run = absurd told.takes.second
+-- after the list was drained no limit is in the way, and nobody is killed
+no_over : (g k over : ℕ) (way : Course Side) → TakesAfterDrain g k (Err (Over over)) way → ⊥
+no_over g k over way h = elim h.takes [
+  | inl none ↦ none
+  | inr rounds ↦ rounds.second
+]
 
-  -- the second one does
-  pub decides_again : (r : Result ℕ AllocFault) (x n : KnownMachine) (y d : KnownCpu) → y ≡ c → BySteps t (side m c) (side x y) (OfMachine (FindsNoBlock g k))
-      → BySteps t (side x y) (side n d) (TakesAgain g k r) → BySteps t (side m c) (side n d) (AllocatesBlock g k r)
-  decides_again r x n y d mine first again_there =
-      let again = subst (λ (z : KnownCpu). BySteps t (side x z) (side n d) (TakesAgain g k r)) mine again_there in
-      let before = subst (λ (z : KnownCpu). MakesAs t c.number (side m c) first.0 (side x z)) mine first.2 in
-      let run = makes_both t c.number first.0 again.0 (side m c) (side x c) (side n d) before again.2 in
-      by_answer r x n d first.0 again.0 again.1
-      (λ told. record {
-        between = side x c;
-        earlier = first.0;
-        later = again.0;
-        first = record { does = first.1; cpu = refl };
-        second = told;
-        steps_are = refl;
-      }) run
+no_kill : (g k : ℕ) (way : Course Side) → TakesAfterDrain g k (Err Killed) way → ⊥
+no_kill g k way h = elim h.takes [
+  | inl none ↦ none
+  | inr rounds ↦ rounds.second
+]
+
+module _ (t : KnownTable) (g k : ℕ) (m : KnownMachine) (c : KnownCpu) (alive : is_killed m.killed g ≡ false) where
+  by_answer : (r : Result ℕ AllocFault) (n : Side) → BySteps t (side m c) n (RetriesBlock g k r) → BySteps t (side m c) n (AllocatesBlock g k r)
+  by_answer (Ok head) n b = (b.0, inr (record { is = alive; does = b.1 }), b.2)
+  by_answer (Err NoFrames) n b = (b.0, record { is = alive; does = b.1 }, b.2)
+  by_answer (Err (Over over)) n b = absurd (no_over g k over _ b.1.second)
+  by_answer (Err Killed) n b = absurd (no_kill g k _ b.1.second)
+
+  -- no block is free at first, and what comes of the drained list decides
+  pub decides_drained : (r : Result ℕ AllocFault) (cause : AllocFault) (x n : KnownMachine) (y d : KnownCpu) → cause ≡ NoFrames → y ≡ c
+      → BySteps t (side m c) (side x y) (ChargesBlock g k (Err cause))
+      → BySteps t (side x y) (side n d) (TakesAfterDrain g k r) → BySteps t (side m c) (side n d) (AllocatesBlock g k r)
+  decides_drained r cause x n y d named mine charged drained =
+      let first = subst (λ (f : AllocFault). BySteps t (side m c) (side x y) (ChargesBlock g k (Err f))) named charged in
+      let number = ap (λ (z : KnownCpu). z.number) mine in
+      by_answer r (side n d) (
+        first.0 ++ drained.0,
+        record {
+          between = side x y;
+          earlier = first.0;
+          later = drained.0;
+          first = first.1;
+          second = drained.1;
+          steps_are = refl;
+        },
+        makes_both t c.number first.0 drained.0 (side m c) (side x y) (side n d) first.2
+            (subst (λ (p : ℕ). MakesAs t p (side x y) drained.0 (side n d)) number drained.2),
+      )

@@ -18,8 +18,8 @@ abbrev pub most_killed_for : ℕ
 most_killed_for = 8
 
 -- whether the limit of the group has room for so many pages more
-abbrev pub has_room_for : Ledger → ℕ → ℕ → Bool
-has_room_for ledger group pages = has_room ledger.groups (current_of ledger) group pages
+abbrev pub has_room_at : Ledger → ℕ → ℕ → Bool
+has_room_at ledger group pages = has_room ledger.groups (current_of ledger) group pages
 
 -- the machine after it was noted that an allocation was about to fail at the group's limit: as an event, and for
 -- whoever reads the notes
@@ -36,7 +36,7 @@ IsAlive (Some requester) machine = is_killed machine.killed requester ≡ false
 
 -- the limit of the group has no room for so many pages, and the group that asks for them isn't killed
 pub record IsWanting (requester : Option ℕ) (group pages : ℕ) (machine : KnownMachine) : Type 0 where
-  pub over : has_room_for machine.ledger group pages ≡ false
+  pub over : has_room_at machine.ledger group pages ≡ false
   pub alive : IsAlive requester machine
 
 -- One kill: the pages are wanted still, and the victim of the group is killed, in a machine that is consistent and
@@ -61,7 +61,7 @@ KillsEach requester group pages (victim ∷ others) way =
 
 -- It is noted once as `oom` at the group, and then victims of it are killed, one after the other, until its limit has
 -- room for so many pages, or the group that asks for them is killed, or no victim is left
-pub record KillsVictims (requester : Option ℕ) (group pages : ℕ) (way : Course KnownMachine) : Type 0 where
+pub record KillsUntilRoom (requester : Option ℕ) (group pages : ℕ) (way : Course KnownMachine) : Type 0 where
   pub victims : List ℕ
   pub killing : Run
   pub notes : MakesForAny way.table way.before (note_oom_steps group) (with_oom_noted_at way.before group)
@@ -72,5 +72,5 @@ pub record KillsVictims (requester : Option ℕ) (group pages : ℕ) (way : Cour
 
 -- victims of the group are killed where its limit has no room for so many pages; where it has, nothing is done
 pub record KillsFor (requester : Option ℕ) (group pages : ℕ) (way : Course KnownMachine) : Type 0 where
-  pub room : has_room_for way.before.ledger group pages ≡ true → Rests way
-  pub over : has_room_for way.before.ledger group pages ≡ false → KillsVictims requester group pages way
+  pub room : has_room_at way.before.ledger group pages ≡ true → Rests way
+  pub over : has_room_at way.before.ledger group pages ≡ false → KillsUntilRoom requester group pages way

@@ -20,7 +20,7 @@ use Rattle.mem_machine.specs.Local.{IsLocalRun, local_of}
 use Rattle.mem_machine.specs.Stocks.{AreDrained}
 use Rattle.mem_reclaim.specs.Staying.{MissedAll}
 use Rattle.mem_reclaim.specs.Victim.{IsVictim}
-use Rattle.mem_alloc.specs.Kills.{has_room_for, most_killed_for}
+use Rattle.mem_alloc.specs.Kills.{has_room_at, most_killed_for}
 use Rattle.mem_alloc.specs.Stepping.{CountsMisses, Course, course}
 
 -- the step notes at the group that an allocation was about to fail at its limit
@@ -30,17 +30,17 @@ is_oom_note group action = false
 
 -- one of the steps notes that at the group
 abbrev pub has_oom_note : ℕ → Run → Bool
-has_oom_note group steps = list_any (λ e. is_oom_note group e.0.action) steps
+has_oom_note group steps = list_any (λ entry. is_oom_note group entry.0.action) steps
 
 -- The machine is the one that these steps of a call left, in what steps alone don't tell: each frame's misses are those
 -- that were noted before the call and among the steps; and whoever is kept was kept for the same group when the call
 -- began, and is as dirty as it was
 pub record IsLeftBySteps (way : Course KnownMachine) : Type 0 where
   pub misses : CountsMisses way
-  pub owners : (f : ℕ) → HeadsKeptUnit way.after f
-      → owner_of (home_of way.after.links f) ≡ owner_of (home_of way.before.links f)
-  pub dirt : (f : ℕ) → HeadsKeptUnit way.after f
-      → (link_at way.after.links f).is_dirty ≡ (link_at way.before.links f).is_dirty
+  pub owners : (frame : ℕ) → HeadsKeptUnit way.after frame
+      → owner_of (home_of way.after.links frame) ≡ owner_of (home_of way.before.links frame)
+  pub dirt : (frame : ℕ) → HeadsKeptUnit way.after frame
+      → (link_at way.after.links frame).is_dirty ≡ (link_at way.before.links frame).is_dirty
 
 -- which limit a call may kill for, and for how many pages: where it charges at most `most_killed_for` pages to a group,
 -- the limit of the group or of one above it, for these pages
@@ -49,24 +49,23 @@ pub record IsChargedBelow (group pages : ℕ) (groups : List Group) (limited nee
   pub need_is : need ≡ pages
   pub few : pages ≤ most_killed_for
 
--- The victim may be killed after these steps of a call, for the limit of the group `limited`: that has no room for the
--- pages that are needed. A step notes that there as `oom`; no stock of the subtree is held; since the call began a
--- freeze of each clean unit that the subtree still keeps missed; and the group is the victim. The machine is
+-- The victim may be killed where these steps of a call have led, for the limit of the group `limited`: that has no room
+-- for the pages that are needed. A step notes that there as `oom`; no stock of the subtree is held; since the call began
+-- a freeze of each clean unit that the subtree still keeps missed; and the group is the victim. The machine is
 -- consistent, its usage that of its accounts, and it is the one that the steps left
-pub record MayKill (table : KnownTable) (MayAsk : List Group → ℕ → ℕ → Type 0) (start : KnownMachine) (steps : Run)
-    (now : KnownMachine) (victim : ℕ) : Type 0 where
+pub record MayKill (MayAsk : List Group → ℕ → ℕ → Type 0) (way : Course KnownMachine) (victim : ℕ) : Type 0 where
   pub limited : ℕ
   pub need : ℕ
-  pub asked : MayAsk now.ledger.groups limited need
-  pub over : has_room_for now.ledger limited need ≡ false
-  pub noted : has_oom_note limited steps ≡ true
-  pub drained : AreDrained limited table.cpus now
-  pub missed : MissedAll limited start now
-  pub chosen : IsVictim now limited (Some victim)
+  pub asked : MayAsk way.after.ledger.groups limited need
+  pub over : has_room_at way.after.ledger limited need ≡ false
+  pub noted : has_oom_note limited way.steps ≡ true
+  pub drained : AreDrained limited way.table.cpus way.after
+  pub missed : MissedAll limited way.before way.after
+  pub chosen : IsVictim way.after limited (Some victim)
   pub words : Words
-  pub consistent : IsConsistent table words now
-  pub charges : AreCharges now.ledger
-  pub tied : IsLeftBySteps (course table start steps now)
+  pub consistent : IsConsistent way.table words way.after
+  pub charges : AreCharges way.after.ledger
+  pub tied : IsLeftBySteps way
 
 -- Each kill among the steps of a call comes where the victim may be killed: for each split of the list at a kill there
 -- is a machine to which the steps before it lead, and there it may
@@ -75,4 +74,4 @@ NoRashKill table MayAsk start cpu steps =
     (before rest : Run) (e : Step × Answer) (victim : ℕ)
     → steps ≡ before ++ e ∷ rest → e.0.action ≡ Kill victim
     → (now : KnownMachine) × IsLocalRun cpu.number (local_of table start cpu) before (local_of table now cpu)
-    × MayKill table MayAsk start before now victim
+    × MayKill MayAsk (course table start before now) victim

@@ -1,24 +1,25 @@
 -- What becomes of the machine where a limit has no room for a charge.
-use Rattle.std.specs.Prelude.{◌≡◌, ℕ, ◌<◌, ◌≤◌, true, false, Option, Some, None, List, [], ◌∷◌, ◌++◌}
+use Rattle.std.specs.Prelude.{◌≡◌, ℕ, ◌<◌, ◌≤◌, true, false, Option, Some, None, Result, Ok, Err}
+use Rattle.std.specs.Prelude.{List, [], ◌∷◌, ◌++◌}
 use Rattle.group_tree.specs.Groups.{limit_of}
-use Rattle.group_tree.specs.Room.{IsLowestOver}
 use Rattle.group_charge.specs.Charges.{Ledger, current_of, with_max_noted}
 use Rattle.kill_notes.specs.declared.note.Note.{Note}
 use Rattle.kill_notes.specs.declared.note.Note.TheVariants.{Limit}
 use Rattle.kill_notes.specs.Notes.{noted}
 use Rattle.step_rules.specs.After.{Run}
-use Rattle.mem_machine.specs.Machines.{KnownMachine, is_killed}
-use Rattle.mem_machine.specs.Local.{MakesForAny}
+use Rattle.mem_machine.specs.Machines.{KnownMachine, LacksRoom, is_killed}
+use Rattle.mem_machine.specs.Local.{MakesForAny, Side, side}
 use Rattle.mem_machine.specs.Steps.{Drain, over_steps, note_max_steps, drain_stocks_steps}
 use Rattle.mem_machine.specs.Stocks.{DrainsAllBelow, AreDrained}
-use Rattle.mem_reclaim.specs.Moves.{has_kill}
+use Rattle.mem_reclaim.specs.Wanted.{GivesNothing, Reclaiming, progress}
+use Rattle.mem_reclaim.specs.Moves.{Moves}
 use Rattle.mem_reclaim.specs.Rounds.{MakesRounds, max_rounds, pages_missing}
 use Rattle.mem_reclaim.specs.Staying.{Keeps, MissedAll}
 use Rattle.mem_alloc.specs.declared.faults.AllocFault.{AllocFault}
 use Rattle.mem_alloc.specs.declared.faults.AllocFault.TheVariants.{Over, NoFrames, Killed}
-use Rattle.mem_alloc.specs.Stepping.{CountsMisses, Course, InTurn, Rests, course}
+use Rattle.mem_alloc.specs.Stepping.{Course, InTurn, OfMachineAlone, Rests, course}
 -- what is killed, and whether there is room
-pub use Rattle.mem_alloc.specs.Kills.{KillsFor, has_room_for, most_killed_for}
+pub use Rattle.mem_alloc.specs.Kills.{IsWanting, KillsFor, has_room_at, most_killed_for}
 
 -- the notes with one more, of the group's limit, if it has one: that it has no room for so many pages more
 abbrev pub limit_notes : Option ℕ → Ledger → ℕ → ℕ → List Note → List Note
@@ -48,26 +49,21 @@ pub record ClearsBelow (group pages : ℕ) (way : Course KnownMachine) : Type 0 
   pub steps_are : way.steps ≡ note_max_steps group ++ drain_stocks_steps drains
   pub runs : MakesForAny way.table way.before way.steps way.after
 
--- what is reclaimed from the group's subtree before its limit: nothing where it has none, else so many pages as are
--- missing, in at most `max_rounds` rounds
-abbrev pub RoundsBefore : Option ℕ → ℕ → ℕ → Course KnownMachine → Type 0
-RoundsBefore None group pages way = Rests way
-RoundsBefore (Some limit) group pages way =
-    (given : ℕ) × MakesRounds group (pages_missing group pages limit) max_rounds given way.before way.steps way.after
+-- what is reclaimed from the group's subtree before this limit of it: nothing where it has none, else so many pages as
+-- are missing, in at most `max_rounds` rounds
+abbrev pub ReclaimsBefore : Option ℕ → ℕ → ℕ → Reclaiming
+ReclaimsBefore None group pages = GivesNothing
+ReclaimsBefore (Some limit) group pages = MakesRounds group (pages_missing group pages limit) max_rounds
 
--- the steps lead there, whoever holds the lock; none is a kill, and the misses noted are those among them
-pub record KillsNone (way : Course KnownMachine) : Type 0 where
-  pub runs : MakesForAny way.table way.before way.steps way.after
-  pub quiet : has_kill way.steps ≡ false
-  pub misses : CountsMisses way
-
--- Clean units of the group's subtree come back in rounds, until its limit has room for so many pages. Where it has none
--- still, each clean unit that the subtree still keeps was tried, and missed
+-- Clean units of the group's subtree come back in rounds, `given` pages in all, until its limit has room for so many
+-- pages. Where it has none still, each clean unit that the subtree still keeps was tried, and missed
 pub record ReclaimsFor (group pages : ℕ) (way : Course KnownMachine) : Type 0 where
-  pub rounds : RoundsBefore (limit_of way.before.ledger.groups group) group pages way
-  pub missed : has_room_for way.after.ledger group pages ≡ false → MissedAll group way.before way.after
+  pub given : ℕ
+  pub reclaims : ReclaimsBefore (limit_of way.before.ledger.groups group) group pages
+      (progress given way.before way.steps way.after)
+  pub missed : has_room_at way.after.ledger group pages ≡ false → MissedAll group way.before way.after
   pub keeps : Keeps way.table way.before way.after
-  pub none_killed : KillsNone way
+  pub moves : Moves way.table way.before given way.steps way.after
 
 -- what is done where reclaim makes no room: victims are killed for up to `most_killed_for` pages, and nobody for more
 pub record KillsForFew (requester over pages : ℕ) (way : Course KnownMachine) : Type 0 where
@@ -76,65 +72,57 @@ pub record KillsForFew (requester over pages : ℕ) (way : Course KnownMachine) 
 
 -- The limit of the group `over` had no room for so many pages: that is noted there as `max`, the stocks of its subtree
 -- are drained, its units are reclaimed in rounds, and then its victims are killed
-pub record RelievesLimit (requester over pages : ℕ) (way : Course KnownMachine) : Type 0 where
-  pub cleared : KnownMachine
-  pub reclaimed : KnownMachine
-  pub clearing : Run
-  pub reclaiming : Run
-  pub killing : Run
-  pub clears : ClearsBelow over pages (course way.table way.before clearing cleared)
-  pub reclaims : ReclaimsFor over pages (course way.table cleared reclaiming reclaimed)
-  pub kills : KillsForFew requester over pages (course way.table reclaimed killing way.after)
-  pub steps_are : way.steps ≡ clearing ++ (reclaiming ++ killing)
-
--- A charge of so many pages to the group `requester` is refused at the group `over`, the lowest of its path without
--- room: that is noted there as `max`, the stocks of its subtree are drained, units of it are reclaimed in rounds, and
--- victims of it killed
-pub record IsRefusedAt (requester pages over : ℕ) (way : Course KnownMachine) : Type 0 where
-  pub lowest : IsLowestOver way.before.ledger.groups (current_of way.before.ledger) requester pages over
-  pub relieving : Run
-  pub relieves : RelievesLimit requester over pages (course way.table way.before relieving way.after)
-  pub steps_are : way.steps ≡ over_steps requester pages over ++ relieving
+abbrev pub RelievesLimit : ℕ → ℕ → ℕ → Course KnownMachine → Type 0
+RelievesLimit requester over pages way =
+    InTurn (ClearsBelow over pages) (InTurn (ReclaimsFor over pages) (KillsForFew requester over pages)) way
 
 -- the limit of the group `over` has room for so many pages, and the requester, the group that asks for them, isn't
 -- killed
 pub record HasMadeRoom (requester over pages : ℕ) (after : KnownMachine) : Type 0 where
-  pub room : has_room_for after.ledger over pages ≡ true
+  pub room : has_room_at after.ledger over pages ≡ true
   pub alive : is_killed after.killed requester ≡ false
 
--- a charge is refused at the group `over`, which has room for the pages after that
-pub record MakesRoomAt (requester pages over : ℕ) (way : Course KnownMachine) : Type 0 where
-  pub refused : IsRefusedAt requester pages over way
-  pub room : HasMadeRoom requester over pages way.after
+-- What the answer tells of the limit of the group `over`, once it was relieved for the requester's pages. Ok: it has
+-- room for them. Over: it has none still, and the requester isn't killed. Killed: the requester was killed
+abbrev pub TellsRoom : ℕ → ℕ → ℕ → Result (Unit {0}) AllocFault → KnownMachine → Type 0
+TellsRoom requester over pages (Ok done) after = HasMadeRoom requester over pages after
+TellsRoom requester over pages (Err (Over named)) after =
+    (named ≡ over) × IsWanting (Some requester) over pages after
+TellsRoom requester over pages (Err Killed) after = is_killed after.killed requester ≡ true
+TellsRoom requester over pages (Err NoFrames) after = ⊥
+
+-- A charge of so many pages to the group `requester` is refused at the group `over`, the lowest of its path without
+-- room. Its limit is relieved then, and this is the answer
+pub record IsRefusedAt (requester pages over : ℕ) (answer : Result (Unit {0}) AllocFault)
+    (way : Course KnownMachine) : Type 0 where
+  pub lowest : LacksRoom way.before requester pages over
+  pub relieving : Run
+  pub relieves : RelievesLimit requester over pages (course way.table way.before relieving way.after)
+  pub room : TellsRoom requester over pages answer way.after
+  pub steps_are : way.steps ≡ over_steps requester pages over ++ relieving
 
 -- a charge is refused at each of these groups, one after the other, and each has room for the pages then
 abbrev pub MakesRoom : ℕ → ℕ → List ℕ → Course KnownMachine → Type 0
 MakesRoom requester pages [] way = Rests way
 MakesRoom requester pages (over ∷ others) way =
-    InTurn (MakesRoomAt requester pages over) (MakesRoom requester pages others) way
+    InTurn (IsRefusedAt requester pages over (Ok tt)) (MakesRoom requester pages others) way
 
--- the limit of the group `over` has no room for the pages still, and the requester isn't killed
-pub record IsStillOver (requester over pages : ℕ) (after : KnownMachine) : Type 0 where
-  pub still : has_room_for after.ledger over pages ≡ false
-  pub alive : is_killed after.killed requester ≡ false
-
--- why a requester's charge is refused for good after it was refused at the group `over`: that has no room for the
--- pages still; or the requester was killed
-abbrev pub IsCause : ℕ → ℕ → ℕ → AllocFault → KnownMachine → Type 0
-IsCause requester over pages (Over named) after = (named ≡ over) × IsStillOver requester over pages after
-IsCause requester over pages Killed after = is_killed after.killed requester ≡ true
-IsCause requester over pages NoFrames after = ⊥
-
--- A charge is refused for good at the group `over`, for this cause, after it was noted there, the stocks of its
--- subtree were drained, units of it were reclaimed and victims of it killed. The groups `refused_at` refused it before,
--- and have room since
-pub record IsRefusedFor (requester pages : ℕ) (cause : AllocFault) (way : Course KnownMachine) : Type 0 where
-  pub over : ℕ
+-- A charge of so many pages to the requester may be refused first, at the groups `refused_at`, which have room then.
+-- After that this is done
+pub record AfterRoom (requester pages : ℕ) (Does : Course Side → Type 0) (way : Course Side) : Type 0 where
   pub refused_at : List ℕ
   pub cleared : KnownMachine
   pub making : Run
-  pub last : Run
-  pub makes : MakesRoom requester pages refused_at (course way.table way.before making cleared)
-  pub refused : IsRefusedAt requester pages over (course way.table cleared last way.after)
-  pub is_cause : IsCause requester over pages cause way.after
-  pub steps_are : way.steps ≡ making ++ last
+  pub later : Run
+  pub makes : MakesRoom requester pages refused_at (course way.table way.before.machine making cleared)
+  pub does : Does (course way.table (side cleared way.before.cpu) later way.after)
+  pub steps_are : way.steps ≡ making ++ later
+
+-- a charge is refused at some group, which has no room after that, or the requester was killed there: this is the cause
+abbrev pub IsRefusedOnce : ℕ → ℕ → AllocFault → Course KnownMachine → Type 0
+IsRefusedOnce requester pages cause way = (over : ℕ) × IsRefusedAt requester pages over (Err cause) way
+
+-- a charge is refused for good, for this cause: other groups may have refused it before, and have room since
+abbrev pub IsRefusedFor : ℕ → ℕ → AllocFault → Course Side → Type 0
+IsRefusedFor requester pages cause way =
+    AfterRoom requester pages (OfMachineAlone (IsRefusedOnce requester pages cause)) way

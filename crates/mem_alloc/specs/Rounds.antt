@@ -1,25 +1,25 @@
 -- Rounds of reclaim from the units of all groups, each followed by one more try.
-use Rattle.std.specs.Prelude.{◌≡◌, ℕ, false, zero, suc, ◌<◌, ◌≤◌, ◌⊎◌, ◌++◌}
+use Rattle.std.specs.Prelude.{◌≡◌, ℕ, zero, suc, ◌<◌, ◌≤◌, ◌⊎◌, ◌++◌}
 use Rattle.step_rules.specs.After.{Run}
 use Rattle.mem_machine.specs.Machines.{KnownMachine}
 use Rattle.mem_machine.specs.Local.{Side, side}
-use Rattle.mem_reclaim.specs.Moves.{has_kill}
+use Rattle.mem_reclaim.specs.Wanted.{progress}
+use Rattle.mem_reclaim.specs.Moves.{Moves}
 use Rattle.mem_reclaim.specs.Passes.{Reclaims}
 use Rattle.mem_reclaim.specs.Staying.{Keeps, MissedAll}
-use Rattle.mem_alloc.specs.Stepping.{CountsMisses, Course, InTurn, Stays, course}
+use Rattle.mem_alloc.specs.Stepping.{Course, InTurn, Stays, course}
 
 -- One round: so many pages are wanted from the root's subtree, which is all groups, and `given` come back. Where they
--- are fewer, each clean unit that is still kept was tried, and missed; no group is killed. After that it is tried once
--- more, also where none came back
+-- are fewer, each clean unit that is still kept was tried, and missed. After that it is tried once more, also where none
+-- came back
 pub record MakesRound (want given : ℕ) (Tries : Course Side → Type 0) (way : Course Side) : Type 0 where
   pub reclaimed : KnownMachine
   pub reclaiming : Run
   pub trying : Run
-  pub reclaims : Reclaims 0 want given way.before.machine reclaiming reclaimed
+  pub reclaims : Reclaims 0 want (progress given way.before.machine reclaiming reclaimed)
   pub missed : given < want → MissedAll 0 way.before.machine reclaimed
   pub keeps : Keeps way.table way.before.machine reclaimed
-  pub none_killed : has_kill reclaiming ≡ false
-  pub misses : CountsMisses (course way.table way.before.machine reclaiming reclaimed)
+  pub moves : Moves way.table way.before.machine given reclaiming reclaimed
   pub tries : Tries (course way.table (side reclaimed way.before.cpu) trying way.after)
   pub steps_are : way.steps ≡ reclaiming ++ trying
 

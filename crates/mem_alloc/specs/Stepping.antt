@@ -1,5 +1,5 @@
 -- How a call is said by the steps that it is.
-use Rattle.std.specs.Prelude.{◌≡◌, ℕ, ◌+◌, [], ◌++◌, Result, MatchResult}
+use Rattle.std.specs.Prelude.{◌≡◌, ℕ, ◌+◌, [], ◌++◌}
 use Rattle.frame_word.specs.Seats.{KnownTable, misses_of}
 use Rattle.step_rules.specs.After.{Run}
 use Rattle.cpu_part.specs.Cpus.{KnownCpu}
@@ -42,6 +42,11 @@ pub record InTurn {Stand : Type 0} (First Second : Course Stand → Type 0) (way
   pub second : Second (course way.table between later way.after)
   pub steps_are : way.steps ≡ earlier ++ later
 
+-- this holds of what was there before, and this is done
+pub record Where {Stand : Type 0} (Is : Stand → Type 0) (Does : Course Stand → Type 0) (way : Course Stand) : Type 0 where
+  pub is : Is way.before
+  pub does : Does way
+
 -- a list of local steps with their answers leads from one side to another, and this is done by them
 abbrev pub BySteps : KnownTable → Side → Side → (Course Side → Type 0) → Type 0
 BySteps table before after Does =
@@ -52,15 +57,10 @@ abbrev pub ByStepsOfAny : KnownTable → KnownMachine → KnownMachine → (Cour
 ByStepsOfAny table before after Does =
     (steps : Run) × Does (course table before steps after) × MakesForAny table before steps after
 
--- where a call answers Ok, the one thing is done by its steps, and where it answers a cause, the other for this cause
-abbrev pub ByAnswer : {T E : Type 0} → KnownTable → Side → Side → Result T E → (Course Side → Type 0)
-    → (E → Course Side → Type 0) → Type 0
-ByAnswer table before after answer Does Refuses =
-    MatchResult answer (λ done. BySteps table before after Does) (λ cause. BySteps table before after (Refuses cause))
-
 -- the misses that the zone's seat noted of each frame grew by the freezes of it that missed among the steps
 abbrev pub CountsMisses : Course KnownMachine → Type 0
-CountsMisses way = (f : ℕ) → misses_of way.after.seat f ≡ misses_of way.before.seat f + missed_in f way.steps
+CountsMisses way =
+    (frame : ℕ) → misses_of way.after.seat frame ≡ misses_of way.before.seat frame + missed_in frame way.steps
 
 -- nothing of the machine changed, without a step
 pub record Rests (way : Course KnownMachine) : Type 0 where

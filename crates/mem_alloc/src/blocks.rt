@@ -1,12 +1,12 @@
 //! Blocks of frames: they come from the zone, and are kept units at once.
 
-ghost use Rattle.std.specs.Prelude.{◌≡◌, ◌^◌, ◌≤◌, [], length, IsTrue, false};
+ghost use Rattle.std.specs.Prelude.{◌≡◌, ◌^◌, ◌≤◌, [], length, IsTrue};
 ghost use Rattle.group_tree.specs.Groups.{has_group};
-ghost use Rattle.mem_machine.specs.Machines.{KeepsVisit, Visits, is_killed};
-ghost use Rattle.mem_machine.specs.Paying.{HasRoomFor, IsOfSize};
-ghost use Rattle.mem_alloc.specs.Stepping.{BySteps, IsSettled, OfMachine};
-ghost use Rattle.mem_alloc.specs.Blocks.{AllocatesBlock, ChargesBlock, LeavesRoom, MayHaveBlock, TakesAgain};
-ghost use Rattle.mem_alloc.specs.Blocks.{TakesInRounds};
+ghost use Rattle.mem_machine.specs.Machines.{KeepsVisit, Visits};
+ghost use Rattle.mem_machine.specs.Paying.{IsOfSize, MayCharge};
+ghost use Rattle.mem_alloc.specs.Stepping.{BySteps, IsSettled};
+ghost use Rattle.mem_alloc.specs.Blocks.{AllocatesBlock, ChargesBlock, LeavesRoom, MayHaveBlock};
+ghost use Rattle.mem_alloc.specs.Blocks.{TakesAfterDrain, TakesInRounds};
 ghost use Rattle.mem_machine.specs.Local.{side};
 
 use crate::faults::AllocFault;
@@ -20,7 +20,7 @@ use mem_reclaim::MAX_ROUNDS;
 use zone_blocks::order::Order;
 
 // Charges a block to the group and takes it, as soon as every limit has room.
-fn take_charged<N: BootName>(
+fn charge_block<N: BootName>(
     machine: &mut Machine<N>,
     tables: &Tables<N>,
     cpu: &mut Cpu<N>,
@@ -28,12 +28,10 @@ fn take_charged<N: BootName>(
     order: Order,
 ) -> Result<Frame, AllocFault>
     requires visit { Visits N.frames (side machine.old cpu.old) }
-    requires there { IsTrue (has_group machine.old.ledger.groups group) }
-    requires alive { is_killed machine.old.killed group ≡ false }
-    requires fits { HasRoomFor machine.old (2 ^ order) }
+    requires may_charge { MayCharge machine.old group (2 ^ order) }
     requires none_back { cpu.old.back ≡ [] }
     ensures charges { BySteps N.frames (side machine.old cpu.old) (side machine.new cpu.new)
-        (OfMachine (ChargesBlock group order result)) }
+        (ChargesBlock group order result) }
     ensures cpu { cpu.new ≡ cpu.old }
     ensures visit { Visits N.frames (side machine.new cpu.new) }
     ensures leaves { LeavesRoom group order result machine.old machine.new }
@@ -80,7 +78,7 @@ fn take_in_rounds<N: BootName>(
 
 // Gives the processor's list back to the zone, and takes the block then, for which every limit has room. Where no block
 // is free still, its pages are reclaimed in rounds.
-fn take_again<N: BootName>(
+fn take_after_drain<N: BootName>(
     machine: &mut Machine<N>,
     tables: &Tables<N>,
     cpu: &mut Cpu<N>,
@@ -91,7 +89,7 @@ fn take_again<N: BootName>(
     requires room { MayHaveBlock group order machine.old }
     requires settled { IsSettled cpu.old }
     ensures takes { BySteps N.frames (side machine.old cpu.old) (side machine.new cpu.new)
-        (TakesAgain group order result) }
+        (TakesAfterDrain group order result) }
     ensures stays { KeepsVisit N.frames (side machine.old cpu.old) (side machine.new cpu.new) }
     ensures fresh { cpu.new.fresh ≡ [] }
     ensures list { length cpu.new.list ≤ length cpu.old.list }
@@ -138,9 +136,9 @@ pub fn alloc_block<N: BootName>(
     }
     let _pages = order.frames(); // For the clauses.
     machine.see_room();
-    match take_charged(machine, tables, cpu, group, order) {
+    match charge_block(machine, tables, cpu, group, order) {
         Ok(head) => Ok(head),
-        Err(AllocFault::NoFrames) => take_again(machine, tables, cpu, group, order),
+        Err(AllocFault::NoFrames) => take_after_drain(machine, tables, cpu, group, order),
         Err(cause) => Err(cause),
     }
 }

@@ -1,14 +1,13 @@
 //! Pages charged for single frames: they come through the processor's stock.
 
-ghost use Rattle.std.specs.Prelude.{◌≡◌, ◌↔◌, ◌<◌, [], IsTrue, false, OnOk};
+ghost use Rattle.std.specs.Prelude.{◌≡◌, ◌↔◌, [], IsTrue, false, OnOk};
 ghost use Rattle.zone_sizes.specs.Config.{IsValidConfig};
 ghost use Rattle.group_tree.specs.Groups.{has_group};
 ghost use Rattle.stock_word.specs.Stock.{account_of};
 ghost use Rattle.mem_machine.specs.Machines.{Visits, is_killed};
-ghost use Rattle.mem_machine.specs.Paying.{HasRoomFor, HoldsPage, IsOfSize};
-ghost use Rattle.mem_alloc.specs.Stepping.{ByAnswer};
-ghost use Rattle.mem_alloc.specs.Charging.{FillsAfterRoom, ChargesFrame, PaysForFrame};
-ghost use Rattle.mem_alloc.specs.Charging.{RefusesOne, RefusesFrame, RefusesToPay};
+ghost use Rattle.mem_machine.specs.Paying.{HoldsPage, IsOfSize, MayCharge};
+ghost use Rattle.mem_alloc.specs.Stepping.{BySteps};
+ghost use Rattle.mem_alloc.specs.Charging.{ChargesFrame, ChargesOne, PaysForFrame};
 ghost use Rattle.mem_machine.specs.Local.{side};
 
 use crate::faults::AllocFault;
@@ -45,13 +44,11 @@ fn fill_one<N: BootName>(
     group: GroupId,
 ) -> Result<(), AllocFault>
     requires visit { Visits N.frames (side machine.old cpu.old) }
-    requires there { IsTrue (has_group machine.old.ledger.groups group) }
-    requires alive { is_killed machine.old.killed group ≡ false }
-    requires fits { HasRoomFor machine.old 1 }
+    requires may_charge { MayCharge machine.old group 1 }
     requires none_fresh { cpu.old.fresh ≡ [] }
     requires drained { (account_of machine.old.stock.view cpu.old.number).filled ≡ false }
-    ensures fills { ByAnswer N.frames (side machine.old cpu.old) (side machine.new cpu.new) result
-        (FillsAfterRoom group 1) (RefusesOne group) }
+    ensures charges { BySteps N.frames (side machine.old cpu.old) (side machine.new cpu.new)
+        (ChargesOne group result) }
     ensures visit { Visits N.frames (side machine.new cpu.new) }
 {
     'tries: loop {
@@ -78,8 +75,8 @@ fn charge_frame<N: BootName>(
     requires alive { is_killed machine.old.killed group ≡ false }
     requires none_fresh { cpu.old.fresh ≡ [] }
     requires drained { (account_of machine.old.stock.view cpu.old.number).filled ≡ false }
-    ensures charges { ByAnswer N.frames (side machine.old cpu.old) (side machine.new cpu.new) result
-        (ChargesFrame sizes group) (RefusesFrame sizes group) }
+    ensures charges { BySteps N.frames (side machine.old cpu.old) (side machine.new cpu.new)
+        (ChargesFrame sizes group result) }
     ensures visit { Visits N.frames (side machine.new cpu.new) }
 {
     machine.see_room();
@@ -103,8 +100,8 @@ pub(crate) fn pay_for_frame<N: BootName>(
     requires there { IsTrue (has_group machine.old.ledger.groups group) }
     requires alive { is_killed machine.old.killed group ≡ false }
     requires none_fresh { cpu.old.fresh ≡ [] }
-    ensures pays { ByAnswer N.frames (side machine.old cpu.old) (side machine.new cpu.new) result
-        (PaysForFrame sizes group) (RefusesToPay sizes group) }
+    ensures pays { BySteps N.frames (side machine.old cpu.old) (side machine.new cpu.new)
+        (PaysForFrame sizes group result) }
     ensures visit { Visits N.frames (side machine.new cpu.new) }
     ensures page { OnOk result (HoldsPage (side machine.new cpu.new) group) }
 {

@@ -6,9 +6,9 @@ ghost use Rattle.zone_sizes.specs.Config.{IsValidConfig};
 ghost use Rattle.group_tree.specs.Groups.{has_group};
 ghost use Rattle.mem_machine.specs.Machines.{KeepsVisit, Visits};
 ghost use Rattle.mem_machine.specs.Paying.{HoldsPage, IsOfSize};
-ghost use Rattle.mem_alloc.specs.Stepping.{ByAnswer, BySteps, IsSettled};
+ghost use Rattle.mem_alloc.specs.Stepping.{BySteps, IsSettled};
 ghost use Rattle.mem_machine.specs.Lending.{HasListRoom};
-ghost use Rattle.mem_alloc.specs.Frames.{FillsList, HasNoFrame, RefillsInRounds, AllocatesFrame};
+ghost use Rattle.mem_alloc.specs.Frames.{AllocatesFrame, FillsList, RefillsInRounds};
 ghost use Rattle.mem_machine.specs.Local.{side};
 
 use crate::charging::pay_for_frame;
@@ -61,8 +61,8 @@ fn fill_list<N: BootName>(
     requires sizes { IsValidConfig sizes }
     requires none_fresh { cpu.old.fresh ≡ [] }
     requires page { HoldsPage (side machine.old cpu.old) group }
-    ensures fills { ByAnswer N.frames (side machine.old cpu.old) (side machine.new cpu.new) result
-        (FillsList sizes) HasNoFrame }
+    ensures fills { BySteps N.frames (side machine.old cpu.old) (side machine.new cpu.new)
+        (FillsList sizes result) }
     ensures visit { Visits N.frames (side machine.new cpu.new) }
     ensures page { OnOk result (HoldsPage (side machine.new cpu.new) group) }
     ensures front { OnOk result (1 ≤ length cpu.new.list) }

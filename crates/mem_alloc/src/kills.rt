@@ -2,7 +2,7 @@
 
 ghost use Rattle.std.specs.Prelude.{◌≡◌, ◌↔◌, IsTrue};
 ghost use Rattle.group_tree.specs.Groups.{has_group};
-ghost use Rattle.mem_alloc.specs.Kills.{IsWanting, KillsFor, has_room_for};
+ghost use Rattle.mem_alloc.specs.Kills.{IsWanting, KillsFor, has_room_at};
 ghost use Rattle.mem_alloc.specs.Room.{KillsForFew};
 ghost use Rattle.mem_alloc.specs.Stepping.{ByStepsOfAny};
 
@@ -20,7 +20,7 @@ const MOST_KILLED_FOR: u32 = 8;
 // Whether the limit of the group has room for so many pages more.
 pub(crate) fn has_room_at(charges: &Charges, group: GroupId, pages: u32) -> bool
     requires { IsTrue (has_group charges.now.groups group) }
-    ensures { result ≡ has_room_for charges.now group pages }
+    ensures { result ≡ has_room_at charges.now group pages }
 {
     match charges.max(group) {
         None => true,

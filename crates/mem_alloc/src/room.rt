@@ -1,10 +1,10 @@
 //! What is done where a limit has no room for a charge.
 
-ghost use Rattle.std.specs.Prelude.{◌≡◌, ◌<◌, IsTrue, MatchResult};
+ghost use Rattle.std.specs.Prelude.{◌≡◌, ◌<◌, IsTrue};
 ghost use Rattle.group_tree.specs.declared.group.TheConstants.{MAX_GROUPS};
 ghost use Rattle.group_tree.specs.Groups.{has_group};
 ghost use Rattle.mem_alloc.specs.Stepping.{ByStepsOfAny};
-ghost use Rattle.mem_alloc.specs.Room.{HasMadeRoom, IsCause, ReclaimsFor, RelievesLimit, with_limit_noted};
+ghost use Rattle.mem_alloc.specs.Room.{ReclaimsFor, RelievesLimit, TellsRoom, with_limit_noted};
 
 use crate::faults::AllocFault;
 use crate::kills::{has_room_at, kill_for_few};
@@ -60,8 +60,7 @@ pub(crate) fn make_room<N: BootName>(
 ) -> Result<(), AllocFault>
     requires { IsTrue (has_group machine.old.ledger.groups group) }
     ensures clears { ByStepsOfAny N.frames machine.old machine.new (RelievesLimit requester group pages) }
-    ensures room { MatchResult result (λ done. HasMadeRoom requester group pages machine.new)
-        (λ cause. IsCause requester group pages cause machine.new) }
+    ensures room { TellsRoom requester group pages result machine.new }
     ensures below { group < MAX_GROUPS }
 {
     let _number = group.number(); // For the clauses.

@@ -42,7 +42,7 @@ use Rattle.mem_machine.proofs.Prepaying.{current_falls}
 use Rattle.mem_machine.specs.declared.counts.Counts.{Counts}
 use Rattle.mem_reclaim.specs.Moves.{Rises, has_kill, is_kill, is_miss, missed_in, returned_in}
 use Rattle.mem_reclaim.specs.Staying.{OnlyLeave}
-use Rattle.mem_reclaim.specs.Killing.{KillsBySteps, KeepsNone, KeepsStocks, LetsGoAll, LetsGoBySteps, OnlyDrains, OnlyLetsGo, with_killed}
+use Rattle.mem_reclaim.specs.Killing.{KillsBySteps, HasNoKeptUnit, KeepsStocks, LetsGoAll, LetsGoBySteps, OnlyDrains, OnlyLetsGo, with_killed}
 use Rattle.mem_reclaim.proofs.Listing.{has_unit, listed_is, home_inside, has_mid}
 use Rattle.mem_reclaim.proofs.Rising.{drains_return_none, returned_both, rises_both, units_rise}
 use Rattle.mem_machine.proofs.Followed.{makes_both, makes_none}
@@ -231,7 +231,14 @@ let_go_more t g list m i now s u o f at left then releases_f visit runs_f =
       whole = λ rest n all.
           subst (λ (r : Run). LetsGoAll (entries_in m g list) m r n) (sym (append_assoc s.steps (release_steps u.number left) rest))
           (s.whole (release_steps u.number left ++ rest) n (subst (λ (l : List Entry). LetsGoAll l now (release_steps u.number left ++ rest) n) (sym o.entries)
-          (then, left, rest, releases, subst (λ (l : List Entry). LetsGoAll l then rest n) tail all, refl)));
+          (record {
+            between = then;
+            left = left;
+            later = rest;
+            releases = releases;
+            others = subst (λ (l : List Entry). LetsGoAll l then rest n) tail all;
+            steps_are = refl;
+          })));
       runs = λ c. makes_both t c.number s.steps (release_steps u.number left) (side m c) (side now c) (side then c) (s.runs c) (runs c);
       left =
           let a = s.left in
@@ -384,7 +391,8 @@ quiet_release f Returned = record { quiet = refl; no_miss = λ g. refl }
 quiet_units : (units : List Entry) (m : KnownMachine) (steps : Run) (n : KnownMachine) → LetsGoAll units m steps n → AreQuiet steps
 quiet_units [] m steps n all = subst AreQuiet (sym all.1) (record { quiet = refl; no_miss = λ f. refl })
 quiet_units (u ∷ rest) m steps n all =
-    subst AreQuiet (sym all.5) (quiet_both (release_steps u.number all.1) all.2 (quiet_release u.number all.1) (quiet_units rest all.0 all.2 n all.4))
+    subst AreQuiet (sym all.steps_are)
+    (quiet_both (release_steps u.number all.left) all.later (quiet_release u.number all.left) (quiet_units rest all.between all.later n all.others))
 
 pub quiet_drain : (q : ℕ) (o : Option ℕ) (pages : ℕ) → AreQuiet (drain_steps q o pages)
 quiet_drain q None pages = record { quiet = refl; no_miss = λ f. refl }
@@ -417,7 +425,7 @@ pub record AllKilled (t : KnownTable) (v : ℕ) (m n : KnownMachine) : Type 0 wh
   pub kills : KillsBySteps t v m n
   pub marked : n.killed ≡ slice_set m.killed v true
   pub drained : AreOwnDrained v t.cpus n
-  pub none_kept : KeepsNone v n
+  pub none_kept : HasNoKeptUnit v n
   pub keeps : OnlyLetsGo t m n
   pub stocks : OnlyDrains m n
 

@@ -18,6 +18,7 @@ use Rattle.mem_machine.specs.Machines.{KnownMachine, home_of}
 use Rattle.mem_machine.specs.Local.{MakesForAny}
 use Rattle.mem_machine.specs.Ageing.{RenewsUnit, entries_in}
 use Rattle.mem_machine.specs.Evicting.{EvictsUnit, Evicts, evict_steps}
+use Rattle.mem_reclaim.specs.Wanted.{progress}
 use Rattle.mem_reclaim.specs.Moves.{Leads}
 use Rattle.mem_reclaim.specs.Units.{MeetsAs, MeetsUnit}
 use Rattle.mem_reclaim.specs.Staying.{OnlyLeave, IsMissed}
@@ -30,7 +31,7 @@ pub meets_dirty : (t : KnownTable) (marks_count : Bool) (g : ℕ) (e : Entry) (m
     → Leads t 0 m m (MeetsUnit marks_count g e 1)
 meets_dirty t marks_count g e m dirty = record {
   steps = [];
-  does = subst (λ (d : Bool). MeetsAs d (marks_count && e.is_marked) g e.number 0 m [] m) (sym dirty) (rested m);
+  does = subst (λ (d : Bool). MeetsAs d (marks_count && e.is_marked) g e.number (progress 0 m [] m)) (sym dirty) (rested m);
   moves = moves_rest t m;
 }
 
@@ -38,7 +39,7 @@ pub meets_spared : (t : KnownTable) (marks_count : Bool) (g f : ℕ) (e : Entry)
     → e.number ≡ f → RenewsUnit g f m n → MakesForAny t m [] n → Leads t 0 m n (MeetsUnit marks_count g e 1)
 meets_spared t marks_count g f e m n clean spared is renews runs = record {
   steps = [];
-  does = subst (λ (x : Bool × Bool × ℕ). MeetsAs x.0 x.1 g x.2 0 m [] n) (λ i. (sym clean i, sym spared i, sym is i))
+  does = subst (λ (x : Bool × Bool × ℕ). MeetsAs x.0 x.1 g x.2 (progress 0 m [] n)) (λ i. (sym clean i, sym spared i, sym is i))
       (record { no_page = refl; renews = renews; no_step = refl });
   moves = moves_none t m n runs (ap (λ (x : KnownMachine). x.seat) renews.machine) (ap (λ (x : KnownMachine). x.counts) renews.machine);
 }
@@ -49,7 +50,7 @@ pub meets_tried : (t : KnownTable) (marks_count : Bool) (g f : ℕ) (e : Entry) 
 meets_tried t marks_count g f e m n answer given clean spared is evicts runs pages =
     subst (λ (p : ℕ). Leads t p m n (MeetsUnit marks_count g e 1)) (sym pages) (record {
       steps = evict_steps f answer;
-      does = subst (λ (x : Bool × Bool × ℕ). MeetsAs x.0 x.1 g x.2 (unwrap_or answer 0) m (evict_steps f answer) n) (λ i. (sym clean i, sym spared i, sym is i))
+      does = subst (λ (x : Bool × Bool × ℕ). MeetsAs x.0 x.1 g x.2 (progress (unwrap_or answer 0) m (evict_steps f answer) n)) (λ i. (sym clean i, sym spared i, sym is i))
           (record { answer = answer; evicts = evicts; pages = refl; tries = refl });
       moves = moves_try t m n f answer evicts runs;
     })
@@ -79,14 +80,14 @@ tried_list m n g f list None is home = inl (ap (λ (x : KnownMachine). entries_i
 tried_list m n g f list (Some pages) is home =
     inr ([], evicted_entries m n g f pages list is home ∙ sym (append-nil (entries_without f (entries_in m g list))))
 
-met_as : (dirty spared : Bool) (m n : KnownMachine) (g f given : ℕ) (steps : Run) (list : LruList) → MeetsAs dirty spared g f given m steps n
+met_as : (dirty spared : Bool) (m n : KnownMachine) (g f given : ℕ) (steps : Run) (list : LruList) → MeetsAs dirty spared g f (progress given m steps n)
     → (spared ≡ true → list ≡ Inactive) → home_of m.links f ≡ Some (record { owner = g; list = list }) → MetList g list f m n
 met_as true spared m n g f given steps list is inactive home = inl (ap (λ (x : KnownMachine). entries_in x g list) is.machine)
 met_as false true m n g f given steps list is inactive home =
     subst (λ (l : LruList). MetList g l f m n) (sym (inactive refl)) (inr (marked false (entry_of m.links f) ∷ [], is.renews.inactive))
 met_as false false m n g f given steps list is inactive home = tried_list m n g f list is.answer is.evicts home
 
-pub met_list : (marks_count : Bool) (m n : KnownMachine) (g want given : ℕ) (e : Entry) (steps : Run) (list : LruList) → MeetsUnit marks_count g e want given m steps n
+pub met_list : (marks_count : Bool) (m n : KnownMachine) (g want given : ℕ) (e : Entry) (steps : Run) (list : LruList) → MeetsUnit marks_count g e want (progress given m steps n)
     → (marks_count ≡ true → list ≡ Inactive) → home_of m.links e.number ≡ Some (record { owner = g; list = list }) → MetList g list e.number m n
 met_list true m n g want given e steps list is inactive home = met_as e.is_dirty e.is_marked m n g e.number given steps list is (λ i. inactive refl) home
 met_list false m n g want given e steps list is inactive home = met_as e.is_dirty false m n g e.number given steps list is (λ i. absurd (true≢false (sym i))) home
@@ -107,19 +108,19 @@ try_misses m n f None is h home clean =
     omega (arith, a, one)
 try_misses m n f (Some pages) is h home clean = absurd (none-some h (sym (ap (λ (k : Link). k.home) is.list.forgotten) ∙ home))
 
-leaves_as : (dirty : Bool) (m n : KnownMachine) (g f given : ℕ) (steps : Run) → MeetsAs dirty false g f given m steps n → OnlyLeave m n
+leaves_as : (dirty : Bool) (m n : KnownMachine) (g f given : ℕ) (steps : Run) → MeetsAs dirty false g f (progress given m steps n) → OnlyLeave m n
 leaves_as true m n g f given steps is x h home = ap (λ (k : KnownMachine). home_of k.links x) (sym is.machine) ∙ home
 leaves_as false m n g f given steps is x h home = try_leaves m n f is.answer is.evicts x h home
 
-misses_as : (dirty : Bool) (m n : KnownMachine) (g f given : ℕ) (steps : Run) → MeetsAs dirty false g f given m steps n → (link_at m.links f).is_dirty ≡ dirty
+misses_as : (dirty : Bool) (m n : KnownMachine) (g f given : ℕ) (steps : Run) → MeetsAs dirty false g f (progress given m steps n) → (link_at m.links f).is_dirty ≡ dirty
     → (h : Home) → IsMissed m n f h
 misses_as true m n g f given steps is dirt h home clean =
     absurd (true≢false (sym dirt ∙ ap (λ (k : KnownMachine). (link_at k.links f).is_dirty) (sym is.machine) ∙ clean))
 misses_as false m n g f given steps is dirt h home clean = try_misses m n f is.answer is.evicts h home clean
 
-pub met_leaves : (m n : KnownMachine) (g want given : ℕ) (e : Entry) (steps : Run) → MeetsUnit false g e want given m steps n → OnlyLeave m n
+pub met_leaves : (m n : KnownMachine) (g want given : ℕ) (e : Entry) (steps : Run) → MeetsUnit false g e want (progress given m steps n) → OnlyLeave m n
 met_leaves m n g want given e steps is = leaves_as e.is_dirty m n g e.number given steps is
 
-pub met_misses : (m n : KnownMachine) (g want given : ℕ) (e : Entry) (steps : Run) → MeetsUnit false g e want given m steps n
+pub met_misses : (m n : KnownMachine) (g want given : ℕ) (e : Entry) (steps : Run) → MeetsUnit false g e want (progress given m steps n)
     → (link_at m.links e.number).is_dirty ≡ e.is_dirty → (h : Home) → IsMissed m n e.number h
 met_misses m n g want given e steps is dirt = misses_as e.is_dirty m n g e.number given steps is dirt

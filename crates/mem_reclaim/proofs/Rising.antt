@@ -70,8 +70,9 @@ units_rise [] m steps n all =
     subst (λ (r : Run). Rises m.counts.last_puts (returned_in r) n.counts.last_puts) (sym all.1)
     (rises_none m.counts.last_puts n.counts.last_puts (ap (λ (x : KnownMachine). x.counts.last_puts) all.0))
 units_rise (u ∷ rest) m steps n all =
-    let one : Run = release_steps u.number all.1 in
-    subst (λ (r : Run). Rises m.counts.last_puts (returned_in r) n.counts.last_puts) (sym all.5)
-    (subst (λ (k : ℕ). Rises m.counts.last_puts k n.counts.last_puts) (sym (returned_both one all.2))
-    (rises_both m.counts.last_puts all.0.counts.last_puts n.counts.last_puts (returned_in one) (returned_in all.2) (release_rises m all.0 u.number all.1 all.3)
-    (units_rise rest all.0 all.2 n all.4)))
+    let x = all.between in
+    let one : Run = release_steps u.number all.left in
+    subst (λ (r : Run). Rises m.counts.last_puts (returned_in r) n.counts.last_puts) (sym all.steps_are)
+    (subst (λ (k : ℕ). Rises m.counts.last_puts k n.counts.last_puts) (sym (returned_both one all.later))
+    (rises_both m.counts.last_puts x.counts.last_puts n.counts.last_puts (returned_in one) (returned_in all.later)
+    (release_rises m x u.number all.left all.releases) (units_rise rest x all.later n all.others)))

@@ -8,7 +8,7 @@ use Rattle.group_charge.specs.Charges.{current_of}
 use Rattle.step_rules.specs.After.{Run}
 use Rattle.kill_notes.specs.declared.note.Note.{Note}
 use Rattle.mem_machine.specs.Machines.{KnownMachine, with_note}
-use Rattle.mem_reclaim.specs.Wanted.{GivesNothing}
+use Rattle.mem_reclaim.specs.Wanted.{GivesNothing, progress}
 use Rattle.mem_reclaim.specs.Moves.{Moves, Leads}
 use Rattle.mem_reclaim.specs.Passes.{Reclaims}
 use Rattle.mem_reclaim.specs.Rounds.{MakesOneRound, MakesRounds, pages_missing, round_note}
@@ -76,8 +76,8 @@ pub record RoundsGive (t : KnownTable) (g need limit : ℕ) (m : KnownMachine) (
 -- so many rounds were made, so that whatever the rounds that are left do makes up the whole
 pub record RoundsSoFar (t : KnownTable) (g need limit : ℕ) (m : KnownMachine) (made given : ℕ) (now : KnownMachine) : Type 0 where
   pub steps : Run
-  pub whole : (more : ℕ) (rest : Run) (n : KnownMachine) → MakesRounds g (pages_missing g need limit) (16 - made) more now rest n
-      → MakesRounds g (pages_missing g need limit) 16 (given + more) m (steps ++ rest) n
+  pub whole : (more : ℕ) (rest : Run) (n : KnownMachine) → MakesRounds g (pages_missing g need limit) (16 - made) (progress more now rest n)
+      → MakesRounds g (pages_missing g need limit) 16 (progress (given + more) m (steps ++ rest) n)
   pub moves : Moves t m given steps now
   pub keeps : Keeps t m now
   pub usage : current_of now.ledger g + given ≡ current_of m.ledger g
@@ -90,7 +90,7 @@ module _ (t : KnownTable) (g need limit : ℕ) (m : KnownMachine) where
     steps = [];
     whole = λ more rest n h.
         let d : more ≡ 0 + more = omega arith in
-        subst (λ (x : ℕ). MakesRounds g (pages_missing g need limit) 16 x m rest n) d h;
+        subst (λ (x : ℕ). MakesRounds g (pages_missing g need limit) 16 (progress x m rest n)) d h;
     moves = moves_rest t m;
     keeps = keeps_none t m;
     usage = omega arith;
@@ -100,13 +100,13 @@ module _ (t : KnownTable) (g need limit : ℕ) (m : KnownMachine) where
 
   module _ (made given : ℕ) (now : KnownMachine) (so : RoundsSoFar t g need limit m made given now) where
     -- nothing more is done
-    ended : MakesRounds g (pages_missing g need limit) (16 - made) 0 now [] now
+    ended : MakesRounds g (pages_missing g need limit) (16 - made) (progress 0 now [] now)
         → Leads t given m now (MakesRounds g (pages_missing g need limit) 16)
     ended rest =
         let d : given + 0 ≡ given = omega arith in
         record {
           steps = so.steps;
-          does = subst (λ (y : ℕ × Run). MakesRounds g (pages_missing g need limit) 16 y.0 m y.1 now) (λ i. (d i, append-nil so.steps i))
+          does = subst (λ (y : ℕ × Run). MakesRounds g (pages_missing g need limit) 16 (progress y.0 m y.1 now)) (λ i. (d i, append-nil so.steps i))
               (so.whole 0 [] now rest);
           moves = so.moves;
         }
@@ -116,7 +116,7 @@ module _ (t : KnownTable) (g need limit : ℕ) (m : KnownMachine) where
     rounds_done all =
         let e : 0 ≡ 16 - made = omega (arith, all) in
         record {
-          rounds = ended (subst (λ (k : ℕ). MakesRounds g (pages_missing g need limit) k 0 now [] now) e (rested now));
+          rounds = ended (subst (λ (k : ℕ). MakesRounds g (pages_missing g need limit) k (progress 0 now [] now)) e (rested now));
           keeps = so.keeps;
           usage = so.usage;
           missed = so.missed (omega (arith, all));
@@ -129,7 +129,7 @@ module _ (t : KnownTable) (g need limit : ℕ) (m : KnownMachine) where
       -- no page is missing
       pub rounds_enough : pages_missing g need limit now.ledger ≡ 0 → RoundsGive t g need limit m given now
       rounds_enough none = record {
-        rounds = ended (subst (λ (k : ℕ). MakesRounds g (pages_missing g need limit) k 0 now [] now) next_left (inl (none, rested now)));
+        rounds = ended (subst (λ (k : ℕ). MakesRounds g (pages_missing g need limit) k (progress 0 now [] now)) next_left (inl (none, rested now)));
         keeps = so.keeps;
         usage = so.usage;
         missed = λ over. absurd (omega (arith, none, over));
@@ -140,10 +140,10 @@ module _ (t : KnownTable) (g need limit : ℕ) (m : KnownMachine) where
           (leads : Leads t some now then (MakesOneRound g (made + 1) want)) (tells : tried_all ≡ nat_lt some want)
           (missed : tried_all ≡ true → MissedAll g now then) (usage : current_of then.ledger g + some ≡ current_of now.ledger g)
           (keeps : Keeps t now then) where
-        does : MakesOneRound g (16 - (16 - (made + 1))) (pages_missing g need limit now.ledger) some now leads.steps then
+        does : MakesOneRound g (16 - (16 - (made + 1))) (pages_missing g need limit now.ledger) (progress some now leads.steps then)
         does =
             let number : made + 1 ≡ 16 - (16 - (made + 1)) = omega (arith, left) in
-            subst (λ (w : ℕ × ℕ). MakesOneRound g w.0 w.1 some now leads.steps then) (λ i. (number i, wants i)) leads.does
+            subst (λ (w : ℕ × ℕ). MakesOneRound g w.0 w.1 (progress some now leads.steps then)) (λ i. (number i, wants i)) leads.does
 
         keeps_on : Keeps t m then
         keeps_on = keeps_both t m now then so.keeps keeps
@@ -163,11 +163,11 @@ module _ (t : KnownTable) (g need limit : ℕ) (m : KnownMachine) where
 
         -- the round and what comes after it make up what was left
         goes_on : (more : ℕ) (rest : Run) (n : KnownMachine)
-            → ((some ≡ 0) × GivesNothing more then rest n) ⊎ ((1 ≤ some) × MakesRounds g (pages_missing g need limit) (16 - (made + 1)) more then rest n)
-            → MakesRounds g (pages_missing g need limit) 16 (given + some + more) m (so.steps ++ (leads.steps ++ rest)) n
+            → ((some ≡ 0) × GivesNothing (progress more then rest n)) ⊎ ((1 ≤ some) × MakesRounds g (pages_missing g need limit) (16 - (made + 1)) (progress more then rest n))
+            → MakesRounds g (pages_missing g need limit) 16 (progress (given + some + more) m (so.steps ++ (leads.steps ++ rest)) n)
         goes_on more rest n h =
             let d : given + (some + more) ≡ given + some + more = omega arith in
-            let one : MakesRounds g (pages_missing g need limit) (suc (16 - (made + 1))) (some + more) now (leads.steps ++ rest) n =
+            let one : MakesRounds g (pages_missing g need limit) (suc (16 - (made + 1))) (progress (some + more) now (leads.steps ++ rest) n) =
             inr (
               omega (arith, wants, wanted),
               record {
@@ -182,15 +182,15 @@ module _ (t : KnownTable) (g need limit : ℕ) (m : KnownMachine) where
                 steps_are = refl;
               },
             ) in
-            subst (λ (y : ℕ). MakesRounds g (pages_missing g need limit) 16 y m (so.steps ++ (leads.steps ++ rest)) n) d
+            subst (λ (y : ℕ). MakesRounds g (pages_missing g need limit) 16 (progress y m (so.steps ++ (leads.steps ++ rest)) n)) d
             (so.whole (some + more) (leads.steps ++ rest) n
-            (subst (λ (k : ℕ). MakesRounds g (pages_missing g need limit) k (some + more) now (leads.steps ++ rest) n) next_left one))
+            (subst (λ (k : ℕ). MakesRounds g (pages_missing g need limit) k (progress (some + more) now (leads.steps ++ rest) n)) next_left one))
 
         pub rounds_more : some ≢ 0 → current_of now.ledger g < 2 ^ 32 → RoundsSoFar t g need limit m (made + 1) (given + some) then
         rounds_more gave low = record {
           steps = so.steps ++ leads.steps;
           whole = λ more rest n h.
-              subst (λ (y : Run). MakesRounds g (pages_missing g need limit) 16 (given + some + more) m y n) (sym (append_assoc so.steps leads.steps rest))
+              subst (λ (y : Run). MakesRounds g (pages_missing g need limit) 16 (progress (given + some + more) m y n)) (sym (append_assoc so.steps leads.steps rest))
               (goes_on more rest n (inr (omega (arith, gave), h)));
           moves = moves_on;
           keeps = keeps_on;
@@ -206,7 +206,7 @@ module _ (t : KnownTable) (g need limit : ℕ) (m : KnownMachine) where
             record {
               rounds = record {
                 steps = so.steps ++ leads.steps;
-                does = subst (λ (y : ℕ × Run). MakesRounds g (pages_missing g need limit) 16 y.0 m (so.steps ++ y.1) then)
+                does = subst (λ (y : ℕ × Run). MakesRounds g (pages_missing g need limit) 16 (progress y.0 m (so.steps ++ y.1) then))
                     (λ i. (d i, append-nil leads.steps i)) (goes_on 0 [] then (inl (none, rested then)));
                 moves = moves_on;
               };

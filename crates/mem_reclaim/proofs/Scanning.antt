@@ -17,7 +17,7 @@ use Rattle.lru_lists.specs.Lists.{entry_after, first_entry, entry_of, entries_wi
 use Rattle.mem_machine.specs.Machines.{KnownMachine, IsConsistent, home_of}
 use Rattle.mem_machine.specs.Ageing.{entries_in}
 use Rattle.mem_reclaim.specs.Moves.{Leads}
-use Rattle.mem_reclaim.specs.Wanted.{WhileWanted}
+use Rattle.mem_reclaim.specs.Wanted.{WhileWanted, progress}
 use Rattle.mem_reclaim.specs.Units.{MeetsUnit, ScansList}
 use Rattle.mem_reclaim.specs.Staying.{Keeps, OnlyLeave, IsMissed}
 use Rattle.mem_reclaim.proofs.Wanting.{SoFar, so_far_none, so_far_more, so_far_done, so_far_enough}
@@ -144,7 +144,7 @@ module _ (t : KnownTable) (w : Words) (marks_count : Bool) (g : ℕ) (fits : g <
 
     then_missed : marks_count ≡ false → MissedOrLeft m g list then here.rest
     then_missed off f home clean =
-        let does : MeetsUnit false g u 1 r now leads.steps then = subst (λ (b : Bool). MeetsUnit b g u 1 r now leads.steps then) off leads.does in
+        let does : MeetsUnit false g u 1 (progress r now leads.steps then) = subst (λ (b : Bool). MeetsUnit b g u 1 (progress r now leads.steps then)) off leads.does in
         let was = met_leaves now then g 1 r u leads.steps does f (record { owner = g; list = list }) home in
         let kept : home_of then.links f ≢ None = λ none. none-some (record { owner = g; list = list }) (sym none ∙ home) in
         let a = s.keeps.misses f in
@@ -185,7 +185,7 @@ module _ (t : KnownTable) (w : Words) (marks_count : Bool) (g : ℕ) (fits : g <
               omega (arith, a, b);
           few = omega (arith, wanted, small);
           leaves = λ off. only_both m now then (s.leaves off)
-              (met_leaves now then g 1 r u leads.steps (subst (λ (b : Bool). MeetsUnit b g u 1 r now leads.steps then) off leads.does));
+              (met_leaves now then g 1 r u leads.steps (subst (λ (b : Bool). MeetsUnit b g u 1 (progress r now leads.steps then)) off leads.does));
           missed = then_missed;
         }
 

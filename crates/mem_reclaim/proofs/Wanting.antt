@@ -4,19 +4,19 @@ use Rattle.std.proofs.lemmas.List.{append_assoc, append-nil}
 use Rattle.frame_word.specs.Seats.{KnownTable}
 use Rattle.step_rules.specs.After.{Run}
 use Rattle.mem_machine.specs.Machines.{KnownMachine}
-use Rattle.mem_reclaim.specs.Wanted.{GivesNothing, Reclaiming, WhileWanted}
+use Rattle.mem_reclaim.specs.Wanted.{GivesNothing, Reclaiming, WhileWanted, progress}
 use Rattle.mem_reclaim.specs.Moves.{Moves, Leads}
 use Rattle.mem_reclaim.proofs.Moving.{moves_rest, moves_both}
 
-pub rested : (m : KnownMachine) → GivesNothing 0 m [] m
+pub rested : (m : KnownMachine) → GivesNothing (progress 0 m [] m)
 rested m = record { no_page = refl; machine = refl; no_step = refl }
 
 -- what was done, so that whatever is done with the things that are left makes up the whole
 pub record SoFar {A : Type 0} (t : KnownTable) (does : A → ℕ → Reclaiming) (all : List A) (want : ℕ) (m : KnownMachine)
     (todo : List A) (given : ℕ) (now : KnownMachine) : Type 0 where
   pub steps : Run
-  pub whole : (more : ℕ) (rest : Run) (n : KnownMachine) → WhileWanted does todo (want - given) more now rest n
-      → WhileWanted does all want (given + more) m (steps ++ rest) n
+  pub whole : (more : ℕ) (rest : Run) (n : KnownMachine) → WhileWanted does todo (want - given) (progress more now rest n)
+      → WhileWanted does all want (progress (given + more) m (steps ++ rest) n)
   pub moves : Moves t m given steps now
 
 module _ {A : Type 0} (t : KnownTable) (does : A → ℕ → Reclaiming) (all : List A) (want : ℕ) (m : KnownMachine) where
@@ -26,7 +26,7 @@ module _ {A : Type 0} (t : KnownTable) (does : A → ℕ → Reclaiming) (all : 
     whole = λ more rest n h.
         let e : want - 0 ≡ want = omega arith in
         let d : more ≡ 0 + more = omega arith in
-        subst (λ (x : ℕ × ℕ). WhileWanted does all x.0 x.1 m rest n) (λ i. (e i, d i)) h;
+        subst (λ (x : ℕ × ℕ). WhileWanted does all x.0 (progress x.1 m rest n)) (λ i. (e i, d i)) h;
     moves = moves_rest t m;
   }
 
@@ -40,7 +40,7 @@ module _ {A : Type 0} (t : KnownTable) (does : A → ℕ → Reclaiming) (all : 
         whole = λ more rest n h.
             let e : want - (given + some) ≡ want - given - some = omega arith in
             let d : given + (some + more) ≡ given + some + more = omega arith in
-            let one : WhileWanted does (x ∷ later) (want - given) (some + more) now (first ++ rest) n =
+            let one : WhileWanted does (x ∷ later) (want - given) (progress (some + more) now (first ++ rest) n) =
             inr (
               omega (arith, wanted),
               record {
@@ -50,27 +50,27 @@ module _ {A : Type 0} (t : KnownTable) (does : A → ℕ → Reclaiming) (all : 
                 some = some;
                 more = more;
                 first = leads.does;
-                second = subst (λ (y : ℕ). WhileWanted does later y more then rest n) e h;
+                second = subst (λ (y : ℕ). WhileWanted does later y (progress more then rest n)) e h;
                 given_is = refl;
                 steps_are = refl;
               },
             ) in
-            subst (λ (y : ℕ × Run). WhileWanted does all want y.0 m y.1 n) (λ i. (d i, sym (append_assoc so.steps first rest) i))
+            subst (λ (y : ℕ × Run). WhileWanted does all want (progress y.0 m y.1 n)) (λ i. (d i, sym (append_assoc so.steps first rest) i))
             (so.whole (some + more) (first ++ rest) n one);
         moves = moves_both t m now then given some so.steps first so.moves leads.moves;
       }
 
-  left_alone : (todo : List A) (given : ℕ) (now : KnownMachine) → want ≤ given → WhileWanted does todo (want - given) 0 now [] now
+  left_alone : (todo : List A) (given : ℕ) (now : KnownMachine) → want ≤ given → WhileWanted does todo (want - given) (progress 0 now [] now)
   left_alone [] given now enough = rested now
   left_alone (x ∷ later) given now enough = inl (omega (arith, enough), rested now)
 
-  ended : (todo : List A) (given : ℕ) (now : KnownMachine) → SoFar t does all want m todo given now → WhileWanted does todo (want - given) 0 now [] now
+  ended : (todo : List A) (given : ℕ) (now : KnownMachine) → SoFar t does all want m todo given now → WhileWanted does todo (want - given) (progress 0 now [] now)
       → Leads t given m now (WhileWanted does all want)
   ended todo given now so rest =
       let d : given + 0 ≡ given = omega arith in
       record {
         steps = so.steps;
-        does = subst (λ (y : ℕ × Run). WhileWanted does all want y.0 m y.1 now) (λ i. (d i, append-nil so.steps i)) (so.whole 0 [] now rest);
+        does = subst (λ (y : ℕ × Run). WhileWanted does all want (progress y.0 m y.1 now)) (λ i. (d i, append-nil so.steps i)) (so.whole 0 [] now rest);
         moves = so.moves;
       }
 

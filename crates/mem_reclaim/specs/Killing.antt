@@ -22,13 +22,21 @@ use Rattle.mem_reclaim.specs.declared.noting.Having.{Having}
 use Rattle.mem_reclaim.specs.Staying.{OnlyLeave}
 use Rattle.mem_reclaim.specs.Victim.{IsNext, own_frames, victim_note}
 
--- The units leave their lists in this order, and the zone's reference on each is put: one without another reference
--- comes back, its frames are free and its pages uncharged; any other stays charged, kept by no one
+-- The unit leaves its list, and the zone's reference on it is put: without another reference it comes back, its frames
+-- are free and its pages uncharged; else it stays charged, kept by no one. And then this is done
+pub record LetsGo (unit : Entry) (Then : KnownMachine → Run → KnownMachine → Type 0) (before : KnownMachine)
+    (steps : Run) (after : KnownMachine) : Type 0 where
+  pub between : KnownMachine
+  pub left : Released
+  pub later : Run
+  pub releases : Releases unit.number left before between
+  pub others : Then between later after
+  pub steps_are : steps ≡ release_steps unit.number left ++ later
+
+-- the units are let go in this order
 abbrev pub LetsGoAll : List Entry → KnownMachine → Run → KnownMachine → Type 0
 LetsGoAll [] before steps after = (after ≡ before) × (steps ≡ [])
-LetsGoAll (unit ∷ others) before steps after =
-    (between : KnownMachine) × (left : Released) × (later : Run) × Releases unit.number left before between
-    × LetsGoAll others between later after × (steps ≡ release_steps unit.number left ++ later)
+LetsGoAll (unit ∷ others) before steps after = LetsGo unit (LetsGoAll others) before steps after
 
 -- the units are let go by some steps, whoever holds the lock
 pub record LetsGoBySteps (table : KnownTable) (units : List Entry) (before after : KnownMachine) : Type 0 where
@@ -63,7 +71,7 @@ pub record KillsOnce (group : ℕ) (before : KnownMachine) (steps : Run) (after 
   pub later : Run
   pub front : steps ≡ kill_steps group ++ later
   pub quiet : has_kill later ≡ false
-  pub no_miss : (f : ℕ) → missed_in f later ≡ 0
+  pub no_miss : (frame : ℕ) → missed_in frame later ≡ 0
   pub returned : Rises before.counts.last_puts (returned_in later) after.counts.last_puts
 
 -- a group is killed by some steps, whoever holds the lock
@@ -114,12 +122,12 @@ KillsVictim table limited (Some victim) before after = IsKilledBy table limited 
 pub record OnlyLetsGo (table : KnownTable) (before after : KnownMachine) : Type 0 where
   pub groups : after.ledger.groups ≡ before.ledger.groups
   pub opened : after.seat.view.opened ≡ before.seat.view.opened
-  pub usage : (g : ℕ) → current_of after.ledger g ≤ current_of before.ledger g
+  pub usage : (group : ℕ) → current_of after.ledger group ≤ current_of before.ledger group
   pub visit : (cpu : KnownCpu) → Visits table (side before cpu) → Visits table (side after cpu)
   pub leaves : OnlyLeave before after
-  pub dirt : (f : ℕ) → HeadsKeptUnit after f
-      → (link_at after.links f).is_dirty ≡ (link_at before.links f).is_dirty
-  pub misses : (f : ℕ) → misses_of after.seat f ≡ misses_of before.seat f
+  pub dirt : (frame : ℕ) → HeadsKeptUnit after frame
+      → (link_at after.links frame).is_dirty ≡ (link_at before.links frame).is_dirty
+  pub misses : (frame : ℕ) → misses_of after.seat frame ≡ misses_of before.seat frame
 
 -- what each processor's stock is stays, and who is killed
 pub record KeepsStocks (before after : KnownMachine) : Type 0 where
@@ -128,9 +136,10 @@ pub record KeepsStocks (before after : KnownMachine) : Type 0 where
 
 -- each processor's stock is of the group that it was of, and none is held that wasn't
 pub record OnlyDrains (before after : KnownMachine) : Type 0 where
-  pub of : (p : ℕ) → stock_group after p ≡ stock_group before p
-  pub drained : (p : ℕ) → IsDrained before p → IsDrained after p
+  pub of : (processor : ℕ) → stock_group after processor ≡ stock_group before processor
+  pub drained : (processor : ℕ) → IsDrained before processor → IsDrained after processor
 
 -- no unit is kept for the group
-abbrev pub KeepsNone : ℕ → KnownMachine → Type 0
-KeepsNone group machine = (f : ℕ) (home : Home) → home_of machine.links f ≡ Some home → home.owner ≢ group
+abbrev pub HasNoKeptUnit : ℕ → KnownMachine → Type 0
+HasNoKeptUnit group machine =
+    (frame : ℕ) (home : Home) → home_of machine.links frame ≡ Some home → home.owner ≢ group

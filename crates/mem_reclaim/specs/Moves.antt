@@ -13,7 +13,7 @@ use Rattle.step_rules.specs.State.{State}
 use Rattle.step_rules.specs.After.{Run, after, unit_size}
 use Rattle.mem_machine.specs.Machines.{KnownMachine}
 use Rattle.mem_machine.specs.Local.{MakesForAny, local_of}
-use Rattle.mem_reclaim.specs.Wanted.{Reclaiming}
+use Rattle.mem_reclaim.specs.Wanted.{Reclaiming, progress}
 
 -- how many pages come back by this pair: those of the unit that is returned
 abbrev pub pages_back : State → Action → Answer → ℕ
@@ -28,30 +28,30 @@ pages_returned state (e ∷ rest) =
 
 -- the pair is a freeze of the frame that missed
 abbrev pub is_miss : ℕ → Action → Answer → Bool
-is_miss f (Freeze g n) Missed = g == f
-is_miss f action answer = false
+is_miss frame (Freeze frozen pages) Missed = frozen == frame
+is_miss frame action answer = false
 
 -- how many of the steps are freezes of the frame that missed
 abbrev pub missed_in : ℕ → Run → ℕ
-missed_in f steps = count_by (λ e. is_miss f e.0.action e.1) steps
+missed_in frame steps = count_by (λ entry. is_miss frame entry.0.action entry.1) steps
 
 -- the pair is a freeze that missed, of whichever frame
 abbrev pub is_any_miss : Action → Answer → Bool
-is_any_miss (Freeze f n) Missed = true
+is_any_miss (Freeze frozen pages) Missed = true
 is_any_miss action answer = false
 
 -- how many of the steps are freezes that missed
 abbrev pub all_missed_in : Run → ℕ
-all_missed_in steps = count_by (λ e. is_any_miss e.0.action e.1) steps
+all_missed_in steps = count_by (λ entry. is_any_miss entry.0.action entry.1) steps
 
 -- the pair is the return of a unit
 abbrev pub is_return : Action → Answer → Bool
-is_return (Return f) Done = true
+is_return (Return frame) Done = true
 is_return action answer = false
 
 -- how many units these steps return
 abbrev pub returned_in : Run → ℕ
-returned_in steps = count_by (λ e. is_return e.0.action e.1) steps
+returned_in steps = count_by (λ entry. is_return entry.0.action entry.1) steps
 
 -- a count rose by so many, or is at its greatest
 abbrev pub Rises : ℕ → ℕ → ℕ → Type 0
@@ -59,12 +59,12 @@ Rises before more after = (after ≡ before + more) ⊎ (max_count ≤ after)
 
 -- a group is killed
 abbrev pub is_kill : Action → Bool
-is_kill (Kill g) = true
+is_kill (Kill group) = true
 is_kill action = false
 
 -- some step is a kill
 abbrev pub has_kill : Run → Bool
-has_kill steps = list_any (λ e. is_kill e.0.action) steps
+has_kill steps = list_any (λ entry. is_kill entry.0.action) steps
 
 -- Whoever holds the lock, these steps lead from one machine to the other; so many pages come back by them; none of them
 -- is a kill; the misses that the zone's seat noted of each frame grew by those among them; and the freezes and the
@@ -74,12 +74,13 @@ pub record Moves (table : KnownTable) (before : KnownMachine) (given : ℕ) (ste
   pub runs : MakesForAny table before steps after
   pub pages : (cpu : KnownCpu) → pages_returned (local_of table before cpu) steps ≡ given
   pub quiet : has_kill steps ≡ false
-  pub misses : (f : ℕ) → misses_of after.seat f ≡ misses_of before.seat f + missed_in f steps
+  pub misses : (frame : ℕ)
+      → misses_of after.seat frame ≡ misses_of before.seat frame + missed_in frame steps
   pub returned : Rises before.counts.freezes (returned_in steps) after.counts.freezes
   pub missed : Rises before.counts.misses (all_missed_in steps) after.counts.misses
 
 -- some list of steps leads from the one machine to the other and gives so many pages, and this may be said of it
 pub record Leads (table : KnownTable) (given : ℕ) (before after : KnownMachine) (Does : Reclaiming) : Type 0 where
   pub steps : Run
-  pub does : Does given before steps after
+  pub does : Does (progress given before steps after)
   pub moves : Moves table before given steps after

@@ -4,18 +4,16 @@ use Rattle.std.specs.List.{range_with_len}
 use Rattle.group_tree.specs.declared.group.TheConstants.{MAX_GROUPS}
 use Rattle.group_tree.specs.Groups.{in_subtree}
 use Rattle.lru_lists.specs.declared.record.LruList.TheVariants.{Inactive, Active}
-use Rattle.step_rules.specs.After.{Run}
 use Rattle.mem_machine.specs.Machines.{KnownMachine}
 use Rattle.mem_machine.specs.Ageing.{AgesGroup}
-use Rattle.mem_reclaim.specs.Wanted.{GivesNothing, Reclaiming, WhileWanted}
+use Rattle.mem_reclaim.specs.Wanted.{GivesNothing, Progress, Reclaiming, WhileWanted, progress}
 use Rattle.mem_reclaim.specs.Units.{ScansList}
 
 -- the first pass over a group: its lists are aged, and then its inactive units are met; marked ones are spared
-pub record AgesAndScans (group want given : ℕ) (before : KnownMachine) (steps : Run)
-    (after : KnownMachine) : Type 0 where
+pub record AgesAndScans (group want : ℕ) (done : Progress) : Type 0 where
   pub aged : KnownMachine
-  pub ages : AgesGroup group before aged
-  pub scans : ScansList true group Inactive want given aged steps after
+  pub ages : AgesGroup group done.before aged
+  pub scans : ScansList true group Inactive want (progress done.given aged done.steps done.after)
 
 -- what a pass does with a group: in the second one its inactive and then its active units are met, and marks don't
 -- count
@@ -26,9 +24,9 @@ PassesGroup false group want = WhileWanted (ScansList false group) (Inactive ∷
 -- the turn of a group number in a pass over the subtree of `group`: nothing is done where no group of the subtree has
 -- it
 abbrev pub TakesTurn : Bool → ℕ → ℕ → ℕ → Reclaiming
-TakesTurn is_first group turn want given before steps after =
-    ((in_subtree before.ledger.groups group turn ≡ true) × PassesGroup is_first turn want given before steps after)
-    ⊎ ((in_subtree before.ledger.groups group turn ≡ false) × GivesNothing given before steps after)
+TakesTurn is_first group turn want done =
+    ((in_subtree done.before.ledger.groups group turn ≡ true) × PassesGroup is_first turn want done)
+    ⊎ ((in_subtree done.before.ledger.groups group turn ≡ false) × GivesNothing done)
 
 -- one pass over the groups of the subtree
 abbrev pub MakesPass : ℕ → Bool → ℕ → Reclaiming

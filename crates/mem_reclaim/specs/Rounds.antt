@@ -1,12 +1,11 @@
 -- Rounds of reclaim, as long as pages are missing.
 use Rattle.std.specs.Prelude.{◌≡◌, ℕ, zero, suc, ◌+◌, ◌-◌, ◌≤◌, ◌⊎◌}
 use Rattle.group_charge.specs.Charges.{Ledger, current_of}
-use Rattle.step_rules.specs.After.{Run}
 use Rattle.kill_notes.specs.declared.note.Note.{Note}
 use Rattle.kill_notes.specs.declared.note.Note.TheVariants.{Round}
 use Rattle.mem_machine.specs.Machines.{KnownMachine, with_note}
 use Rattle.mem_reclaim.specs.Moves.{Rises, all_missed_in, returned_in}
-use Rattle.mem_reclaim.specs.Wanted.{BothGive, GivesNothing, Reclaiming}
+use Rattle.mem_reclaim.specs.Wanted.{BothGive, GivesNothing, Progress, Reclaiming, progress}
 use Rattle.mem_reclaim.specs.Passes.{Reclaims}
 
 -- how many rounds of reclaim are made at most, before a limit or where nothing is free
@@ -26,26 +25,24 @@ round_note group number pages before after =
 
 -- One round, of this number, and then it is noted. The counts whose difference the note tells grew by the units that
 -- the round's steps return, and by the freezes among them that missed
-pub record MakesOneRound (group number want given : ℕ) (before : KnownMachine) (steps : Run)
-    (after : KnownMachine) : Type 0 where
+pub record MakesOneRound (group number want : ℕ) (done : Progress) : Type 0 where
   pub reclaimed : KnownMachine
-  pub reclaims : Reclaims group want given before steps reclaimed
-  pub noted : after ≡ with_note reclaimed (round_note group number given before reclaimed)
-  pub returned : Rises before.counts.freezes (returned_in steps) reclaimed.counts.freezes
-  pub missed : Rises before.counts.misses (all_missed_in steps) reclaimed.counts.misses
+  pub reclaims : Reclaims group want (progress done.given done.before done.steps reclaimed)
+  pub noted : done.after ≡ with_note reclaimed (round_note group number done.given done.before reclaimed)
+  pub returned : Rises done.before.counts.freezes (returned_in done.steps) reclaimed.counts.freezes
+  pub missed : Rises done.before.counts.misses (all_missed_in done.steps) reclaimed.counts.misses
 
 -- what is done after a round that gave `some` pages: nothing where it gave none
 abbrev pub UnlessNone : Reclaiming → ℕ → Reclaiming
-UnlessNone Does some given before steps after =
-    ((some ≡ 0) × GivesNothing given before steps after) ⊎ ((1 ≤ some) × Does given before steps after)
+UnlessNone Does some done = ((some ≡ 0) × GivesNothing done) ⊎ ((1 ≤ some) × Does done)
 
 -- Rounds of reclaim from the group's subtree, at most so many of `max_rounds`, where `missing` tells how many pages are
 -- missing. Each round wants the pages that are missing when it begins. They end as soon as none is missing, and after a
 -- round that gave none
 abbrev pub MakesRounds : ℕ → (Ledger → ℕ) → ℕ → Reclaiming
-MakesRounds group missing zero given before steps after = GivesNothing given before steps after
-MakesRounds group missing (suc rounds) given before steps after =
-    ((missing before.ledger ≡ 0) × GivesNothing given before steps after)
-    ⊎ ((1 ≤ missing before.ledger)
-    × BothGive (MakesOneRound group (max_rounds - rounds) (missing before.ledger))
-    (UnlessNone (MakesRounds group missing rounds)) given before steps after)
+MakesRounds group missing zero done = GivesNothing done
+MakesRounds group missing (suc rounds) done =
+    ((missing done.before.ledger ≡ 0) × GivesNothing done)
+    ⊎ ((1 ≤ missing done.before.ledger)
+    × BothGive (MakesOneRound group (max_rounds - rounds) (missing done.before.ledger))
+    (UnlessNone (MakesRounds group missing rounds)) done)

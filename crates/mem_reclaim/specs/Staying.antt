@@ -24,42 +24,44 @@ pub record Keeps (table : KnownTable) (before after : KnownMachine) : Type 0 whe
   pub killed : after.killed ≡ before.killed
   pub groups : after.ledger.groups ≡ before.ledger.groups
   pub opened : after.seat.view.opened ≡ before.seat.view.opened
-  pub usage : (g : ℕ) → current_of after.ledger g ≤ current_of before.ledger g
+  pub usage : (group : ℕ) → current_of after.ledger group ≤ current_of before.ledger group
   pub visit : (cpu : KnownCpu) → Visits table (side before cpu) → Visits table (side after cpu)
-  pub dirty : (f : ℕ) → IsDirtyUnit before.links f → IsDirtyUnit after.links f
-  pub owners : (f : ℕ) → HeadsKeptUnit after f
-      → owner_of (home_of after.links f) ≡ owner_of (home_of before.links f)
-  pub dirt : (f : ℕ) → HeadsKeptUnit after f
-      → (link_at after.links f).is_dirty ≡ (link_at before.links f).is_dirty
-  pub misses : (f : ℕ) → misses_of before.seat f ≤ misses_of after.seat f
+  pub dirty : (frame : ℕ) → IsDirtyUnit before.links frame → IsDirtyUnit after.links frame
+  pub owners : (frame : ℕ) → HeadsKeptUnit after frame
+      → owner_of (home_of after.links frame) ≡ owner_of (home_of before.links frame)
+  pub dirt : (frame : ℕ) → HeadsKeptUnit after frame
+      → (link_at after.links frame).is_dirty ≡ (link_at before.links frame).is_dirty
+  pub misses : (frame : ℕ) → misses_of before.seat frame ≤ misses_of after.seat frame
 
 -- no unit came onto a list: who stands on one stood there
 abbrev pub OnlyLeave : KnownMachine → KnownMachine → Type 0
 OnlyLeave before after =
-    (f : ℕ) (home : Home) → home_of after.links f ≡ Some home → home_of before.links f ≡ Some home
+    (frame : ℕ) (home : Home) → home_of after.links frame ≡ Some home → home_of before.links frame ≡ Some home
 
 -- The usage of the group, and of each group above it, fell by so many pages
 abbrev pub UsageFalls : ℕ → ℕ → KnownMachine → KnownMachine → Type 0
 UsageFalls group pages before after =
-    (g : ℕ) → in_subtree before.ledger.groups g group ≡ true
-    → current_of after.ledger g + pages ≡ current_of before.ledger g
+    (above : ℕ) → in_subtree before.ledger.groups above group ≡ true
+    → current_of after.ledger above + pages ≡ current_of before.ledger above
 
 -- a freeze of the frame missed in between, if it heads a clean unit that is still kept on this list
 abbrev pub IsMissed : KnownMachine → KnownMachine → ℕ → Home → Type 0
-IsMissed before after f home =
-    home_of after.links f ≡ Some home → (link_at after.links f).is_dirty ≡ false
-    → misses_of before.seat f < misses_of after.seat f
+IsMissed before after frame home =
+    home_of after.links frame ≡ Some home → (link_at after.links frame).is_dirty ≡ false
+    → misses_of before.seat frame < misses_of after.seat frame
 
 -- a freeze of each clean unit that still stands on this list of the group missed in between
 abbrev pub MissedOnList : ℕ → LruList → KnownMachine → KnownMachine → Type 0
-MissedOnList group list before after = (f : ℕ) → IsMissed before after f (record { owner = group; list = list })
+MissedOnList group list before after =
+    (frame : ℕ) → IsMissed before after frame (record { owner = group; list = list })
 
 -- a freeze of each clean unit that the group still keeps missed in between
 abbrev pub MissedOfGroup : ℕ → KnownMachine → KnownMachine → Type 0
 MissedOfGroup group before after =
-    (f : ℕ) (list : LruList) → IsMissed before after f (record { owner = group; list = list })
+    (frame : ℕ) (list : LruList) → IsMissed before after frame (record { owner = group; list = list })
 
 -- a freeze of each clean unit that the subtree still keeps missed in between
 abbrev pub MissedAll : ℕ → KnownMachine → KnownMachine → Type 0
 MissedAll group before after =
-    (f : ℕ) (home : Home) → in_subtree after.ledger.groups group home.owner ≡ true → IsMissed before after f home
+    (frame : ℕ) (home : Home) → in_subtree after.ledger.groups group home.owner ≡ true
+    → IsMissed before after frame home

@@ -30,12 +30,8 @@ abbrev pub IsMost : KnownMachine → (ℕ → Bool) → Option ℕ → Type 0
 IsMost machine test (Some group) = HasMost machine test group
 IsMost machine test None = (other : ℕ) → test other ≡ true → own_frames machine other ≡ 0
 
--- among the groups of the subtree of `group` that aren't killed, the victim has the most frames of its own, and the
--- least number of those that have so many
-abbrev pub HasMostFrames : KnownMachine → ℕ → ℕ → Type 0
-HasMostFrames machine group victim = HasMost machine (may_be_killed machine group) victim
-
--- who is killed for the group; nobody where no group of its subtree that isn't killed has a frame of its own
+-- who is killed for the group: of the groups of its subtree that aren't killed, the one with the most frames of its own,
+-- and of those with so many the one of the least number; nobody where none has a frame of its own
 abbrev pub IsVictim : KnownMachine → ℕ → Option ℕ → Type 0
 IsVictim machine group who = IsMost machine (may_be_killed machine group) who
 
@@ -60,7 +56,7 @@ is_candidate machine group other = may_be_killed machine group other && nat_le 1
 
 -- how many groups may be killed for the group and have a frame of their own
 abbrev pub candidates : KnownMachine → ℕ → ℕ
-candidates machine group = sum_to MAX_GROUPS (λ k. one_if (is_candidate machine group k))
+candidates machine group = sum_to MAX_GROUPS (λ other. one_if (is_candidate machine group other))
 
 -- a group with its frames
 abbrev pub candidate : KnownMachine → ℕ → Candidate

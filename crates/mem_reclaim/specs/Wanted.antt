@@ -3,35 +3,44 @@ use Rattle.std.specs.Prelude.{◌≡◌, ℕ, ◌+◌, ◌-◌, ◌≤◌, ◌�
 use Rattle.step_rules.specs.After.{Run}
 use Rattle.mem_machine.specs.Machines.{KnownMachine}
 
--- What may be said of a reclaim or a part of it: how many pages come back, from which machine, by which steps, and to
--- which machine these lead
+-- What a reclaim or a part of it did: how many pages came back, from which machine, by which steps, and to which machine
+-- these lead
+pub record Progress : Type 0 where
+  pub given : ℕ
+  pub before : KnownMachine
+  pub steps : Run
+  pub after : KnownMachine
+
+-- the progress with these parts
+abbrev pub progress : ℕ → KnownMachine → Run → KnownMachine → Progress
+progress given before steps after = record { given = given; before = before; steps = steps; after = after }
+
+-- what may be said of the progress of a reclaim
 abbrev pub Reclaiming : Type 1
-Reclaiming = ℕ → KnownMachine → Run → KnownMachine → Type 0
+Reclaiming = Progress → Type 0
 
 -- no page came back, no step was made, and nothing changed
-pub record GivesNothing (given : ℕ) (before : KnownMachine) (steps : Run) (after : KnownMachine) : Type 0 where
-  pub no_page : given ≡ 0
-  pub machine : after ≡ before
-  pub no_step : steps ≡ []
+pub record GivesNothing (done : Progress) : Type 0 where
+  pub no_page : done.given ≡ 0
+  pub machine : done.after ≡ done.before
+  pub no_step : done.steps ≡ []
 
 -- The first part gives `some` pages, and the second, which may depend on how many these are, gives `more`
-pub record BothGive (First : Reclaiming) (Second : ℕ → Reclaiming) (given : ℕ) (before : KnownMachine) (steps : Run)
-    (after : KnownMachine) : Type 0 where
+pub record BothGive (First : Reclaiming) (Second : ℕ → Reclaiming) (done : Progress) : Type 0 where
   pub between : KnownMachine
   pub earlier : Run
   pub later : Run
   pub some : ℕ
   pub more : ℕ
-  pub first : First some before earlier between
-  pub second : Second some more between later after
-  pub given_is : given ≡ some + more
-  pub steps_are : steps ≡ earlier ++ later
+  pub first : First (progress some done.before earlier between)
+  pub second : Second some (progress more between later done.after)
+  pub given_is : done.given ≡ some + more
+  pub steps_are : done.steps ≡ earlier ++ later
 
 -- `does thing want` says what is done with a thing where so many pages are wanted. That is done with each of these
 -- things in turn, as long as pages are still wanted; the others are left alone
 abbrev pub WhileWanted : {A : Type 0} → (A → ℕ → Reclaiming) → List A → ℕ → Reclaiming
-WhileWanted does [] want given before steps after = GivesNothing given before steps after
-WhileWanted does (thing ∷ others) want given before steps after =
-    ((want ≡ 0) × GivesNothing given before steps after)
-    ⊎ ((1 ≤ want)
-    × BothGive (does thing want) (λ some. WhileWanted does others (want - some)) given before steps after)
+WhileWanted does [] want done = GivesNothing done
+WhileWanted does (thing ∷ others) want done =
+    ((want ≡ 0) × GivesNothing done)
+    ⊎ ((1 ≤ want) × BothGive (does thing want) (λ some. WhileWanted does others (want - some)) done)

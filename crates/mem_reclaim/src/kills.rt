@@ -7,7 +7,7 @@ ghost use Rattle.mem_machine.specs.Machines.{is_killed};
 ghost use Rattle.mem_machine.specs.Ageing.{entries_in};
 ghost use Rattle.mem_machine.specs.Stocks.{AreOwnDrained};
 ghost use Rattle.mem_reclaim.specs.Victim.{IsVictim};
-ghost use Rattle.mem_reclaim.specs.Killing.{KeepsNone, KeepsStocks, KillsBySteps, KillsVictim, LetsGoBySteps};
+ghost use Rattle.mem_reclaim.specs.Killing.{HasNoKeptUnit, KeepsStocks, KillsBySteps, KillsVictim, LetsGoBySteps};
 ghost use Rattle.mem_reclaim.specs.Killing.{OnlyDrains, OnlyLetsGo};
 
 use crate::noting::{had_by, note_killed, note_victim};
@@ -49,7 +49,7 @@ fn kill_group<N: BootName>(machine: &mut Machine<N>, tables: &Tables<N>, group: 
     ensures marked { machine.new.killed ≡ slice_set machine.old.killed group true }
     ensures drained { AreOwnDrained group N.frames.cpus machine.new }
     ensures stocks { OnlyDrains machine.old machine.new }
-    ensures none_kept { KeepsNone group machine.new }
+    ensures none_kept { HasNoKeptUnit group machine.new }
     ensures keeps { OnlyLetsGo N.frames machine.old machine.new }
 {
     machine.mark_killed(group);
@@ -76,7 +76,7 @@ pub fn kill<N: BootName>(
     ensures marked { IfSome result (λ v. machine.new.killed ≡ slice_set machine.old.killed v true) }
     ensures drained { IfSome result (λ v. AreOwnDrained v N.frames.cpus machine.new) }
     ensures stocks { OnlyDrains machine.old machine.new }
-    ensures none_kept { IfSome result (λ v. KeepsNone v machine.new) }
+    ensures none_kept { IfSome result (λ v. HasNoKeptUnit v machine.new) }
     ensures keeps { OnlyLetsGo N.frames machine.old machine.new }
 {
     let victim = victim(machine, group)?;

@@ -26,7 +26,7 @@ use Rattle.mem_reclaim.specs.Moves.{has_kill}
 use Rattle.mem_reclaim.proofs.LettingGo.{quiet_drains}
 use Rattle.mem_alloc.specs.declared.faults.AllocFault.{AllocFault}
 use Rattle.mem_alloc.specs.declared.faults.AllocFault.TheVariants.{Over, NoFrames, Killed}
-use Rattle.mem_alloc.specs.Kills.{has_room_for}
+use Rattle.mem_alloc.specs.Kills.{has_room_at}
 use Rattle.mem_alloc.specs.Stepping.{Course, course}
 use Rattle.mem_alloc.specs.NoRash.{NoRashKill}
 use Rattle.mem_alloc.proofs.NoRash.{Passes, all_same, RashFree, drained_on, drains_pass, keeps_pass, missed_since, passes_both, passes_same, rash_both, rash_quiet, tame_kills}
@@ -125,7 +125,7 @@ module _ (t : KnownTable) (MayAsk : List Group → ℕ → ℕ → Type 0) (s : 
       let lowering = subst (λ (k : Run). Passes t c m k x) (sym low.steps_are) (passes_both t c m y x first low.reclaims.steps drains rounds) in
       let groups : x.ledger.groups ≡ m.ledger.groups = low.keeps.groups ∙ (all_same g t.cpus told y low.drains low.drains_all).groups in
       let here : limit_of x.ledger.groups g ≡ Some limit = ap (λ (l : List Group). limit_of l g) groups ∙ is in
-      let missed = λ (over : has_room_for x.ledger g 0 ≡ false).
+      let missed = λ (over : has_room_at x.ledger g 0 ≡ false).
       let full : nat_le (current_of x.ledger g + 0) limit ≡ false = sym (ap (λ (o : Option ℕ). fits_limit o (current_of x.ledger g + 0)) here) ∙ over in
       let more = leb-false (current_of x.ledger g + 0) limit full in
       missed_since t MayAsk s c g (made ++ first) y x after_drains (low.missed (omega (arith, more))) in

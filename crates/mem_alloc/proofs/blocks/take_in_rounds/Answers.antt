@@ -5,14 +5,14 @@ use Rattle.mem_reclaim.specs.Passes.{Reclaims}
 use Rattle.mem_reclaim.specs.Staying.{MissedAll}
 use Rattle.mem_machine.specs.Local.{side}
 use Rattle.mem_alloc.specs.Stepping.{course}
-use Rattle.mem_alloc.specs.Blocks.{TryTakes, TryFindsNone}
+use Rattle.mem_alloc.specs.Blocks.{FindsNoBlock, TakesFreeBlock}
 use Rattle.mem_alloc.proofs.Rounding.{rounds_none, rounds_done, rounds_succeed, rounds_end, rounds_more}
 use Rattle.mem_alloc.proofs.Taking.{is_none, by_none, none_spares}
 use Rattle.mem_alloc.proofs.blocks.take_in_rounds.Goals as goal
 
 pub loop-round-init : goal.loop-round-init
 loop-round-init g c =
-    rounds_none g.N.BootName.frames (2 ^ c.args.order) (TryFindsNone c.args.group c.args.order) (TryTakes c.args.group c.args.order)
+    rounds_none g.N.BootName.frames (2 ^ c.args.order) (FindsNoBlock c.args.group c.args.order) (TakesFreeBlock c.args.group c.args.order)
     c.args.machine.now c.args.cpu.now
 
 pub returns-in-Ok-clause-takes : goal.returns-in-Ok-clause-takes
@@ -24,7 +24,7 @@ returns-in-Ok-clause-takes g c =
     let reclaims = subst (λ (w : ℕ). Leads t given c.loop-round.machine x (Reclaims 0 w)) wants
     c.reclaim_anywhere-given.ensures.reclaims in
     let missed = subst (λ (w : ℕ). given < w → MissedAll 0 c.loop-round.machine x) wants c.reclaim_anywhere-given.ensures.missed in
-    rounds_succeed t (2 ^ c.args.order) (TryFindsNone c.args.group c.args.order) (TryTakes c.args.group c.args.order) c.args.machine.now
+    rounds_succeed t (2 ^ c.args.order) (FindsNoBlock c.args.group c.args.order) (TakesFreeBlock c.args.group c.args.order) c.args.machine.now
     c.args.cpu.now c.loop-round._round c.loop-round.machine c.loop-round.cpu c.loop-round.invariant c.loop-round-test.true given x reclaims
     missed c.reclaim_anywhere-given.ensures.keeps c.take_block.new.self c.take_block.new.cpu (taken_steps c.args.group c.args.order c.in-Ok.head)
     c.in-Ok.ensures.steps c.in-Ok.head (record { takes = c.in-Ok.ensures.takes; cpu = c.in-Ok.ensures.cpu; steps_are = refl })
@@ -40,7 +40,7 @@ returns-in-Err-NoBlock-clause-takes g c =
     let missed = subst (λ (w : ℕ). given < w → MissedAll 0 c.loop-round.machine x) wants c.reclaim_anywhere-given.ensures.missed in
     let none = is_none _ _ c.args.group c.args.order c.in-Err-NoBlock.field-0 c.in-Err-NoBlock.field-0-is c.in-Err-NoBlock.ensures.refuses in
     let vain = by_none _ c.args.group c.args.order _ _ c.in-Err-NoBlock.field-0 c.in-Err-NoBlock.field-0-is c.in-Err-NoBlock.ensures.steps in
-    rounds_end t (2 ^ c.args.order) (TryFindsNone c.args.group c.args.order) (TryTakes c.args.group c.args.order) c.args.machine.now
+    rounds_end t (2 ^ c.args.order) (FindsNoBlock c.args.group c.args.order) (TakesFreeBlock c.args.group c.args.order) c.args.machine.now
     c.args.cpu.now c.loop-round._round c.loop-round.machine c.loop-round.cpu c.loop-round.invariant c.loop-round-test.true given x reclaims
     missed c.reclaim_anywhere-given.ensures.keeps c.take_block.new.self c.take_block.new.cpu (unplaced_steps c.args.group c.args.order) vain
     (record { none = none; cpu = c.in-Err-NoBlock.ensures.cpu; steps_are = refl }) c.if-given-eq0.true
@@ -56,9 +56,9 @@ loop-round-preserved g c =
     let missed = subst (λ (w : ℕ). given < w → MissedAll 0 c.loop-round.machine x) wants c.reclaim_anywhere-given.ensures.missed in
     let none = is_none _ _ c.args.group c.args.order c.in-Err-NoBlock.field-0 c.in-Err-NoBlock.field-0-is c.in-Err-NoBlock.ensures.refuses in
     let vain = by_none _ c.args.group c.args.order _ _ c.in-Err-NoBlock.field-0 c.in-Err-NoBlock.field-0-is c.in-Err-NoBlock.ensures.steps in
-    let does : TryFindsNone c.args.group c.args.order (course t (side x c.loop-round.cpu) (unplaced_steps c.args.group c.args.order)
+    let does : FindsNoBlock c.args.group c.args.order (course t (side x c.loop-round.cpu) (unplaced_steps c.args.group c.args.order)
     (side c.take_block.new.self c.take_block.new.cpu)) = record { none = none; cpu = c.in-Err-NoBlock.ensures.cpu; steps_are = refl } in
-    rounds_more t (2 ^ c.args.order) (TryFindsNone c.args.group c.args.order) (TryTakes c.args.group c.args.order) c.args.machine.now
+    rounds_more t (2 ^ c.args.order) (FindsNoBlock c.args.group c.args.order) (TakesFreeBlock c.args.group c.args.order) c.args.machine.now
     c.args.cpu.now c.loop-round._round c.loop-round.machine c.loop-round.cpu c.loop-round.invariant c.loop-round-test.true given x reclaims
     missed c.reclaim_anywhere-given.ensures.keeps c.take_block.new.self c.take_block.new.cpu (unplaced_steps c.args.group c.args.order) vain
     does c.if-given-eq0.false
@@ -67,6 +67,6 @@ loop-round-preserved g c =
 
 pub returns-clause-takes : goal.returns-clause-takes
 returns-clause-takes g c =
-    rounds_done g.N.BootName.frames (2 ^ c.args.order) (TryFindsNone c.args.group c.args.order) (TryTakes c.args.group c.args.order)
+    rounds_done g.N.BootName.frames (2 ^ c.args.order) (FindsNoBlock c.args.group c.args.order) (TakesFreeBlock c.args.group c.args.order)
     c.args.machine.now c.args.cpu.now c.loop-round._round c.loop-round.machine c.loop-round.cpu c.loop-round.invariant
     c.loop-round-test.false

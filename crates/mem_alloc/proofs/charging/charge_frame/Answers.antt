@@ -1,8 +1,7 @@
 use Rattle.std.proofs.Common.{sym, subst, rules, arith}
 use Rattle.mem_machine.specs.Machines.{KnownMachine}
-use Rattle.mem_machine.specs.Paying.{HasRoomFor}
-use Rattle.mem_alloc.proofs.Making.{match_both}
-use Rattle.mem_alloc.proofs.Filling.{batch_fits, one_fits, none_fits}
+use Rattle.mem_machine.specs.Paying.{MayCharge}
+use Rattle.mem_alloc.proofs.Filling.{batch_fits, one_charged}
 use Rattle.mem_alloc.proofs.charging.charge_frame.Goals as goal
 
 pub fill_stock-requires-clause-charges : goal.fill_stock-requires-clause-charges
@@ -14,15 +13,12 @@ pub returns-in_default-clause-charges : goal.returns-in_default-clause-charges
 returns-in_default-clause-charges g c =
     batch_fits g.N.BootName.frames c.args.sizes c.args.group _ _ _ _ c.in_default.ensures.fills c.in_default.ensures.steps
 
-pub fill_one-requires-clause-fits : goal.fill_one-requires-clause-fits
-fill_one-requires-clause-fits g c =
-    subst (λ (y : KnownMachine). HasRoomFor y 1) (sym c.in-Err.ensures.unchanged.machine) (c.see_room.ensures.room 1 (omega arith))
+pub fill_one-requires-clause-may_charge : goal.fill_one-requires-clause-may_charge
+fill_one-requires-clause-may_charge g c =
+    subst (λ (y : KnownMachine). MayCharge y c.args.group 1) (sym c.in-Err.ensures.unchanged.machine)
+    (record { there = c.requires.there; alive = c.requires.alive; fits = c.see_room.ensures.room 1 (omega arith) })
 
 pub returns-clause-charges : goal.returns-clause-charges
 returns-clause-charges g c =
-    match_both c.fill_one.result _ _ _ _
-    (λ v b. one_fits g.N.BootName.frames c.args.sizes c.args.group c.in-Err._batch.group _ _ _ _ _ _ c.in-Err.ensures.unchanged.machine
-    c.in-Err.ensures.unchanged.cpu c.in-Err.ensures.over c.in-Err.ensures.refused b)
-    (λ e b. none_fits g.N.BootName.frames c.args.sizes c.args.group c.in-Err._batch.group _ _ _ _ _ _ c.in-Err.ensures.unchanged.machine
-    c.in-Err.ensures.unchanged.cpu c.in-Err.ensures.over c.in-Err.ensures.refused e b)
-    c.fill_one.ensures.fills
+    one_charged g.N.BootName.frames c.args.sizes c.args.group c.in-Err._batch.group _ _ _ _ _ _ c.in-Err.ensures.unchanged.machine
+    c.in-Err.ensures.unchanged.cpu c.in-Err.ensures.over c.in-Err.ensures.refused c.fill_one.result c.fill_one.ensures.charges

@@ -4,15 +4,14 @@ use Rattle.group_tree.specs.Groups.{has_group}
 use Rattle.group_tree.proofs.CallerLemmas.{in_subtree-above}
 use Rattle.mem_machine.specs.Machines.{KnownMachine}
 use Rattle.mem_alloc.specs.Stepping.{ByStepsOfAny}
-use Rattle.mem_alloc.specs.declared.faults.AllocFault.{AllocFault}
-use Rattle.mem_alloc.specs.Room.{IsCause, RelievesLimit}
+use Rattle.mem_alloc.specs.Room.{RelievesLimit}
 use Rattle.mem_alloc.proofs.Lowering.{lowered_visit, usages_fall}
 use Rattle.mem_alloc.proofs.Killing.{relieving_lowers}
-use Rattle.mem_alloc.proofs.Making.{so_far_fills, so_far_more, so_far_over, refused_with, refuses_one}
+use Rattle.mem_alloc.proofs.Making.{answer_is, refuses_one, so_far_fills, so_far_more, so_far_over}
 use Rattle.mem_alloc.proofs.charging.fill_one.Goals as goal
 
-pub returns-in_default-clause-fills : goal.returns-in_default-clause-fills
-returns-in_default-clause-fills g c =
+pub returns-in_default-clause-charges : goal.returns-in_default-clause-charges
+returns-in_default-clause-charges g c =
     so_far_fills g.N.BootName.frames c.args.group 1 c.args.cpu.now c.args.machine.now c.tries.machine c.tries.invariant.0 c.tries.cpu c.tries.invariant.1
     c.fill_stock.new.self c.fill_stock.new.cpu c.in_default.ensures.fills c.in_default.ensures.steps
 
@@ -36,16 +35,16 @@ tries-preserved g c = (
   c.in-Err.ensures.unchanged.cpu ∙ c.tries.invariant.1,
 )
 
-pub returns-in_err-make_room-clause-fills : goal.returns-in_err-make_room-clause-fills
-returns-in_err-make_room-clause-fills g c =
-    let is : IfErr c.from_residual.result (λ e. e ≡ c.in_err-make_room.field-0.0) = search rules in
-    refused_with c.from_residual.result c.in_err-make_room.field-0.0 _ _ c.from_residual.ensures.0 is
-    (λ e same. refuses_one g.N.BootName.frames c.args.group e c.args.machine.now c.args.cpu.now c.make_room.new.machine
-    c.fill_stock.new.cpu (c.in-Err.ensures.unchanged.cpu ∙ c.tries.invariant.1)
+pub returns-in_err-make_room-clause-charges : goal.returns-in_err-make_room-clause-charges
+returns-in_err-make_room-clause-charges g c =
+    let r = c.from_residual.result in
+    let x = c.in_err-make_room.field-0.0 in
+    let is : IfErr r (λ e. e ≡ x) = search rules in
+    refuses_one g.N.BootName.frames c.args.group r x c.args.machine.now c.args.cpu.now c.make_room.new.machine
+    c.fill_stock.new.cpu (answer_is r x c.from_residual.ensures.0 is) (c.in-Err.ensures.unchanged.cpu ∙ c.tries.invariant.1)
     (so_far_over g.N.BootName.frames c.args.group 1 c.args.cpu.now c.args.machine.now c.tries.machine c.tries.invariant.0 c.fill_stock.new.self c.tries.machine
     c.make_room.new.machine c.tries.cpu c.in-Err.over.group c.in-Err.ensures.unchanged.machine c.tries.invariant.1 c.in-Err.ensures.over refl
-    c.in-Err.ensures.refused c.make_room.ensures.clears e
-    (subst (λ (z : AllocFault). IsCause c.args.group c.in-Err.over.group 1 z c.make_room.new.machine) (sym same) c.in_err-make_room.ensures.room)))
+    c.in-Err.ensures.refused c.make_room.ensures.clears x c.in_err-make_room.ensures.room)
 
 pub returns-in_err-make_room-clause-visit : goal.returns-in_err-make_room-clause-visit
 returns-in_err-make_room-clause-visit g c =

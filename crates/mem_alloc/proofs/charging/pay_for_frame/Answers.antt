@@ -1,8 +1,7 @@
 use Rattle.std.proofs.Common.{sym, ap, ◌∙◌}
 use Rattle.std.proofs.lemmas.Bool.{false≢true}
 use Rattle.mem_machine.proofs.Prepaying.{emptied_drained}
-use Rattle.mem_alloc.proofs.Making.{match_both, on_ok_from}
-use Rattle.mem_alloc.proofs.Filling.{pays_anew, refuses_anew, charged_page}
+use Rattle.mem_alloc.proofs.Filling.{pays_anew, charged_page}
 use Rattle.mem_alloc.proofs.charging.pay_for_frame.Goals as goal
 
 pub charge_frame-requires-clause-drained : goal.charge_frame-requires-clause-drained
@@ -10,18 +9,12 @@ charge_frame-requires-clause-drained g c = emptied_drained _ _ _ _ _ c.number-nu
 
 pub returns-clause-pays : goal.returns-clause-pays
 returns-clause-pays g c =
-    match_both c.charge_frame.result _ _ _ _
-    (λ v b. pays_anew g.N.BootName.frames c.args.sizes c.args.group c.drain_stock.result c.number-number.result _ _ _ _ _ _ _ c.holds_page.ensures.machine
-    c.holds_page.ensures.cpu c.number-number.ensures.number (λ page. false≢true (sym c.if-holds_page.false ∙ c.holds_page.ensures.holds.1 page))
-    c.drain_stock.ensures.drains c.drain_stock.ensures.steps b)
-    (λ e b. refuses_anew g.N.BootName.frames c.args.sizes c.args.group c.drain_stock.result c.number-number.result _ _ _ _ _ _ _ c.holds_page.ensures.machine
-    c.holds_page.ensures.cpu c.number-number.ensures.number (λ page. false≢true (sym c.if-holds_page.false ∙ c.holds_page.ensures.holds.1 page))
-    c.drain_stock.ensures.drains c.drain_stock.ensures.steps e b)
-    c.charge_frame.ensures.charges
+    pays_anew g.N.BootName.frames c.drain_stock.result c.number-number.result _ _ _ _ _ c.holds_page.ensures.machine
+    c.holds_page.ensures.cpu c.number-number.ensures.number c.drain_stock.ensures.drains c.drain_stock.ensures.steps c.args.sizes c.args.group _ _
+    (λ page. false≢true (sym c.if-holds_page.false ∙ c.holds_page.ensures.holds.1 page)) c.charge_frame.result c.charge_frame.ensures.charges
 
 pub returns-clause-page : goal.returns-clause-page
 returns-clause-page g c =
-    on_ok_from c.charge_frame.result _ _ _
-    (λ v b. charged_page g.N.BootName.frames c.args.sizes c.args.group _ _ _ _ b.0 c.requires.sizes b.1
-    (ap (λ e. e.fresh) c.holds_page.ensures.cpu ∙ c.requires.none_fresh))
-    c.charge_frame.ensures.charges
+    let b = c.charge_frame.ensures.charges in
+    charged_page g.N.BootName.frames c.args.sizes c.args.group c.charge_frame.result _ _ _ _ b.0 c.requires.sizes b.1
+    (ap (λ e. e.fresh) c.holds_page.ensures.cpu ∙ c.requires.none_fresh)

@@ -10,11 +10,11 @@ returns-then-refill-gt0-clause-fills g c =
     let done = c.refill.ensures in
     let many = c.if-refill-gt0.true in (
       refill_steps c.args.cpu.now.number done.refills.frames,
-      inr (inl (record {
-        empty = nil_from_length c.args.cpu.now.list (omega (arith, c.list_len.ensures.count));
-        lends = lent_batch t c.refill.result c.args.sizes.batch _ _ _ _ done.refills (omega (arith, many)) done.at_most
-            done.fewer_only_at_the_end;
-      })),
+      inr (record {
+        is = nil_from_length c.args.cpu.now.list (omega (arith, c.list_len.ensures.count));
+        does = inl (lent_batch t c.refill.result c.args.sizes.batch _ _ _ _ done.refills (omega (arith, many)) done.at_most
+            done.fewer_only_at_the_end);
+      }),
       done.refills.steps,
     )
 
@@ -37,8 +37,11 @@ returns-then-refill_in_rounds-clause-fills g c =
     done.refills c.if-refill-gt0.false done.fewer_only_at_the_end c.requires.sizes.batch_low in
     let reclaims = reclaims_for t c.args.sizes c.args.machine.now c.refill.new.self c.refill_in_rounds.new.machine
     c.refill_in_rounds.new.machine c.args.cpu.now c.refill.new.cpu c.refill_in_rounds.new.cpu
-    (nil_from_length c.args.cpu.now.list (omega (arith, c.list_len.ensures.count))) first c.if-refill_in_rounds.ensures.refills in
-    (reclaims.0, inr (inr reclaims.1), reclaims.2)
+    (nil_from_length c.args.cpu.now.list (omega (arith, c.list_len.ensures.count))) first c.if-refill_in_rounds.ensures.refills in (
+      reclaims.0,
+      inr (record { is = nil_from_length c.args.cpu.now.list (omega (arith, c.list_len.ensures.count)); does = inr reclaims.1 }),
+      reclaims.2,
+    )
 
 pub returns-then-refill_in_rounds-clause-page : goal.returns-then-refill_in_rounds-clause-page
 returns-then-refill_in_rounds-clause-page g c =

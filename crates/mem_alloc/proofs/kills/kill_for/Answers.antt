@@ -5,8 +5,8 @@ use Rattle.group_charge.specs.Charges.{AreCharges, Ledger}
 use Rattle.kill_notes.specs.declared.note.Note.TheVariants.{Oom}
 use Rattle.mem_machine.specs.Machines.{KnownMachine, with_note}
 use Rattle.mem_reclaim.specs.Killing.{IsKilledBy, KillsVictim}
-use Rattle.mem_reclaim.specs.Victim.{HasMostFrames, IsVictim}
-use Rattle.mem_alloc.specs.Kills.{KillsFor, has_room_for, with_oom_noted_at}
+use Rattle.mem_reclaim.specs.Victim.{IsVictim}
+use Rattle.mem_alloc.specs.Kills.{KillsFor, has_room_at, with_oom_noted_at}
 use Rattle.mem_alloc.specs.Stepping.{ByStepsOfAny}
 use Rattle.mem_alloc.proofs.Killing.{KillsSoFar, fewer_alive, kills_end, so_far_killed, so_far_nobody, so_far_there}
 use Rattle.mem_alloc.proofs.kills.kill_for.Goals as goal
@@ -25,8 +25,8 @@ is_wanting-requires g c =
 
 pub returns-then-not-is_wanting : goal.returns-then-not-is_wanting
 returns-then-not-is_wanting g c =
-    let over : has_room_for c.args.machine.now.ledger c.args.group c.args.pages ≡ false =
-    ap (λ (l : Ledger). has_room_for l c.args.group c.args.pages) (sym c.charges.ensures) ∙ sym c.has_room_at.ensures ∙ c.if-has_room_at.false in
+    let over : has_room_at c.args.machine.now.ledger c.args.group c.args.pages ≡ false =
+    ap (λ (l : Ledger). has_room_at l c.args.group c.args.pages) (sym c.charges.ensures) ∙ sym c.has_room_at.ensures ∙ c.if-has_room_at.false in
     kills_end c.args.requester g.N.BootName.frames c.args.group c.args.pages c.args.machine.now c.note_oom.new.self c.kills.machine over
     c.note_oom.ensures.machine c.note_oom.ensures.steps c.kills.invariant
     (λ wanting. absurd (false≢true (sym c.if-not-is_wanting.true ∙ c.is_wanting.ensures.1 wanting)))
@@ -39,8 +39,8 @@ kill-requires g c =
 pub returns-in_default : goal.returns-in_default
 returns-in_default g c =
     let t = g.N.BootName.frames in
-    let over : has_room_for c.args.machine.now.ledger c.args.group c.args.pages ≡ false =
-    ap (λ (l : Ledger). has_room_for l c.args.group c.args.pages) (sym c.charges.ensures) ∙ sym c.has_room_at.ensures ∙ c.if-has_room_at.false in
+    let over : has_room_at c.args.machine.now.ledger c.args.group c.args.pages ≡ false =
+    ap (λ (l : Ledger). has_room_at l c.args.group c.args.pages) (sym c.charges.ensures) ∙ sym c.has_room_at.ensures ∙ c.if-has_room_at.false in
     let none = subst (λ (o : Option ℕ). IsVictim c.kills.machine c.args.group o) c.in_default.is c.kill.ensures.victim in
     let same : c.kill.new.machine ≡ c.kills.machine =
     subst (λ (o : Option ℕ). KillsVictim t c.args.group o c.kills.machine c.kill.new.machine) c.in_default.is c.kill.ensures.kills in
@@ -52,7 +52,7 @@ pub kills-smaller : goal.kills-smaller
 kills-smaller g c =
     let t = g.N.BootName.frames in
     let charges : AreCharges c.kills.machine.ledger = subst (λ (l : Ledger). AreCharges l) c.charges-charges.ensures c.tree-tree.ensures.legal in
-    let most : HasMostFrames c.kills.machine c.args.group c.in-Some._victim =
+    let most : IsVictim c.kills.machine c.args.group (Some c.in-Some._victim) =
     subst (λ (o : Option ℕ). IsVictim c.kills.machine c.args.group o) c.in-Some.is c.kill.ensures.victim in
     let marked : c.kill.new.machine.killed ≡ slice_set c.kills.machine.killed c.in-Some._victim true =
     subst (λ (o : Option ℕ). IfSome o (λ v. c.kill.new.machine.killed ≡ slice_set c.kills.machine.killed v true)) c.in-Some.is c.kill.ensures.marked in

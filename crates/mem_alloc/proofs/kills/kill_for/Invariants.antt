@@ -1,4 +1,3 @@
-use Rattle.std.proofs.Common.{◌≡◌, true}
 use Rattle.mem_alloc.specs.Kills.{with_oom_noted_at}
 use Rattle.mem_alloc.proofs.Killing.{KillsSoFar, count_alive}
 use Rattle.mem_alloc.proofs.kills.kill_for.Given as goal

@@ -3,7 +3,7 @@ use Rattle.group_tree.specs.declared.group.Group.{Group}
 use Rattle.group_tree.specs.Groups.{has_group}
 use Rattle.group_charge.specs.Charges.{Ledger, with_max_noted}
 use Rattle.mem_machine.specs.Machines.{KnownMachine}
-use Rattle.mem_alloc.specs.Kills.{has_room_for}
+use Rattle.mem_alloc.specs.Kills.{has_room_at}
 use Rattle.mem_alloc.proofs.Lowering.{Lowers, lowers_both, note_lowers, all_lower, lowered_there}
 use Rattle.mem_alloc.proofs.Killing.{few_lower}
 use Rattle.mem_alloc.proofs.Making.{clears_by, relieves_by}
@@ -75,7 +75,7 @@ returns-then-is_killed-clause-room g c = sym c.is_killed.ensures ∙ c.if-is_kil
 
 pub returns-then-has_room_at-clause-room : goal.returns-then-has_room_at-clause-room
 returns-then-has_room_at-clause-room g c = record {
-  room = ap (λ (l : Ledger). has_room_for l c.args.group c.args.pages) (sym c.charges.ensures) ∙ sym c.has_room_at.ensures ∙ c.if-has_room_at.true;
+  room = ap (λ (l : Ledger). has_room_at l c.args.group c.args.pages) (sym c.charges.ensures) ∙ sym c.has_room_at.ensures ∙ c.if-has_room_at.true;
   alive = sym c.is_killed.ensures ∙ c.if-is_killed.false;
 }
 
@@ -83,7 +83,7 @@ pub returns-else-has_room_at-clause-room : goal.returns-else-has_room_at-clause-
 returns-else-has_room_at-clause-room g c = (
   refl,
   record {
-    still = ap (λ (l : Ledger). has_room_for l c.args.group c.args.pages) (sym c.charges.ensures) ∙ sym c.has_room_at.ensures ∙ c.if-has_room_at.false;
+    over = ap (λ (l : Ledger). has_room_at l c.args.group c.args.pages) (sym c.charges.ensures) ∙ sym c.has_room_at.ensures ∙ c.if-has_room_at.false;
     alive = sym c.is_killed.ensures ∙ c.if-is_killed.false;
   },
 )

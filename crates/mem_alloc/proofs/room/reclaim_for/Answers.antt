@@ -1,4 +1,4 @@
-use Rattle.std.proofs.Common.{ℕ, Option, None, sym, ap, ◌∙◌, ◌≡◌}
+use Rattle.std.proofs.Common.{None, sym, ap, ◌∙◌, ◌≡◌}
 use Rattle.group_tree.specs.Groups.{limit_of}
 use Rattle.group_charge.specs.Charges.{Ledger}
 use Rattle.mem_alloc.proofs.Making.{no_rounds}

@@ -1,5 +1,5 @@
-use Rattle.std.proofs.Common.{◌≡◌, ℕ, ◌^◌, true, false, refl, sym, ◌∙◌, subst, rules}
-use Rattle.std.specs.Prelude.{IfErr}
+use Rattle.std.proofs.Common.{◌≡◌, ℕ, ◌^◌, true, refl, sym, ◌∙◌, subst, rules}
+use Rattle.std.specs.Prelude.{Err, IfErr}
 use Rattle.group_tree.specs.Groups.{has_group}
 use Rattle.group_tree.proofs.CallerLemmas.{in_subtree-above}
 use Rattle.mem_machine.specs.Machines.{KnownMachine}
@@ -7,23 +7,23 @@ use Rattle.mem_machine.specs.Local.{MakesAs, side}
 use Rattle.mem_machine.specs.Steps.{over_steps}
 use Rattle.cpu_part.specs.Cpus.{KnownCpu}
 use Rattle.mem_alloc.specs.Stepping.{ByStepsOfAny}
-use Rattle.mem_alloc.specs.Room.{HasMadeRoom, IsCause, RelievesLimit, has_room_for}
+use Rattle.mem_alloc.specs.Room.{HasMadeRoom, RelievesLimit, TellsRoom, has_room_at}
 use Rattle.mem_alloc.proofs.Lowering.{Lowers, lowers_both, lowered_visit, usages_fall}
 use Rattle.mem_alloc.proofs.Killing.{relieving_lowers}
-use Rattle.mem_alloc.proofs.Making.{so_far_more, so_far_over}
+use Rattle.mem_alloc.proofs.Making.{answer_is, so_far_more, so_far_over}
 use Rattle.mem_alloc.proofs.Taking.{is_refused, by_refusal, is_none, by_none, so_far_takes, so_far_no_block, room_still, none_opened, over_charges, over_leaves}
-use Rattle.mem_alloc.proofs.blocks.take_charged.Goals as goal
+use Rattle.mem_alloc.proofs.blocks.charge_block.Goals as goal
 
 pub returns-in-Ok-clause-charges : goal.returns-in-Ok-clause-charges
 returns-in-Ok-clause-charges g c =
     so_far_takes g.N.BootName.frames c.args.group c.args.order c.args.cpu.now c.args.machine.now c.tries.machine c.tries.invariant.0 c.tries.cpu
-    c.tries.invariant.1 c.take_block.new.self c.take_block.new.cpu c.in-Ok.head c.in-Ok.ensures.takes c.in-Ok.ensures.steps
+    c.tries.invariant.1 c.take_block.new.self c.take_block.new.cpu c.in-Ok.head c.in-Ok.ensures.takes c.in-Ok.ensures.cpu c.in-Ok.ensures.steps
 
 pub returns-in-Err-NoBlock-clause-charges : goal.returns-in-Err-NoBlock-clause-charges
 returns-in-Err-NoBlock-clause-charges g c =
     so_far_no_block g.N.BootName.frames c.args.group c.args.order c.args.cpu.now c.args.machine.now c.tries.machine c.tries.invariant.0 c.tries.cpu
     c.tries.invariant.1 c.take_block.new.self c.take_block.new.cpu
-    (is_none _ _ c.args.group c.args.order c.in-Err-NoBlock.field-0 c.in-Err-NoBlock.field-0-is c.in-Err-NoBlock.ensures.refuses)
+    (is_none _ _ c.args.group c.args.order c.in-Err-NoBlock.field-0 c.in-Err-NoBlock.field-0-is c.in-Err-NoBlock.ensures.refuses) c.in-Err-NoBlock.ensures.cpu
     (by_none c.tries.cpu.number c.args.group c.args.order _ _ c.in-Err-NoBlock.field-0 c.in-Err-NoBlock.field-0-is c.in-Err-NoBlock.ensures.steps)
 
 pub returns-in-Err-NoBlock-clause-leaves : goal.returns-in-Err-NoBlock-clause-leaves
@@ -33,7 +33,7 @@ returns-in-Err-NoBlock-clause-leaves g c =
       opened = none_opened g.N.BootName.frames c.args.group c.args.order c.args.cpu.now c.args.machine.now c.tries.machine c.tries.invariant.0 c.tries.cpu
           c.tries.invariant.1 c.take_block.new.self c.take_block.new.cpu none;
       still = λ _. room_still g.N.BootName.frames c.args.group c.args.order c.args.cpu.now c.args.machine.now c.tries.machine c.tries.invariant.0 c.tries.cpu
-          c.tries.invariant.1 c.take_block.new.self c.take_block.new.cpu none c.requires.there c.requires.fits;
+          c.tries.invariant.1 c.take_block.new.self c.take_block.new.cpu none c.requires.may_charge.there c.requires.may_charge.fits;
     }
 
 pub make_room-requires : goal.make_room-requires
@@ -50,7 +50,7 @@ tries-smaller g c =
     (subst (λ (y : KnownMachine). ByStepsOfAny g.N.BootName.frames y c.make_room.new.machine
     (RelievesLimit c.args.group c.in-Err-Over.over.group c.frames-pages.result)) r.1
     c.make_room.ensures.clears)) c.make_room.ensures.below r.0.over
-    (subst (λ (n : ℕ). has_room_for c.make_room.new.machine.ledger c.in-Err-Over.over.group n ≡ true) c.frames-pages.ensures.frames
+    (subst (λ (n : ℕ). has_room_at c.make_room.new.machine.ledger c.in-Err-Over.over.group n ≡ true) c.frames-pages.ensures.frames
     c.in_ok-make_room-in-Err-Over.ensures.room.room)
 
 pub tries-preserved : goal.tries-preserved
@@ -83,10 +83,10 @@ returns-in_err-make_room-in-Err-Over-clause-charges g c =
     let x = c.in_err-make_room-in-Err-Over.field-0.0 in
     let is : IfErr c.from_residual.result (λ e. e ≡ x) = search rules in
     over_charges t c.args.group c.args.order c.from_residual.result x c.args.machine.now c.make_room.new.machine c.args.cpu.now
-    c.take_block.new.cpu c.from_residual.ensures.0 is (c.in-Err-Over.ensures.cpu ∙ c.tries.invariant.1)
+    c.take_block.new.cpu (answer_is c.from_residual.result x c.from_residual.ensures.0 is) (c.in-Err-Over.ensures.cpu ∙ c.tries.invariant.1)
     (so_far_over t c.args.group (2 ^ c.args.order) c.args.cpu.now c.args.machine.now c.tries.machine c.tries.invariant.0 c.take_block.new.self c.tries.machine
     c.make_room.new.machine c.tries.cpu c.in-Err-Over.over.group r.1 c.tries.invariant.1 r.0 refl run clears x
-    (subst (λ (n : ℕ). IsCause c.args.group c.in-Err-Over.over.group n x c.make_room.new.machine) c.frames-pages.ensures.frames
+    (subst (λ (n : ℕ). TellsRoom c.args.group c.in-Err-Over.over.group n (Err x) c.make_room.new.machine) c.frames-pages.ensures.frames
     c.in_err-make_room-in-Err-Over.ensures.room))
 
 pub returns-in_err-make_room-in-Err-Over-clause-visit : goal.returns-in_err-make_room-in-Err-Over-clause-visit
@@ -102,8 +102,8 @@ returns-in_err-make_room-in-Err-Over-clause-leaves g c =
     let is : IfErr c.from_residual.result (λ e. e ≡ x) = search rules in
     let clears = relieving_lowers t c.args.group c.in-Err-Over.over.group c.frames-pages.result c.take_block.new.self c.make_room.new.machine c.make_room.ensures.clears in
     over_leaves g.N.BootName.frames c.args.group c.args.order c.in-Err-Over.over.group c.from_residual.result x c.args.machine.now c.make_room.new.machine
-    c.from_residual.ensures.0 is
-    (subst (λ (n : ℕ). IsCause c.args.group c.in-Err-Over.over.group n x c.make_room.new.machine) c.frames-pages.ensures.frames
+    (answer_is c.from_residual.result x c.from_residual.ensures.0 is)
+    (subst (λ (n : ℕ). TellsRoom c.args.group c.in-Err-Over.over.group n (Err x) c.make_room.new.machine) c.frames-pages.ensures.frames
     c.in_err-make_room-in-Err-Over.ensures.room)
     (lowers_both g.N.BootName.frames c.args.machine.now c.tries.machine c.make_room.new.machine c.tries.invariant.0.lowers
     (subst (λ (y : KnownMachine). Lowers g.N.BootName.frames y c.make_room.new.machine) r.1 clears))

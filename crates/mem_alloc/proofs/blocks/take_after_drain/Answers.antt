@@ -6,15 +6,15 @@ use Rattle.cpu_part.specs.Cpus.{KnownCpu}
 use Rattle.mem_machine.specs.Machines.{KnownMachine, is_killed}
 use Rattle.mem_alloc.proofs.Taking.{is_refused, is_none, by_none, back_part, never_over}
 use Rattle.mem_alloc.proofs.Taking.{none_leaves, takes_after, reclaims_after, reclaims_open, list_shrinks}
-use Rattle.mem_alloc.proofs.blocks.take_again.Goals as goal
+use Rattle.mem_alloc.proofs.blocks.take_after_drain.Goals as goal
 
 pub take_block-requires-clause-charges : goal.take_block-requires-clause-charges
 take_block-requires-clause-charges g c =
     let part = back_part _ _ _ _ _ c.drain_list.ensures.takes in
     record {
-      there = ap (λ l. has_group l.groups c.args.group) part.ledger ∙ c.requires.room.there;
-      alive = ap (λ l. is_killed l c.args.group) part.killed ∙ c.requires.room.alive;
-      fits = subst (λ l. current_of l 0 + 2 ^ c.args.order < 2 ^ 32) (sym part.ledger) c.requires.room.fits;
+      there = ap (λ l. has_group l.groups c.args.group) part.ledger ∙ c.requires.room.charges.there;
+      alive = ap (λ l. is_killed l c.args.group) part.killed ∙ c.requires.room.charges.alive;
+      fits = subst (λ l. current_of l 0 + 2 ^ c.args.order < 2 ^ 32) (sym part.ledger) c.requires.room.charges.fits;
     }
 
 pub take_block-requires-clause-none_back : goal.take_block-requires-clause-none_back
@@ -58,10 +58,10 @@ pub take_in_rounds-requires-clause-room : goal.take_in_rounds-requires-clause-ro
 take_in_rounds-requires-clause-room g c =
     let none = is_none _ _ c.args.group c.args.order c.in-Err-NoBlock.field-0 c.in-Err-NoBlock.field-0-is c.in-Err-NoBlock.ensures.refuses in
     let part = back_part _ _ _ _ _ c.drain_list.ensures.takes in
-    let there = ap (λ l. has_group l.groups c.args.group) part.ledger ∙ c.requires.room.there in
-    let fits = subst (λ l. current_of l 0 + 2 ^ c.args.order < 2 ^ 32) (sym part.ledger) c.requires.room.fits in
+    let there = ap (λ l. has_group l.groups c.args.group) part.ledger ∙ c.requires.room.charges.there in
+    let fits = subst (λ l. current_of l 0 + 2 ^ c.args.order < 2 ^ 32) (sym part.ledger) c.requires.room.charges.fits in
     none_leaves g.N.BootName.frames c.args.group c.args.order c.drain_list.new.self c.take_block.new.self c.drain_list.new.cpu
-    c.take_block.new.cpu none (ap (λ l. is_killed l c.args.group) part.killed ∙ c.requires.room.alive) there fits
+    c.take_block.new.cpu none (ap (λ l. is_killed l c.args.group) part.killed ∙ c.requires.room.charges.alive) there fits
 
 pub take_in_rounds-requires-clause-none_back : goal.take_in_rounds-requires-clause-none_back
 take_in_rounds-requires-clause-none_back g c =
