@@ -4,7 +4,8 @@ use Rattle.std.proofs.lemmas.List.Elements.{All-take, All-drop}
 use Rattle.frame_word.specs.Seats.{KnownTable}
 use Rattle.stock_word.specs.Stock.{Words}
 use Rattle.zone_sizes.specs.declared.config.Config.{Config}
-use Rattle.mem_system.specs.Boots.{IsQuiet, IsSizedAs}
+use Rattle.mem_system.specs.Locked.{IsQuiet}
+use Rattle.mem_system.specs.Boots.{IsSizedAs}
 use Rattle.script_lines.specs.declared.line.Line.{Line}
 use Rattle.script_replay.specs.History.{TellsHistory}
 use Rattle.script_replay.specs.Lines.{ServesAll, Standing}

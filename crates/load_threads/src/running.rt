@@ -2,7 +2,8 @@
 //! processor, and the end.
 
 ghost use Rattle.std.specs.Prelude.{◌≡◌, ◌<◌, ◌^◌, All, IfOk, length};
-ghost use Rattle.mem_system.specs.Boots.{IsQuiet, IsSizedAs};
+ghost use Rattle.mem_system.specs.Locked.{IsQuiet};
+ghost use Rattle.mem_system.specs.Boots.{IsSizedAs};
 ghost use Rattle.script_replay.specs.Ranges.{LineIsThere};
 ghost use Rattle.script_threads.specs.Each.{TellsEach, workers_from};
 ghost use Rattle.load_run.specs.Ending.{EndsAfter};

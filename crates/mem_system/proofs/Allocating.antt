@@ -1,6 +1,6 @@
 -- Serves `allocate` and `carry_out_frame`: what an allocation for a group came to is what an Alloc for its path does.
 use Rattle.std.proofs.Common.{◌≡◌, ◌≤◌, ℕ, zero, suc, IsTrue, List, [], Some, refl, subst, arith}
-use Rattle.std.specs.Prelude.{Result, Ok, Err}
+use Rattle.std.specs.Prelude.{Result, Ok, Err, MatchResult, ◌≢◌, ◌∷◌}
 use Rattle.frame_word.specs.Seats.{KnownTable}
 use Rattle.group_tree.specs.Groups.{has_group, number_at}
 use Rattle.group_charge.specs.Charges.{Ledger}
@@ -12,7 +12,7 @@ use Rattle.mem_alloc.specs.declared.faults.AllocFault.{AllocFault}
 use Rattle.mem_alloc.specs.declared.faults.AllocFault.TheVariants.{Over, NoFrames, Killed}
 use Rattle.mem_alloc.specs.Frames.{AllocatesFrame}
 use Rattle.mem_alloc.proofs.CallerLemmas.{frame_over_there}
-use Rattle.mem_system.specs.Allocs.{Allocates, AllocatesAs, FreshOf, HasFreshFor, outcome_of}
+use Rattle.mem_system.specs.Allocs.{Allocates, AllocatesAs, FreshOf, outcome_of}
 use Rattle.mem_system.specs.Outcomes.{HasItsGroups, reply_of}
 use Rattle.mem_system.specs.Commands.{BySteps, Course, course}
 use Rattle.mem_system.proofs.Telling.{path_told}
@@ -37,18 +37,23 @@ has_groups l (Err (Over g)) there = there g refl
 has_groups l (Err NoFrames) there = tt
 has_groups l (Err Killed) there = tt
 
-none_fresh : (order : ℕ) (cause : AllocFault) (fresh : List ℕ) → HasFreshFor order (Err cause) fresh → fresh ≡ []
-none_fresh zero cause fresh has = has.refused refl cause refl
-none_fresh (suc n) cause fresh has = has.block (λ e. absurd (omega (arith, e)))
+-- a single frame that was allocated is fresh then, and after a refusal none is
+pub frame_fresh : (l : Ledger) (order : ℕ) (answer : Result ℕ AllocFault) (fresh : List ℕ) → order ≡ 0
+    → MatchResult answer (λ f. fresh ≡ f ∷ []) (λ cause. fresh ≡ []) → FreshOf (reply_of l (outcome_of answer)) order fresh
+frame_fresh l zero (Ok f) fresh single is = is
+frame_fresh l (suc n) (Ok f) fresh single is = absurd (omega (arith, single))
+frame_fresh l order (Err (Over g)) fresh single is = is
+frame_fresh l order (Err NoFrames) fresh single is = is
+frame_fresh l order (Err Killed) fresh single is = is
 
--- the frame that is fresh then
-pub fresh_then : (l : Ledger) (order : ℕ) (answer : Result ℕ AllocFault) (fresh : List ℕ) → HasFreshFor order answer fresh
-    → FreshOf (reply_of l (outcome_of answer)) order fresh
-fresh_then l zero (Ok f) fresh has = has.frame refl f refl
-fresh_then l (suc n) (Ok f) fresh has = has.block (λ e. absurd (omega (arith, e)))
-fresh_then l order (Err (Over g)) fresh has = none_fresh order (Over g) fresh has
-fresh_then l order (Err NoFrames) fresh has = none_fresh order NoFrames fresh has
-fresh_then l order (Err Killed) fresh has = none_fresh order Killed fresh has
+-- no frame of a block is fresh
+pub block_fresh : (l : Ledger) (order : ℕ) (answer : Result ℕ AllocFault) (fresh : List ℕ) → order ≢ 0
+    → fresh ≡ [] → FreshOf (reply_of l (outcome_of answer)) order fresh
+block_fresh l zero (Ok f) fresh block none = absurd (block refl)
+block_fresh l (suc n) (Ok f) fresh block none = none
+block_fresh l order (Err (Over g)) fresh block none = none
+block_fresh l order (Err NoFrames) fresh block none = none
+block_fresh l order (Err Killed) fresh block none = none
 
 -- ---- a single frame
 

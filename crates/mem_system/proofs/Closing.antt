@@ -22,16 +22,17 @@ use Rattle.mem_machine.specs.Machines.{KnownMachine, IsConsistent, home_of}
 use Rattle.mem_machine.specs.Places.{NoneLentTo}
 use Rattle.mem_machine.proofs.NoneLent.{lent_to_cpu, each_is_placed}
 use Rattle.mem_system.specs.declared.audit.Audit.{Audit}
-use Rattle.mem_system.specs.Boots.{KnownLocked, IsQuiet, AllShut}
-use Rattle.mem_system.specs.Ends.{Happens, InTurn, SettlesInVisit, Empties, IsSpent, Tells, IsClosed, HasNoPage, Ends, frame_seat_of, stock_seat_of, drops_of, pins_of}
+use Rattle.mem_system.specs.Locked.{KnownLocked, IsQuiet, AllShut}
+use Rattle.mem_machine.specs.Local.{Side}
+use Rattle.mem_system.specs.Ends.{ByVisit, ForEachCpu, SettlesInVisit, Empties, IsSpent, IsAuditOf, IsClosed, HasNoPage, Ends, frame_seat_of, stock_seat_of, drops_of, pins_of}
 
 -- as many processors are visited as there are
-pub turn_long : (t : KnownTable) (P : Happens) (m : KnownMachine) (cpus : List KnownCpu) (n : KnownMachine) (after : List KnownCpu) → InTurn t P m cpus n after
+pub turn_long : (Visit : Side → Side → Type 0) (m : KnownMachine) (cpus : List KnownCpu) (n : KnownMachine) (after : List KnownCpu) → ForEachCpu Visit m cpus n after
     → length after ≡ length cpus
-turn_long t P m [] n [] turn = refl
-turn_long t P m [] n (d ∷ after) turn = absurd turn
-turn_long t P m (c ∷ cpus) n [] turn = absurd turn
-turn_long t P m (c ∷ cpus) n (d ∷ after) turn = let rest = turn_long t P turn.0 cpus n after turn.2 in omega (arith, rest)
+turn_long Visit m [] n [] turn = refl
+turn_long Visit m [] n (d ∷ after) turn = absurd turn
+turn_long Visit m (c ∷ cpus) n [] turn = absurd turn
+turn_long Visit m (c ∷ cpus) n (d ∷ after) turn = let rest = turn_long Visit turn.0 cpus n after turn.2 in omega (arith, rest)
 
 -- a list that is written back whole
 pub written_back : (k : ℕ) (new old : List KnownCpu) → length new ≡ length old → k ≡ length old → take k (new ++ drop (length new) old) ≡ new
@@ -150,7 +151,7 @@ module _ (t : KnownTable) (w : Words) (m : KnownMachine) (cpus : List KnownCpu) 
       let drained = ap (λ (q : ℕ). (account_of m.stock.view q).filled) (at.number ∙ sym number) ∙ spent.drained in
       let empty : pages_of words.stock ≡ 0 = not_held words.stock (words.held ∙ drained) in
       let fresh : (view_in (map stock_seat_of cpus) k).fresh ≡ 0 = ap (λ v. v.fresh) view ∙ spent.tied.within.pages_are ∙ ap length spent.idle.1 in
-      let noted = words.reported ∙ ok.noted (view_in (map stock_seat_of cpus) k).number in
+      let noted = words.reported ∙ ok.absorbed (view_in (map stock_seat_of cpus) k).number in
       let balanced = words.balanced in
       let book : (account_of m.stock.view (view_in (map stock_seat_of cpus) k).number).book ≡ 0 = omega (arith, balanced, empty, fresh, noted) in (
         c,
@@ -184,7 +185,7 @@ drops_join a b c k most = omega arith
 pub all_ends : (t : KnownTable) (w : Words) (l : KnownLocked) (cpus : List KnownCpu) (x : KnownMachine) (rested : List KnownCpu) (y : KnownMachine)
     (spent : List KnownCpu) (a : Audit) (frame_seats : List KnownSeat) (stock_seats : List Seated) (drops : ℕ) → IsQuiet t w l → pins_of cpus ≡ 0
     → drops ≡ min (drops_of cpus) max_count
-    → InTurn t SettlesInVisit l.machine cpus x rested → InTurn t Empties x rested y spent → AllShut y → All (λ c. IsSpent t w y c) spent → Tells t y drops a
+    → ForEachCpu (ByVisit t SettlesInVisit) l.machine cpus x rested → ForEachCpu (ByVisit t Empties) x rested y spent → AllShut y → All (λ c. IsSpent t w y c) spent → IsAuditOf t y drops a
     → IsClosed t w y frame_seats stock_seats → frame_seats ≡ map frame_seat_of spent → stock_seats ≡ map stock_seat_of spent → Ends t w l cpus a
 all_ends t w l cpus x rested y spent a frame_seats stock_seats drops quiet no_pin drops_are rests empties shut all tells closing frames stocks =
     let closed : IsClosed t w y (map frame_seat_of spent) (map stock_seat_of spent) =
@@ -211,7 +212,7 @@ all_ends t w l cpus x rested y spent a frame_seats stock_seats drops quiet no_pi
       told = told_each t w y spent shut all closed;
       words = closed.words;
       last_words = record { rule = closed.rule; references = word_of_frame t w y spent shut all closed };
-      tells = subst (λ (k : ℕ). Tells t y k a) drops_are tells;
+      counted = subst (λ (k : ℕ). IsAuditOf t y k a) drops_are tells;
       adds_up = record {
         places = omega (arith, placed, sized, free, charged, count);
         balances =

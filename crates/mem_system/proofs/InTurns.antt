@@ -8,20 +8,19 @@ use Rattle.frame_word.specs.Seats.{KnownTable}
 use Rattle.stock_word.specs.Stock.{Words}
 use Rattle.cpu_part.specs.Cpus.{KnownCpu}
 use Rattle.mem_machine.specs.Machines.{KnownMachine}
-use Rattle.mem_system.specs.Boots.{AllShut}
-use Rattle.mem_system.specs.Commands.{BySteps}
-use Rattle.mem_system.specs.Ends.{Happens, InTurn, IsSpent, LeavesAlone, pins_of}
-use Rattle.mem_machine.specs.Local.{side}
+use Rattle.mem_system.specs.Locked.{AllShut}
+use Rattle.mem_system.specs.Ends.{ForEachCpu, IsSpent, LendsAndFillsNone, pins_of}
+use Rattle.mem_machine.specs.Local.{Side, side}
 
 -- the visits of the first i processors lead from the first machine to this one, and the others are as they were
-pub record SoFar (t : KnownTable) (P : Happens) (i : ℕ) (m : KnownMachine) (cpus : List KnownCpu) (x : KnownMachine) (now : List KnownCpu) : Type 0 where
+pub record SoFar (Visit : Side → Side → Type 0) (i : ℕ) (m : KnownMachine) (cpus : List KnownCpu) (x : KnownMachine) (now : List KnownCpu) : Type 0 where
   pub long : length now ≡ length cpus
   pub left : drop i now ≡ drop i cpus
-  pub turns : (n : KnownMachine) (rest : List KnownCpu) → InTurn t P x (drop i cpus) n rest → InTurn t P m cpus n (take i now ++ rest)
+  pub turns : (n : KnownMachine) (rest : List KnownCpu) → ForEachCpu Visit x (drop i cpus) n rest → ForEachCpu Visit m cpus n (take i now ++ rest)
   pub shut : AllShut x
 
-pub so_far_start : (t : KnownTable) (P : Happens) (m : KnownMachine) (cpus : List KnownCpu) → AllShut m → SoFar t P 0 m cpus m cpus
-so_far_start t P m cpus shut = record { long = refl; left = refl; turns = λ n rest turn. turn; shut = shut }
+pub so_far_start : (Visit : Side → Side → Type 0) (m : KnownMachine) (cpus : List KnownCpu) → AllShut m → SoFar Visit 0 m cpus m cpus
+so_far_start Visit m cpus shut = record { long = refl; left = refl; turns = λ n rest turn. turn; shut = shut }
 
 pub same_next : (i : ℕ) (cpus now : List KnownCpu) (any : KnownCpu) → i < length cpus → length now ≡ length cpus → drop i now ≡ drop i cpus
     → get_or now i any ∷ drop (i + 1) now ≡ get_or cpus i any ∷ drop (i + 1) cpus
@@ -32,31 +31,31 @@ pub same_at : (cpus now : List KnownCpu) (i : ℕ) (any : KnownCpu) → i < leng
     → get_or now i any ≡ get_or cpus i any
 same_at cpus now i any inside long left = ap (λ (l : List KnownCpu). get_or l 0 any) (same_next i cpus now any (omega (arith, inside, long)) long left)
 
-pub so_far_more : (t : KnownTable) (P : Happens) (i : ℕ) (m : KnownMachine) (cpus : List KnownCpu) (x y : KnownMachine) (now : List KnownCpu) (any d : KnownCpu)
-    → SoFar t P i m cpus x now → i < length now → BySteps t (side x (get_or now i any)) (side y d) P → AllShut y
-    → SoFar t P (i + 1) m cpus y (slice_set now i d)
-so_far_more t P i m cpus x y now any d so_far inside one shut =
+pub so_far_more : (Visit : Side → Side → Type 0) (i : ℕ) (m : KnownMachine) (cpus : List KnownCpu) (x y : KnownMachine) (now : List KnownCpu) (any d : KnownCpu)
+    → SoFar Visit i m cpus x now → i < length now → Visit (side x (get_or now i any)) (side y d) → AllShut y
+    → SoFar Visit (i + 1) m cpus y (slice_set now i d)
+so_far_more Visit i m cpus x y now any d so_far inside one shut =
     let long = so_far.long in
     let within : i < length cpus = omega (arith, inside, long) in
     let next = same_next i cpus now any within long so_far.left in
     let same : get_or now i any ≡ get_or cpus i any = ap (λ (l : List KnownCpu). get_or l 0 any) next in
-    let its : BySteps t (side x (get_or cpus i any)) (side y d) P =
-    subst (λ (c : KnownCpu). BySteps t (side x c) (side y d) P) same one in
+    let its : Visit (side x (get_or cpus i any)) (side y d) =
+    subst (λ (c : KnownCpu). Visit (side x c) (side y d)) same one in
     record {
       long = length-set now i d ∙ long;
       left = drop-set-lt (i + 1) now i d (omega arith) ∙ ap (λ (l : List KnownCpu). drop 1 l) next;
-      turns = λ n rest turn. subst (λ (l : List KnownCpu). InTurn t P m cpus n l)
+      turns = λ n rest turn. subst (λ (l : List KnownCpu). ForEachCpu Visit m cpus n l)
           (sym (append_assoc (take i now) (d ∷ []) rest) ∙ ap (λ (l : List KnownCpu). l ++ rest) (sym (take_more_set now i d inside)))
-          (so_far.turns n (d ∷ rest) (subst (λ (l : List KnownCpu). InTurn t P x l n (d ∷ rest)) (sym (drop_more cpus i any within)) (y, its, turn)));
+          (so_far.turns n (d ∷ rest) (subst (λ (l : List KnownCpu). ForEachCpu Visit x l n (d ∷ rest)) (sym (drop_more cpus i any within)) (y, its, turn)));
       shut = shut;
     }
 
-pub so_far_end : (t : KnownTable) (P : Happens) (i : ℕ) (m : KnownMachine) (cpus : List KnownCpu) (x : KnownMachine) (now : List KnownCpu)
-    → SoFar t P i m cpus x now → length now ≤ i → InTurn t P m cpus x now
-so_far_end t P i m cpus x now so_far past =
+pub so_far_end : (Visit : Side → Side → Type 0) (i : ℕ) (m : KnownMachine) (cpus : List KnownCpu) (x : KnownMachine) (now : List KnownCpu)
+    → SoFar Visit i m cpus x now → length now ≤ i → ForEachCpu Visit m cpus x now
+so_far_end Visit i m cpus x now so_far past =
     let long = so_far.long in
-    subst (λ (l : List KnownCpu). InTurn t P m cpus x l) (append-nil (take i now) ∙ take_all i now past)
-    (so_far.turns x [] (subst (λ (l : List KnownCpu). InTurn t P x l x []) (sym (drop_all i cpus (omega (arith, past, long)))) refl))
+    subst (λ (l : List KnownCpu). ForEachCpu Visit m cpus x l) (append-nil (take i now) ∙ take_all i now past)
+    (so_far.turns x [] (subst (λ (l : List KnownCpu). ForEachCpu Visit x l x []) (sym (drop_all i cpus (omega (arith, past, long)))) refl))
 
 -- ---- what holds of each
 
@@ -74,7 +73,7 @@ no_pin_at cpus now i any inside long left none =
     let part = get_or-le-sum_by (λ (c : KnownCpu). length c.pins) cpus i any within in
     ap (λ (l : List KnownCpu). (get_or l 0 any).pins) (same_next i cpus now any within long left) ∙ nothing_left _ (omega (arith, part, none))
 
-pub spent_still : (t : KnownTable) (w : Words) (x y : KnownMachine) → LeavesAlone x y → (c : KnownCpu) → IsSpent t w x c → IsSpent t w y c
+pub spent_still : (t : KnownTable) (w : Words) (x y : KnownMachine) → LendsAndFillsNone x y → (c : KnownCpu) → IsSpent t w x c → IsSpent t w y c
 spent_still t w x y alone c spent =
     record { tied = spent.tied; idle = spent.idle; none_lent = alone.none_lent c.number spent.none_lent; drained = alone.drained c.number spent.drained }
 

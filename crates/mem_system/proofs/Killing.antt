@@ -44,7 +44,8 @@ use Rattle.mem_system.specs.Usage.{LowersUsage, LowersAbove, LowersByKills, Keep
 use Rattle.mem_system.specs.Allocs.{Allocates, AllocatesFor}
 use Rattle.mem_system.specs.Kept.{TouchesFrame, NotesDirt}
 use Rattle.mem_system.specs.Releases.{CutsList, ListsFrame, ReleasesFrame, ReturnsFrames}
-use Rattle.mem_system.specs.Commands.{MayAskFor, Obeys}
+use Rattle.mem_system.specs.Asks.{MayAskFor}
+use Rattle.mem_system.specs.Commands.{Obeys}
 
 -- ---- commands that kill nobody
 
@@ -69,12 +70,12 @@ removes_quiet path other way h = absurd h
 touches_quiet : (f : ℕ) (said : Reply) (way : Course KnownMachine) → TouchesFrame f said way → has_kill way.steps ≡ false
 touches_quiet f reply.Marked way h = ap has_kill h.1
 touches_quiet f reply.Active way h = ap has_kill h.1
-touches_quiet f (reply.Refused fault.NotKept) way h = ap has_kill h.steps_are
+touches_quiet f (reply.Refused fault.NotKept) way h = ap has_kill h.rests.steps_are
 touches_quiet f other way h = absurd h
 
 notes_quiet : (is_dirty : Bool) (f : ℕ) (said : Reply) (way : Course KnownMachine) → NotesDirt f is_dirty said way → has_kill way.steps ≡ false
 notes_quiet is_dirty f reply.Done way h = ap has_kill h.1
-notes_quiet is_dirty f (reply.Refused fault.NotKept) way h = ap has_kill h.steps_are
+notes_quiet is_dirty f (reply.Refused fault.NotKept) way h = ap has_kill h.rests.steps_are
 notes_quiet is_dirty f other way h = absurd h
 
 cuts_quiet : (sizes : Config) (way : Course Side) → CutsList sizes way → has_kill way.steps ≡ false
@@ -96,7 +97,7 @@ returns_quiet sizes f way h =
 releases_quiet : (sizes : Config) (f : ℕ) (said : Reply) (way : Course Side) → ReleasesFrame sizes f said way → has_kill way.steps ≡ false
 releases_quiet sizes f (reply.Left left) way h = ap has_kill h.steps_are
 releases_quiet sizes f reply.Returned way h = returns_quiet sizes f way h
-releases_quiet sizes f (reply.Refused fault.NotKept) way h = ap has_kill h.0.steps_are
+releases_quiet sizes f (reply.Refused fault.NotKept) way h = ap has_kill h.does.rests.steps_are
 releases_quiet sizes f other way h = absurd h
 
 -- ---- a limit that is written
@@ -214,12 +215,12 @@ pub obeys_no_rash : (t : KnownTable) (sizes : Config) (cmd : Cmd) (said : Reply)
     → Obeys sizes cmd said (course t (side s c) steps n) → IsLocalRun c.number (local_of t s c) steps z
     → NoRashKill t (MayAskFor cmd s.ledger.groups) s c steps
 obeys_no_rash t sizes (Mkdir path) said s c steps n z h whole =
-    rash_quiet t (MayAskFor (Mkdir path) s.ledger.groups) s c [] steps (makes_quiet path.now said (course t s steps n.machine) h.0)
+    rash_quiet t (MayAskFor (Mkdir path) s.ledger.groups) s c [] steps (makes_quiet path.now said (course t s steps n.machine) h.does)
 obeys_no_rash t sizes (Rmdir path) said s c steps n z h whole =
-    rash_quiet t (MayAskFor (Rmdir path) s.ledger.groups) s c [] steps (removes_quiet path.now said (course t s steps n.machine) h.0)
+    rash_quiet t (MayAskFor (Rmdir path) s.ledger.groups) s c [] steps (removes_quiet path.now said (course t s steps n.machine) h.does)
 obeys_no_rash t sizes (Write path file value) said s c steps n z h whole =
     writes_no_rash t (Write path file value) path.now file.now value.now said s c steps n.machine z
-    (λ g of file reads. record { limit = of; file = file; reads = reads; now_is = refl; no_need = refl }) whole h.0
+    (λ g of file reads. record { limit = of; file = file; reads = reads; now_is = refl; no_page = refl }) whole h.does
 obeys_no_rash t sizes (Read path file) said s c steps n z h whole =
     rash_quiet t (MayAskFor (Read path file) s.ledger.groups) s c [] steps (ap has_kill h.1.steps_are)
 obeys_no_rash t sizes Settle said s c steps n z h whole =
@@ -227,11 +228,11 @@ obeys_no_rash t sizes Settle said s c steps n z h whole =
 obeys_no_rash t sizes (Owner f) said s c steps n z h whole =
     rash_quiet t (MayAskFor (Owner f) s.ledger.groups) s c [] steps (ap has_kill h.1.steps_are)
 obeys_no_rash t sizes (Touch f) said s c steps n z h whole =
-    rash_quiet t (MayAskFor (Touch f) s.ledger.groups) s c [] steps (touches_quiet f said (course t s steps n.machine) h.0)
+    rash_quiet t (MayAskFor (Touch f) s.ledger.groups) s c [] steps (touches_quiet f said (course t s steps n.machine) h.does)
 obeys_no_rash t sizes (Dirty f) said s c steps n z h whole =
-    rash_quiet t (MayAskFor (Dirty f) s.ledger.groups) s c [] steps (notes_quiet true f said (course t s steps n.machine) h.0)
+    rash_quiet t (MayAskFor (Dirty f) s.ledger.groups) s c [] steps (notes_quiet true f said (course t s steps n.machine) h.does)
 obeys_no_rash t sizes (Clean f) said s c steps n z h whole =
-    rash_quiet t (MayAskFor (Clean f) s.ledger.groups) s c [] steps (notes_quiet false f said (course t s steps n.machine) h.0)
+    rash_quiet t (MayAskFor (Clean f) s.ledger.groups) s c [] steps (notes_quiet false f said (course t s steps n.machine) h.does)
 obeys_no_rash t sizes (Release f) said s c steps n z h whole =
     rash_quiet t (MayAskFor (Release f) s.ledger.groups) s c [] steps (releases_quiet sizes f said (course t (side s c) steps n) h)
 obeys_no_rash t sizes (Alloc path order) said s c steps n z h whole =

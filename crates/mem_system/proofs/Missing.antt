@@ -86,7 +86,7 @@ writes_counts path name value (reply.Refused fault) way h = counts_rest way.tabl
 writes_counts path name value other way h = absurd h
 
 heads_none : (f : ℕ) (way : Course KnownMachine) → HeadsNoUnit f way → CountsMisses way
-heads_none f way h = counts_rest way.table way.before way.after way.steps h.machine h.steps_are
+heads_none f way h = counts_rest way.table way.before way.after way.steps h.rests.machine h.rests.steps_are
 
 -- without a step, where the zone's seat stays
 seat_stays : (way : Course KnownMachine) → way.after.seat ≡ way.before.seat → way.steps ≡ [] → CountsMisses way
@@ -141,7 +141,7 @@ releases_counts sizes f (reply.Left left) way h =
     counts_as way.table m n way.steps steps h.steps_are (counts_none way.table m n steps (record { quiet = refl; no_miss = λ g. refl })
     (λ g. ap (λ (k : KnownMachine). misses_of k.seat g) h.leaves.machine ∙ misses_put m.seat f g (let_go left) (λ k. refl)))
 releases_counts sizes f reply.Returned way h = returns_counts sizes f way h
-releases_counts sizes f (reply.Refused fault.NotKept) way h = heads_none f (of_machine way) h.0
+releases_counts sizes f (reply.Refused fault.NotKept) way h = heads_none f (of_machine way) h.does
 releases_counts sizes f other way h = absurd h
 
 allocates_for : (sizes : Config) (path : List ℕ) (order : ℕ) (answer : Result ℕ AllocFault) (way : Course Side) → AllocatesFor sizes path order answer way
@@ -164,15 +164,15 @@ allocates_counts sizes path order (reply.Refused fault.Killed) way h = allocates
 allocates_counts sizes path order other way h = absurd h
 
 pub obeys_counts : (sizes : Config) (cmd : Cmd) (said : Reply) (way : Course Side) → Obeys sizes cmd said way → CountsMisses (of_machine way)
-obeys_counts sizes (Mkdir path) said way h = makes_counts path.now said (of_machine way) h.0
-obeys_counts sizes (Rmdir path) said way h = removes_counts path.now said (of_machine way) h.0
-obeys_counts sizes (Write path file value) said way h = writes_counts path.now file.now value.now said (of_machine way) h.0
+obeys_counts sizes (Mkdir path) said way h = makes_counts path.now said (of_machine way) h.does
+obeys_counts sizes (Rmdir path) said way h = removes_counts path.now said (of_machine way) h.does
+obeys_counts sizes (Write path file value) said way h = writes_counts path.now file.now value.now said (of_machine way) h.does
 obeys_counts sizes (Read path file) said way h =
     counts_rest way.table way.before.machine way.after.machine way.steps h.1.machine h.1.steps_are
 obeys_counts sizes Settle said way h = counts_rest way.table way.before.machine way.after.machine way.steps h.1.machine h.1.steps_are
 obeys_counts sizes (Owner f) said way h = counts_rest way.table way.before.machine way.after.machine way.steps h.1.machine h.1.steps_are
-obeys_counts sizes (Touch f) said way h = touches_counts f said (of_machine way) h.0
-obeys_counts sizes (Dirty f) said way h = notes_counts true f said (of_machine way) h.0
-obeys_counts sizes (Clean f) said way h = notes_counts false f said (of_machine way) h.0
+obeys_counts sizes (Touch f) said way h = touches_counts f said (of_machine way) h.does
+obeys_counts sizes (Dirty f) said way h = notes_counts true f said (of_machine way) h.does
+obeys_counts sizes (Clean f) said way h = notes_counts false f said (of_machine way) h.does
 obeys_counts sizes (Release f) said way h = releases_counts sizes f said way h
 obeys_counts sizes (Alloc path order) said way h = allocates_counts sizes path.now order said way h

@@ -20,8 +20,9 @@ use Rattle.mem_machine.specs.Settling.{Settles, settle_steps}
 use Rattle.mem_machine.specs.Steps.{open_steps, shut_steps, drain_list_steps, drain_steps}
 use Rattle.mem_machine.proofs.Draining.{drained_at, drained_else}
 use Rattle.mem_machine.proofs.NoneLent.{past_free}
-use Rattle.mem_system.specs.Commands.{BySteps, with_visit_of}
-use Rattle.mem_system.specs.Ends.{SettlesInVisit, Empties, LeavesAlone}
+use Rattle.mem_system.specs.Commands.{BySteps}
+use Rattle.mem_system.specs.Visits.{with_visit_of}
+use Rattle.mem_system.specs.Ends.{SettlesInVisit, Empties, LendsAndFillsNone}
 use Rattle.mem_system.proofs.Listing.{left_over}
 use Rattle.mem_machine.proofs.Followed.{makes_both}
 
@@ -104,7 +105,7 @@ taken_alone (f ∷ rest) m c n d t =
 
 -- the visit leaves alone whom a frame is lent to, and which stocks are drained
 pub emptied_alone : (m entered x y n : KnownMachine) (c1 c2 : KnownCpu) (frames : List ℕ) (p q k : ℕ) → entered ≡ with_visit_of m p 1
-    → TakesManyBack frames (side entered c1) (side x c2) → Drains q k x y → n ≡ with_visit_of y p 0 → LeavesAlone m n
+    → TakesManyBack frames (side entered c1) (side x c2) → Drains q k x y → n ≡ with_visit_of y p 0 → LendsAndFillsNone m n
 emptied_alone m entered x y n c1 c2 frames p q k opened takes drains shut =
     let taken = taken_alone frames entered c1 x c2 takes in
     let spots : n.spots ≡ x.spots = ap (λ (z : KnownMachine). z.spots) shut ∙ ap (λ (z : KnownMachine). z.spots) drains.machine in

@@ -12,10 +12,11 @@ use Rattle.mem_machine.specs.Settling.{SettlesFresh, SettlesAllFresh, ReturnsAll
 use Rattle.mem_machine.specs.Steps.{open_steps, shut_steps}
 use Rattle.mem_system.specs.declared.command.Cmd.{Cmd}
 use Rattle.mem_system.specs.declared.command.Reply.{Reply}
-use Rattle.mem_system.specs.Boots.{KnownLocked, AllShut}
+use Rattle.mem_system.specs.Locked.{KnownLocked, AllShut}
 use Rattle.mem_system.proofs.Killing.{around_quiet, obeys_no_rash}
 use Rattle.mem_system.proofs.Missing.{obeys_counts}
-use Rattle.mem_system.specs.Commands.{BySteps, Obeys, with_visit_of, course, holder, IsServed}
+use Rattle.mem_system.specs.Commands.{BySteps, Obeys, course}
+use Rattle.mem_system.specs.Visits.{with_visit_of, holder, IsServed}
 use Rattle.mem_machine.proofs.Followed.{makes_both}
 
 pub all_shut : (m x n : KnownMachine) (p : ℕ) → AllShut m → x.seat.view.opened ≡ put_at 0 m.seat.view.opened p 1 → n ≡ with_visit_of x p 0 → AllShut n
@@ -53,7 +54,7 @@ pub served : (t : KnownTable) (cmd : Cmd) (l k : KnownLocked) (c d : KnownCpu) (
     → Settles (side entered c1) (side mid c2) → MakesAs t c1.number (side entered c1) (settle_steps (side entered c1)) (side mid c2)
     → BySteps t (side mid c2) (side x c3) (Obeys l.sizes cmd reply)
     → MakesAs t c3.number (side x c3) (shut_steps c3.number) (side k.machine d)
-    → IsServed t cmd (holder l c) reply (holder k d)
+    → IsServed t cmd reply (holder l c) (holder k d)
 served t cmd l k c d reply entered mid x c1 c2 c3 opened same second third shut after sizes first settles rests obeyed last =
     let p = c.number in
     let begins = with_visit_of (record l.machine { notes = [] }) p 1 in

@@ -58,10 +58,3 @@ outcome_of (Err Killed) = outcome.Refused fault.Killed
 abbrev pub FreshOf : Reply → (order : ℕ) (fresh : List ℕ) → Type 0
 FreshOf (Frame head) zero fresh = fresh ≡ head ∷ []
 FreshOf other order fresh = fresh ≡ []
-
--- the fresh frames after an allocation of this order with this answer, of which no reply is told yet: the frame that it
--- gives, where it is a single one
-pub record HasFreshFor (order : ℕ) (answer : Result ℕ AllocFault) (fresh : List ℕ) : Type 0 where
-  pub frame : order ≡ 0 → (head : ℕ) → answer ≡ Ok head → fresh ≡ head ∷ []
-  pub refused : order ≡ 0 → (cause : AllocFault) → answer ≡ Err cause → fresh ≡ []
-  pub block : order ≢ 0 → fresh ≡ []

@@ -1,22 +1,16 @@
--- What a contract sees of a boot and of what lies behind the zone's lock.
-use Rattle.std.specs.Prelude.{◌≡◌, ℕ, zero, suc, ◌+◌, ◌≤◌, List, [], ◌∷◌}
-use Rattle.frame_word.specs.Seats.{KnownTable, KnownSeat, IsShut, first_zone_view, first_cpu_view, first_cpu_seats}
+-- What a contract sees of a boot, and of the parts of its processors at first.
+use Rattle.std.specs.Prelude.{◌≡◌, ℕ, zero, suc, ◌+◌, List, [], ◌∷◌}
+use Rattle.frame_word.specs.Seats.{KnownTable, KnownSeat, first_zone_view, first_cpu_view, first_cpu_seats}
 use Rattle.stock_word.specs.Stock.{Words, Seated, first_zone_stock, first_processor, first_seats}
 use Rattle.cpu_part.specs.Cpus.{KnownCpu, first_cpu}
 use Rattle.zone_sizes.specs.declared.config.Config.{Config}
 use Rattle.zone_sizes.specs.Config.{IsValidConfig}
-use Rattle.mem_machine.specs.Machines.{KnownMachine}
 
 -- A boot: its sizes and its two tables
 pub record KnownBoot : Type 0 where
   pub sizes : Config
   pub frames : KnownTable
   pub stocks : Words
-
--- What lies behind the lock: the machine, and the sizes of the boot
-pub record KnownLocked : Type 0 where
-  pub machine : KnownMachine
-  pub sizes : Config
 
 -- the tables have these sizes
 pub record IsSizedAs (sizes : Config) (table : KnownTable) (words : Words) : Type 0 where
@@ -34,23 +28,6 @@ pub record IsBooted (boot : KnownBoot) (zone : KnownSeat) (stock : Seated)
   pub stock_is : stock ≡ record { table = boot.stocks.table; view = first_zone_stock }
   pub frame_seats_are : frame_seats ≡ first_cpu_seats boot.frames.table 1 boot.sizes.cpus
   pub stock_seats_are : stock_seats ≡ first_seats boot.stocks.table 1 boot.sizes.cpus
-
--- no visit is open
-abbrev pub AllShut : KnownMachine → Type 0
-AllShut machine = (processor : ℕ) → IsShut machine.seat processor
-
--- While no one holds the lock: no visit is open, the sizes are in their ranges, and the tables have them
-pub record IsQuiet (table : KnownTable) (words : Words) (locked : KnownLocked) : Type 0 where
-  pub shut : AllShut locked.machine
-  pub valid : IsValidConfig locked.sizes
-  pub sized : IsSizedAs locked.sizes table words
-
--- the two vectors for the processors' seats are empty, with room for all of them
-pub record HasRoom (cpus frame_count frame_room stock_count stock_room : ℕ) : Type 0 where
-  pub no_frame_seat : frame_count ≡ 0
-  pub frame_seats : cpus ≤ frame_room
-  pub no_stock_seat : stock_count ≡ 0
-  pub stock_seats : cpus ≤ stock_room
 
 -- the part of this processor, which did nothing yet
 abbrev pub part_at_first : KnownTable → Words → (processor : ℕ) → KnownCpu

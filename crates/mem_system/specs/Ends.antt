@@ -11,15 +11,16 @@ use Rattle.stock_word.specs.StockRule.{IsStockOf, stock_place, report_place}
 use Rattle.group_tree.specs.Room.{max_count}
 use Rattle.cpu_part.specs.Cpus.{KnownCpu, IsTied, IsIdle}
 use Rattle.mem_machine.specs.Machines.{KnownMachine, IsConsistent, home_of}
-use Rattle.mem_machine.specs.Settling.{Settles, settle_steps}
+use Rattle.mem_machine.specs.Settling.{Settles}
 use Rattle.mem_machine.specs.Lending.{TakesManyBack}
 use Rattle.mem_machine.specs.Stocks.{Drains, stock_group}
 use Rattle.mem_machine.specs.Steps.{open_steps, shut_steps, drain_list_steps, drain_steps}
 use Rattle.mem_machine.specs.Places.{frames_free, frames_in_groups, NoneLentTo}
 use Rattle.mem_system.specs.declared.audit.Audit.{Audit}
-use Rattle.mem_system.specs.Boots.{KnownLocked, IsQuiet}
+use Rattle.mem_system.specs.Locked.{KnownLocked, IsQuiet}
 use Rattle.mem_machine.specs.Local.{Side, side}
-use Rattle.mem_system.specs.Commands.{Course, BySteps, with_visit_of, visited}
+use Rattle.mem_system.specs.Commands.{Course, BySteps}
+use Rattle.mem_system.specs.Visits.{with_visit_of, visited, visit_steps}
 
 -- the pins of the processors
 abbrev pub pins_of : List KnownCpu → ℕ
@@ -29,17 +30,12 @@ pins_of cpus = sum_by (λ cpu. length cpu.pins) cpus
 abbrev pub drops_of : List KnownCpu → ℕ
 drops_of cpus = sum_by (λ cpu. cpu.drops) cpus
 
--- what happens in a visit, said of its course
-abbrev pub Happens : Type 1
-Happens = Course Side → Type 0
-
 -- the processor is settled in a visit
 pub record SettlesInVisit (way : Course Side) : Type 0 where
   pub settled : KnownMachine
   pub settles : Settles (visited way.before) (side settled way.after.cpu)
   pub machine : way.after.machine ≡ with_visit_of settled way.before.cpu.number 0
-  pub steps_are : way.steps
-      ≡ open_steps way.before.cpu.number ++ (settle_steps (visited way.before) ++ shut_steps way.before.cpu.number)
+  pub steps_are : way.steps ≡ visit_steps way.before []
 
 -- all frames of the processor's list are given back, and then its stock is drained, in a visit
 pub record Empties (way : Course Side) : Type 0 where
@@ -54,15 +50,18 @@ pub record Empties (way : Course Side) : Type 0 where
       ++ (drain_steps way.before.cpu.number (stock_group emptied way.before.cpu.number) pages
       ++ shut_steps way.before.cpu.number))
 
--- This happens in a visit of each of these processors, one after the other, each by local steps of its own: it leads
--- from one machine, with their parts, to another, with the parts that they have then
-abbrev pub InTurn : KnownTable → Happens → (before : KnownMachine) (cpus : List KnownCpu) (after : KnownMachine)
-    (left : List KnownCpu) → Type 0
-InTurn table visit before [] after [] = after ≡ before
-InTurn table visit before (cpu ∷ cpus) after (cpu_left ∷ left) =
-    (mid : KnownMachine) × BySteps table (side before cpu) (side mid cpu_left) visit
-    × InTurn table visit mid cpus after left
-InTurn table visit before cpus after left = ⊥
+-- this is done in a visit, by local steps of the processor
+abbrev pub ByVisit : KnownTable → (Course Side → Type 0) → (before after : Side) → Type 0
+ByVisit table Does before after = BySteps table before after Does
+
+-- Each of these processors is visited so, one after the other: this leads from one machine, with the parts of the
+-- processors, to another, with the parts that are left
+abbrev pub ForEachCpu : (Visit : Side → Side → Type 0) (before : KnownMachine) (cpus : List KnownCpu)
+    (after : KnownMachine) (left : List KnownCpu) → Type 0
+ForEachCpu Visit before [] after [] = after ≡ before
+ForEachCpu Visit before (cpu ∷ cpus) after (cpu_left ∷ left) =
+    (mid : KnownMachine) × Visit (side before cpu) (side mid cpu_left) × ForEachCpu Visit mid cpus after left
+ForEachCpu Visit before cpus after left = ⊥
 
 -- nothing of the processor is fresh or back, and it has no pin
 pub record IsSettledUnpinned (cpu : KnownCpu) : Type 0 where
@@ -78,14 +77,14 @@ pub record IsSpent (table : KnownTable) (words : Words) (machine : KnownMachine)
   pub drained : (account_of machine.stock.view cpu.number).filled ≡ false
 
 -- no frame was lent to anyone, and no stock was filled
-pub record LeavesAlone (before after : KnownMachine) : Type 0 where
+pub record LendsAndFillsNone (before after : KnownMachine) : Type 0 where
   pub none_lent : (processor : ℕ) → NoneLentTo processor before.spots → NoneLentTo processor after.spots
   pub drained : (processor : ℕ) → (account_of before.stock.view processor).filled ≡ false
       → (account_of after.stock.view processor).filled ≡ false
 
--- What the audit tells of the machine, with so many drops of the processors' own, each of which is a return too. A
--- count stays at its greatest
-pub record Tells (table : KnownTable) (machine : KnownMachine) (own : ℕ) (audit : Audit) : Type 0 where
+-- The audit is that of the machine, with so many drops of the processors' own, each of which is a return too. A count
+-- stays at its greatest
+pub record IsAuditOf (table : KnownTable) (machine : KnownMachine) (own : ℕ) (audit : Audit) : Type 0 where
   pub frames : audit.frames ≡ table.frames
   pub free : audit.free ≡ frames_free machine.spots
   pub charged : audit.charged ≡ frames_in_groups machine.spots
@@ -157,10 +156,10 @@ pub record Ends (table : KnownTable) (stock_table : Words) (locked : KnownLocked
   pub no_pin : pins_of cpus ≡ 0
   pub settled : KnownMachine
   pub settled_cpus : List KnownCpu
-  pub settles : InTurn table SettlesInVisit locked.machine cpus settled settled_cpus
+  pub settles : ForEachCpu (ByVisit table SettlesInVisit) locked.machine cpus settled settled_cpus
   pub last : KnownMachine
   pub spent : List KnownCpu
-  pub empties : InTurn table Empties settled settled_cpus last spent
+  pub empties : ForEachCpu (ByVisit table Empties) settled settled_cpus last spent
   pub all_spent : All (λ cpu. IsSpent table stock_table last cpu) spent
   pub none_lent : (processor : ℕ) → NoneLentTo processor last.spots
   pub stock_words : List ℕ
@@ -168,5 +167,5 @@ pub record Ends (table : KnownTable) (stock_table : Words) (locked : KnownLocked
   pub no_page : (processor : ℕ) → 1 ≤ processor → processor ≤ table.cpus → HasNoPage last stock_words processor
   pub words : List ℕ
   pub last_words : AreLastWords table last spent words
-  pub tells : Tells table last (min (drops_of cpus) max_count) audit
+  pub counted : IsAuditOf table last (min (drops_of cpus) max_count) audit
   pub adds_up : AddsUp audit

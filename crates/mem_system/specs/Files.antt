@@ -31,11 +31,16 @@ pub record IsFileOf (groups : List Group) (path name : List ℕ) (group : ℕ) (
   pub below_root : group ≢ 0
   pub named : name ≡ name_of file
 
--- no group has the path; or it is the root's, or no file has the name
+-- the path is that of a group, but of the root, which has no file, or no file has the name
+pub record HasNoFileNamed (groups : List Group) (path name : List ℕ) : Type 0 where
+  pub group : ℕ
+  pub number : number_at groups path ≡ Some group
+  pub none : (group ≡ 0) ⊎ ((file : File) → name ≢ name_of file)
+
+-- why there is no such file: no group has the path; or that group has no file of the name
 abbrev pub HasNoFile : List Group → (path name : List ℕ) → Fault → Type 0
 HasNoFile groups path name NoGroup = number_at groups path ≡ None
-HasNoFile groups path name NoFile =
-    (group : ℕ) × (number_at groups path ≡ Some group) × ((group ≡ 0) ⊎ ((file : File) → name ≢ name_of file))
+HasNoFile groups path name NoFile = HasNoFileNamed groups path name
 HasNoFile groups path name fault = ⊥
 
 -- the text is that of the file of the group

@@ -1,4 +1,5 @@
 pub mod Allocs
+pub mod Asks
 pub mod Boots
 pub mod Commands
 pub mod Ends
@@ -6,9 +7,10 @@ pub mod Files
 pub mod Groups
 pub mod Kept
 pub mod Leaves
-pub mod OnMachine
+pub mod Locked
 pub mod Outcomes
 pub mod Owners
 pub mod Releases
 pub mod Shown
 pub mod Usage
+pub mod Visits

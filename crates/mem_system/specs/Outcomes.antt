@@ -3,6 +3,10 @@ use Rattle.std.specs.Prelude.{◌≢◌, ℕ, IsTrue, Option, Some, None, List, 
 use Rattle.group_tree.specs.Groups.{has_group, path_of}
 use Rattle.group_charge.specs.Charges.{Ledger}
 use Rattle.control_files.specs.Files.{file_text}
+use Rattle.frame_word.specs.Seats.{KnownTable}
+use Rattle.mem_machine.specs.Machines.{KnownMachine}
+use Rattle.mem_machine.specs.Local.{Side}
+use Rattle.mem_alloc.specs.Stepping.{Course, BySteps, ByStepsOfAny}
 use Rattle.mem_system.specs.declared.outcome.Outcome.{Outcome}
 use Rattle.mem_system.specs.declared.outcome.Outcome.TheVariants as outcome
 use Rattle.mem_system.specs.declared.command.Reply.{Reply}
@@ -36,3 +40,14 @@ HasItsGroups ledger (outcome.Text group file) = IsTrue (has_group ledger.groups 
 HasItsGroups ledger (outcome.Charged group) = IsTrue (has_group ledger.groups group)
 HasItsGroups ledger (outcome.OverLimit group) = IsTrue (has_group ledger.groups group)
 HasItsGroups ledger other = Unit {0}
+
+-- A call came to this outcome: a list of local steps leads from one side to another, and this is done by them, with the
+-- reply that the ledger tells of the outcome then
+abbrev pub ComesTo : KnownTable → Outcome → (Reply → Course Side → Type 0) → (before after : Side) → Type 0
+ComesTo table outcome Does before after = BySteps table before after (Does (reply_of after.machine.ledger outcome))
+
+-- so it is of the machine alone, whoever holds the lock
+abbrev pub ComesToForAny : KnownTable → Outcome → (Reply → Course KnownMachine → Type 0)
+    → (before after : KnownMachine) → Type 0
+ComesToForAny table outcome Does before after =
+    ByStepsOfAny table before after (Does (reply_of after.ledger outcome))

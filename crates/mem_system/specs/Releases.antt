@@ -9,10 +9,9 @@ use Rattle.mem_machine.specs.Local.{Side, side}
 use Rattle.mem_machine.specs.Releasing.{LeavesReferences, ReturnsUnit, release_steps}
 use Rattle.mem_machine.specs.Lending.{LendsFrame, TakesManyBack}
 use Rattle.mem_machine.specs.Steps.{lend_steps, drain_list_steps}
-use Rattle.mem_alloc.specs.Stepping.{Course, Stays, course}
+use Rattle.mem_alloc.specs.Stepping.{Course, OfMachineAlone, Stays, course}
 use Rattle.mem_system.specs.declared.command.Reply.{Reply}
 use Rattle.mem_system.specs.declared.command.Reply.TheVariants.{Left, Returned, Refused}
-use Rattle.mem_system.specs.OnMachine.{OnMachineAlone}
 use Rattle.mem_system.specs.Kept.{HeadsNoUnit}
 
 -- where the processor's list stood at `high`, `batch` frames from its front are free again; else nothing changed
@@ -52,5 +51,5 @@ pub record LeavesUnit (frame left : ℕ) (way : Course Side) : Type 0 where
 abbrev pub ReleasesFrame : Config → (frame : ℕ) → Reply → Course Side → Type 0
 ReleasesFrame sizes frame (Left left) way = LeavesUnit frame left way
 ReleasesFrame sizes frame Returned way = ReturnsFrames sizes frame way
-ReleasesFrame sizes frame (Refused NotKept) way = OnMachineAlone (HeadsNoUnit frame) way
+ReleasesFrame sizes frame (Refused NotKept) way = OfMachineAlone (HeadsNoUnit frame) way
 ReleasesFrame sizes frame other way = ⊥

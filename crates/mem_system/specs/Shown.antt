@@ -5,12 +5,12 @@ use Rattle.mem_system.specs.declared.command.Cmd.TheVariants.{Settle}
 use Rattle.mem_system.specs.declared.command.Reply.TheVariants.{Done}
 use Rattle.cpu_part.specs.Cpus.{KnownCpu}
 use Rattle.mem_machine.specs.Machines.{KnownMachine}
-use Rattle.mem_system.specs.Boots.{KnownLocked, IsQuiet}
-use Rattle.mem_system.specs.Commands.{Holder, holder, IsServed}
+use Rattle.mem_system.specs.Locked.{KnownLocked, IsQuiet}
+use Rattle.mem_system.specs.Visits.{Holder, holder, IsServed}
 
 -- the command `Settle` was served, by steps
 abbrev pub SettlesCaller : KnownTable → (before after : Holder) → Type 0
-SettlesCaller table before after = IsServed table Settle before Done after
+SettlesCaller table before after = IsServed table Settle Done before after
 
 -- Through the lock: there was such a value behind it, the caller was settled in it, and this is so of the machine that
 -- was left. No visit was open before and after

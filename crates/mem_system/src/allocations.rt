@@ -1,16 +1,14 @@
 //! Frames and blocks that are allocated for the group of a path.
 
 ghost use Rattle.std.specs.Prelude.{◌≡◌, ℕ, [], IsTrue, Err};
-ghost use Rattle.zone_sizes.specs.Config.{IsValidConfig};
 ghost use Rattle.group_tree.specs.Groups.{has_group};
-ghost use Rattle.mem_machine.specs.Machines.{KeepsVisit, Visits};
-ghost use Rattle.mem_alloc.specs.declared.faults.AllocFault.TheVariants as cause_is;
-ghost use Rattle.mem_system.specs.Boots.{IsSizedAs};
-ghost use Rattle.mem_system.specs.Allocs.{Allocates, AllocatesAs, FreshOf, HasFreshFor, outcome_of};
-ghost use Rattle.mem_system.specs.Outcomes.{HasItsGroups, reply_of};
-ghost use Rattle.mem_system.specs.Commands.{BySteps, IsCarriedOutFor, IsSettled, ListAndFreshStayWithin, holder};
-ghost use Rattle.frame_word.specs.Seats.{LentIsBorrowed, NothingPasses};
+ghost use Rattle.mem_machine.specs.Machines.{KeepsVisit};
 ghost use Rattle.mem_machine.specs.Local.{side};
+ghost use Rattle.mem_alloc.specs.declared.faults.AllocFault.TheVariants as cause_is;
+ghost use Rattle.mem_system.specs.Allocs.{Allocates, AllocatesAs, FreshOf, outcome_of};
+ghost use Rattle.mem_system.specs.Outcomes.{ComesTo, HasItsGroups, reply_of};
+ghost use Rattle.mem_system.specs.Commands.{BySteps, ListAndFreshStayWithin, MayObey};
+ghost use Rattle.mem_system.specs.Visits.{EndsVisit, IsCarriedOutFor, holder};
 
 use crate::lock::Locked;
 use crate::outcome::Outcome;
@@ -46,15 +44,12 @@ fn allocate_as<N: BootName>(
     group: GroupId,
     order: Order,
 ) -> Result<Frame, AllocFault>
-    requires visit { Visits N.frames (side machine.old cpu.old) }
-    requires sizes { IsValidConfig sizes }
-    requires sized { IsSizedAs sizes N.frames N.stocks }
+    requires visit { MayObey N.frames N.stocks sizes (side machine.old cpu.old) }
     requires there { IsTrue (has_group machine.old.ledger.groups group) }
-    requires settled { IsSettled cpu.old }
     ensures allocates { BySteps N.frames (side machine.old cpu.old) (side machine.new cpu.new)
         (AllocatesAs sizes group order result) }
     ensures stays { KeepsVisit N.frames (side machine.old cpu.old) (side machine.new cpu.new) }
-    ensures fresh { HasFreshFor order result cpu.new.fresh }
+    ensures fresh { FreshOf (reply_of machine.new.ledger (outcome_of result)) order cpu.new.fresh }
     ensures at_most_high { ListAndFreshStayWithin sizes cpu.old cpu.new }
     ensures there { (g : ℕ) → result ≡ Err (cause_is.Over g) → IsTrue (has_group machine.new.ledger.groups g) }
 {
@@ -74,12 +69,9 @@ pub(crate) fn allocate<N: BootName>(
     path: &[u8],
     order: u32,
 ) -> Outcome
-    requires visit { Visits N.frames (side machine.old cpu.old) }
-    requires sizes { IsValidConfig sizes }
-    requires sized { IsSizedAs sizes N.frames N.stocks }
-    requires settled { IsSettled cpu.old }
-    ensures allocates { BySteps N.frames (side machine.old cpu.old) (side machine.new cpu.new)
-        (Allocates sizes path.now order (reply_of machine.new.ledger result)) }
+    requires visit { MayObey N.frames N.stocks sizes (side machine.old cpu.old) }
+    ensures allocates { ComesTo N.frames result (Allocates sizes path.now order)
+        (side machine.old cpu.old) (side machine.new cpu.new) }
     ensures groups { HasItsGroups machine.new.ledger result }
     ensures stays { KeepsVisit N.frames (side machine.old cpu.old) (side machine.new cpu.new) }
     ensures fresh { FreshOf (reply_of machine.new.ledger result) order cpu.new.fresh }
@@ -105,13 +97,11 @@ pub fn carry_out_frame<N: BootName>(
     group: GroupId,
 ) -> Outcome
     requires there { IsTrue (has_group locked.old.machine.ledger.groups group) }
-    ensures served { IsCarriedOutFor N.frames group (holder locked.old cpu.old) result (holder locked.new cpu.new) }
+    ensures served { IsCarriedOutFor N.frames group result (holder locked.old cpu.old) (holder locked.new cpu.new) }
     ensures groups { HasItsGroups locked.new.machine.ledger result }
     ensures fresh { FreshOf (reply_of locked.new.machine.ledger result) 0 cpu.new.fresh }
     ensures back { cpu.new.back ≡ [] }
-    ensures at_most_high { ListAndFreshStayWithin locked.old.sizes cpu.old cpu.new }
-    ensures still { NothingPasses N.frames locked.new.machine.seat cpu.new.seat }
-    ensures lent { LentIsBorrowed N.frames locked.new.machine.seat cpu.new.seat }
+    ensures ends { EndsVisit N.frames (holder locked.old cpu.old) (holder locked.new cpu.new) }
 {
     locked.machine.forget_notes();
     locked.machine.open(tables, cpu);

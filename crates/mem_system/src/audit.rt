@@ -2,7 +2,7 @@
 
 ghost use Rattle.std.specs.Prelude.{◌≡◌};
 ghost use Rattle.mem_machine.specs.Machines.{BalancesCounts};
-ghost use Rattle.mem_system.specs.Ends.{Tells};
+ghost use Rattle.mem_system.specs.Ends.{IsAuditOf};
 
 use cpu_part::{BootName, Tables};
 use mem_machine::Machine;
@@ -28,7 +28,7 @@ pub struct Audit {
 
 // Counts the frames by their places, and tells the counts of the machine, with so many drops of the processors' own.
 pub(crate) fn take_audit<N: BootName>(machine: &Machine<N>, tables: &Tables<N>, drops: u64) -> Audit
-    ensures { Tells N.frames machine.now drops result }
+    ensures { IsAuditOf N.frames machine.now drops result }
 {
     let places = machine.count_places(tables);
     let counts = machine.counts();

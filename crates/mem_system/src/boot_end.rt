@@ -6,7 +6,7 @@ ghost use Rattle.group_tree.specs.Room.{max_count};
 ghost use Rattle.frame_word.specs.Seats.{AreSeatsAt};
 ghost use Rattle.stock_word.specs.Stock.{AreOf};
 ghost use Rattle.cpu_part.specs.Cpus.{IsIdle};
-ghost use Rattle.mem_system.specs.Boots.{HasRoom};
+ghost use Rattle.mem_system.specs.Locked.{IsEmptyWithRoom};
 ghost use Rattle.mem_system.specs.Ends.{Ends, IsClosed, frame_seat_of, stock_seat_of, drops_of, pins_of};
 
 use crate::audit::{Audit, take_audit};
@@ -56,8 +56,8 @@ fn gather_seats<N: BootName>(
     mut stock_seats: Vec<StockSeat>,
 ) -> (Vec<FrameSeat>, Vec<StockSeat>)
     requires idle { All IsIdle cpus.items }
-    requires room { HasRoom (length cpus.items) (length frame_seats.items) (vec_capacity frame_seats)
-        (length stock_seats.items) (vec_capacity stock_seats) }
+    requires frames { IsEmptyWithRoom (length cpus.items) (length frame_seats.items) (vec_capacity frame_seats) }
+    requires stocks { IsEmptyWithRoom (length cpus.items) (length stock_seats.items) (vec_capacity stock_seats) }
     ensures frames { result.0.items ≡ map frame_seat_of cpus.items }
     ensures stocks { result.1.items ≡ map stock_seat_of cpus.items }
 {

@@ -5,7 +5,8 @@ ghost use Rattle.frame_word.specs.Seats.{first_cpu_seats};
 ghost use Rattle.stock_word.specs.Stock.{first_seats};
 ghost use Rattle.mem_machine.specs.Machines.{IsFirst};
 ghost use Rattle.cpu_part.specs.Cpus.{IsIdle};
-ghost use Rattle.mem_system.specs.Boots.{IsQuiet, first_cpus};
+ghost use Rattle.mem_system.specs.Locked.{IsQuiet};
+ghost use Rattle.mem_system.specs.Boots.{first_cpus};
 
 use crate::lock::Locked;
 use cpu_part::{BootName, Cpu, Tables};

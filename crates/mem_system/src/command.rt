@@ -1,11 +1,9 @@
 //! What a processor asks for under the lock, how it is obeyed, and what is answered.
 
-ghost use Rattle.zone_sizes.specs.Config.{IsValidConfig};
-ghost use Rattle.mem_machine.specs.Machines.{KeepsVisit, Visits};
+ghost use Rattle.mem_machine.specs.Machines.{KeepsVisit};
 ghost use Rattle.mem_machine.specs.Local.{side};
-ghost use Rattle.mem_system.specs.Boots.{IsSizedAs};
-ghost use Rattle.mem_system.specs.Outcomes.{HasItsGroups, reply_of};
-ghost use Rattle.mem_system.specs.Commands.{BySteps, FreshAfter, IsOfZone, IsSettled, ListAndFreshStayWithin, Obeys};
+ghost use Rattle.mem_system.specs.Outcomes.{ComesTo, HasItsGroups, reply_of};
+ghost use Rattle.mem_system.specs.Commands.{FreshAfter, IsOfZone, ListAndFreshStayWithin, MayObey, Obeys};
 
 use crate::allocations::allocate;
 use crate::files::{read_file, write_file};
@@ -117,12 +115,9 @@ pub(crate) fn obey<N: BootName>(
     cmd: &Cmd<'_>,
 ) -> Outcome
     requires zone { IsOfZone N.frames cmd.now }
-    requires sizes { IsValidConfig sizes }
-    requires sized { IsSizedAs sizes N.frames N.stocks }
-    requires visit { Visits N.frames (side machine.old cpu.old) }
-    requires settled { IsSettled cpu.old }
-    ensures obeyed { BySteps N.frames (side machine.old cpu.old) (side machine.new cpu.new)
-        (Obeys sizes cmd.now (reply_of machine.new.ledger result)) }
+    requires visit { MayObey N.frames N.stocks sizes (side machine.old cpu.old) }
+    ensures obeyed { ComesTo N.frames result (Obeys sizes cmd.now)
+        (side machine.old cpu.old) (side machine.new cpu.new) }
     ensures groups { HasItsGroups machine.new.ledger result }
     ensures stays { KeepsVisit N.frames (side machine.old cpu.old) (side machine.new cpu.new) }
     ensures fresh { FreshAfter cmd.now (reply_of machine.new.ledger result) cpu.new.fresh }

@@ -4,7 +4,7 @@ ghost use Rattle.std.specs.Prelude.{◌≡◌, ◌≢◌, ◌<◌, IsTrue, Match
 ghost use Rattle.group_tree.specs.Groups.{has_group};
 ghost use Rattle.control_files.specs.declared.file.File.TheVariants.{Max};
 ghost use Rattle.control_files.specs.Limit.{ReadsAs};
-ghost use Rattle.mem_system.specs.Outcomes.{HasItsGroups, reply_of};
+ghost use Rattle.mem_system.specs.Outcomes.{ComesToForAny, HasItsGroups, reply_of};
 ghost use Rattle.mem_alloc.specs.Stepping.{ByStepsOfAny};
 ghost use Rattle.mem_system.specs.Files.{IsFileOf, HasNoFile, KeepsAnyVisit, Reads, RefusesWrite, SetsLimit, Writes};
 
@@ -94,8 +94,7 @@ pub(crate) fn write_file<N: BootName>(
     name: &[u8],
     value: &[u8],
 ) -> Outcome
-    ensures written { ByStepsOfAny N.frames machine.old machine.new
-        (Writes path.now name.now value.now (reply_of machine.new.ledger result)) }
+    ensures written { ComesToForAny N.frames result (Writes path.now name.now value.now) machine.old machine.new }
     ensures groups { HasItsGroups machine.new.ledger result }
     ensures stays { KeepsAnyVisit N.frames machine.old machine.new }
 {

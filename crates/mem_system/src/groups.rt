@@ -1,12 +1,11 @@
 //! Groups made and taken out.
 
 ghost use Rattle.std.specs.Prelude.{◌≡◌, ◌<◌, MatchResult};
-ghost use Rattle.mem_alloc.specs.Stepping.{ByStepsOfAny};
 ghost use Rattle.mem_machine.specs.Machines.{KeepsVisit, Visits};
 ghost use Rattle.mem_system.specs.Leaves.{IsLeafAt, HasNoLeaf};
-ghost use Rattle.mem_system.specs.Outcomes.{HasItsGroups, reply_of};
+ghost use Rattle.mem_system.specs.Outcomes.{ComesTo, ComesToForAny, HasItsGroups};
 ghost use Rattle.mem_system.specs.Groups.{MakesGroup, Removes};
-ghost use Rattle.mem_system.specs.Commands.{BySteps, OfMachine};
+ghost use Rattle.mem_system.specs.Commands.{OfMachine};
 ghost use Rattle.mem_machine.specs.Local.{side};
 
 use crate::outcome::Outcome;
@@ -19,8 +18,7 @@ use mem_machine::Machine;
 
 // Makes the group of the path.
 pub(crate) fn make_group<N: BootName>(machine: &mut Machine<N>, path: &[u8]) -> Outcome
-    ensures made { ByStepsOfAny N.frames machine.old machine.new
-        (MakesGroup path.now (reply_of machine.new.ledger result)) }
+    ensures made { ComesToForAny N.frames result (MakesGroup path.now) machine.old machine.new }
     ensures groups { HasItsGroups machine.new.ledger result }
     ensures seat { machine.new.seat ≡ machine.old.seat }
 {
@@ -56,8 +54,8 @@ pub(crate) fn remove_group<N: BootName>(
     path: &[u8],
 ) -> Outcome
     requires { Visits N.frames (side machine.old cpu.old) }
-    ensures removed { BySteps N.frames (side machine.old cpu.old) (side machine.new cpu.new)
-        (OfMachine (Removes path.now (reply_of machine.new.ledger result))) }
+    ensures removed { ComesTo N.frames result (λ reply. OfMachine (Removes path.now reply))
+        (side machine.old cpu.old) (side machine.new cpu.new) }
     ensures cpu { cpu.new ≡ cpu.old }
     ensures groups { HasItsGroups machine.new.ledger result }
     ensures stays { KeepsVisit N.frames (side machine.old cpu.old) (side machine.new cpu.new) }

@@ -3,9 +3,9 @@
 ghost use Rattle.std.specs.Prelude.{◌≡◌, [], All};
 ghost use Rattle.frame_word.specs.Seats.{IsShut};
 ghost use Rattle.mem_machine.specs.Machines.{KnownMachine};
-ghost use Rattle.mem_system.specs.Boots.{AllShut};
-ghost use Rattle.mem_system.specs.Commands.{BySteps};
-ghost use Rattle.mem_system.specs.Ends.{InTurn, SettlesInVisit, Empties, IsSettledUnpinned, IsSpent, LeavesAlone, pins_of};
+ghost use Rattle.mem_system.specs.Locked.{AllShut};
+ghost use Rattle.mem_system.specs.Ends.{ByVisit, Empties, ForEachCpu, SettlesInVisit};
+ghost use Rattle.mem_system.specs.Ends.{IsSettledUnpinned, IsSpent, LendsAndFillsNone, pins_of};
 ghost use Rattle.mem_machine.specs.Local.{side};
 
 use cpu_part::{BootName, Cpu, Tables};
@@ -15,7 +15,7 @@ use mem_machine::Machine;
 fn settle_cpu<N: BootName>(machine: &mut Machine<N>, tables: &Tables<N>, cpu: &mut Cpu<N>)
     requires shut { AllShut machine.old }
     requires no_pin { cpu.old.pins ≡ [] }
-    ensures settles { BySteps N.frames (side machine.old cpu.old) (side machine.new cpu.new) SettlesInVisit }
+    ensures settles { ByVisit N.frames SettlesInVisit (side machine.old cpu.old) (side machine.new cpu.new) }
     ensures shut { AllShut machine.new }
     ensures settled { IsSettledUnpinned cpu.new }
 {
@@ -28,10 +28,10 @@ fn settle_cpu<N: BootName>(machine: &mut Machine<N>, tables: &Tables<N>, cpu: &m
 fn empty_cpu<N: BootName>(machine: &mut Machine<N>, tables: &Tables<N>, cpu: &mut Cpu<N>)
     requires shut { AllShut machine.old }
     requires settled { IsSettledUnpinned cpu.old }
-    ensures empties { BySteps N.frames (side machine.old cpu.old) (side machine.new cpu.new) Empties }
+    ensures empties { ByVisit N.frames Empties (side machine.old cpu.old) (side machine.new cpu.new) }
     ensures shut { AllShut machine.new }
     ensures spent { IsSpent N.frames N.stocks machine.new cpu.new }
-    ensures others { LeavesAlone machine.old machine.new }
+    ensures others { LendsAndFillsNone machine.old machine.new }
 {
     machine.open(tables, cpu);
     let listed = cpu.list_len() as u32;
@@ -49,7 +49,7 @@ pub(crate) fn settle_all<N: BootName>(
 )
     requires shut { AllShut machine.old }
     requires no_pin { pins_of cpus.old ≡ 0 }
-    ensures settles { InTurn N.frames SettlesInVisit machine.old cpus.old machine.new cpus.new }
+    ensures settles { ForEachCpu (ByVisit N.frames SettlesInVisit) machine.old cpus.old machine.new cpus.new }
     ensures shut { AllShut machine.new }
     ensures settled { All IsSettledUnpinned cpus.new }
 {
@@ -66,7 +66,7 @@ pub(crate) fn empty_all<N: BootName>(
 )
     requires shut { AllShut machine.old }
     requires settled { All IsSettledUnpinned cpus.old }
-    ensures empties { InTurn N.frames Empties machine.old cpus.old machine.new cpus.new }
+    ensures empties { ForEachCpu (ByVisit N.frames Empties) machine.old cpus.old machine.new cpus.new }
     ensures shut { AllShut machine.new }
     ensures spent { All (λ cpu. IsSpent N.frames N.stocks machine.new cpu) cpus.new }
 {

@@ -3,7 +3,7 @@
 ghost use Rattle.std.specs.Prelude.{◌≡◌};
 ghost use Rattle.group_tree.specs.Groups.{number_at};
 ghost use Rattle.mem_machine.specs.Machines.{IsConsistent};
-ghost use Rattle.mem_system.specs.Boots.{IsQuiet};
+ghost use Rattle.mem_system.specs.Locked.{IsQuiet};
 
 use cpu_part::BootName;
 use frame_word::FrameSeat;
@@ -26,15 +26,15 @@ pub struct Locked<N: BootName> {
 impl<N: BootName> Model for Locked<N> {
     ghost use Rattle.std.specs.Prelude.{length};
     ghost use Rattle.std.specs.Vec.{vec_capacity};
-    ghost use Rattle.mem_system.specs.Boots.{KnownLocked, IsQuiet, HasRoom};
+    ghost use Rattle.mem_system.specs.Locked.{KnownLocked, IsQuiet, IsEmptyWithRoom};
 
     ghost Value = { KnownLocked };
 
     ghost view = { λ l. record { machine = l.machine; sizes = l.sizes } };
 
     ghost invariant = { λ l. IsQuiet N.frames N.stocks (record { machine = l.machine; sizes = l.sizes })
-        × HasRoom l.sizes.cpus (length l.frame_seats.items) (vec_capacity l.frame_seats)
-        (length l.stock_seats.items) (vec_capacity l.stock_seats) };
+        × IsEmptyWithRoom l.sizes.cpus (length l.frame_seats.items) (vec_capacity l.frame_seats)
+        × IsEmptyWithRoom l.sizes.cpus (length l.stock_seats.items) (vec_capacity l.stock_seats) };
 }
 
 impl<N: BootName> Locked<N> {

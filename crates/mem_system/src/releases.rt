@@ -6,7 +6,7 @@ ghost use Rattle.step_rules.specs.declared.phase.ChargedUnit.{ChargedUnit};
 ghost use Rattle.mem_machine.specs.declared.spot.Spot.TheVariants.{Free, Head};
 ghost use Rattle.mem_machine.specs.Spots.{spot_at};
 ghost use Rattle.mem_machine.specs.Machines.{KeepsVisit, Visits};
-ghost use Rattle.mem_system.specs.Outcomes.{HasItsGroups, reply_of};
+ghost use Rattle.mem_system.specs.Outcomes.{ComesTo, HasItsGroups};
 ghost use Rattle.mem_system.specs.Releases.{CutsList, ListsFrame, ReleasesFrame};
 ghost use Rattle.mem_system.specs.Commands.{BySteps, ListStaysWithin};
 ghost use Rattle.mem_machine.specs.Local.{side};
@@ -83,8 +83,8 @@ pub(crate) fn release_frame<N: BootName>(
     requires sizes { IsValidConfig sizes }
     requires frame { frame < N.frames.frames }
     requires none_fresh { cpu.old.fresh ≡ [] }
-    ensures released { BySteps N.frames (side machine.old cpu.old) (side machine.new cpu.new)
-        (ReleasesFrame sizes frame (reply_of machine.new.ledger result)) }
+    ensures released { ComesTo N.frames result (ReleasesFrame sizes frame)
+        (side machine.old cpu.old) (side machine.new cpu.new) }
     ensures groups { HasItsGroups machine.new.ledger result }
     ensures stays { KeepsVisit N.frames (side machine.old cpu.old) (side machine.new cpu.new) }
     ensures fresh { cpu.new.fresh ≡ cpu.old.fresh }

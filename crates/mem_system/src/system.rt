@@ -3,8 +3,10 @@
 ghost use Rattle.std.specs.Prelude.{◌≡◌, length, IfOk};
 ghost use Rattle.group_tree.specs.Groups.{number_at};
 ghost use Rattle.mem_machine.specs.Machines.{IsConsistent};
-ghost use Rattle.mem_system.specs.Boots.{KnownLocked, IsQuiet, first_cpus};
-ghost use Rattle.mem_system.specs.Commands.{IsOfZone, IsSettledAfter, IsVisited};
+ghost use Rattle.mem_system.specs.Locked.{BehindLock, IsQuiet};
+ghost use Rattle.mem_system.specs.Boots.{first_cpus};
+ghost use Rattle.mem_system.specs.Commands.{IsOfZone, IsSettledAfter};
+ghost use Rattle.mem_system.specs.Visits.{IsServed, IsVisited};
 
 use crate::boots::Boot;
 use crate::command::{Cmd, Reply};
@@ -73,8 +75,7 @@ impl<N: BootName> System<N> {
     /// The group of this path; None where no group has it. It takes the lock, and settles nothing. As with `visit`,
     /// it is said that there was such a value behind the lock.
     pub fn find<R: Wait>(&self, rt: &R, path: &[u8]) -> Option<GroupId>
-        ensures { (found : KnownLocked) × IsQuiet N.frames N.stocks found
-            × (result ≡ number_at found.machine.ledger.groups path.now) }
+        ensures { BehindLock N.frames N.stocks (λ found. result ≡ number_at found.machine.ledger.groups path.now) }
     {
         let guard = self.locked.lock(rt);
         let locked = &*guard;
@@ -89,7 +90,7 @@ impl<N: BootName> System<N> {
     #[inline(always)]
     pub fn visit<R: Wait>(&self, rt: &R, cpu: &mut Cpu<N>, cmd: &Cmd<'_>) -> Reply
         requires { IsOfZone N.frames cmd.now }
-        ensures served { IsVisited N.frames N.stocks cmd.now cpu.old result cpu.new }
+        ensures served { IsVisited N.frames N.stocks (IsServed N.frames cmd.now result) cpu.old cpu.new }
         ensures settled { IsSettledAfter cmd.now result cpu.new }
     {
         self.visit_with(rt, cpu, cmd, &NoGate)
@@ -106,7 +107,7 @@ impl<N: BootName> System<N> {
         gate: &G,
     ) -> Reply
         requires { IsOfZone N.frames cmd.now }
-        ensures served { IsVisited N.frames N.stocks cmd.now cpu.old result cpu.new }
+        ensures served { IsVisited N.frames N.stocks (IsServed N.frames cmd.now result) cpu.old cpu.new }
         ensures settled { IsSettledAfter cmd.now result cpu.new }
     {
         let mut reply = Reply::Done;
@@ -127,7 +128,7 @@ impl<N: BootName> System<N> {
         reply: &mut Reply,
     )
         requires { IsOfZone N.frames cmd.now }
-        ensures served { IsVisited N.frames N.stocks cmd.now cpu.old reply.new cpu.new }
+        ensures served { IsVisited N.frames N.stocks (IsServed N.frames cmd.now reply.new) cpu.old cpu.new }
         ensures settled { IsSettledAfter cmd.now reply.new cpu.new }
     {
         let mut guard = self.locked.lock(rt);

@@ -1,7 +1,7 @@
 //! A system that is shut down.
 
 ghost use Rattle.std.specs.Prelude.{◌≡◌, ◌≤◌, length, IfOk, IfErr};
-ghost use Rattle.mem_system.specs.Boots.{KnownLocked};
+ghost use Rattle.mem_system.specs.Locked.{KnownLocked};
 ghost use Rattle.mem_system.specs.Ends.{AddsUp, Ends, pins_of};
 
 use crate::audit::Audit;

@@ -2,11 +2,11 @@
 
 ghost use Rattle.std.specs.Prelude.{◌≡◌, IfOk};
 ghost use Rattle.std.specs.String.{string_bytes};
-ghost use Rattle.frame_word.specs.Seats.{NothingPasses};
 ghost use Rattle.machine_texts.specs.Blocks.{blocks_text};
 ghost use Rattle.machine_texts.specs.Show.{show_text};
 ghost use Rattle.mem_system.specs.Shown.{SettlesCaller, TellsOf};
-ghost use Rattle.mem_system.specs.Commands.{IsSettled, ListStaysWithin, holder};
+ghost use Rattle.mem_system.specs.Commands.{IsSettled};
+ghost use Rattle.mem_system.specs.Visits.{EndsVisit, holder};
 
 use crate::command::Cmd;
 use crate::lock::Locked;
@@ -21,8 +21,7 @@ use std::sync::Wait;
 pub fn settle<N: BootName>(locked: &mut Locked<N>, tables: &Tables<N>, cpu: &mut Cpu<N>)
     ensures served { SettlesCaller N.frames (holder locked.old cpu.old) (holder locked.new cpu.new) }
     ensures settled { IsSettled cpu.new }
-    ensures at_most_high { ListStaysWithin locked.old.sizes cpu.old cpu.new }
-    ensures still { NothingPasses N.frames locked.new.machine.seat cpu.new.seat }
+    ensures ends { EndsVisit N.frames (holder locked.old cpu.old) (holder locked.new cpu.new) }
 {
     let _done = carry_out(locked, tables, cpu, &Cmd::Settle);
 }
@@ -39,8 +38,7 @@ pub fn show<N: BootName>(
     ensures served { SettlesCaller N.frames (holder locked.old cpu.old) (holder locked.new cpu.new) }
     ensures text { IfOk result (λ text. string_bytes text ≡ show_text locked.new.machine) }
     ensures settled { IsSettled cpu.new }
-    ensures at_most_high { ListStaysWithin locked.old.sizes cpu.old cpu.new }
-    ensures still { NothingPasses N.frames locked.new.machine.seat cpu.new.seat }
+    ensures ends { EndsVisit N.frames (holder locked.old cpu.old) (holder locked.new cpu.new) }
 {
     settle(locked, tables, cpu);
     let mut text = String::new(alloc);
@@ -59,8 +57,7 @@ pub fn blocks<N: BootName>(
     ensures served { SettlesCaller N.frames (holder locked.old cpu.old) (holder locked.new cpu.new) }
     ensures text { IfOk result (λ text. string_bytes text ≡ blocks_text locked.new.machine.blocks) }
     ensures settled { IsSettled cpu.new }
-    ensures at_most_high { ListStaysWithin locked.old.sizes cpu.old cpu.new }
-    ensures still { NothingPasses N.frames locked.new.machine.seat cpu.new.seat }
+    ensures ends { EndsVisit N.frames (holder locked.old cpu.old) (holder locked.new cpu.new) }
 {
     settle(locked, tables, cpu);
     let mut text = String::new(alloc);

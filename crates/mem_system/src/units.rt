@@ -3,8 +3,7 @@
 ghost use Rattle.std.specs.Prelude.{◌≡◌, ◌<◌, None, MatchOption};
 ghost use Rattle.mem_machine.specs.Machines.{HeadsKeptUnit, home_of};
 ghost use Rattle.mem_system.specs.Kept.{TouchesFrame, NotesDirt};
-ghost use Rattle.mem_system.specs.Outcomes.{HasItsGroups, reply_of};
-ghost use Rattle.mem_alloc.specs.Stepping.{ByStepsOfAny};
+ghost use Rattle.mem_system.specs.Outcomes.{ComesToForAny, HasItsGroups};
 
 use crate::outcome::Outcome;
 use cpu_part::{BootName, Tables};
@@ -37,8 +36,7 @@ pub(crate) fn touch_frame<N: BootName>(
     frame: u32,
 ) -> Outcome
     requires { frame < N.frames.frames }
-    ensures touched { ByStepsOfAny N.frames machine.old machine.new
-        (TouchesFrame frame (reply_of machine.new.ledger result)) }
+    ensures touched { ComesToForAny N.frames result (TouchesFrame frame) machine.old machine.new }
     ensures groups { HasItsGroups machine.new.ledger result }
     ensures seat { machine.new.seat ≡ machine.old.seat }
 {
@@ -59,8 +57,7 @@ pub(crate) fn note_dirt<N: BootName>(
     is_dirty: bool,
 ) -> Outcome
     requires { frame < N.frames.frames }
-    ensures noted { ByStepsOfAny N.frames machine.old machine.new
-        (NotesDirt frame is_dirty (reply_of machine.new.ledger result)) }
+    ensures noted { ComesToForAny N.frames result (NotesDirt frame is_dirty) machine.old machine.new }
     ensures groups { HasItsGroups machine.new.ledger result }
     ensures seat { machine.new.seat ≡ machine.old.seat }
 {

@@ -1,9 +1,8 @@
 //! Commands, served under the lock.
 
-ghost use Rattle.frame_word.specs.Seats.{LentIsBorrowed, NothingPasses};
 ghost use Rattle.mem_system.specs.Outcomes.{HasItsGroups, reply_of};
-ghost use Rattle.mem_system.specs.Commands.{IsCarriedOut, IsOfZone, IsServed, IsSettledAfter};
-ghost use Rattle.mem_system.specs.Commands.{ListAndFreshStayWithin, holder};
+ghost use Rattle.mem_system.specs.Commands.{IsOfZone, IsSettledAfter};
+ghost use Rattle.mem_system.specs.Visits.{EndsVisit, IsCarriedOut, IsServed, holder};
 
 use crate::command::{Cmd, Reply, obey};
 use crate::lock::Locked;
@@ -22,12 +21,10 @@ pub fn carry_out<N: BootName>(
     cmd: &Cmd<'_>,
 ) -> Outcome
     requires { IsOfZone N.frames cmd.now }
-    ensures served { IsCarriedOut N.frames cmd.now (holder locked.old cpu.old) result (holder locked.new cpu.new) }
+    ensures served { IsCarriedOut N.frames cmd.now result (holder locked.old cpu.old) (holder locked.new cpu.new) }
     ensures groups { HasItsGroups locked.new.machine.ledger result }
     ensures settled { IsSettledAfter cmd.now (reply_of locked.new.machine.ledger result) cpu.new }
-    ensures at_most_high { ListAndFreshStayWithin locked.old.sizes cpu.old cpu.new }
-    ensures still { NothingPasses N.frames locked.new.machine.seat cpu.new.seat }
-    ensures lent { LentIsBorrowed N.frames locked.new.machine.seat cpu.new.seat }
+    ensures ends { EndsVisit N.frames (holder locked.old cpu.old) (holder locked.new cpu.new) }
 {
     locked.machine.forget_notes();
     locked.machine.open(tables, cpu);
@@ -47,11 +44,9 @@ pub(crate) fn serve_into<N: BootName>(
     reply: &mut Reply,
 )
     requires { IsOfZone N.frames cmd.now }
-    ensures served { IsServed N.frames cmd.now (holder locked.old cpu.old) reply.new (holder locked.new cpu.new) }
+    ensures served { IsServed N.frames cmd.now reply.new (holder locked.old cpu.old) (holder locked.new cpu.new) }
     ensures settled { IsSettledAfter cmd.now reply.new cpu.new }
-    ensures at_most_high { ListAndFreshStayWithin locked.old.sizes cpu.old cpu.new }
-    ensures still { NothingPasses N.frames locked.new.machine.seat cpu.new.seat }
-    ensures lent { LentIsBorrowed N.frames locked.new.machine.seat cpu.new.seat }
+    ensures ends { EndsVisit N.frames (holder locked.old cpu.old) (holder locked.new cpu.new) }
 {
     let outcome = carry_out(locked, tables, cpu, cmd);
     tell(locked.charges(), outcome, reply);
@@ -67,11 +62,9 @@ pub fn serve<N: BootName>(
     cmd: &Cmd<'_>,
 ) -> Reply
     requires { IsOfZone N.frames cmd.now }
-    ensures served { IsServed N.frames cmd.now (holder locked.old cpu.old) result (holder locked.new cpu.new) }
+    ensures served { IsServed N.frames cmd.now result (holder locked.old cpu.old) (holder locked.new cpu.new) }
     ensures settled { IsSettledAfter cmd.now result cpu.new }
-    ensures at_most_high { ListAndFreshStayWithin locked.old.sizes cpu.old cpu.new }
-    ensures still { NothingPasses N.frames locked.new.machine.seat cpu.new.seat }
-    ensures lent { LentIsBorrowed N.frames locked.new.machine.seat cpu.new.seat }
+    ensures ends { EndsVisit N.frames (holder locked.old cpu.old) (holder locked.new cpu.new) }
 {
     let mut reply = Reply::Done;
     serve_into(locked, tables, cpu, cmd, &mut reply);

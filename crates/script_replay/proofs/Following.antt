@@ -53,8 +53,8 @@ use Rattle.mem_system.specs.declared.command.Cmd.{Cmd}
 use Rattle.mem_system.specs.declared.command.Cmd.TheVariants as cmd
 use Rattle.mem_system.specs.declared.command.Reply.{Reply}
 use Rattle.mem_system.specs.declared.command.Reply.TheVariants.{Refused, Done}
-use Rattle.mem_system.specs.Boots.{KnownLocked, AllShut}
-use Rattle.mem_system.specs.Commands.{Holder, holder, side_of, IsServed}
+use Rattle.mem_system.specs.Locked.{KnownLocked, AllShut}
+use Rattle.mem_system.specs.Visits.{Holder, holder, side_of, IsServed}
 use Rattle.reply_texts.specs.Answer.{Answer}
 use Rattle.reply_texts.specs.Answer as answer
 use Rattle.script_replay.specs.declared.work.Work.{Work}
@@ -62,6 +62,7 @@ use Rattle.script_replay.specs.declared.work.Work.TheVariants as work
 use Rattle.script_replay.specs.Answers.{RepliesServed, AnswersGet, AnswersPut, CanNotList, AnswersRelease, AnswersSettle, AnswersFrame}
 use Rattle.script_replay.specs.Answers.{Answers, AnswersWork}
 use Rattle.script_replay.specs.Ranges.{WorkInRange}
+use Rattle.script_replay.specs.Terms.{terms}
 use Rattle.script_replay.specs.History.{served_steps, fast_answer_steps, get_steps, put_steps, frame_steps, release_answer_steps, settle_answer_steps, answer_steps, work_steps}
 use Rattle.mem_machine.specs.Following.{FollowsSteps}
 
@@ -189,7 +190,7 @@ module _ (t : KnownTable) (w : Words) (run : Run) (locked : KnownLocked) (cpus :
 
   -- served under the lock, after a look at its own stock
   served_follows : (seen : KnownCpu) → IsUnseen t m c seen → (command : Cmd) (reply : Reply) (after : Holder) →
-      (is : IsServed t command (holder locked seen) reply after) → AllShut after.locked.machine → Decided (under_lock p is.steps) → Follows (under_lock p is.steps) after
+      (is : IsServed t command reply (holder locked seen) after) → AllShut after.locked.machine → Decided (under_lock p is.steps) → Follows (under_lock p is.steps) after
   served_follows seen unseen command reply after is shut decided =
       let serves : ServesAt t cpus k (side m c) is.steps (side after.locked.machine after.cpu) = record {
         is_part = is_part;
@@ -241,77 +242,78 @@ module _ (t : KnownTable) (w : Words) (run : Run) (locked : KnownLocked) (cpus :
   fast_follows g NoStock after is kept decided = unseen_follows after kept (fast_unseen t m c g NoStock after.cpu is (λ f e. cc))
   fast_follows g (Got f) after is kept decided = got_follows g f after is kept decided
 
-  get_follows : (f : ℕ) (said : Answer) (after : Holder) → f < t.frames → AnswersGet f before said after → Decided (get_steps p f said) →
+  get_follows : (f : ℕ) (after : Holder) (said : Answer) → f < t.frames → AnswersGet f before after said → Decided (get_steps p f said) →
       Follows (get_steps p f said) after
-  get_follows f (answer.Got Held) after inside is decided =
+  get_follows f after (answer.Got Held) inside is decided =
       step_follows (step.Get f) says.Held after is.1 (ap (λ (x : KnownCpu). x.number) is.0.1.2) refl
       (fast_calls_lead.held t w run m cpus k c after.cpu this_part f inside is.0.0 is.0.1) decided
-  get_follows f (answer.Got Zero) after inside is decided =
+  get_follows f after (answer.Got Zero) inside is decided =
       unseen_follows after is.1 (unseen_seat t m c after.cpu is.0.1.0 f (looked is.0.1.1.0) is.0.1.2 is.0.1.1.2 (λ x. refl))
-  get_follows f (answer.Got (Raced found)) after inside is decided =
+  get_follows f after (answer.Got (Raced found)) inside is decided =
       unseen_follows after is.1 (unseen_seat t m c after.cpu is.0.1.0 f (λ x. raced found (looked is.0.1.1.0 x)) is.0.1.2 is.0.1.1.4 (λ x. refl))
-  get_follows f (answer.Got Full) after inside is decided =
+  get_follows f after (answer.Got Full) inside is decided =
       unseen_follows after is.1 (unseen_seat t m c after.cpu is.0.1.0 f (looked 255) is.0.1.2 is.0.1.1 (λ x. refl))
-  get_follows f (answer.Served (Refused PinsFull)) after inside is decided = unseen_follows after is.1 (unseen_same t m c after.cpu is.0.1)
-  get_follows f said after inside is decided = absurd is.0
+  get_follows f after (answer.Served (Refused PinsFull)) inside is decided = unseen_follows after is.1 (unseen_same t m c after.cpu is.0.1)
+  get_follows f after said inside is decided = absurd is.0
 
-  put_follows : (f : ℕ) (said : Answer) (after : Holder) → AnswersPut f before said after → Decided (put_steps p f said) → Follows (put_steps p f said) after
-  put_follows f (answer.Put putted) after is decided =
+  put_follows : (f : ℕ) (after : Holder) (said : Answer) → AnswersPut f before after said → Decided (put_steps p f said) → Follows (put_steps p f said) after
+  put_follows f after (answer.Put putted) is decided =
       step_follows (step.Put f) (put_answer putted) after is.1 (put_number putted is.0.1) refl
       (fast_calls_lead.putted t w run m cpus k c after.cpu this_part f putted is.0.1) decided
     where
       put_number : (x : Putted) → UnpinAnswers f x c after.cpu → after.cpu.number ≡ p
       put_number (put.Left n) a = ap (λ (y : KnownCpu). y.number) a.3
       put_number put.Last a = ap (λ (y : KnownCpu). y.number) a.3
-  put_follows f (answer.Served (Refused NotPinned)) after is decided = unseen_follows after is.1 (unseen_same t m c after.cpu is.0.1)
-  put_follows f said after is decided = absurd is.0
+  put_follows f after (answer.Served (Refused NotPinned)) is decided = unseen_follows after is.1 (unseen_same t m c after.cpu is.0.1)
+  put_follows f after said is decided = absurd is.0
 
-  replied_follows : (command : Cmd) (said : Answer) (after : Holder) (is : RepliesServed t command before said after) → AllShut after.locked.machine →
-      Decided (served_steps t command before said after is) → Follows (served_steps t command before said after is) after
-  replied_follows command (answer.Served reply) after is shut decided =
+  replied_follows : (command : Cmd) (after : Holder) (said : Answer) (is : RepliesServed t command before after said) → AllShut after.locked.machine →
+      Decided (served_steps t command before after said is) → Follows (served_steps t command before after said is) after
+  replied_follows command after (answer.Served reply) is shut decided =
       served_follows c (unseen_same t m c c refl) command reply after is shut decided
-  replied_follows command said after is shut decided = absurd is
+  replied_follows command after said is shut decided = absurd is
 
-  frame_follows : (path : Bor (List ℕ)) (said : Answer) (after : Holder) (is : AnswersFrame t path before said after) → AllShut after.locked.machine →
-      Decided (frame_steps t path before said after is) → Follows (frame_steps t path before said after is) after
-  frame_follows path (answer.Fast (Got f)) after is shut decided = got_follows is.0.group f after is.0.got is.1 decided
-  frame_follows path (answer.Served reply) after (inl none) shut decided =
+  frame_follows : (path : Bor (List ℕ)) (after : Holder) (said : Answer) (is : AnswersFrame t path before after said) → AllShut after.locked.machine →
+      Decided (frame_steps t path before after said is) → Follows (frame_steps t path before after said is) after
+  frame_follows path after (answer.Fast (Got f)) is shut decided = got_follows is.0.group f after is.0.got is.1 decided
+  frame_follows path after (answer.Served reply) (inl none) shut decided =
       unseen_follows after none.same_locked (unseen_same t m c after.cpu none.same_cpu)
-  frame_follows path (answer.Served reply) after (inr served) shut decided =
+  frame_follows path after (answer.Served reply) (inr served) shut decided =
       let none = served.none in
       served_follows served.seen (fast_unseen t m c none.group none.fast served.seen none.answers none.none) (cmd.Alloc path 0) reply after served.served
       shut decided
-  frame_follows path said after is shut decided = absurd is
+  frame_follows path after said is shut decided = absurd is
 
-  release_follows : (f : ℕ) (said : Answer) (after : Holder) (is : AnswersRelease t f before said after) → AllShut after.locked.machine →
-      Decided (release_answer_steps t f before said after is) → Follows (release_answer_steps t f before said after is) after
-  release_follows f answer.Listed after is shut decided =
+  release_follows : (f : ℕ) (after : Holder) (said : Answer) (is : AnswersRelease t f before after said) → AllShut after.locked.machine →
+      Decided (release_answer_steps t f before after said is) → Follows (release_answer_steps t f before after said is) after
+  release_follows f after answer.Listed is shut decided =
       step_follows (step.Credit f) says.Back after is.1 (ap (λ (x : KnownCpu). x.number) is.0.listed.5) refl
       (fast_calls_lead.listed t w run m cpus k c after.cpu this_part f is.0.fresh is.0.listed decided) decided
-  release_follows f (answer.Served reply) after is shut decided =
+  release_follows f after (answer.Served reply) is shut decided =
       served_follows is.seen (list_unseen t m c f is.seen is.not_listed) (cmd.Release f) reply after is.served shut decided
-  release_follows f said after is shut decided = absurd is
+  release_follows f after said is shut decided = absurd is
 
-  settle_follows : (said : Answer) (after : Holder) (is : AnswersSettle t before said after) → AllShut after.locked.machine →
-      Decided (settle_answer_steps t before said after is) → Follows (settle_answer_steps t before said after is) after
-  settle_follows answer.Settled after is shut decided = served_follows c (unseen_same t m c c refl) cmd.Settle Done after is shut decided
-  settle_follows said after is shut decided = absurd is
+  settle_follows : (after : Holder) (said : Answer) (is : AnswersSettle t before after said) → AllShut after.locked.machine →
+      Decided (settle_answer_steps t before after said is) → Follows (settle_answer_steps t before after said is) after
+  settle_follows after answer.Settled is shut decided = served_follows c (unseen_same t m c c refl) cmd.Settle Done after is shut decided
+  settle_follows after said is shut decided = absurd is
 
-  answer_follows : (asked : Work) (said : Answer) (after : Holder) → WorkInRange t.frames asked → (is : Answers t asked before said after) →
-      AllShut after.locked.machine → Decided (answer_steps t asked before said after is) → Follows (answer_steps t asked before said after is) after
-  answer_follows (work.Visit command) said after names is shut decided = replied_follows command said after is shut decided
-  answer_follows (work.Frame path) said after names is shut decided = frame_follows path said after is shut decided
-  answer_follows (work.Fast g) (answer.Fast taken) after names is shut decided = fast_follows g taken after is.0 is.1 decided
-  answer_follows (work.Fast g) said after names is shut decided = absurd is
-  answer_follows (work.Release f) said after names is shut decided = release_follows f said after is shut decided
-  answer_follows (work.Get f) said after names is shut decided = get_follows f said after names is decided
-  answer_follows (work.Put f) said after names is shut decided = put_follows f said after is decided
-  answer_follows work.Settle said after names is shut decided = settle_follows said after is shut decided
-  answer_follows work.Blocks said after names is shut decided = absurd is
-  answer_follows work.Show said after names is shut decided = absurd is
+  answer_follows : (asked : Work) (after : Holder) (said : Answer) → WorkInRange t.frames asked → (is : Answers t asked before after said) →
+      AllShut after.locked.machine → Decided (answer_steps t asked before after said is) → Follows (answer_steps t asked before after said is) after
+  answer_follows (work.Visit command) after said names is shut decided = replied_follows command after said is shut decided
+  answer_follows (work.Frame path) after said names is shut decided = frame_follows path after said is shut decided
+  answer_follows (work.Fast g) after (answer.Fast taken) names is shut decided = fast_follows g taken after is.0 is.1 decided
+  answer_follows (work.Fast g) after said names is shut decided = absurd is
+  answer_follows (work.Release f) after said names is shut decided = release_follows f after said is shut decided
+  answer_follows (work.Get f) after said names is shut decided = get_follows f after said names is decided
+  answer_follows (work.Put f) after said names is shut decided = put_follows f after said is decided
+  answer_follows work.Settle after said names is shut decided = settle_follows after said is shut decided
+  answer_follows work.Blocks after said names is shut decided = absurd is
+  answer_follows work.Show after said names is shut decided = absurd is
 
-  pub work_follows : (is_explained : Bool) (asked : Work) (text : List ℕ) (after : Holder) → WorkInRange t.frames asked → (is : AnswersWork t is_explained asked before text after) →
-      AllShut after.locked.machine → Decided (work_steps t is_explained asked before text after is) → Follows (work_steps t is_explained asked before text after is) after
-  work_follows is_explained work.Blocks text after names is shut decided = served_follows c (unseen_same t m c c refl) cmd.Settle Done after is.0 shut decided
-  work_follows is_explained work.Show text after names is shut decided = served_follows c (unseen_same t m c c refl) cmd.Settle Done after is.0 shut decided
-  work_follows is_explained asked text after names is shut decided = answer_follows asked is.0 after names is.1 shut decided
+  pub work_follows : (is_explained : Bool) (asked : Work) (after : Holder) (text : List ℕ) → WorkInRange t.frames asked
+      → (is : AnswersWork (terms t w is_explained) asked before after text) → AllShut after.locked.machine
+      → Decided (work_steps (terms t w is_explained) asked before after text is) → Follows (work_steps (terms t w is_explained) asked before after text is) after
+  work_follows is_explained work.Blocks after text names is shut decided = served_follows c (unseen_same t m c c refl) cmd.Settle Done after is.0 shut decided
+  work_follows is_explained work.Show after text names is shut decided = served_follows c (unseen_same t m c c refl) cmd.Settle Done after is.0 shut decided
+  work_follows is_explained asked after text names is shut decided = answer_follows asked after is.0 names is.1 shut decided

@@ -1,4 +1,4 @@
--- The lines that went well so far, and the history that they tell. Serves `serve_line`, `replay`.
+-- The lines that were served so far, and the history that they tell. Serves `serve_line`, `replay`.
 use Rattle.std.proofs.Common.{Bool, Result, IfOk, ◌≡◌, ℕ, ◌+◌, ◌-◌, ◌<◌, ◌≤◌, Some, None, List, [], ◌∷◌, ◌++◌, length, take, get_or, append-nil, ap, refl, sym, ◌∙◌, subst, arith, inl, inr}
 use Rattle.std.specs.Prelude.{slice_set}
 use Rattle.std.specs.List.{slice_get}
@@ -15,15 +15,16 @@ use Rattle.mem_history.specs.Whole.{ShowsAll}
 use Rattle.mem_history.specs.Kept.{AreTied, IsTiedPart}
 use Rattle.mem_history.proofs.Wholes.{set_here, set_else}
 use Rattle.mem_history.proofs.Promised.{the_whole_is_promised}
-use Rattle.mem_system.specs.Boots.{KnownLocked, IsQuiet}
-use Rattle.mem_system.specs.Commands.{holder}
+use Rattle.mem_system.specs.Locked.{KnownLocked, IsQuiet}
+use Rattle.mem_system.specs.Visits.{holder}
 use Rattle.script_lines.specs.declared.line.Command.{Command}
 use Rattle.script_lines.specs.declared.line.Line.{Line}
 use Rattle.script_lines.specs.declared.line.Line.TheVariants.{Go, At}
 use Rattle.script_replay.specs.Answers.{AnswersText}
-use Rattle.script_replay.specs.Lines.{Standing, AtPart, InOrder, ServesLine, ServesAll, StopsAt}
-use Rattle.script_replay.specs.History.{line_steps, LineIsDecided, TellsHistory, Replays, GoesWell, IsWell}
+use Rattle.script_replay.specs.Lines.{Standing, standing, AtPart, InOrder, ServesLine, ServesAll, StopsAt}
+use Rattle.script_replay.specs.History.{line_steps, LineIsDecided, Past, past, past_line, TellsHistory, Replays, ServesAndKeeps, HoldsInvariants}
 use Rattle.script_replay.specs.Ranges.{LineIsThere}
+use Rattle.script_replay.specs.Terms.{Terms}
 use Rattle.script_replay.specs.Works.{work_of}
 use Rattle.script_replay.proofs.InOrder.{in_order_line}
 use Rattle.script_replay.proofs.InRange.{work_in_range}
@@ -47,56 +48,53 @@ tied_still t w cpus k c d is_part tied none all j e at = elim (cases_eq j k) [
 ]
 
 -- a command that was served at its part
-pub part_goes : (t : KnownTable) (w : Words) (is_explained : Bool) (before after : KnownLocked) (cpus : List KnownCpu) (line : Line) (processor : ℕ) (command : Command) (c d : KnownCpu)
-    {number : ℕ} {U E : Type 0} (r : Result U E) (old new : List ℕ) → line ≡ At number processor command → LineIsThere t.frames (length cpus) line →
+pub part_keeps : (on : Terms) (before after : KnownLocked) (cpus : List KnownCpu) (line : Line) (processor : ℕ) (command : Command) (c d : KnownCpu)
+    {number : ℕ} {U E : Type 0} (r : Result U E) (old new : List ℕ) → line ≡ At number processor command → LineIsThere on.frames.frames (length cpus) line →
     slice_get cpus (processor - 1) ≡ Some c →
-    (said : List ℕ) × AnswersText t is_explained command (holder before c) said (holder after d) × IfOk r (λ _. new ≡ old ++ said) →
-    IsWell t w after → IsTied t w d → (d.stock.view.last ≡ stock_is.NoGroup → d.fresh ≡ []) →
-    (text : List ℕ) × GoesWell t w is_explained (record { locked = before; cpus = cpus }) line text
-    (record { locked = after; cpus = slice_set cpus (processor - 1) d }) × IfOk r (λ _. new ≡ old ++ text)
-part_goes t w is_explained before after cpus line processor command c d r old new is there is_part answered well tied none = (
+    (said : List ℕ) × AnswersText on command (holder before c) (holder after d) said × IfOk r (λ _. new ≡ old ++ said) →
+    HoldsInvariants on.frames on.stocks after → IsTied on.frames on.stocks d → (d.stock.view.last ≡ stock_is.NoGroup → d.fresh ≡ []) →
+    (text : List ℕ) × ServesAndKeeps on line (standing before cpus) (standing after (slice_set cpus (processor - 1) d)) text × IfOk r (λ _. new ≡ old ++ text)
+part_keeps on before after cpus line processor command c d r old new is there is_part answered holds tied none = (
   answered.0,
   record {
     there = there;
-    serves = subst (λ (x : Line). ServesLine t is_explained (record { locked = before; cpus = cpus }) x answered.0
-        (record { locked = after; cpus = slice_set cpus (processor - 1) d })) (sym is)
-        (record { part = c; left = d; is_part = is_part; answers = answered.1; cpus = refl });
-    stands = record {
-      well = well;
-      tied = λ all. tied_still t w cpus (processor - 1) c d is_part tied none all;
+    serves = subst (λ (x : Line). ServesLine on x (standing before cpus) (standing after (slice_set cpus (processor - 1) d)) answered.0) (sym is)
+        (record { part = c; left = d; is_part = is_part; done = answered.1; cpus = refl });
+    keeps = record {
+      holds = holds;
+      tied = λ all. tied_still on.frames on.stocks cpus (processor - 1) c d is_part tied none all;
     };
   },
   answered.2,
 )
 
 -- the same, of the part that was read
-pub part_read : (t : KnownTable) (w : Words) (is_explained : Bool) (before after : KnownLocked) (cpus : List KnownCpu) (line : Line) (processor : ℕ) (command : Command) (c d : KnownCpu)
-    {number : ℕ} {U E : Type 0} (r : Result U E) (old new : List ℕ) → line ≡ At number processor command → LineIsThere t.frames (length cpus) line →
+pub part_read : (on : Terms) (before after : KnownLocked) (cpus : List KnownCpu) (line : Line) (processor : ℕ) (command : Command) (c d : KnownCpu)
+    {number : ℕ} {U E : Type 0} (r : Result U E) (old new : List ℕ) → line ≡ At number processor command → LineIsThere on.frames.frames (length cpus) line →
     c ≡ get_or cpus (processor - 1) c →
-    (said : List ℕ) × AnswersText t is_explained command (holder before c) said (holder after d) × IfOk r (λ _. new ≡ old ++ said) →
-    IsWell t w after → IsTied t w d → (d.stock.view.last ≡ stock_is.NoGroup → d.fresh ≡ []) →
-    (text : List ℕ) × GoesWell t w is_explained (record { locked = before; cpus = cpus }) line text
-    (record { locked = after; cpus = slice_set cpus (processor - 1) d }) × IfOk r (λ _. new ≡ old ++ text)
-part_read t w is_explained before after cpus line processor command c d {number = number} r old new is there read answered well tied none =
-    let named : LineIsThere t.frames (length cpus) (At number processor command) = subst (LineIsThere t.frames (length cpus)) is there in
+    (said : List ℕ) × AnswersText on command (holder before c) (holder after d) said × IfOk r (λ _. new ≡ old ++ said) →
+    HoldsInvariants on.frames on.stocks after → IsTied on.frames on.stocks d → (d.stock.view.last ≡ stock_is.NoGroup → d.fresh ≡ []) →
+    (text : List ℕ) × ServesAndKeeps on line (standing before cpus) (standing after (slice_set cpus (processor - 1) d)) text × IfOk r (λ _. new ≡ old ++ text)
+part_read on before after cpus line processor command c d {number = number} r old new is there read answered holds tied none =
+    let named : LineIsThere on.frames.frames (length cpus) (At number processor command) = subst (LineIsThere on.frames.frames (length cpus)) is there in
     let low = named.low in
     let high = named.high in
-    part_goes t w is_explained before after cpus line processor command c d r old new is there
-    (slice_get_read cpus (length cpus) (processor - 1) c refl (omega arith) read) answered well tied none
+    part_keeps on before after cpus line processor command c d r old new is there
+    (slice_get_read cpus (length cpus) (processor - 1) c refl (omega arith) read) answered holds tied none
 
 -- ---- the lines so far
 
-abbrev pub GoesAll : KnownTable → Words → Bool → Standing → List Line → List ℕ → Standing → Type 0
-GoesAll t w is_explained s lines text e = InOrder (GoesWell t w is_explained) s lines text e
+abbrev pub ServesAllAndKeeps : Terms → List Line → Standing → Standing → List ℕ → Type 0
+ServesAllAndKeeps on lines s e text = InOrder (ServesAndKeeps on) lines s e text
 
-pub goes_served : (t : KnownTable) (w : Words) (is_explained : Bool) (s e : Standing) (lines : List Line) (text : List ℕ) → GoesAll t w is_explained s lines text e → ServesAll t is_explained s lines text e
-goes_served t w is_explained s e [] text all = all
-goes_served t w is_explained s e (line ∷ lines) text all = record {
+pub all_served : (on : Terms) (lines : List Line) (s e : Standing) (text : List ℕ) → ServesAllAndKeeps on lines s e text → ServesAll on lines s e text
+all_served on [] s e text all = all
+all_served on (line ∷ lines) s e text all = record {
   first = all.first;
   rest = all.rest;
   between = all.between;
   serves_first = all.serves_first.serves;
-  serves_rest = goes_served t w is_explained all.between e lines all.rest all.serves_rest;
+  serves_rest = all_served on lines all.between e all.rest all.serves_rest;
   text_is = all.text_is;
 }
 
@@ -109,60 +107,65 @@ some_cpu t w locked quiet = let sized = quiet.sized.cpus in let low = quiet.vali
 abbrev Follows : KnownTable → Run → Standing → Run → Standing → Type 0
 Follows t earlier s run e = ShowsAll t run e.locked.machine e.cpus × (TellsRun t earlier s.locked.machine.ledger → TellsRun t run e.locked.machine.ledger)
 
-line_follows : (t : KnownTable) (w : Words) (is_explained : Bool) (run : Run) (s e : Standing) (line : Line) (text : List ℕ) → ShowsAll t run s.locked.machine s.cpus →
-    AreTied t w s.cpus → (goes : GoesWell t w is_explained s line text e) → LineIsDecided t is_explained s line text e goes.serves →
-    Follows t run s (run ++ line_steps t is_explained s line text e goes.serves) e
-line_follows t w is_explained run s e Go text shows tied goes decided =
-    subst (λ (r : Run). Follows t run s r e) (sym (append-nil run))
-    (subst (λ (x : Standing). Follows t run s run x) (sym goes.serves.1) (shows, λ told. told))
-line_follows t w is_explained run s e (At number processor command) text shows tied goes decided =
-    let is : AtPart processor (λ one other. AnswersText t is_explained command one text other) s e = goes.serves in
-    subst (λ (cpus : List KnownCpu). ShowsAll t (run ++ line_steps t is_explained s (At number processor command) text e goes.serves) e.locked.machine cpus
-    × (TellsRun t run s.locked.machine.ledger
-    → TellsRun t (run ++ line_steps t is_explained s (At number processor command) text e goes.serves) e.locked.machine.ledger)) (sym is.cpus)
-    (work_follows t w run s.locked s.cpus (processor - 1) is.part shows is.is_part tied is_explained (work_of command) text (holder e.locked is.left)
-    (work_in_range t.frames command goes.there.names) is.answers goes.stands.well.quiet.shut decided)
+line_follows : (on : Terms) (run : Run) (line : Line) (s e : Standing) (text : List ℕ) → ShowsAll on.frames run s.locked.machine s.cpus →
+    AreTied on.frames on.stocks s.cpus → (keeps : ServesAndKeeps on line s e text) → LineIsDecided on line s e text keeps.serves →
+    Follows on.frames run s (run ++ line_steps on line s e text keeps.serves) e
+line_follows on run Go s e text shows tied keeps decided =
+    subst (λ (r : Run). Follows on.frames run s r e) (sym (append-nil run))
+    (subst (λ (x : Standing). Follows on.frames run s run x) (sym keeps.serves.1) (shows, λ told. told))
+line_follows on run (At number processor command) s e text shows tied keeps decided =
+    let is : AtPart processor (λ part left. AnswersText on command (holder s.locked part) (holder e.locked left) text) s.cpus e.cpus = keeps.serves in
+    subst (λ (cpus : List KnownCpu). ShowsAll on.frames (run ++ line_steps on (At number processor command) s e text keeps.serves) e.locked.machine cpus
+    × (TellsRun on.frames run s.locked.machine.ledger
+    → TellsRun on.frames (run ++ line_steps on (At number processor command) s e text keeps.serves) e.locked.machine.ledger)) (sym is.cpus)
+    (work_follows on.frames on.stocks run s.locked s.cpus (processor - 1) is.part shows is.is_part tied on.is_explained (work_of command) (holder e.locked is.left) text
+    (work_in_range on.frames.frames command keeps.there.names) is.done keeps.keeps.holds.quiet.shut decided)
 
-pub goes_history : (t : KnownTable) (w : Words) (is_explained : Bool) (decided : Type 0) (run : Run) (s e : Standing) (lines : List Line) (text : List ℕ) →
-    (decided → ShowsAll t run s.locked.machine s.cpus) → AreTied t w s.cpus → GoesAll t w is_explained s lines text e → TellsHistory t is_explained decided run s lines text e
-goes_history t w is_explained decided run s e [] text shows tied all = all
-goes_history t w is_explained decided run s e (line ∷ lines) text shows tied all =
-    let goes = all.serves_first in
+pub keeps_history : (on : Terms) (lines : List Line) (before : Past) (e : Standing) (text : List ℕ) →
+    (before.decided → ShowsAll on.frames before.run before.now.locked.machine before.now.cpus) → AreTied on.frames on.stocks before.now.cpus →
+    ServesAllAndKeeps on lines before.now e text → TellsHistory on lines before e text
+keeps_history on [] before e text shows tied all = all
+keeps_history on (line ∷ lines) before e text shows tied all =
+    let one = all.serves_first in
     let mid = all.between in
-    let next : Run = run ++ line_steps t is_explained s line all.first mid goes.serves in
-    let follows : decided → LineIsDecided t is_explained s line all.first mid goes.serves → Follows t run s next mid =
-    λ so_far here. line_follows t w is_explained run s mid line all.first (shows so_far) tied goes here in
-    let tied_then : AreTied t w mid.cpus = goes.stands.tied tied in record {
+    let next : Run = before.run ++ line_steps on line before.now mid all.first one.serves in
+    let follows : before.decided → LineIsDecided on line before.now mid all.first one.serves → Follows on.frames before.run before.now next mid =
+    λ so_far here. line_follows on before.run line before.now mid all.first (shows so_far) tied one here in
+    let tied_then : AreTied on.frames on.stocks mid.cpus = one.keeps.tied tied in record {
       first = all.first;
       rest = all.rest;
       between = mid;
-      serves_first = goes.serves;
+      serves_first = one.serves;
       kept = λ so_far here. record {
         legal = (follows so_far here).0.legal;
         tells = (follows so_far here).1;
-        promise = the_whole_is_promised t w next mid.locked.machine mid.cpus (follows so_far here).0 goes.stands.well.consistent goes.stands.well.charges tied_then
-            (some_cpu t w mid.locked goes.stands.well.quiet);
+        promise = the_whole_is_promised on.frames on.stocks next mid.locked.machine mid.cpus (follows so_far here).0 one.keeps.holds.consistent one.keeps.holds.charges tied_then
+            (some_cpu on.frames on.stocks mid.locked one.keeps.holds.quiet);
       };
-      tells = goes_history t w is_explained (decided × LineIsDecided t is_explained s line all.first mid goes.serves) next mid e lines all.rest
+      tells = keeps_history on lines (past_line on line before mid all.first one.serves) e all.rest
           (λ both. (follows both.0 both.1).0) tied_then all.serves_rest;
       text_is = all.text_is;
     }
 
+-- lines that were served are replayed
+pub all_replayed : (on : Terms) (lines : List Line) (s e : Standing) (text : List ℕ) → ServesAllAndKeeps on lines s e text → Replays on lines s e text
+all_replayed on lines s e text all = record {
+  served = all_served on lines s e text all;
+  history = λ run shows tied. keeps_history on lines (past run s) e text (λ u. shows) tied all;
+}
+
 -- memory was wanting for the text of the next line
-pub goes_stop : (t : KnownTable) (w : Words) (is_explained : Bool) (s m e : Standing) (lines : List Line) (i : ℕ) (default : Line) (text more : List ℕ)
-    → i < length lines → GoesAll t w is_explained s (take i lines) text m → GoesWell t w is_explained m (get_or lines i default) more e
-    → StopsAt lines (λ served said. Replays t w is_explained s served said e)
-goes_stop t w is_explained s m e lines i default text more inside all one =
+pub keeps_stop : (on : Terms) (s m e : Standing) (lines : List Line) (i : ℕ) (default : Line) (text more : List ℕ)
+    → i < length lines → ServesAllAndKeeps on (take i lines) s m text → ServesAndKeeps on (get_or lines i default) m e more
+    → StopsAt (Replays on) lines s e
+keeps_stop on s m e lines i default text more inside all one =
     let first = take (i + 1) lines in
     let said = text ++ more in
-    let goes : GoesAll t w is_explained s first said e = in_order_line (GoesWell t w is_explained) s m e lines i default text said inside all (more, one, refl) in
+    let served : ServesAllAndKeeps on first s e said = in_order_line (ServesAndKeeps on) s m e lines i default text said inside all (more, one, refl) in
     record {
       number = i + 1;
       low = omega arith;
       high = omega (arith, inside);
       text = said;
-      served = record {
-        served = goes_served t w is_explained s e first said goes;
-        history = λ run shows tied. goes_history t w is_explained (Unit {0}) run s e first said (λ u. shows) tied goes;
-      };
+      served = all_replayed on first s e said served;
     }

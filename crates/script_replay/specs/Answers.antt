@@ -21,7 +21,7 @@ use Rattle.mem_system.specs.declared.command.Cmd.{Cmd}
 use Rattle.mem_system.specs.declared.command.Cmd.TheVariants as cmd
 use Rattle.mem_system.specs.declared.command.Reply.{Reply}
 use Rattle.mem_system.specs.declared.command.Reply.TheVariants.{Refused}
-use Rattle.mem_system.specs.Commands.{Holder, holder, IsServed}
+use Rattle.mem_system.specs.Visits.{Holder, holder, IsServed}
 use Rattle.mem_system.specs.Shown.{SettlesCaller}
 use Rattle.reply_texts.specs.Answer.{Answer}
 use Rattle.reply_texts.specs.Answer as answer
@@ -30,6 +30,7 @@ use Rattle.script_lines.specs.declared.line.Command.{Command}
 use Rattle.script_replay.specs.declared.work.Work.{Work}
 use Rattle.script_replay.specs.declared.work.Work.TheVariants.{Visit, Frame, Fast, Release, Get, Put, Settle}
 use Rattle.script_replay.specs.declared.work.Work.TheVariants.{Blocks, Show}
+use Rattle.script_replay.specs.Terms.{Terms}
 use Rattle.script_replay.specs.Works.{work_of}
 
 -- A call that adds what is said behind a text: something of which this is so was said, whether or not memory was there
@@ -46,44 +47,44 @@ AddsAnswer result old new is_answered =
 -- ---- without the lock
 
 -- Fast: what a call without the lock answers for this group
-abbrev pub AnswersFast : ℕ → Holder → Answer → Holder → Type 0
-AnswersFast group before (answer.Fast fast) after =
+abbrev pub AnswersFast : (group : ℕ) (before after : Holder) → Answer → Type 0
+AnswersFast group before after (answer.Fast fast) =
     FastAnswers group fast before.cpu after.cpu × (after.locked ≡ before.locked)
-AnswersFast group before other after = ⊥
+AnswersFast group before after other = ⊥
 
 -- Get: a pin on the frame; refused where pins and back frames are as many as there is room for
-abbrev pub GetsPin : ℕ → KnownCpu → Answer → KnownCpu → Type 0
-GetsPin frame before (answer.Got got) after =
+abbrev pub GetsPin : (frame : ℕ) (before after : KnownCpu) → Answer → Type 0
+GetsPin frame before after (answer.Got got) =
     (length before.back + length before.pins < MOST_PINS) × PinAnswers frame got before after
-GetsPin frame before (answer.Served (Refused PinsFull)) after =
+GetsPin frame before after (answer.Served (Refused PinsFull)) =
     (length before.back + length before.pins ≡ MOST_PINS) × (after ≡ before)
-GetsPin frame before other after = ⊥
+GetsPin frame before after other = ⊥
 
 -- Get, where what lies behind the lock stays
-abbrev pub AnswersGet : ℕ → Holder → Answer → Holder → Type 0
-AnswersGet frame before answer after = GetsPin frame before.cpu answer after.cpu × (after.locked ≡ before.locked)
+abbrev pub AnswersGet : (frame : ℕ) (before after : Holder) → Answer → Type 0
+AnswersGet frame before after answer = GetsPin frame before.cpu after.cpu answer × (after.locked ≡ before.locked)
 
 -- Put: a pin less on the frame; refused where the processor has none on it
-abbrev pub PutsPin : ℕ → KnownCpu → Answer → KnownCpu → Type 0
-PutsPin frame before (answer.Put put) after = (1 ≤ times frame before.pins) × UnpinAnswers frame put before after
-PutsPin frame before (answer.Served (Refused NotPinned)) after = (times frame before.pins ≡ 0) × (after ≡ before)
-PutsPin frame before other after = ⊥
+abbrev pub PutsPin : (frame : ℕ) (before after : KnownCpu) → Answer → Type 0
+PutsPin frame before after (answer.Put put) = (1 ≤ times frame before.pins) × UnpinAnswers frame put before after
+PutsPin frame before after (answer.Served (Refused NotPinned)) = (times frame before.pins ≡ 0) × (after ≡ before)
+PutsPin frame before after other = ⊥
 
 -- Put, where what lies behind the lock stays
-abbrev pub AnswersPut : ℕ → Holder → Answer → Holder → Type 0
-AnswersPut frame before answer after = PutsPin frame before.cpu answer after.cpu × (after.locked ≡ before.locked)
+abbrev pub AnswersPut : (frame : ℕ) (before after : Holder) → Answer → Type 0
+AnswersPut frame before after answer = PutsPin frame before.cpu after.cpu answer × (after.locked ≡ before.locked)
 
 -- ---- under the lock
 
 -- the command was served under the lock, and its reply is the answer
-abbrev pub RepliesServed : KnownTable → Cmd → Holder → Answer → Holder → Type 0
-RepliesServed table command before (answer.Served reply) after = IsServed table command before reply after
-RepliesServed table command before other after = ⊥
+abbrev pub RepliesServed : KnownTable → Cmd → (before after : Holder) → Answer → Type 0
+RepliesServed table command before after (answer.Served reply) = IsServed table command reply before after
+RepliesServed table command before after other = ⊥
 
 -- Settle: it was served
-abbrev pub AnswersSettle : KnownTable → Holder → Answer → Holder → Type 0
-AnswersSettle table before answer.Settled after = SettlesCaller table before after
-AnswersSettle table before other after = ⊥
+abbrev pub AnswersSettle : KnownTable → (before after : Holder) → Answer → Type 0
+AnswersSettle table before after answer.Settled = SettlesCaller table before after
+AnswersSettle table before after other = ⊥
 
 -- ---- Release: a fresh frame is listed again without the lock, where it can be; else it is served under the lock
 
@@ -100,30 +101,29 @@ CanNotList frame before seen =
     ⊎ ((1 ≤ times frame before.fresh) × DropAnswers frame dropped.NeedVisit before seen)
 
 -- the frame couldn't be listed again without the lock, and its Release was served under it
-pub record ReleasesUnderLock (table : KnownTable) (frame : ℕ) (before : Holder) (reply : Reply) (after : Holder)
-    : Type 0 where
+pub record ReleasesUnderLock (table : KnownTable) (frame : ℕ) (before after : Holder) (reply : Reply) : Type 0 where
   pub seen : KnownCpu
   pub not_listed : CanNotList frame before.cpu seen
-  pub served : IsServed table (cmd.Release frame) (holder before.locked seen) reply after
+  pub served : IsServed table (cmd.Release frame) reply (holder before.locked seen) after
 
 -- what a Release is answered
-abbrev pub AnswersRelease : KnownTable → ℕ → Holder → Answer → Holder → Type 0
-AnswersRelease table frame before answer.Listed after =
+abbrev pub AnswersRelease : KnownTable → (frame : ℕ) (before after : Holder) → Answer → Type 0
+AnswersRelease table frame before after answer.Listed =
     ListsAgain frame before.cpu after.cpu × (after.locked ≡ before.locked)
-AnswersRelease table frame before (answer.Served reply) after = ReleasesUnderLock table frame before reply after
-AnswersRelease table frame before other after = ⊥
+AnswersRelease table frame before after (answer.Served reply) = ReleasesUnderLock table frame before after reply
+AnswersRelease table frame before after other = ⊥
 
 -- ---- Alloc of a single frame: one of the list without the lock, where it can be; else it is served under the lock
 
 -- no group has the path, and nothing changed
-pub record FindsNoGroup (path : List ℕ) (before : Holder) (reply : Reply) (after : Holder) : Type 0 where
+pub record FindsNoGroup (path : List ℕ) (before after : Holder) (reply : Reply) : Type 0 where
   pub none : number_at before.locked.machine.ledger.groups path ≡ None
   pub refused : reply ≡ Refused NoGroup
   pub same_locked : after.locked ≡ before.locked
   pub same_cpu : after.cpu ≡ before.cpu
 
 -- the path is that of a group, for which the processor got this frame of its list without the lock
-pub record GetsFast (path : List ℕ) (frame : ℕ) (before : Holder) (after : KnownCpu) : Type 0 where
+pub record GetsFast (path : List ℕ) (before : Holder) (after : KnownCpu) (frame : ℕ) : Type 0 where
   pub group : ℕ
   pub found : number_at before.locked.machine.ledger.groups path ≡ Some group
   pub got : FastAnswers group (Got frame) before.cpu after
@@ -137,33 +137,33 @@ pub record GetsNoneFast (path : List ℕ) (before : Holder) (seen : KnownCpu) : 
   pub none : (frame : ℕ) → fast ≢ Got frame
 
 -- no frame was got without the lock, and the Alloc was served under it
-pub record AllocatesUnderLock (table : KnownTable) (path : Bor (List ℕ)) (before : Holder) (reply : Reply)
-    (after : Holder) : Type 0 where
+pub record AllocatesUnderLock (table : KnownTable) (path : Bor (List ℕ)) (before after : Holder) (reply : Reply)
+    : Type 0 where
   pub seen : KnownCpu
   pub none : GetsNoneFast path.now before seen
-  pub served : IsServed table (cmd.Alloc path 0) (holder before.locked seen) reply after
+  pub served : IsServed table (cmd.Alloc path 0) reply (holder before.locked seen) after
 
 -- what an Alloc of a single frame is answered
-abbrev pub AnswersFrame : KnownTable → Bor (List ℕ) → Holder → Answer → Holder → Type 0
-AnswersFrame table path before (answer.Fast (Got frame)) after =
-    GetsFast path.now frame before after.cpu × (after.locked ≡ before.locked)
-AnswersFrame table path before (answer.Served reply) after =
-    FindsNoGroup path.now before reply after ⊎ AllocatesUnderLock table path before reply after
-AnswersFrame table path before other after = ⊥
+abbrev pub AnswersFrame : KnownTable → (path : Bor (List ℕ)) (before after : Holder) → Answer → Type 0
+AnswersFrame table path before after (answer.Fast (Got frame)) =
+    GetsFast path.now before after.cpu frame × (after.locked ≡ before.locked)
+AnswersFrame table path before after (answer.Served reply) =
+    FindsNoGroup path.now before after reply ⊎ AllocatesUnderLock table path before after reply
+AnswersFrame table path before after other = ⊥
 
 -- ---- any command
 
 -- What is answered where this is done, but where the answer is a text of any length
-abbrev pub Answers : KnownTable → Work → Holder → Answer → Holder → Type 0
-Answers table (Visit command) before answer after = RepliesServed table command before answer after
-Answers table (Frame path) before answer after = AnswersFrame table path before answer after
-Answers table (Fast group) before answer after = AnswersFast group before answer after
-Answers table (Release frame) before answer after = AnswersRelease table frame before answer after
-Answers table (Get frame) before answer after = AnswersGet frame before answer after
-Answers table (Put frame) before answer after = AnswersPut frame before answer after
-Answers table Settle before answer after = AnswersSettle table before answer after
-Answers table Blocks before answer after = ⊥
-Answers table Show before answer after = ⊥
+abbrev pub Answers : KnownTable → Work → (before after : Holder) → Answer → Type 0
+Answers table (Visit command) before after answer = RepliesServed table command before after answer
+Answers table (Frame path) before after answer = AnswersFrame table path before after answer
+Answers table (Fast group) before after answer = AnswersFast group before after answer
+Answers table (Release frame) before after answer = AnswersRelease table frame before after answer
+Answers table (Get frame) before after answer = AnswersGet frame before after answer
+Answers table (Put frame) before after answer = AnswersPut frame before after answer
+Answers table Settle before after answer = AnswersSettle table before after answer
+Answers table Blocks before after answer = ⊥
+Answers table Show before after answer = ⊥
 
 -- the explanation of the kills of a command that was served under the lock, where that is asked for: of the groups and
 -- the notes as the command left them
@@ -172,39 +172,38 @@ kills_text true machine = explanation_text machine.ledger.groups machine.notes
 kills_text false machine = []
 
 -- what is told of kills behind the answer of an Alloc of a single frame: nothing, unless it was served under the lock
-abbrev pub frame_kills : Bool → (table : KnownTable) (path : Bor (List ℕ)) (before : Holder) (said : Answer)
-    (after : Holder) → AnswersFrame table path before said after → List ℕ
-frame_kills is_explained table path before (answer.Served reply) after (inl none) = []
-frame_kills is_explained table path before (answer.Served reply) after (inr served) =
+abbrev pub frame_kills : Bool → (table : KnownTable) (path : Bor (List ℕ)) (before after : Holder) (said : Answer)
+    → AnswersFrame table path before after said → List ℕ
+frame_kills is_explained table path before after (answer.Served reply) (inl none) = []
+frame_kills is_explained table path before after (answer.Served reply) (inr served) =
     kills_text is_explained after.locked.machine
-frame_kills is_explained table path before said after is = []
+frame_kills is_explained table path before after said answered = []
 
 -- what is told of kills behind the answer of a Release: nothing, unless it was served under the lock
-abbrev pub release_kills : Bool → Answer → Holder → List ℕ
-release_kills is_explained (answer.Served reply) after = kills_text is_explained after.locked.machine
-release_kills is_explained said after = []
+abbrev pub release_kills : Bool → (after : Holder) → Answer → List ℕ
+release_kills is_explained after (answer.Served reply) = kills_text is_explained after.locked.machine
+release_kills is_explained after said = []
 
 -- what is told of kills behind the answer, where this was done and answered so
-abbrev pub work_kills : Bool → (table : KnownTable) (work : Work) (before : Holder) (said : Answer) (after : Holder)
-    → Answers table work before said after → List ℕ
-work_kills is_explained table (Visit command) before said after is = kills_text is_explained after.locked.machine
-work_kills is_explained table (Frame path) before said after is =
-    frame_kills is_explained table path before said after is
-work_kills is_explained table (Release frame) before said after is = release_kills is_explained said after
-work_kills is_explained table work before said after is = []
+abbrev pub work_kills : (terms : Terms) (work : Work) (before after : Holder) (said : Answer)
+    → Answers terms.frames work before after said → List ℕ
+work_kills terms (Visit command) before after said answered = kills_text terms.is_explained after.locked.machine
+work_kills terms (Frame path) before after said answered =
+    frame_kills terms.is_explained terms.frames path before after said answered
+work_kills terms (Release frame) before after said answered = release_kills terms.is_explained after said
+work_kills terms work before after said answered = []
 
 -- What is answered where this is done, as text: that of the answer, and behind it what is told of kills. `blocks` and
 -- `show` settle the processor, and tell of the machine as it is then
-abbrev pub AnswersWork : KnownTable → Bool → Work → Holder → List ℕ → Holder → Type 0
-AnswersWork table is_explained Blocks before text after =
-    SettlesCaller table before after × (text ≡ blocks_text after.locked.machine.blocks)
-AnswersWork table is_explained Show before text after =
-    SettlesCaller table before after × (text ≡ show_text after.locked.machine)
-AnswersWork table is_explained work before text after =
-    (said : Answer) × (is : Answers table work before said after)
-    × (text ≡ answer_text said ++ work_kills is_explained table work before said after is)
+abbrev pub AnswersWork : Terms → Work → (before after : Holder) (text : List ℕ) → Type 0
+AnswersWork terms Blocks before after text =
+    SettlesCaller terms.frames before after × (text ≡ blocks_text after.locked.machine.blocks)
+AnswersWork terms Show before after text =
+    SettlesCaller terms.frames before after × (text ≡ show_text after.locked.machine)
+AnswersWork terms work before after text =
+    (said : Answer) × (answered : Answers terms.frames work before after said)
+    × (text ≡ answer_text said ++ work_kills terms work before after said answered)
 
 -- what a command is answered, as text
-abbrev pub AnswersText : KnownTable → Bool → Command → Holder → List ℕ → Holder → Type 0
-AnswersText table is_explained command before text after =
-    AnswersWork table is_explained (work_of command) before text after
+abbrev pub AnswersText : Terms → Command → (before after : Holder) (text : List ℕ) → Type 0
+AnswersText terms command before after text = AnswersWork terms (work_of command) before after text

@@ -1,3 +1,4 @@
+pub mod Terms
 pub mod Answers
 pub mod Lines
 pub mod Ranges

@@ -1,9 +1,7 @@
 -- What lines are answered by visits, while others may go on beside them. No clause can name what lies behind the lock,
 -- so each visit is one by itself: there was such a value behind it, and the next may find another.
-use Rattle.std.specs.Prelude.{◌≡◌, ◌⊎◌, ℕ, ◌-◌, List, [], Some, slice_get, slice_set}
+use Rattle.std.specs.Prelude.{◌≡◌, ◌⊎◌, ℕ, List, []}
 use Rattle.std.specs.Borrow.{Bor}
-use Rattle.frame_word.specs.Seats.{KnownTable}
-use Rattle.stock_word.specs.Stock.{Words}
 use Rattle.cpu_part.specs.declared.answers.Fast.TheVariants.{Got}
 use Rattle.cpu_part.specs.Cpus.{KnownCpu}
 use Rattle.cpu_part.specs.Calls.{FastAnswers}
@@ -13,8 +11,8 @@ use Rattle.mem_system.specs.declared.command.Cmd.{Cmd}
 use Rattle.mem_system.specs.declared.command.Cmd.TheVariants as cmd
 use Rattle.mem_system.specs.declared.command.Reply.{Reply}
 use Rattle.mem_system.specs.declared.command.Reply.TheVariants.{Done}
-use Rattle.mem_system.specs.Boots.{KnownLocked, IsQuiet}
-use Rattle.mem_system.specs.Commands.{holder, IsVisited}
+use Rattle.mem_system.specs.Locked.{BehindLock}
+use Rattle.mem_system.specs.Visits.{holder, IsServed, IsVisited}
 use Rattle.mem_system.specs.Shown.{TellsOf}
 use Rattle.reply_texts.specs.Answer.{Answer}
 use Rattle.reply_texts.specs.Answer as answer
@@ -26,107 +24,91 @@ use Rattle.script_replay.specs.declared.work.Work.{Work}
 use Rattle.script_replay.specs.declared.work.Work.TheVariants.{Visit, Frame, Fast, Release, Get, Put, Settle}
 use Rattle.script_replay.specs.declared.work.Work.TheVariants.{Blocks, Show}
 use Rattle.script_replay.specs.Answers.{CanNotList, FindsNoGroup, GetsFast, GetsNoneFast, GetsPin, ListsAgain, PutsPin}
-use Rattle.script_replay.specs.Lines.{InOrder}
+use Rattle.script_replay.specs.Lines.{AtPart, InOrder}
+use Rattle.script_replay.specs.Terms.{BootTables}
 use Rattle.script_replay.specs.Works.{work_of}
 
--- this is so of some value that lay behind the lock, with no visit open
-pub record BehindLock (table : KnownTable) (stock_table : Words) (is_so : KnownLocked → Type 0) : Type 0 where
-  pub locked : KnownLocked
-  pub quiet : IsQuiet table stock_table locked
-  pub so : is_so locked
+-- the command was served by a visit, and this was its reply
+abbrev pub VisitsCommand : BootTables → Cmd → (before after : KnownCpu) → Reply → Type 0
+VisitsCommand tables command before after reply =
+    IsVisited tables.frames tables.stocks (IsServed tables.frames command reply) before after
 
 -- the command was served by a visit, and its reply is the answer
-abbrev pub RepliesVisited : KnownTable → Words → Cmd → KnownCpu → Answer → KnownCpu → Type 0
-RepliesVisited table stock_table command before (answer.Served reply) after =
-    IsVisited table stock_table command before reply after
-RepliesVisited table stock_table command before other after = ⊥
+abbrev pub RepliesVisited : BootTables → Cmd → (before after : KnownCpu) → Answer → Type 0
+RepliesVisited tables command before after (answer.Served reply) = VisitsCommand tables command before after reply
+RepliesVisited tables command before after other = ⊥
 
 -- Settle: it was served by a visit
-abbrev pub VisitsSettle : KnownTable → Words → KnownCpu → Answer → KnownCpu → Type 0
-VisitsSettle table stock_table before answer.Settled after =
-    IsVisited table stock_table cmd.Settle before Done after
-VisitsSettle table stock_table before other after = ⊥
+abbrev pub VisitsSettle : BootTables → (before after : KnownCpu) → Answer → Type 0
+VisitsSettle tables before after answer.Settled = VisitsCommand tables cmd.Settle before after Done
+VisitsSettle tables before after other = ⊥
 
 -- Fast: what a call answers for this group, and the lock isn't taken
-abbrev pub VisitsFast : ℕ → KnownCpu → Answer → KnownCpu → Type 0
-VisitsFast group before (answer.Fast fast) after = FastAnswers group fast before after
-VisitsFast group before other after = ⊥
+abbrev pub VisitsFast : (group : ℕ) (before after : KnownCpu) → Answer → Type 0
+VisitsFast group before after (answer.Fast fast) = FastAnswers group fast before after
+VisitsFast group before after other = ⊥
 
 -- the frame couldn't be listed again without the lock, and its Release was served by a visit
-pub record ReleasesByVisit (table : KnownTable) (stock_table : Words) (frame : ℕ) (before : KnownCpu) (reply : Reply)
-    (after : KnownCpu) : Type 0 where
+pub record ReleasesByVisit (tables : BootTables) (frame : ℕ) (before after : KnownCpu) (reply : Reply) : Type 0 where
   pub seen : KnownCpu
   pub not_listed : CanNotList frame before seen
-  pub visited : IsVisited table stock_table (cmd.Release frame) seen reply after
+  pub visited : VisitsCommand tables (cmd.Release frame) seen after reply
 
 -- Release: a fresh frame is listed again without the lock, where it can be; else the command is served by a visit
-abbrev pub VisitsRelease : KnownTable → Words → ℕ → KnownCpu → Answer → KnownCpu → Type 0
-VisitsRelease table stock_table frame before answer.Listed after = ListsAgain frame before after
-VisitsRelease table stock_table frame before (answer.Served reply) after =
-    ReleasesByVisit table stock_table frame before reply after
-VisitsRelease table stock_table frame before other after = ⊥
+abbrev pub VisitsRelease : BootTables → (frame : ℕ) (before after : KnownCpu) → Answer → Type 0
+VisitsRelease tables frame before after answer.Listed = ListsAgain frame before after
+VisitsRelease tables frame before after (answer.Served reply) = ReleasesByVisit tables frame before after reply
+VisitsRelease tables frame before after other = ⊥
 
 -- no frame was got without the lock for the group that was found under it, and the Alloc was served by a visit
-pub record AllocatesByVisit (table : KnownTable) (stock_table : Words) (path : Bor (List ℕ)) (before : KnownCpu)
-    (reply : Reply) (after : KnownCpu) : Type 0 where
+pub record AllocatesByVisit (tables : BootTables) (path : Bor (List ℕ)) (before after : KnownCpu) (reply : Reply)
+    : Type 0 where
   pub seen : KnownCpu
-  pub none : BehindLock table stock_table (λ locked. GetsNoneFast path.now (holder locked before) seen)
-  pub visited : IsVisited table stock_table (cmd.Alloc path 0) seen reply after
+  pub none : BehindLock tables.frames tables.stocks (λ locked. GetsNoneFast path.now (holder locked before) seen)
+  pub visited : VisitsCommand tables (cmd.Alloc path 0) seen after reply
 
 -- Alloc of a single frame: the group is found under the lock. Without it the processor gets one of its list, where it
 -- can; else the command is served by a visit of its own, and what lies behind the lock may be another value then
-abbrev pub VisitsFrame : KnownTable → Words → Bor (List ℕ) → KnownCpu → Answer → KnownCpu → Type 0
-VisitsFrame table stock_table path before (answer.Fast (Got frame)) after =
-    BehindLock table stock_table (λ locked. GetsFast path.now frame (holder locked before) after)
-VisitsFrame table stock_table path before (answer.Served reply) after =
-    BehindLock table stock_table (λ locked. FindsNoGroup path.now (holder locked before) reply (holder locked after))
-    ⊎ AllocatesByVisit table stock_table path before reply after
-VisitsFrame table stock_table path before other after = ⊥
+abbrev pub VisitsFrame : BootTables → (path : Bor (List ℕ)) (before after : KnownCpu) → Answer → Type 0
+VisitsFrame tables path before after (answer.Fast (Got frame)) =
+    BehindLock tables.frames tables.stocks (λ locked. GetsFast path.now (holder locked before) after frame)
+VisitsFrame tables path before after (answer.Served reply) =
+    BehindLock tables.frames tables.stocks (λ locked. FindsNoGroup path.now (holder locked before) (holder locked after) reply)
+    ⊎ AllocatesByVisit tables path before after reply
+VisitsFrame tables path before after other = ⊥
 
 -- What is answered where this is done, but where the answer is a text of any length
-abbrev pub AnswersByVisit : KnownTable → Words → Work → KnownCpu → Answer → KnownCpu → Type 0
-AnswersByVisit table stock_table (Visit command) before said after =
-    RepliesVisited table stock_table command before said after
-AnswersByVisit table stock_table (Frame path) before said after = VisitsFrame table stock_table path before said after
-AnswersByVisit table stock_table (Fast group) before said after = VisitsFast group before said after
-AnswersByVisit table stock_table (Release frame) before said after =
-    VisitsRelease table stock_table frame before said after
-AnswersByVisit table stock_table (Get frame) before said after = GetsPin frame before said after
-AnswersByVisit table stock_table (Put frame) before said after = PutsPin frame before said after
-AnswersByVisit table stock_table Settle before said after = VisitsSettle table stock_table before said after
-AnswersByVisit table stock_table Blocks before said after = ⊥
-AnswersByVisit table stock_table Show before said after = ⊥
+abbrev pub AnswersByVisit : BootTables → Work → (before after : KnownCpu) → Answer → Type 0
+AnswersByVisit tables (Visit command) before after said = RepliesVisited tables command before after said
+AnswersByVisit tables (Frame path) before after said = VisitsFrame tables path before after said
+AnswersByVisit tables (Fast group) before after said = VisitsFast group before after said
+AnswersByVisit tables (Release frame) before after said = VisitsRelease tables frame before after said
+AnswersByVisit tables (Get frame) before after said = GetsPin frame before after said
+AnswersByVisit tables (Put frame) before after said = PutsPin frame before after said
+AnswersByVisit tables Settle before after said = VisitsSettle tables before after said
+AnswersByVisit tables Blocks before after said = ⊥
+AnswersByVisit tables Show before after said = ⊥
 
 -- what is answered where this is done, as text: `blocks` and `show` settle the processor, and tell of the machine as it
 -- is then
-abbrev pub VisitsWork : KnownTable → Words → Work → KnownCpu → List ℕ → KnownCpu → Type 0
-VisitsWork table stock_table Blocks before text after =
-    TellsOf table stock_table before after (λ machine. text ≡ blocks_text machine.blocks)
-VisitsWork table stock_table Show before text after =
-    TellsOf table stock_table before after (λ machine. text ≡ show_text machine)
-VisitsWork table stock_table work before text after =
-    (said : Answer) × AnswersByVisit table stock_table work before said after × (text ≡ answer_text said)
+abbrev pub VisitsWork : BootTables → Work → (before after : KnownCpu) (text : List ℕ) → Type 0
+VisitsWork tables Blocks before after text =
+    TellsOf tables.frames tables.stocks before after (λ machine. text ≡ blocks_text machine.blocks)
+VisitsWork tables Show before after text =
+    TellsOf tables.frames tables.stocks before after (λ machine. text ≡ show_text machine)
+VisitsWork tables work before after text =
+    (said : Answer) × AnswersByVisit tables work before after said × (text ≡ answer_text said)
 
 -- what a command is answered at a part, as text, and the part after it
-abbrev pub VisitsText : KnownTable → Words → Command → KnownCpu → List ℕ → KnownCpu → Type 0
-VisitsText table stock_table command before text after =
-    VisitsWork table stock_table (work_of command) before text after
-
--- a command is answered this text at the part of its processor, and the other parts stay
-pub record VisitsPart (table : KnownTable) (stock_table : Words) (before : List KnownCpu) (processor : ℕ)
-    (command : Command) (text : List ℕ) (after : List KnownCpu) : Type 0 where
-  pub part : KnownCpu
-  pub left : KnownCpu
-  pub is_part : slice_get before (processor - 1) ≡ Some part
-  pub answers : VisitsText table stock_table command part text left
-  pub cpus : after ≡ slice_set before (processor - 1) left
+abbrev pub VisitsText : BootTables → Command → (before after : KnownCpu) (text : List ℕ) → Type 0
+VisitsText tables command before after text = VisitsWork tables (work_of command) before after text
 
 -- a line is answered this text; `go` is answered nothing, and does nothing
-abbrev pub VisitsLine : KnownTable → Words → List KnownCpu → Line → List ℕ → List KnownCpu → Type 0
-VisitsLine table stock_table before Go text after = (text ≡ []) × (after ≡ before)
-VisitsLine table stock_table before (At number processor command) text after =
-    VisitsPart table stock_table before processor command text after
+abbrev pub VisitsLine : BootTables → Line → (before after : List KnownCpu) (text : List ℕ) → Type 0
+VisitsLine tables Go before after text = (text ≡ []) × (after ≡ before)
+VisitsLine tables (At number processor command) before after text =
+    AtPart processor (λ part left. VisitsText tables command part left text) before after
 
 -- what lines are answered by visits, one after the other
-abbrev pub VisitsAll : KnownTable → Words → List KnownCpu → List Line → List ℕ → List KnownCpu → Type 0
-VisitsAll table stock_table before lines text after = InOrder (VisitsLine table stock_table) before lines text after
+abbrev pub VisitsAll : BootTables → List Line → (before after : List KnownCpu) (text : List ℕ) → Type 0
+VisitsAll tables lines before after text = InOrder (VisitsLine tables) lines before after text

@@ -1,14 +1,16 @@
 //! One command, answered at a processor by value of what lies behind the lock.
 
 ghost use Rattle.std.specs.Borrow.{Bor};
-ghost use Rattle.std.specs.Prelude.{◌≡◌, ◌<◌, ◌++◌, IfOk, IsTrue, List, Some, ℕ};
+ghost use Rattle.std.specs.Prelude.{◌≡◌, ◌<◌, ◌++◌, IsTrue, List, OnOk, Some, ℕ};
 ghost use Rattle.group_tree.specs.Groups.{has_group, number_at};
 ghost use Rattle.mem_system.specs.declared.command.Cmd.TheVariants.{Alloc};
 ghost use Rattle.std.specs.String.{string_bytes};
-ghost use Rattle.mem_system.specs.Commands.{IsOfZone, holder};
+ghost use Rattle.mem_system.specs.Commands.{IsOfZone};
+ghost use Rattle.mem_system.specs.Visits.{holder};
 ghost use Rattle.script_replay.specs.declared.work.Work.TheVariants.{Frame, Release, Visit};
 ghost use Rattle.script_replay.specs.Answers.{AddsText, AnswersText, AnswersWork, kills_text};
 ghost use Rattle.script_replay.specs.Ranges.{NamesInRange, WorkInRange};
+ghost use Rattle.script_replay.specs.Terms.{terms};
 
 use crate::unlocked_calls::{answer_get, answer_put, try_list};
 use crate::work::{Work, work_of};
@@ -34,8 +36,8 @@ pub(crate) fn answer_text<N: BootName>(
     text: &mut String,
 ) -> Result<(), AllocError>
     requires { NamesInRange N.frames.frames command.now }
-    ensures { AddsText result text.old text.new (λ said. AnswersText N.frames is_explained command.now
-        (holder locked.old cpu.old) said (holder locked.new cpu.new)) }
+    ensures { AddsText result text.old text.new (AnswersText (terms N.frames N.stocks is_explained) command.now
+        (holder locked.old cpu.old) (holder locked.new cpu.new)) }
 {
     let work = work_of(command);
     answer_work(locked, tables, cpu, &work, is_explained, text)
@@ -52,8 +54,8 @@ fn answer_work<N: BootName>(
     text: &mut String,
 ) -> Result<(), AllocError>
     requires { WorkInRange N.frames.frames work.now }
-    ensures { AddsText result text.old text.new (λ said. AnswersWork N.frames is_explained work.now
-        (holder locked.old cpu.old) said (holder locked.new cpu.new)) }
+    ensures { AddsText result text.old text.new (AnswersWork (terms N.frames N.stocks is_explained) work.now
+        (holder locked.old cpu.old) (holder locked.new cpu.new)) }
 {
     match *work {
         Work::Visit(cmd) => serve_command(locked, tables, cpu, &cmd, is_explained, text),
@@ -87,8 +89,8 @@ fn serve_command<N: BootName>(
     text: &mut String,
 ) -> Result<(), AllocError>
     requires { IsOfZone N.frames cmd.now }
-    ensures { AddsText result text.old text.new (λ said. AnswersWork N.frames is_explained (Visit cmd.now)
-        (holder locked.old cpu.old) said (holder locked.new cpu.new)) }
+    ensures { AddsText result text.old text.new (AnswersWork (terms N.frames N.stocks is_explained) (Visit cmd.now)
+        (holder locked.old cpu.old) (holder locked.new cpu.new)) }
 {
     let outcome = carry_out(locked, tables, cpu, cmd);
     write_outcome(locked.charges(), &outcome, text)?;
@@ -107,8 +109,8 @@ fn serve_frame<N: BootName>(
 ) -> Result<(), AllocError>
     requires there { IsTrue (has_group locked.old.machine.ledger.groups group) }
     ensures { (path : Bor (List ℕ)) → number_at locked.old.machine.ledger.groups path.now ≡ Some group
-        → AddsText result text.old text.new (λ said. AnswersWork N.frames is_explained (Visit (Alloc path 0))
-        (holder locked.old cpu.old) said (holder locked.new cpu.new)) }
+        → AddsText result text.old text.new (AnswersWork (terms N.frames N.stocks is_explained) (Visit (Alloc path 0))
+        (holder locked.old cpu.old) (holder locked.new cpu.new)) }
 {
     let outcome = carry_out_frame(locked, tables, cpu, group);
     write_outcome(locked.charges(), &outcome, text)?;
@@ -121,8 +123,8 @@ fn explain<N: BootName>(
     is_explained: bool,
     text: &mut String,
 ) -> Result<(), AllocError>
-    ensures { IfOk result (λ _.
-        string_bytes text.new ≡ string_bytes text.old ++ kills_text is_explained locked.now.machine) }
+    ensures { OnOk result
+        (string_bytes text.new ≡ string_bytes text.old ++ kills_text is_explained locked.now.machine) }
 {
     if !is_explained {
         return Ok(());
@@ -140,8 +142,8 @@ fn answer_frame<N: BootName>(
     is_explained: bool,
     text: &mut String,
 ) -> Result<(), AllocError>
-    ensures { AddsText result text.old text.new (λ said. AnswersWork N.frames is_explained (Frame path.entry)
-        (holder locked.old cpu.old) said (holder locked.new cpu.new)) }
+    ensures { AddsText result text.old text.new (AnswersWork (terms N.frames N.stocks is_explained) (Frame path.entry)
+        (holder locked.old cpu.old) (holder locked.new cpu.new)) }
 {
     let Some(group) = locked.find(path) else {
         return write_refusal(&Fault::NoGroup, text);
@@ -162,8 +164,8 @@ fn answer_release<N: BootName>(
     text: &mut String,
 ) -> Result<(), AllocError>
     requires { number < N.frames.frames }
-    ensures { AddsText result text.old text.new (λ said. AnswersWork N.frames is_explained (Release number)
-        (holder locked.old cpu.old) said (holder locked.new cpu.new)) }
+    ensures { AddsText result text.old text.new (AnswersWork (terms N.frames N.stocks is_explained) (Release number)
+        (holder locked.old cpu.old) (holder locked.new cpu.new)) }
 {
     if try_list(tables, cpu, number) {
         return write_listed(text);

@@ -32,7 +32,7 @@ pub(crate) fn answer_get<N: BootName>(
     text: &mut String,
 ) -> Result<(), AllocError>
     requires { number < N.frames.frames }
-    ensures { AddsAnswer result text.old text.new (λ answer. GetsPin number cpu.old answer cpu.new) }
+    ensures { AddsAnswer result text.old text.new (GetsPin number cpu.old cpu.new) }
 {
     let frame = tables.frames.frame(number).unwrap();
     match cpu.get(tables, frame) {
@@ -49,7 +49,7 @@ pub(crate) fn answer_put<N: BootName>(
     text: &mut String,
 ) -> Result<(), AllocError>
     requires { number < N.frames.frames }
-    ensures { AddsAnswer result text.old text.new (λ answer. PutsPin number cpu.old answer cpu.new) }
+    ensures { AddsAnswer result text.old text.new (PutsPin number cpu.old cpu.new) }
 {
     let frame = tables.frames.frame(number).unwrap();
     if !cpu.holds(frame) {

@@ -3,11 +3,12 @@
 ghost use Rattle.std.specs.Prelude.{◌≡◌, [], All, length};
 ghost use Rattle.stock_word.specs.declared.view.Stock.TheVariants.{NoGroup};
 ghost use Rattle.cpu_part.specs.Cpus.{IsTied};
-ghost use Rattle.mem_system.specs.Commands.{holder};
+ghost use Rattle.mem_system.specs.Visits.{holder};
 ghost use Rattle.script_replay.specs.Answers.{AddsText, AnswersText};
-ghost use Rattle.script_replay.specs.History.{GoesWell, IsWell, ReplaysOrStops};
+ghost use Rattle.script_replay.specs.History.{HoldsInvariants, ReplaysOrStops, ServesAndKeeps};
 ghost use Rattle.script_replay.specs.Lines.{standing};
 ghost use Rattle.script_replay.specs.Ranges.{LineIsThere, NamesInRange};
+ghost use Rattle.script_replay.specs.Terms.{terms};
 
 use crate::command_answers::answer_text;
 use cpu_part::{BootName, Cpu, Tables};
@@ -28,8 +29,8 @@ pub fn replay<N: BootName>(
     is_explained: bool,
 ) -> Result<Vec<u8>, AllocError>
     requires { All (LineIsThere N.frames.frames (length cpus.old)) lines.now }
-    ensures { ReplaysOrStops N.frames N.stocks is_explained (standing locked.old cpus.old) lines.now result
-        (standing locked.new cpus.new) }
+    ensures { ReplaysOrStops (terms N.frames N.stocks is_explained) lines.now
+        (standing locked.old cpus.old) (standing locked.new cpus.new) result }
 {
     let mut answers = String::new(alloc);
     for line in lines {
@@ -48,12 +49,12 @@ fn serve_line<N: BootName>(
     answers: &mut String,
 ) -> Result<(), AllocError>
     requires { LineIsThere N.frames.frames (length cpus.old) line.now }
-    ensures { AddsText result answers.old answers.new (λ text. GoesWell N.frames N.stocks is_explained
-        (standing locked.old cpus.old) line.now text (standing locked.new cpus.new)) }
+    ensures { AddsText result answers.old answers.new (ServesAndKeeps (terms N.frames N.stocks is_explained) line.now
+        (standing locked.old cpus.old) (standing locked.new cpus.new)) }
 {
     match line {
         Line::Go => {
-            see_well(locked);
+            see_invariants(locked);
             Ok(())
         }
         Line::At {
@@ -84,22 +85,23 @@ fn serve_part<N: BootName>(
     answers: &mut String,
 ) -> Result<(), AllocError>
     requires { NamesInRange N.frames.frames command.now }
-    ensures answered { AddsText result answers.old answers.new (λ said. AnswersText N.frames is_explained command.now
-        (holder locked.old cpu.old) said (holder locked.new cpu.new)) }
-    ensures well { IsWell N.frames N.stocks locked.new }
+    ensures answered { AddsText result answers.old answers.new
+        (AnswersText (terms N.frames N.stocks is_explained) command.now
+        (holder locked.old cpu.old) (holder locked.new cpu.new)) }
+    ensures invariants { HoldsInvariants N.frames N.stocks locked.new }
     ensures tied { IsTied N.frames N.stocks cpu.new }
     ensures none_fresh { cpu.new.stock.view.last ≡ NoGroup → cpu.new.fresh ≡ [] }
 {
     let served = answer_text(locked, tables, cpu, command, is_explained, answers);
     let _number = cpu.number(); // For the clauses.
     let _last = cpu.last_stock(); // For the clauses.
-    see_well(locked);
+    see_invariants(locked);
     served
 }
 
 // Shows what always holds behind the lock. It does nothing.
-fn see_well<N: BootName>(locked: &Locked<N>)
-    ensures { IsWell N.frames N.stocks locked.now }
+fn see_invariants<N: BootName>(locked: &Locked<N>)
+    ensures { HoldsInvariants N.frames N.stocks locked.now }
 {
     locked.see_quiet();
     let _tree = locked.charges().tree(); // For the clauses.

@@ -5,6 +5,7 @@ ghost use Rattle.mem_system.specs.Commands.{IsOfZone};
 ghost use Rattle.script_replay.specs.Answers.{AddsAnswer, AddsText};
 ghost use Rattle.script_replay.specs.declared.work.Work.TheVariants.{Blocks, Show};
 ghost use Rattle.script_replay.specs.Ranges.{NamesInRange, WorkInRange};
+ghost use Rattle.script_replay.specs.Terms.{boot_tables};
 ghost use Rattle.script_replay.specs.Visits.{RepliesVisited, VisitsFrame, VisitsRelease, VisitsSettle, VisitsText};
 ghost use Rattle.script_replay.specs.Visits.{VisitsWork};
 
@@ -42,8 +43,8 @@ pub fn visit_line<N: BootName, R: Wait, G: Gate>(
     text: &mut String,
 ) -> Result<(), AllocError>
     requires { NamesInRange N.frames.frames command.now }
-    ensures { AddsText result text.old text.new (λ said.
-        VisitsText N.frames N.stocks command.now cpu.old said cpu.new) }
+    ensures { AddsText result text.old text.new
+        (VisitsText (boot_tables N.frames N.stocks) command.now cpu.old cpu.new) }
 {
     let number = cpu.number();
     let visitor = Visitor {
@@ -68,8 +69,8 @@ pub(crate) fn visit_text<N: BootName, R: Wait, G: Gate>(
     text: &mut String,
 ) -> Result<(), AllocError>
     requires { NamesInRange N.frames.frames command.now }
-    ensures { AddsText result text.old text.new (λ said.
-        VisitsText N.frames N.stocks command.now cpu.old said cpu.new) }
+    ensures { AddsText result text.old text.new
+        (VisitsText (boot_tables N.frames N.stocks) command.now cpu.old cpu.new) }
 {
     let work = work_of(command);
     visit_work(visitor, cpu, &work, text)
@@ -83,7 +84,8 @@ fn visit_work<N: BootName, R: Wait, G: Gate>(
     text: &mut String,
 ) -> Result<(), AllocError>
     requires { WorkInRange N.frames.frames work.now }
-    ensures { AddsText result text.old text.new (λ said. VisitsWork N.frames N.stocks work.now cpu.old said cpu.new) }
+    ensures { AddsText result text.old text.new
+        (VisitsWork (boot_tables N.frames N.stocks) work.now cpu.old cpu.new) }
 {
     let tables = visitor.system.tables();
     match *work {
@@ -107,8 +109,8 @@ fn visit_and_reply<N: BootName, R: Wait, G: Gate>(
     text: &mut String,
 ) -> Result<(), AllocError>
     requires { IsOfZone N.frames cmd.now }
-    ensures { AddsAnswer result text.old text.new (λ answer.
-        RepliesVisited N.frames N.stocks cmd.now cpu.old answer cpu.new) }
+    ensures { AddsAnswer result text.old text.new
+        (RepliesVisited (boot_tables N.frames N.stocks) cmd.now cpu.old cpu.new) }
 {
     let mut reply = Reply::Done;
     visitor
@@ -123,7 +125,7 @@ fn visit_settle<N: BootName, R: Wait, G: Gate>(
     cpu: &mut Cpu<N>,
     text: &mut String,
 ) -> Result<(), AllocError>
-    ensures { AddsAnswer result text.old text.new (λ answer. VisitsSettle N.frames N.stocks cpu.old answer cpu.new) }
+    ensures { AddsAnswer result text.old text.new (VisitsSettle (boot_tables N.frames N.stocks) cpu.old cpu.new) }
 {
     let _done = visitor
         .system
@@ -138,8 +140,8 @@ fn visit_frame<N: BootName, R: Wait, G: Gate>(
     path: &[u8],
     text: &mut String,
 ) -> Result<(), AllocError>
-    ensures { AddsAnswer result text.old text.new (λ answer.
-        VisitsFrame N.frames N.stocks path.entry cpu.old answer cpu.new) }
+    ensures { AddsAnswer result text.old text.new
+        (VisitsFrame (boot_tables N.frames N.stocks) path.entry cpu.old cpu.new) }
 {
     let Some(group) = visitor.system.find(visitor.rt, path) else {
         return write_refusal(&Fault::NoGroup, text);
@@ -158,8 +160,8 @@ fn visit_release<N: BootName, R: Wait, G: Gate>(
     text: &mut String,
 ) -> Result<(), AllocError>
     requires { number < N.frames.frames }
-    ensures { AddsAnswer result text.old text.new (λ answer.
-        VisitsRelease N.frames N.stocks number cpu.old answer cpu.new) }
+    ensures { AddsAnswer result text.old text.new
+        (VisitsRelease (boot_tables N.frames N.stocks) number cpu.old cpu.new) }
 {
     if try_list(visitor.system.tables(), cpu, number) {
         return write_listed(text);
@@ -173,7 +175,7 @@ fn visit_blocks<N: BootName, R: Wait, G: Gate>(
     cpu: &mut Cpu<N>,
     text: &mut String,
 ) -> Result<(), AllocError>
-    ensures { AddsText result text.old text.new (λ said. VisitsWork N.frames N.stocks Blocks cpu.old said cpu.new) }
+    ensures { AddsText result text.old text.new (VisitsWork (boot_tables N.frames N.stocks) Blocks cpu.old cpu.new) }
 {
     let told = visitor.system.blocks(visitor.rt, visitor.alloc, cpu)?;
     text.push_str(told.as_str())
@@ -185,7 +187,7 @@ fn visit_show<N: BootName, R: Wait, G: Gate>(
     cpu: &mut Cpu<N>,
     text: &mut String,
 ) -> Result<(), AllocError>
-    ensures { AddsText result text.old text.new (λ said. VisitsWork N.frames N.stocks Show cpu.old said cpu.new) }
+    ensures { AddsText result text.old text.new (VisitsWork (boot_tables N.frames N.stocks) Show cpu.old cpu.new) }
 {
     let told = visitor.system.show(visitor.rt, visitor.alloc, cpu)?;
     text.push_str(told.as_str())

@@ -1,10 +1,11 @@
 //! Lines, served one after the other by visits: each command takes the zone's lock by itself.
 
-ghost use Rattle.std.specs.Prelude.{◌≡◌, All, IfErr, IfOk, length};
+ghost use Rattle.std.specs.Prelude.{◌≡◌, All, IfOk, OnErr, length};
 ghost use Rattle.mem_system.specs.Commands.{IsOfZone};
 ghost use Rattle.script_replay.specs.Answers.{AddsText};
 ghost use Rattle.script_replay.specs.Lines.{StopsAt};
 ghost use Rattle.script_replay.specs.Ranges.{LineIsThere};
+ghost use Rattle.script_replay.specs.Terms.{boot_tables};
 ghost use Rattle.script_replay.specs.Visits.{VisitsAll, VisitsLine};
 
 use crate::visit_answers::{Visitor, visit_text};
@@ -27,9 +28,10 @@ pub fn replay_by_visits<N: BootName, R: Wait>(
     lines: &[Line<'_>],
 ) -> Result<Vec<u8>, AllocError>
     requires { All (LineIsThere N.frames.frames (length cpus.old)) lines.now }
-    ensures answers { IfOk result (λ answers. VisitsAll N.frames N.stocks cpus.old lines.now answers.items cpus.new) }
-    ensures stopped { IfErr result (λ _. StopsAt lines.now (λ served text.
-        VisitsAll N.frames N.stocks cpus.old served text cpus.new)) }
+    ensures answers { IfOk result (λ answers.
+        VisitsAll (boot_tables N.frames N.stocks) lines.now cpus.old cpus.new answers.items) }
+    ensures stopped { OnErr result
+        (StopsAt (VisitsAll (boot_tables N.frames N.stocks)) lines.now cpus.old cpus.new) }
 {
     let mut answers = String::new(alloc);
     for line in lines {
@@ -48,8 +50,8 @@ fn serve_by_visit<N: BootName, R: Wait>(
     answers: &mut String,
 ) -> Result<(), AllocError>
     requires { LineIsThere N.frames.frames (length cpus.old) line.now }
-    ensures { AddsText result answers.old answers.new (λ text.
-        VisitsLine N.frames N.stocks cpus.old line.now text cpus.new) }
+    ensures { AddsText result answers.old answers.new
+        (VisitsLine (boot_tables N.frames N.stocks) line.now cpus.old cpus.new) }
 {
     match line {
         Line::Go => Ok(()),

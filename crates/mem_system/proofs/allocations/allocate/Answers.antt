@@ -3,7 +3,7 @@ use Rattle.group_tree.specs.Groups.{number_at}
 use Rattle.mem_system.specs.Allocs.{Allocates, FreshOf, outcome_of}
 use Rattle.mem_system.specs.Outcomes.{reply_of}
 use Rattle.mem_system.proofs.Found.{found_there}
-use Rattle.mem_system.proofs.Allocating.{allocated, has_groups, fresh_then}
+use Rattle.mem_system.proofs.Allocating.{allocated, has_groups}
 use Rattle.mem_machine.specs.Local.{side}
 use Rattle.mem_system.specs.Commands.{BySteps, course}
 use Rattle.mem_system.proofs.allocations.allocate.Goals as goal
@@ -38,7 +38,7 @@ returns-clause-fresh g c =
     let same : c.in-Some-of.order ≡ c.args.order = search rules in
     let l = c.allocate_as-answer.new.machine.ledger in
     rw c.outcome_of.ensures (subst (λ (k : ℕ). FreshOf (reply_of l (outcome_of c.allocate_as-answer.result)) k c.allocate_as-answer.new.cpu.fresh) same
-    (fresh_then l c.in-Some-of.order c.allocate_as-answer.result _ c.allocate_as-answer.ensures.fresh))
+    c.allocate_as-answer.ensures.fresh)
 
 pub returns-in_default-of-clause-allocates : goal.returns-in_default-of-clause-allocates
 returns-in_default-of-clause-allocates g c = search rules

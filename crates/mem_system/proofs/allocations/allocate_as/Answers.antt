@@ -1,4 +1,4 @@
-use Rattle.std.proofs.Common.{ℕ, subst}
+use Rattle.std.proofs.Common.{◌≡◌, ◌≢◌, ℕ, subst, rules}
 use Rattle.std.specs.Prelude.{Result}
 use Rattle.mem_alloc.specs.declared.faults.AllocFault.{AllocFault}
 use Rattle.mem_alloc.specs.Frames.{AllocatesFrame}
@@ -6,6 +6,7 @@ use Rattle.mem_alloc.specs.Blocks.{AllocatesBlock}
 use Rattle.mem_alloc.proofs.CallerLemmas.{frame_over_there, block_over_there}
 use Rattle.mem_machine.specs.Local.{side}
 use Rattle.mem_system.specs.Commands.{course}
+use Rattle.mem_system.proofs.Allocating.{frame_fresh, block_fresh}
 use Rattle.mem_system.proofs.allocations.allocate_as.Goals as goal
 
 pub returns-then-exponent-eq0-clause-there : goal.returns-then-exponent-eq0-clause-there
@@ -23,3 +24,13 @@ returns-else-exponent-eq0-clause-there g c =
     λ h is. block_over_there t c.args.group c.args.order h _ _ _ _ told.0
     (subst (λ (r : Result ℕ AllocFault). AllocatesBlock c.args.group c.args.order r
     (course t (side c.args.machine.now c.args.cpu.now) told.0 (side c.alloc_block.new.machine c.alloc_block.new.cpu))) is told.1)
+
+pub returns-then-exponent-eq0-clause-fresh : goal.returns-then-exponent-eq0-clause-fresh
+returns-then-exponent-eq0-clause-fresh g c =
+    let single : c.args.order ≡ 0 = search rules in
+    frame_fresh c.alloc_frame.new.machine.ledger c.args.order c.alloc_frame.result c.alloc_frame.new.cpu.fresh single c.alloc_frame.ensures.fresh
+
+pub returns-else-exponent-eq0-clause-fresh : goal.returns-else-exponent-eq0-clause-fresh
+returns-else-exponent-eq0-clause-fresh g c =
+    let block : c.args.order ≢ 0 = search rules in
+    block_fresh c.alloc_block.new.machine.ledger c.args.order c.alloc_block.result c.alloc_block.new.cpu.fresh block c.alloc_block.ensures.fresh

@@ -2,7 +2,7 @@ use Rattle.std.proofs.Common.{ℕ, ap, sym, ◌∙◌, subst}
 use Rattle.cpu_part.specs.Cpus.{KnownCpu, IsTied}
 use Rattle.stock_word.specs.Stock.{account_of}
 use Rattle.mem_machine.specs.Machines.{KnownMachine}
-use Rattle.mem_system.specs.Commands.{with_visit_of}
+use Rattle.mem_system.specs.Visits.{with_visit_of}
 use Rattle.mem_system.proofs.Listing.{cut_off}
 use Rattle.mem_system.proofs.Visiting.{all_shut}
 use Rattle.mem_system.proofs.Turns.{whole_list, taken_alone, emptied_alone, emptied_drained, emptied}

@@ -1,7 +1,7 @@
 use Rattle.std.proofs.Common.{ℕ, ap, ◌∙◌}
 use Rattle.cpu_part.specs.Cpus.{KnownCpu}
 use Rattle.mem_machine.specs.Machines.{KnownMachine}
-use Rattle.mem_system.specs.Commands.{with_visit_of}
+use Rattle.mem_system.specs.Visits.{with_visit_of}
 use Rattle.mem_system.proofs.Visiting.{all_shut, settled_opened}
 use Rattle.mem_system.proofs.Turns.{rested}
 use Rattle.mem_system.proofs.last_visits.settle_cpu.Goals as goal

@@ -52,7 +52,7 @@ pub returns-else-list_len-sizes-clause-cuts : goal.returns-else-list_len-sizes-c
 returns-else-list_len-sizes-clause-cuts g c =
     let below : length c.args.cpu.now.list < c.args.sizes.high = omega (arith, c.list_len.ensures.count) in (
       [],
-      record { cut = []; at_high = λ stands. absurd (omega (arith, stands, below)); below_high = λ _. refl; takes = (refl, refl); steps_are = refl },
+      record { cut = []; at_high = λ stands. absurd (omega (arith, stands, below)); below_high = λ _. refl; takes = record { machine = refl; cpu = refl }; steps_are = refl },
       makes_none g.N.BootName.frames c.args.cpu.now.number (side c.args.machine.now c.args.cpu.now),
     )
 

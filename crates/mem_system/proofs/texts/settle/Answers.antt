@@ -7,5 +7,5 @@ returns-clause-served g c = search rules
 pub returns-clause-settled : goal.returns-clause-settled
 returns-clause-settled g c = search rules
 
-pub returns-clause-at_most_high : goal.returns-clause-at_most_high
-returns-clause-at_most_high g c = search rules
+pub returns-clause-ends : goal.returns-clause-ends
+returns-clause-ends g c = search rules

@@ -4,9 +4,10 @@ use Rattle.cpu_part.specs.Cpus.{KnownCpu}
 use Rattle.mem_machine.specs.Machines.{KnownMachine}
 use Rattle.mem_machine.specs.Local.{MakesAs, side}
 use Rattle.mem_machine.specs.Steps.{open_steps}
-use Rattle.mem_system.specs.Boots.{KnownLocked}
+use Rattle.mem_system.specs.Locked.{KnownLocked}
 use Rattle.mem_system.specs.Outcomes.{HasItsGroups, reply_of}
-use Rattle.mem_system.specs.Commands.{FreshAfter, with_visit_of, holder, IsServed}
+use Rattle.mem_system.specs.Commands.{FreshAfter}
+use Rattle.mem_system.specs.Visits.{with_visit_of, holder, IsServed}
 use Rattle.mem_system.proofs.Visiting.{all_shut, settled_opened, served}
 use Rattle.mem_system.proofs.visits.carry_out.Goals as goal
 
@@ -24,6 +25,7 @@ invariant_of-locked g c =
         sized = quiet.sized;
       },
       c.locked.invariant.1,
+      c.locked.invariant.2,
     )
 
 pub returns : goal.returns
@@ -37,7 +39,7 @@ returns g c =
     let told : reply_of k.machine.ledger c.obey-outcome.result ≡ reply = ap (λ (l : Ledger). reply_of l c.obey-outcome.result) kept in
     rw told record {
       groups = subst (λ (l : Ledger). HasItsGroups l c.obey-outcome.result) (sym kept) c.obey-outcome.ensures.groups;
-      served = subst (λ (l : KnownLocked). IsServed t c.args.cmd.now (holder l c.args.cpu.now) reply (holder k c.shut.new.cpu)) c.locked.view_is
+      served = subst (λ (l : KnownLocked). IsServed t c.args.cmd.now reply (holder l c.args.cpu.now) (holder k c.shut.new.cpu)) c.locked.view_is
           (served t c.args.cmd.now (record { machine = c.locked.inside.machine; sizes = c.locked.inside.sizes }) k c.args.cpu.now c.shut.new.cpu
           reply c.open.new.self c.settle.new.self c.obey-outcome.new.machine c.open.new.cpu c.settle.new.cpu c.obey-outcome.new.cpu
           (c.open.ensures.machine ∙ ap (λ (y : KnownMachine). with_visit_of y c.args.cpu.now.number 1) c.forget_notes.ensures)
@@ -50,12 +52,14 @@ returns g c =
         subst (λ (y : KnownCpu). FreshAfter c.args.cmd.now reply y.fresh) (sym same) c.obey-outcome.ensures.fresh,
         ap (λ (y : KnownCpu). y.back) same ∙ c.obey-outcome.ensures.stays.back ∙ c.settle.ensures.none_back,
       );
-      at_most_high = subst (λ (l : KnownLocked). length c.args.cpu.now.list ≤ l.sizes.high
-          → length c.shut.new.cpu.list + length c.shut.new.cpu.fresh ≤ l.sizes.high)
-          c.locked.view_is
-          (λ within. subst (λ (y : KnownCpu). length y.list + length y.fresh ≤ c.locked.inside.sizes.high) (sym same) (c.obey-outcome.ensures.at_most_high
-          (subst (λ (l : List ℕ). length l ≤ c.locked.inside.sizes.high)
-          (sym (c.settle.ensures.others.list ∙ ap (λ (y : KnownCpu). y.list) c.open.ensures.cpu)) within)));
-      still = c.shut.ensures.still;
-      lent = c.shut.ensures.lent;
+      ends = record {
+        at_most_high = subst (λ (l : KnownLocked). length c.args.cpu.now.list ≤ l.sizes.high
+            → length c.shut.new.cpu.list + length c.shut.new.cpu.fresh ≤ l.sizes.high)
+            c.locked.view_is
+            (λ within. subst (λ (y : KnownCpu). length y.list + length y.fresh ≤ c.locked.inside.sizes.high) (sym same) (c.obey-outcome.ensures.at_most_high
+            (subst (λ (l : List ℕ). length l ≤ c.locked.inside.sizes.high)
+            (sym (c.settle.ensures.others.list ∙ ap (λ (y : KnownCpu). y.list) c.open.ensures.cpu)) within)));
+        still = c.shut.ensures.still;
+        lent = c.shut.ensures.lent;
+      };
     }

@@ -10,7 +10,5 @@ returns g c =
     rw told record {
       served = c.carry_out-outcome.ensures.served;
       settled = c.carry_out-outcome.ensures.settled;
-      at_most_high = c.carry_out-outcome.ensures.at_most_high;
-      still = c.carry_out-outcome.ensures.still;
-      lent = c.carry_out-outcome.ensures.lent;
+      ends = c.carry_out-outcome.ensures.ends;
     }

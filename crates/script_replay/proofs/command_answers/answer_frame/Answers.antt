@@ -5,20 +5,20 @@ use Rattle.cpu_part.specs.Calls.{FastAnswers}
 use Rattle.group_tree.specs.declared.fault.Fault.TheVariants.{NoGroup}
 use Rattle.mem_system.specs.declared.command.Cmd.TheVariants as cmd
 use Rattle.mem_system.specs.declared.command.Reply.TheVariants.{Refused}
-use Rattle.reply_texts.specs.Answer.{Answer, Served}
+use Rattle.reply_texts.specs.Answer.{Served}
 use Rattle.reply_texts.specs.Answer as answer
 use Rattle.script_replay.specs.Answers.{AnswersFrame, GetsNoneFast, RepliesServed, frame_kills, kills_text}
 use Rattle.mem_system.proofs.Found.{found_there}
 use Rattle.script_replay.proofs.Fronts.{served_after, served_kills}
 use Rattle.script_replay.proofs.Telling.{kills_as, told_alone}
-use Rattle.mem_system.specs.Commands.{holder}
+use Rattle.mem_system.specs.Visits.{holder}
 use Rattle.script_replay.proofs.command_answers.answer_frame.Goals as goal
 
 pub returns-in_default : goal.returns-in_default
 returns-in_default g c =
     let same = holder c.args.locked.now c.args.cpu.now in
-    told_alone (λ (said : Answer). AnswersFrame g.N.BootName.frames c.args.path same said same)
-    (λ said so. frame_kills c.args.is_explained g.N.BootName.frames c.args.path same said same so) (Served (Refused NoGroup)) (string_bytes c.args.text.now)
+    told_alone (AnswersFrame g.N.BootName.frames c.args.path same same)
+    (λ said so. frame_kills c.args.is_explained g.N.BootName.frames c.args.path same same said so) (Served (Refused NoGroup)) (string_bytes c.args.text.now)
     (string_bytes c.write_refusal.new.text) c.write_refusal.result (inl (record {
       none = sym c.in_default.ensures.found;
       refused = refl;
@@ -34,8 +34,8 @@ pub returns-in-Got : goal.returns-in-Got
 returns-in-Got g c =
     let before = holder c.args.locked.now c.args.cpu.now in
     let after = holder c.args.locked.now c.alloc_fast.new.self in
-    told_alone (λ (said : Answer). AnswersFrame g.N.BootName.frames c.args.path before said after)
-    (λ said so. frame_kills c.args.is_explained g.N.BootName.frames c.args.path before said after so) (answer.Fast (Got c.in-Got.frame)) (string_bytes c.args.text.now)
+    told_alone (AnswersFrame g.N.BootName.frames c.args.path before after)
+    (λ said so. frame_kills c.args.is_explained g.N.BootName.frames c.args.path before after said so) (answer.Fast (Got c.in-Got.frame)) (string_bytes c.args.text.now)
     (string_bytes c.write_fast.new.text) c.write_fast.result (
       record {
         group = c.in-Some.group;
@@ -59,11 +59,11 @@ returns-in_default-alloc_fast g c =
       answers = subst (λ (g : ℕ). FastAnswers g c.alloc_fast.result c.args.cpu.now c.alloc_fast.new.self) c.number.ensures.value c.alloc_fast.ensures.answer;
       none = c.in_default-alloc_fast.not-Got;
     } in
-    kills_as (λ (said : Answer). RepliesServed t (cmd.Alloc path 0) (holder l seen) said (holder after.locked after.cpu))
-    (λ (said : Answer). AnswersFrame t path (holder l c.args.cpu.now) said (holder after.locked after.cpu))
+    kills_as (RepliesServed t (cmd.Alloc path 0) (holder l seen) (holder after.locked after.cpu))
+    (AnswersFrame t path (holder l c.args.cpu.now) (holder after.locked after.cpu))
     (λ said so. kills_text c.args.is_explained after.locked.machine)
-    (λ said so. frame_kills c.args.is_explained t path (holder l c.args.cpu.now) said (holder after.locked after.cpu) so)
+    (λ said so. frame_kills c.args.is_explained t path (holder l c.args.cpu.now) (holder after.locked after.cpu) said so)
     (string_bytes c.args.text.now) (string_bytes after.text) c.serve_frame.result
-    (λ said so. served_after t path l c.args.cpu.now seen said after.locked after.cpu none so)
-    (λ said so. served_kills c.args.is_explained t path l c.args.cpu.now seen said after.locked after.cpu none so)
+    (λ said so. served_after t path l c.args.cpu.now seen after.locked after.cpu said none so)
+    (λ said so. served_kills c.args.is_explained t path l c.args.cpu.now seen after.locked after.cpu said none so)
     (c.serve_frame.ensures path (sym c.in-Some.ensures.found))

@@ -2,8 +2,8 @@ use Rattle.std.proofs.Common.{◌++◌, ap, rules, ◌∙◌}
 use Rattle.std.specs.String.{string_bytes}
 use Rattle.group_charge.specs.Charges.{Ledger}
 use Rattle.mem_system.specs.Outcomes.{reply_of}
-use Rattle.mem_system.specs.Commands.{holder}
-use Rattle.reply_texts.specs.Answer.{Answer, Served}
+use Rattle.mem_system.specs.Visits.{holder}
+use Rattle.reply_texts.specs.Answer.{Served}
 use Rattle.reply_texts.specs.Replies.{reply_text}
 use Rattle.script_replay.specs.Answers.{RepliesServed, kills_text}
 use Rattle.mem_system.specs.declared.command.Cmd.TheVariants.{Alloc}
@@ -13,7 +13,7 @@ use Rattle.script_replay.proofs.command_answers.serve_frame.Goals as goal
 pub returns-in_err-write_outcome : goal.returns-in_err-write_outcome
 returns-in_err-write_outcome g c path at =
     let after = c.carry_out_frame-outcome.new in
-    told_kills (λ (said : Answer). RepliesServed g.N.BootName.frames (Alloc path 0) (holder c.args.locked.now c.args.cpu.now) said (holder after.locked after.cpu))
+    told_kills (RepliesServed g.N.BootName.frames (Alloc path 0) (holder c.args.locked.now c.args.cpu.now) (holder after.locked after.cpu))
     (λ said so. kills_text c.args.is_explained after.locked.machine) (Served (reply_of after.locked.machine.ledger c.carry_out_frame-outcome.result))
     (string_bytes c.args.text.now) (string_bytes c.write_outcome.new.text) _ (c.carry_out_frame-outcome.ensures.served path at) (search rules)
 
@@ -21,7 +21,7 @@ pub returns : goal.returns
 returns g c path at =
     let after = c.carry_out_frame-outcome.new in
     let outcome = c.carry_out_frame-outcome.result in
-    told_kills (λ (said : Answer). RepliesServed g.N.BootName.frames (Alloc path 0) (holder c.args.locked.now c.args.cpu.now) said (holder after.locked after.cpu))
+    told_kills (RepliesServed g.N.BootName.frames (Alloc path 0) (holder c.args.locked.now c.args.cpu.now) (holder after.locked after.cpu))
     (λ said so. kills_text c.args.is_explained after.locked.machine) (Served (reply_of after.locked.machine.ledger outcome))
     (string_bytes c.args.text.now) (string_bytes c.explain.new.text) c.explain.result (c.carry_out_frame-outcome.ensures.served path at)
     (behind c.explain.result (string_bytes c.args.text.now) (string_bytes c.write_outcome.new.text) (string_bytes c.explain.new.text)

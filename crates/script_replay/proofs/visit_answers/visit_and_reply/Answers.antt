@@ -1,11 +1,12 @@
 use Rattle.std.specs.String.{string_bytes}
-use Rattle.reply_texts.specs.Answer.{Answer, Served}
+use Rattle.reply_texts.specs.Answer.{Served}
+use Rattle.script_replay.specs.Terms.{boot_tables}
 use Rattle.script_replay.specs.Visits.{RepliesVisited}
 use Rattle.script_replay.proofs.Telling.{told}
 use Rattle.script_replay.proofs.visit_answers.visit_and_reply.Goals as goal
 
 pub returns : goal.returns
 returns g c =
-    told (λ (said : Answer). RepliesVisited g.N.BootName.frames g.N.BootName.stocks c.args.cmd.now c.args.cpu.now said c.visit_into.new.cpu)
+    told (RepliesVisited (boot_tables g.N.BootName.frames g.N.BootName.stocks) c.args.cmd.now c.args.cpu.now c.visit_into.new.cpu)
     (Served c.visit_into.new.reply) (string_bytes c.args.text.now) (string_bytes c.write_reply.new.text) c.write_reply.result
     c.visit_into.ensures.served c.write_reply.ensures

@@ -1,7 +1,8 @@
-use Rattle.std.proofs.Common.{List, ℕ, refl, rules}
+use Rattle.std.proofs.Common.{refl, rules}
 use Rattle.std.specs.String.{string_bytes}
 use Rattle.machine_texts.specs.Blocks.{blocks_text}
 use Rattle.script_replay.specs.declared.work.Work.TheVariants.{Blocks}
+use Rattle.script_replay.specs.Terms.{boot_tables}
 use Rattle.script_replay.specs.Visits.{VisitsWork}
 use Rattle.script_replay.proofs.Visiting.{said_as}
 use Rattle.script_replay.proofs.visit_answers.visit_blocks.Goals as goal
@@ -24,7 +25,7 @@ returns-in_err-told g c =
 pub returns : goal.returns
 returns g c =
     let told = c.in_ok-told.ensures.told in
-    said_as (λ (said : List ℕ). VisitsWork g.N.BootName.frames g.N.BootName.stocks Blocks c.args.cpu.now said c.blocks-2.new.cpu)
+    said_as (VisitsWork (boot_tables g.N.BootName.frames g.N.BootName.stocks) Blocks c.args.cpu.now c.blocks-2.new.cpu)
     (string_bytes c.in_ok-told.told) (string_bytes c.args.text.now) (string_bytes c.push_str.new.self) c.push_str.result
     (record {
       found = told.found;

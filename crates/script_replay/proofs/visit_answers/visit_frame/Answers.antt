@@ -5,8 +5,9 @@ use Rattle.cpu_part.specs.Calls.{FastAnswers}
 use Rattle.group_tree.specs.declared.fault.Fault.TheVariants.{NoGroup}
 use Rattle.mem_system.specs.declared.command.Cmd.TheVariants as cmd
 use Rattle.mem_system.specs.declared.command.Reply.TheVariants.{Refused}
-use Rattle.reply_texts.specs.Answer.{Answer, Served}
+use Rattle.reply_texts.specs.Answer.{Served}
 use Rattle.reply_texts.specs.Answer as answer
+use Rattle.script_replay.specs.Terms.{boot_tables}
 use Rattle.script_replay.specs.Visits.{RepliesVisited, VisitsFrame}
 use Rattle.script_replay.proofs.Telling.{told, told_as}
 use Rattle.script_replay.proofs.Visiting.{visited_after}
@@ -15,24 +16,24 @@ use Rattle.script_replay.proofs.visit_answers.visit_frame.Goals as goal
 pub returns-in_default : goal.returns-in_default
 returns-in_default g c =
     let found = c.in_default.ensures in
-    told (λ (said : Answer). VisitsFrame g.N.BootName.frames g.N.BootName.stocks c.args.path c.args.cpu.now said c.args.cpu.now) (Served (Refused NoGroup))
+    told (VisitsFrame (boot_tables g.N.BootName.frames g.N.BootName.stocks) c.args.path c.args.cpu.now c.args.cpu.now) (Served (Refused NoGroup))
     (string_bytes c.args.text.now) (string_bytes c.write_refusal.new.text) c.write_refusal.result
     (inl (record {
-      locked = found.0;
-      quiet = found.1;
-      so = record { none = sym found.2; refused = refl; same_locked = refl; same_cpu = refl };
+      locked = found.locked;
+      quiet = found.quiet;
+      so = record { none = sym found.so; refused = refl; same_locked = refl; same_cpu = refl };
     })) c.write_refusal.ensures
 
 pub returns-in-Got : goal.returns-in-Got
 returns-in-Got g c =
     let found = c.in-Some.ensures in
-    told (λ (said : Answer). VisitsFrame g.N.BootName.frames g.N.BootName.stocks c.args.path c.args.cpu.now said c.alloc_fast.new.self)
+    told (VisitsFrame (boot_tables g.N.BootName.frames g.N.BootName.stocks) c.args.path c.args.cpu.now c.alloc_fast.new.self)
     (answer.Fast (Got c.in-Got.frame)) (string_bytes c.args.text.now) (string_bytes c.write_fast.new.text) c.write_fast.result (record {
-      locked = found.0;
-      quiet = found.1;
+      locked = found.locked;
+      quiet = found.quiet;
       so = record {
         group = c.in-Some.group;
-        found = sym found.2;
+        found = sym found.so;
         got = subst (λ (group : ℕ). FastAnswers group (Got c.in-Got.frame) c.args.cpu.now c.alloc_fast.new.self) c.number.ensures.value c.in-Got.ensures.answer;
       };
     }) c.write_fast.ensures
@@ -41,12 +42,12 @@ pub returns-in_default-alloc_fast : goal.returns-in_default-alloc_fast
 returns-in_default-alloc_fast g c =
     let found = c.in-Some.ensures in
     told_as
-    (λ (said : Answer). RepliesVisited g.N.BootName.frames g.N.BootName.stocks (cmd.Alloc c.args.path 0) c.alloc_fast.new.self said c.visit_and_reply.new.cpu)
-    (λ (said : Answer). VisitsFrame g.N.BootName.frames g.N.BootName.stocks c.args.path c.args.cpu.now said c.visit_and_reply.new.cpu)
+    (RepliesVisited (boot_tables g.N.BootName.frames g.N.BootName.stocks) (cmd.Alloc c.args.path 0) c.alloc_fast.new.self c.visit_and_reply.new.cpu)
+    (VisitsFrame (boot_tables g.N.BootName.frames g.N.BootName.stocks) c.args.path c.args.cpu.now c.visit_and_reply.new.cpu)
     (string_bytes c.args.text.now) (string_bytes c.visit_and_reply.new.text) c.visit_and_reply.result
-    (λ said so. visited_after g.N.BootName.frames g.N.BootName.stocks c.args.path found.0 c.args.cpu.now c.alloc_fast.new.self said c.visit_and_reply.new.cpu found.1 (record {
+    (λ said so. visited_after (boot_tables g.N.BootName.frames g.N.BootName.stocks) c.args.path found.locked c.args.cpu.now c.alloc_fast.new.self c.visit_and_reply.new.cpu said found.quiet (record {
       group = c.in-Some.group;
-      found = sym found.2;
+      found = sym found.so;
       fast = c.alloc_fast.result;
       answers = subst (λ (g : ℕ). FastAnswers g c.alloc_fast.result c.args.cpu.now c.alloc_fast.new.self) c.number.ensures.value c.alloc_fast.ensures.answer;
       none = c.in_default-alloc_fast.not-Got;

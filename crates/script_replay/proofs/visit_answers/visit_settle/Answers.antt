@@ -1,5 +1,6 @@
 use Rattle.std.specs.String.{string_bytes}
-use Rattle.reply_texts.specs.Answer.{Answer, Settled}
+use Rattle.reply_texts.specs.Answer.{Settled}
+use Rattle.script_replay.specs.Terms.{boot_tables}
 use Rattle.script_replay.specs.Visits.{VisitsSettle}
 use Rattle.script_replay.proofs.Telling.{told}
 use Rattle.script_replay.proofs.Visiting.{settled_done}
@@ -7,7 +8,7 @@ use Rattle.script_replay.proofs.visit_answers.visit_settle.Goals as goal
 
 pub returns : goal.returns
 returns g c =
-    told (λ (said : Answer). VisitsSettle g.N.BootName.frames g.N.BootName.stocks c.args.cpu.now said c.visit_with-done.new.cpu)
+    told (VisitsSettle (boot_tables g.N.BootName.frames g.N.BootName.stocks) c.args.cpu.now c.visit_with-done.new.cpu)
     Settled (string_bytes c.args.text.now) (string_bytes c.write_settled.new.text) c.write_settled.result
-    (settled_done g.N.BootName.frames g.N.BootName.stocks c.args.cpu.now c.visit_with-done.new.cpu c.visit_with-done.result c.visit_with-done.ensures.served)
+    (settled_done (boot_tables g.N.BootName.frames g.N.BootName.stocks) c.args.cpu.now c.visit_with-done.new.cpu c.visit_with-done.result c.visit_with-done.ensures.served)
     c.write_settled.ensures

@@ -1,4 +1,4 @@
 use Rattle.mem_system.proofs.system.System.find.Goals as goal
 
 pub returns : goal.returns
-returns g c = (c.deref-locked.result.now, c.see_quiet.ensures.quiet, c.find.ensures.found)
+returns g c = record { locked = c.deref-locked.result.now; quiet = c.see_quiet.ensures.quiet; so = c.find.ensures.found }

@@ -7,7 +7,7 @@ returns g c = record {
     left = c.serve_into.new.locked;
     quiet = c.see_quiet.ensures.quiet;
     served = c.serve_into.ensures.served;
-    lent = c.serve_into.ensures.lent;
+    lent = c.serve_into.ensures.ends.lent;
   };
   settled = c.serve_into.ensures.settled;
 }

@@ -1,0 +1,35 @@
+-- What lies behind the zone's lock, and what always holds of it.
+use Rattle.std.specs.Prelude.{◌≡◌, ℕ, ◌≤◌}
+use Rattle.frame_word.specs.Seats.{KnownTable, IsShut}
+use Rattle.stock_word.specs.Stock.{Words}
+use Rattle.zone_sizes.specs.declared.config.Config.{Config}
+use Rattle.zone_sizes.specs.Config.{IsValidConfig}
+use Rattle.mem_machine.specs.Machines.{KnownMachine}
+use Rattle.mem_system.specs.Boots.{IsSizedAs}
+
+-- What lies behind the lock: the machine, and the sizes of the boot
+pub record KnownLocked : Type 0 where
+  pub machine : KnownMachine
+  pub sizes : Config
+
+-- no visit is open
+abbrev pub AllShut : KnownMachine → Type 0
+AllShut machine = (processor : ℕ) → IsShut machine.seat processor
+
+-- While no one holds the lock: no visit is open, the sizes are in their ranges, and the tables have them
+pub record IsQuiet (table : KnownTable) (words : Words) (locked : KnownLocked) : Type 0 where
+  pub shut : AllShut locked.machine
+  pub valid : IsValidConfig locked.sizes
+  pub sized : IsSizedAs locked.sizes table words
+
+-- This is so of some value that lay behind the lock while no one held it: no clause can name that value, since none
+-- looks through the lock
+pub record BehindLock (table : KnownTable) (words : Words) (IsSo : KnownLocked → Type 0) : Type 0 where
+  pub locked : KnownLocked
+  pub quiet : IsQuiet table words locked
+  pub so : IsSo locked
+
+-- a vector for one kind of the processors' seats, which has none yet, and room for that of each
+pub record IsEmptyWithRoom (cpus count room : ℕ) : Type 0 where
+  pub empty : count ≡ 0
+  pub enough : cpus ≤ room

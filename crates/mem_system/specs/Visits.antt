@@ -1,0 +1,104 @@
+-- How a command is served: by a visit of its processor, under the lock.
+use Rattle.std.specs.Prelude.{◌≡◌, ℕ, false, Some, List, [], ◌++◌}
+use Rattle.std.specs.Borrow.{Bor}
+use Rattle.frame_word.specs.Seats.{KnownTable, LentIsBorrowed, NothingPasses, seat_with_visit}
+use Rattle.stock_word.specs.Stock.{Words}
+use Rattle.group_tree.specs.Groups.{number_at}
+use Rattle.cpu_part.specs.Cpus.{KnownCpu}
+use Rattle.step_rules.specs.After.{Run}
+use Rattle.mem_machine.specs.Machines.{KnownMachine}
+use Rattle.mem_machine.specs.Local.{Side, side, Makes}
+use Rattle.mem_machine.specs.Settling.{Settles, settle_steps}
+use Rattle.mem_machine.specs.Steps.{open_steps, shut_steps}
+use Rattle.mem_reclaim.specs.Moves.{has_kill}
+use Rattle.mem_alloc.specs.Stepping.{Course, course, CountsMisses}
+use Rattle.mem_alloc.specs.NoRash.{NoRashKill}
+use Rattle.mem_system.specs.declared.command.Cmd.{Cmd}
+use Rattle.mem_system.specs.declared.command.Cmd.TheVariants.{Alloc}
+use Rattle.mem_system.specs.declared.command.Reply.{Reply}
+use Rattle.mem_system.specs.declared.outcome.Outcome.{Outcome}
+use Rattle.mem_system.specs.Outcomes.{reply_of}
+use Rattle.mem_system.specs.Locked.{KnownLocked, IsQuiet}
+use Rattle.mem_system.specs.Asks.{MayAskFor}
+use Rattle.mem_system.specs.Commands.{Obeys, ListAndFreshStayWithin}
+
+-- the machine with the processor's visit open (1) or shut (0)
+abbrev pub with_visit_of : KnownMachine → (processor state : ℕ) → KnownMachine
+with_visit_of machine processor state = record machine { seat = seat_with_visit machine.seat processor state }
+
+-- the side once the processor's visit is open
+abbrev pub visited : Side → Side
+visited before = side (with_visit_of before.machine before.cpu.number 1) before.cpu
+
+-- the side once what was noted before is forgotten, and the processor's visit is open
+abbrev pub begun : Side → Side
+begun before = visited (side (record before.machine { notes = [] }) before.cpu)
+
+-- what lies behind the lock, and the part of the processor that holds it
+pub record Holder : Type 0 where
+  pub locked : KnownLocked
+  pub cpu : KnownCpu
+
+-- the holder of this part, with this behind the lock
+abbrev pub holder : KnownLocked → KnownCpu → Holder
+holder locked cpu = record { locked = locked; cpu = cpu }
+
+-- the machine that the holder has behind the lock, and its part
+abbrev pub side_of : Holder → Side
+side_of held = side held.locked.machine held.cpu
+
+-- the steps of a visit: it is opened, its processor is settled, these are made, and it is shut
+abbrev pub visit_steps : Side → Run → Run
+visit_steps before inner =
+    open_steps before.cpu.number ++ (settle_steps (visited before) ++ (inner ++ shut_steps before.cpu.number))
+
+-- A command under the lock: what was noted before is forgotten, the caller's visit is opened, its part is settled, the
+-- command is obeyed, and the visit is shut. No group is killed meanwhile before everything else was tried, nor by a
+-- step that isn't the command's; and the misses noted are those among the steps
+pub record Serves (cmd : Cmd) (reply : Reply) (way : Course Holder) : Type 0 where
+  pub settled : Side
+  pub settles : Settles (begun (side_of way.before)) settled
+  pub inner : Run
+  pub done : KnownMachine
+  pub obeys : Obeys way.before.locked.sizes cmd reply (course way.table settled inner (side done way.after.cpu))
+  pub no_rash : NoRashKill way.table (MayAskFor cmd settled.machine.ledger.groups) settled.machine settled.cpu inner
+  pub only_inner : has_kill (visit_steps (side_of way.before) []) ≡ false
+  pub misses : CountsMisses (course way.table settled.machine inner done)
+  pub machine : way.after.locked.machine ≡ with_visit_of done way.before.cpu.number 0
+  pub sizes : way.after.locked.sizes ≡ way.before.locked.sizes
+  pub steps_are : way.steps ≡ visit_steps (side_of way.before) inner
+
+-- a command was served under the lock, and this was its reply: these steps lead from the one holder to the other
+pub record IsServed (table : KnownTable) (cmd : Cmd) (reply : Reply) (before after : Holder) : Type 0 where
+  pub steps : Run
+  pub serves : Serves cmd reply (course table before steps after)
+  pub makes : Makes table (side_of before) steps (side_of after)
+
+-- a command was served under the lock and came to this, of which the charges then tell the reply
+abbrev pub IsCarriedOut : KnownTable → Cmd → Outcome → (before after : Holder) → Type 0
+IsCarriedOut table cmd outcome before after =
+    IsServed table cmd (reply_of after.locked.machine.ledger outcome) before after
+
+-- an Alloc of order 0 was carried out for the group: so it is said for each path that is the group's
+abbrev pub IsCarriedOutFor : KnownTable → (group : ℕ) → Outcome → (before after : Holder) → Type 0
+IsCarriedOutFor table group outcome before after =
+    (path : Bor (List ℕ)) → number_at before.locked.machine.ledger.groups path.now ≡ Some group
+    → IsCarriedOut table (Alloc path 0) outcome before after
+
+-- What a visit leaves: where the processor's list had at most `high` frames, its list and its fresh frames together
+-- have; no frame passes between it and the zone; and what the zone lends it then are the frames that its seat has
+-- borrowed
+pub record EndsVisit (table : KnownTable) (before after : Holder) : Type 0 where
+  pub at_most_high : ListAndFreshStayWithin before.locked.sizes before.cpu after.cpu
+  pub still : NothingPasses table after.locked.machine.seat after.cpu.seat
+  pub lent : LentIsBorrowed table after.locked.machine.seat after.cpu.seat
+
+-- Through the lock: there was such a value behind it, with no visit open; the processor was served so in it; and what
+-- it lends the processor then are the frames that the processor's seat has borrowed
+pub record IsVisited (table : KnownTable) (words : Words) (Served : Holder → Holder → Type 0) (before after : KnownCpu)
+    : Type 0 where
+  pub found : KnownLocked
+  pub left : KnownLocked
+  pub quiet : IsQuiet table words found
+  pub served : Served (holder found before) (holder left after)
+  pub lent : LentIsBorrowed table left.machine.seat after.seat

@@ -1,0 +1,23 @@
+-- What a replay goes by.
+use Rattle.std.specs.Prelude.{Bool}
+use Rattle.frame_word.specs.Seats.{KnownTable}
+use Rattle.stock_word.specs.Stock.{Words}
+
+-- the tables of a boot: that of the frames' words, and that of the stocks' words
+pub record BootTables : Type 0 where
+  pub frames : KnownTable
+  pub stocks : Words
+
+-- the tables of a boot that are these two
+abbrev pub boot_tables : KnownTable → Words → BootTables
+boot_tables frames stocks = record { frames = frames; stocks = stocks }
+
+-- the terms of a replay: the tables of its boot, and whether kills are explained behind the answers
+pub record Terms : Type 0 where
+  pub frames : KnownTable
+  pub stocks : Words
+  pub is_explained : Bool
+
+-- the terms of a replay that are these
+abbrev pub terms : KnownTable → Words → Bool → Terms
+terms frames stocks is_explained = record { frames = frames; stocks = stocks; is_explained = is_explained }
