@@ -11,6 +11,8 @@ mod scripts;
 #[cfg(test)]
 mod streams;
 #[cfg(test)]
+mod threads;
+#[cfg(test)]
 mod visits;
 #[cfg(test)]
 mod words;

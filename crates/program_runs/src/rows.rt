@@ -108,6 +108,15 @@ replay --frames 1104
 1 blocks | 2:1092 3:1096
 1 show | 0-1091 /; 1092-1103 free
 
+the greatest zone has 64 blocks of order ten
+replay --frames=65536
+1 blocks | 10:0 10:1024 10:2048 10:3072 10:4096 10:5120 10:6144 10:7168 10:8192 10:9216 10:10240 \
+10:11264 10:12288 10:13312 10:14336 10:15360 10:16384 10:17408 10:18432 10:19456 10:20480 10:21504 \
+10:22528 10:23552 10:24576 10:25600 10:26624 10:27648 10:28672 10:29696 10:30720 10:31744 10:32768 \
+10:33792 10:34816 10:35840 10:36864 10:37888 10:38912 10:39936 10:40960 10:41984 10:43008 10:44032 \
+10:45056 10:46080 10:47104 10:48128 10:49152 10:50176 10:51200 10:52224 10:53248 10:54272 10:55296 \
+10:56320 10:57344 10:58368 10:59392 10:60416 10:61440 10:62464 10:63488 10:64512
+
 no frame is free
 replay --frames 1
 1 alloc / 0 | frame 0
@@ -474,11 +483,17 @@ pub fn row_of(text: &str) -> Row<'_> {
     }
 }
 
+// Adds the line, and a line feed.
+fn add_line(text: &mut String, line: &str) -> Result<(), AllocError> {
+    text.push_str(line)?;
+    text.push('\n')
+}
+
 // Adds the lines of an answer.
 fn add_answer(answers: &mut String, told: &str) -> Result<(), AllocError> {
     if !told.is_empty() {
         for line in told.split("; ") {
-            writeln!(answers, "{line}")?;
+            add_line(answers, line)?;
         }
     }
     Ok(())
@@ -491,27 +506,23 @@ impl Row<'_> {
         for line in self.lines.split('\n') {
             if !line.is_empty() && !line.starts_with("# ") {
                 let (command, _) = line.split_once(" | ").unwrap_or((line, ""));
-                writeln!(script, "{command}")?;
+                add_line(&mut script, command)?;
             }
         }
         Ok(script)
     }
 
-    /// What they are answered, with why groups were killed or without.
+    /// What they are answered, with why groups were killed or without, and what is told of the end.
     pub fn answers(&self, alloc: Global, is_explained: bool) -> Result<String, AllocError> {
         let mut answers = String::new(alloc);
         for line in self.lines.split('\n') {
             let (command, told) = line.split_once(" | ").unwrap_or((line, ""));
             add_answer(&mut answers, told)?;
             if is_explained && command.starts_with("# ") {
-                writeln!(answers, "{command}")?;
+                add_line(&mut answers, command)?;
             }
         }
+        add_answer(&mut answers, self.ending)?;
         Ok(answers)
-    }
-
-    /// Adds what is told of the end.
-    pub fn add_ending(&self, answers: &mut String) -> Result<(), AllocError> {
-        add_answer(answers, self.ending)
     }
 }

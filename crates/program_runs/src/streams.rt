@@ -1,5 +1,7 @@
 //! Readers and writers in memory, those that fail too, and a run of the program over them.
 
+ghost use Rattle.std.specs.Prelude.{◌≤◌, IfOk, length};
+
 use load_run::program::drive;
 use std::alloc::Global;
 use std::cmp::min;
@@ -83,19 +85,33 @@ pub fn writer_with_room(rt: &(impl Abort + AllocGlobal), room: usize) -> AnswerW
     }
 }
 
-impl Write for AnswerWriter {
-    fn write(&mut self, buf: &[u8]) -> io::Result<usize> {
+impl AnswerWriter {
+    // Takes some of the bytes, and tells how many.
+    fn take(&mut self, bytes: &[u8]) -> Result<usize, ErrorKind>
+        ensures { IfOk result (λ taken. taken ≤ length bytes.now) }
+    {
         if self.interrupts {
             self.interrupts = false;
-            return Err(io::Error::from(ErrorKind::Interrupted));
+            return Err(ErrorKind::Interrupted);
         }
-        let n = min(self.bytes_at_once, min(buf.len(), self.room));
-        if n == 0 && !buf.is_empty() {
-            return Err(io::Error::from(ErrorKind::StorageFull));
+        let taken = min(self.bytes_at_once, min(bytes.len(), self.room));
+        if taken == 0 && !bytes.is_empty() {
+            return Err(ErrorKind::StorageFull);
         }
-        self.text.extend_from_slice(&buf[..n])?;
-        self.room -= n;
-        Ok(n)
+        if self.text.extend_from_slice(&bytes[..taken]).is_err() {
+            return Err(ErrorKind::OutOfMemory);
+        }
+        self.room -= taken;
+        Ok(taken)
+    }
+}
+
+impl Write for AnswerWriter {
+    fn write(&mut self, buf: &[u8]) -> io::Result<usize> {
+        match self.take(buf) {
+            Ok(taken) => Ok(taken),
+            Err(fault) => Err(io::Error::from(fault)),
+        }
     }
 
     fn flush(&mut self) -> io::Result<()> {
@@ -146,18 +162,30 @@ pub fn run_program(
     run_program_on(rt.alloc(), words, script, output, faults)
 }
 
-/// The words and the script are told this status and these faults, and no answer.
+/// The words of a command line, between each two of which a space stands.
+pub fn words_of<'a>(rt: &(impl Abort + AllocGlobal), words: &'a str) -> Vec<&'a str> {
+    let words_apart = words.split(' ').collect(rt.alloc());
+    words_apart.expect(rt, words)
+}
+
+/// The run ended with this status, and with no answer but a fault that begins so.
+pub fn run_is_refused(rt: &impl Abort, ended: &ProgramRun, status: u8, begin: &str, name: &str) {
+    row_holds(rt, ended.status == status, name);
+    row_holds(rt, ended.output.is_empty(), name);
+    row_holds(rt, !ended.faults.is_empty(), name);
+    row_holds(rt, ended.faults.starts_with(begin.as_bytes()), name);
+}
+
+/// With these words, and over this script, the run is refused so.
 pub fn is_refused(
     rt: &(impl Abort + AllocGlobal),
-    words: &[&str],
+    words: &str,
     script: ScriptReader<'_>,
     status: u8,
-    faults: &[u8],
+    begin: &str,
 ) {
-    let told = run_program(rt, words, script, 10_000);
-    program_holds(rt, told.status == status);
-    program_holds(rt, told.output.is_empty());
-    program_holds(rt, told.faults.starts_with(faults));
+    let ended = run_program(rt, &words_of(rt, words), script, 10_000);
+    run_is_refused(rt, &ended, status, begin, words);
 }
 
 /// It is so, or the test ends here. A call is proved at less cost than the macro in its place.
@@ -165,7 +193,7 @@ pub fn program_holds(rt: &impl Abort, is: bool) {
     assert!(rt; is);
 }
 
-/// It is so of what has this name, or the test ends here with the name.
+/// It is so of what has this name, or the test ends here with the name. A text that is formatted costs a check more.
 pub fn row_holds(rt: &impl Abort, is: bool, name: &str) {
-    assert!(rt; is, "{name:?}");
+    is.then_some(()).expect(rt, name);
 }

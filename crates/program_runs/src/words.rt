@@ -1,10 +1,8 @@
 //! The words of the command line.
 
-use crate::streams::{program_holds, row_holds};
-use load_options::command_line::{parse_run_words, parse_words};
-use load_options::fault::WordsFault;
+use crate::streams::{broken_reader, is_refused, row_holds, run_is_refused, run_program, words_of};
+use load_options::command_line::parse_words;
 use load_options::settings::Settings;
-use std::process::Abort;
 use zone_sizes::config::Config;
 
 // Words of `replay` with a space between each two, and what they ask for: frames, processors, `batch`, `high` and `stock`,
@@ -36,12 +34,6 @@ const GOOD_WORDS: [(&str, [u32; 5], bool, bool); 9] = [
     ),
 ];
 
-// What the words are read as.
-fn read_words(rt: &(impl Abort + AllocGlobal), words: &str) -> Result<Settings, WordsFault> {
-    let words: Vec<&str> = words.split(' ').collect(rt.alloc()).expect(rt, "memory");
-    parse_words(rt.alloc(), &words)
-}
-
 #[test]
 fn asks_for_what_the_words_say(rt: HostRuntime) {
     for (words, [frames, cpus, batch, high, stock], is_audited, is_explained) in GOOD_WORDS {
@@ -56,22 +48,8 @@ fn asks_for_what_the_words_say(rt: HostRuntime) {
             is_explained,
             is_audited,
         };
-        let settings = read_words(&rt, words).expect(&rt, words);
+        let settings = parse_words(rt.alloc(), &words_of(&rt, words)).expect(&rt, words);
         row_holds(&rt, settings == wanted, words);
-    }
-}
-
-// The words are bad ones, and what is told of them begins so.
-fn words_are_refused(rt: &impl Abort, settings: Result<Settings, WordsFault>, begin: &str) {
-    match settings {
-        Err(WordsFault::BadWords(text)) => {
-            row_holds(
-                rt,
-                !text.is_empty() && text.as_str().starts_with(begin),
-                begin,
-            )
-        }
-        Ok(_) | Err(WordsFault::NoMemory(_)) => row_holds(rt, false, begin),
     }
 }
 
@@ -108,20 +86,13 @@ const BAD_WORDS: [(&str, &str); 23] = [
     ("help", ""),
 ];
 
+// The words are judged before the script is read.
 #[test]
 fn refuses_bad_words(rt: HostRuntime) {
     let no_words: [&str; 0] = [];
-    words_are_refused(&rt, parse_words(rt.alloc(), &no_words), "");
+    let ended = run_program(&rt, &no_words, broken_reader(), 10_000);
+    run_is_refused(&rt, &ended, 2, "", "no words");
     for (words, begin) in BAD_WORDS {
-        words_are_refused(&rt, read_words(&rt, words), begin);
+        is_refused(&rt, words, broken_reader(), 2, begin);
     }
-}
-
-#[test]
-fn run_explains_nothing(rt: HostRuntime) {
-    let settings = parse_run_words(rt.alloc(), &["run", "--audit"]).expect(&rt, "settings");
-    program_holds(&rt, settings.is_audited && !settings.is_explained);
-    let settings = parse_run_words(rt.alloc(), &["run", "--explain"]);
-    let begin = "error: unexpected argument '--explain' found\n";
-    words_are_refused(&rt, settings, begin);
 }

@@ -4,8 +4,6 @@
 #[cfg(test)]
 mod gates;
 #[cfg(test)]
-mod programs;
-#[cfg(test)]
 mod races;
 #[cfg(test)]
 mod scripts;

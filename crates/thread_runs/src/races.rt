@@ -2,8 +2,7 @@
 //! drained and the units of `/a` are tried, while processor 2 makes 500 rounds of its own.
 
 use crate::gates::BothThreads;
-use crate::systems::{TWO_PROCESSORS, ThreadAnswers, holds, run_script};
-use std::alloc::{AllocError, Global};
+use crate::systems::{TWO_PROCESSORS, ThreadAnswers, add, holds, run_script};
 use std::process::Abort;
 use std::str;
 use std::sync::Wait;
@@ -42,13 +41,13 @@ const FOUR_REFERENCES: &str = "\
 ";
 
 // The script whose threads make 500 rounds after these first lines.
-fn race_script(alloc: Global, first: &str, four_rounds: &str) -> Result<String, AllocError> {
-    let mut script = String::from_str(alloc, first)?;
-    script.push_str("go\n")?;
+fn race_script(rt: &(impl Abort + AllocGlobal), first: &str, four_rounds: &str) -> String {
+    let mut script = String::new(rt.alloc());
+    add(rt, &mut script, &[first, "go\n"]);
     for _ in 0..125 {
-        script.push_str(four_rounds)?;
+        add(rt, &mut script, &[four_rounds]);
     }
-    Ok(script)
+    script
 }
 
 // What both threads are answered in their rounds, which begin together, and what is told after them.
@@ -59,7 +58,7 @@ fn race<R: AllocGlobal + Threads + Wait + Abort + Sync>(
     last: &str,
 ) -> ThreadAnswers {
     let gate = BothThreads::new();
-    let script = race_script(rt.alloc(), first, four_rounds).expect(rt, "memory");
+    let script = race_script(rt, first, four_rounds);
     let raced = run_script(rt, TWO_PROCESSORS, script.as_str(), last, &gate);
     holds(rt, !gate.thread_was_late());
     raced.expect(rt, "a race")
@@ -67,9 +66,16 @@ fn race<R: AllocGlobal + Threads + Wait + Abort + Sync>(
 
 // How many answers of the threads begin so.
 fn answers_with(rt: &impl Abort, raced: &ThreadAnswers, begin: &str) -> usize {
-    let answers = str::from_utf8(&raced.by_threads).expect(rt, "a text");
-    let begins_so = |answer: &&str| answer.starts_with(begin);
-    answers.split('\n').filter(begins_so).count()
+    let mut count = 0usize;
+    for answer in str::from_utf8(&raced.by_threads)
+        .expect(rt, "a text")
+        .split('\n')
+    {
+        if answer.starts_with(begin) {
+            count = count.wrapping_add(1);
+        }
+    }
+    count
 }
 
 // All allocations of processor 1 were refused, and nothing else; this is told after the race, and all frames came back.

@@ -2,14 +2,13 @@
 
 ghost use Rattle.std.specs.Prelude.{◌≡◌, ◌<◌, length};
 
-use crate::systems::{ThreadAnswers, holds, run_script};
+use crate::systems::{add, holds, run_script};
 use mem_system::NoGate;
 use rand_core::{Rng, SeedableRng};
 use rand_pcg::Pcg32;
 use script_lines::line::{Command, Line};
 use script_lines::script::parse_script;
 use script_threads::before_go;
-use std::alloc::AllocError;
 use std::process::Abort;
 use std::slice::Iter;
 use std::str;
@@ -20,15 +19,21 @@ const STORM_LINES: u32 = 500;
 
 const FRAMES: u32 = 64;
 
-const CPUS: u32 = 4;
-
 const FOUR_PROCESSORS: Config = Config {
     frames: FRAMES,
-    cpus: CPUS,
+    cpus: 4,
     batch: 4,
     high: 8,
     stock: 4,
 };
+
+// The numbers of the frames, as they stand in a script: a text that is formatted costs a check more.
+const NUMBERS: [&str; 64] = [
+    "0", "1", "2", "3", "4", "5", "6", "7", "8", "9", "10", "11", "12", "13", "14", "15", "16",
+    "17", "18", "19", "20", "21", "22", "23", "24", "25", "26", "27", "28", "29", "30", "31", "32",
+    "33", "34", "35", "36", "37", "38", "39", "40", "41", "42", "43", "44", "45", "46", "47", "48",
+    "49", "50", "51", "52", "53", "54", "55", "56", "57", "58", "59", "60", "61", "62", "63",
+];
 
 // The groups and their limits, parents first. Together they may have more pages than there are frames, and each fewer.
 const STORM_GROUPS: [(&str, &str); 8] = [
@@ -78,62 +83,53 @@ const STORM_COMMANDS: [&str; 32] = [
     "mkdir PATH",
 ];
 
-// The lines that make the groups and set their limits.
-fn make_storm_groups(script: &mut String) -> Result<(), AllocError> {
+// Adds the lines that make the groups and set their limits.
+fn make_storm_groups(rt: &impl Abort, script: &mut String) {
     for (path, limit) in STORM_GROUPS {
-        writeln!(script, "1 mkdir {path}\n1 write {path} memory.max {limit}")?;
+        add(rt, script, &["1 mkdir ", path, "\n1 write ", path]);
+        add(rt, script, &[" memory.max ", limit, "\n"]);
     }
-    script.push_str("go\n")
+    add(rt, script, &["go\n"]);
 }
 
-// The number that a line picks for this word of a command, if one stands there.
-fn picked_number(word: &str, picked: u32) -> Option<u32> {
-    match word {
-        "GROUP" => Some(picked % 10),
-        "FRAME" => Some((picked >> 8) % FRAMES),
-        "ORDER" => Some((picked >> 16) % 3),
-        _ => None,
-    }
-}
-
-// The path or the limit that a line picks for this word of a command, or the word.
-fn picked_text(word: &'static str, picked: u32) -> &'static str {
-    let (path, limit) = STORM_GROUPS[(picked % 8) as usize];
+// What a line picks for this word of a command, or the word.
+fn picked(word: &'static str, bits: u32) -> &'static str {
+    let (path, limit) = STORM_GROUPS[(bits % 8) as usize];
     match word {
         "PATH" => path,
         "LIMIT" => limit,
+        "GROUP" => NUMBERS[(bits % 10) as usize],
+        "FRAME" => NUMBERS[((bits >> 8) % 64) as usize],
+        "ORDER" => NUMBERS[((bits >> 16) % 3) as usize],
         _ => word,
     }
 }
 
 // Adds a line of the processor with this command, which these bits pick the words of.
 fn add_storm_line(
+    rt: &impl Abort,
     script: &mut String,
-    cpu: u32,
+    cpu: &str,
     command: &'static str,
-    picked: u32,
-) -> Result<(), AllocError> {
-    write!(script, "{cpu}")?;
+    bits: u32,
+) {
+    add(rt, script, &[cpu]);
     for word in command.split(' ') {
-        match picked_number(word, picked) {
-            Some(number) => write!(script, " {number}")?,
-            None => write!(script, " {}", picked_text(word, picked))?,
-        }
+        add(rt, script, &[" ", picked(word, bits)]);
     }
-    script.push('\n')
+    add(rt, script, &["\n"]);
 }
 
 // The script of this seed.
 fn storm_script(rt: &(impl Abort + AllocGlobal), seed: u64) -> String {
     let mut random = Pcg32::seed_from_u64(seed);
     let mut script = String::new(rt.alloc());
-    make_storm_groups(&mut script).expect(rt, "memory");
+    make_storm_groups(rt, &mut script);
     for _ in 0..STORM_LINES {
-        for cpu in 1..=CPUS {
+        for cpu in ["1", "2", "3", "4"] {
             let kind = (random.next_u32() >> 8) % 32;
             let command = STORM_COMMANDS[kind as usize];
-            let picked = random.next_u32();
-            add_storm_line(&mut script, cpu, command, picked).expect(rt, "memory");
+            add_storm_line(rt, &mut script, cpu, command, random.next_u32());
         }
     }
     script
@@ -141,19 +137,24 @@ fn storm_script(rt: &(impl Abort + AllocGlobal), seed: u64) -> String {
 
 // What is asked at the end: the blocks and each frame's owner, when all are settled; and each usage, when the groups at the
 // top have lost their prepaid pages and what can be reclaimed.
-fn ask_after_the_storm(script: &mut String) -> Result<(), AllocError> {
-    script.push_str("1 settle\n2 settle\n3 settle\n4 settle\n")?;
+fn ask_after_the_storm(rt: &(impl Abort + AllocGlobal)) -> String {
+    let mut script = String::new(rt.alloc());
+    add(
+        rt,
+        &mut script,
+        &["1 settle\n2 settle\n3 settle\n4 settle\n"],
+    );
     for path in ["/a", "/d", "/g", "/h"] {
-        writeln!(script, "1 write {path} memory.max 0")?;
+        add(rt, &mut script, &["1 write ", path, " memory.max 0\n"]);
     }
-    script.push_str("1 blocks\n")?;
-    for frame in 0..FRAMES {
-        writeln!(script, "1 owner {frame}")?;
+    add(rt, &mut script, &["1 blocks\n"]);
+    for frame in NUMBERS {
+        add(rt, &mut script, &["1 owner ", frame, "\n"]);
     }
     for (path, _) in STORM_GROUPS {
-        writeln!(script, "1 read {path} memory.current")?;
+        add(rt, &mut script, &["1 read ", path, " memory.current\n"]);
     }
-    Ok(())
+    script
 }
 
 // The references that the processors' answers leave: of each processor, and on each frame.
@@ -219,10 +220,15 @@ fn next_own_command<'a>(lines: &mut Iter<'a, Line<'a>>, cpu: u32) -> Option<&'a 
 
 // Whether the frames of this block are there, and free.
 fn block_is_free(owners: &[&str], at: u32, size: u32) -> bool {
-    match owners.get(at as usize..at.wrapping_add(size) as usize) {
-        Some(block) => block.iter().all(|owner| *owner == "free"),
-        None => false,
+    let Some(block) = owners.get(at as usize..at.wrapping_add(size) as usize) else {
+        return false;
+    };
+    for owner in block {
+        if *owner != "free" {
+            return false;
+        }
     }
+    true
 }
 
 // Whether the block of this order at this frame is free, and in no greater one that is.
@@ -236,27 +242,27 @@ fn block_is_maximal(owners: &[&str], order: u32, at: u32) -> bool
         && !block_is_free(owners, above, 1 << greater)
 }
 
-// Adds the free blocks that are in no greater one, as `blocks` tells them.
-fn add_maximal_blocks(owners: &[&str], text: &mut String) -> Result<(), AllocError> {
+// Adds the free blocks that are in no greater one, as `blocks` tells them, each behind a space.
+fn add_maximal_blocks(rt: &impl Abort, owners: &[&str], text: &mut String) {
     for order in 0..7u32 {
         for at in 0..64u32 {
             if block_is_maximal(owners, order, at) {
-                write!(text, " {order}:{at}")?;
+                let order = NUMBERS[order as usize];
+                add(rt, text, &[" ", order, ":", NUMBERS[at as usize]]);
             }
         }
     }
-    Ok(())
 }
 
 // The blocks that were told are the greatest free ones of the frames whose owners were told.
 fn blocks_agree_with_owners(rt: &(impl Abort + AllocGlobal), blocks: &str, owners: &[&str]) {
+    let mut told = String::new(rt.alloc());
+    if blocks != "none" {
+        add(rt, &mut told, &[" ", blocks]);
+    }
     let mut maximal = String::new(rt.alloc());
-    add_maximal_blocks(owners, &mut maximal).expect(rt, "memory");
-    let is_told = match maximal.as_str().strip_prefix(' ') {
-        Some(rest) => rest == blocks,
-        None => blocks == "none",
-    };
-    holds(rt, is_told);
+    add_maximal_blocks(rt, owners, &mut maximal);
+    holds(rt, told.as_str() == maximal.as_str());
 }
 
 // A frame on which references are left is kept.
@@ -266,21 +272,29 @@ fn pins_agree_with_owners(rt: &impl Abort, owners: &[&str], pins: &PinsLeft) {
     }
 }
 
-// How many frames are kept for the group or one below it.
-fn frames_kept_below(owners: &[&str], path: &str) -> usize {
-    let is_below = |owner: &&&str| match owner.strip_prefix(path) {
+// Whether the owner is the group or one below it.
+fn is_below(owner: &str, path: &str) -> bool {
+    match owner.strip_prefix(path) {
         Some(rest) => rest.is_empty() || rest.starts_with('/'),
         None => false,
-    };
-    owners.iter().filter(is_below).count()
+    }
 }
 
-// The usage that was told is 4,096 bytes for each frame that is kept, or the group is gone.
-fn usage_agrees_with_frames(rt: &(impl Abort + AllocGlobal), kept: usize, current: &str) {
-    let bytes = kept.wrapping_mul(4096);
-    let bytes = format!(in rt.alloc(); "{bytes}").expect(rt, "memory");
+// How many bytes are kept for the group or one below it, 4,096 for a frame.
+fn bytes_kept_below(owners: &[&str], path: &str) -> u64 {
+    let mut kept = 0u64;
+    for owner in owners {
+        if is_below(owner, path) {
+            kept = kept.wrapping_add(4_096);
+        }
+    }
+    kept
+}
+
+// The usage that was told is what is kept, or the group is gone.
+fn usage_agrees_with_frames(rt: &impl Abort, kept: u64, current: &str) {
     let is_gone = current == "refused 6 NoGroup" && kept == 0;
-    holds(rt, current == bytes.as_str() || is_gone);
+    holds(rt, current.parse::<u64>() == Ok(kept) || is_gone);
 }
 
 // The answers to what is asked after the storm hold together, and go with the references that are left.
@@ -291,7 +305,7 @@ fn answers_add_up(rt: &(impl Abort + AllocGlobal), answers: &[&str], pins: &Pins
     blocks_agree_with_owners(rt, answers[8], owners);
     pins_agree_with_owners(rt, owners, pins);
     for ((path, _), current) in STORM_GROUPS.iter().zip(answers[73..81].iter()) {
-        usage_agrees_with_frames(rt, frames_kept_below(owners, path), current);
+        usage_agrees_with_frames(rt, bytes_kept_below(owners, path), current);
     }
 }
 
@@ -308,15 +322,14 @@ fn pins_after(rt: &(impl Abort + AllocGlobal), script: &str, by_threads: &[u8]) 
 fn the_storm_adds_up(rt: &(impl Abort + AllocGlobal), after_threads: &[u8], pins: &PinsLeft) {
     let told = str::from_utf8(after_threads).expect(rt, "a text");
     let answers: Vec<&str> = told.split('\n').collect(rt.alloc()).expect(rt, "memory");
-    assert_eq!(rt; answers.len(), 82);
+    assert!(rt; answers.len() == 82);
     answers_add_up(rt, &answers, pins);
 }
 
 #[test]
 fn what_threads_leave_adds_up(rt: HostRuntime) {
     let script = storm_script(&rt, 2_026);
-    let mut asked = String::new(rt.alloc());
-    ask_after_the_storm(&mut asked).expect(&rt, "memory");
+    let asked = ask_after_the_storm(&rt);
     let told = run_script(
         &rt,
         FOUR_PROCESSORS,

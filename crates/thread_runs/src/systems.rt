@@ -4,7 +4,8 @@ ghost use Rattle.std.specs.Prelude.{◌≡◌, ◌<◌, ◌≤◌, ◌^◌, All,
 ghost use Rattle.mem_system.specs.Boots.{IsSizedAs};
 ghost use Rattle.script_replay.specs.Ranges.{LineIsThere};
 
-use cpu_part::{BootName, Cpu, Tables};
+use cpu_part::{BootName, Cpu};
+use load_run::boot_end::end_boot;
 use mem_system::{Audit, Boot, Gate, System, boot};
 use script_lines::line::Line;
 use script_lines::script::parse_script;
@@ -36,30 +37,13 @@ pub struct ThreadAnswers {
     pub audit: Audit,
 }
 
-// Puts the pins of the processor, and tells how many it had.
-fn put_own_pins<N: BootName>(tables: &Tables<N>, cpu: &mut Cpu<N>) -> u64 {
-    let mut pins = 0u64;
-    for _ in 0..256 {
-        if let Some(frame) = cpu.first_pin() {
-            let _put = cpu.put(tables, frame);
-            pins = pins.wrapping_add(1);
-        }
+// How many pins each of the first four processors has.
+fn pins_of_each<N: BootName>(cpus: &[Cpu<N>]) -> [u64; 4] {
+    let mut pins_of_each = [0; 4];
+    for (pins, cpu) in pins_of_each.iter_mut().zip(cpus.iter()) {
+        *pins = cpu.pins() as u64;
     }
-    pins
-}
-
-// Puts all pins, and tells how many each of the first four processors had.
-fn put_all_pins<N: BootName>(tables: &Tables<N>, cpus: &mut [Cpu<N>]) -> [u64; 4] {
-    let mut pins_left = [0; 4];
-    let mut place = 0usize;
-    for cpu in cpus.iter_mut() {
-        let pins = put_own_pins(tables, cpu);
-        if let Some(slot) = pins_left.get_mut(place) {
-            *slot = pins;
-        }
-        place = place.wrapping_add(1);
-    }
-    pins_left
+    pins_of_each
 }
 
 // Runs the lines by threads, and then the last ones by visits.
@@ -81,39 +65,9 @@ fn run_and_replay<N: BootName + Send + Sync, R: Threads + Wait + Sync, G: Gate +
     Ok((by_threads, after_threads))
 }
 
-// Runs the lines so, and then puts all pins, also where memory or a thread was wanting. It tells how many each of the first
-// four processors had.
-fn run_and_put_pins<N: BootName + Send + Sync, R: Threads + Wait + Sync, G: Gate + Sync>(
-    rt: &R,
-    alloc: Global,
-    system: &System<N>,
-    cpus: &mut [Cpu<N>],
-    lines: &[Line<'_>],
-    last: &[Line<'_>],
-    gate: &G,
-) -> (Result<(Vec<u8>, Vec<u8>), AllocError>, [u64; 4])
-    requires count { length cpus.old < 2 ^ 31 }
-    requires lines { All (LineIsThere N.frames.frames (length cpus.old)) lines.now }
-    requires last { All (LineIsThere N.frames.frames (length cpus.old)) last.now }
-{
-    let told = run_and_replay(rt, alloc, system, cpus, lines, last, gate);
-    let pins_left = put_all_pins(system.tables(), cpus);
-    (told, pins_left)
-}
-
-// Shuts the system down, which no processor has a pin in.
-fn shut_down<N: BootName>(rt: &impl Abort, system: System<N>, cpus: Vec<Cpu<N>>) -> Audit
-    requires { length cpus.items ≡ N.frames.cpus }
-{
-    match system.shutdown(cpus) {
-        Ok(audit) => audit,
-        Err(_held) => panic!(rt; "pins remain"),
-    }
-}
-
-// Starts the boot under a name of its tables, runs the lines by threads and then the last ones by visits, puts the pins
-// that are left, also where memory or a thread was wanting, and shuts the system down.
-fn live_by_threads<N: BootName + Send + Sync, R: Threads + Wait + Abort + Sync, G: Gate + Sync>(
+// Starts the boot under a name of its tables, runs the lines by threads and then the last ones by visits, and ends it,
+// also where memory or a thread was wanting; pins that are left are put then.
+fn live_by_threads<N: BootName + Send + Sync, R: Threads + Wait + Sync, G: Gate + Sync>(
     rt: &R,
     alloc: Global,
     boot: Boot,
@@ -128,14 +82,16 @@ fn live_by_threads<N: BootName + Send + Sync, R: Threads + Wait + Abort + Sync, 
     requires last { All (LineIsThere boot.sizes.frames boot.sizes.cpus) last.now }
 {
     let (system, mut cpus) = boot.start::<N>(alloc)?;
-    let (told, pins_left) = run_and_put_pins(rt, alloc, &system, &mut cpus, lines, last, gate);
-    let audit = shut_down(rt, system, cpus);
+    let told = run_and_replay(rt, alloc, &system, &mut cpus, lines, last, gate);
+    let pins_left = pins_of_each(&cpus);
+    let (locked, tables) = system.into_parts();
+    let ended = end_boot(locked, tables, cpus);
     let (by_threads, after_threads) = told?;
     Ok(ThreadAnswers {
         by_threads,
         after_threads,
         pins_left,
-        audit,
+        audit: ended.audit,
     })
 }
 
@@ -160,6 +116,13 @@ pub fn run_script<R: AllocGlobal + Threads + Wait + Abort + Sync, G: Gate + Sync
 /// It is so of the threads, or the test ends here. A call is proved at less cost than the macro in its place.
 pub fn holds(rt: &impl Abort, is: bool) {
     assert!(rt; is);
+}
+
+/// Adds the parts to the text. Whoever adds by this has no error of memory to hand on.
+pub fn add(rt: &impl Abort, text: &mut String, parts: &[&str]) {
+    for part in parts {
+        text.push_str(part).expect(rt, "memory");
+    }
 }
 
 /// The lines in threads were answered so, and those after them so.

@@ -13,8 +13,8 @@ replay_by_visits-answers-requires g c =
     ap length (c.deref_mut.ensures.value ∙ c.in_ok-system.ensures.cpus) ∙ first_long t w 1 c.args.boot.sizes.cpus in
     subst (λ (b : ℕ × ℕ). All (LineIsThere b.0 b.1) c.args.lines.now) (λ i. (sym sized.frames i, sym long i)) c.requires.lines
 
-pub shut_down-requires : goal.shut_down-requires
-shut_down-requires g c =
+pub end_boot-ended-requires : goal.end_boot-ended-requires
+end_boot-ended-requires g c =
     let t = g.N.BootName.frames in
     let w = g.N.BootName.stocks in
     let sized = sized_as c.args.boot.sizes _ t _ w c.requires.sized c.requires.names in

@@ -1,45 +1,35 @@
-//! The program's `run` over readers and writers in memory.
+//! The program's `run`, which serves the lines from `go` on in threads.
 
-use crate::systems::holds;
-use load_run::program::drive;
+use crate::streams::{
+    ProgramRun, row_holds, run_is_refused, run_program, script_reader, words_of, writer_with_room,
+};
 use load_threads::program::drive_run;
 use std::process::Abort;
 use std::sync::Wait;
 use std::thread::Threads;
 
-// What a run of the program leaves.
-#[derive(Drop)]
-struct ProgramRun {
-    status: u8,
-    output: Vec<u8>,
-    faults: Vec<u8>,
-}
-
-// Runs the program's `run` over these.
-fn run<R: AllocGlobal + Threads + Wait + Sync>(
+// Runs the program with these words over this script, in threads.
+fn run_by_threads<R: AllocGlobal + Threads + Wait + Abort + Sync>(
     rt: &R,
-    words: &[&str],
-    mut script: &[u8],
+    words: &str,
+    script: &str,
 ) -> ProgramRun {
-    let mut output = Vec::new(rt.alloc());
-    let mut faults = Vec::new(rt.alloc());
-    let status = drive_run(rt, rt.alloc(), words, &mut script, &mut output, &mut faults);
+    let words = words_of(rt, words);
+    let mut script = script_reader(script.as_bytes());
+    let mut output = writer_with_room(rt, 10_000);
+    let mut faults = writer_with_room(rt, 10_000);
+    let status = drive_run(
+        rt,
+        rt.alloc(),
+        &words,
+        &mut script,
+        &mut output,
+        &mut faults,
+    );
     ProgramRun {
         status,
-        output,
-        faults,
-    }
-}
-
-// Runs the program's `replay` over these.
-fn replay<R: AllocGlobal>(rt: &R, words: &[&str], mut script: &[u8]) -> ProgramRun {
-    let mut output = Vec::new(rt.alloc());
-    let mut faults = Vec::new(rt.alloc());
-    let status = drive(rt.alloc(), words, &mut script, &mut output, &mut faults);
-    ProgramRun {
-        status,
-        output,
-        faults,
+        output: output.text,
+        faults: faults.text,
     }
 }
 
@@ -69,9 +59,9 @@ const PINS_LEFT: [(&str, &str, &str); 4] = [
 ];
 
 // The run ended well, and this is what it told of the end, after so many bytes of answers.
-fn ends_with(rt: &impl Abort, told: &ProgramRun, ending: &str) {
-    holds(rt, told.status == 0 && told.faults.is_empty());
-    holds(rt, told.output.ends_with(ending.as_bytes()));
+fn ends_with(rt: &impl Abort, ended: &ProgramRun, ending: &str) {
+    row_holds(rt, ended.status == 0 && ended.faults.is_empty(), ending);
+    row_holds(rt, ended.output.ends_with(ending.as_bytes()), ending);
 }
 
 // By threads the script is answered so, and the end is the same as by `replay`.
@@ -81,11 +71,14 @@ fn threads_end_as_a_replay<R: AllocGlobal + Threads + Wait + Abort + Sync>(
     answers: &str,
     ending: &str,
 ) {
-    let by_threads = run(rt, &["run", "--audit"], script.as_bytes());
+    let by_threads = run_by_threads(rt, "run --audit", script);
     ends_with(rt, &by_threads, ending);
-    holds(rt, by_threads.output.starts_with(answers.as_bytes()));
-    holds(rt, by_threads.output.len() == answers.len() + ending.len());
-    let replayed = replay(rt, &["replay", "--audit"], script.as_bytes());
+    let is_answered = by_threads.output.starts_with(answers.as_bytes());
+    row_holds(rt, is_answered, answers);
+    let is_whole = by_threads.output.len() == answers.len() + ending.len();
+    row_holds(rt, is_whole, answers);
+    let script = script_reader(script.as_bytes());
+    let replayed = run_program(rt, &["replay", "--audit"], script, 10_000);
     ends_with(rt, &replayed, ending);
 }
 
@@ -97,23 +90,23 @@ fn pins_that_threads_leave_are_put_at_the_end(rt: HostRuntime) {
 }
 
 // Faults of the words, of the script and of the sizes: the words, the script and how what is told of it begins.
-const MISUSES: [([&str; 2], &str, &str); 3] = [
-    (["replay", "--audit"], "1 mkdir\n", "error: "),
-    (["run", "--batch=9"], "go\n3 show\n", "bad line 2\n"),
+const MISUSES: [(&str, &str, &str); 4] = [
+    ("replay --audit", "1 mkdir\n", "error: "),
     (
-        ["run", "--batch=9"],
-        "go\n2 show\n",
-        "refused 14 BadConfig\n",
+        "run --explain",
+        "1 mkdir\n",
+        "error: unexpected argument '--explain' found\n",
     ),
+    ("run --batch=9", "go\n3 show\n", "bad line 2\n"),
+    ("run --batch=9", "go\n2 show\n", "refused 14 BadConfig\n"),
 ];
 
 #[test]
 fn a_fault_of_the_words_the_script_or_the_sizes_is_told(rt: HostRuntime) {
     for (words, script, fault) in MISUSES {
-        let told = run(&rt, &words, script.as_bytes());
-        holds(&rt, told.status == 2 && told.output.is_empty());
-        holds(&rt, told.faults.starts_with(fault.as_bytes()));
-        let is_whole = told.faults.len() == fault.len();
-        holds(&rt, is_whole || fault == "error: ");
+        let ended = run_by_threads(&rt, words, script);
+        run_is_refused(&rt, &ended, 2, fault, fault);
+        let is_whole = ended.faults.len() == fault.len();
+        row_holds(&rt, is_whole || fault.starts_with("error: "), fault);
     }
 }
