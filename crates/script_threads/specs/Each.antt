@@ -21,16 +21,9 @@ pub record TellsOwn (tables : BootTables) (worker : KnownWorker) (text : List �
   pub after : KnownCpu
   pub serves : ServesOwn tables worker after text
 
--- what a first worker is told under its heading, and behind it what the others are
-pub record TellsFirst (tables : BootTables) (worker : KnownWorker) (tells_others : List ℕ → Type 0) (text : List ℕ)
-    : Type 0 where
-  pub own : List ℕ
-  pub others : List ℕ
-  pub tells_own : TellsOwn tables worker own
-  pub tells_rest : tells_others others
-  pub text_is : text ≡ (heading worker.number ++ own) ++ others
-
 -- for each worker a heading, and behind it the texts of its own lines
 abbrev pub TellsEach : BootTables → List KnownWorker → (text : List ℕ) → Type 0
 TellsEach tables [] text = text ≡ []
-TellsEach tables (worker ∷ workers) text = TellsFirst tables worker (TellsEach tables workers) text
+TellsEach tables (worker ∷ workers) text =
+    (own : List ℕ) × (others : List ℕ) × TellsOwn tables worker own × TellsEach tables workers others
+    × (text ≡ (heading worker.number ++ own) ++ others)
