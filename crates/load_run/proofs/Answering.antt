@@ -19,15 +19,15 @@ use Rattle.script_replay.specs.Ranges.{LineIsThere}
 use Rattle.script_replay.proofs.InRange.{script_there}
 
 -- the answers were written behind what the writer held, where the script is known
-pub replayed : (asked : Option Settings) (input before after : Option (List ℕ)) (text : List ℕ) → IfSome input (λ bytes. IsAnswered asked bytes text)
-    → Appends before after text → IfSome input (λ bytes. IsReplayed asked bytes before after)
+pub replayed : (asked : Option Settings) (input before after : Option (List ℕ)) (text : List ℕ) → IfSome input (IsAnswered asked text)
+    → Appends before after text → IfSome input (IsReplayed asked before after)
 replayed asked None before after text is written = tt
 replayed asked (Some bytes) before after text is written = record { text = text; answered = is; written = written }
 
 -- what was read of an input is all of it, where it is a script, and is answered by what its lines are
 pub answered : (asked : Option Settings) (input : Option (List ℕ)) (script : List ℕ) (settings : Settings) (lines : List Line) (text : List ℕ)
     → asked ≡ Some settings → IfSome input (λ bytes. script ≡ take 1048577 bytes) → IsScript settings.sizes script lines → IsValidConfig settings.sizes
-    → AreAnswers settings.sizes settings.is_explained settings.is_audited lines text → IfSome input (λ bytes. IsAnswered asked bytes text)
+    → AreAnswers settings.sizes settings.is_explained settings.is_audited lines text → IfSome input (IsAnswered asked text)
 answered asked None script settings lines text is_asked read is valid answers = tt
 answered asked (Some bytes) script settings lines text is_asked read is valid answers =
     let fits = is.fits in

@@ -9,7 +9,7 @@ use Rattle.load_options.specs.declared.settings.Settings.{Settings}
 use Rattle.load_run.specs.declared.fault.ProgramFault.{ProgramFault}
 use Rattle.load_run.specs.declared.fault.ProgramFault.TheVariants.{Words, Script, BadConfig, Input, Output, NoMemory}
 use Rattle.load_run.specs.Answers.{IsAnswered, bytes_read}
-use Rattle.load_run.specs.Causes.{FailsAtWork, HasCause, IsMisused, LeavesAnswers}
+use Rattle.load_run.specs.Causes.{FailsAtWork, HasCause, IsMisused, LeavesAnswers, written}
 use Rattle.load_run.specs.Fault.{IsBootFault, IsReadFault, IsScriptFault, IsWordsFault, fault_text, status_of}
 use Rattle.load_options.specs.Settings.{HasSizesInRange}
 use Rattle.load_run.specs.Writing.{AppendsBeginning}
@@ -21,7 +21,7 @@ on_error (Err e) P Q follows is = follows e is
 
 -- the words gave no settings
 pub words_cause : (asked : Option Settings) (input : Option (List ℕ)) (fault : ProgramFault) → IsWordsFault asked fault
-    → IfSome input (λ bytes. HasCause asked bytes fault)
+    → IfSome input (HasCause asked fault)
 words_cause asked None fault is = tt
 words_cause asked (Some bytes) (Words fault) is = is
 words_cause asked (Some bytes) (Script fault) is = absurd is
@@ -32,7 +32,7 @@ words_cause asked (Some bytes) (NoMemory e) is = absurd is
 
 -- the input wasn't read
 pub read_cause : (asked : Option Settings) (settings : Settings) (input : Option (List ℕ)) (fault : ProgramFault)
-    → asked ≡ Some settings → IsReadFault fault → IfSome input (λ bytes. HasCause asked bytes fault)
+    → asked ≡ Some settings → IsReadFault fault → IfSome input (HasCause asked fault)
 read_cause asked settings None fault is_asked is = tt
 read_cause asked settings (Some bytes) (Words fault) is_asked is = absurd is
 read_cause asked settings (Some bytes) (Script fault) is_asked is = absurd is
@@ -44,7 +44,7 @@ read_cause asked settings (Some bytes) (NoMemory e) is_asked is = subst IsSome (
 -- what was read is no script
 pub script_cause : (asked : Option Settings) (settings : Settings) (input : Option (List ℕ)) (text : List ℕ) (fault : ProgramFault)
     → asked ≡ Some settings → HasSizesInRange settings.sizes → IfSome input (λ bytes. text ≡ bytes_read bytes)
-    → IsScriptFault settings.sizes text fault → IfSome input (λ bytes. HasCause asked bytes fault)
+    → IsScriptFault settings.sizes text fault → IfSome input (HasCause asked fault)
 script_cause asked settings None text fault is_asked in_range read is = tt
 script_cause asked settings (Some bytes) text (Words fault) is_asked in_range read is = absurd is
 script_cause asked settings (Some bytes) text (Script (script.BadLine n)) is_asked in_range read is = record {
@@ -62,7 +62,7 @@ script_cause asked settings (Some bytes) text (NoMemory e) is_asked in_range rea
 -- no boot answered the script
 pub boot_cause : (asked : Option Settings) (settings : Settings) (input : Option (List ℕ)) (text : List ℕ) (lines : List Line)
     (fault : ProgramFault) → asked ≡ Some settings → IfSome input (λ bytes. text ≡ bytes_read bytes)
-    → IsScript settings.sizes text lines → IsBootFault settings.sizes fault → IfSome input (λ bytes. HasCause asked bytes fault)
+    → IsScript settings.sizes text lines → IsBootFault settings.sizes fault → IfSome input (HasCause asked fault)
 boot_cause asked settings None text lines fault is_asked read script is = tt
 boot_cause asked settings (Some bytes) text lines (Words fault) is_asked read script is = absurd is
 boot_cause asked settings (Some bytes) text lines (Script fault) is_asked read script is = absurd is
@@ -86,14 +86,14 @@ boot_cause asked settings (Some bytes) text lines (NoMemory e) is_asked read scr
 
 -- misuse that has a cause, and was told
 pub misused : (asked : Option Settings) (input before after : Option (List ℕ)) (fault : ProgramFault) → status_of fault ≡ 2
-    → IfSome input (λ bytes. HasCause asked bytes fault) → AppendsBeginning before after (fault_text fault)
-    → IfSome input (λ bytes. IsMisused asked bytes before after)
+    → IfSome input (HasCause asked fault) → AppendsBeginning before after (fault_text fault)
+    → IfSome input (IsMisused asked before after)
 misused asked None before after fault is cause told = tt
 misused asked (Some bytes) before after fault is cause told = record { fault = fault; is_misuse = is; cause = cause; told = told }
 
 -- nothing was written, so that is a beginning of the answers too
-nothing_left : (asked : Option Settings) (input : List ℕ) (fault : ProgramFault) (output : Option (List ℕ)) → HasCause asked input fault
-    → LeavesAnswers asked input fault output output
+nothing_left : (asked : Option Settings) (input : List ℕ) (fault : ProgramFault) (output : Option (List ℕ)) → HasCause asked fault input
+    → LeavesAnswers asked fault output output input
 nothing_left asked input (Words fault) output cause = Keeps-refl output
 nothing_left asked input (Script fault) output cause = Keeps-refl output
 nothing_left asked input BadConfig output cause = Keeps-refl output
@@ -103,8 +103,8 @@ nothing_left asked input (NoMemory e) output cause = Keeps-refl output
 
 -- failure that has a cause, before an answer was written
 pub failed : (asked : Option Settings) (input output before after : Option (List ℕ)) (fault : ProgramFault) → status_of fault ≡ 1
-    → IfSome input (λ bytes. HasCause asked bytes fault) → AppendsBeginning before after (fault_text fault)
-    → IfSome input (λ bytes. FailsAtWork asked bytes output output before after)
+    → IfSome input (HasCause asked fault) → AppendsBeginning before after (fault_text fault)
+    → IfSome input (FailsAtWork asked (written output before) (written output after))
 failed asked None output before after fault is cause told = tt
 failed asked (Some bytes) output before after fault is cause told = record {
   fault = fault;
@@ -116,9 +116,9 @@ failed asked (Some bytes) output before after fault is cause told = record {
 
 -- and that of the output, which took a beginning of the answers
 pub cut_short : (asked : Option Settings) (input output_before output_after before after : Option (List ℕ)) (text given : List ℕ)
-    (fault : ProgramFault) → IfSome input (λ bytes. IsAnswered asked bytes text) → given ≡ text
+    (fault : ProgramFault) → IfSome input (IsAnswered asked text) → given ≡ text
     → AppendsBeginning output_before output_after given → fault ≡ Output → AppendsBeginning before after (fault_text fault)
-    → IfSome input (λ bytes. FailsAtWork asked bytes output_before output_after before after)
+    → IfSome input (FailsAtWork asked (written output_before before) (written output_after after))
 cut_short asked None output_before output_after before after text given fault answered same written is told = tt
 cut_short asked (Some bytes) output_before output_after before after text given fault answered same written is told = record {
   fault = Output;

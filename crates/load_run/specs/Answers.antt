@@ -12,7 +12,8 @@ use Rattle.script_lines.specs.declared.line.Line.{Line}
 use Rattle.script_lines.specs.declared.script.TheConstants.{MOST_INPUT}
 use Rattle.script_lines.specs.Script.{IsScript}
 use Rattle.script_replay.specs.Lines.{ServesAll, Standing}
-use Rattle.script_replay.specs.History.{TellsHistory}
+use Rattle.script_replay.specs.History.{TellsHistory, past}
+use Rattle.script_replay.specs.Terms.{terms}
 use Rattle.load_options.specs.declared.settings.Settings.{Settings}
 use Rattle.load_run.specs.Ending.{TellsEnd}
 
@@ -41,15 +42,15 @@ pub record AreAnswers (sizes : Config) (is_explained is_audited : Bool) (lines :
   pub answers : List ℕ
   pub ending : List ℕ
   pub first : StandsAtFirst sizes frames stocks start
-  pub served : ServesAll frames is_explained start lines answers end
-  pub history : TellsHistory frames is_explained (Unit {0}) [] start lines answers end
+  pub served : ServesAll (terms frames stocks is_explained) lines start end answers
+  pub history : TellsHistory (terms frames stocks is_explained) lines (past [] start) end answers
   pub told : TellsRun frames [] start.locked.machine.ledger
   pub ends : TellsEnd frames stocks is_audited end ending
   pub text_is : text ≡ answers ++ ending
 
 -- these settings are asked for, their sizes may be, and the input is a script for them: the text is what a boot of
 -- these sizes answers to it, and tells of kills and of its end where they say so
-pub record IsAnswered (asked : Option Settings) (input text : List ℕ) : Type 0 where
+pub record IsAnswered (asked : Option Settings) (text input : List ℕ) : Type 0 where
   pub settings : Settings
   pub is_asked : asked ≡ Some settings
   pub valid : IsValidConfig settings.sizes
@@ -59,7 +60,7 @@ pub record IsAnswered (asked : Option Settings) (input text : List ℕ) : Type 0
 
 -- the settings that are asked for have answers to the input, and a writer that held the bytes `before`, where they are
 -- known, was given all of them
-pub record IsReplayed (asked : Option Settings) (input : List ℕ) (before after : Option (List ℕ)) : Type 0 where
+pub record IsReplayed (asked : Option Settings) (before after : Option (List ℕ)) (input : List ℕ) : Type 0 where
   pub text : List ℕ
-  pub answered : IsAnswered asked input text
+  pub answered : IsAnswered asked text input
   pub written : Appends before after text

@@ -15,7 +15,7 @@ use Rattle.load_options.specs.Words.{TellsSettings}
 use Rattle.load_run.specs.Writing.{AppendsBeginning}
 
 -- the line of this number of what is read of the input is the first bad one, for the sizes that are asked for
-pub record IsBadAt (asked : Option Settings) (input : List ℕ) (number : ℕ) : Type 0 where
+pub record IsBadAt (asked : Option Settings) (number : ℕ) (input : List ℕ) : Type 0 where
   pub settings : Settings
   pub is_asked : asked ≡ Some settings
   pub in_range : HasSizesInRange settings.sizes
@@ -32,35 +32,43 @@ pub record IsRefused (asked : Option Settings) (input : List ℕ) : Type 0 where
 -- Which fault comes when. The words are judged first, then the script, then the sizes: so whatever comes after the
 -- words comes where they ask for settings, and the sizes are refused only where the input is a script. That memory
 -- ran out or the input failed has no other cause that a clause could name
-abbrev pub HasCause : Option Settings → List ℕ → ProgramFault → Type 0
-HasCause asked input (Words fault) = TellsSettings asked (Err fault)
-HasCause asked input (Script (script.BadLine number)) = IsBadAt asked input number
-HasCause asked input (Script script.NoMemory) = IsSome asked
-HasCause asked input BadConfig = IsRefused asked input
-HasCause asked input Input = IsSome asked
-HasCause asked input Output = (text : List ℕ) × IsAnswered asked input text
-HasCause asked input (NoMemory error) = IsSome asked
+abbrev pub HasCause : Option Settings → ProgramFault → (input : List ℕ) → Type 0
+HasCause asked (Words fault) input = TellsSettings asked (Err fault)
+HasCause asked (Script (script.BadLine number)) input = IsBadAt asked number input
+HasCause asked (Script script.NoMemory) input = IsSome asked
+HasCause asked BadConfig input = IsRefused asked input
+HasCause asked Input input = IsSome asked
+HasCause asked Output input = (text : List ℕ) × IsAnswered asked text input
+HasCause asked (NoMemory error) input = IsSome asked
+
+-- what the writers of the answers and of the faults hold, where that is known
+pub record Written : Type 0 where
+  pub output : Option (List ℕ)
+  pub faults : Option (List ℕ)
+
+-- this was written to the one and to the other
+abbrev pub written : (output faults : Option (List ℕ)) → Written
+written output faults = record { output = output; faults = faults }
 
 -- what is left of the answers to the input: a beginning where the output failed, else nothing
-abbrev pub LeavesAnswers : Option Settings → List ℕ → ProgramFault → Option (List ℕ) → Option (List ℕ) → Type 0
-LeavesAnswers asked input Output before after =
-    (text : List ℕ) × IsAnswered asked input text × AppendsBeginning before after text
-LeavesAnswers asked input fault before after = Keeps before after
+abbrev pub LeavesAnswers : Option Settings → ProgramFault → (before after : Option (List ℕ)) (input : List ℕ) → Type 0
+LeavesAnswers asked Output before after input =
+    (text : List ℕ) × IsAnswered asked text input × AppendsBeginning before after text
+LeavesAnswers asked fault before after input = Keeps before after
 
 -- the words or the input are misused: the words ask for no settings, or the input has a first bad line, or the sizes
 -- are refused; and a writer that held the bytes `before`, where they are known, was told so, as far as it took that
-pub record IsMisused (asked : Option Settings) (input : List ℕ) (before after : Option (List ℕ)) : Type 0 where
+pub record IsMisused (asked : Option Settings) (before after : Option (List ℕ)) (input : List ℕ) : Type 0 where
   pub fault : ProgramFault
   pub is_misuse : status_of fault ≡ 2
-  pub cause : HasCause asked input fault
+  pub cause : HasCause asked fault input
   pub told : AppendsBeginning before after (fault_text fault)
 
 -- the program failed at its work: of the answers a beginning was written where the output failed, else nothing; and
 -- that it failed was told, as far as the writer took that
-pub record FailsAtWork (asked : Option Settings) (input : List ℕ)
-    (output_before output_after faults_before faults_after : Option (List ℕ)) : Type 0 where
+pub record FailsAtWork (asked : Option Settings) (before after : Written) (input : List ℕ) : Type 0 where
   pub fault : ProgramFault
   pub is_failure : status_of fault ≡ 1
-  pub cause : HasCause asked input fault
-  pub left : LeavesAnswers asked input fault output_before output_after
-  pub told : AppendsBeginning faults_before faults_after (fault_text fault)
+  pub cause : HasCause asked fault input
+  pub left : LeavesAnswers asked fault before.output after.output input
+  pub told : AppendsBeginning before.faults after.faults (fault_text fault)

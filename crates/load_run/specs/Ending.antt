@@ -33,9 +33,9 @@ pub record EndsHeld (table : KnownTable) (stock_table : Words) (before : Standin
   pub ends : Ends table stock_table before.locked cpus ended.audit
 
 -- the boot ended where something stood of which this is so
-pub record EndsAfter (table : KnownTable) (stock_table : Words) (is : Standing → Type 0) (ended : Ended) : Type 0 where
+pub record EndsAfter (table : KnownTable) (stock_table : Words) (is_so : Standing → Type 0) (ended : Ended) : Type 0 where
   pub before : Standing
-  pub is_before : is before
+  pub so : is_so before
   pub ends : EndsHeld table stock_table before ended
 
 -- how many frames there are, and where

@@ -1,6 +1,6 @@
 //! The end of a boot: every pin that is still held is put, the boot ends, and what was counted is told.
 
-ghost use Rattle.std.specs.Prelude.{◌≡◌, ◌++◌, [], IfOk, length};
+ghost use Rattle.std.specs.Prelude.{◌≡◌, ◌++◌, [], OnOk, length};
 ghost use Rattle.std.specs.List.{AllZip};
 ghost use Rattle.std.specs.String.{string_bytes};
 ghost use Rattle.script_replay.specs.Lines.{standing};
@@ -62,17 +62,17 @@ pub fn end_boot<N: BootName>(locked: Locked<N>, tables: Tables<N>, cpus: Vec<Cpu
 
 /// Adds what is told of the end: the pins that were held, where there were any, and what was counted. It fails only
 /// for want of memory.
-pub fn write_end(ended: &Ended, text: &mut String) -> Result<(), AllocError>
-    ensures { IfOk result (λ _. string_bytes text.new
+pub fn write_end(text: &mut String, ended: &Ended) -> Result<(), AllocError>
+    ensures { OnOk result (string_bytes text.new
         ≡ string_bytes text.old ++ (held_text ended.now.held ++ audit_text ended.now.audit)) }
 {
-    write_held(ended.held, text)?;
-    write_audit(&ended.audit, text)
+    write_held(text, ended.held)?;
+    write_audit(text, &ended.audit)
 }
 
 // A line with the pins that were held, where there were any.
-fn write_held(held: u64, text: &mut String) -> Result<(), AllocError>
-    ensures { IfOk result (λ _. string_bytes text.new ≡ string_bytes text.old ++ held_text held) }
+fn write_held(text: &mut String, held: u64) -> Result<(), AllocError>
+    ensures { OnOk result (string_bytes text.new ≡ string_bytes text.old ++ held_text held) }
 {
     if held == 0 {
         Ok(())
@@ -82,16 +82,16 @@ fn write_held(held: u64, text: &mut String) -> Result<(), AllocError>
 }
 
 // The two lines of what was counted.
-fn write_audit(audit: &Audit, text: &mut String) -> Result<(), AllocError>
-    ensures { IfOk result (λ _. string_bytes text.new ≡ string_bytes text.old ++ audit_text audit.now) }
+fn write_audit(text: &mut String, audit: &Audit) -> Result<(), AllocError>
+    ensures { OnOk result (string_bytes text.new ≡ string_bytes text.old ++ audit_text audit.now) }
 {
-    write_places(audit, text)?;
-    write_counts(audit, text)
+    write_places(text, audit)?;
+    write_counts(text, audit)
 }
 
 // The line of the frames, and where they are.
-fn write_places(audit: &Audit, text: &mut String) -> Result<(), AllocError>
-    ensures { IfOk result (λ _. string_bytes text.new ≡ string_bytes text.old ++ audit_places_text audit.now) }
+fn write_places(text: &mut String, audit: &Audit) -> Result<(), AllocError>
+    ensures { OnOk result (string_bytes text.new ≡ string_bytes text.old ++ audit_places_text audit.now) }
 {
     let frames = audit.frames;
     let free = audit.free;
@@ -100,8 +100,8 @@ fn write_places(audit: &Audit, text: &mut String) -> Result<(), AllocError>
 }
 
 // The line of the units that ended, and that came back.
-fn write_counts(audit: &Audit, text: &mut String) -> Result<(), AllocError>
-    ensures { IfOk result (λ _. string_bytes text.new ≡ string_bytes text.old ++ counts_text audit.now) }
+fn write_counts(text: &mut String, audit: &Audit) -> Result<(), AllocError>
+    ensures { OnOk result (string_bytes text.new ≡ string_bytes text.old ++ counts_text audit.now) }
 {
     let puts = audit.last_puts;
     let freezes = audit.freezes;

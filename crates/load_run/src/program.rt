@@ -2,7 +2,7 @@
 
 ghost use Rattle.std.specs.Prelude.{◌≡◌, ◌≤◌, All, IfErr, IfOk, IfSome, IsSome, OnOk, Some, map};
 ghost use Rattle.std.specs.Io.KnownBytes.{Appends};
-ghost use Rattle.load_run.specs.Causes.{FailsAtWork, HasCause, IsMisused};
+ghost use Rattle.load_run.specs.Causes.{FailsAtWork, HasCause, IsMisused, written};
 ghost use Rattle.load_run.specs.Fault.{IsBootFault, IsReadFault, IsScriptFault, IsWordsFault};
 ghost use Rattle.load_run.specs.Writing.{AppendsBeginning};
 ghost use Rattle.script_lines.specs.Script.{IsScript};
@@ -45,13 +45,13 @@ pub fn drive<S: AsStr, I: Read, O: Write, F: Write>(
     ensures quiet { result ≡ 2 → O.contents output.new ≡ O.contents output.old }
     ensures silent { result ≡ 0 → F.contents faults.new ≡ F.contents faults.old }
     ensures asked { result ≡ 0 → IsSome (settings_of (map S.text words.now)) }
-    ensures replayed { result ≡ 0 → IfSome (I.remaining input.old) (λ bytes.
-        IsReplayed (settings_of (map S.text words.now)) bytes (O.contents output.old) (O.contents output.new)) }
-    ensures misused { result ≡ 2 → IfSome (I.remaining input.old) (λ bytes.
-        IsMisused (settings_of (map S.text words.now)) bytes (F.contents faults.old) (F.contents faults.new)) }
-    ensures fails { result ≡ 1 → IfSome (I.remaining input.old) (λ bytes.
-        FailsAtWork (settings_of (map S.text words.now)) bytes (O.contents output.old) (O.contents output.new)
-        (F.contents faults.old) (F.contents faults.new)) }
+    ensures replayed { result ≡ 0 → IfSome (I.remaining input.old)
+        (IsReplayed (settings_of (map S.text words.now)) (O.contents output.old) (O.contents output.new)) }
+    ensures misused { result ≡ 2 → IfSome (I.remaining input.old)
+        (IsMisused (settings_of (map S.text words.now)) (F.contents faults.old) (F.contents faults.new)) }
+    ensures fails { result ≡ 1 → IfSome (I.remaining input.old) (FailsAtWork (settings_of (map S.text words.now))
+        (written (O.contents output.old) (F.contents faults.old))
+        (written (O.contents output.new) (F.contents faults.new))) }
 {
     match answers_to(alloc, words, input) {
         Ok(answers) => match write_answers(output, &answers) {
@@ -69,10 +69,10 @@ fn answers_to<S: AsStr, I: Read>(
     input: &mut I,
 ) -> Result<Vec<u8>, ProgramFault>
     ensures asked { OnOk result (IsSome (settings_of (map S.text words.now))) }
-    ensures answered { IfOk result (λ answers. IfSome (I.remaining input.old) (λ bytes.
-        IsAnswered (settings_of (map S.text words.now)) bytes answers.items)) }
-    ensures cause { IfErr result (λ fault. IfSome (I.remaining input.old) (λ bytes.
-        HasCause (settings_of (map S.text words.now)) bytes fault)) }
+    ensures answered { IfOk result (λ answers. IfSome (I.remaining input.old)
+        (IsAnswered (settings_of (map S.text words.now)) answers.items)) }
+    ensures cause { IfErr result (λ fault. IfSome (I.remaining input.old)
+        (HasCause (settings_of (map S.text words.now)) fault)) }
 {
     let settings = read_words(alloc, words)?;
     let script = read_script(alloc, input)?;
@@ -116,7 +116,7 @@ fn answers_of(
     requires { All (LineIsThere settings.now.sizes.frames settings.now.sizes.cpus) lines.now }
     ensures answers { IfOk result (λ text.
         AreAnswers settings.now.sizes settings.now.is_explained settings.now.is_audited lines.now text.items) }
-    ensures valid { IfOk result (λ _. IsValidConfig settings.now.sizes) }
+    ensures valid { OnOk result (IsValidConfig settings.now.sizes) }
     ensures fault { IfErr result (IsBootFault settings.now.sizes) }
 {
     match boot(alloc, settings.sizes) {

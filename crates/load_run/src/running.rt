@@ -5,6 +5,7 @@ ghost use Rattle.mem_system.specs.Boots.{IsSizedAs};
 ghost use Rattle.script_replay.specs.History.{ReplaysOrStops};
 ghost use Rattle.script_replay.specs.Lines.{standing};
 ghost use Rattle.script_replay.specs.Ranges.{LineIsThere};
+ghost use Rattle.script_replay.specs.Terms.{terms};
 ghost use Rattle.load_run.specs.Answers.{AreAnswers};
 ghost use Rattle.load_run.specs.Ending.{EndsAfter, end_text};
 
@@ -46,8 +47,8 @@ fn replay_and_end_boot<N: BootName>(
 ) -> (Result<Vec<u8>, AllocError>, Ended)
     requires count { length cpus.items ≡ N.frames.cpus }
     requires lines { All (LineIsThere N.frames.frames N.frames.cpus) lines.now }
-    ensures { EndsAfter N.frames N.stocks (ReplaysOrStops N.frames N.stocks is_explained
-        (standing locked cpus.items) lines.now result.0) result.1 }
+    ensures { EndsAfter N.frames N.stocks (λ left. ReplaysOrStops (terms N.frames N.stocks is_explained) lines.now
+        (standing locked cpus.items) left result.0) result.1 }
 {
     let answers = replay(alloc, &mut locked, &tables, &mut cpus, lines, is_explained);
     let ended = end_boot(locked, tables, cpus);
@@ -66,7 +67,7 @@ pub fn tell_end(
 {
     if is_audited {
         let mut told = String::new(alloc);
-        write_end(&ended, &mut told)?;
+        write_end(&mut told, &ended)?;
         answers.extend_from_slice(told.as_bytes())?;
     }
     Ok(answers)

@@ -10,15 +10,15 @@ use Rattle.load_threads.specs.Answers.{AreThreadAnswers, IsAnsweredByThreads, Is
 
 -- the answers were written behind what the writer held, where the script is known
 pub run_to : (asked : Option Settings) (input before after : Option (List ℕ)) (text : List ℕ)
-    → IfSome input (λ bytes. IsAnsweredByThreads asked bytes text) → Appends before after text
-    → IfSome input (λ bytes. IsRun asked bytes before after)
+    → IfSome input (IsAnsweredByThreads asked text) → Appends before after text
+    → IfSome input (IsRun asked before after)
 run_to asked None before after text is written = tt
 run_to asked (Some bytes) before after text is written = record { text = text; answered = is; written = written }
 
 -- what was read of an input is all of it, where it is a script, and is answered by what its lines are
 pub answered : (asked : Option Settings) (input : Option (List ℕ)) (script : List ℕ) (settings : Settings) (lines : List Line) (text : List ℕ)
     → asked ≡ Some settings → IfSome input (λ bytes. script ≡ take 1048577 bytes) → IsScript settings.sizes script lines → IsValidConfig settings.sizes
-    → AreThreadAnswers settings.sizes settings.is_audited lines text → IfSome input (λ bytes. IsAnsweredByThreads asked bytes text)
+    → AreThreadAnswers settings.sizes settings.is_audited lines text → IfSome input (IsAnsweredByThreads asked text)
 answered asked None script settings lines text is_asked read is valid answers = tt
 answered asked (Some bytes) script settings lines text is_asked read is valid answers =
     let fits = is.fits in

@@ -7,9 +7,10 @@ use Rattle.zone_sizes.specs.declared.config.Config.{Config}
 use Rattle.mem_system.specs.Locked.{IsQuiet}
 use Rattle.mem_system.specs.Boots.{IsSizedAs}
 use Rattle.script_lines.specs.declared.line.Line.{Line}
-use Rattle.script_replay.specs.History.{TellsHistory}
+use Rattle.script_replay.specs.History.{TellsHistory, past}
 use Rattle.script_replay.specs.Lines.{ServesAll, Standing}
 use Rattle.script_replay.specs.Ranges.{LineIsThere}
+use Rattle.script_replay.specs.Terms.{boot_tables, terms}
 use Rattle.script_threads.specs.Each.{TellsEach, workers_from}
 use Rattle.script_threads.specs.Runs.{lines_before_go}
 use Rattle.load_run.specs.declared.boot_end.Ended.{Ended}
@@ -40,8 +41,8 @@ later_there sizes t w n lines later sized is all =
 pub are_answers : (sizes : Config) (is_audited : Bool) (t : KnownTable) (w : Words) (lines first_lines other_lines : List Line)
     (start at_go : Standing) (early later text : List ℕ) (told : Ended) → StandsAtFirst sizes t w start
     → first_lines ≡ take (lines_before_go lines) lines → other_lines ≡ drop (lines_before_go lines) lines
-    → ServesAll t false start first_lines early at_go → TellsHistory t false (Unit {0}) [] start first_lines early at_go
-    → TellsEach t w (workers_from 1 at_go.cpus other_lines) later
+    → ServesAll (terms t w false) first_lines start at_go early → TellsHistory (terms t w false) first_lines (past [] start) at_go early
+    → TellsEach (boot_tables t w) (workers_from 1 at_go.cpus other_lines) later
     → EndsAfter t w (λ end. IsQuiet t w end.locked × (length end.cpus ≡ t.cpus)) told
     → text ≡ (early ++ later) ++ end_text is_audited told → AreThreadAnswers sizes is_audited lines text
 are_answers sizes is_audited t w lines first_lines other_lines start at_go early later text told first is_first is_other served history tells
@@ -55,11 +56,11 @@ are_answers sizes is_audited t w lines first_lines other_lines start at_go early
       later = later;
       ending = end_text is_audited told;
       first = first;
-      served = subst (λ (l : List Line). ServesAll t false start l early at_go) is_first served;
-      history = subst (λ (l : List Line). TellsHistory t false (Unit {0}) [] start l early at_go) is_first history;
-      tells = subst (λ (l : List Line). TellsEach t w (workers_from 1 at_go.cpus l) later) is_other tells;
-      quiet = ended.is_before.0;
-      count = ended.is_before.1;
+      served = subst (λ (l : List Line). ServesAll (terms t w false) l start at_go early) is_first served;
+      history = subst (λ (l : List Line). TellsHistory (terms t w false) l (past [] start) at_go early) is_first history;
+      tells = subst (λ (l : List Line). TellsEach (boot_tables t w) (workers_from 1 at_go.cpus l) later) is_other tells;
+      quiet = ended.so.0;
+      count = ended.so.1;
       ends = record { ended = told; ends = ended.ends; text_is = refl };
       text_is = is;
     }

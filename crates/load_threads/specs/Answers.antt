@@ -9,7 +9,8 @@ use Rattle.mem_system.specs.Locked.{IsQuiet}
 use Rattle.script_lines.specs.declared.line.Line.{Line}
 use Rattle.script_lines.specs.Script.{IsScript}
 use Rattle.script_replay.specs.Lines.{ServesAll, Standing}
-use Rattle.script_replay.specs.History.{TellsHistory}
+use Rattle.script_replay.specs.History.{TellsHistory, past}
+use Rattle.script_replay.specs.Terms.{boot_tables, terms}
 use Rattle.script_threads.specs.Each.{TellsEach, workers_from}
 use Rattle.script_threads.specs.Runs.{lines_before_go}
 use Rattle.load_options.specs.declared.settings.Settings.{Settings}
@@ -31,9 +32,9 @@ pub record AreThreadAnswers (sizes : Config) (is_audited : Bool) (lines : List L
   pub later : List ℕ
   pub ending : List ℕ
   pub first : StandsAtFirst sizes frames stocks start
-  pub served : ServesAll frames false start (take (lines_before_go lines) lines) early at_go
-  pub history : TellsHistory frames false (Unit {0}) [] start (take (lines_before_go lines) lines) early at_go
-  pub tells : TellsEach frames stocks (workers_from 1 at_go.cpus (drop (lines_before_go lines) lines)) later
+  pub served : ServesAll (terms frames stocks false) (take (lines_before_go lines) lines) start at_go early
+  pub history : TellsHistory (terms frames stocks false) (take (lines_before_go lines) lines) (past [] start) at_go early
+  pub tells : TellsEach (boot_tables frames stocks) (workers_from 1 at_go.cpus (drop (lines_before_go lines) lines)) later
   pub quiet : IsQuiet frames stocks end.locked
   pub count : length end.cpus ≡ frames.cpus
   pub ends : TellsEnd frames stocks is_audited end ending
@@ -41,7 +42,7 @@ pub record AreThreadAnswers (sizes : Config) (is_audited : Bool) (lines : List L
 
 -- these settings are asked for, their sizes may be, and the input is a script for them: the text is what a boot of
 -- these sizes answers to it by threads, and tells of its end where they say so
-pub record IsAnsweredByThreads (asked : Option Settings) (input text : List ℕ) : Type 0 where
+pub record IsAnsweredByThreads (asked : Option Settings) (text input : List ℕ) : Type 0 where
   pub settings : Settings
   pub is_asked : asked ≡ Some settings
   pub valid : IsValidConfig settings.sizes
@@ -51,7 +52,7 @@ pub record IsAnsweredByThreads (asked : Option Settings) (input text : List ℕ)
 
 -- the settings that are asked for have answers to the input, and a writer that held the bytes `before`, where they are
 -- known, was given all of them
-pub record IsRun (asked : Option Settings) (input : List ℕ) (before after : Option (List ℕ)) : Type 0 where
+pub record IsRun (asked : Option Settings) (before after : Option (List ℕ)) (input : List ℕ) : Type 0 where
   pub text : List ℕ
-  pub answered : IsAnsweredByThreads asked input text
+  pub answered : IsAnsweredByThreads asked text input
   pub written : Appends before after text

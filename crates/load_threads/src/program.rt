@@ -3,7 +3,7 @@
 ghost use Rattle.std.specs.Prelude.{◌≡◌, ◌≤◌, All, IfErr, IfOk, IfSome, IsSome, OnOk, Some, map};
 ghost use Rattle.zone_sizes.specs.Config.{IsValidConfig};
 ghost use Rattle.script_replay.specs.Ranges.{LineIsThere};
-ghost use Rattle.load_run.specs.Causes.{IsMisused};
+ghost use Rattle.load_run.specs.Causes.{IsMisused, written};
 ghost use Rattle.load_run.specs.Fault.{IsBootFault, IsWordsFault};
 ghost use Rattle.load_options.specs.Settings.{HasSizesInRange};
 ghost use Rattle.load_options.specs.Words.{run_settings_of};
@@ -43,13 +43,13 @@ pub fn drive_run<R: Threads + Wait + Sync, S: AsStr, I: Read, O: Write, F: Write
     ensures quiet { result ≡ 2 → O.contents output.new ≡ O.contents output.old }
     ensures silent { result ≡ 0 → F.contents faults.new ≡ F.contents faults.old }
     ensures asked { result ≡ 0 → IsSome (run_settings_of (map S.text words.now)) }
-    ensures ran { result ≡ 0 → IfSome (I.remaining input.old) (λ bytes.
-        IsRun (run_settings_of (map S.text words.now)) bytes (O.contents output.old) (O.contents output.new)) }
-    ensures misused { result ≡ 2 → IfSome (I.remaining input.old) (λ bytes.
-        IsMisused (run_settings_of (map S.text words.now)) bytes (F.contents faults.old) (F.contents faults.new)) }
-    ensures fails { result ≡ 1 → IfSome (I.remaining input.old) (λ bytes.
-        FailsAtRun (run_settings_of (map S.text words.now)) bytes (O.contents output.old) (O.contents output.new)
-        (F.contents faults.old) (F.contents faults.new)) }
+    ensures ran { result ≡ 0 → IfSome (I.remaining input.old)
+        (IsRun (run_settings_of (map S.text words.now)) (O.contents output.old) (O.contents output.new)) }
+    ensures misused { result ≡ 2 → IfSome (I.remaining input.old)
+        (IsMisused (run_settings_of (map S.text words.now)) (F.contents faults.old) (F.contents faults.new)) }
+    ensures fails { result ≡ 1 → IfSome (I.remaining input.old) (FailsAtRun (run_settings_of (map S.text words.now))
+        (written (O.contents output.old) (F.contents faults.old))
+        (written (O.contents output.new) (F.contents faults.new))) }
 {
     match answers_to(rt, alloc, words, input) {
         Ok(answers) => match write_answers(output, &answers) {
@@ -68,10 +68,10 @@ fn answers_to<R: Threads + Wait + Sync, S: AsStr, I: Read>(
     input: &mut I,
 ) -> Result<Vec<u8>, ProgramFault>
     ensures asked { OnOk result (IsSome (run_settings_of (map S.text words.now))) }
-    ensures answered { IfOk result (λ answers. IfSome (I.remaining input.old) (λ bytes.
-        IsAnsweredByThreads (run_settings_of (map S.text words.now)) bytes answers.items)) }
-    ensures cause { IfErr result (λ fault. IfSome (I.remaining input.old) (λ bytes.
-        HasRunCause (run_settings_of (map S.text words.now)) bytes fault)) }
+    ensures answered { IfOk result (λ answers. IfSome (I.remaining input.old)
+        (IsAnsweredByThreads (run_settings_of (map S.text words.now)) answers.items)) }
+    ensures cause { IfErr result (λ fault. IfSome (I.remaining input.old)
+        (HasRunCause (run_settings_of (map S.text words.now)) fault)) }
 {
     let settings = read_words(alloc, words)?;
     let script = read_script(alloc, input)?;
@@ -101,7 +101,7 @@ fn answers_of<R: Threads + Wait + Sync>(
     requires { All (LineIsThere settings.now.sizes.frames settings.now.sizes.cpus) lines.now }
     ensures answers { IfOk result (λ text.
         AreThreadAnswers settings.now.sizes settings.now.is_audited lines.now text.items) }
-    ensures valid { IfOk result (λ _. IsValidConfig settings.now.sizes) }
+    ensures valid { OnOk result (IsValidConfig settings.now.sizes) }
     ensures fault { IfErr result (IsBootFault settings.now.sizes) }
 {
     match boot(alloc, settings.sizes) {

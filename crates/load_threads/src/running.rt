@@ -5,6 +5,7 @@ ghost use Rattle.std.specs.Prelude.{◌≡◌, ◌<◌, ◌^◌, All, IfOk, leng
 ghost use Rattle.mem_system.specs.Locked.{IsQuiet};
 ghost use Rattle.mem_system.specs.Boots.{IsSizedAs};
 ghost use Rattle.script_replay.specs.Ranges.{LineIsThere};
+ghost use Rattle.script_replay.specs.Terms.{boot_tables};
 ghost use Rattle.script_threads.specs.Each.{TellsEach, workers_from};
 ghost use Rattle.load_run.specs.Ending.{EndsAfter};
 ghost use Rattle.load_threads.specs.Answers.{AreThreadAnswers};
@@ -59,7 +60,7 @@ fn serve_and_end<N: BootName + Send + Sync, R: Threads + Wait + Sync>(
     requires count { length cpus.items ≡ N.frames.cpus }
     requires lines { All (LineIsThere N.frames.frames N.frames.cpus) lines.now }
     ensures told { IfOk result.0 (λ text.
-        TellsEach N.frames N.stocks (workers_from 1 cpus.items lines.now) text.items) }
+        TellsEach (boot_tables N.frames N.stocks) (workers_from 1 cpus.items lines.now) text.items) }
     ensures ends { EndsAfter N.frames N.stocks (λ end.
         IsQuiet N.frames N.stocks end.locked × (length end.cpus ≡ N.frames.cpus)) result.1 }
 {
@@ -82,7 +83,8 @@ fn serve_later<N: BootName + Send + Sync, R: Threads + Wait + Sync>(
 ) -> Result<Vec<u8>, AllocError>
     requires count { length cpus.old < 2 ^ 31 }
     requires lines { All (LineIsThere N.frames.frames (length cpus.old)) lines.now }
-    ensures { IfOk result (λ text. TellsEach N.frames N.stocks (workers_from 1 cpus.old lines.now) text.items) }
+    ensures { IfOk result (λ text.
+        TellsEach (boot_tables N.frames N.stocks) (workers_from 1 cpus.old lines.now) text.items) }
 {
     if has_memory {
         run_each(rt, alloc, system, cpus, lines, &NoGate)

@@ -11,7 +11,9 @@ use Rattle.mem_machine.specs.Local.{Side, side, Makes}
 use Rattle.mem_machine.specs.Settling.{Settles, settle_steps}
 use Rattle.mem_machine.specs.Steps.{open_steps, shut_steps}
 use Rattle.mem_reclaim.specs.Moves.{has_kill}
-use Rattle.mem_alloc.specs.Stepping.{Course, course, CountsMisses}
+-- how a call is said by its steps
+pub use Rattle.mem_alloc.specs.Stepping.{Course, course}
+use Rattle.mem_alloc.specs.Stepping.{CountsMisses}
 use Rattle.mem_alloc.specs.NoRash.{NoRashKill}
 use Rattle.mem_system.specs.declared.command.Cmd.{Cmd}
 use Rattle.mem_system.specs.declared.command.Cmd.TheVariants.{Alloc}

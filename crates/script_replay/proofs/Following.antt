@@ -54,16 +54,14 @@ use Rattle.mem_system.specs.declared.command.Cmd.TheVariants as cmd
 use Rattle.mem_system.specs.declared.command.Reply.{Reply}
 use Rattle.mem_system.specs.declared.command.Reply.TheVariants.{Refused, Done}
 use Rattle.mem_system.specs.Locked.{KnownLocked, AllShut}
-use Rattle.mem_system.specs.Visits.{Holder, holder, side_of, IsServed}
+use Rattle.mem_system.specs.Visits.{course, Holder, holder, side_of, IsServed}
 use Rattle.reply_texts.specs.Answer.{Answer}
 use Rattle.reply_texts.specs.Answer as answer
 use Rattle.script_replay.specs.declared.work.Work.{Work}
 use Rattle.script_replay.specs.declared.work.Work.TheVariants as work
-use Rattle.script_replay.specs.Answers.{RepliesServed, AnswersGet, AnswersPut, CanNotList, AnswersRelease, AnswersSettle, AnswersFrame}
-use Rattle.script_replay.specs.Answers.{Answers, AnswersWork}
+use Rattle.script_replay.specs.Answers.{RepliesServed, GetsPin, PutsPin, CanNotList, AnswersRelease, AnswersFrame, IsServedUnderLock, SettlesUnderLock}
+use Rattle.script_replay.specs.Answers.{Answers, TellsWork, fast_steps, get_steps, put_steps}
 use Rattle.script_replay.specs.Ranges.{WorkInRange}
-use Rattle.script_replay.specs.Terms.{terms}
-use Rattle.script_replay.specs.History.{served_steps, fast_answer_steps, get_steps, put_steps, frame_steps, release_answer_steps, settle_answer_steps, answer_steps, work_steps}
 use Rattle.mem_machine.specs.Following.{FollowsSteps}
 
 -- ---- what no one sees
@@ -227,14 +225,18 @@ module _ (t : KnownTable) (w : Words) (run : Run) (locked : KnownLocked) (cpus :
   this_part : IsPart t w run m cpus k c
   this_part = record { shows = shows; is_part = is_part; tied = (tied k c is_part).tied }
 
-  got_follows : (g f : ℕ) (after : Holder) → FastAnswers g (Got f) c after.cpu → after.locked ≡ locked → Decided (fast_answer_steps p g (Got f)) →
-      Follows (fast_answer_steps p g (Got f)) after
+  -- the steps are those that were made
+  as_made : (steps made : Run) (after : Holder) → steps ≡ made → (Decided made → Follows made after) → Decided steps → Follows steps after
+  as_made steps made after are follows decided = subst (λ (r : Run). Follows r after) (sym are) (follows (subst Decided are decided))
+
+  got_follows : (g f : ℕ) (after : Holder) → FastAnswers g (Got f) c after.cpu → after.locked ≡ locked → Decided (fast_steps p g (Got f)) →
+      Follows (fast_steps p g (Got f)) after
   got_follows g f after is kept decided =
       step_follows (step.Consume g) says.Took after kept (ap (λ (x : KnownCpu). x.number) is.5) refl
       (fast_calls_lead.got t w run m cpus k c after.cpu this_part g f is decided) decided
 
-  fast_follows : (g : ℕ) (said : fast.Fast) (after : Holder) → FastAnswers g said c after.cpu → after.locked ≡ locked → Decided (fast_answer_steps p g said) →
-      Follows (fast_answer_steps p g said) after
+  fast_follows : (g : ℕ) (said : fast.Fast) (after : Holder) → FastAnswers g said c after.cpu → after.locked ≡ locked → Decided (fast_steps p g said) →
+      Follows (fast_steps p g said) after
   fast_follows g FreshFull after is kept decided = unseen_follows after kept (fast_unseen t m c g FreshFull after.cpu is (λ f e. cc))
   fast_follows g ListEmpty after is kept decided = unseen_follows after kept (fast_unseen t m c g ListEmpty after.cpu is (λ f e. cc))
   fast_follows g OtherGroup after is kept decided = unseen_follows after kept (fast_unseen t m c g OtherGroup after.cpu is (λ f e. cc))
@@ -242,78 +244,89 @@ module _ (t : KnownTable) (w : Words) (run : Run) (locked : KnownLocked) (cpus :
   fast_follows g NoStock after is kept decided = unseen_follows after kept (fast_unseen t m c g NoStock after.cpu is (λ f e. cc))
   fast_follows g (Got f) after is kept decided = got_follows g f after is kept decided
 
-  get_follows : (f : ℕ) (after : Holder) (said : Answer) → f < t.frames → AnswersGet f before after said → Decided (get_steps p f said) →
+  get_follows : (f : ℕ) (after : Holder) (said : Answer) → f < t.frames → GetsPin f c after.cpu said → after.locked ≡ locked → Decided (get_steps p f said) →
       Follows (get_steps p f said) after
-  get_follows f after (answer.Got Held) inside is decided =
-      step_follows (step.Get f) says.Held after is.1 (ap (λ (x : KnownCpu). x.number) is.0.1.2) refl
-      (fast_calls_lead.held t w run m cpus k c after.cpu this_part f inside is.0.0 is.0.1) decided
-  get_follows f after (answer.Got Zero) inside is decided =
-      unseen_follows after is.1 (unseen_seat t m c after.cpu is.0.1.0 f (looked is.0.1.1.0) is.0.1.2 is.0.1.1.2 (λ x. refl))
-  get_follows f after (answer.Got (Raced found)) inside is decided =
-      unseen_follows after is.1 (unseen_seat t m c after.cpu is.0.1.0 f (λ x. raced found (looked is.0.1.1.0 x)) is.0.1.2 is.0.1.1.4 (λ x. refl))
-  get_follows f after (answer.Got Full) inside is decided =
-      unseen_follows after is.1 (unseen_seat t m c after.cpu is.0.1.0 f (looked 255) is.0.1.2 is.0.1.1 (λ x. refl))
-  get_follows f after (answer.Served (Refused PinsFull)) inside is decided = unseen_follows after is.1 (unseen_same t m c after.cpu is.0.1)
-  get_follows f after said inside is decided = absurd is.0
+  get_follows f after (answer.Got Held) inside is kept decided =
+      step_follows (step.Get f) says.Held after kept (ap (λ (x : KnownCpu). x.number) is.1.2) refl
+      (fast_calls_lead.held t w run m cpus k c after.cpu this_part f inside is.0 is.1) decided
+  get_follows f after (answer.Got Zero) inside is kept decided =
+      unseen_follows after kept (unseen_seat t m c after.cpu is.1.0 f (looked is.1.1.0) is.1.2 is.1.1.2 (λ x. refl))
+  get_follows f after (answer.Got (Raced found)) inside is kept decided =
+      unseen_follows after kept (unseen_seat t m c after.cpu is.1.0 f (λ x. raced found (looked is.1.1.0 x)) is.1.2 is.1.1.4 (λ x. refl))
+  get_follows f after (answer.Got Full) inside is kept decided =
+      unseen_follows after kept (unseen_seat t m c after.cpu is.1.0 f (looked 255) is.1.2 is.1.1 (λ x. refl))
+  get_follows f after (answer.Served (Refused PinsFull)) inside is kept decided = unseen_follows after kept (unseen_same t m c after.cpu is.1)
+  get_follows f after said inside is kept decided = absurd is
 
-  put_follows : (f : ℕ) (after : Holder) (said : Answer) → AnswersPut f before after said → Decided (put_steps p f said) → Follows (put_steps p f said) after
-  put_follows f after (answer.Put putted) is decided =
-      step_follows (step.Put f) (put_answer putted) after is.1 (put_number putted is.0.1) refl
-      (fast_calls_lead.putted t w run m cpus k c after.cpu this_part f putted is.0.1) decided
+  put_follows : (f : ℕ) (after : Holder) (said : Answer) → PutsPin f c after.cpu said → after.locked ≡ locked → Decided (put_steps p f said) → Follows (put_steps p f said) after
+  put_follows f after (answer.Put putted) is kept decided =
+      step_follows (step.Put f) (put_answer putted) after kept (put_number putted is.1) refl
+      (fast_calls_lead.putted t w run m cpus k c after.cpu this_part f putted is.1) decided
     where
       put_number : (x : Putted) → UnpinAnswers f x c after.cpu → after.cpu.number ≡ p
       put_number (put.Left n) a = ap (λ (y : KnownCpu). y.number) a.3
       put_number put.Last a = ap (λ (y : KnownCpu). y.number) a.3
-  put_follows f after (answer.Served (Refused NotPinned)) is decided = unseen_follows after is.1 (unseen_same t m c after.cpu is.0.1)
-  put_follows f after said is decided = absurd is.0
+  put_follows f after (answer.Served (Refused NotPinned)) is kept decided = unseen_follows after kept (unseen_same t m c after.cpu is.1)
+  put_follows f after said is kept decided = absurd is
 
-  replied_follows : (command : Cmd) (after : Holder) (said : Answer) (is : RepliesServed t command before after said) → AllShut after.locked.machine →
-      Decided (served_steps t command before after said is) → Follows (served_steps t command before after said is) after
-  replied_follows command after (answer.Served reply) is shut decided =
-      served_follows c (unseen_same t m c c refl) command reply after is shut decided
-  replied_follows command after said is shut decided = absurd is
+  -- served under the lock
+  locked_follows : (seen : KnownCpu) → IsUnseen t m c seen → (command : Cmd) (reply : Reply) (steps : Run) (after : Holder) →
+      IsServedUnderLock command seen reply (course t before steps after) → AllShut after.locked.machine → Decided steps → Follows steps after
+  locked_follows seen unseen command reply steps after is shut decided =
+      as_made steps (under_lock p is.served.steps) after (is.steps_are ∙ ap (λ (q : ℕ). under_lock q is.served.steps) unseen.number)
+      (λ all. served_follows seen unseen command reply after is.served shut all) decided
 
-  frame_follows : (path : Bor (List ℕ)) (after : Holder) (said : Answer) (is : AnswersFrame t path before after said) → AllShut after.locked.machine →
-      Decided (frame_steps t path before after said is) → Follows (frame_steps t path before after said is) after
-  frame_follows path after (answer.Fast (Got f)) is shut decided = got_follows is.0.group f after is.0.got is.1 decided
-  frame_follows path after (answer.Served reply) (inl none) shut decided =
-      unseen_follows after none.same_locked (unseen_same t m c after.cpu none.same_cpu)
-  frame_follows path after (answer.Served reply) (inr served) shut decided =
+  replied_follows : (command : Cmd) (steps : Run) (after : Holder) (said : Answer) → RepliesServed command (course t before steps after) said → AllShut after.locked.machine →
+      Decided steps → Follows steps after
+  replied_follows command steps after (answer.Served reply) is shut decided =
+      locked_follows c (unseen_same t m c c refl) command reply steps after is shut decided
+  replied_follows command steps after said is shut decided = absurd is
+
+  frame_follows : (path : Bor (List ℕ)) (steps : Run) (after : Holder) (said : Answer) → AnswersFrame path (course t before steps after) said → AllShut after.locked.machine →
+      Decided steps → Follows steps after
+  frame_follows path steps after (answer.Fast (Got f)) is shut decided =
+      as_made steps (fast_steps p is.gets.group (Got f)) after is.alone.steps_are
+      (λ all. got_follows is.gets.group f after is.gets.got is.alone.locked all) decided
+  frame_follows path steps after (answer.Served reply) (inl none) shut decided =
+      as_made steps [] after none.1 (λ all. unseen_follows after none.0.same_locked (unseen_same t m c after.cpu none.0.same_cpu)) decided
+  frame_follows path steps after (answer.Served reply) (inr served) shut decided =
       let none = served.none in
-      served_follows served.seen (fast_unseen t m c none.group none.fast served.seen none.answers none.none) (cmd.Alloc path 0) reply after served.served
+      locked_follows served.seen (fast_unseen t m c none.group none.fast served.seen none.answers none.none) (cmd.Alloc path 0) reply steps after served.served
       shut decided
-  frame_follows path after said is shut decided = absurd is
+  frame_follows path steps after said is shut decided = absurd is
 
-  release_follows : (f : ℕ) (after : Holder) (said : Answer) (is : AnswersRelease t f before after said) → AllShut after.locked.machine →
-      Decided (release_answer_steps t f before after said is) → Follows (release_answer_steps t f before after said is) after
-  release_follows f after answer.Listed is shut decided =
-      step_follows (step.Credit f) says.Back after is.1 (ap (λ (x : KnownCpu). x.number) is.0.listed.5) refl
-      (fast_calls_lead.listed t w run m cpus k c after.cpu this_part f is.0.fresh is.0.listed decided) decided
-  release_follows f after (answer.Served reply) is shut decided =
-      served_follows is.seen (list_unseen t m c f is.seen is.not_listed) (cmd.Release f) reply after is.served shut decided
-  release_follows f after said is shut decided = absurd is
+  release_follows : (f : ℕ) (steps : Run) (after : Holder) (said : Answer) → AnswersRelease f (course t before steps after) said → AllShut after.locked.machine →
+      Decided steps → Follows steps after
+  release_follows f steps after answer.Listed is shut decided =
+      as_made steps (cpu_makes p (step.Credit f) says.Back ∷ []) after is.1.steps_are
+      (λ all. step_follows (step.Credit f) says.Back after is.1.locked (ap (λ (x : KnownCpu). x.number) is.0.listed.5) refl
+      (fast_calls_lead.listed t w run m cpus k c after.cpu this_part f is.0.fresh is.0.listed all) all) decided
+  release_follows f steps after (answer.Served reply) is shut decided =
+      locked_follows is.seen (list_unseen t m c f is.seen is.not_listed) (cmd.Release f) reply steps after is.served shut decided
+  release_follows f steps after said is shut decided = absurd is
 
-  settle_follows : (after : Holder) (said : Answer) (is : AnswersSettle t before after said) → AllShut after.locked.machine →
-      Decided (settle_answer_steps t before after said is) → Follows (settle_answer_steps t before after said is) after
-  settle_follows after answer.Settled is shut decided = served_follows c (unseen_same t m c c refl) cmd.Settle Done after is shut decided
-  settle_follows after said is shut decided = absurd is
+  settle_follows : (steps : Run) (after : Holder) → SettlesUnderLock (course t before steps after) → AllShut after.locked.machine → Decided steps → Follows steps after
+  settle_follows steps after is shut decided = locked_follows c (unseen_same t m c c refl) cmd.Settle Done steps after is shut decided
 
-  answer_follows : (asked : Work) (after : Holder) (said : Answer) → WorkInRange t.frames asked → (is : Answers t asked before after said) →
-      AllShut after.locked.machine → Decided (answer_steps t asked before after said is) → Follows (answer_steps t asked before after said is) after
-  answer_follows (work.Visit command) after said names is shut decided = replied_follows command after said is shut decided
-  answer_follows (work.Frame path) after said names is shut decided = frame_follows path after said is shut decided
-  answer_follows (work.Fast g) after (answer.Fast taken) names is shut decided = fast_follows g taken after is.0 is.1 decided
-  answer_follows (work.Fast g) after said names is shut decided = absurd is
-  answer_follows (work.Release f) after said names is shut decided = release_follows f after said is shut decided
-  answer_follows (work.Get f) after said names is shut decided = get_follows f after said names is decided
-  answer_follows (work.Put f) after said names is shut decided = put_follows f after said is decided
-  answer_follows work.Settle after said names is shut decided = settle_follows after said is shut decided
-  answer_follows work.Blocks after said names is shut decided = absurd is
-  answer_follows work.Show after said names is shut decided = absurd is
+  answer_follows : (asked : Work) (steps : Run) (after : Holder) (said : Answer) → WorkInRange t.frames asked → Answers asked (course t before steps after) said →
+      AllShut after.locked.machine → Decided steps → Follows steps after
+  answer_follows (work.Visit command) steps after said names is shut decided = replied_follows command steps after said is shut decided
+  answer_follows (work.Frame path) steps after said names is shut decided = frame_follows path steps after said is shut decided
+  answer_follows (work.Fast g) steps after (answer.Fast taken) names is shut decided =
+      as_made steps (fast_steps p g taken) after is.1.steps_are (λ all. fast_follows g taken after is.0 is.1.locked all) decided
+  answer_follows (work.Fast g) steps after said names is shut decided = absurd is
+  answer_follows (work.Release f) steps after said names is shut decided = release_follows f steps after said is shut decided
+  answer_follows (work.Get f) steps after said names is shut decided =
+      as_made steps (get_steps p f said) after is.1.steps_are (λ all. get_follows f after said names is.0 is.1.locked all) decided
+  answer_follows (work.Put f) steps after said names is shut decided =
+      as_made steps (put_steps p f said) after is.1.steps_are (λ all. put_follows f after said is.0 is.1.locked all) decided
+  answer_follows work.Settle steps after answer.Settled names is shut decided = settle_follows steps after is shut decided
+  answer_follows work.Settle steps after said names is shut decided = absurd is
+  answer_follows work.Blocks steps after said names is shut decided = absurd is
+  answer_follows work.Show steps after said names is shut decided = absurd is
 
-  pub work_follows : (is_explained : Bool) (asked : Work) (after : Holder) (text : List ℕ) → WorkInRange t.frames asked
-      → (is : AnswersWork (terms t w is_explained) asked before after text) → AllShut after.locked.machine
-      → Decided (work_steps (terms t w is_explained) asked before after text is) → Follows (work_steps (terms t w is_explained) asked before after text is) after
-  work_follows is_explained work.Blocks after text names is shut decided = served_follows c (unseen_same t m c c refl) cmd.Settle Done after is.0 shut decided
-  work_follows is_explained work.Show after text names is shut decided = served_follows c (unseen_same t m c c refl) cmd.Settle Done after is.0 shut decided
-  work_follows is_explained asked after text names is shut decided = answer_follows asked after is.0 names is.1 shut decided
+  pub work_follows : (is_explained : Bool) (asked : Work) (steps : Run) (after : Holder) (text : List ℕ) → WorkInRange t.frames asked
+      → TellsWork is_explained asked (course t before steps after) text → AllShut after.locked.machine → Decided steps → Follows steps after
+  work_follows is_explained work.Blocks steps after text names is shut decided = settle_follows steps after is.0 shut decided
+  work_follows is_explained work.Show steps after text names is shut decided = settle_follows steps after is.0 shut decided
+  work_follows is_explained asked steps after text names is shut decided = answer_follows asked steps after is.0 names is.1 shut decided

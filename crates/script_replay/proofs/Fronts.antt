@@ -3,34 +3,38 @@ use Rattle.std.proofs.Common.{◌≡◌, ℕ, Bool, List, inr, refl}
 use Rattle.std.specs.Borrow.{Bor}
 use Rattle.frame_word.specs.Seats.{KnownTable}
 use Rattle.cpu_part.specs.Cpus.{KnownCpu}
+use Rattle.step_rules.specs.After.{Run}
 use Rattle.mem_system.specs.declared.command.Cmd.TheVariants as cmd
 use Rattle.mem_system.specs.Locked.{KnownLocked}
 use Rattle.reply_texts.specs.Answer.{Answer, Served}
 use Rattle.script_replay.specs.Answers.{AnswersFrame, AnswersRelease, CanNotList, GetsNoneFast, RepliesServed}
 use Rattle.script_replay.specs.Answers.{frame_kills, kills_text, release_kills}
-use Rattle.mem_system.specs.Visits.{holder}
+use Rattle.mem_system.specs.Visits.{Holder, course, holder}
 
--- where there is no frame for the group, the command is served
-pub served_after : (t : KnownTable) (path : Bor (List ℕ)) (l : KnownLocked) (c seen : KnownCpu) (k : KnownLocked) (d : KnownCpu) (said : Answer)
-    → GetsNoneFast path.now (holder l c) seen → RepliesServed t (cmd.Alloc path 0) (holder l seen) (holder k d) said → AnswersFrame t path (holder l c) (holder k d) said
-served_after t path l c seen k d (Served reply) none served = inr (record { seen = seen; none = none; served = served })
-served_after t path l c seen k d said none served = absurd served
+module _ (t : KnownTable) (l : KnownLocked) (c seen : KnownCpu) (after : Holder) where
+  -- where there is no frame for the group, the command is served
+  pub served_after : (path : Bor (List ℕ)) → GetsNoneFast path.now (holder l c) seen → (steps : Run) (said : Answer)
+      → RepliesServed (cmd.Alloc path 0) (course t (holder l seen) steps after) said → AnswersFrame path (course t (holder l c) steps after) said
+  served_after path none steps (Served reply) served =
+      inr (record { seen = seen; none = none; served = record { served = served.served; steps_are = served.steps_are } })
+  served_after path none steps said served = absurd served
 
--- where the frame can't be listed again, the command is served
-pub released_after : (t : KnownTable) (f : ℕ) (l : KnownLocked) (c seen : KnownCpu) (k : KnownLocked) (d : KnownCpu) (said : Answer)
-    → CanNotList f c seen → RepliesServed t (cmd.Release f) (holder l seen) (holder k d) said → AnswersRelease t f (holder l c) (holder k d) said
-released_after t f l c seen k d (Served reply) can_not served = record { seen = seen; not_listed = can_not; served = served }
-released_after t f l c seen k d said can_not served = absurd served
+  -- where the frame can't be listed again, the command is served
+  pub released_after : (f : ℕ) → CanNotList f c seen → (steps : Run) (said : Answer)
+      → RepliesServed (cmd.Release f) (course t (holder l seen) steps after) said → AnswersRelease f (course t (holder l c) steps after) said
+  released_after f can_not steps (Served reply) served =
+      record { seen = seen; not_listed = can_not; served = record { served = served.served; steps_are = served.steps_are } }
+  released_after f can_not steps said served = absurd served
 
--- of its kills the same is told
-pub served_kills : (is_explained : Bool) (t : KnownTable) (path : Bor (List ℕ)) (l : KnownLocked) (c seen : KnownCpu) (k : KnownLocked) (d : KnownCpu) (said : Answer)
-    (none : GetsNoneFast path.now (holder l c) seen) (served : RepliesServed t (cmd.Alloc path 0) (holder l seen) (holder k d) said)
-    → kills_text is_explained k.machine ≡ frame_kills is_explained t path (holder l c) (holder k d) said (served_after t path l c seen k d said none served)
-unfolding served_after
-served_kills is_explained t path l c seen k d (Served reply) none served = refl
-served_kills is_explained t path l c seen k d said none served = absurd served
+  -- of its kills the same is told
+  pub served_kills : (is_explained : Bool) (path : Bor (List ℕ)) (none : GetsNoneFast path.now (holder l c) seen) (steps : Run) (said : Answer)
+      (served : RepliesServed (cmd.Alloc path 0) (course t (holder l seen) steps after) said)
+      → kills_text is_explained after.locked.machine ≡ frame_kills is_explained path (course t (holder l c) steps after) said (served_after path none steps said served)
+  unfolding served_after
+  served_kills is_explained path none steps (Served reply) served = refl
+  served_kills is_explained path none steps said served = absurd served
 
-pub released_kills : (is_explained : Bool) (t : KnownTable) (f : ℕ) (l : KnownLocked) (seen : KnownCpu) (k : KnownLocked) (d : KnownCpu) (said : Answer)
-    → RepliesServed t (cmd.Release f) (holder l seen) (holder k d) said → kills_text is_explained k.machine ≡ release_kills is_explained (holder k d) said
-released_kills is_explained t f l seen k d (Served reply) served = refl
-released_kills is_explained t f l seen k d said served = absurd served
+  pub released_kills : (is_explained : Bool) (f : ℕ) (steps : Run) (said : Answer)
+      → RepliesServed (cmd.Release f) (course t (holder l seen) steps after) said → kills_text is_explained after.locked.machine ≡ release_kills is_explained after said
+  released_kills is_explained f steps (Served reply) served = refl
+  released_kills is_explained f steps said served = absurd served

@@ -1,6 +1,6 @@
 -- The lines that were served so far, and the history that they tell. Serves `serve_line`, `replay`.
-use Rattle.std.proofs.Common.{Bool, Result, IfOk, ◌≡◌, ℕ, ◌+◌, ◌-◌, ◌<◌, ◌≤◌, Some, None, List, [], ◌∷◌, ◌++◌, length, take, get_or, append-nil, ap, refl, sym, ◌∙◌, subst, arith, inl, inr}
-use Rattle.std.specs.Prelude.{slice_set}
+use Rattle.std.proofs.Common.{Result, IfOk, ◌≡◌, ℕ, ◌+◌, ◌-◌, ◌<◌, ◌≤◌, Some, None, List, [], ◌∷◌, ◌++◌, length, take, get_or, append-nil, ap, refl, sym, ◌∙◌, subst, arith, inl, inr}
+use Rattle.std.specs.Prelude.{IfSome, Option, slice_set}
 use Rattle.std.specs.List.{slice_get}
 use Rattle.std.proofs.lemmas.Bool.{cases_eq}
 use Rattle.std.proofs.lemmas.Option.{slice_get_within, slice_get_read, none-some}
@@ -11,18 +11,18 @@ use Rattle.stock_word.specs.Stock.{Words, group_of}
 use Rattle.cpu_part.specs.Cpus.{KnownCpu, IsTied}
 use Rattle.step_rules.specs.After.{Run}
 use Rattle.mem_machine.specs.Telling.{TellsRun}
-use Rattle.mem_history.specs.Whole.{ShowsAll}
+use Rattle.mem_history.specs.Whole.{AreDecided, ShowsAll}
 use Rattle.mem_history.specs.Kept.{AreTied, IsTiedPart}
 use Rattle.mem_history.proofs.Wholes.{set_here, set_else}
 use Rattle.mem_history.proofs.Promised.{the_whole_is_promised}
 use Rattle.mem_system.specs.Locked.{KnownLocked, IsQuiet}
-use Rattle.mem_system.specs.Visits.{holder}
+use Rattle.mem_system.specs.Visits.{course, holder, side_of}
 use Rattle.script_lines.specs.declared.line.Command.{Command}
 use Rattle.script_lines.specs.declared.line.Line.{Line}
 use Rattle.script_lines.specs.declared.line.Line.TheVariants.{Go, At}
-use Rattle.script_replay.specs.Answers.{AnswersText}
+use Rattle.script_replay.specs.Answers.{AnswersText, TellsWork}
 use Rattle.script_replay.specs.Lines.{Standing, standing, AtPart, InOrder, ServesLine, ServesAll, StopsAt}
-use Rattle.script_replay.specs.History.{line_steps, LineIsDecided, Past, past, past_line, TellsHistory, Replays, ServesAndKeeps, HoldsInvariants}
+use Rattle.script_replay.specs.History.{LineIsDecided, Past, past, past_line, TellsHistory, Replays, ServesAndKeeps, HoldsInvariants}
 use Rattle.script_replay.specs.Ranges.{LineIsThere}
 use Rattle.script_replay.specs.Terms.{Terms}
 use Rattle.script_replay.specs.Works.{work_of}
@@ -59,7 +59,7 @@ part_keeps on before after cpus line processor command c d r old new is there is
   record {
     there = there;
     serves = subst (λ (x : Line). ServesLine on x (standing before cpus) (standing after (slice_set cpus (processor - 1) d)) answered.0) (sym is)
-        (record { part = c; left = d; is_part = is_part; done = answered.1; cpus = refl });
+        (answered.1.0, record { part = c; left = d; is_part = is_part; done = answered.1.1; cpus = refl });
     keeps = record {
       holds = holds;
       tied = λ all. tied_still on.frames on.stocks cpus (processor - 1) c d is_part tied none all;
@@ -108,18 +108,21 @@ abbrev Follows : KnownTable → Run → Standing → Run → Standing → Type 0
 Follows t earlier s run e = ShowsAll t run e.locked.machine e.cpus × (TellsRun t earlier s.locked.machine.ledger → TellsRun t run e.locked.machine.ledger)
 
 line_follows : (on : Terms) (run : Run) (line : Line) (s e : Standing) (text : List ℕ) → ShowsAll on.frames run s.locked.machine s.cpus →
-    AreTied on.frames on.stocks s.cpus → (keeps : ServesAndKeeps on line s e text) → LineIsDecided on line s e text keeps.serves →
-    Follows on.frames run s (run ++ line_steps on line s e text keeps.serves) e
+    AreTied on.frames on.stocks s.cpus → (keeps : ServesAndKeeps on line s e text) → LineIsDecided on.frames line s keeps.serves.0 →
+    Follows on.frames run s (run ++ keeps.serves.0) e
 line_follows on run Go s e text shows tied keeps decided =
-    subst (λ (r : Run). Follows on.frames run s r e) (sym (append-nil run))
-    (subst (λ (x : Standing). Follows on.frames run s run x) (sym keeps.serves.1) (shows, λ told. told))
+    subst (λ (r : Run). Follows on.frames run s r e) (sym (ap (λ (r : Run). run ++ r) keeps.serves.1.2 ∙ append-nil run))
+    (subst (λ (x : Standing). Follows on.frames run s run x) (sym keeps.serves.1.1) (shows, λ told. told))
 line_follows on run (At number processor command) s e text shows tied keeps decided =
-    let is : AtPart processor (λ part left. AnswersText on command (holder s.locked part) (holder e.locked left) text) s.cpus e.cpus = keeps.serves in
-    subst (λ (cpus : List KnownCpu). ShowsAll on.frames (run ++ line_steps on (At number processor command) s e text keeps.serves) e.locked.machine cpus
-    × (TellsRun on.frames run s.locked.machine.ledger
-    → TellsRun on.frames (run ++ line_steps on (At number processor command) s e text keeps.serves) e.locked.machine.ledger)) (sym is.cpus)
-    (work_follows on.frames on.stocks run s.locked s.cpus (processor - 1) is.part shows is.is_part tied on.is_explained (work_of command) (holder e.locked is.left) text
-    (work_in_range on.frames.frames command keeps.there.names) is.done keeps.keeps.holds.quiet.shut decided)
+    let steps = keeps.serves.0 in
+    let is : AtPart processor (λ part left. TellsWork on.is_explained (work_of command)
+    (course on.frames (holder s.locked part) steps (holder e.locked left)) text) s.cpus e.cpus = keeps.serves.1 in
+    let its : AreDecided on.frames s.cpus (side_of (holder s.locked is.part)) steps =
+    subst (λ (o : Option KnownCpu). IfSome o (λ part. AreDecided on.frames s.cpus (side_of (holder s.locked part)) steps)) is.is_part decided in
+    subst (λ (cpus : List KnownCpu). ShowsAll on.frames (run ++ steps) e.locked.machine cpus
+    × (TellsRun on.frames run s.locked.machine.ledger → TellsRun on.frames (run ++ steps) e.locked.machine.ledger)) (sym is.cpus)
+    (work_follows on.frames on.stocks run s.locked s.cpus (processor - 1) is.part shows is.is_part tied on.is_explained (work_of command) steps (holder e.locked is.left) text
+    (work_in_range on.frames.frames command keeps.there.names) is.done keeps.keeps.holds.quiet.shut its)
 
 pub keeps_history : (on : Terms) (lines : List Line) (before : Past) (e : Standing) (text : List ℕ) →
     (before.decided → ShowsAll on.frames before.run before.now.locked.machine before.now.cpus) → AreTied on.frames on.stocks before.now.cpus →
@@ -128,21 +131,23 @@ keeps_history on [] before e text shows tied all = all
 keeps_history on (line ∷ lines) before e text shows tied all =
     let one = all.serves_first in
     let mid = all.between in
-    let next : Run = before.run ++ line_steps on line before.now mid all.first one.serves in
-    let follows : before.decided → LineIsDecided on line before.now mid all.first one.serves → Follows on.frames before.run before.now next mid =
+    let steps : Run = one.serves.0 in
+    let next : Run = before.run ++ steps in
+    let follows : before.decided → LineIsDecided on.frames line before.now steps → Follows on.frames before.run before.now next mid =
     λ so_far here. line_follows on before.run line before.now mid all.first (shows so_far) tied one here in
     let tied_then : AreTied on.frames on.stocks mid.cpus = one.keeps.tied tied in record {
       first = all.first;
       rest = all.rest;
       between = mid;
-      serves_first = one.serves;
+      steps = steps;
+      tells_first = one.serves.1;
       kept = λ so_far here. record {
         legal = (follows so_far here).0.legal;
         tells = (follows so_far here).1;
         promise = the_whole_is_promised on.frames on.stocks next mid.locked.machine mid.cpus (follows so_far here).0 one.keeps.holds.consistent one.keeps.holds.charges tied_then
             (some_cpu on.frames on.stocks mid.locked one.keeps.holds.quiet);
       };
-      tells = keeps_history on lines (past_line on line before mid all.first one.serves) e all.rest
+      tells = keeps_history on lines (past_line on.frames line before steps mid) e all.rest
           (λ both. (follows both.0 both.1).0) tied_then all.serves_rest;
       text_is = all.text_is;
     }

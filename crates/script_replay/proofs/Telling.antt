@@ -1,5 +1,6 @@
 -- A text for an answer.
 use Rattle.std.proofs.Common.{◌≡◌, ◌∙◌, ◌++◌, ℕ, List, [], Result, Ok, Err, IfOk, IfErr, ap, append_assoc, append-nil, refl, sym}
+use Rattle.step_rules.specs.After.{Run}
 use Rattle.reply_texts.specs.Answer.{Answer}
 use Rattle.reply_texts.specs.Answers.{answer_text}
 
@@ -18,36 +19,38 @@ pub told_as : {T E : Type 0} (is as_well : Answer → Type 0) (before after : Li
     → ((said : Answer) → is said → as_well said) → TellsAnswer r is before after → TellsAnswer r as_well before after
 told_as is as_well before after r so text = (text.0, (text.1.0, so text.1.0 text.1.1, text.1.2), text.2)
 
--- the same with what is told of kills behind the answer
-abbrev pub TellsKills : {T E : Type 0} → Result T E → (is : Answer → Type 0) → ((said : Answer) → is said → List ℕ) → List ℕ → List ℕ → Type 0
+-- the same with the steps by which it is so, and what is told of kills behind the answer
+abbrev pub TellsKills : {T E : Type 0} → Result T E → (is : Run → Answer → Type 0) → ((steps : Run) (said : Answer) → is steps said → List ℕ) → List ℕ → List ℕ → Type 0
 TellsKills r is kills before after =
-    (text : List ℕ) × ((said : Answer) × (so : is said) × (text ≡ answer_text said ++ kills said so)) × IfOk r (λ _. after ≡ before ++ text)
+    (text : List ℕ) × ((steps : Run) × ((said : Answer) × (so : is steps said) × (text ≡ answer_text said ++ kills steps said so))) × IfOk r (λ _. after ≡ before ++ text)
 
 -- the text of an answer of which it is so, and of kills
-pub told_kills : {T E : Type 0} (is : Answer → Type 0) (kills : (said : Answer) → is said → List ℕ) (said : Answer) (before after : List ℕ)
-    (r : Result T E) → (so : is said) → IfOk r (λ _. after ≡ before ++ (answer_text said ++ kills said so)) → TellsKills r is kills before after
-told_kills is kills said before after r so text = (answer_text said ++ kills said so, (said, so, refl), text)
+pub told_kills : {T E : Type 0} (is : Run → Answer → Type 0) (kills : (steps : Run) (said : Answer) → is steps said → List ℕ) (steps : Run) (said : Answer)
+    (before after : List ℕ) (r : Result T E) → (so : is steps said) → IfOk r (λ _. after ≡ before ++ (answer_text said ++ kills steps said so)) → TellsKills r is kills before after
+told_kills is kills steps said before after r so text = (answer_text said ++ kills steps said so, (steps, (said, so, refl)), text)
 
 -- an answer behind which nothing is told of kills
-pub told_alone : {T E : Type 0} (is : Answer → Type 0) (kills : (said : Answer) → is said → List ℕ) (said : Answer) (before after : List ℕ)
-    (r : Result T E) → (so : is said) → kills said so ≡ [] → IfOk r (λ _. after ≡ before ++ answer_text said) → TellsKills r is kills before after
-told_alone is kills said before after r so none text =
-    (answer_text said, (said, so, sym (append-nil (answer_text said)) ∙ ap (λ (k : List ℕ). answer_text said ++ k) (sym none)), text)
+pub told_alone : {T E : Type 0} (is : Run → Answer → Type 0) (kills : (steps : Run) (said : Answer) → is steps said → List ℕ) (steps : Run) (said : Answer)
+    (before after : List ℕ) (r : Result T E) → (so : is steps said) → kills steps said so ≡ [] → IfOk r (λ _. after ≡ before ++ answer_text said) → TellsKills r is kills before after
+told_alone is kills steps said before after r so none text =
+    (answer_text said, (steps, (said, so, sym (append-nil (answer_text said)) ∙ ap (λ (k : List ℕ). answer_text said ++ k) (sym none))), text)
 
--- so it is with answers that are told alone
-pub alone : {T E : Type 0} (is : Answer → Type 0) (kills : (said : Answer) → is said → List ℕ) (before after : List ℕ) (r : Result T E)
-    → ((said : Answer) (so : is said) → kills said so ≡ []) → TellsAnswer r is before after → TellsKills r is kills before after
-alone is kills before after r none so =
+-- so it is with answers that are told alone, each by its steps
+pub alone : {T E : Type 0} (is : Answer → Type 0) (as_well : Run → Answer → Type 0) (its_steps : Answer → Run) (before after : List ℕ) (r : Result T E)
+    → ((said : Answer) → is said → as_well (its_steps said) said) → TellsAnswer r is before after → TellsKills r as_well (λ steps said so. []) before after
+alone is as_well its_steps before after r turn so =
     let said = so.1.0 in
-    (so.0, (said, so.1.1, so.1.2 ∙ (sym (append-nil (answer_text said)) ∙ ap (λ (k : List ℕ). answer_text said ++ k) (sym (none said so.1.1)))), so.2)
+    (so.0, (its_steps said, (said, turn said so.1.1, so.1.2 ∙ sym (append-nil (answer_text said)))), so.2)
 
 -- what is so for one reason is so for another, with the same kills
-pub kills_as : {T E : Type 0} (is as_well : Answer → Type 0) (kills : (said : Answer) → is said → List ℕ) (others : (said : Answer) → as_well said → List ℕ)
-    (before after : List ℕ) (r : Result T E) → (turn : (said : Answer) → is said → as_well said)
-    → ((said : Answer) (so : is said) → kills said so ≡ others said (turn said so)) → TellsKills r is kills before after → TellsKills r as_well others before after
+pub kills_as : {T E : Type 0} (is as_well : Run → Answer → Type 0) (kills : (steps : Run) (said : Answer) → is steps said → List ℕ)
+    (others : (steps : Run) (said : Answer) → as_well steps said → List ℕ) (before after : List ℕ) (r : Result T E)
+    → (turn : (steps : Run) (said : Answer) → is steps said → as_well steps said)
+    → ((steps : Run) (said : Answer) (so : is steps said) → kills steps said so ≡ others steps said (turn steps said so)) → TellsKills r is kills before after → TellsKills r as_well others before after
 kills_as is as_well kills others before after r turn same so =
-    let said = so.1.0 in
-    (so.0, (said, turn said so.1.1, so.1.2 ∙ ap (λ (k : List ℕ). answer_text said ++ k) (same said so.1.1)), so.2)
+    let steps = so.1.0 in
+    let said = so.1.1.0 in
+    (so.0, (steps, (said, turn steps said so.1.1.1, so.1.1.2 ∙ ap (λ (k : List ℕ). answer_text said ++ k) (same steps said so.1.1.1))), so.2)
 
 -- what is told behind an answer that was told
 pub behind : {T E : Type 0} (r : Result T E) (before mid after said more : List ℕ) → mid ≡ before ++ said → IfOk r (λ _. after ≡ mid ++ more)

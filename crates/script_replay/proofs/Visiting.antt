@@ -1,5 +1,5 @@
 -- What lines were answered by visits. Serves `visit_answers`, `visit_replay`.
-use Rattle.std.proofs.Common.{Result, IfOk, ◌≡◌, ℕ, ◌+◌, ◌-◌, ◌<◌, ◌≤◌, List, [], ◌∷◌, ◌++◌, length, take, get_or, refl, sym, subst, arith, inr}
+use Rattle.std.proofs.Common.{Result, IfOk, ◌≡◌, ℕ, ◌+◌, ◌-◌, ◌<◌, List, ◌++◌, length, take, get_or, refl, sym, subst, arith, inr}
 use Rattle.std.specs.Prelude.{slice_set}
 use Rattle.std.specs.Borrow.{Bor}
 use Rattle.std.proofs.lemmas.Option.{slice_get_read}

@@ -1,10 +1,10 @@
--- What a command is answered at a processor, and what it does there and behind the lock.
-use Rattle.std.specs.Prelude.{◌≡◌, ◌≢◌, ◌⊎◌, ℕ, ◌+◌, ◌<◌, ◌≤◌, Bool, true, false, List, [], ◌++◌, Some, None, Result, IfOk, length}
+-- What a command is answered at a processor, what it does there and behind the lock, and by which steps.
+use Rattle.std.specs.Prelude.{◌≡◌, ◌≢◌, ◌⊎◌, ℕ, ◌+◌, ◌<◌, ◌≤◌, Bool, true, false, List, [], ◌∷◌, ◌++◌, Some, None, Result, IfOk, length}
 use Rattle.std.proofs.Common.{inl, inr}
 use Rattle.std.specs.declared.string.String.{String}
 use Rattle.std.specs.Borrow.{Bor}
 use Rattle.std.specs.String.{string_bytes}
-use Rattle.frame_word.specs.Seats.{KnownTable}
+use Rattle.frame_word.specs.declared.answers.Get.TheVariants.{Held}
 use Rattle.group_tree.specs.Groups.{number_at}
 use Rattle.group_tree.specs.declared.fault.Fault.TheVariants.{NoGroup, PinsFull, NotPinned}
 use Rattle.cpu_part.specs.declared.answers.Fast as cpu
@@ -13,16 +13,21 @@ use Rattle.cpu_part.specs.declared.answers.Dropped.TheVariants as dropped
 use Rattle.cpu_part.specs.declared.cpu.TheConstants.{MOST_PINS}
 use Rattle.cpu_part.specs.Cpus.{KnownCpu, times}
 use Rattle.cpu_part.specs.Calls.{FastAnswers, DropAnswers, PinAnswers, UnpinAnswers}
+use Rattle.step_rules.specs.declared.step.Action.TheVariants as step
+use Rattle.step_rules.specs.declared.step.Answer.TheVariants as says
+use Rattle.step_rules.specs.After.{Run}
 use Rattle.kill_texts.specs.Explanation.{explanation_text}
 use Rattle.machine_texts.specs.Blocks.{blocks_text}
 use Rattle.machine_texts.specs.Show.{show_text}
 use Rattle.mem_machine.specs.Machines.{KnownMachine}
+use Rattle.mem_machine.specs.Steps.{cpu_makes}
+use Rattle.mem_history.specs.Whole.{under_lock}
+use Rattle.mem_history.specs.Leading.{put_answer}
 use Rattle.mem_system.specs.declared.command.Cmd.{Cmd}
 use Rattle.mem_system.specs.declared.command.Cmd.TheVariants as cmd
 use Rattle.mem_system.specs.declared.command.Reply.{Reply}
-use Rattle.mem_system.specs.declared.command.Reply.TheVariants.{Refused}
-use Rattle.mem_system.specs.Visits.{Holder, holder, IsServed}
-use Rattle.mem_system.specs.Shown.{SettlesCaller}
+use Rattle.mem_system.specs.declared.command.Reply.TheVariants.{Done, Refused}
+use Rattle.mem_system.specs.Visits.{Course, course, Holder, holder, IsServed}
 use Rattle.reply_texts.specs.Answer.{Answer}
 use Rattle.reply_texts.specs.Answer as answer
 use Rattle.reply_texts.specs.Answers.{answer_text}
@@ -46,11 +51,22 @@ AddsAnswer result old new is_answered =
 
 -- ---- without the lock
 
+-- no lock is taken: the processor makes these steps alone, and what lies behind the lock stays
+pub record TakesNoLock (steps : Run) (way : Course Holder) : Type 0 where
+  pub locked : way.after.locked ≡ way.before.locked
+  pub steps_are : way.steps ≡ steps
+
+-- a fast allocation that got a frame consumed a page, and any other made no step
+abbrev pub fast_steps : (processor group : ℕ) → cpu.Fast → Run
+fast_steps processor group (Got frame) = cpu_makes processor (step.Consume group) says.Took ∷ []
+fast_steps processor group other = []
+
 -- Fast: what a call without the lock answers for this group
-abbrev pub AnswersFast : (group : ℕ) (before after : Holder) → Answer → Type 0
-AnswersFast group before after (answer.Fast fast) =
-    FastAnswers group fast before.cpu after.cpu × (after.locked ≡ before.locked)
-AnswersFast group before after other = ⊥
+abbrev pub AnswersFast : (group : ℕ) → Course Holder → Answer → Type 0
+AnswersFast group way (answer.Fast fast) =
+    FastAnswers group fast way.before.cpu way.after.cpu
+    × TakesNoLock (fast_steps way.before.cpu.number group fast) way
+AnswersFast group way other = ⊥
 
 -- Get: a pin on the frame; refused where pins and back frames are as many as there is room for
 abbrev pub GetsPin : (frame : ℕ) (before after : KnownCpu) → Answer → Type 0
@@ -60,9 +76,16 @@ GetsPin frame before after (answer.Served (Refused PinsFull)) =
     (length before.back + length before.pins ≡ MOST_PINS) × (after ≡ before)
 GetsPin frame before after other = ⊥
 
--- Get, where what lies behind the lock stays
-abbrev pub AnswersGet : (frame : ℕ) (before after : Holder) → Answer → Type 0
-AnswersGet frame before after answer = GetsPin frame before.cpu after.cpu answer × (after.locked ≡ before.locked)
+-- a get that was held is one step, and any other made none
+abbrev pub get_steps : (processor frame : ℕ) → Answer → Run
+get_steps processor frame (answer.Got Held) = cpu_makes processor (step.Get frame) says.Held ∷ []
+get_steps processor frame other = []
+
+-- Get, which takes no lock
+abbrev pub AnswersGet : (frame : ℕ) → Course Holder → Answer → Type 0
+AnswersGet frame way answer =
+    GetsPin frame way.before.cpu way.after.cpu answer
+    × TakesNoLock (get_steps way.before.cpu.number frame answer) way
 
 -- Put: a pin less on the frame; refused where the processor has none on it
 abbrev pub PutsPin : (frame : ℕ) (before after : KnownCpu) → Answer → Type 0
@@ -70,21 +93,37 @@ PutsPin frame before after (answer.Put put) = (1 ≤ times frame before.pins) ×
 PutsPin frame before after (answer.Served (Refused NotPinned)) = (times frame before.pins ≡ 0) × (after ≡ before)
 PutsPin frame before after other = ⊥
 
--- Put, where what lies behind the lock stays
-abbrev pub AnswersPut : (frame : ℕ) (before after : Holder) → Answer → Type 0
-AnswersPut frame before after answer = PutsPin frame before.cpu after.cpu answer × (after.locked ≡ before.locked)
+-- each put is one step
+abbrev pub put_steps : (processor frame : ℕ) → Answer → Run
+put_steps processor frame (answer.Put put) = cpu_makes processor (step.Put frame) (put_answer put) ∷ []
+put_steps processor frame other = []
+
+-- Put, which takes no lock
+abbrev pub AnswersPut : (frame : ℕ) → Course Holder → Answer → Type 0
+AnswersPut frame way answer =
+    PutsPin frame way.before.cpu way.after.cpu answer
+    × TakesNoLock (put_steps way.before.cpu.number frame answer) way
 
 -- ---- under the lock
 
+-- a processor that is seen so has the command served under the lock: Lock, the steps of the command, Unlock
+pub record IsServedUnderLock (command : Cmd) (seen : KnownCpu) (reply : Reply) (way : Course Holder) : Type 0 where
+  pub served : IsServed way.table command reply (holder way.before.locked seen) way.after
+  pub steps_are : way.steps ≡ under_lock seen.number served.steps
+
 -- the command was served under the lock, and its reply is the answer
-abbrev pub RepliesServed : KnownTable → Cmd → (before after : Holder) → Answer → Type 0
-RepliesServed table command before after (answer.Served reply) = IsServed table command reply before after
-RepliesServed table command before after other = ⊥
+abbrev pub RepliesServed : Cmd → Course Holder → Answer → Type 0
+RepliesServed command way (answer.Served reply) = IsServedUnderLock command way.before.cpu reply way
+RepliesServed command way other = ⊥
+
+-- the processor was settled under the lock
+abbrev pub SettlesUnderLock : Course Holder → Type 0
+SettlesUnderLock way = IsServedUnderLock cmd.Settle way.before.cpu Done way
 
 -- Settle: it was served
-abbrev pub AnswersSettle : KnownTable → (before after : Holder) → Answer → Type 0
-AnswersSettle table before after answer.Settled = SettlesCaller table before after
-AnswersSettle table before after other = ⊥
+abbrev pub AnswersSettle : Course Holder → Answer → Type 0
+AnswersSettle way answer.Settled = SettlesUnderLock way
+AnswersSettle way other = ⊥
 
 -- ---- Release: a fresh frame is listed again without the lock, where it can be; else it is served under the lock
 
@@ -95,23 +134,24 @@ pub record ListsAgain (frame : ℕ) (before after : KnownCpu) : Type 0 where
 
 -- the frame can't be listed again without the lock: it isn't fresh at the processor, or its stock was drained, which
 -- was seen
-abbrev pub CanNotList : ℕ → KnownCpu → KnownCpu → Type 0
+abbrev pub CanNotList : (frame : ℕ) (before seen : KnownCpu) → Type 0
 CanNotList frame before seen =
     ((times frame before.fresh ≡ 0) × (seen ≡ before))
     ⊎ ((1 ≤ times frame before.fresh) × DropAnswers frame dropped.NeedVisit before seen)
 
 -- the frame couldn't be listed again without the lock, and its Release was served under it
-pub record ReleasesUnderLock (table : KnownTable) (frame : ℕ) (before after : Holder) (reply : Reply) : Type 0 where
+pub record ReleasesUnderLock (frame : ℕ) (reply : Reply) (way : Course Holder) : Type 0 where
   pub seen : KnownCpu
-  pub not_listed : CanNotList frame before.cpu seen
-  pub served : IsServed table (cmd.Release frame) reply (holder before.locked seen) after
+  pub not_listed : CanNotList frame way.before.cpu seen
+  pub served : IsServedUnderLock (cmd.Release frame) seen reply way
 
 -- what a Release is answered
-abbrev pub AnswersRelease : KnownTable → (frame : ℕ) (before after : Holder) → Answer → Type 0
-AnswersRelease table frame before after answer.Listed =
-    ListsAgain frame before.cpu after.cpu × (after.locked ≡ before.locked)
-AnswersRelease table frame before after (answer.Served reply) = ReleasesUnderLock table frame before after reply
-AnswersRelease table frame before after other = ⊥
+abbrev pub AnswersRelease : (frame : ℕ) → Course Holder → Answer → Type 0
+AnswersRelease frame way answer.Listed =
+    ListsAgain frame way.before.cpu way.after.cpu
+    × TakesNoLock (cpu_makes way.before.cpu.number (step.Credit frame) says.Back ∷ []) way
+AnswersRelease frame way (answer.Served reply) = ReleasesUnderLock frame reply way
+AnswersRelease frame way other = ⊥
 
 -- ---- Alloc of a single frame: one of the list without the lock, where it can be; else it is served under the lock
 
@@ -128,6 +168,11 @@ pub record GetsFast (path : List ℕ) (before : Holder) (after : KnownCpu) (fram
   pub found : number_at before.locked.machine.ledger.groups path ≡ Some group
   pub got : FastAnswers group (Got frame) before.cpu after
 
+-- so it was, by a step of the processor alone
+pub record AllocatesFast (path : List ℕ) (frame : ℕ) (way : Course Holder) : Type 0 where
+  pub gets : GetsFast path way.before way.after.cpu frame
+  pub alone : TakesNoLock (fast_steps way.before.cpu.number gets.group (Got frame)) way
+
 -- the path is that of a group, and a call that takes no lock gets no frame for it, which the processor saw
 pub record GetsNoneFast (path : List ℕ) (before : Holder) (seen : KnownCpu) : Type 0 where
   pub group : ℕ
@@ -137,33 +182,31 @@ pub record GetsNoneFast (path : List ℕ) (before : Holder) (seen : KnownCpu) : 
   pub none : (frame : ℕ) → fast ≢ Got frame
 
 -- no frame was got without the lock, and the Alloc was served under it
-pub record AllocatesUnderLock (table : KnownTable) (path : Bor (List ℕ)) (before after : Holder) (reply : Reply)
-    : Type 0 where
+pub record AllocatesUnderLock (path : Bor (List ℕ)) (reply : Reply) (way : Course Holder) : Type 0 where
   pub seen : KnownCpu
-  pub none : GetsNoneFast path.now before seen
-  pub served : IsServed table (cmd.Alloc path 0) reply (holder before.locked seen) after
+  pub none : GetsNoneFast path.now way.before seen
+  pub served : IsServedUnderLock (cmd.Alloc path 0) seen reply way
 
 -- what an Alloc of a single frame is answered
-abbrev pub AnswersFrame : KnownTable → (path : Bor (List ℕ)) (before after : Holder) → Answer → Type 0
-AnswersFrame table path before after (answer.Fast (Got frame)) =
-    GetsFast path.now before after.cpu frame × (after.locked ≡ before.locked)
-AnswersFrame table path before after (answer.Served reply) =
-    FindsNoGroup path.now before after reply ⊎ AllocatesUnderLock table path before after reply
-AnswersFrame table path before after other = ⊥
+abbrev pub AnswersFrame : (path : Bor (List ℕ)) → Course Holder → Answer → Type 0
+AnswersFrame path way (answer.Fast (Got frame)) = AllocatesFast path.now frame way
+AnswersFrame path way (answer.Served reply) =
+    (FindsNoGroup path.now way.before way.after reply × (way.steps ≡ [])) ⊎ AllocatesUnderLock path reply way
+AnswersFrame path way other = ⊥
 
 -- ---- any command
 
 -- What is answered where this is done, but where the answer is a text of any length
-abbrev pub Answers : KnownTable → Work → (before after : Holder) → Answer → Type 0
-Answers table (Visit command) before after answer = RepliesServed table command before after answer
-Answers table (Frame path) before after answer = AnswersFrame table path before after answer
-Answers table (Fast group) before after answer = AnswersFast group before after answer
-Answers table (Release frame) before after answer = AnswersRelease table frame before after answer
-Answers table (Get frame) before after answer = AnswersGet frame before after answer
-Answers table (Put frame) before after answer = AnswersPut frame before after answer
-Answers table Settle before after answer = AnswersSettle table before after answer
-Answers table Blocks before after answer = ⊥
-Answers table Show before after answer = ⊥
+abbrev pub Answers : Work → Course Holder → Answer → Type 0
+Answers (Visit command) way answer = RepliesServed command way answer
+Answers (Frame path) way answer = AnswersFrame path way answer
+Answers (Fast group) way answer = AnswersFast group way answer
+Answers (Release frame) way answer = AnswersRelease frame way answer
+Answers (Get frame) way answer = AnswersGet frame way answer
+Answers (Put frame) way answer = AnswersPut frame way answer
+Answers Settle way answer = AnswersSettle way answer
+Answers Blocks way answer = ⊥
+Answers Show way answer = ⊥
 
 -- the explanation of the kills of a command that was served under the lock, where that is asked for: of the groups and
 -- the notes as the command left them
@@ -172,12 +215,12 @@ kills_text true machine = explanation_text machine.ledger.groups machine.notes
 kills_text false machine = []
 
 -- what is told of kills behind the answer of an Alloc of a single frame: nothing, unless it was served under the lock
-abbrev pub frame_kills : Bool → (table : KnownTable) (path : Bor (List ℕ)) (before after : Holder) (said : Answer)
-    → AnswersFrame table path before after said → List ℕ
-frame_kills is_explained table path before after (answer.Served reply) (inl none) = []
-frame_kills is_explained table path before after (answer.Served reply) (inr served) =
-    kills_text is_explained after.locked.machine
-frame_kills is_explained table path before after said answered = []
+abbrev pub frame_kills : Bool → (path : Bor (List ℕ)) (way : Course Holder) (said : Answer)
+    → AnswersFrame path way said → List ℕ
+frame_kills is_explained path way (answer.Served reply) (inl none) = []
+frame_kills is_explained path way (answer.Served reply) (inr served) =
+    kills_text is_explained way.after.locked.machine
+frame_kills is_explained path way said answered = []
 
 -- what is told of kills behind the answer of a Release: nothing, unless it was served under the lock
 abbrev pub release_kills : Bool → (after : Holder) → Answer → List ℕ
@@ -185,24 +228,26 @@ release_kills is_explained after (answer.Served reply) = kills_text is_explained
 release_kills is_explained after said = []
 
 -- what is told of kills behind the answer, where this was done and answered so
-abbrev pub work_kills : (terms : Terms) (work : Work) (before after : Holder) (said : Answer)
-    → Answers terms.frames work before after said → List ℕ
-work_kills terms (Visit command) before after said answered = kills_text terms.is_explained after.locked.machine
-work_kills terms (Frame path) before after said answered =
-    frame_kills terms.is_explained terms.frames path before after said answered
-work_kills terms (Release frame) before after said answered = release_kills terms.is_explained after said
-work_kills terms work before after said answered = []
+abbrev pub work_kills : Bool → (work : Work) (way : Course Holder) (said : Answer) → Answers work way said → List ℕ
+work_kills is_explained (Visit command) way said answered = kills_text is_explained way.after.locked.machine
+work_kills is_explained (Frame path) way said answered = frame_kills is_explained path way said answered
+work_kills is_explained (Release frame) way said answered = release_kills is_explained way.after said
+work_kills is_explained work way said answered = []
 
 -- What is answered where this is done, as text: that of the answer, and behind it what is told of kills. `blocks` and
 -- `show` settle the processor, and tell of the machine as it is then
+abbrev pub TellsWork : Bool → Work → Course Holder → (text : List ℕ) → Type 0
+TellsWork is_explained Blocks way text =
+    SettlesUnderLock way × (text ≡ blocks_text way.after.locked.machine.blocks)
+TellsWork is_explained Show way text = SettlesUnderLock way × (text ≡ show_text way.after.locked.machine)
+TellsWork is_explained work way text =
+    (said : Answer) × (answered : Answers work way said)
+    × (text ≡ answer_text said ++ work_kills is_explained work way said answered)
+
+-- what is answered where this is done, by some steps
 abbrev pub AnswersWork : Terms → Work → (before after : Holder) (text : List ℕ) → Type 0
-AnswersWork terms Blocks before after text =
-    SettlesCaller terms.frames before after × (text ≡ blocks_text after.locked.machine.blocks)
-AnswersWork terms Show before after text =
-    SettlesCaller terms.frames before after × (text ≡ show_text after.locked.machine)
 AnswersWork terms work before after text =
-    (said : Answer) × (answered : Answers terms.frames work before after said)
-    × (text ≡ answer_text said ++ work_kills terms work before after said answered)
+    (steps : Run) × TellsWork terms.is_explained work (course terms.frames before steps after) text
 
 -- what a command is answered, as text
 abbrev pub AnswersText : Terms → Command → (before after : Holder) (text : List ℕ) → Type 0

@@ -1,13 +1,13 @@
 //! One command, answered at a processor by value of what lies behind the lock.
 
 ghost use Rattle.std.specs.Borrow.{Bor};
-ghost use Rattle.std.specs.Prelude.{◌≡◌, ◌<◌, ◌++◌, IsTrue, List, OnOk, Some, ℕ};
+ghost use Rattle.std.specs.Prelude.{◌≡◌, ◌<◌, ◌++◌, Bool, IsTrue, List, OnOk, Some, ℕ};
 ghost use Rattle.group_tree.specs.Groups.{has_group, number_at};
 ghost use Rattle.mem_system.specs.declared.command.Cmd.TheVariants.{Alloc};
 ghost use Rattle.std.specs.String.{string_bytes};
-ghost use Rattle.mem_system.specs.Commands.{IsOfZone};
 ghost use Rattle.mem_system.specs.Visits.{holder};
-ghost use Rattle.script_replay.specs.declared.work.Work.TheVariants.{Frame, Release, Visit};
+ghost use Rattle.mem_system.specs.Commands.{IsOfZone};
+ghost use Rattle.script_replay.specs.declared.work.Work.TheVariants.{Blocks, Frame, Release, Settle, Show, Visit};
 ghost use Rattle.script_replay.specs.Answers.{AddsText, AnswersText, AnswersWork, kills_text};
 ghost use Rattle.script_replay.specs.Ranges.{NamesInRange, WorkInRange};
 ghost use Rattle.script_replay.specs.Terms.{terms};
@@ -64,18 +64,9 @@ fn answer_work<N: BootName>(
         Work::Release { frame } => answer_release(locked, tables, cpu, frame, is_explained, text),
         Work::Get { frame } => answer_get(tables, cpu, frame, text),
         Work::Put { frame } => answer_put(tables, cpu, frame, text),
-        Work::Settle => {
-            settle(locked, tables, cpu);
-            write_settled(text)
-        }
-        Work::Blocks => {
-            settle(locked, tables, cpu);
-            write_blocks(locked.machine(), text)
-        }
-        Work::Show => {
-            settle(locked, tables, cpu);
-            write_show(locked.machine(), text)
-        }
+        Work::Settle => answer_settle(locked, tables, cpu, text),
+        Work::Blocks => answer_blocks(locked, tables, cpu, text),
+        Work::Show => answer_show(locked, tables, cpu, text),
     }
 }
 
@@ -178,4 +169,49 @@ fn answer_release<N: BootName>(
         is_explained,
         text,
     )
+}
+
+// Settles the processor, and adds what is answered.
+fn answer_settle<N: BootName>(
+    locked: &mut Locked<N>,
+    tables: &Tables<N>,
+    cpu: &mut Cpu<N>,
+    text: &mut String,
+) -> Result<(), AllocError>
+    ensures { (is_explained : Bool) → AddsText result text.old text.new
+        (AnswersWork (terms N.frames N.stocks is_explained) Settle
+        (holder locked.old cpu.old) (holder locked.new cpu.new)) }
+{
+    settle(locked, tables, cpu);
+    write_settled(text)
+}
+
+// Settles the processor, and adds the free blocks.
+fn answer_blocks<N: BootName>(
+    locked: &mut Locked<N>,
+    tables: &Tables<N>,
+    cpu: &mut Cpu<N>,
+    text: &mut String,
+) -> Result<(), AllocError>
+    ensures { (is_explained : Bool) → AddsText result text.old text.new
+        (AnswersWork (terms N.frames N.stocks is_explained) Blocks
+        (holder locked.old cpu.old) (holder locked.new cpu.new)) }
+{
+    settle(locked, tables, cpu);
+    write_blocks(locked.machine(), text)
+}
+
+// Settles the processor, and adds the place of every frame and the usage of every group.
+fn answer_show<N: BootName>(
+    locked: &mut Locked<N>,
+    tables: &Tables<N>,
+    cpu: &mut Cpu<N>,
+    text: &mut String,
+) -> Result<(), AllocError>
+    ensures { (is_explained : Bool) → AddsText result text.old text.new
+        (AnswersWork (terms N.frames N.stocks is_explained) Show
+        (holder locked.old cpu.old) (holder locked.new cpu.new)) }
+{
+    settle(locked, tables, cpu);
+    write_show(locked.machine(), text)
 }

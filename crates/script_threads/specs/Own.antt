@@ -1,12 +1,11 @@
 -- The lines of one processor among those of all.
 use Rattle.std.specs.Prelude.{◌≡◌, ℕ, ◌==◌, MatchBool, List, []}
-use Rattle.frame_word.specs.Seats.{KnownTable}
-use Rattle.stock_word.specs.Stock.{Words}
 use Rattle.cpu_part.specs.Cpus.{KnownCpu}
 use Rattle.script_lines.specs.declared.line.Line.{Line}
 use Rattle.script_lines.specs.declared.line.Line.TheVariants.{Go, At}
 use Rattle.script_replay.specs.Lines.{InOrder}
 use Rattle.script_replay.specs.Ranges.{NamesInRange}
+use Rattle.script_replay.specs.Terms.{BootTables}
 use Rattle.script_replay.specs.Visits.{VisitsText}
 
 -- what a line names is in range, whichever its processor; `go` names nothing
@@ -15,13 +14,22 @@ LineNames frames Go = Unit {0}
 LineNames frames (At number processor command) = NamesInRange frames command
 
 -- a line of the processor of this number is answered this text at its part; any other is left out
-abbrev pub ServesOwnLine : KnownTable → Words → ℕ → KnownCpu → Line → List ℕ → KnownCpu → Type 0
-ServesOwnLine table stock_table own before Go text after = (text ≡ []) × (after ≡ before)
-ServesOwnLine table stock_table own before (At number processor command) text after =
-    MatchBool (processor == own) (VisitsText table stock_table command before text after)
-    ((text ≡ []) × (after ≡ before))
+abbrev pub ServesOwnLine : BootTables → (own : ℕ) → Line → (before after : KnownCpu) (text : List ℕ) → Type 0
+ServesOwnLine tables own Go before after text = (text ≡ []) × (after ≡ before)
+ServesOwnLine tables own (At number processor command) before after text =
+    MatchBool (processor == own) (VisitsText tables command before after text) ((text ≡ []) × (after ≡ before))
 
--- the lines of the processor of this number are answered, one after the other
-abbrev pub ServesOwn : KnownTable → Words → ℕ → KnownCpu → List Line → List ℕ → KnownCpu → Type 0
-ServesOwn table stock_table own before lines text after =
-    InOrder (ServesOwnLine table stock_table own) before lines text after
+-- a worker: the number of its processor, its part as it was when it began, and the lines among which its own are
+pub record KnownWorker : Type 0 where
+  pub number : ℕ
+  pub before : KnownCpu
+  pub lines : List Line
+
+-- the worker of this processor
+abbrev pub worker : (number : ℕ) (before : KnownCpu) (lines : List Line) → KnownWorker
+worker number before lines = record { number = number; before = before; lines = lines }
+
+-- the worker's own lines are answered, one after the other, from its part as it was to the one that it left
+abbrev pub ServesOwn : BootTables → KnownWorker → (after : KnownCpu) (text : List ℕ) → Type 0
+ServesOwn tables worker after text =
+    InOrder (ServesOwnLine tables worker.number) worker.lines worker.before after text

@@ -1,10 +1,9 @@
 -- The lines before `go`, and those from it on.
 use Rattle.std.specs.Prelude.{◌≡◌, ℕ, ◌+◌, List, [], ◌∷◌, ◌++◌, take, drop}
-use Rattle.frame_word.specs.Seats.{KnownTable}
-use Rattle.stock_word.specs.Stock.{Words}
 use Rattle.cpu_part.specs.Cpus.{KnownCpu}
 use Rattle.script_lines.specs.declared.line.Line.{Line}
 use Rattle.script_lines.specs.declared.line.Line.TheVariants.{Go, At}
+use Rattle.script_replay.specs.Terms.{BootTables}
 use Rattle.script_replay.specs.Visits.{VisitsAll}
 use Rattle.script_threads.specs.Each.{TellsEach, workers_from}
 
@@ -20,11 +19,10 @@ lines_before_go lines = go_or 0 0 lines
 
 -- The lines before `go` are answered one after the other, and those from it on by a worker for each part as it was left
 -- then. The texts of the first stand first
-pub record RunsLines (table : KnownTable) (stock_table : Words) (cpus : List KnownCpu) (lines : List Line)
-    (text : List ℕ) : Type 0 where
+pub record RunsLines (tables : BootTables) (lines : List Line) (cpus : List KnownCpu) (text : List ℕ) : Type 0 where
   pub early : List ℕ
   pub later : List ℕ
   pub parts : List KnownCpu
-  pub visits : VisitsAll table stock_table cpus (take (lines_before_go lines) lines) early parts
-  pub tells : TellsEach table stock_table (workers_from 1 parts (drop (lines_before_go lines) lines)) later
-  pub is : text ≡ early ++ later
+  pub visits : VisitsAll tables (take (lines_before_go lines) lines) cpus parts early
+  pub tells : TellsEach tables (workers_from 1 parts (drop (lines_before_go lines) lines)) later
+  pub text_is : text ≡ early ++ later

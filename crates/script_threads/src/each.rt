@@ -4,6 +4,7 @@ ghost use Rattle.std.specs.Prelude.{◌≡◌, ◌<◌, ◌^◌, All, IfOk, leng
 ghost use Rattle.std.specs.String.{string_bytes};
 ghost use Rattle.std.specs.Thread.{IsSend, IsSync};
 ghost use Rattle.script_replay.specs.Ranges.{LineIsThere};
+ghost use Rattle.script_replay.specs.Terms.{boot_tables};
 ghost use Rattle.script_threads.specs.Own.{LineNames};
 ghost use Rattle.script_threads.specs.Each.{TellsEach, workers_from};
 
@@ -31,7 +32,8 @@ pub fn run_each<N: BootName + Send + Sync, R: Threads + Wait + Sync, G: Gate + S
 ) -> Result<Vec<u8>, AllocError>
     requires count { length cpus.old < 2 ^ 31 }
     requires lines { All (LineIsThere N.frames.frames (length cpus.old)) lines.now }
-    ensures { IfOk result (λ text. TellsEach N.frames N.stocks (workers_from 1 cpus.old lines.now) text.items) }
+    ensures { IfOk result (λ text.
+        TellsEach (boot_tables N.frames N.stocks) (workers_from 1 cpus.old lines.now) text.items) }
 {
     run_named(rt, alloc, system, cpus, lines, gate)
 }
@@ -47,7 +49,8 @@ fn run_named<N: BootName + Send + Sync, R: Threads + Wait + Sync, G: Gate + Sync
 ) -> Result<Vec<u8>, AllocError>
     requires count { length cpus.old < 2 ^ 31 }
     requires lines { All (LineNames N.frames.frames) lines.now }
-    ensures { IfOk result (λ text. TellsEach N.frames N.stocks (workers_from 1 cpus.old lines.now) text.items) }
+    ensures { IfOk result (λ text.
+        TellsEach (boot_tables N.frames N.stocks) (workers_from 1 cpus.old lines.now) text.items) }
 {
     let rt = &*rt;
     let system = &*system;
@@ -59,7 +62,7 @@ fn run_named<N: BootName + Send + Sync, R: Threads + Wait + Sync, G: Gate + Sync
         |scope| -> Result<Vec<u8>, AllocError>
             requires { IsSync R.row × IsSync G.row × IsSync N.row × IsSend N.row × (length cpus.now < 2 ^ 31)
                 × All (LineNames N.frames.frames) lines.now }
-            ensures { IfOk result (λ text. TellsEach N.frames N.stocks
+            ensures { IfOk result (λ text. TellsEach (boot_tables N.frames N.stocks)
                 (workers_from 1 cpus.entry.now lines.entry.now) text.items) }
         {
             let workers = start_all(scope, rt, alloc, system, lines, gate, cpus)?;
@@ -106,7 +109,7 @@ fn gather<'s, N: BootName, R: Threads>(
     alloc: Global,
     mut workers: Vec<Worker<'s, N>>,
 ) -> Result<Vec<u8>, AllocError>
-    ensures { IfOk result (λ text. TellsEach N.frames N.stocks workers.entry.items text.items) }
+    ensures { IfOk result (λ text. TellsEach (boot_tables N.frames N.stocks) workers.entry.items text.items) }
 {
     let mut text = String::new(alloc);
     while !workers.is_empty() {

@@ -3,7 +3,8 @@
 ghost use Rattle.std.specs.Prelude.{All, IfOk};
 ghost use Rattle.std.specs.String.{string_bytes};
 ghost use Rattle.script_replay.specs.Answers.{AddsText};
-ghost use Rattle.script_threads.specs.Own.{LineNames, ServesOwn, ServesOwnLine};
+ghost use Rattle.script_replay.specs.Terms.{boot_tables};
+ghost use Rattle.script_threads.specs.Own.{LineNames, ServesOwn, ServesOwnLine, worker};
 
 use cpu_part::{BootName, Cpu};
 use mem_system::{Gate, System};
@@ -24,7 +25,8 @@ pub(crate) fn serve_own<N: BootName, R: Wait, G: Gate>(
     gate: &G,
 ) -> Result<String, AllocError>
     requires { All (LineNames N.frames.frames) lines.now }
-    ensures { IfOk result (λ text. ServesOwn N.frames N.stocks number cpu.old lines.now (string_bytes text) cpu.new) }
+    ensures { IfOk result (λ text.
+        ServesOwn (boot_tables N.frames N.stocks) (worker number cpu.old lines.now) cpu.new (string_bytes text)) }
 {
     let mut text = String::new(alloc);
     for line in lines {
@@ -45,8 +47,8 @@ fn serve_own_line<N: BootName, R: Wait, G: Gate>(
     text: &mut String,
 ) -> Result<(), AllocError>
     requires { LineNames N.frames.frames line.now }
-    ensures { AddsText result text.old text.new (λ said.
-        ServesOwnLine N.frames N.stocks number cpu.old line.now said cpu.new) }
+    ensures { AddsText result text.old text.new
+        (ServesOwnLine (boot_tables N.frames N.stocks) number line.now cpu.old cpu.new) }
 {
     match line {
         Line::Go => Ok(()),

@@ -1,9 +1,10 @@
 //! A worker: a thread that serves the lines of one processor, with what is promised of its answers.
 
-ghost use Rattle.std.specs.Prelude.{◌≡◌, ◌++◌, ℕ, All, IfOk, List};
+ghost use Rattle.std.specs.Prelude.{◌≡◌, ◌++◌, ℕ, All, IfOk, List, OnOk};
 ghost use Rattle.std.specs.String.{string_bytes};
-ghost use Rattle.script_threads.specs.Own.{LineNames, ServesOwn};
-ghost use Rattle.script_threads.specs.Each.{KnownWorker, TellsOwn, heading};
+ghost use Rattle.script_replay.specs.Terms.{boot_tables};
+ghost use Rattle.script_threads.specs.Own.{KnownWorker, LineNames, ServesOwn, worker};
+ghost use Rattle.script_threads.specs.Each.{TellsOwn, heading};
 
 use crate::own_lines::serve_own;
 use cpu_part::{BootName, Cpu};
@@ -43,8 +44,8 @@ struct Answers<'a, N: BootName> {
 }
 
 impl<'a, N: BootName> Promise<Result<Told<N>, AllocError>> for Answers<'a, N> {
-    ghost kept_by = { λ p r. IfOk r (λ told. ServesOwn N.frames N.stocks p.number p.before.value p.lines.now
-        (string_bytes told.text) told.after.value) };
+    ghost kept_by = { λ p r. IfOk r (λ told. ServesOwn (boot_tables N.frames N.stocks)
+        (worker p.number p.before.value p.lines.now) told.after.value (string_bytes told.text)) };
 }
 
 // A worker that runs.
@@ -57,11 +58,8 @@ pub(crate) struct Worker<'a, N: BootName> {
 impl<'a, N: BootName> Model for Worker<'a, N> {
     ghost Value = { KnownWorker };
 
-    ghost view = { λ w. record {
-      number = w.handle.promise.number;
-      before = w.handle.promise.before.value;
-      lines = w.handle.promise.lines.now;
-    } };
+    ghost view = { λ w.
+        worker w.handle.promise.number w.handle.promise.before.value w.handle.promise.lines.now };
 
     ghost invariant = { λ w. w.number ≡ w.handle.promise.number };
 }
@@ -70,8 +68,8 @@ impl<'a, N: BootName, R: Wait, G: Gate> Job<'a, N, R, G> {
     // Serves the lines.
     fn run(self) -> Result<Told<N>, AllocError>
         requires { All (LineNames N.frames.frames) self.lines.now }
-        ensures { IfOk result (λ told. ServesOwn N.frames N.stocks self.entry.number self.entry.cpu.now
-            self.entry.lines.now (string_bytes told.text) told.after.value) }
+        ensures { IfOk result (λ told. ServesOwn (boot_tables N.frames N.stocks)
+            (worker self.entry.number self.entry.cpu.now self.entry.lines.now) told.after.value (string_bytes told.text)) }
     {
         let Job {
             rt,
@@ -94,11 +92,7 @@ pub(crate) fn start<'s, E, N: BootName + Send + Sync, R: Wait + Sync, G: Gate + 
     job: Job<'s, N, R, G>,
 ) -> Result<Worker<'s, N>, AllocError>
     requires { All (LineNames N.frames.frames) job.lines.now }
-    ensures { IfOk result (λ w. w ≡ record {
-      number = job.entry.number;
-      before = job.entry.cpu.now;
-      lines = job.entry.lines.now;
-    }) }
+    ensures { IfOk result (λ started. started ≡ worker job.entry.number job.entry.cpu.now job.entry.lines.now) }
 {
     let number = job.number;
     let promise = Answers {
@@ -113,7 +107,7 @@ pub(crate) fn start<'s, E, N: BootName + Send + Sync, R: Wait + Sync, G: Gate + 
 impl<'a, N: BootName> Worker<'a, N> {
     // Waits for the worker's end, and adds its answers under its heading.
     pub(crate) fn join<R: Threads>(self, rt: &R, text: &mut String) -> Result<(), AllocError>
-        ensures { IfOk result (λ _. (own : List ℕ) × TellsOwn N.frames N.stocks self.entry own
+        ensures { IfOk result (λ _. (own : List ℕ) × TellsOwn (boot_tables N.frames N.stocks) self.entry own
             × (string_bytes text.new ≡ string_bytes text.old ++ (heading self.entry.number ++ own))) }
     {
         let Worker { number, handle } = self;
@@ -125,7 +119,7 @@ impl<'a, N: BootName> Worker<'a, N> {
 
 // Adds the line that heads the answers of a processor.
 fn write_heading(number: u32, text: &mut String) -> Result<(), AllocError>
-    ensures { IfOk result (λ _. string_bytes text.new ≡ string_bytes text.old ++ heading number) }
+    ensures { OnOk result (string_bytes text.new ≡ string_bytes text.old ++ heading number) }
 {
     writeln!(text, "cpu {number}")
 }

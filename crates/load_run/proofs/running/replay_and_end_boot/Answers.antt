@@ -4,6 +4,7 @@ use Rattle.mem_system.proofs.Closing.{written_back}
 use Rattle.script_replay.specs.History.{ReplaysOrStops}
 use Rattle.script_replay.specs.Lines.{standing}
 use Rattle.script_replay.specs.Ranges.{LineIsThere}
+use Rattle.script_replay.specs.Terms.{terms}
 use Rattle.load_run.specs.Ending.{EndsHeld}
 use Rattle.load_run.proofs.running.replay_and_end_boot.Goals as goal
 
@@ -28,7 +29,7 @@ returns g c =
     let same = written_back c.args.cpus.len c.replay-answers.new.cpus c.args.cpus.items long (sym c.deref_mut.ensures.len ∙ ap length first) in
     record {
       before = standing c.replay-answers.new.locked c.replay-answers.new.cpus;
-      is_before = subst (λ (cpus : List KnownCpu). ReplaysOrStops t w c.args.is_explained (standing c.args.locked cpus) c.args.lines.now
-          c.replay-answers.result (standing c.replay-answers.new.locked c.replay-answers.new.cpus)) first c.replay-answers.ensures;
+      so = subst (λ (cpus : List KnownCpu). ReplaysOrStops (terms t w c.args.is_explained) c.args.lines.now (standing c.args.locked cpus)
+          (standing c.replay-answers.new.locked c.replay-answers.new.cpus) c.replay-answers.result) first c.replay-answers.ensures;
       ends = subst (λ (cpus : List KnownCpu). EndsHeld t w (standing c.replay-answers.new.locked cpus) c.end_boot-ended.result) same c.end_boot-ended.ensures;
     }

@@ -19,7 +19,7 @@ returns g c =
     let sized = sized_as c.args.boot.sizes _ t _ w c.requires.sized c.requires.names in
     let first = c.in_ok-tables.ensures.cpus in
     let ended = c.replay_and_end_boot-answers.ensures in
-    let replays = at_ok _ _ _ c.in_ok-answers.was ended.is_before.replayed in
+    let replays = at_ok _ _ _ c.in_ok-answers.was ended.so.replayed in
     let told = c.replay_and_end_boot-answers.result.1 in
     weakened c.tell_end.result _ _ (λ text is. record {
       frames = t;

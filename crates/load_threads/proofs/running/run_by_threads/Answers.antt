@@ -5,6 +5,7 @@ use Rattle.cpu_part.specs.Cpus.{KnownCpu}
 use Rattle.mem_system.proofs.Closing.{written_back}
 use Rattle.script_replay.specs.History.{Replays}
 use Rattle.script_replay.specs.Lines.{Standing, standing}
+use Rattle.script_replay.specs.Terms.{boot_tables, terms}
 use Rattle.script_threads.specs.Each.{TellsEach, workers_from}
 use Rattle.script_threads.proofs.Going.{go_least}
 use Rattle.load_run.specs.Ending.{end_text}
@@ -56,13 +57,13 @@ returns g c =
     let early = c.in_ok-answers.answers.items in
     let later = c.in_ok-told.field-0.items in
     let ended = c.serve_and_end-told.result.1 in
-    let replays : Replays t w false start c.split_at.result.0.now early at_go =
-    at_ok c.replay-first.result c.in_ok-answers.answers (λ v. Replays t w false start c.split_at.result.0.now v.items at_go) c.in_ok-answers.was
+    let replays : Replays (terms t w false) c.split_at.result.0.now start at_go early =
+    at_ok c.replay-first.result c.in_ok-answers.answers (λ v. Replays (terms t w false) c.split_at.result.0.now start at_go v.items) c.in_ok-answers.was
     c.replay-first.ensures.replayed in
     let history = replays.history [] (boot_shown sizes t w c.in_ok-tables.locked.machine c.deref_mut.result.now sized c.in_ok-tables.ensures.machine firsts)
     (parts_tied sizes t w c.in_ok-tables.locked.machine c.deref_mut.result.now sized c.in_ok-tables.ensures.machine firsts) in
-    let tells : TellsEach t w (workers_from 1 at_go.cpus c.split_at.result.1.now) later =
-    subst (λ (cpus : List KnownCpu). TellsEach t w (workers_from 1 cpus c.split_at.result.1.now) later) same
+    let tells : TellsEach (boot_tables t w) (workers_from 1 at_go.cpus c.split_at.result.1.now) later =
+    subst (λ (cpus : List KnownCpu). TellsEach (boot_tables t w) (workers_from 1 cpus c.split_at.result.1.now) later) same
     (at_ok c.serve_and_end-told.result.0 c.in_ok-told.field-0 _ c.in_ok-told.was c.serve_and_end-told.ensures.told) in
     let joined : c.extend_from_slice.new.self.items ≡ early ++ later =
     c.in_ok-extend_from_slice.ensures.items ∙ ap (λ (l : List ℕ). early ++ l) c.deref.ensures.value in

@@ -4,6 +4,7 @@ use Rattle.cpu_part.specs.Cpus.{KnownCpu}
 use Rattle.mem_system.proofs.Closing.{written_back}
 use Rattle.script_replay.specs.Lines.{standing}
 use Rattle.script_replay.specs.Ranges.{LineIsThere}
+use Rattle.script_replay.specs.Terms.{boot_tables}
 use Rattle.script_threads.specs.Each.{TellsEach, workers_from}
 use Rattle.load_run.specs.Ending.{EndsHeld}
 use Rattle.load_threads.proofs.running.serve_and_end.Goals as goal
@@ -31,7 +32,7 @@ pub returns-clause-told : goal.returns-clause-told
 returns-clause-told g c =
     let t = g.N.BootName.frames in
     let w = g.N.BootName.stocks in
-    subst (λ (cpus : List KnownCpu). IfOk c.serve_later-told.result (λ text. TellsEach t w (workers_from 1 cpus c.args.lines.now) text.items))
+    subst (λ (cpus : List KnownCpu). IfOk c.serve_later-told.result (λ text. TellsEach (boot_tables t w) (workers_from 1 cpus c.args.lines.now) text.items))
     c.deref_mut.ensures.value c.serve_later-told.ensures
 
 pub returns-clause-ends : goal.returns-clause-ends
@@ -43,7 +44,7 @@ returns-clause-ends g c =
     let same = written_back c.args.cpus.len c.serve_later-told.new.cpus c.args.cpus.items long (sym c.deref_mut.ensures.len ∙ ap length first) in
     record {
       before = standing c.into_parts-locked.result.0 c.serve_later-told.new.cpus;
-      is_before = (c.into_parts-locked.ensures.quiet, long ∙ c.requires.count);
+      so = (c.into_parts-locked.ensures.quiet, long ∙ c.requires.count);
       ends = subst (λ (cpus : List KnownCpu). EndsHeld t w (standing c.into_parts-locked.result.0 cpus) c.end_boot-ended.result) same
           c.end_boot-ended.ensures;
     }

@@ -1,11 +1,17 @@
-use Rattle.std.proofs.Common.{rules}
+use Rattle.std.proofs.Common.{◌≡◌, rules, subst}
 use Rattle.std.specs.String.{string_bytes}
+use Rattle.script_replay.specs.Terms.{boot_tables}
+use Rattle.script_threads.specs.Own.{KnownWorker, ServesOwn, worker}
 use Rattle.script_threads.specs.Each.{heading}
 use Rattle.script_threads.proofs.Telling.{joined}
 use Rattle.script_threads.proofs.workers.Worker.join.Goals as goal
 
 pub returns : goal.returns
 returns g c =
-    joined g.N.BootName.frames g.N.BootName.stocks c.args.self.number c.args.self.before c.in_ok-told.told.after.value c.args.self.lines
+    let on = boot_tables g.N.BootName.frames g.N.BootName.stocks in
+    let promise = c.self.inside.handle.promise in
+    let same : worker promise.number promise.before.value promise.lines.now ≡ c.args.self = search rules in
+    let serves = subst (λ (w : KnownWorker). ServesOwn on w c.in_ok-told.told.after.value (string_bytes c.in_ok-told.told.text)) same c.in_ok-told.ensures in
+    joined on c.args.self.number c.args.self.before c.in_ok-told.told.after.value c.args.self.lines
     (string_bytes c.args.text.now) (heading c.args.self.number) (string_bytes c.write_heading.new.text) (string_bytes c.in_ok-told.told.text)
-    (string_bytes c.push_str.new.self) c.push_str.result (search rules) (search rules) (search rules)
+    (string_bytes c.push_str.new.self) c.push_str.result serves (search rules) (search rules)

@@ -1,0 +1,14 @@
+use Rattle.std.proofs.Common.{refl, rules}
+use Rattle.machine_texts.specs.Show.{show_text}
+use Rattle.mem_history.specs.Whole.{under_lock}
+use Rattle.script_replay.proofs.command_answers.answer_show.Goals as goal
+
+pub returns : goal.returns
+returns g c is_explained = (
+  show_text c.machine.result.now,
+  (
+    under_lock c.args.cpu.now.number c.settle.ensures.served.steps,
+    (record { served = c.settle.ensures.served; steps_are = refl }, search rules),
+  ),
+  c.write_show.ensures,
+)
