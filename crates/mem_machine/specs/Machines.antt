@@ -87,12 +87,12 @@ home_of links frame = (link_at links frame).home
 abbrev pub HeadsKeptUnit : KnownMachine → ℕ → Type 0
 HeadsKeptUnit machine frame = home_of machine.links frame ≢ None
 
--- The lists of all groups: the records through which the units are linked, and by number the two lists of each group
+-- the lists of all groups: the records through which the units are linked, and by number the two lists of each group
 pub record GroupLists : Type 0 where
   pub links : List Link
   pub lists : List Lru
 
--- these records, and these lists
+-- the lists that these records and these ends make up
 abbrev pub group_lists : List Link → List Lru → GroupLists
 group_lists links lists = record { links = links; lists = lists }
 

@@ -102,8 +102,8 @@ DrainsBelow group processor drains before after = DrainsIf (of_subtree group) pr
 abbrev pub DrainsAllBelow : ℕ → ℕ → List Drain → KnownMachine → KnownMachine → Type 0
 DrainsAllBelow group count drains before after = DrainsAllIf (of_subtree group) count drains before after
 
--- Stocks are drained, of so many pages in all, by the drains' steps; which drains lead from one machine to another, the
--- relation tells
+-- Some drains, by their steps, lead from one machine to the other, as `AreDone` says of them; so many pages in all were
+-- in the stocks
 pub record DrainsBySteps (table : KnownTable) (AreDone : List Drain → KnownMachine → KnownMachine → Type 0) (pages : ℕ)
     (before after : KnownMachine) : Type 0 where
   pub drains : List Drain
