@@ -71,9 +71,9 @@ tells_still t run l step answer legal more still groups told =
           subst (IsPeak zone (pushed run step answer) m) (still_peak (state_of zone (pushed run step answer)) step.action answer m (peak_of l m) still)
           (peaks_are_kept.step zone run step answer legal ok m (peak_of l m) (ap (λ g. has_group g m) (sym groups) ∙ there) (λ was. told.peak m there));
       events = λ key m there. told.events key m there
-          ∙ sym ((events_are_counted.step zone run step answer key m).below ∙ below_stays key m s step.seat step.action answer _ still);
+          ∙ sym ((events_are_counted.step zone run step answer key m).below ∙ below_stays key m s (step, answer) _ still);
       events_local = λ key m there. told.events_local key m there
-          ∙ sym ((events_are_counted.step zone run step answer key m).local ∙ at_stays key m s step.seat step.action answer _ still);
+          ∙ sym ((events_are_counted.step zone run step answer key m).local ∙ at_stays key m s (step, answer) _ still);
     }
 
 -- ---- a line under the lock

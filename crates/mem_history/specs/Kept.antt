@@ -1,5 +1,6 @@
 -- Where the whole begins, and what holds wherever a run shows it.
-use Rattle.std.specs.Prelude.{◌≡◌, ℕ, ◌+◌, ◌≤◌, nat_le, zero, suc, Option, Some, None, List, [], ◌∷◌, length, slice_get, if◌then◌else◌}
+use Rattle.std.specs.Prelude.{◌≡◌, ℕ, ◌+◌, ◌≤◌, nat_le, zero, suc, Option, Some, None, List, [], ◌∷◌}
+use Rattle.std.specs.Prelude.{length, slice_get, if◌then◌else◌}
 use Rattle.std.specs.Option.{option_map_or}
 use Rattle.frame_word.specs.Seats.{KnownTable, first_cpu_view}
 use Rattle.stock_word.specs.Stock.{Words, account_of, first_processor, group_of}
@@ -21,75 +22,90 @@ use Rattle.mem_machine.specs.Steps.{cpu_makes}
 use Rattle.mem_history.specs.Whole.{ShowsAll}
 
 -- ---- a new boot
+
 -- the machine of a new boot, and the parts of its processors, in order, none of which did anything
-pub record IsNewBoot (t : KnownTable) (w : Words) (m : KnownMachine) (cpus : List KnownCpu) : Type 0 where
-  pub machine : IsFirst t w m
-  pub count : length cpus ≡ t.cpus
-  pub each : (k : ℕ) (c : KnownCpu) → slice_get cpus k ≡ Some c →
-      c ≡ first_cpu (record { table = t.table; view = first_cpu_view (suc k) }) (record { table = w.table; view = first_processor (suc k) })
+pub record IsNewBoot (table : KnownTable) (words : Words) (first : KnownMachine) (cpus : List KnownCpu) : Type 0 where
+  pub machine : IsFirst table words first
+  pub count : length cpus ≡ table.cpus
+  pub each : (index : ℕ) (cpu : KnownCpu) → slice_get cpus index ≡ Some cpu
+      → cpu ≡ first_cpu (record { table = table.table; view = first_cpu_view (suc index) })
+      (record { table = words.table; view = first_processor (suc index) })
 
 -- a new boot shows the run of no step
 abbrev pub ABootIsShown : Type 0
-ABootIsShown = (t : KnownTable) (w : Words) (m : KnownMachine) (cpus : List KnownCpu) → IsNewBoot t w m cpus → ShowsAll t [] m cpus
+ABootIsShown = (table : KnownTable) (words : Words) (first : KnownMachine) (cpus : List KnownCpu)
+    → IsNewBoot table words first cpus → ShowsAll table [] first cpus
 
 -- so the run of one Lock shows the first processor that takes it the machine of the new boot
 abbrev pub TheFirstHolderIsShown : Type 0
-TheFirstHolderIsShown = (t : KnownTable) (w : Words) (m : KnownMachine) (cpus : List KnownCpu) (k : ℕ) (c : KnownCpu) → IsNewBoot t w m cpus →
-    slice_get cpus k ≡ Some c → Shows t (cpu_makes c.number Lock Done ∷ []) (side m c)
+TheFirstHolderIsShown = (table : KnownTable) (words : Words) (first : KnownMachine) (cpus : List KnownCpu) (index : ℕ)
+    (cpu : KnownCpu) → IsNewBoot table words first cpus → slice_get cpus index ≡ Some cpu
+    → Shows table (cpu_makes cpu.number Lock Done ∷ []) (side first cpu)
 
 -- ---- what always holds of the parts
--- of each part, by its type: its lists and pins are what its seats know, and one that never saw a stock has no fresh frame
-pub record IsTiedPart (t : KnownTable) (w : Words) (c : KnownCpu) : Type 0 where
-  pub tied : IsTied t w c
-  pub none_fresh : group_of c.stock.view.last ≡ None → length c.fresh ≡ 0
+
+-- of each part, by its type: its lists and pins are what its seats know, and one that never saw a stock has no fresh
+-- frame
+pub record IsTiedPart (table : KnownTable) (words : Words) (cpu : KnownCpu) : Type 0 where
+  pub tied : IsTied table words cpu
+  pub none_fresh : group_of cpu.stock.view.last ≡ None → length cpu.fresh ≡ 0
 
 -- so it is of all parts
 abbrev pub AreTied : KnownTable → Words → List KnownCpu → Type 0
-AreTied t w cpus = (k : ℕ) (c : KnownCpu) → slice_get cpus k ≡ Some c → IsTiedPart t w c
+AreTied table words cpus =
+    (index : ℕ) (cpu : KnownCpu) → slice_get cpus index ≡ Some cpu → IsTiedPart table words cpu
 
 -- ---- memory.current
--- wherever a run shows the whole, the ledger's number for a group is the frames that the group and those below it keep, and the
--- pages prepaid for them
+
+-- wherever a run shows the whole, the ledger's number for a group is the frames that the group and those below it keep,
+-- and the pages prepaid for them
 abbrev pub CurrentIsKept : Type 0
-CurrentIsKept = (t : KnownTable) (w : Words) (run : Run) (m : KnownMachine) (cpus : List KnownCpu) → ShowsAll t run m cpus → IsConsistent t w m →
-    AreCharges m.ledger → AreTied t w cpus → 1 ≤ t.cpus → (g : ℕ) →
-    current_of m.ledger g ≡ frames_kept (state_of (zone_of t) run).groups (state_of (zone_of t) run).phases t.frames g
-    + pages_prepaid (state_of (zone_of t) run).groups (state_of (zone_of t) run).parts t.cpus g
+CurrentIsKept = (table : KnownTable) (words : Words) (run : Run) (machine : KnownMachine) (cpus : List KnownCpu)
+    → ShowsAll table run machine cpus → IsConsistent table words machine → AreCharges machine.ledger
+    → AreTied table words cpus → 1 ≤ table.cpus → (group : ℕ)
+    → current_of machine.ledger group
+    ≡ frames_kept (state_of (zone_of table) run).groups (state_of (zone_of table) run).phases table.frames group
+    + pages_prepaid (state_of (zone_of table) run).groups (state_of (zone_of table) run).parts table.cpus group
 
 -- ---- the promise
+
 -- the listed and the fresh frames of the processor of this number, by its part; number 0 is nobody's
 abbrev pub list_by : List KnownCpu → ℕ → List ℕ
 list_by cpus zero = []
-list_by cpus (suc k) = option_map_or (λ c. c.list) (slice_get cpus k) []
+list_by cpus (suc index) = option_map_or (λ cpu. cpu.list) (slice_get cpus index) []
 
 -- its fresh frames, likewise
 abbrev pub fresh_frames_by : List KnownCpu → ℕ → List ℕ
 fresh_frames_by cpus zero = []
-fresh_frames_by cpus (suc k) = option_map_or (λ c. c.fresh) (slice_get cpus k) []
+fresh_frames_by cpus (suc index) = option_map_or (λ cpu. cpu.fresh) (slice_get cpus index) []
 
 -- the group that keeps the frame, by its record: one that is lent and fresh there is kept by the group of that stock
 abbrev pub keeper_by : KnownMachine → List KnownCpu → ℕ → Spot → Option ℕ
-keeper_by m cpus f Free = None
-keeper_by m cpus f (Lent p) = if nat_le 1 (times f (fresh_frames_by cpus p)) then (account_of m.stock.view p).group else None
-keeper_by m cpus f (Head unit) = Some unit.group
-keeper_by m cpus f (Tail g) = Some g
+keeper_by machine cpus frame Free = None
+keeper_by machine cpus frame (Lent processor) =
+    if nat_le 1 (times frame (fresh_frames_by cpus processor))
+    then (account_of machine.stock.view processor).group else None
+keeper_by machine cpus frame (Head unit) = Some unit.group
+keeper_by machine cpus frame (Tail group) = Some group
 
 -- the stock of the processor: of its account's group, with the booked pages that are neither fresh nor noted
 abbrev pub stock_by : KnownMachine → List KnownCpu → ℕ → Stock
-stock_by m cpus p = (part_with [] (fresh_frames_by cpus p) [] (account_of m.stock.view p)).stock
+stock_by machine cpus processor =
+    (part_with [] (fresh_frames_by cpus processor) [] (account_of machine.stock.view processor)).stock
 
 -- what the machine and the parts show: memory.current is the ledger's number, which `read` prints
 abbrev pub shown_of : KnownMachine → List KnownCpu → Shown
-shown_of m cpus = record {
-  areas = m.blocks;
+shown_of machine cpus = record {
+  areas = machine.blocks;
   lists = list_by cpus;
-  keeper = λ f. keeper_by m cpus f (spot_at m.spots f);
-  groups = m.ledger.groups;
-  stocks = stock_by m cpus;
-  current = current_of m.ledger;
+  keeper = λ frame. keeper_by machine cpus frame (spot_at machine.spots frame);
+  groups = machine.ledger.groups;
+  stocks = stock_by machine cpus;
+  current = current_of machine.ledger;
 }
 
 -- wherever a run shows the whole, the promise holds of what the machine and the parts show
 abbrev pub TheWholeIsPromised : Type 0
-TheWholeIsPromised = (t : KnownTable) (w : Words) (run : Run) (m : KnownMachine) (cpus : List KnownCpu) → ShowsAll t run m cpus → IsConsistent t w m →
-    AreCharges m.ledger → AreTied t w cpus → 1 ≤ t.cpus → Promise (zone_of t) run (shown_of m cpus)
+TheWholeIsPromised = (table : KnownTable) (words : Words) (run : Run) (machine : KnownMachine) (cpus : List KnownCpu)
+    → ShowsAll table run machine cpus → IsConsistent table words machine → AreCharges machine.ledger
+    → AreTied table words cpus → 1 ≤ table.cpus → Promise (zone_of table) run (shown_of machine cpus)

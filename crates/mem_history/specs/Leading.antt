@@ -20,27 +20,35 @@ use Rattle.mem_history.specs.Whole.{ShowsAll, AreDecided}
 
 -- what a put of the part answered, as the answer of the step
 abbrev pub put_answer : Putted → Answer
-put_answer (put.Left n) = Left n
+put_answer (put.Left left) = Left left
 put_answer put.Last = Last
 
--- the run shows the whole, and this is its k-th part, which its seats know
-pub record IsPart (t : KnownTable) (w : Words) (run : Run) (m : KnownMachine) (cpus : List KnownCpu) (k : ℕ) (c : KnownCpu) : Type 0 where
-  pub shows : ShowsAll t run m cpus
-  pub is_part : slice_get cpus k ≡ Some c
-  pub tied : IsTied t w c
+-- the run shows the whole, and this is its part at this index, which its seats know
+pub record IsPart (table : KnownTable) (words : Words) (run : Run) (machine : KnownMachine) (cpus : List KnownCpu)
+    (index : ℕ) (cpu : KnownCpu) : Type 0 where
+  pub shows : ShowsAll table run machine cpus
+  pub is_part : slice_get cpus index ≡ Some cpu
+  pub tied : IsTied table words cpu
 
--- Where a run shows the whole: a get that is answered Held is that step of the processor, by what the machine shows it; so is a
--- put; so is a fast allocation that gets a frame, a Consume, and a fresh frame that is listed again, a Credit, where
--- the stock is one that pays, as all parts decide
+-- Where a run shows the whole: a get that is answered Held is that step of the processor, by what the machine shows it;
+-- so is a put; so is a fast allocation that gets a frame, a Consume, and a fresh frame that is listed again, a Credit,
+-- where the stock is one that pays, as all parts decide
 pub record FastCallsLead : Type 0 where
-  pub held : (t : KnownTable) (w : Words) (run : Run) (m : KnownMachine) (cpus : List KnownCpu) (k : ℕ) (c d : KnownCpu) → IsPart t w run m cpus k c →
-      (f : ℕ) → f < t.frames → length c.back + length c.pins < 256 → PinAnswers f get.Held c d →
-      Makes t (side m c) (cpu_makes c.number (Get f) Held ∷ []) (side m d)
-  pub putted : (t : KnownTable) (w : Words) (run : Run) (m : KnownMachine) (cpus : List KnownCpu) (k : ℕ) (c d : KnownCpu) → IsPart t w run m cpus k c →
-      (f : ℕ) (answer : Putted) → UnpinAnswers f answer c d → Makes t (side m c) (cpu_makes c.number (Put f) (put_answer answer) ∷ []) (side m d)
-  pub got : (t : KnownTable) (w : Words) (run : Run) (m : KnownMachine) (cpus : List KnownCpu) (k : ℕ) (c d : KnownCpu) → IsPart t w run m cpus k c →
-      (g f : ℕ) → FastAnswers g (Got f) c d → AreDecided t cpus (side m c) (cpu_makes c.number (Consume g) Took ∷ []) →
-      Makes t (side m c) (cpu_makes c.number (Consume g) Took ∷ []) (side m d)
-  pub listed : (t : KnownTable) (w : Words) (run : Run) (m : KnownMachine) (cpus : List KnownCpu) (k : ℕ) (c d : KnownCpu) → IsPart t w run m cpus k c →
-      (f : ℕ) → 1 ≤ times f c.fresh → DropAnswers f Listed c d → AreDecided t cpus (side m c) (cpu_makes c.number (Credit f) Back ∷ []) →
-      Makes t (side m c) (cpu_makes c.number (Credit f) Back ∷ []) (side m d)
+  pub held : (table : KnownTable) (words : Words) (run : Run) (machine : KnownMachine) (cpus : List KnownCpu)
+      (index : ℕ) (cpu later : KnownCpu) → IsPart table words run machine cpus index cpu → (frame : ℕ)
+      → frame < table.frames → length cpu.back + length cpu.pins < 256 → PinAnswers frame get.Held cpu later
+      → Makes table (side machine cpu) (cpu_makes cpu.number (Get frame) Held ∷ []) (side machine later)
+  pub putted : (table : KnownTable) (words : Words) (run : Run) (machine : KnownMachine) (cpus : List KnownCpu)
+      (index : ℕ) (cpu later : KnownCpu) → IsPart table words run machine cpus index cpu → (frame : ℕ)
+      (answer : Putted) → UnpinAnswers frame answer cpu later
+      → Makes table (side machine cpu) (cpu_makes cpu.number (Put frame) (put_answer answer) ∷ []) (side machine later)
+  pub got : (table : KnownTable) (words : Words) (run : Run) (machine : KnownMachine) (cpus : List KnownCpu)
+      (index : ℕ) (cpu later : KnownCpu) → IsPart table words run machine cpus index cpu → (group frame : ℕ)
+      → FastAnswers group (Got frame) cpu later
+      → AreDecided table cpus (side machine cpu) (cpu_makes cpu.number (Consume group) Took ∷ [])
+      → Makes table (side machine cpu) (cpu_makes cpu.number (Consume group) Took ∷ []) (side machine later)
+  pub listed : (table : KnownTable) (words : Words) (run : Run) (machine : KnownMachine) (cpus : List KnownCpu)
+      (index : ℕ) (cpu later : KnownCpu) → IsPart table words run machine cpus index cpu → (frame : ℕ)
+      → 1 ≤ times frame cpu.fresh → DropAnswers frame Listed cpu later
+      → AreDecided table cpus (side machine cpu) (cpu_makes cpu.number (Credit frame) Back ∷ [])
+      → Makes table (side machine cpu) (cpu_makes cpu.number (Credit frame) Back ∷ []) (side machine later)

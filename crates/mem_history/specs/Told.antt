@@ -14,16 +14,19 @@ use Rattle.mem_history.specs.Whole.{ShowsAll, ServesAt, ServesFast, under_lock}
 
 -- the ledger of a new boot tells the run of no step
 abbrev pub ABootTells : Type 0
-ABootTells = (t : KnownTable) (w : Words) (m : KnownMachine) → IsFirst t w m → TellsRun t [] m.ledger
+ABootTells = (table : KnownTable) (words : Words) (machine : KnownMachine) → IsFirst table words machine
+    → TellsRun table [] machine.ledger
 
 -- where a run shows the whole and the ledger tells it, the ledger tells the run that goes on with a line under the lock
 abbrev pub LinesTell : Type 0
-LinesTell = (t : KnownTable) (run : Run) (cpus : List KnownCpu) (k : ℕ) (before : Side) (steps : Run) (after : Side) →
-    ShowsAll t run before.machine cpus → ServesAt t cpus k before steps after → TellsRun t run before.machine.ledger →
-    TellsRun t (run ++ under_lock before.cpu.number steps) after.machine.ledger
+LinesTell = (table : KnownTable) (run : Run) (cpus : List KnownCpu) (index : ℕ) (before : Side) (steps : Run)
+    (after : Side) → ShowsAll table run before.machine cpus → ServesAt table cpus index before steps after
+    → TellsRun table run before.machine.ledger
+    → TellsRun table (run ++ under_lock before.cpu.number steps) after.machine.ledger
 
 -- and the run that goes on with a step that takes no lock
 abbrev pub FastLinesTell : Type 0
-FastLinesTell = (t : KnownTable) (run : Run) (cpus : List KnownCpu) (k : ℕ) (before : Side) (action : Action) (answer : Answer) (after : Side) →
-    ShowsAll t run before.machine cpus → ServesFast t cpus k before action answer after → TellsRun t run before.machine.ledger →
-    TellsRun t (run ++ cpu_makes before.cpu.number action answer ∷ []) after.machine.ledger
+FastLinesTell = (table : KnownTable) (run : Run) (cpus : List KnownCpu) (index : ℕ) (before : Side) (action : Action)
+    (answer : Answer) (after : Side) → ShowsAll table run before.machine cpus
+    → ServesFast table cpus index before action answer after → TellsRun table run before.machine.ledger
+    → TellsRun table (run ++ cpu_makes before.cpu.number action answer ∷ []) after.machine.ledger

@@ -10,8 +10,8 @@ pub fn a_boot_is_shown()
     ensures { ABootIsShown }
 {}
 
-/// Where a run shows the machine and all parts, the run that goes on with a processor's Lock shows that processor the machine
-/// and its part: what `calls_interleave` of `mem_machine` begins with.
+/// Where a run shows the machine and all parts, the run that goes on with a processor's Lock shows that processor the
+/// machine and its part: what `calls_interleave` of `mem_machine` begins with.
 pub fn the_holder_is_shown()
     ensures { TheHolderIsShown }
 {}
@@ -21,9 +21,9 @@ pub fn the_first_holder_is_shown()
     ensures { TheFirstHolderIsShown }
 {}
 
-/// Where a run shows the machine and all parts, a line that is served under the lock carries it on: the run goes on with
-/// Lock, the line's steps and Unlock, is legal, and shows the machine and all parts after the line. Each answer that other
-/// processors' words decide must be what all parts together decide.
+/// Where a run shows the machine and all parts, a line that is served under the lock carries it on: the run goes on
+/// with Lock, the line's steps and Unlock, is legal, and shows the machine and all parts after the line. Each answer
+/// that other processors' words decide must be what all parts together decide.
 pub fn lines_follow()
     ensures { LinesFollow }
 {}
@@ -33,8 +33,8 @@ pub fn fast_lines_follow()
     ensures { FastLinesFollow }
 {}
 
-/// Wherever a run shows the machine and all parts, the ledger's number for a group is the frames that the group and those
-/// below it keep, and the pages prepaid for them, by the run.
+/// Wherever a run shows the machine and all parts, the ledger's number for a group is the frames that the group and
+/// those below it keep, and the pages prepaid for them, by the run.
 pub fn current_is_kept()
     ensures { CurrentIsKept }
 {}
@@ -44,8 +44,9 @@ pub fn the_whole_is_promised()
     ensures { TheWholeIsPromised }
 {}
 
-/// Where a run shows the machine and all parts, a fast call that changes a list or a reference is its one step, by what the
-/// machine shows its processor: a get that is answered Held, a put, a frame that becomes fresh, and one that is listed again.
+/// Where a run shows the machine and all parts, a fast call that changes a list or a reference is its one step, by what
+/// the machine shows its processor: a get that is answered Held, a put, a frame that becomes fresh, and one that is
+/// listed again.
 pub fn fast_calls_lead()
     ensures { FastCallsLead }
 {}
@@ -55,8 +56,8 @@ pub fn a_boot_tells()
     ensures { ABootTells }
 {}
 
-/// Where the ledger tells the run that shows the whole, each group's peak and event counts, it tells the run that goes on with a
-/// line under the lock.
+/// Where the ledger tells the run that shows the whole, each group's peak and event counts, it tells the run that goes
+/// on with a line under the lock.
 pub fn lines_tell()
     ensures { LinesTell }
 {}

@@ -14,7 +14,7 @@ use Rattle.lru_lists.specs.declared.lru.Lru.{Lru}
 use Rattle.lru_lists.specs.Lists.{OthersStand, OneOfAllChanges, StandsIn, AllStand, ChangesOwn, list_of, place_of, entries_of, changed_at, dirtied}
 use Rattle.cpu_part.specs.Cpus.{KnownCpu}
 use Rattle.mem_machine.specs.Spots.{spot_at, head_group_of}
-use Rattle.mem_machine.specs.Machines.{KnownMachine, IsConsistent, OthersStay, home_of, lists_at, no_lists}
+use Rattle.mem_machine.specs.Machines.{KnownMachine, IsConsistent, OthersStay, home_of, lists_at, no_lists, group_lists, lists_of}
 use Rattle.mem_machine.specs.Marks.{Dirties}
 use Rattle.mem_machine.specs.Local.{MakesAs, side}
 use Rattle.mem_machine.proofs.Listed.{dirtied_owners, fits_home, place_here, loose_stay, others_stay}
@@ -80,7 +80,7 @@ module _ (t : KnownTable) (w : Words) (m : KnownMachine) (ok : IsConsistent t w 
       inactive = subst (λ (x : Lru). entries_of links x Inactive ≡ changed_at f (dirtied d) (entries_of m.links x Inactive)) (sym its_lists)
           (entries Inactive);
       active = subst (λ (x : Lru). entries_of links x Active ≡ changed_at f (dirtied d) (entries_of m.links x Active)) (sym its_lists) (entries Active);
-      others = subst (λ (l : List Lru). OthersStay h.owner m.links m.lists links l) same_lists
+      others = subst (λ (l : List Lru). OthersStay h.owner (lists_of m) (group_lists links l)) same_lists
           (others_stay m.links links m.lists h.owner lru lru ok.lists ok.sizes.lists owned changes others_stand);
       loose = λ g none. loose_stay m.links links lru.owner g changes (owners g) none;
     }

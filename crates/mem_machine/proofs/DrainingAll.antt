@@ -22,7 +22,7 @@ use Rattle.step_rules.specs.State.{Part}
 use Rattle.step_rules.specs.After.{Run}
 use Rattle.mem_machine.specs.Local.{local_of, part_with, MakesAs, side}
 use Rattle.mem_machine.specs.Steps.{Drain, drain_steps, drain_stocks_steps, pages_drained}
-use Rattle.mem_machine.specs.Stocks.{stock_group, DrainsNoted, DrainsIf, DrainsAllIf, DrainsIfChosen, DrainsChosen, AreDrainedIf}
+use Rattle.mem_machine.specs.Stocks.{stock_group, DrainsNoted, DrainsIf, DrainsAllIf, DrainsBySteps, AreDrainedIf}
 use Rattle.mem_machine.proofs.GroupSteps.{stayed_runs}
 use Rattle.mem_machine.proofs.Draining.{drained_at, drained_else, groups_stay, looked_now}
 use Rattle.mem_machine.proofs.Followed.{makes_both, makes_none, makes_stay}
@@ -64,10 +64,10 @@ module _ (test : List Group → Option ℕ → Bool) (q : ℕ) (x n : KnownMachi
 
 -- it is of the subtree, and is drained
 pub drained_one : (t : KnownTable) (test : List Group → Option ℕ → Bool) (q pages : ℕ) (m n : KnownMachine) → test m.ledger.groups (stock_group m q) ≡ true → DrainsNoted q pages m n
-    → ((c : KnownCpu) → MakesAs t c.number (side m c) (drain_steps q (stock_group m q) pages) (side n c)) → DrainsIfChosen t test q pages m n
+    → ((c : KnownCpu) → MakesAs t c.number (side m c) (drain_steps q (stock_group m q) pages) (side n c)) → DrainsBySteps t (DrainsIf test q) pages m n
 drained_one t test q pages m n below drains steps = record {
   drains = record { cpu = q; group = stock_group m q; pages = pages } ∷ [];
-  one = (below, record { cpu = refl; group = refl; drains = drains });
+  all = (below, record { cpu = refl; group = refl; drains = drains });
   sum = omega arith;
   steps = λ c. subst (λ (r : Run). MakesAs t c.number (side m c) r (side n c))
       (sym (append-nil (drain_steps q (stock_group m q) pages))) (steps c);
@@ -76,8 +76,8 @@ drained_one t test q pages m n below drains steps = record {
 -- it is of another group, or of none
 pub drained_not : (t : KnownTable) (test : List Group → Option ℕ → Bool) (q : ℕ) (m n : KnownMachine) → test m.ledger.groups (stock_group m q) ≡ false
     → n ≡ record m { stock = with_view m.stock (after_look m.stock.view q (stock_group m q)) }
-    → ((c : KnownCpu) → MakesAs t c.number (side m c) [] (side n c)) → DrainsIfChosen t test q 0 m n
-drained_not t test q m n other is steps = record { drains = []; one = (other, is); sum = refl; steps = steps }
+    → ((c : KnownCpu) → MakesAs t c.number (side m c) [] (side n c)) → DrainsBySteps t (DrainsIf test q) 0 m n
+drained_not t test q m n other is steps = record { drains = []; all = (other, is); sum = refl; steps = steps }
 
 -- a part whose stock is of no group shows the same once that counts as drained
 part_none : (l f b : List ℕ) (a : Account) → a.group ≡ None → part_with l f b (record a { book = a.book - 0; filled = false }) ≡ part_with l f b a
@@ -121,31 +121,31 @@ module _ (t : KnownTable) (m : KnownMachine) (q : ℕ) (none : stock_group m q �
 pub looked_own : (t : KnownTable) (m now : KnownMachine) → m ≡ now → (stock : Seated) → stock ≡ m.stock → (test : List Group → Option ℕ → Bool)
     → (q h pages : ℕ) (n : KnownMachine) → Some h ≡ stock_group m q → test m.ledger.groups (Some h) ≡ true → DrainsNoted q pages (record m { stock = stock }) n
     → ((c : KnownCpu) → MakesAs t c.number (side (record m { stock = stock }) c) (drain_steps q (stock_group (record m { stock = stock }) q) pages)
-    (side n c)) → DrainsIfChosen t test q pages now n
+    (side n c)) → DrainsBySteps t (DrainsIf test q) pages now n
 looked_own t m now same stock is test q h pages n of chosen drains steps =
-    subst (λ (x : KnownMachine). DrainsIfChosen t test q pages x n) (looked_now m now same stock is)
+    subst (λ (x : KnownMachine). DrainsBySteps t (DrainsIf test q) pages x n) (looked_now m now same stock is)
     (drained_one t test q pages (record m { stock = stock }) n
     (ap (test m.ledger.groups) (ap (λ (s : Seated). (account_of s.view q).group) is ∙ sym of) ∙ chosen) drains steps)
 
 -- the stock of another group
 pub looked_other : (t : KnownTable) (m now : KnownMachine) → m ≡ now → (test : List Group → Option ℕ → Bool) (q h : ℕ) → Some h ≡ stock_group m q
-    → test m.ledger.groups (Some h) ≡ false → (stock : Seated) → stock ≡ m.stock → DrainsIfChosen t test q 0 now (record m { stock = stock })
+    → test m.ledger.groups (Some h) ≡ false → (stock : Seated) → stock ≡ m.stock → DrainsBySteps t (DrainsIf test q) 0 now (record m { stock = stock })
 looked_other t m now same test q h of other stock is =
     let n : KnownMachine = record m { stock = stock } in
     let none : n ≡ record m { stock = with_view m.stock (after_look m.stock.view q (stock_group m q)) } =
     (λ i. record m { stock = is i }) ∙ (λ i. record m { stock = with_view m.stock (after_look m.stock.view q (of i)) }) in
-    subst (λ (x : KnownMachine). DrainsIfChosen t test q 0 x n) same
+    subst (λ (x : KnownMachine). DrainsBySteps t (DrainsIf test q) 0 x n) same
     (drained_not t test q m n (ap (test m.ledger.groups) (sym of) ∙ other) none (stayed_runs t m m refl n (λ i. record m { stock = is i })))
 
 -- the stock of no group
 pub looked_never : (t : KnownTable) (m now : KnownMachine) → m ≡ now → (test : List Group → Option ℕ → Bool) (q : ℕ) → None ≡ stock_group m q
     → test m.ledger.groups None ≡ false → (stock : Seated) → stock ≡ with_view m.stock (draining m.stock.view q 0)
-    → DrainsIfChosen t test q 0 now (record m { stock = stock })
+    → DrainsBySteps t (DrainsIf test q) 0 now (record m { stock = stock })
 looked_never t m now same test q of none_chosen stock is =
     let n : KnownMachine = record m { stock = with_view m.stock (draining m.stock.view q 0) } in
     let seen : n ≡ record m { stock = with_view m.stock (after_look m.stock.view q (stock_group m q)) } =
     λ i. record m { stock = with_view m.stock (after_look m.stock.view q (of i)) } in
-    subst (λ (x : KnownMachine × KnownMachine). DrainsIfChosen t test q 0 x.0 x.1) (λ i. (same i, record m { stock = sym is i }))
+    subst (λ (x : KnownMachine × KnownMachine). DrainsBySteps t (DrainsIf test q) 0 x.0 x.1) (λ i. (same i, record m { stock = sym is i }))
     (drained_not t test q m n (ap (test m.ledger.groups) (sym of) ∙ none_chosen) seen (looked_none t m q (sym of)))
 
 -- ---- all of them
@@ -185,7 +185,7 @@ drained_now test k x n last d before q some few below =
           ∙ before q some (omega (arith, few, ne)) ((λ i. test (sym groups i) (sym same i).group) ∙ below)
     ]
 
-pub drained_more : (t : KnownTable) (test : List Group → Option ℕ → Bool) (k pages more : ℕ) (m x n : KnownMachine) → DrainedSoFar t test k pages m x → DrainsIfChosen t test (k + 1) more x n
+pub drained_more : (t : KnownTable) (test : List Group → Option ℕ → Bool) (k pages more : ℕ) (m x n : KnownMachine) → DrainedSoFar t test k pages m x → DrainsBySteps t (DrainsIf test (k + 1)) more x n
     → more ≤ 4294967295 → DrainedSoFar t test (k + 1) (pages + more) m n
 drained_more t test k pages more m x n before last bound =
     let next : suc k ≡ k + 1 = omega arith in
@@ -198,17 +198,17 @@ drained_more t test k pages more m x n before last bound =
     record {
       drains = before.drains ++ last.drains;
       all = subst (λ (j : ℕ). DrainsAllIf test j (before.drains ++ last.drains) m n) next
-          (before.drains, last.drains, x, refl, before.all, subst (λ (j : ℕ). DrainsIf test j last.drains x n) (sym next) last.one);
+          (before.drains, last.drains, x, refl, before.all, subst (λ (j : ℕ). DrainsIf test j last.drains x n) (sym next) last.all);
       sum = omega (arith, both, a, b);
-      groups = below_groups test (k + 1) x n last.drains last.one ∙ before.groups;
-      drained = drained_now test k x n last.drains last.one before.drained;
+      groups = below_groups test (k + 1) x n last.drains last.all ∙ before.groups;
+      drained = drained_now test k x n last.drains last.all before.drained;
       steps = λ c. subst (λ (r : Run). MakesAs t c.number (side m c) r (side n c)) list
           (makes_both t c.number (drain_stocks_steps before.drains) (drain_stocks_steps last.drains) (side m c) (side x c) (side n c)
           (before.steps c) (last.steps c));
       small = omega (arith, low, bound);
     }
 
-pub drained_end : (t : KnownTable) (test : List Group → Option ℕ → Bool) (k pages : ℕ) (m n : KnownMachine) → DrainedSoFar t test k pages m n → k ≡ t.cpus → DrainsChosen t test pages m n
+pub drained_end : (t : KnownTable) (test : List Group → Option ℕ → Bool) (k pages : ℕ) (m n : KnownMachine) → DrainedSoFar t test k pages m n → k ≡ t.cpus → DrainsBySteps t (DrainsAllIf test t.cpus) pages m n
 drained_end t test k pages m n so_far all = record {
   drains = so_far.drains;
   all = subst (λ (j : ℕ). DrainsAllIf test j so_far.drains m n) all so_far.all;

@@ -9,6 +9,7 @@ use Rattle.group_tree.proofs.CallerLemmas.{has_group-with, has_group-limited, ha
 use Rattle.group_charge.specs.Charges.{Ledger, SamePeaks, SameEvents}
 use Rattle.frame_word.specs.Seats.{KnownTable}
 use Rattle.cpu_part.specs.Cpus.{KnownCpu}
+use Rattle.step_rules.specs.declared.step.Step.{Step}
 use Rattle.step_rules.specs.declared.step.Action.{Action}
 use Rattle.step_rules.specs.declared.step.Action.TheVariants.{Lock, Grant, NoteMax, NoteOom, Kill, SetMax, Make, Remove}
 use Rattle.step_rules.specs.declared.step.Answer.{Answer}
@@ -48,8 +49,7 @@ only_made s seat action answer m absent there = absurd (true≢false (sym there 
 
 -- a number of group m that begins anew where the group is made
 abbrev pub Begins : Moves → ℕ → Type 0
-Begins moves m = (s : State) (seat : ℕ) (action : Action) (answer : Answer) (x y : ℕ) → makes_group m action answer ≡ true
-    → moves s seat action answer x ≡ moves s seat action answer y
+Begins moves m = (s : State) (e : Step × Answer) (x y : ℕ) → makes_group m e.0.action e.1 ≡ true → moves s e x ≡ moves s e y
 
 made_peak : (t : State) (action : Action) (answer : Answer) (m x : ℕ) → makes_group m action answer ≡ true → peak_follows t action answer m x ≡ 0
 made_peak t (Make path) (Number n) m x made = ap (λ (b : Bool). cond b 0 x) made
@@ -57,22 +57,23 @@ made_peak t Lock answer m x made = absurd (false≢true made)
 made_peak t action answer m x made = absurd (false≢true made)
 
 pub peak_begins : (m : ℕ) → Begins (moves_peak m) m
-peak_begins m s seat action answer x y made =
-    made_peak (after s seat action answer) action answer m x made ∙ sym (made_peak (after s seat action answer) action answer m y made)
+peak_begins m s e x y made =
+    let now : State = after s e.0.seat e.0.action e.1 in
+    made_peak now e.0.action e.1 m x made ∙ sym (made_peak now e.0.action e.1 m y made)
 
 abbrev pub Test : Type 0
 Test = List Group → Action → Answer → Bool
 
 pub count_begins : (test : Test) (m : ℕ) → Begins (moves_count test m) m
-count_begins test m s seat action answer x y made =
-    ap (λ (b : Bool). cond b 0 (cond (test s.groups action answer) (one_more x) x)) made
-    ∙ sym (ap (λ (b : Bool). cond b 0 (cond (test s.groups action answer) (one_more y) y)) made)
+count_begins test m s e x y made =
+    ap (λ (b : Bool). cond b 0 (cond (test s.groups e.0.action e.1) (one_more x) x)) made
+    ∙ sym (ap (λ (b : Bool). cond b 0 (cond (test s.groups e.0.action e.1) (one_more y) y)) made)
 
 over_both : (moves : Moves) (p : ℕ) (a : State) (one two : Run) (b : State) (x : ℕ) → IsLocalRun p a one b
     → moved_over moves a (one ++ two) x ≡ moved_over moves b two (moved_over moves a one x)
 over_both moves p a [] two b x run = ap (λ (s : State). moved_over moves s two x) run
 over_both moves p a (e ∷ rest) two b x run =
-    over_both moves p (after a e.0.seat e.0.action e.1) rest two b (moves a e.0.seat e.0.action e.1 x) run.1
+    over_both moves p (after a e.0.seat e.0.action e.1) rest two b (moves a e x) run.1
 
 -- of a group that isn't there at first, and is at the end, it is the same whatever it was at first
 over_anew : (moves : Moves) (m : ℕ) → Begins moves m → (p : ℕ) (s : State) (steps : Run) (t : State) (x y : ℕ) → IsLocalRun p s steps t
@@ -82,8 +83,8 @@ over_anew moves m begins p s (e ∷ rest) t x y run absent there =
     let now : State = after s e.0.seat e.0.action e.1 in
     elim (cases_Bool (has_group now.groups m)) [
       | inl here ↦ ap (moved_over moves now rest)
-          (begins s e.0.seat e.0.action e.1 x y (only_made s e.0.seat e.0.action e.1 m absent here))
-      | inr none ↦ over_anew moves m begins p now rest t (moves s e.0.seat e.0.action e.1 x) (moves s e.0.seat e.0.action e.1 y) run.1 none there
+          (begins s e x y (only_made s e.0.seat e.0.action e.1 m absent here))
+      | inr none ↦ over_anew moves m begins p now rest t (moves s e x) (moves s e y) run.1 none there
     ]
 
 module _ (p : ℕ) (a : State) (one : Run) (b : State) (two : Run) (c : State) (first : IsLocalRun p a one b) (second : IsLocalRun p b two c) (m : ℕ) where
@@ -147,23 +148,23 @@ still_make m (Make path) (Number n) still = absurd (false≢true still)
 still_make m action answer still = refl
 
 abbrev pub Stays : Moves → Type 0
-Stays moves = (s : State) (seat : ℕ) (action : Action) (answer : Answer) (x : ℕ) → is_still action answer ≡ true → moves s seat action answer x ≡ x
+Stays moves = (s : State) (e : Step × Answer) (x : ℕ) → is_still e.0.action e.1 ≡ true → moves s e x ≡ x
 
 pub count_stays : (test : Test) (m : ℕ) → ((groups : List Group) (action : Action) (answer : Answer) → is_still action answer ≡ true
     → test groups action answer ≡ false) → Stays (moves_count test m)
-count_stays test m none s seat action answer x still =
-    ap (λ (b : Bool). cond b 0 (cond (test s.groups action answer) (one_more x) x)) (still_make m action answer still)
-    ∙ ap (λ (b : Bool). cond b (one_more x) x) (none s.groups action answer still)
+count_stays test m none s e x still =
+    ap (λ (b : Bool). cond b 0 (cond (test s.groups e.0.action e.1) (one_more x) x)) (still_make m e.0.action e.1 still)
+    ∙ ap (λ (b : Bool). cond b (one_more x) x) (none s.groups e.0.action e.1 still)
 
 over_still : (moves : Moves) → Stays moves → (s : State) (steps : Run) (x : ℕ) → are_still steps ≡ true → moved_over moves s steps x ≡ x
 over_still moves stays s [] x still = refl
 over_still moves stays s (e ∷ rest) x still =
     let both = and_parts (is_still e.0.action e.1) (are_still rest) still in
-    over_still moves stays (after s e.0.seat e.0.action e.1) rest (moves s e.0.seat e.0.action e.1 x) both.1
-    ∙ stays s e.0.seat e.0.action e.1 x both.0
+    over_still moves stays (after s e.0.seat e.0.action e.1) rest (moves s e x) both.1
+    ∙ stays s e x both.0
 
 pub peak_still : (m : ℕ) (s : State) (steps : Run) (x : ℕ) → are_still steps ≡ true → moved_over (moves_peak m) s steps x ≡ x
-peak_still m = over_still (moves_peak m) (λ s seat action answer x still. still_peak (after s seat action answer) action answer m x still)
+peak_still m = over_still (moves_peak m) (λ s e x still. still_peak (after s e.0.seat e.0.action e.1) e.0.action e.1 m x still)
 
 pub below_stays : (key : EventKey) (m : ℕ) → Stays (moves_count (is_noted_below key m) m)
 below_stays key m = count_stays (is_noted_below key m) m (λ groups action answer still. ap (is_below groups m) (still_note key action answer still))

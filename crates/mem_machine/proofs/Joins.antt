@@ -9,7 +9,7 @@ use Rattle.lru_lists.specs.declared.lru.Lru.{Lru}
 use Rattle.lru_lists.specs.Queue.{link_at}
 use Rattle.lru_lists.specs.Lists.{OthersStand, OneOfAllChanges, StandsIn, AllStand, ChangesOwn, MovesOnly, place_of, inactive_of, active_of}
 use Rattle.lru_lists.specs.Lists as lists
-use Rattle.mem_machine.specs.Machines.{lists_at, no_lists}
+use Rattle.mem_machine.specs.Machines.{lists_at, no_lists, group_lists}
 use Rattle.mem_machine.specs.Blocks.{JoinsList}
 use Rattle.mem_machine.proofs.Listed.{others_stay}
 
@@ -25,7 +25,7 @@ pub record IsAdded (links : List Link) (lru : Lru) (f : ℕ) (after : List Link)
 
 -- all that `join_list` leaves
 pub record AllJoin (links : List Link) (lists : List Lru) (g f : ℕ) (after : List Link) (new : List Lru) : Type 0 where
-  pub joins : JoinsList g f links lists after new
+  pub joins : JoinsList g f (group_lists links lists) (group_lists after new)
   pub stand : AllStand after new
   pub frames : length after ≡ length links
   pub groups : length new ≡ 64

@@ -9,14 +9,14 @@ use Rattle.lru_lists.specs.declared.lru.Lru.{Lru}
 use Rattle.lru_lists.specs.Queue.{link_at, nowhere, SameUse}
 use Rattle.lru_lists.specs.Lists.{OthersStand, OneOfAllChanges, StandsIn, AllStand, ChangesOwn, MovesOnly, inactive_of, active_of, entries_without}
 use Rattle.lru_lists.specs.Lists.{list_of, place_of}
-use Rattle.mem_machine.specs.Machines.{home_of, lists_at, no_lists}
+use Rattle.mem_machine.specs.Machines.{home_of, lists_at, no_lists, group_lists}
 use Rattle.mem_machine.specs.Releasing.{LeavesList}
 use Rattle.mem_machine.proofs.Listed.{others_stay}
 use Rattle.mem_machine.proofs.Dirties.{on_list}
 
 -- all that `leave_list` leaves
 pub record AllLeave (links : List Link) (lists : List Lru) (f : ℕ) (after : List Link) (new : List Lru) : Type 0 where
-  pub leaves : LeavesList f links lists after new
+  pub leaves : LeavesList f (group_lists links lists) (group_lists after new)
   pub stand : AllStand after new
   pub frames : length after ≡ length links
   pub groups : length new ≡ 64

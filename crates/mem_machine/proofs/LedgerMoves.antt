@@ -131,7 +131,7 @@ turned a b = elim (cases_eq a b) [
   | inr ne ↦ ne_eqb a b ne ∙ sym (ne_eqb b a (λ e. ne (sym e)))
 ]
 
-noting_peak : (kind : EventKey) (m g : ℕ) (s : State) (x : ℕ) → moves_peak m s 0 (noting kind g) Done x ≡ x
+noting_peak : (kind : EventKey) (m g : ℕ) (s : State) (x : ℕ) → moves_peak m s (zone_makes (noting kind g) Done) x ≡ x
 noting_peak Max m g s x = refl
 noting_peak Oom m g s x = refl
 noting_peak OomKill m g s x = refl

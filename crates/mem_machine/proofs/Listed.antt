@@ -20,7 +20,7 @@ use Rattle.lru_lists.specs.Lists.{entries_without, dirtied, marked}
 use Rattle.lru_lists.specs.declared.lru.Touched.{Touched}
 use Rattle.lru_lists.specs.declared.lru.Touched.TheVariants.{Marked, Moved}
 use Rattle.mem_machine.specs.declared.spot.Spot.{Spot}
-use Rattle.mem_machine.specs.Machines.{FitsSpot, OthersStay, no_lists}
+use Rattle.mem_machine.specs.Machines.{FitsSpot, OthersStay, no_lists, group_lists}
 
 cases_none : (o : Option LruList) → (o ≡ None) ⊎ (o ≢ None)
 cases_none None = inl refl
@@ -254,7 +254,7 @@ touched_owners before after lru new f touched old stands owner changes on touche
 
 -- where the lists of one group change, those of every other stand as they stood
 pub others_stay : (before after : List Link) (lists : List Lru) (g : ℕ) (lru new : Lru) → AllStand before lists → length lists ≡ 64 → lru.owner ≡ g
-    → ChangesOwn before after lru.owner → OthersStand → OthersStay g before lists after (slice_set lists g new)
+    → ChangesOwn before after lru.owner → OthersStand → OthersStay g (group_lists before lists) (group_lists after (slice_set lists g new))
 others_stay before after lists g lru new all sized own changes others_stand h list within ne =
     let inside : h < length lists = omega (arith, within, sized) in
     let apart : (get_or lists h no_lists).owner ≢ lru.owner = λ e. ne (sym (all h no_lists inside).0 ∙ e ∙ own) in

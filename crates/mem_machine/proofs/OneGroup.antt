@@ -14,7 +14,7 @@ use Rattle.lru_lists.specs.declared.lru.Lru.{Lru}
 use Rattle.lru_lists.specs.Lists.{OthersStand, OneOfAllChanges, StandsIn, AllStand, ChangesOwn, SameOwners, Ages, owner_of, list_of, place_of, entries_of}
 use Rattle.lru_lists.specs.Lists.{inactive_of, active_of, entries_without, entry_of, marked, first_entry, entry_after}
 use Rattle.mem_machine.specs.Spots.{spot_at}
-use Rattle.mem_machine.specs.Machines.{KnownMachine, IsConsistent, OthersStay, LooseStay, home_of, lists_at, entries_in, no_lists}
+use Rattle.mem_machine.specs.Machines.{KnownMachine, IsConsistent, OthersStay, LooseStay, home_of, lists_at, entries_in, no_lists, lists_of}
 use Rattle.mem_machine.specs.Ageing.{AgesGroup, RenewsUnit}
 use Rattle.mem_machine.specs.Local.{MakesForAny}
 use Rattle.mem_machine.proofs.Listed.{fits_home, loose_stay, others_stay, place_here}
@@ -73,7 +73,7 @@ pub record GroupChanged (t : KnownTable) (w : Words) (now : KnownMachine) (g : �
   pub machine : n ≡ record now { links = n.links; lists = n.lists }
   pub before : lists_at now.lists g ≡ lru
   pub after : lists_at n.lists g ≡ new
-  pub others : OthersStay g now.links now.lists n.links n.lists
+  pub others : OthersStay g (lists_of now) (lists_of n)
   pub owners : SameOwners now.links n.links
   pub loose : LooseStay now.links n.links
   pub steps : MakesForAny t now [] n

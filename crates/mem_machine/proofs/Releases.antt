@@ -38,7 +38,7 @@ use Rattle.step_rules.proofs.Placing.{within_cases}
 use Rattle.mem_machine.specs.declared.spot.Spot.{Spot}
 use Rattle.mem_machine.specs.declared.spot.Spot.TheVariants.{Free, Head}
 use Rattle.mem_machine.specs.Spots.{spot_at, free_of, head_group_of, lent_to, some_cpu}
-use Rattle.mem_machine.specs.Machines.{KnownMachine, FitsSpot, IsConsistent, Visits, BalancesCounts, home_of, is_killed}
+use Rattle.mem_machine.specs.Machines.{KnownMachine, FitsSpot, IsConsistent, Visits, BalancesCounts, home_of, is_killed, group_lists, lists_of}
 use Rattle.mem_machine.specs.Local.{IsLocalRun, MakesForAny, local_of, phase_of, references_of, side, MakesAs}
 use Rattle.mem_machine.specs.Counts.{with_last_put}
 use Rattle.mem_machine.specs.Freeing.{FreesFrames}
@@ -150,7 +150,7 @@ module _ (t : KnownTable) (w : Words) (m : KnownMachine) (ok : IsConsistent t w 
   pub held_once : holds m.seat f ≡ 1
   held_once = kept_once (home_of m.links f) (holds m.seat f) (ok.spots f inside).references kept
 
-  module _ (links : List Link) (lists : List Lru) (leaves : LeavesList f m.links m.lists links lists) (stand : AllStand links lists)
+  module _ (links : List Link) (lists : List Lru) (leaves : LeavesList f (lists_of m) (group_lists links lists)) (stand : AllStand links lists)
       (linked : length links ≡ t.frames) (listed : length lists ≡ 64) where
     homeless : home_of links f ≡ None
     homeless = ap (λ (k : Link). k.home) leaves.forgotten
@@ -297,12 +297,12 @@ pub record AllLeft (t : KnownTable) (w : Words) (now : KnownMachine) (f left : �
   pub visit : (c : KnownCpu) → Visits t (side now c) → Visits t (side n c)
   pub steps : MakesForAny t now (release_steps f (Left left)) n
 
-pub left_all : (t : KnownTable) (w : Words) (m now : KnownMachine) → m ≡ now → IsConsistent t w m → (f i : ℕ) → f < t.frames → i ≡ f → home_of now.links f ≢ None → (links : List Link) (lists : List Lru) → LeavesList i m.links m.lists links lists → AllStand links lists
+pub left_all : (t : KnownTable) (w : Words) (m now : KnownMachine) → m ≡ now → IsConsistent t w m → (f i : ℕ) → f < t.frames → i ≡ f → home_of now.links f ≢ None → (links : List Link) (lists : List Lru) → LeavesList i (lists_of m) (group_lists links lists) → AllStand links lists
     → length links ≡ length m.links → length lists ≡ 64 → (left : ℕ) (seat : KnownSeat) → seat ≡ seat_with m.seat f (let_go left)
     → AllLeft t w now f left (record m { links = links; lists = lists; seat = seat })
 left_all t w m now same ok f i inside is kept_now links lists left_list stand linked listed left seat put =
     let kept : home_of m.links f ≢ None = subst (λ (x : KnownMachine). home_of x.links f ≢ None) (sym same) kept_now in
-    let leaves : LeavesList f m.links m.lists links lists = subst (λ (x : ℕ). LeavesList x m.links m.lists links lists) is left_list in
+    let leaves : LeavesList f (lists_of m) (group_lists links lists) = subst (λ (x : ℕ). LeavesList x (lists_of m) (group_lists links lists)) is left_list in
     let sized : length links ≡ t.frames = linked ∙ ok.sizes.links in
     let n : KnownMachine = record m { links = links; lists = lists; seat = seat_with m.seat f (let_go left) } in
     let all : AllLeft t w m f left n = record {
@@ -317,7 +317,7 @@ pub record AllBack (t : KnownTable) (w : Words) (now : KnownMachine) (f : ℕ) (
   pub consistent : IsConsistent t w n
   pub free_is : free ≡ free_of n.spots
   pub heads : spot_at now.spots f ≡ Head unit
-  pub list : LeavesList f now.links now.lists n.links n.lists
+  pub list : LeavesList f (lists_of now) (lists_of n)
   pub frees : FreesFrames f (2 ^ unit.order) now.spots n.spots
   pub areas : AreMaximalBlocks (free_of n.spots) n.blocks
   pub visit : (c : KnownCpu) → Visits t (side now c) → Visits t (side n c)
@@ -325,7 +325,7 @@ pub record AllBack (t : KnownTable) (w : Words) (now : KnownMachine) (f : ℕ) (
 
 -- where the step before the last one leaves the state that the zone's last put leaves
 pub back_all : (t : KnownTable) (w : Words) (m now : KnownMachine) → m ≡ now → IsConsistent t w m → (f i : ℕ)
-    → f < t.frames → i ≡ f → home_of now.links f ≢ None → (links : List Link) (lists : List Lru) → LeavesList i m.links m.lists links lists
+    → f < t.frames → i ≡ f → home_of now.links f ≢ None → (links : List Link) (lists : List Lru) → LeavesList i (lists_of m) (group_lists links lists)
     → AllStand links lists → length links ≡ length m.links → length lists ≡ 64
     → (change : FrameNote → FrameNote) → TakesInHand change → (seat : KnownSeat) → seat ≡ seat_with m.seat f change
     → (action : Action) (answered : Answer)
@@ -347,7 +347,7 @@ pub back_all : (t : KnownTable) (w : Words) (m now : KnownMachine) → m ≡ now
 back_all t w m now same ok f i inside is kept_now links lists left_list stand linked listed change takes seat put action answered first still ends unit head before
     free blocks spots ledger counts was frees_i gives_i areas_free uncharged balances =
     let kept : home_of m.links f ≢ None = subst (λ (x : KnownMachine). home_of x.links f ≢ None) (sym same) kept_now in
-    let leaves : LeavesList f m.links m.lists links lists = subst (λ (x : ℕ). LeavesList x m.links m.lists links lists) is left_list in
+    let leaves : LeavesList f (lists_of m) (group_lists links lists) = subst (λ (x : ℕ). LeavesList x (lists_of m) (group_lists links lists)) is left_list in
     let sized : length links ≡ t.frames = linked ∙ ok.sizes.links in
     let heads : spot_at m.spots f ≡ Head unit = subst (λ (x : ℕ). spot_at m.spots x ≡ Head unit) is head in
     let frees : FreesFrames f (2 ^ unit.order) m.spots spots = subst (λ (x : ℕ). FreesFrames x (2 ^ unit.order) m.spots spots) is frees_i in
@@ -408,7 +408,7 @@ pub record AllReturned (t : KnownTable) (w : Words) (now : KnownMachine) (f : �
   pub steps : MakesForAny t now (release_steps f Returned) n
 
 pub returned_all : (t : KnownTable) (w : Words) (m now : KnownMachine) → m ≡ now → IsConsistent t w m → (f i : ℕ)
-    → f < t.frames → i ≡ f → home_of now.links f ≢ None → (links : List Link) (lists : List Lru) → LeavesList i m.links m.lists links lists
+    → f < t.frames → i ≡ f → home_of now.links f ≢ None → (links : List Link) (lists : List Lru) → LeavesList i (lists_of m) (group_lists links lists)
     → AllStand links lists → length links ≡ length m.links → length lists ≡ 64 → (seat : KnownSeat) → seat ≡ seat_with m.seat f let_go_last
     → (unit : ChargedUnit) → spot_at m.spots i ≡ Head unit
     → (before free : List Bool) (blocks : List Block) (spots : List Spot) (ledger : Ledger) (counts : Counts)

@@ -95,7 +95,7 @@ module _ (zone : Zone) (p m : ℕ) where
       (own_on : (run : Run) (a : State) (e : Step × Answer) (x : ℕ) → ShowsLocal zone run p a → IsLocalStep a p e.0.seat e.0.action e.1
       → Allows (state_of zone run) e.0.seat e.0.action e.1 → ShowsLocal zone (pushed run e.0 e.1) p (after a e.0.seat e.0.action e.1)
       → has_group (after a e.0.seat e.0.action e.1).groups m ≡ true → (has_group a.groups m ≡ true → Tells run x)
-      → Tells (pushed run e.0 e.1) (moves a e.0.seat e.0.action e.1 x))
+      → Tells (pushed run e.0 e.1) (moves a e x))
       (other_on : (run : Run) (a : State) (e : Step × Answer) (x : ℕ) → ShowsLocal zone run p a → ShowsLocal zone (pushed run e.0 e.1) p a
       → Allows (state_of zone run) e.0.seat e.0.action e.1 → is_still e.0.action e.1 ≡ true → has_group a.groups m ≡ true → Tells run x
       → Tells (pushed run e.0 e.1) x) where
@@ -119,7 +119,7 @@ module _ (zone : Zone) (p m : ℕ) where
               let seen : ShowsLocal zone (pushed run e.0 e.1) p now = own_step_is_legal zone run p a e.0 e.1 shows parts.0 (here.own own) in
               let ok : Allows (state_of zone run) e.0.seat e.0.action e.1 = last_allowed zone run e.0 e.1 seen.legal in
               subst (λ (c : Bool). Tells (pushed run e.0 e.1 ++ mixed) (moved_over moves a (cond c (e ∷ own_steps p mixed) (own_steps p mixed)) x)) (sym own)
-              (tells_on (pushed run e.0 e.1) now mixed b (moves a e.0.seat e.0.action e.1 x) seen parts.1 later there
+              (tells_on (pushed run e.0 e.1) now mixed b (moves a e x) seen parts.1 later there
               (λ is. own_on run a e x shows parts.0 ok seen is told))
           | inr other ↦
               let rest : IsLocalRun p a (own_steps p mixed) b =
@@ -154,17 +154,17 @@ module _ (zone : Zone) (p m : ℕ) where
   -- ---- a count, which the law of the rules follows
 
   module _ (test : Test) (count : Run → ℕ) (law : (run : Run) (e : Step × Answer)
-      → count (pushed run e.0 e.1) ≡ moves_count test m (state_of zone run) e.0.seat e.0.action e.1 (count run)) (stays : Stays (moves_count test m)) where
+      → count (pushed run e.0 e.1) ≡ moves_count test m (state_of zone run) e (count run)) (stays : Stays (moves_count test m)) where
     count_own : (run : Run) (a : State) (e : Step × Answer) (x : ℕ) → ShowsLocal zone run p a → IsLocalStep a p e.0.seat e.0.action e.1
         → Allows (state_of zone run) e.0.seat e.0.action e.1 → ShowsLocal zone (pushed run e.0 e.1) p (after a e.0.seat e.0.action e.1)
         → has_group (after a e.0.seat e.0.action e.1).groups m ≡ true → (has_group a.groups m ≡ true → x ≡ count run)
-        → moves_count test m a e.0.seat e.0.action e.1 x ≡ count (pushed run e.0 e.1)
+        → moves_count test m a e x ≡ count (pushed run e.0 e.1)
     count_own run a e x shows step ok seen is told =
         let s = state_of zone run in
-        ap (λ (k : State). moves_count test m k e.0.seat e.0.action e.1 x) shows.sees
+        ap (λ (k : State). moves_count test m k e x) shows.sees
         ∙ elim (cases_Bool (has_group a.groups m)) [
-          | inl here ↦ ap (moves_count test m s e.0.seat e.0.action e.1) (told here)
-          | inr none ↦ count_begins test m s e.0.seat e.0.action e.1 x (count run) (only_made a e.0.seat e.0.action e.1 m none is)
+          | inl here ↦ ap (moves_count test m s e) (told here)
+          | inr none ↦ count_begins test m s e x (count run) (only_made a e.0.seat e.0.action e.1 m none is)
         ]
         ∙ sym (law run e)
 
@@ -172,7 +172,7 @@ module _ (zone : Zone) (p m : ℕ) where
         → Allows (state_of zone run) e.0.seat e.0.action e.1 → is_still e.0.action e.1 ≡ true → has_group a.groups m ≡ true → x ≡ count run
         → x ≡ count (pushed run e.0 e.1)
     count_other run a e x shows seen ok still is told =
-        told ∙ sym (law run e ∙ stays (state_of zone run) e.0.seat e.0.action e.1 (count run) still)
+        told ∙ sym (law run e ∙ stays (state_of zone run) e (count run) still)
 
 -- ---- the law
 

@@ -1,7 +1,7 @@
 -- The lists of one group, aged and renewed, and what is read of them.
 use Rattle.std.specs.Prelude.{◌≡◌, ℕ, false, [], ◌∷◌, ◌++◌}
 use Rattle.lru_lists.specs.Lists.{SameOwners, Ages, entries_without, entry_of, marked}
-use Rattle.mem_machine.specs.Machines.{KnownMachine, OthersStay, LooseStay, lists_at, inactive_in, active_in}
+use Rattle.mem_machine.specs.Machines.{KnownMachine, OthersStay, LooseStay, lists_at, lists_of, inactive_in, active_in}
 -- one of the two lists of the group, from the oldest unit to the newest
 pub use Rattle.mem_machine.specs.Machines.{entries_in}
 
@@ -11,7 +11,7 @@ pub use Rattle.mem_machine.specs.Machines.{entries_in}
 pub record AgesGroup (group : ℕ) (before after : KnownMachine) : Type 0 where
   pub machine : after ≡ record before { links = after.links; lists = after.lists }
   pub ages : Ages before.links (lists_at before.lists group) after.links (lists_at after.lists group)
-  pub others : OthersStay group before.links before.lists after.links after.lists
+  pub others : OthersStay group (lists_of before) (lists_of after)
   pub owners : SameOwners before.links after.links
   pub loose : LooseStay before.links after.links
 
@@ -22,6 +22,6 @@ pub record RenewsUnit (group frame : ℕ) (before after : KnownMachine) : Type 0
   pub inactive : inactive_in after group
       ≡ entries_without frame (inactive_in before group) ++ marked false (entry_of before.links frame) ∷ []
   pub active : active_in after group ≡ active_in before group
-  pub others : OthersStay group before.links before.lists after.links after.lists
+  pub others : OthersStay group (lists_of before) (lists_of after)
   pub owners : SameOwners before.links after.links
   pub loose : LooseStay before.links after.links

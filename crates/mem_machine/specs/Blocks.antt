@@ -8,8 +8,6 @@ use Rattle.frame_word.specs.Seats.{seat_with}
 use Rattle.group_tree.specs.Room.{PathHasRoom}
 use Rattle.group_charge.specs.Charges.{current_of, with_charge, with_uncharge}
 use Rattle.lru_lists.specs.declared.record.LruList.TheVariants.{Inactive}
-use Rattle.lru_lists.specs.declared.record.Link.{Link}
-use Rattle.lru_lists.specs.declared.lru.Lru.{Lru}
 use Rattle.lru_lists.specs.Queue.{link_at}
 use Rattle.lru_lists.specs.Lists.{inactive_of, active_of}
 use Rattle.step_rules.specs.declared.step.Action.TheVariants.{Grant, Ungrant, PlaceBlock, Unfreeze, Publish}
@@ -20,7 +18,7 @@ use Rattle.mem_machine.specs.declared.spot.Spot.TheVariants.{Head, Tail}
 use Rattle.mem_machine.specs.declared.blocks.TakeFault.{TakeFault}
 use Rattle.mem_machine.specs.declared.blocks.TakeFault.TheVariants as fault
 use Rattle.mem_machine.specs.Spots.{spot_at, free_of}
-use Rattle.mem_machine.specs.Machines.{KnownMachine, OthersStay, LacksRoom, home_of, lists_at}
+use Rattle.mem_machine.specs.Machines.{KnownMachine, GroupLists, OthersStay, LacksRoom, home_of, lists_at, lists_of}
 use Rattle.mem_machine.specs.Steps.{zone_makes}
 
 -- the record of a frame once the block is a unit of the group: the first frame heads it, and the rest are tails
@@ -37,19 +35,21 @@ pub record PlacesUnit (group : ℕ) (block : Block) (before after : List Spot) :
 
 -- the unit comes to the newest end of its group's inactive list, clean and unmarked; every other frame and the lists of
 -- all other groups are as they were, and each other frame on no list has the record that it had
-pub record JoinsList (group frame : ℕ) (before : List Link) (old : List Lru)
-    (after : List Link) (new : List Lru) : Type 0 where
-  pub stands : home_of after frame ≡ Some (record { owner = group; list = Inactive })
-  pub homes : (other : ℕ) → other ≢ frame → home_of after other ≡ home_of before other
-  pub inactive : inactive_of after (lists_at new group)
-      ≡ inactive_of before (lists_at old group) ++ record { number = frame; is_marked = false; is_dirty = false } ∷ []
-  pub active : active_of after (lists_at new group) ≡ active_of before (lists_at old group)
-  pub others : OthersStay group before old after new
-  pub loose : (other : ℕ) → other ≢ frame → home_of before other ≡ None → link_at after other ≡ link_at before other
+pub record JoinsList (group frame : ℕ) (before after : GroupLists) : Type 0 where
+  pub stands : home_of after.links frame ≡ Some (record { owner = group; list = Inactive })
+  pub homes : (other : ℕ) → other ≢ frame → home_of after.links other ≡ home_of before.links other
+  pub inactive : inactive_of after.links (lists_at after.lists group)
+      ≡ inactive_of before.links (lists_at before.lists group)
+      ++ record { number = frame; is_marked = false; is_dirty = false } ∷ []
+  pub active : active_of after.links (lists_at after.lists group)
+      ≡ active_of before.links (lists_at before.lists group)
+  pub others : OthersStay group before after
+  pub loose : (other : ℕ) → other ≢ frame → home_of before.links other ≡ None
+      → link_at after.links other ≡ link_at before.links other
 
 -- the unit comes onto its group's inactive list, in the machine
 abbrev pub ListsUnit : ℕ → ℕ → KnownMachine → KnownMachine → Type 0
-ListsUnit group frame before after = JoinsList group frame before.links before.lists after.links after.lists
+ListsUnit group frame before after = JoinsList group frame (lists_of before) (lists_of after)
 
 -- The group is charged for a block of this order, and has it: the front of the free block of the least sufficient order
 -- that has the least address. Its head is in use, with one reference of the zone, and stands on the group's inactive

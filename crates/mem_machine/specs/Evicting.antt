@@ -10,7 +10,7 @@ use Rattle.step_rules.specs.declared.step.Answer.TheVariants.{Done, Missed}
 use Rattle.step_rules.specs.After.{Run}
 use Rattle.mem_machine.specs.declared.spot.Spot.TheVariants.{Head}
 use Rattle.mem_machine.specs.Spots.{spot_at, free_of}
-use Rattle.mem_machine.specs.Machines.{KnownMachine}
+use Rattle.mem_machine.specs.Machines.{KnownMachine, lists_of}
 use Rattle.mem_machine.specs.Counts.{with_freeze, with_miss}
 use Rattle.mem_machine.specs.Freeing.{FreesFrames}
 use Rattle.mem_machine.specs.Releasing.{LeavesList}
@@ -32,7 +32,7 @@ pub record EvictsUnit (frame pages : ℕ) (before after : KnownMachine) : Type 0
   pub unit : ChargedUnit
   pub heads : spot_at before.spots frame ≡ Head unit
   pub size : pages ≡ 2 ^ unit.order
-  pub list : LeavesList frame before.links before.lists after.links after.lists
+  pub list : LeavesList frame (lists_of before) (lists_of after)
   pub own : unit.group ≡ list.group
   pub usage : UsageRises after.ledger before.ledger unit.group pages
   pub frees : FreesFrames frame (2 ^ unit.order) before.spots after.spots

@@ -5,6 +5,7 @@ use Rattle.group_tree.specs.declared.group.Group.{Group}
 use Rattle.group_tree.specs.Groups.{has_group}
 use Rattle.group_charge.specs.declared.account.Counts.{Counts}
 use Rattle.group_charge.specs.Charges.{Ledger, peak_of, events_of, events_local_of}
+use Rattle.step_rules.specs.declared.step.Step.{Step}
 use Rattle.step_rules.specs.declared.step.Action.{Action}
 use Rattle.step_rules.specs.declared.step.Answer.{Answer}
 use Rattle.step_rules.specs.State.{State}
@@ -12,25 +13,24 @@ use Rattle.step_rules.specs.After.{Run, after}
 use Rattle.step_rules.specs.Peaks.{peak_follows}
 use Rattle.step_rules.specs.Events.{EventKey, Max, Oom, OomKill, count_after, is_noted_at, is_noted_below}
 
--- how a step of a seat, with its answer, moves a number, by the state before it
+-- how a step, with its answer, moves a number, by the state before it
 abbrev pub Moves : Type 0
-Moves = State → ℕ → Action → Answer → ℕ → ℕ
+Moves = State → Step × Answer → ℕ → ℕ
 
 -- the number after all steps of a list, the first of which is made in this state
 abbrev pub moved_over : Moves → State → Run → ℕ → ℕ
 moved_over moves state [] number = number
 moved_over moves state (made ∷ rest) number =
-    moved_over moves (after state made.0.seat made.0.action made.1) rest
-    (moves state made.0.seat made.0.action made.1 number)
+    moved_over moves (after state made.0.seat made.0.action made.1) rest (moves state made number)
 
 -- how a step moves the peak of the group: it follows the state that the step leads to
 abbrev pub moves_peak : ℕ → Moves
-moves_peak group state seat action answer peak =
-    peak_follows (after state seat action answer) action answer group peak
+moves_peak group state made peak =
+    peak_follows (after state made.0.seat made.0.action made.1) made.0.action made.1 group peak
 
 -- how a step moves a count of the group: it is tested with the groups before the step
 abbrev pub moves_count : (List Group → Action → Answer → Bool) → ℕ → Moves
-moves_count test group state seat action answer count = count_after test group state.groups action answer count
+moves_count test group state made count = count_after test group state.groups made.0.action made.1 count
 
 -- the peak of the group after these steps from this state on
 abbrev pub peak_over : ℕ → State → Run → ℕ → ℕ

@@ -9,7 +9,7 @@ use Rattle.cpu_part.specs.Cpus.{KnownCpu}
 use Rattle.step_rules.specs.After.{Run}
 use Rattle.mem_machine.specs.declared.spot.Spot.TheVariants.{Free, Lent}
 use Rattle.mem_machine.specs.Spots.{free_of}
-use Rattle.mem_machine.specs.Machines.{SideStays}
+use Rattle.mem_machine.specs.Machines.{OneByOne, SideStays}
 use Rattle.mem_machine.specs.Local.{Side, Makes}
 use Rattle.mem_machine.specs.Steps.{lend_steps, back_steps, refill_steps, drain_list_steps}
 
@@ -43,8 +43,7 @@ HasListRoom cpu count = length cpu.list + length cpu.fresh + count ≤ MOST_LIST
 
 -- these frames are lent, one after the other
 abbrev pub LendsMany : List ℕ → Side → Side → Type 0
-LendsMany [] before after = SideStays before after
-LendsMany (frame ∷ rest) before after = (mid : Side) × LendsOne frame before mid × LendsMany rest mid after
+LendsMany frames before after = OneByOne LendsOne frames before after
 
 -- one frame is lent, by its steps
 pub record LendsByStep (table : KnownTable) (before after : Side) : Type 0 where
@@ -83,9 +82,7 @@ pub record TakesNoneBack (before after : Side) : Type 0 where
 
 -- these frames are taken back, one after the other
 abbrev pub TakesManyBack : List ℕ → Side → Side → Type 0
-TakesManyBack [] before after = SideStays before after
-TakesManyBack (frame ∷ rest) before after =
-    (mid : Side) × TakesOneBack frame before mid × TakesManyBack rest mid after
+TakesManyBack frames before after = OneByOne TakesOneBack frames before after
 
 -- one frame is taken back, by its steps
 pub record TakesBackByStep (table : KnownTable) (before after : Side) : Type 0 where

@@ -1,6 +1,6 @@
 -- What a contract sees of the machine, and what always holds of it.
 use Rattle.std.specs.Prelude.{◌≡◌, ◌≢◌, ℕ, ◌+◌, ◌<◌, ◌≤◌, ◌==◌, Bool, false, Option, Some, None}
-use Rattle.std.specs.Prelude.{is_some, IfSome, List, [], length, replicate, slice_set, if◌then◌else◌}
+use Rattle.std.specs.Prelude.{is_some, IfSome, List, [], ◌∷◌, length, replicate, slice_set, if◌then◌else◌}
 use Rattle.std.specs.List.{slice_index_or}
 use Rattle.zone_blocks.specs.declared.block.Block.{Block}
 use Rattle.zone_blocks.specs.Areas.{AreMaximalBlocks}
@@ -87,10 +87,23 @@ home_of links frame = (link_at links frame).home
 abbrev pub HeadsKeptUnit : KnownMachine → ℕ → Type 0
 HeadsKeptUnit machine frame = home_of machine.links frame ≢ None
 
+-- The lists of all groups: the records through which the units are linked, and by number the two lists of each group
+pub record GroupLists : Type 0 where
+  pub links : List Link
+  pub lists : List Lru
+
+-- these records, and these lists
+abbrev pub group_lists : List Link → List Lru → GroupLists
+group_lists links lists = record { links = links; lists = lists }
+
+-- the lists of all groups of the machine
+abbrev pub lists_of : KnownMachine → GroupLists
+lists_of machine = group_lists machine.links machine.lists
+
 -- the lists of all groups but this one stand as they stood: the same units in the same order, with their marks and dirt
-abbrev pub OthersStay : ℕ → List Link → List Lru → List Link → List Lru → Type 0
-OthersStay group before old after new = (other : ℕ) (list : LruList) → other < MAX_GROUPS → other ≢ group
-    → entries_of after (lists_at new other) list ≡ entries_of before (lists_at old other) list
+abbrev pub OthersStay : ℕ → GroupLists → GroupLists → Type 0
+OthersStay group before after = (other : ℕ) (list : LruList) → other < MAX_GROUPS → other ≢ group
+    → entries_of after.links (lists_at after.lists other) list ≡ entries_of before.links (lists_at before.lists other) list
 
 -- each frame on no list has the record that it had, mark and dirt included
 abbrev pub LooseStay : List Link → List Link → Type 0
@@ -189,6 +202,12 @@ side machine cpu = record { machine = machine; cpu = cpu }
 pub record SideStays (before after : Side) : Type 0 where
   pub machine : after.machine ≡ before.machine
   pub cpu : after.cpu ≡ before.cpu
+
+-- the same is done with each of these frames, one after the other, in this order
+abbrev pub OneByOne : (ℕ → Side → Side → Type 0) → List ℕ → Side → Side → Type 0
+OneByOne IsDone [] before after = SideStays before after
+OneByOne IsDone (frame ∷ rest) before after =
+    (mid : Side) × IsDone frame before mid × OneByOne IsDone rest mid after
 
 -- The processor is visited: its visit was opened and not shut yet, no frame passes between it and the zone, and what is
 -- lent to it are its listed and fresh frames

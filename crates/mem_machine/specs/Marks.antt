@@ -3,7 +3,8 @@ use Rattle.std.specs.Prelude.{◌≡◌, ℕ, Bool, Some}
 use Rattle.lru_lists.specs.declared.record.LruList.{LruList}
 use Rattle.lru_lists.specs.Lists.{Touches, changed_at, dirtied}
 use Rattle.lru_lists.specs.declared.lru.Touched.{Touched}
-use Rattle.mem_machine.specs.Machines.{KnownMachine, OthersStay, LooseStay, home_of, lists_at, inactive_in, active_in}
+use Rattle.mem_machine.specs.Machines.{KnownMachine, OthersStay, LooseStay}
+use Rattle.mem_machine.specs.Machines.{home_of, lists_at, lists_of, inactive_in, active_in}
 
 -- the unit is noted as dirty, or not, on the list of its group that it stands on, and nothing else changed
 pub record Dirties (frame : ℕ) (is_dirty : Bool) (before after : KnownMachine) : Type 0 where
@@ -13,7 +14,7 @@ pub record Dirties (frame : ℕ) (is_dirty : Bool) (before after : KnownMachine)
   pub machine : after ≡ record before { links = after.links }
   pub inactive : inactive_in after group ≡ changed_at frame (dirtied is_dirty) (inactive_in before group)
   pub active : active_in after group ≡ changed_at frame (dirtied is_dirty) (active_in before group)
-  pub others : OthersStay group before.links before.lists after.links after.lists
+  pub others : OthersStay group (lists_of before) (lists_of after)
   pub loose : LooseStay before.links after.links
 
 -- the unit was touched on the list of its group that it stands on, and nothing else changed
@@ -24,5 +25,5 @@ pub record TouchesUnit (frame : ℕ) (touched : Touched) (before after : KnownMa
   pub machine : after ≡ record before { links = after.links; lists = after.lists }
   pub touches : Touches before.links (lists_at before.lists group) frame touched
       after.links (lists_at after.lists group)
-  pub others : OthersStay group before.links before.lists after.links after.lists
+  pub others : OthersStay group (lists_of before) (lists_of after)
   pub loose : LooseStay before.links after.links

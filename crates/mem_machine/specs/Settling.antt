@@ -19,7 +19,7 @@ use Rattle.step_rules.specs.declared.step.Answer.TheVariants.{Done, Pages}
 use Rattle.step_rules.specs.After.{Run}
 use Rattle.mem_machine.specs.declared.spot.Spot.TheVariants.{Head}
 use Rattle.mem_machine.specs.Spots.{spot_at, free_of}
-use Rattle.mem_machine.specs.Machines.{Side, SideStays, is_killed}
+use Rattle.mem_machine.specs.Machines.{OneByOne, Side, SideStays, is_killed}
 use Rattle.mem_machine.specs.Local.{Makes, fresh_group}
 use Rattle.mem_machine.specs.Steps.{zone_makes, cpu_makes}
 use Rattle.mem_machine.specs.Blocks.{ListsUnit}
@@ -138,15 +138,11 @@ ReturnsNext (Some frame) before after = ReturnsBack frame before after
 
 -- these fresh frames are settled, one after the other
 abbrev pub SettlesAllFresh : List ℕ → Side → Side → Type 0
-SettlesAllFresh [] before after = SideStays before after
-SettlesAllFresh (frame ∷ rest) before after =
-    (mid : Side) × SettlesFresh frame before mid × SettlesAllFresh rest mid after
+SettlesAllFresh frames before after = OneByOne SettlesFresh frames before after
 
 -- these back frames come back, one after the other
 abbrev pub ReturnsAllBack : List ℕ → Side → Side → Type 0
-ReturnsAllBack [] before after = SideStays before after
-ReturnsAllBack (frame ∷ rest) before after =
-    (mid : Side) × ReturnsBack frame before mid × ReturnsAllBack rest mid after
+ReturnsAllBack frames before after = OneByOne ReturnsBack frames before after
 
 -- the processor has the number, the list and the pins that it had
 pub record LeavesOthers (before after : KnownCpu) : Type 0 where

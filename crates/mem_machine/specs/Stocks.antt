@@ -102,29 +102,24 @@ DrainsBelow group processor drains before after = DrainsIf (of_subtree group) pr
 abbrev pub DrainsAllBelow : ℕ → ℕ → List Drain → KnownMachine → KnownMachine → Type 0
 DrainsAllBelow group count drains before after = DrainsAllIf (of_subtree group) count drains before after
 
--- the processor's stock is drained where the test chooses it, of so many pages, by the drain's steps
-pub record DrainsIfChosen (table : KnownTable) (test : StockTest) (processor pages : ℕ)
+-- Stocks are drained, of so many pages in all, by the drains' steps; which drains lead from one machine to another, the
+-- relation tells
+pub record DrainsBySteps (table : KnownTable) (AreDone : List Drain → KnownMachine → KnownMachine → Type 0) (pages : ℕ)
     (before after : KnownMachine) : Type 0 where
   pub drains : List Drain
-  pub one : DrainsIf test processor drains before after
-  pub sum : pages ≡ pages_drained drains
-  pub steps : MakesForAny table before (drain_stocks_steps drains) after
-
--- the stocks that the test chooses are drained, one processor after the other, of so many pages in all, by the drains'
--- steps
-pub record DrainsChosen (table : KnownTable) (test : StockTest) (pages : ℕ) (before after : KnownMachine) : Type 0 where
-  pub drains : List Drain
-  pub all : DrainsAllIf test table.cpus drains before after
+  pub all : AreDone drains before after
   pub sum : pages ≡ pages_drained drains
   pub steps : MakesForAny table before (drain_stocks_steps drains) after
 
 -- the stocks of the group's subtree are drained, of so many pages in all
 abbrev pub DrainsSubtree : KnownTable → ℕ → ℕ → KnownMachine → KnownMachine → Type 0
-DrainsSubtree table group pages before after = DrainsChosen table (of_subtree group) pages before after
+DrainsSubtree table group pages before after =
+    DrainsBySteps table (DrainsAllIf (of_subtree group) table.cpus) pages before after
 
 -- the stocks of the group itself are drained, of so many pages in all
 abbrev pub DrainsGroup : KnownTable → ℕ → ℕ → KnownMachine → KnownMachine → Type 0
-DrainsGroup table group pages before after = DrainsChosen table (of_group group) pages before after
+DrainsGroup table group pages before after =
+    DrainsBySteps table (DrainsAllIf (of_group group) table.cpus) pages before after
 
 -- no stock that the test chooses is held
 abbrev pub AreDrainedIf : StockTest → ℕ → KnownMachine → Type 0
@@ -179,7 +174,6 @@ pub record IsOver (group pages over : ℕ) (before after : Side) : Type 0 where
 abbrev pub prepay_steps : ℕ → ℕ → Side → Run
 prepay_steps group pages now = own_drain_steps now ++ fill_steps now.cpu.number group pages
 
--- the own stock is drained, and then the charge is refused at the group that the error names
-abbrev pub RefusesPrepay : KnownTable → ℕ → ℕ → Over → Side → Side → Type 0
-RefusesPrepay table group pages over before after =
-    Makes table before (own_drain_steps before ++ over_steps group pages over.group) after
+-- the steps of `prepay` where the own stock is drained, and then the charge is refused at group `over`
+abbrev pub refused_prepay_steps : ℕ → ℕ → ℕ → Side → Run
+refused_prepay_steps group pages over now = own_drain_steps now ++ over_steps group pages over

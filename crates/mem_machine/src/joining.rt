@@ -1,7 +1,7 @@
 //! Units that come onto the lists of their groups.
 
 ghost use Rattle.std.specs.Prelude.{◌≡◌, ◌<◌, None, length};
-ghost use Rattle.mem_machine.specs.Machines.{AreGroupLists, home_of};
+ghost use Rattle.mem_machine.specs.Machines.{AreGroupLists, home_of, group_lists};
 ghost use Rattle.mem_machine.specs.Blocks.{JoinsList};
 
 use group_tree::group::GroupId;
@@ -14,7 +14,7 @@ pub(crate) fn join_list(links: &mut Links, lists: &mut Vec<Lru>, group: GroupId,
     requires frame { head < length links.old }
     requires away { home_of links.old head ≡ None }
     requires lists { AreGroupLists links.old lists.old.items }
-    ensures joins { JoinsList group head links.old lists.old.items links.new lists.new.items }
+    ensures joins { JoinsList group head (group_lists links.old lists.old.items) (group_lists links.new lists.new.items) }
     ensures lists { AreGroupLists links.new lists.new.items }
     ensures frames { length links.new ≡ length links.old }
 {

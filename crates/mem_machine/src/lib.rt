@@ -4,13 +4,13 @@
 //! Contracts name the machine's two seats, `seat` at the table of the frames' words and `stock` at that of the stocks'
 //! words: a seat is the right to step there, and it is by these steps that other processors meet a call.
 //!
-//! Some more words recur. A `Spot` is the record of one frame: free, lent, or in a charged unit. A frame that is lent is
-//! fresh once it was taken and paid for, until the processor is settled; a back frame heads a unit of which the
-//! processor had the last put. A stock's book is all that was charged for it: the pages in it, those that fresh frames
-//! were paid with, and those that were reported and not absorbed yet. A `Side` is the machine together with the part of
-//! the processor that holds its lock. `Visits` says of a side that the visit of that processor is open: it lasts from
-//! `open` to `shut`, and frames are handed over only inside it. `local_of` is what a side shows in the words of the
-//! rules (`step_rules`). `Makes` says that a list of steps leads from one side to another.
+//! Some more words recur. A `Spot` is the record of one frame: free, lent, or in a charged unit. A frame that is lent
+//! is fresh once it was taken and paid for, until the processor is settled; a back frame heads a unit of which the
+//! processor had the last put. A stock's book is all that was charged for it: the pages in it, those that fresh
+//! frames were paid with, and those that were reported and not absorbed yet. A `Side` is the machine together with the
+//! part of the processor that holds its lock. `Visits` says of a side that the visit of that processor is open: it
+//! lasts from `open` to `shut`, and frames are handed over only inside it. `local_of` is what a side shows in the
+//! words of the rules (`step_rules`). `Makes` says that a list of steps leads from one side to another.
 //!
 //! A line that ends in 'For the clauses' calls a reader for what its contract tells, and changes nothing: what always
 //! holds of a type's values is known only where one of its calls says it. So does a call of `laws::..`.

@@ -2,7 +2,7 @@
 
 ghost use Rattle.std.specs.Prelude.{◌≡◌, ◌≢◌, ◌<◌, None, IfSome, length};
 ghost use Rattle.group_tree.specs.declared.group.TheConstants.{MAX_GROUPS};
-ghost use Rattle.mem_machine.specs.Machines.{AreGroupLists, HeadsKeptUnit, StaysVisited, Visits, home_of};
+ghost use Rattle.mem_machine.specs.Machines.{AreGroupLists, HeadsKeptUnit, StaysVisited, Visits, home_of, group_lists};
 ghost use Rattle.mem_machine.specs.Releasing.{LeavesList, Releases, release_steps};
 ghost use Rattle.mem_machine.specs.Local.{Makes, MakesForAny, side};
 
@@ -31,7 +31,7 @@ pub(crate) fn leave_list(links: &mut Links, lists: &mut Vec<Lru>, head: u32)
     requires kept { home_of links.old head ≢ None }
     requires owner { IfSome (home_of links.old head) (λ home. home.owner < MAX_GROUPS) }
     requires lists { AreGroupLists links.old lists.old.items }
-    ensures leaves { LeavesList head links.old lists.old.items links.new lists.new.items }
+    ensures leaves { LeavesList head (group_lists links.old lists.old.items) (group_lists links.new lists.new.items) }
     ensures lists { AreGroupLists links.new lists.new.items }
     ensures frames { length links.new ≡ length links.old }
 {
@@ -47,7 +47,8 @@ pub(crate) fn leave_list(links: &mut Links, lists: &mut Vec<Lru>, head: u32)
 
 impl<N: BootName> Machine<N> {
     /// Takes a kept unit off its list, and gives up the zone's reference on it. Where that was the last one, the unit
-    /// comes back. The unit goes by its head, which stands on a list of its group. It may be called in any processor's visit.
+    /// comes back. The unit goes by its head, which stands on a list of its group. It may be called in any processor's
+    /// visit.
     pub fn let_go(&mut self, tables: &Tables<N>, head: Frame) -> Released
         requires frame { head < N.frames.frames }
         requires kept { HeadsKeptUnit self.old head }

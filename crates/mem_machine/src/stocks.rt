@@ -5,9 +5,9 @@ ghost use Rattle.group_tree.specs.declared.group.TheConstants.{MAX_GROUPS};
 ghost use Rattle.group_tree.specs.Groups.{has_group, in_subtree};
 ghost use Rattle.mem_machine.specs.Machines.{IsCpuOf, LacksRoom, SideStays, Visits};
 ghost use Rattle.mem_machine.specs.Stocks.{IsDrained, AreDrained, AreOwnDrained, FitsStock, stock_group};
-ghost use Rattle.mem_machine.specs.Stocks.{of_group, of_subtree, Drains, DrainsIfChosen, DrainsNoted};
+ghost use Rattle.mem_machine.specs.Stocks.{of_group, of_subtree, Drains, DrainsIf, DrainsBySteps, DrainsNoted};
 ghost use Rattle.mem_machine.specs.Stocks.{DrainsGroup, DrainsSubtree, Fills, Prepays, IsOver};
-ghost use Rattle.mem_machine.specs.Stocks.{RefusesGrant, RefusesPrepay, own_fill_steps, prepay_steps};
+ghost use Rattle.mem_machine.specs.Stocks.{RefusesGrant, own_fill_steps, prepay_steps, refused_prepay_steps};
 ghost use Rattle.mem_machine.specs.Paying.{MayCharge};
 ghost use Rattle.mem_machine.specs.Local.{MakesBy, MakesForAny, side};
 ghost use Rattle.mem_machine.specs.Steps.{drain_steps};
@@ -83,7 +83,7 @@ impl<N: BootName> Machine<N> {
     fn drain_if_below(&mut self, tables: &Tables<N>, processor: u32, group: GroupId) -> u32
         requires processor { IsCpuOf N.frames processor }
         requires there { IsTrue (has_group self.old.ledger.groups group) }
-        ensures { DrainsIfChosen N.frames (of_subtree group) processor result self.old self.new }
+        ensures { DrainsBySteps N.frames (DrainsIf (of_subtree group) processor) result self.old self.new }
     {
         match self.stock.group(tables, processor) {
             None => 0,
@@ -113,7 +113,7 @@ impl<N: BootName> Machine<N> {
     // it.
     fn drain_if_own(&mut self, tables: &Tables<N>, processor: u32, group: GroupId) -> u32
         requires processor { IsCpuOf N.frames processor }
-        ensures { DrainsIfChosen N.frames (of_group group) processor result self.old self.new }
+        ensures { DrainsBySteps N.frames (DrainsIf (of_group group) processor) result self.old self.new }
     {
         match self.stock.group(tables, processor) {
             None => 0,
@@ -188,8 +188,8 @@ impl<N: BootName> Machine<N> {
         ensures visit { Visits N.frames (side self.new cpu.new) }
         ensures steps { OnOk result
             (MakesBy N.frames (prepay_steps group pages) (side self.old cpu.old) (side self.new cpu.new)) }
-        ensures refused { IfErr result
-            (λ over. RefusesPrepay N.frames group pages over (side self.old cpu.old) (side self.new cpu.new)) }
+        ensures refused { IfErr result (λ over. MakesBy N.frames
+            (refused_prepay_steps group pages over.group) (side self.old cpu.old) (side self.new cpu.new)) }
     {
         let number = cpu.number();
         self.drain_stock(tables, number);

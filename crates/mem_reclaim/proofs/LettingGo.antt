@@ -22,7 +22,7 @@ use Rattle.cpu_part.specs.Cpus.{KnownCpu}
 use Rattle.step_rules.specs.After.{Run}
 use Rattle.mem_machine.specs.declared.releasing.Released.{Released}
 use Rattle.mem_machine.specs.declared.releasing.Released.TheVariants.{Left, Returned}
-use Rattle.mem_machine.specs.Machines.{KnownMachine, IsConsistent, Visits, home_of, side}
+use Rattle.mem_machine.specs.Machines.{KnownMachine, IsConsistent, Visits, home_of, side, lists_of}
 use Rattle.mem_machine.specs.Local.{MakesForAny}
 use Rattle.mem_machine.specs.Ageing.{entries_in}
 use Rattle.mem_machine.specs.Releasing.{LeavesList, Releases, release_steps}
@@ -106,7 +106,7 @@ misses_put seat f g change keeps = elim (cases_eq g f) [
   | inr ne ↦ ap (λ (k : FrameNote). k.misses) (note_else seat.view f g change ne)
 ]
 
-off_list : (t : KnownTable) (m n : KnownMachine) (f : ℕ) → LeavesList f m.links m.lists n.links n.lists → n.ledger.groups ≡ m.ledger.groups
+off_list : (t : KnownTable) (m n : KnownMachine) (f : ℕ) → LeavesList f (lists_of m) (lists_of n) → n.ledger.groups ≡ m.ledger.groups
     → ((g : ℕ) → current_of n.ledger g ≤ current_of m.ledger g) → n.seat.view.opened ≡ m.seat.view.opened → ((g : ℕ) → misses_of n.seat g ≡ misses_of m.seat g)
     → ((c : KnownCpu) → Visits t (side m c) → Visits t (side n c)) → OnlyLetsGo t m n
 off_list t m n f list groups usage opened misses visit =
@@ -142,14 +142,14 @@ release_stocks : (m n : KnownMachine) (f : ℕ) (left : Released) → Releases f
 release_stocks m n f (Left left) is = record { stock = ap (λ (x : KnownMachine). x.stock) is.machine; killed = ap (λ (x : KnownMachine). x.killed) is.machine }
 release_stocks m n f Returned is = record { stock = ap (λ (x : KnownMachine). x.stock) is.machine; killed = ap (λ (x : KnownMachine). x.killed) is.machine }
 
-release_list : (m n : KnownMachine) (f : ℕ) (left : Released) → Releases f left m n → LeavesList f m.links m.lists n.links n.lists
+release_list : (m n : KnownMachine) (f : ℕ) (left : Released) → Releases f left m n → LeavesList f (lists_of m) (lists_of n)
 release_list m n f (Left left) is = is.list
 release_list m n f Returned is = is.list
 
 same_home : (a b : Home) → Some a ≡ Some b → a.owner ≡ b.owner
 same_home a b e = cc
 
-off_entries : (m n : KnownMachine) (g f : ℕ) (list : LruList) → LeavesList f m.links m.lists n.links n.lists
+off_entries : (m n : KnownMachine) (g f : ℕ) (list : LruList) → LeavesList f (lists_of m) (lists_of n)
     → home_of m.links f ≡ Some (record { owner = g; list = list }) → entries_in n g list ≡ entries_without f (entries_in m g list)
 off_entries m n g f Inactive is home =
     let own : is.group ≡ g = same_home (record { owner = is.group; list = is.list }) (record { owner = g; list = Inactive }) (sym is.stands ∙ home) in
