@@ -24,7 +24,7 @@ use Rattle.mem_machine.proofs.Prepaying.{filled_account, filled_at}
 use Rattle.mem_alloc.specs.declared.faults.AllocFault.{AllocFault}
 use Rattle.mem_alloc.specs.declared.faults.AllocFault.TheVariants.{Over, NoFrames, Killed}
 use Rattle.mem_alloc.specs.Stepping.{BySteps, Course, OfMachineAlone, Where, course}
-use Rattle.mem_alloc.specs.Room.{AfterRoom, IsRefusedAt, IsRefusedFor, IsRefusedOnce, MakesRoom}
+use Rattle.mem_alloc.specs.Room.{AfterRoom, IsRefusedAt, IsRefusedFor, IsRefusedAtSome, MakesRoom}
 use Rattle.mem_alloc.specs.Charging.{ChargesAfterDrain, ChargesFrame, ChargesOne, DrainsStock, FillsStock, LacksBatch, PaysForFrame}
 use Rattle.mem_alloc.specs.Rounds.{FailsInRounds}
 use Rattle.mem_alloc.specs.Frames.{AllocatesFrame, FillsList, HasNoFreeFrame, LendsBatch, LendsNoFrame, RefillsInRounds, RefillsList}
@@ -92,7 +92,7 @@ after_room_keeps t g pages Does m n c d steps keeps h =
 refusal_keeps : (t : KnownTable) (g pages : ℕ) (cause : AllocFault) (m n : KnownMachine) (c d : KnownCpu) (steps : Run)
     → IsRefusedFor g pages cause (course t (side m c) steps (side n d)) → KeepsPart m c n d
 refusal_keeps t g pages cause m n c d steps h =
-    after_room_keeps t g pages (OfMachineAlone (IsRefusedOnce g pages cause)) m n c d steps
+    after_room_keeps t g pages (OfMachineAlone (IsRefusedAtSome g pages cause)) m n c d steps
     (λ x later r. lowers_keep t x n c d (refused_lowers t g pages r.does.0 (Err cause) x n later r.does.1) r.cpu) h
 
 one_keeps : (t : KnownTable) (g : ℕ) (r : Result (Unit {0}) AllocFault) (m n : KnownMachine) (c d : KnownCpu) (steps : Run)

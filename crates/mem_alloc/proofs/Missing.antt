@@ -18,7 +18,7 @@ use Rattle.mem_alloc.specs.declared.faults.AllocFault.{AllocFault}
 use Rattle.mem_alloc.specs.declared.faults.AllocFault.TheVariants.{Over, NoFrames, Killed}
 use Rattle.mem_alloc.specs.Stepping.{CountsMisses, Course, InTurn, OfMachineAlone, Stays, Where, course, of_machine}
 use Rattle.mem_alloc.specs.Kills.{KillsEach, KillsFor, KillsOne, has_room_at, with_oom_noted_at}
-use Rattle.mem_alloc.specs.Room.{AfterRoom, ClearsBelow, IsRefusedAt, IsRefusedFor, IsRefusedOnce, KillsForFew, MakesRoom, RelievesLimit, with_max_noted_at}
+use Rattle.mem_alloc.specs.Room.{AfterRoom, ClearsBelow, IsRefusedAt, IsRefusedFor, IsRefusedAtSome, KillsForFew, MakesRoom, RelievesLimit, with_max_noted_at}
 use Rattle.mem_alloc.specs.Charging.{ChargesAfterDrain, ChargesFrame, ChargesOne, DrainsStock, FillsStock, LacksBatch, PaysForFrame}
 use Rattle.mem_alloc.specs.Rounds.{FailsInRounds, GivesInRound, MakesRound, SucceedsInRounds}
 use Rattle.mem_alloc.specs.Frames.{AllocatesFrame, FillsList, HasNoFreeFrame, LendsBatch, LendsNoFrame, RefillsInRounds}
@@ -195,8 +195,8 @@ after_room_counts g pages Does counts way h =
 
 refusal_counts : (g pages : ℕ) (cause : AllocFault) → AllCounted (IsRefusedFor g pages cause)
 refusal_counts g pages cause way h =
-    after_room_counts g pages (OfMachineAlone (IsRefusedOnce g pages cause))
-    (counts_alone (IsRefusedOnce g pages cause) (λ t m n steps r. counts_refused t g pages r.0 (Err cause) m n steps r.1)) way h
+    after_room_counts g pages (OfMachineAlone (IsRefusedAtSome g pages cause))
+    (counts_alone (IsRefusedAtSome g pages cause) (λ t m n steps r. counts_refused t g pages r.0 (Err cause) m n steps r.1)) way h
 
 -- ---- rounds of reclaim
 

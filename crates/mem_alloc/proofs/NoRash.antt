@@ -35,7 +35,7 @@ use Rattle.mem_reclaim.specs.Killing.{IsKilledBy, OnlyDrains, OnlyLetsGo}
 use Rattle.mem_reclaim.proofs.LettingGo.{AreQuiet, quiet_both, quiet_drains}
 use Rattle.mem_alloc.specs.Stepping.{Course, OfMachineAlone, Rests, course}
 use Rattle.mem_alloc.specs.Kills.{KillsEach, KillsFor, KillsOne, KillsUntilRoom, has_room_at, with_oom_noted_at}
-use Rattle.mem_alloc.specs.Room.{AfterRoom, ClearsBelow, IsRefusedAt, IsRefusedFor, IsRefusedOnce, KillsForFew, MakesRoom, ReclaimsFor, RelievesLimit}
+use Rattle.mem_alloc.specs.Room.{AfterRoom, ClearsBelow, IsRefusedAt, IsRefusedFor, IsRefusedAtSome, KillsForFew, MakesRoom, ReclaimsFor, RelievesLimit}
 use Rattle.mem_alloc.specs.Room.{with_max_noted_at}
 use Rattle.mem_alloc.specs.declared.faults.AllocFault.{AllocFault}
 use Rattle.mem_alloc.specs.NoRash.{IsLeftBySteps, MayKill, has_oom_note, is_oom_note}
@@ -527,6 +527,6 @@ module _ (t : KnownTable) (MayAsk : List Group → ℕ → ℕ → Type 0) (s : 
         → Passes t c s made m → IsLocalRun c.number (local_of t m c) (steps ++ rest) z → IsRefusedFor g pages cause (course t (side m c) steps n)
         → RashFree t MayAsk s c made steps
     refusal_rash cause made m steps rest n z is since whole h =
-        after_room_rash (OfMachineAlone (IsRefusedOnce g pages cause)) made m steps rest n z is since whole
+        after_room_rash (OfMachineAlone (IsRefusedAtSome g pages cause)) made m steps rest n z is since whole
         (λ done later x groups passes on does.
         (refused_tame does.does.0 (Err cause) done x later rest n.machine z groups passes on does.does.1).rash) h

@@ -119,10 +119,10 @@ pub record AfterRoom (requester pages : ℕ) (Does : Course Side → Type 0) (wa
   pub steps_are : way.steps ≡ making ++ later
 
 -- a charge is refused at some group, which has no room after that, or the requester was killed there: this is the cause
-abbrev pub IsRefusedOnce : ℕ → ℕ → AllocFault → Course KnownMachine → Type 0
-IsRefusedOnce requester pages cause way = (over : ℕ) × IsRefusedAt requester pages over (Err cause) way
+abbrev pub IsRefusedAtSome : ℕ → ℕ → AllocFault → Course KnownMachine → Type 0
+IsRefusedAtSome requester pages cause way = (over : ℕ) × IsRefusedAt requester pages over (Err cause) way
 
 -- a charge is refused for good, for this cause: other groups may have refused it before, and have room since
 abbrev pub IsRefusedFor : ℕ → ℕ → AllocFault → Course Side → Type 0
 IsRefusedFor requester pages cause way =
-    AfterRoom requester pages (OfMachineAlone (IsRefusedOnce requester pages cause)) way
+    AfterRoom requester pages (OfMachineAlone (IsRefusedAtSome requester pages cause)) way
