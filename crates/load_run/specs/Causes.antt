@@ -21,7 +21,7 @@ pub record IsBadAt (asked : Option Settings) (number : ℕ) (input : List ℕ) :
   pub in_range : HasSizesInRange settings.sizes
   pub first : IsFirstBadLine settings.sizes (bytes_read input) number
 
--- the input is a script for the sizes that are asked for, and these may not be
+-- the input is a script for the sizes that are asked for, and a boot refuses these
 pub record IsRefused (asked : Option Settings) (input : List ℕ) : Type 0 where
   pub settings : Settings
   pub is_asked : asked ≡ Some settings

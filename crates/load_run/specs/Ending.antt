@@ -19,17 +19,18 @@ PutsEach (frame ∷ frames) before after =
     (answer : Put) × (between : KnownCpu) × UnpinAnswers frame answer before between × PutsEach frames between after
 
 -- every pin of the processor is put
-pub record LetsGo (before after : KnownCpu) : Type 0 where
+pub record PutsAllPins (before after : KnownCpu) : Type 0 where
   pub frames : List ℕ
   pub puts : PutsEach frames before after
   pub none_left : after.pins ≡ []
 
--- the boot ended, and told how many pins were held: none; or every pin was put, and then it ended
+-- the boot ended, and told how many pins were held: none; or every pin was put, and then it ended. `cpus` are the parts
+-- from which it ended
 pub record EndsHeld (table : KnownTable) (stock_table : Words) (before : Standing) (ended : Ended) : Type 0 where
   pub held_are : ended.held ≡ pins_of before.cpus
   pub cpus : List KnownCpu
   pub free : ended.held ≡ 0 → cpus ≡ before.cpus
-  pub pinned : 1 ≤ ended.held → AllZip LetsGo before.cpus cpus
+  pub pinned : 1 ≤ ended.held → AllZip PutsAllPins before.cpus cpus
   pub ends : Ends table stock_table before.locked cpus ended.audit
 
 -- the boot ended where something stood of which this is so
@@ -45,14 +46,14 @@ audit_places_text audit =
     ++ (codes " charged " ++ (decimal audit.charged ++ codes "\n")))))
 
 -- how often units ended and came back
-abbrev pub counts_text : Audit → List ℕ
-counts_text audit =
+abbrev pub audit_counts_text : Audit → List ℕ
+audit_counts_text audit =
     codes "audit puts " ++ (decimal audit.last_puts ++ (codes " freezes " ++ (decimal audit.freezes ++ (codes " drops "
     ++ (decimal audit.drops ++ (codes " returns " ++ (decimal audit.returns ++ codes "\n")))))))
 
 -- the two lines of an audit
 abbrev pub audit_text : Audit → List ℕ
-audit_text audit = audit_places_text audit ++ counts_text audit
+audit_text audit = audit_places_text audit ++ audit_counts_text audit
 
 -- the line of pins that were held, if there were any
 abbrev pub held_text : ℕ → List ℕ

@@ -1,4 +1,4 @@
--- How the program ends.
+-- The faults of a run: the status and the text of each, and which call has which.
 use Rattle.std.specs.Prelude.{ℕ, List, Option, Err, ⊤, ◌++◌, codes, string_bytes}
 use Rattle.std.specs.Fmt.{decimal}
 use Rattle.zone_sizes.specs.declared.config.Config.{Config}
@@ -54,7 +54,7 @@ abbrev pub IsScriptFault : Config → List ℕ → ProgramFault → Type 0
 IsScriptFault sizes script (Script fault) = NamesFirstBadLine sizes script fault
 IsScriptFault sizes script fault = ⊥
 
--- a fault of a boot: its sizes may not be; or they may, and memory ran out
+-- a fault of a boot: it refuses its sizes; or it takes them, and memory ran out
 abbrev pub IsBootFault : Config → ProgramFault → Type 0
 IsBootFault sizes BadConfig = ¬ IsValidConfig sizes
 IsBootFault sizes (NoMemory error) = IsValidConfig sizes

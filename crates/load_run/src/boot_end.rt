@@ -4,7 +4,7 @@ ghost use Rattle.std.specs.Prelude.{◌≡◌, ◌++◌, [], OnOk, length};
 ghost use Rattle.std.specs.List.{AllZip};
 ghost use Rattle.std.specs.String.{string_bytes};
 ghost use Rattle.script_replay.specs.Lines.{standing};
-ghost use Rattle.load_run.specs.Ending.{EndsHeld, LetsGo, audit_text, counts_text, held_text, audit_places_text};
+ghost use Rattle.load_run.specs.Ending.{EndsHeld, PutsAllPins, audit_text, audit_counts_text, held_text, audit_places_text};
 
 use cpu_part::{BootName, Cpu, Tables};
 use mem_system::{Audit, Locked, Pinned, end};
@@ -21,7 +21,7 @@ pub struct Ended {
 
 // Puts every pin of the processor.
 fn put_pins<N: BootName>(tables: &Tables<N>, cpu: &mut Cpu<N>)
-    ensures { LetsGo cpu.old cpu.new }
+    ensures { PutsAllPins cpu.old cpu.new }
 {
     while let Some(frame) = cpu.first_pin() {
         let _put = cpu.put(tables, frame);
@@ -30,7 +30,7 @@ fn put_pins<N: BootName>(tables: &Tables<N>, cpu: &mut Cpu<N>)
 
 // Puts every pin of the processors.
 fn put_all_pins<N: BootName>(tables: &Tables<N>, cpus: &mut [Cpu<N>])
-    ensures { AllZip LetsGo cpus.old cpus.new }
+    ensures { AllZip PutsAllPins cpus.old cpus.new }
 {
     for cpu in cpus.iter_mut() {
         put_pins(tables, cpu);
@@ -101,7 +101,7 @@ fn write_places(text: &mut String, audit: &Audit) -> Result<(), AllocError>
 
 // The line of the units that ended, and that came back.
 fn write_counts(text: &mut String, audit: &Audit) -> Result<(), AllocError>
-    ensures { OnOk result (string_bytes text.new ≡ string_bytes text.old ++ counts_text audit.now) }
+    ensures { OnOk result (string_bytes text.new ≡ string_bytes text.old ++ audit_counts_text audit.now) }
 {
     let puts = audit.last_puts;
     let freezes = audit.freezes;

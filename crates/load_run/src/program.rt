@@ -30,10 +30,11 @@ use std::marker::Brand;
 /// status to end with.
 ///
 /// First the words are read, then the whole script is read and parsed, then the configuration checked,
-/// then a boot replays the lines and ends. The answers are gathered and written once; where anything fails,
-/// none are. A fault is told in one line, those of the words in clap's text. The status is 0; 2 after a
-/// fault of the words, a bad line or a bad configuration; 1 where the script can't be read or the answers
-/// can't be written, and where memory runs out.
+/// then a boot replays the lines and ends. The answers are gathered first and then written whole; where the
+/// output fails, a beginning of them may stand there, and after any other fault nothing. A fault is told in
+/// one line, those of the words in clap's text. The status is 0; 2 after a fault of the words, a bad line or
+/// a bad configuration; 1 where the script can't be read or the answers can't be written, and where memory
+/// runs out.
 pub fn drive<S: AsStr, I: Read, O: Write, F: Write>(
     alloc: Global,
     words: &[S],

@@ -64,7 +64,7 @@ fn serve_and_end<N: BootName + Send + Sync, R: Threads + Wait + Sync>(
     ensures ends { EndsAfter N.frames N.stocks (λ end.
         IsQuiet N.frames N.stocks end.locked × (length end.cpus ≡ N.frames.cpus)) result.1 }
 {
-    locked.see_quiet(); // For the clauses: there are few processors.
+    locked.see_quiet(); // For the clauses: there are fewer than 2^31 processors, as `run_each` asks.
     let system = System::of(locked, tables);
     let told = serve_later(rt, alloc, &system, &mut cpus, lines, has_memory);
     let (locked, tables) = system.into_parts();

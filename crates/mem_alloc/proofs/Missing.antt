@@ -11,7 +11,7 @@ use Rattle.mem_machine.specs.Local.{Side, side}
 use Rattle.mem_machine.specs.Blocks.{taken_steps, unplaced_steps}
 use Rattle.mem_machine.specs.Lending.{LendsMany, TakesManyBack}
 use Rattle.mem_machine.specs.Stocks.{Drains, DrainsAllBelow, stock_group}
-use Rattle.mem_machine.specs.Steps.{Drain, back_steps, drain_list_steps, drain_steps, drain_stocks_steps, fill_steps, kill_steps, lend_steps, note_max_steps, note_oom_steps, over_steps, refill_steps, take_front_steps}
+use Rattle.mem_machine.specs.Steps.{Drain, unlist_steps, drain_list_steps, drain_steps, drain_stocks_steps, fill_steps, kill_steps, lend_steps, note_max_steps, note_oom_steps, over_steps, refill_steps, take_front_steps}
 use Rattle.mem_reclaim.specs.Moves.{missed_in}
 use Rattle.mem_reclaim.proofs.LettingGo.{AreQuiet, misses_put, quiet_both, quiet_drain, quiet_drains}
 use Rattle.mem_alloc.specs.declared.faults.AllocFault.{AllocFault}
@@ -150,7 +150,7 @@ refill_calm p (f ∷ frames) = quiet_both (lend_steps p f) (refill_steps p frame
 
 pub back_calm : (p : ℕ) (frames : List ℕ) → AreQuiet (drain_list_steps p frames)
 back_calm p [] = calm
-back_calm p (f ∷ frames) = quiet_both (back_steps p f) (drain_list_steps p frames) (record { quiet = refl; no_miss = λ g. refl }) (back_calm p frames)
+back_calm p (f ∷ frames) = quiet_both (unlist_steps p f) (drain_list_steps p frames) (record { quiet = refl; no_miss = λ g. refl }) (back_calm p frames)
 
 lent_same : (frames : List ℕ) (m n : Side) → LendsMany frames m n → (g : ℕ) → misses_of n.machine.seat g ≡ misses_of m.machine.seat g
 lent_same [] m n h g = ap (λ (x : KnownMachine). misses_of x.seat g) h.machine

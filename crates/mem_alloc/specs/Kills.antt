@@ -21,8 +21,8 @@ most_killed_for = 8
 abbrev pub has_room_at : Ledger → ℕ → ℕ → Bool
 has_room_at ledger group pages = has_room ledger.groups (current_of ledger) group pages
 
--- the machine after it was noted that an allocation was about to fail at the group's limit: as an event, and for
--- whoever reads the notes
+-- the machine after it was noted that nothing but kills is left to keep the group's limit: as an event, and for whoever
+-- reads the notes
 abbrev pub with_oom_noted_at : KnownMachine → ℕ → KnownMachine
 with_oom_noted_at machine group = record machine {
   ledger = with_oom_noted machine.ledger group;
@@ -34,13 +34,14 @@ abbrev pub IsAlive : Option ℕ → KnownMachine → Type 0
 IsAlive None machine = Unit {0}
 IsAlive (Some requester) machine = is_killed machine.killed requester ≡ false
 
--- the limit of the group has no room for so many pages, and the group that asks for them isn't killed
+-- the limit of the group has no room for so many pages, and the group that asks for them, if one does, isn't killed
 pub record IsWanting (requester : Option ℕ) (group pages : ℕ) (machine : KnownMachine) : Type 0 where
   pub over : has_room_at machine.ledger group pages ≡ false
   pub alive : IsAlive requester machine
 
 -- One kill: the pages are wanted still, and the victim of the group is killed, in a machine that is consistent and
--- whose usage is that of its accounts. What a kill keeps stays
+-- whose usage is that of its accounts. The victim is marked as killed, no stock comes to be held or changes its group,
+-- and of the kept units some are let go
 pub record KillsOne (requester : Option ℕ) (group pages victim : ℕ) (way : Course KnownMachine) : Type 0 where
   pub wanting : IsWanting requester group pages way.before
   pub chosen : IsVictim way.before group (Some victim)

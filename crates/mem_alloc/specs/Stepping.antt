@@ -8,7 +8,7 @@ use Rattle.mem_machine.specs.Local.{Side, Makes, MakesForAny}
 use Rattle.mem_reclaim.specs.Moves.{missed_in}
 
 -- The course of a call at a table: what was there before, its steps with their answers, and what is there after. It is
--- told of a side, or of the machine alone
+-- told of a side, or of the machine alone. A definition's parameter `way` is always its course
 pub record Course (Stand : Type 0) : Type 0 where
   pub table : KnownTable
   pub before : Stand

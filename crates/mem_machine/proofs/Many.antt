@@ -11,7 +11,7 @@ use Rattle.step_rules.specs.After.{Run}
 use Rattle.mem_machine.specs.Machines.{KnownMachine, SideStays, Visits}
 use Rattle.mem_machine.specs.Lending.{LendsOne, LendsNone, LendsMany, LendsByStep, Refills, TakesOneBack, TakesNoneBack, TakesManyBack, TakesBackByStep}
 use Rattle.mem_machine.specs.Local.{MakesAs, Side, side}
-use Rattle.mem_machine.specs.Steps.{lend_steps, back_steps, drain_list_steps}
+use Rattle.mem_machine.specs.Steps.{lend_steps, unlist_steps, drain_list_steps}
 use Rattle.mem_machine.proofs.Followed.{makes_none, makes_both}
 
 -- a side that stays
@@ -114,8 +114,8 @@ taken_more t k m c x y n d before one visit =
       split = before.split ∙ ap (λ (l : List ℕ). before.frames ++ l) left ∙ sym (append_assoc before.frames (f ∷ []) d.list);
       takes = takes_more before.frames f m c x y n d before.takes one.takes;
       visit = visit;
-      steps = steps_more t c.number (back_steps c.number) before.frames f (side m c) (side x y) (side n d) before.steps
-          (subst (λ (p : ℕ). MakesAs t p (side x y) (back_steps p f) (side n d)) before.number one.steps);
+      steps = steps_more t c.number (unlist_steps c.number) before.frames f (side m c) (side x y) (side n d) before.steps
+          (subst (λ (p : ℕ). MakesAs t p (side x y) (unlist_steps p f) (side n d)) before.number one.steps);
       number = ap (λ (e : KnownCpu). e.number) one.takes.cpu ∙ before.number;
     }
 

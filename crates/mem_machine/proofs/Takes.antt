@@ -32,7 +32,7 @@ use Rattle.mem_machine.specs.Spots.{spot_at, is_free, free_of, group_of, head_gr
 use Rattle.mem_machine.specs.Machines.{KnownMachine, FitsSpot, IsConsistent, Visits, home_of}
 use Rattle.mem_machine.specs.Lending.{TakesBackByStep, TakesNoneBack}
 use Rattle.mem_machine.specs.Local.{local_of, phase_of, part_of, part_with, side, MakesAs}
-use Rattle.mem_machine.specs.Steps.{back_steps}
+use Rattle.mem_machine.specs.Steps.{unlist_steps}
 use Rattle.mem_machine.proofs.Reaching.{zone_step, cpu_step}
 use Rattle.mem_machine.proofs.Holds.{IsSeated, zone_may_act, visits_open, seated_cpu}
 use Rattle.mem_machine.proofs.Records.{free_at, one_covered, length_free, free_given, lent_spot, spots_changed, holds_same, units_stay, charges_stay}
@@ -147,7 +147,7 @@ module _ (t : KnownTable) (w : Words) (m : KnownMachine) (c : KnownCpu) (tied : 
   same_phase g (Head unit) = refl
   same_phase g (Tail h) = refl
 
-  pub take_runs : (blocks : List Block) → MakesAs t c.number (side m c) (back_steps c.number f)
+  pub take_runs : (blocks : List Block) → MakesAs t c.number (side m c) (unlist_steps c.number f)
       (side (record m { blocks = blocks; spots = slice_set m.spots f Free; seat = seat_with m.seat f (collected_from c.number) }) (record c { list = rest; seat = seat_with c.seat f gave_back }))
   take_runs blocks =
       let p = c.number in

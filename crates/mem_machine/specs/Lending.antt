@@ -11,7 +11,7 @@ use Rattle.mem_machine.specs.declared.spot.Spot.TheVariants.{Free, Lent}
 use Rattle.mem_machine.specs.Spots.{free_of}
 use Rattle.mem_machine.specs.Machines.{OneByOne, SideStays}
 use Rattle.mem_machine.specs.Local.{Side, Makes}
-use Rattle.mem_machine.specs.Steps.{lend_steps, back_steps, refill_steps, drain_list_steps}
+use Rattle.mem_machine.specs.Steps.{lend_steps, unlist_steps, refill_steps, drain_list_steps}
 
 -- the frame, which was free, is at the end of the processor's list; nothing else changed
 pub record LendsFrame (frame : ℕ) (before after : Side) : Type 0 where
@@ -88,7 +88,7 @@ TakesManyBack frames before after = OneByOne TakesOneBack frames before after
 pub record TakesBackByStep (table : KnownTable) (before after : Side) : Type 0 where
   pub frame : ℕ
   pub takes : TakesOneBack frame before after
-  pub steps : Makes table before (back_steps before.cpu.number frame) after
+  pub steps : Makes table before (unlist_steps before.cpu.number frame) after
 
 -- what taking one frame back leaves, by what it tells: the front of the list is free again; or the list is empty
 abbrev pub TakesBackIfListed : KnownTable → Bool → Side → Side → Type 0
@@ -96,5 +96,5 @@ TakesBackIfListed table true before after = TakesBackByStep table before after
 TakesBackIfListed table false before after = TakesNoneBack before after
 
 -- the steps by which so many frames are taken back from the front of the processor's list
-abbrev pub take_back_steps : ℕ → Side → Run
-take_back_steps count now = drain_list_steps now.cpu.number (take count now.cpu.list)
+abbrev pub unlist_front_steps : ℕ → Side → Run
+unlist_front_steps count now = drain_list_steps now.cpu.number (take count now.cpu.list)

@@ -210,7 +210,7 @@ OneByOne IsDone (frame ∷ rest) before after =
     (mid : Side) × IsDone frame before mid × OneByOne IsDone rest mid after
 
 -- The processor is visited: its visit was opened and not shut yet, no frame passes between it and the zone, and what is
--- lent to it are its listed and fresh frames
+-- lent to it are the frames that its seat has borrowed, which are its listed and fresh ones
 pub record Visits (table : KnownTable) (now : Side) : Type 0 where
   pub is_open : IsOpen now.machine.seat now.cpu.number
   pub still : NothingPasses table now.machine.seat now.cpu.seat

@@ -195,12 +195,12 @@ abbrev pub all_fresh_steps : Side → Run
 all_fresh_steps now = flat_map (fresh_steps (is_fresh_killed now) now.cpu.number) now.cpu.fresh
 
 -- the steps of all back frames, in the order of their last puts
-abbrev pub all_back_steps : Side → Run
-all_back_steps now = flat_map (return_steps now.cpu.number) now.cpu.back
+abbrev pub return_all_steps : Side → Run
+return_all_steps now = flat_map (return_steps now.cpu.number) now.cpu.back
 
 -- the steps of a settle
 abbrev pub settle_steps : Side → Run
-settle_steps now = all_fresh_steps now ++ all_back_steps now
+settle_steps now = all_fresh_steps now ++ return_all_steps now
 
 -- where a fresh frame was settled, it was by its steps
 abbrev pub MakesFreshSteps : KnownTable → Option ℕ → Side → Side → Type 0

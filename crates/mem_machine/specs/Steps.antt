@@ -35,12 +35,12 @@ abbrev pub refill_steps : ℕ → List ℕ → Run
 refill_steps processor frames = flat_map (lend_steps processor) frames
 
 -- the frame goes back from the processor to the free areas
-abbrev pub back_steps : ℕ → ℕ → Run
-back_steps processor frame = cpu_makes processor (PassBack frame) Done ∷ zone_makes (Collect frame processor) Done ∷ []
+abbrev pub unlist_steps : ℕ → ℕ → Run
+unlist_steps processor frame = cpu_makes processor (PassBack frame) Done ∷ zone_makes (Collect frame processor) Done ∷ []
 
 -- these frames go back to the free areas, one after the other
 abbrev pub drain_list_steps : ℕ → List ℕ → Run
-drain_list_steps processor frames = flat_map (back_steps processor) frames
+drain_list_steps processor frames = flat_map (unlist_steps processor) frames
 
 -- so many pages come off the group's charge; with none, or no group, nothing is done
 abbrev pub ungrant_steps : Option ℕ → ℕ → Run
@@ -83,7 +83,7 @@ take_front_steps processor group = cpu_makes processor (Consume group) Took ∷ 
 abbrev pub note_max_steps : ℕ → Run
 note_max_steps group = zone_makes (NoteMax group) Done ∷ []
 
--- it is noted that the group's limit couldn't be kept by reclaim
+-- it is noted that nothing but kills is left to keep the group's limit
 abbrev pub note_oom_steps : ℕ → Run
 note_oom_steps group = zone_makes (NoteOom group) Done ∷ []
 

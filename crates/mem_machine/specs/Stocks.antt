@@ -163,7 +163,7 @@ pub record Prepays (group pages : ℕ) (before after : Side) : Type 0 where
   pub drains : Drains before.cpu.number (pages_held before) before.machine emptied
   pub fills : Fills group pages (side emptied before.cpu) after
 
--- what it leaves where a limit has no room for the pages, that of `over` the lowest: the stock is drained of all its
+-- what `prepay` leaves where a limit has no room for the pages, that of `over` the lowest: the stock is drained of all its
 -- pages, and nothing is charged
 pub record IsOver (group pages over : ℕ) (before after : Side) : Type 0 where
   pub drains : Drains before.cpu.number (pages_held before) before.machine after.machine

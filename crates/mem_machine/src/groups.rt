@@ -27,8 +27,8 @@ impl<N: BootName> Machine<N> {
         self.charges.note_max(group);
     }
 
-    /// Notes that an allocation was about to fail at the limit of a group, and that killing was an option: one more
-    /// `oom` in its events and in those of each of its ancestors, and in its local events.
+    /// Notes that nothing but kills is left to keep the limit of a group: one more `oom` in its events and in those of
+    /// each of its ancestors, and in its local events.
     pub fn note_oom(&mut self, group: GroupId)
         requires { IsTrue (has_group self.old.ledger.groups group) }
         ensures machine { self.new ≡ record self.old { ledger = with_oom_noted self.old.ledger group } }

@@ -6,7 +6,7 @@ ghost use Rattle.mem_machine.specs.declared.spot.Spot.TheVariants.{Free};
 ghost use Rattle.mem_machine.specs.Spots.{spot_at};
 ghost use Rattle.mem_machine.specs.Machines.{Visits};
 ghost use Rattle.mem_machine.specs.Lending.{HasListRoom, LendsIfFree, LendsFrame, Refills};
-ghost use Rattle.mem_machine.specs.Lending.{TakesBackIfListed, TakesManyBack, take_back_steps};
+ghost use Rattle.mem_machine.specs.Lending.{TakesBackIfListed, TakesManyBack, unlist_front_steps};
 ghost use Rattle.mem_machine.specs.Local.{Makes, MakesBy, side};
 ghost use Rattle.mem_machine.specs.Steps.{lend_steps};
 
@@ -105,7 +105,7 @@ impl<N: BootName> Machine<N> {
         ensures takes { TakesManyBack (take result cpu.old.list) (side self.old cpu.old) (side self.new cpu.new) }
         ensures fewer_only_at_the_end { result < count → cpu.new.list ≡ [] }
         ensures visit { Visits N.frames (side self.new cpu.new) }
-        ensures steps { MakesBy N.frames (take_back_steps result) (side self.old cpu.old) (side self.new cpu.new) }
+        ensures steps { MakesBy N.frames (unlist_front_steps result) (side self.old cpu.old) (side self.new cpu.new) }
     {
         for taken in 0..count {
             if !self.take_one_back(tables, cpu) {

@@ -7,7 +7,7 @@ ghost use Rattle.mem_machine.specs.Local.{Makes, MakesBy, side};
 ghost use Rattle.mem_machine.specs.Settling.{KeepsFresh, DropsFresh, SettlesNext, SettlesAllFresh, Settles};
 ghost use Rattle.mem_machine.specs.Settling.{ReturnsNext, ReturnsAllBack, LeavesOthers};
 ghost use Rattle.mem_machine.specs.Settling.{MakesFreshSteps, MakesReturnSteps, keep_steps, drop_steps};
-ghost use Rattle.mem_machine.specs.Settling.{all_fresh_steps, all_back_steps, settle_steps};
+ghost use Rattle.mem_machine.specs.Settling.{all_fresh_steps, return_all_steps, settle_steps};
 
 use crate::freed::free_unit;
 use crate::joining::join_list;
@@ -129,7 +129,7 @@ impl<N: BootName> Machine<N> {
         ensures fresh { cpu.new.fresh ≡ cpu.old.fresh }
         ensures none_back { cpu.new.back ≡ [] }
         ensures visit { Visits N.frames (side self.new cpu.new) }
-        ensures steps { MakesBy N.frames all_back_steps (side self.old cpu.old) (side self.new cpu.new) }
+        ensures steps { MakesBy N.frames return_all_steps (side self.old cpu.old) (side self.new cpu.new) }
     {
         while let Some(_frame) = self.return_one(tables, cpu) {}
     }

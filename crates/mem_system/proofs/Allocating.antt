@@ -12,7 +12,7 @@ use Rattle.mem_alloc.specs.declared.faults.AllocFault.{AllocFault}
 use Rattle.mem_alloc.specs.declared.faults.AllocFault.TheVariants.{Over, NoFrames, Killed}
 use Rattle.mem_alloc.specs.Frames.{AllocatesFrame}
 use Rattle.mem_alloc.proofs.CallerLemmas.{frame_over_there}
-use Rattle.mem_system.specs.Allocs.{Allocates, AllocatesAs, FreshOf, outcome_of}
+use Rattle.mem_system.specs.Allocations.{Allocates, AllocatesAs, FreshOf, outcome_of}
 use Rattle.mem_system.specs.Outcomes.{HasItsGroups, reply_of}
 use Rattle.mem_system.specs.Commands.{BySteps, Course, course}
 use Rattle.mem_system.proofs.Telling.{path_told}

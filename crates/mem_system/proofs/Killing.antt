@@ -20,7 +20,7 @@ use Rattle.mem_machine.specs.declared.releasing.Released.TheVariants as released
 use Rattle.mem_machine.specs.Machines.{KnownMachine}
 use Rattle.mem_machine.specs.Local.{IsLocalRun, Side, local_of, side}
 use Rattle.mem_machine.specs.Releasing.{release_steps}
-use Rattle.mem_machine.specs.Settling.{all_back_steps, all_fresh_steps, fresh_steps, is_fresh_killed, return_steps, settle_steps}
+use Rattle.mem_machine.specs.Settling.{return_all_steps, all_fresh_steps, fresh_steps, is_fresh_killed, return_steps, settle_steps}
 use Rattle.mem_machine.specs.Steps.{drain_stocks_steps, lend_steps, open_steps, remove_steps, set_max_steps, shut_steps}
 use Rattle.mem_reclaim.specs.Moves.{has_kill}
 use Rattle.mem_reclaim.proofs.LettingGo.{quiet_drains}
@@ -41,8 +41,8 @@ use Rattle.mem_system.specs.Groups.{MakesGroup, Removes}
 use Rattle.mem_system.specs.Files.{IsFileOf, SetsLimit, Writes, with_limit_of}
 use Rattle.mem_alloc.specs.Room.{with_limit_noted}
 use Rattle.mem_system.specs.Usage.{LowersUsage, LowersAbove, LowersByKills, KeepsToLimit}
-use Rattle.mem_system.specs.Allocs.{Allocates, AllocatesFor}
-use Rattle.mem_system.specs.Kept.{TouchesFrame, NotesDirt}
+use Rattle.mem_system.specs.Allocations.{Allocates, AllocatesFor}
+use Rattle.mem_system.specs.Units.{TouchesFrame, NotesDirt}
 use Rattle.mem_system.specs.Releases.{CutsList, ListsFrame, ReleasesFrame, ReturnsFrames}
 use Rattle.mem_system.specs.Asks.{MayAskFor}
 use Rattle.mem_system.specs.Commands.{Obeys}
@@ -252,7 +252,7 @@ return_quiet p (f ∷ frames) = no_kill_both (return_steps p f) (flat_map (retur
 
 settle_quiet : (now : Side) → has_kill (settle_steps now) ≡ false
 settle_quiet now =
-    no_kill_both (all_fresh_steps now) (all_back_steps now) (fresh_quiet (is_fresh_killed now) now.cpu.number now.cpu.fresh)
+    no_kill_both (all_fresh_steps now) (return_all_steps now) (fresh_quiet (is_fresh_killed now) now.cpu.number now.cpu.fresh)
     (return_quiet now.cpu.number now.cpu.back)
 
 pub around_quiet : (p : ℕ) (now : Side) → has_kill (open_steps p ++ (settle_steps now ++ shut_steps p)) ≡ false

@@ -23,8 +23,8 @@ use Rattle.mem_system.specs.declared.command.Reply.{Reply}
 use Rattle.mem_system.specs.declared.command.Reply.TheVariants as reply
 use Rattle.mem_alloc.specs.Room.{with_limit_noted}
 use Rattle.mem_system.specs.Usage.{KeepsToLimit, LowersAbove, LowersUsage}
-use Rattle.mem_system.specs.Allocs.{Allocates, AllocatesFor}
-use Rattle.mem_system.specs.Kept.{HeadsNoUnit, NotesDirt, TouchesFrame}
+use Rattle.mem_system.specs.Allocations.{Allocates, AllocatesFor}
+use Rattle.mem_system.specs.Units.{HeadsNoUnit, NotesDirt, TouchesFrame}
 use Rattle.mem_system.specs.Releases.{ListsFrame, ReleasesFrame, ReturnsFrames}
 use Rattle.mem_system.specs.Groups.{MakesGroup, Removes}
 use Rattle.mem_system.specs.Files.{SetsLimit, Writes, with_limit_of}

@@ -19,9 +19,9 @@ use Rattle.mem_system.specs.Boots.{IsSizedAs}
 use Rattle.mem_system.specs.Groups.{MakesGroup, Removes}
 use Rattle.mem_system.specs.Files.{Reads, Writes}
 use Rattle.mem_system.specs.Owners.{TellsPlace}
-use Rattle.mem_system.specs.Kept.{TouchesFrame, NotesDirt}
+use Rattle.mem_system.specs.Units.{TouchesFrame, NotesDirt}
 use Rattle.mem_system.specs.Releases.{ReleasesFrame}
-use Rattle.mem_system.specs.Allocs.{Allocates, FreshOf}
+use Rattle.mem_system.specs.Allocations.{Allocates, FreshOf}
 
 -- a frame that the command names is one of so many
 abbrev pub NamesFrameBelow : (frames : ℕ) → Cmd → Type 0

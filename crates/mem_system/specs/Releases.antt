@@ -12,7 +12,7 @@ use Rattle.mem_machine.specs.Steps.{lend_steps, drain_list_steps}
 use Rattle.mem_alloc.specs.Stepping.{Course, OfMachineAlone, Stays, course}
 use Rattle.mem_system.specs.declared.command.Reply.{Reply}
 use Rattle.mem_system.specs.declared.command.Reply.TheVariants.{Left, Returned, Refused}
-use Rattle.mem_system.specs.Kept.{HeadsNoUnit}
+use Rattle.mem_system.specs.Units.{HeadsNoUnit}
 
 -- where the processor's list stood at `high`, `batch` frames from its front are free again; else nothing changed
 pub record CutsList (sizes : Config) (way : Course Side) : Type 0 where

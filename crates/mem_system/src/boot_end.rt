@@ -82,9 +82,9 @@ fn close_tables<N: BootName>(
     ensures { IsClosed N.frames N.stocks machine frame_seats.items stock_seats.items }
 {
     let (frames, stocks) = tables.into_tables();
-    let (zone, seat) = machine.into_seats();
-    let _frame_words = frames.close(zone, frame_seats);
-    let _stock_words = stocks.close(seat, stock_seats);
+    let (frame_seat, stock_seat) = machine.into_seats();
+    let _frame_words = frames.close(frame_seat, frame_seats);
+    let _stock_words = stocks.close(stock_seat, stock_seats);
 }
 
 /// Ends a boot, from all that it consists of: as many processors' parts as it has processors, in any order. Where no

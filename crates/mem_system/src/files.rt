@@ -33,7 +33,7 @@ fn find_file(charges: &Charges, path: &[u8], name: &[u8]) -> Result<(GroupId, Fi
     }
 }
 
-// The text of the file.
+// Reads a control file: refused for the first cause that holds, no group or no such file.
 pub(crate) fn read_file(charges: &Charges, path: &[u8], name: &[u8]) -> Outcome
     ensures read { Reads charges.now path.now name.now (reply_of charges.now result) }
     ensures groups { HasItsGroups charges.now result }

@@ -41,8 +41,8 @@ pub enum Outcome {
     Refused(Fault),
 }
 
-// Makes the reply that of the outcome: with the path of a group that it names, and the text of a file. It is written in
-// its place, since a reply has room for a path, and to hand it on by value clears and copies that room.
+// Turns the outcome into its reply. It is written in its place, since a reply has room for a path, and to hand it on by
+// value clears and copies that room.
 #[inline(always)]
 pub(crate) fn tell(charges: &Charges, outcome: Outcome, reply: &mut Reply)
     requires { HasItsGroups charges.now outcome }

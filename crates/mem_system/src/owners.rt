@@ -1,4 +1,4 @@
-//! Where a frame is.
+//! The command Owner.
 
 ghost use Rattle.std.specs.Prelude.{◌<◌};
 ghost use Rattle.mem_system.specs.Outcomes.{HasItsGroups, reply_of};
@@ -8,7 +8,7 @@ use crate::outcome::Outcome;
 use cpu_part::{BootName, Tables};
 use mem_machine::{Machine, Place};
 
-// Where the frame is.
+// With whom the frame is: free, lent to a processor, or charged to a group.
 pub(crate) fn tell_place<N: BootName>(
     machine: &Machine<N>,
     tables: &Tables<N>,

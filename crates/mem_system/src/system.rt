@@ -85,8 +85,8 @@ impl<N: BootName> System<N> {
 
     /// Serves one command of the processor: takes the lock, serves, and gives the lock back. A frame that the command
     /// names is one of the zone's. No clause can name what lies behind the lock, so it is said that there was such a
-    /// value: no visit was open in it, it was served as `serve` says, and what it lends the processor then are its
-    /// listed and fresh frames.
+    /// value: no visit was open in it, it was served as `serve` says, and what it lends the processor then are the
+    /// frames that its seat has borrowed.
     #[inline(always)]
     pub fn visit<R: Wait>(&self, rt: &R, cpu: &mut Cpu<N>, cmd: &Cmd<'_>) -> Reply
         requires { IsOfZone N.frames cmd.now }

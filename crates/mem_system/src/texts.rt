@@ -1,4 +1,4 @@
-//! The texts that a processor is told of the machine, settled as for any command.
+//! A processor that is settled, and the texts that it is told of the machine then.
 
 ghost use Rattle.std.specs.Prelude.{◌≡◌, IfOk};
 ghost use Rattle.std.specs.String.{string_bytes};

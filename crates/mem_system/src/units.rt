@@ -2,7 +2,7 @@
 
 ghost use Rattle.std.specs.Prelude.{◌≡◌, ◌<◌, None, MatchOption};
 ghost use Rattle.mem_machine.specs.Machines.{HeadsKeptUnit, home_of};
-ghost use Rattle.mem_system.specs.Kept.{TouchesFrame, NotesDirt};
+ghost use Rattle.mem_system.specs.Units.{TouchesFrame, NotesDirt};
 ghost use Rattle.mem_system.specs.Outcomes.{ComesToForAny, HasItsGroups};
 
 use crate::outcome::Outcome;

@@ -61,7 +61,7 @@ abbrev pub fast_steps : (processor group : ℕ) → cpu.Fast → Run
 fast_steps processor group (Got frame) = cpu_makes processor (step.Consume group) says.Took ∷ []
 fast_steps processor group other = []
 
--- Fast: what a call without the lock answers for this group
+-- Fast: what a call answers for this group, and that it takes no lock
 abbrev pub AnswersFast : (group : ℕ) → Course Holder → Answer → Type 0
 AnswersFast group way (answer.Fast fast) =
     FastAnswers group fast way.before.cpu way.after.cpu
@@ -104,7 +104,8 @@ AnswersPut frame way answer =
     PutsPin frame way.before.cpu way.after.cpu answer
     × TakesNoLock (put_steps way.before.cpu.number frame answer) way
 
--- ---- under the lock
+-- ---- with what lies behind the lock: by value no lock is taken, but in the history the steps stand between a Lock and
+-- an Unlock
 
 -- a processor that is seen so has the command served under the lock: Lock, the steps of the command, Unlock
 pub record IsServedUnderLock (command : Cmd) (seen : KnownCpu) (reply : Reply) (way : Course Holder) : Type 0 where
@@ -132,8 +133,8 @@ pub record ListsAgain (frame : ℕ) (before after : KnownCpu) : Type 0 where
   pub fresh : 1 ≤ times frame before.fresh
   pub listed : DropAnswers frame dropped.Listed before after
 
--- the frame can't be listed again without the lock: it isn't fresh at the processor, or its stock was drained, which
--- was seen
+-- the frame can't be listed again without the lock: it isn't fresh at the processor, or its stock was drained. `seen` is
+-- the part as that call left it
 abbrev pub CanNotList : (frame : ℕ) (before seen : KnownCpu) → Type 0
 CanNotList frame before seen =
     ((times frame before.fresh ≡ 0) × (seen ≡ before))
@@ -168,12 +169,12 @@ pub record GetsFast (path : List ℕ) (before : Holder) (after : KnownCpu) (fram
   pub found : number_at before.locked.machine.ledger.groups path ≡ Some group
   pub got : FastAnswers group (Got frame) before.cpu after
 
--- so it was, by a step of the processor alone
+-- a frame was got so: its step is the processor's own, and what lies behind the lock stays
 pub record AllocatesFast (path : List ℕ) (frame : ℕ) (way : Course Holder) : Type 0 where
   pub gets : GetsFast path way.before way.after.cpu frame
   pub alone : TakesNoLock (fast_steps way.before.cpu.number gets.group (Got frame)) way
 
--- the path is that of a group, and a call that takes no lock gets no frame for it, which the processor saw
+-- the path is that of a group, and a call that takes no lock gets no frame for it. `seen` is the part as it left it
 pub record GetsNoneFast (path : List ℕ) (before : Holder) (seen : KnownCpu) : Type 0 where
   pub group : ℕ
   pub found : number_at before.locked.machine.ledger.groups path ≡ Some group

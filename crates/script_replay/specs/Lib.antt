@@ -1,7 +1,7 @@
-pub mod Terms
 pub mod Answers
+pub mod History
 pub mod Lines
 pub mod Ranges
+pub mod Terms
 pub mod Visits
 pub mod Works
-pub mod History

@@ -93,8 +93,8 @@ fn serve_part<N: BootName>(
     ensures none_fresh { cpu.new.stock.view.last ≡ NoGroup → cpu.new.fresh ≡ [] }
 {
     let served = answer_text(locked, tables, cpu, command, is_explained, answers);
-    let _number = cpu.number(); // For the clauses.
-    let _last = cpu.last_stock(); // For the clauses.
+    let _number = cpu.number(); // For the clauses: `tied`.
+    let _last = cpu.last_stock(); // For the clauses: `none_fresh`.
     see_invariants(locked);
     served
 }
@@ -104,5 +104,5 @@ fn see_invariants<N: BootName>(locked: &Locked<N>)
     ensures { HoldsInvariants N.frames N.stocks locked.now }
 {
     locked.see_quiet();
-    let _tree = locked.charges().tree(); // For the clauses.
+    let _tree = locked.charges().tree(); // For the clauses: the charges are those of a tree.
 }

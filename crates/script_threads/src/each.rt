@@ -52,6 +52,7 @@ fn run_named<N: BootName + Send + Sync, R: Threads + Wait + Sync, G: Gate + Sync
     ensures { IfOk result (λ text.
         TellsEach (boot_tables N.frames N.stocks) (workers_from 1 cpus.old lines.now) text.items) }
 {
+    // Shared borrows, which every thread may keep.
     let rt = &*rt;
     let system = &*system;
     let lines = &*lines;

@@ -10,7 +10,7 @@ use Rattle.mem_system.specs.declared.command.Cmd.TheVariants.{Alloc}
 use Rattle.mem_system.specs.declared.outcome.Outcome.{Outcome}
 use Rattle.mem_system.specs.declared.command.Reply.{Reply}
 use Rattle.mem_system.specs.Locked.{KnownLocked}
-use Rattle.mem_system.specs.Allocs.{outcome_of}
+use Rattle.mem_system.specs.Allocations.{outcome_of}
 use Rattle.mem_system.specs.Outcomes.{HasItsGroups, reply_of}
 use Rattle.mem_system.specs.Visits.{with_visit_of, holder, IsServed}
 use Rattle.mem_system.proofs.Visiting.{all_shut, settled_opened, served}
