@@ -48,8 +48,8 @@ pub record AreAnswers (sizes : Config) (is_explained is_audited : Bool) (lines :
   pub ends : TellsEnd frames stocks is_audited end ending
   pub text_is : text ≡ answers ++ ending
 
--- these settings are asked for, a boot takes their sizes, and the input is a script for them: the text is what a boot of
--- these sizes answers to it, and tells of kills and of its end where they say so
+-- these settings are asked for, a boot takes their sizes, and the input is a script for them: the text is what a boot
+-- of these sizes answers to it, and tells of kills and of its end where they say so
 pub record IsAnswered (asked : Option Settings) (text input : List ℕ) : Type 0 where
   pub settings : Settings
   pub is_asked : asked ≡ Some settings

@@ -34,7 +34,8 @@ pub record EndsHeld (table : KnownTable) (stock_table : Words) (before : Standin
   pub ends : Ends table stock_table before.locked cpus ended.audit
 
 -- the boot ended where something stood of which this is so
-pub record EndsAfter (table : KnownTable) (stock_table : Words) (is_so : Standing → Type 0) (ended : Ended) : Type 0 where
+pub record EndsAfter (table : KnownTable) (stock_table : Words) (is_so : Standing → Type 0)
+    (ended : Ended) : Type 0 where
   pub before : Standing
   pub so : is_so before
   pub ends : EndsHeld table stock_table before ended

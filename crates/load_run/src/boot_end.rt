@@ -4,7 +4,8 @@ ghost use Rattle.std.specs.Prelude.{◌≡◌, ◌++◌, [], OnOk, length};
 ghost use Rattle.std.specs.List.{AllZip};
 ghost use Rattle.std.specs.String.{string_bytes};
 ghost use Rattle.script_replay.specs.Lines.{standing};
-ghost use Rattle.load_run.specs.Ending.{EndsHeld, PutsAllPins, audit_text, audit_counts_text, held_text, audit_places_text};
+ghost use Rattle.load_run.specs.Ending.{EndsHeld, PutsAllPins, audit_text, audit_counts_text, held_text};
+ghost use Rattle.load_run.specs.Ending.{audit_places_text};
 
 use cpu_part::{BootName, Cpu, Tables};
 use mem_system::{Audit, Locked, Pinned, end};

@@ -35,20 +35,20 @@ IsAlive None machine = Unit {0}
 IsAlive (Some requester) machine = is_killed machine.killed requester ≡ false
 
 -- the limit of the group has no room for so many pages, and the group that asks for them, if one does, isn't killed
-pub record IsWanting (requester : Option ℕ) (group pages : ℕ) (machine : KnownMachine) : Type 0 where
-  pub over : has_room_at machine.ledger group pages ≡ false
+pub record IsWanting (requester : Option ℕ) (limited pages : ℕ) (machine : KnownMachine) : Type 0 where
+  pub over : has_room_at machine.ledger limited pages ≡ false
   pub alive : IsAlive requester machine
 
 -- One kill: the pages are wanted still, and the victim of the group is killed, in a machine that is consistent and
 -- whose usage is that of its accounts. The victim is marked as killed, no stock comes to be held or changes its group,
 -- and of the kept units some are let go
-pub record KillsOne (requester : Option ℕ) (group pages victim : ℕ) (way : Course KnownMachine) : Type 0 where
-  pub wanting : IsWanting requester group pages way.before
-  pub chosen : IsVictim way.before group (Some victim)
+pub record KillsOne (requester : Option ℕ) (limited pages victim : ℕ) (way : Course KnownMachine) : Type 0 where
+  pub wanting : IsWanting requester limited pages way.before
+  pub chosen : IsVictim way.before limited (Some victim)
   pub words : Words
   pub consistent : IsConsistent way.table words way.before
   pub charges : AreCharges way.before.ledger
-  pub kills : IsKilledBy way.table group victim way.before way.after
+  pub kills : IsKilledBy way.table limited victim way.before way.after
   pub steps_are : way.steps ≡ kills.steps
   pub marked : way.after.killed ≡ slice_set way.before.killed victim true
   pub stocks : OnlyDrains way.before way.after
@@ -56,22 +56,22 @@ pub record KillsOne (requester : Option ℕ) (group pages victim : ℕ) (way : C
 
 -- these victims are killed, one after the other
 abbrev pub KillsEach : Option ℕ → ℕ → ℕ → List ℕ → Course KnownMachine → Type 0
-KillsEach requester group pages [] way = Rests way
-KillsEach requester group pages (victim ∷ others) way =
-    InTurn (KillsOne requester group pages victim) (KillsEach requester group pages others) way
+KillsEach requester limited pages [] way = Rests way
+KillsEach requester limited pages (victim ∷ others) way =
+    InTurn (KillsOne requester limited pages victim) (KillsEach requester limited pages others) way
 
 -- It is noted once as `oom` at the group, and then victims of it are killed, one after the other, until its limit has
 -- room for so many pages, or the group that asks for them is killed, or no victim is left
-pub record KillsUntilRoom (requester : Option ℕ) (group pages : ℕ) (way : Course KnownMachine) : Type 0 where
+pub record KillsUntilRoom (requester : Option ℕ) (limited pages : ℕ) (way : Course KnownMachine) : Type 0 where
   pub victims : List ℕ
   pub killing : Run
-  pub notes : MakesForAny way.table way.before (note_oom_steps group) (with_oom_noted_at way.before group)
-  pub kills : KillsEach requester group pages victims
-      (course way.table (with_oom_noted_at way.before group) killing way.after)
-  pub ended : IsWanting requester group pages way.after → IsVictim way.after group None
-  pub steps_are : way.steps ≡ note_oom_steps group ++ killing
+  pub notes : MakesForAny way.table way.before (note_oom_steps limited) (with_oom_noted_at way.before limited)
+  pub kills : KillsEach requester limited pages victims
+      (course way.table (with_oom_noted_at way.before limited) killing way.after)
+  pub ended : IsWanting requester limited pages way.after → IsVictim way.after limited None
+  pub steps_are : way.steps ≡ note_oom_steps limited ++ killing
 
 -- victims of the group are killed where its limit has no room for so many pages; where it has, nothing is done
-pub record KillsFor (requester : Option ℕ) (group pages : ℕ) (way : Course KnownMachine) : Type 0 where
-  pub room : has_room_at way.before.ledger group pages ≡ true → Rests way
-  pub over : has_room_at way.before.ledger group pages ≡ false → KillsUntilRoom requester group pages way
+pub record KillsFor (requester : Option ℕ) (limited pages : ℕ) (way : Course KnownMachine) : Type 0 where
+  pub room : has_room_at way.before.ledger limited pages ≡ true → Rests way
+  pub over : has_room_at way.before.ledger limited pages ≡ false → KillsUntilRoom requester limited pages way

@@ -50,8 +50,8 @@ pub record IsChargedBelow (group pages : ℕ) (groups : List Group) (limited nee
   pub few : pages ≤ most_killed_for
 
 -- The victim may be killed where these steps of a call have led, for the limit of the group `limited`: that has no room
--- for the pages that are needed. A step notes that there as `oom`; no stock of the subtree is held; since the call began
--- a freeze of each clean unit that the subtree still keeps missed; and the group is the victim. The machine is
+-- for the pages that are needed. A step notes that there as `oom`; no stock of the subtree is held; since the call
+-- began a freeze of each clean unit that the subtree still keeps missed; and the group is the victim. The machine is
 -- consistent, its usage that of its accounts, and it is the one that the steps left
 pub record MayKill (MayAsk : List Group → ℕ → ℕ → Type 0) (way : Course KnownMachine) (victim : ℕ) : Type 0 where
   pub limited : ℕ

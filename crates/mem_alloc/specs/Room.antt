@@ -66,46 +66,46 @@ pub record ReclaimsFor (group pages : ℕ) (way : Course KnownMachine) : Type 0 
   pub moves : Moves way.table way.before given way.steps way.after
 
 -- what is done where reclaim makes no room: victims are killed for up to `most_killed_for` pages, and nobody for more
-pub record KillsForFew (requester over pages : ℕ) (way : Course KnownMachine) : Type 0 where
-  pub few : pages ≤ most_killed_for → KillsFor (Some requester) over pages way
+pub record KillsForFew (requester limited pages : ℕ) (way : Course KnownMachine) : Type 0 where
+  pub few : pages ≤ most_killed_for → KillsFor (Some requester) limited pages way
   pub many : most_killed_for < pages → Rests way
 
--- The limit of the group `over` had no room for so many pages: that is noted there as `max`, the stocks of its subtree
--- are drained, its units are reclaimed in rounds, and then its victims are killed
+-- The limit of the group `limited` had no room for so many pages: that is noted there as `max`, the stocks of its
+-- subtree are drained, its units are reclaimed in rounds, and then its victims are killed
 abbrev pub RelievesLimit : ℕ → ℕ → ℕ → Course KnownMachine → Type 0
-RelievesLimit requester over pages way =
-    InTurn (ClearsBelow over pages) (InTurn (ReclaimsFor over pages) (KillsForFew requester over pages)) way
+RelievesLimit requester limited pages way =
+    InTurn (ClearsBelow limited pages) (InTurn (ReclaimsFor limited pages) (KillsForFew requester limited pages)) way
 
--- the limit of the group `over` has room for so many pages, and the requester, the group that asks for them, isn't
+-- the limit of the group `limited` has room for so many pages, and the requester, the group that asks for them, isn't
 -- killed
-pub record HasMadeRoom (requester over pages : ℕ) (after : KnownMachine) : Type 0 where
-  pub room : has_room_at after.ledger over pages ≡ true
+pub record HasMadeRoom (requester limited pages : ℕ) (after : KnownMachine) : Type 0 where
+  pub room : has_room_at after.ledger limited pages ≡ true
   pub alive : is_killed after.killed requester ≡ false
 
--- What the answer tells of the limit of the group `over`, once it was relieved for the requester's pages. Ok: it has
+-- What the answer tells of the limit of the group `limited`, once it was relieved for the requester's pages. Ok: it has
 -- room for them. Over: it has none still, and the requester isn't killed. Killed: the requester was killed
 abbrev pub TellsRoom : ℕ → ℕ → ℕ → Result (Unit {0}) AllocFault → KnownMachine → Type 0
-TellsRoom requester over pages (Ok done) after = HasMadeRoom requester over pages after
-TellsRoom requester over pages (Err (Over named)) after =
-    (named ≡ over) × IsWanting (Some requester) over pages after
-TellsRoom requester over pages (Err Killed) after = is_killed after.killed requester ≡ true
-TellsRoom requester over pages (Err NoFrames) after = ⊥
+TellsRoom requester limited pages (Ok done) after = HasMadeRoom requester limited pages after
+TellsRoom requester limited pages (Err (Over named)) after =
+    (named ≡ limited) × IsWanting (Some requester) limited pages after
+TellsRoom requester limited pages (Err Killed) after = is_killed after.killed requester ≡ true
+TellsRoom requester limited pages (Err NoFrames) after = ⊥
 
--- A charge of so many pages to the group `requester` is refused at the group `over`, the lowest of its path without
+-- A charge of so many pages to the group `requester` is refused at the group `limited`, the lowest of its path without
 -- room. Its limit is relieved then, and this is the answer
-pub record IsRefusedAt (requester pages over : ℕ) (answer : Result (Unit {0}) AllocFault)
+pub record IsRefusedAt (requester pages limited : ℕ) (answer : Result (Unit {0}) AllocFault)
     (way : Course KnownMachine) : Type 0 where
   pub lowest : LacksRoom way.before requester pages over
   pub relieving : Run
-  pub relieves : RelievesLimit requester over pages (course way.table way.before relieving way.after)
-  pub room : TellsRoom requester over pages answer way.after
-  pub steps_are : way.steps ≡ over_steps requester pages over ++ relieving
+  pub relieves : RelievesLimit requester limited pages (course way.table way.before relieving way.after)
+  pub room : TellsRoom requester limited pages answer way.after
+  pub steps_are : way.steps ≡ over_steps requester pages limited ++ relieving
 
 -- a charge is refused at each of these groups, one after the other, and each has room for the pages then
 abbrev pub MakesRoom : ℕ → ℕ → List ℕ → Course KnownMachine → Type 0
 MakesRoom requester pages [] way = Rests way
-MakesRoom requester pages (over ∷ others) way =
-    InTurn (IsRefusedAt requester pages over (Ok tt)) (MakesRoom requester pages others) way
+MakesRoom requester pages (limited ∷ others) way =
+    InTurn (IsRefusedAt requester pages limited (Ok tt)) (MakesRoom requester pages others) way
 
 -- A charge of so many pages to the requester may be refused first, at the groups `refused_at`, which have room then.
 -- After that this is done
@@ -120,7 +120,7 @@ pub record AfterRoom (requester pages : ℕ) (Does : Course Side → Type 0) (wa
 
 -- a charge is refused at some group, which has no room after that, or the requester was killed there: this is the cause
 abbrev pub IsRefusedAtSome : ℕ → ℕ → AllocFault → Course KnownMachine → Type 0
-IsRefusedAtSome requester pages cause way = (over : ℕ) × IsRefusedAt requester pages over (Err cause) way
+IsRefusedAtSome requester pages cause way = (limited : ℕ) × IsRefusedAt requester pages limited (Err cause) way
 
 -- a charge is refused for good, for this cause: other groups may have refused it before, and have room since
 abbrev pub IsRefusedFor : ℕ → ℕ → AllocFault → Course Side → Type 0

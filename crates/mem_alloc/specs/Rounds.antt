@@ -10,8 +10,8 @@ use Rattle.mem_reclaim.specs.Staying.{Keeps, MissedAll}
 use Rattle.mem_alloc.specs.Stepping.{Course, InTurn, Stays, course}
 
 -- One round: so many pages are wanted from the root's subtree, which is all groups, and `given` come back. Where they
--- are fewer, each clean unit that is still kept was tried, and missed. After that it is tried once more, also where none
--- came back
+-- are fewer, each clean unit that is still kept was tried, and missed. After that it is tried once more, also where
+-- none came back
 pub record MakesRound (want given : ℕ) (Tries : Course Side → Type 0) (way : Course Side) : Type 0 where
   pub reclaimed : KnownMachine
   pub reclaiming : Run

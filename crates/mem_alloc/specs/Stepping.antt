@@ -43,7 +43,8 @@ pub record InTurn {Stand : Type 0} (First Second : Course Stand → Type 0) (way
   pub steps_are : way.steps ≡ earlier ++ later
 
 -- this holds of what was there before, and this is done
-pub record Where {Stand : Type 0} (Is : Stand → Type 0) (Does : Course Stand → Type 0) (way : Course Stand) : Type 0 where
+pub record Where {Stand : Type 0} (Is : Stand → Type 0) (Does : Course Stand → Type 0)
+    (way : Course Stand) : Type 0 where
   pub is : Is way.before
   pub does : Does way
 

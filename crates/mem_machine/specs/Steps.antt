@@ -36,7 +36,8 @@ refill_steps processor frames = flat_map (lend_steps processor) frames
 
 -- the frame goes back from the processor to the free areas
 abbrev pub unlist_steps : ℕ → ℕ → Run
-unlist_steps processor frame = cpu_makes processor (PassBack frame) Done ∷ zone_makes (Collect frame processor) Done ∷ []
+unlist_steps processor frame =
+    cpu_makes processor (PassBack frame) Done ∷ zone_makes (Collect frame processor) Done ∷ []
 
 -- these frames go back to the free areas, one after the other
 abbrev pub drain_list_steps : ℕ → List ℕ → Run

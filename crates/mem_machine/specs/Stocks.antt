@@ -163,8 +163,8 @@ pub record Prepays (group pages : ℕ) (before after : Side) : Type 0 where
   pub drains : Drains before.cpu.number (pages_held before) before.machine emptied
   pub fills : Fills group pages (side emptied before.cpu) after
 
--- what `prepay` leaves where a limit has no room for the pages, that of `over` the lowest: the stock is drained of all its
--- pages, and nothing is charged
+-- what `prepay` leaves where a limit has no room for the pages, that of `over` the lowest: the stock is drained of all
+-- its pages, and nothing is charged
 pub record IsOver (group pages over : ℕ) (before after : Side) : Type 0 where
   pub drains : Drains before.cpu.number (pages_held before) before.machine after.machine
   pub lowest : LacksRoom after.machine group pages over

@@ -4,7 +4,8 @@ ghost use Rattle.std.specs.Prelude.{◌≡◌, ◌≢◌, ◌+◌, ◌-◌, ◌^
 ghost use Rattle.std.specs.Prelude.{Some, IfSome};
 ghost use Rattle.frame_word.specs.Views.{collected_from};
 ghost use Rattle.frame_word.specs.Seats.{seat_with};
-ghost use Rattle.stock_word.specs.Stock.{account_of, drained_of, first_zone_stock, group_of, is_held, pages_of, stocked};
+ghost use Rattle.stock_word.specs.Stock.{account_of, drained_of, first_zone_stock, group_of, is_held, pages_of};
+ghost use Rattle.stock_word.specs.Stock.{stocked};
 ghost use Rattle.stock_word.specs.Kinds.{after_fill, draining, filling, with_steps};
 ghost use Rattle.stock_word.specs.Calls.{after_look, steps_of_drain, with_view};
 ghost use Rattle.cpu_part.specs.Calls.{CanTake, HandsFresh, TakesFront};

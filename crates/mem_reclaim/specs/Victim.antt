@@ -30,8 +30,8 @@ abbrev pub IsMost : KnownMachine → (ℕ → Bool) → Option ℕ → Type 0
 IsMost machine test (Some group) = HasMost machine test group
 IsMost machine test None = (other : ℕ) → test other ≡ true → own_frames machine other ≡ 0
 
--- who is killed for the group: of the groups of its subtree that aren't killed, the one with the most frames of its own,
--- and of those with so many the one of the least number; nobody where none has a frame of its own
+-- who is killed for the group: of the groups of its subtree that aren't killed, the one with the most frames of its
+-- own, and of those with so many the one of the least number; nobody where none has a frame of its own
 abbrev pub IsVictim : KnownMachine → ℕ → Option ℕ → Type 0
 IsVictim machine group who = IsMost machine (may_be_killed machine group) who
 

@@ -3,8 +3,8 @@ use Rattle.std.specs.Prelude.{◌≡◌, ℕ, ◌+◌, ◌-◌, ◌≤◌, ◌�
 use Rattle.step_rules.specs.After.{Run}
 use Rattle.mem_machine.specs.Machines.{KnownMachine}
 
--- What a reclaim or a part of it did: how many pages came back, from which machine, by which steps, and to which machine
--- these lead
+-- What a reclaim or a part of it did: how many pages came back, from which machine, by which steps, and to which
+-- machine these lead
 pub record Progress : Type 0 where
   pub given : ℕ
   pub before : KnownMachine

@@ -1,5 +1,6 @@
 -- What a command is answered at a processor, what it does there and behind the lock, and by which steps.
-use Rattle.std.specs.Prelude.{◌≡◌, ◌≢◌, ◌⊎◌, ℕ, ◌+◌, ◌<◌, ◌≤◌, Bool, true, false, List, [], ◌∷◌, ◌++◌, Some, None, Result, IfOk, length}
+use Rattle.std.specs.Prelude.{◌≡◌, ◌≢◌, ◌⊎◌, ℕ, ◌+◌, ◌<◌, ◌≤◌, Bool, true, false, List, [], ◌∷◌, ◌++◌, Some, None}
+use Rattle.std.specs.Prelude.{Result, IfOk, length}
 use Rattle.std.proofs.Common.{inl, inr}
 use Rattle.std.specs.declared.string.String.{String}
 use Rattle.std.specs.Borrow.{Bor}
@@ -133,8 +134,8 @@ pub record ListsAgain (frame : ℕ) (before after : KnownCpu) : Type 0 where
   pub fresh : 1 ≤ times frame before.fresh
   pub listed : DropAnswers frame dropped.Listed before after
 
--- the frame can't be listed again without the lock: it isn't fresh at the processor, or its stock was drained. `seen` is
--- the part as that call left it
+-- the frame can't be listed again without the lock: it isn't fresh at the processor, or its stock was drained. `seen`
+-- is the part as that call left it
 abbrev pub CanNotList : (frame : ℕ) (before seen : KnownCpu) → Type 0
 CanNotList frame before seen =
     ((times frame before.fresh ≡ 0) × (seen ≡ before))

@@ -73,7 +73,8 @@ abbrev pub VisitsFrame : BootTables → (path : Bor (List ℕ)) (before after : 
 VisitsFrame tables path before after (answer.Fast (Got frame)) =
     BehindLock tables.frames tables.stocks (λ locked. GetsFast path.now (holder locked before) after frame)
 VisitsFrame tables path before after (answer.Served reply) =
-    BehindLock tables.frames tables.stocks (λ locked. FindsNoGroup path.now (holder locked before) (holder locked after) reply)
+    BehindLock tables.frames tables.stocks
+    (λ locked. FindsNoGroup path.now (holder locked before) (holder locked after) reply)
     ⊎ AllocatesByVisit tables path before after reply
 VisitsFrame tables path before after other = ⊥
 
