@@ -53,9 +53,9 @@ pub struct SmallMachine<N: BootName> {
     pub cpu: Cpu<N>,
 }
 
-/// The row tells so, or it ends here and says what it compared. (A text that is formatted costs a check 18 seconds.)
+/// The row tells so, or it ends here and says what it compared.
 pub fn row_tells(rt: &impl Abort, is: bool, what: &str) {
-    is.then_some(()).expect(rt, what);
+    assert!(rt; is, "{what}");
 }
 
 // The frame of this number.

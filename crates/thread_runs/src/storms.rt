@@ -27,13 +27,11 @@ const FOUR_PROCESSORS: Config = Config {
     stock: 4,
 };
 
-// The numbers of the frames, as they stand in a script: a text that is formatted costs a check more.
-const NUMBERS: [&str; 64] = [
-    "0", "1", "2", "3", "4", "5", "6", "7", "8", "9", "10", "11", "12", "13", "14", "15", "16",
-    "17", "18", "19", "20", "21", "22", "23", "24", "25", "26", "27", "28", "29", "30", "31", "32",
-    "33", "34", "35", "36", "37", "38", "39", "40", "41", "42", "43", "44", "45", "46", "47", "48",
-    "49", "50", "51", "52", "53", "54", "55", "56", "57", "58", "59", "60", "61", "62", "63",
-];
+// The numbers of the frames, as they stand in a script. (An array of them, or a number that is formatted, costs a check
+// more.)
+const NUMBERS: &str = "\
+0 1 2 3 4 5 6 7 8 9 10 11 12 13 14 15 16 17 18 19 20 21 22 23 24 25 26 27 28 29 30 31 \
+32 33 34 35 36 37 38 39 40 41 42 43 44 45 46 47 48 49 50 51 52 53 54 55 56 57 58 59 60 61 62 63";
 
 // The groups and their limits, parents first. Together they may have more pages than there are frames, and each fewer.
 const STORM_GROUPS: [(&str, &str); 8] = [
@@ -92,15 +90,20 @@ fn make_storm_groups(rt: &impl Abort, script: &mut String) {
     add(rt, script, &["go\n"]);
 }
 
+// The number as it stands in a script.
+fn text_of(number: u32) -> &'static str {
+    NUMBERS.split(' ').nth(number as usize).unwrap_or("")
+}
+
 // What a line picks for this word of a command, or the word.
 fn picked(word: &'static str, bits: u32) -> &'static str {
     let (path, limit) = STORM_GROUPS[(bits % 8) as usize];
     match word {
         "PATH" => path,
         "LIMIT" => limit,
-        "GROUP" => NUMBERS[(bits % 10) as usize],
-        "FRAME" => NUMBERS[((bits >> 8) % 64) as usize],
-        "ORDER" => NUMBERS[((bits >> 16) % 3) as usize],
+        "GROUP" => text_of(bits % 10),
+        "FRAME" => text_of((bits >> 8) % 64),
+        "ORDER" => text_of((bits >> 16) % 3),
         _ => word,
     }
 }
@@ -148,7 +151,7 @@ fn ask_after_the_storm(rt: &(impl Abort + AllocGlobal)) -> String {
         add(rt, &mut script, &["1 write ", path, " memory.max 0\n"]);
     }
     add(rt, &mut script, &["1 blocks\n"]);
-    for frame in NUMBERS {
+    for frame in NUMBERS.split(' ') {
         add(rt, &mut script, &["1 owner ", frame, "\n"]);
     }
     for (path, _) in STORM_GROUPS {
@@ -247,8 +250,7 @@ fn add_maximal_blocks(rt: &impl Abort, owners: &[&str], text: &mut String) {
     for order in 0..7u32 {
         for at in 0..64u32 {
             if block_is_maximal(owners, order, at) {
-                let order = NUMBERS[order as usize];
-                add(rt, text, &[" ", order, ":", NUMBERS[at as usize]]);
+                add(rt, text, &[" ", text_of(order), ":", text_of(at)]);
             }
         }
     }
