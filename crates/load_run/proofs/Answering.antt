@@ -1,5 +1,5 @@
 -- What a script is answered, from what was read of it.
-use Rattle.std.proofs.Common.{◌≡◌, ℕ, All, Bool, zero, suc, ◌+◌, refl, List, length, take, Option, None}
+use Rattle.std.proofs.Common.{◌≡◌, ℕ, All, zero, suc, ◌+◌, refl, List, length, take, Option, None}
 use Rattle.std.proofs.Common.{Some, IfSome, Result, Ok, Err, IfOk, arith, ap, ◌∙◌, sym, subst}
 use Rattle.std.proofs.lemmas.List.{length-take, take_all}
 use Rattle.std.proofs.lemmas.Bool.{false≢true}
