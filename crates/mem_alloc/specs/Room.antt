@@ -95,7 +95,7 @@ TellsRoom requester limited pages (Err NoFrames) after = ⊥
 -- room. Its limit is relieved then, and this is the answer
 pub record IsRefusedAt (requester pages limited : ℕ) (answer : Result (Unit {0}) AllocFault)
     (way : Course KnownMachine) : Type 0 where
-  pub lowest : LacksRoom way.before requester pages over
+  pub lowest : LacksRoom way.before requester pages limited
   pub relieving : Run
   pub relieves : RelievesLimit requester limited pages (course way.table way.before relieving way.after)
   pub room : TellsRoom requester limited pages answer way.after
