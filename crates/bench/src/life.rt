@@ -56,7 +56,7 @@ impl Parts {
 impl<N: BootName> Visited<N> {
     // Opens the first visit. The root pays, until there is another group.
     fn new(alloc: Global, tables: Tables<N>, mut machine: Machine<N>, mut cpu: Cpu<N>) -> Visited<N>
-        requires { IsShut machine.seat cpu.number }
+        requires { IsShut machine.frame_seat cpu.number }
     {
         machine.open(&tables, &mut cpu);
         Visited {

@@ -43,7 +43,7 @@ fn may_charge<N: BootName>(machine: &Machine<N>, group: GroupId, pages: u32) -> 
 
 // Takes the front of the list, which is fresh then.
 fn take_front<N: BootName>(tables: &Tables<N>, cpu: &mut Cpu<N>, group: GroupId) -> Option<u32>
-    ensures { (cpu.new.number ≡ cpu.old.number) × (cpu.new.seat ≡ cpu.old.seat) }
+    ensures { (cpu.new.number ≡ cpu.old.number) × (cpu.new.frame_seat ≡ cpu.old.frame_seat) }
 {
     match cpu.alloc_fast(tables, group.number()) {
         Fast::Got(frame) => Some(frame.number()),

@@ -27,7 +27,7 @@ length_parted f xs ys parts = let e = length_permutation xs (f ∷ ys) parts in 
 
 module _ (t : KnownTable) (w : Words) (c : KnownCpu) (tied : IsTied t w c) (f : ℕ) where
   -- the seats stay this processor's, whatever is noted of a frame and counted of fresh pages
-  pub seats_with : (change : FrameNote → FrameNote) → AreItsSeats t w c.number (seat_with c.seat f change) c.stock
+  pub seats_with : (change : FrameNote → FrameNote) → AreItsSeats t w c.number (seat_with c.frame_seat f change) c.stock_seat
   seats_with change = let s = tied.seats in record {
     frame_table = s.frame_table;
     frame_number = s.frame_number;
@@ -38,92 +38,92 @@ module _ (t : KnownTable) (w : Words) (c : KnownCpu) (tied : IsTied t w c) (f : 
     stock_cpus = s.stock_cpus;
   }
 
-  pub tied_looked : (change : FrameNote → FrameNote) (seat : KnownSeat) → seat ≡ seat_with c.seat f change
-      → (change (note_of c.seat.view f)).own ≡ (note_of c.seat.view f).own → (change (note_of c.seat.view f)).borrowed ≡ (note_of c.seat.view f).borrowed
-      → (change (note_of c.seat.view f)).references ≡ (note_of c.seat.view f).references → IsTied t w (record c { seat = seat })
-  tied_looked change seat is own borrowed references = subst (λ (s : KnownSeat). IsTied t w (record c { seat = s })) (sym is)
+  pub tied_looked : (change : FrameNote → FrameNote) (seat : KnownSeat) → seat ≡ seat_with c.frame_seat f change
+      → (change (note_of c.frame_seat.view f)).own ≡ (note_of c.frame_seat.view f).own → (change (note_of c.frame_seat.view f)).borrowed ≡ (note_of c.frame_seat.view f).borrowed
+      → (change (note_of c.frame_seat.view f)).references ≡ (note_of c.frame_seat.view f).references → IsTied t w (record c { frame_seat = seat })
+  tied_looked change seat is own borrowed references = subst (λ (s : KnownSeat). IsTied t w (record c { frame_seat = s })) (sym is)
       (record {
         seats = seats_with change;
-        noted = noted_looked t.frames f c.list c.fresh c.back c.pins c.seat.view change own borrowed references
+        noted = noted_looked t.frames f c.list c.fresh c.back c.pins c.frame_seat.view change own borrowed references
             tied.noted;
         within = tied.within;
       })
 
-  pub tied_not_held : (answer : Get) (seat : KnownSeat) → answer ≢ Held → GetAnswers c.seat f answer seat → IsTied t w (record c { seat = seat })
+  pub tied_not_held : (answer : Get) (seat : KnownSeat) → answer ≢ Held → GetAnswers c.frame_seat f answer seat → IsTied t w (record c { frame_seat = seat })
   tied_not_held Held seat not got = absurd (not refl)
   tied_not_held Zero seat not got = tied_looked (looked got.0) seat got.2 refl refl refl
   tied_not_held (Raced found) seat not got = tied_looked (λ (k : FrameNote). raced found (looked got.0 k)) seat got.4 refl refl refl
   tied_not_held Full seat not got = tied_looked (looked 255) seat got refl refl refl
 
-  pub tied_held : (seat : KnownSeat) (pins : List ℕ) → GetAnswers c.seat f Held seat → pins ≡ c.pins ++ f ∷ [] → f < t.frames
+  pub tied_held : (seat : KnownSeat) (pins : List ℕ) → GetAnswers c.frame_seat f Held seat → pins ≡ c.pins ++ f ∷ [] → f < t.frames
       → length c.back + length c.pins < 256
-      → IsTied t w (record c { pins = pins; seat = seat })
-  tied_held seat pins got end inside room = subst (λ (s : KnownSeat). IsTied t w (record c { pins = pins; seat = s })) (sym got.3)
+      → IsTied t w (record c { pins = pins; frame_seat = seat })
+  tied_held seat pins got end inside room = subst (λ (s : KnownSeat). IsTied t w (record c { pins = pins; frame_seat = s })) (sym got.3)
       (record {
         seats = seats_with (λ (k : FrameNote). held (looked got.0 k));
-        noted = noted_pinned t.frames f c.list c.fresh c.back c.pins c.seat.view tied.noted pins got.0 end inside;
+        noted = noted_pinned t.frames f c.list c.fresh c.back c.pins c.frame_seat.view tied.noted pins got.0 end inside;
         within = let b = tied.within in let e = length_end f c.pins pins end in
             record { list_bound = b.list_bound; fresh_bound = b.fresh_bound; pin_bound = omega (arith, e, room); pages_are = b.pages_are };
       })
 
-  pub tied_left : (n : ℕ) (seat : KnownSeat) (pins : List ℕ) → PutAnswers c.seat f (Left n) seat → IsPermutation c.pins (f ∷ pins)
-      → IsTied t w (record c { pins = pins; seat = seat })
-  tied_left n seat pins put parts = subst (λ (s : KnownSeat). IsTied t w (record c { pins = pins; seat = s })) (sym put.2)
+  pub tied_left : (n : ℕ) (seat : KnownSeat) (pins : List ℕ) → PutAnswers c.frame_seat f (Left n) seat → IsPermutation c.pins (f ∷ pins)
+      → IsTied t w (record c { pins = pins; frame_seat = seat })
+  tied_left n seat pins put parts = subst (λ (s : KnownSeat). IsTied t w (record c { pins = pins; frame_seat = s })) (sym put.2)
       (record {
         seats = seats_with (let_go n);
-        noted = noted_unpinned t.frames f c.list c.fresh c.back c.pins c.seat.view tied.noted pins n parts;
+        noted = noted_unpinned t.frames f c.list c.fresh c.back c.pins c.frame_seat.view tied.noted pins n parts;
         within = let b = tied.within in let p = b.pin_bound in let e = length_parted f c.pins pins parts in
             record { list_bound = b.list_bound; fresh_bound = b.fresh_bound; pin_bound = omega (arith, e, p); pages_are = b.pages_are };
       })
 
-  pub tied_last : (seat : KnownSeat) (pins back : List ℕ) → seat ≡ seat_with c.seat f let_go_last → IsPermutation c.pins (f ∷ pins) → back ≡ c.back ++ f ∷ []
-      → in_hands (note_of c.seat.view f) ≡ 0 → IsTied t w (record c { back = back; pins = pins; seat = seat })
-  tied_last seat pins back is parts end none = subst (λ (s : KnownSeat). IsTied t w (record c { back = back; pins = pins; seat = s })) (sym is)
+  pub tied_last : (seat : KnownSeat) (pins back : List ℕ) → seat ≡ seat_with c.frame_seat f let_go_last → IsPermutation c.pins (f ∷ pins) → back ≡ c.back ++ f ∷ []
+      → in_hands (note_of c.frame_seat.view f) ≡ 0 → IsTied t w (record c { back = back; pins = pins; frame_seat = seat })
+  tied_last seat pins back is parts end none = subst (λ (s : KnownSeat). IsTied t w (record c { back = back; pins = pins; frame_seat = s })) (sym is)
       (record {
         seats = seats_with let_go_last;
-        noted = noted_last_unpinned t.frames f c.list c.fresh c.back c.pins c.seat.view tied.noted pins back parts end none;
+        noted = noted_last_unpinned t.frames f c.list c.fresh c.back c.pins c.frame_seat.view tied.noted pins back parts end none;
         within = let b = tied.within in let p = b.pin_bound in let e = length_parted f c.pins pins parts in let u = length_end f c.back back end in
             record { list_bound = b.list_bound; fresh_bound = b.fresh_bound; pin_bound = omega (arith, e, p, u); pages_are = b.pages_are };
       })
 
-  pub tied_accepted : (seat : KnownSeat) (list : List ℕ) → seat ≡ seat_with c.seat f took_in → list ≡ c.list ++ f ∷ []
-      → in_hands (note_of c.seat.view f) ≡ 0 → f < t.frames
-      → length c.list + length c.fresh < 256 → IsTied t w (record c { list = list; seat = seat })
-  tied_accepted seat list is end none inside room = subst (λ (s : KnownSeat). IsTied t w (record c { list = list; seat = s })) (sym is)
+  pub tied_accepted : (seat : KnownSeat) (list : List ℕ) → seat ≡ seat_with c.frame_seat f took_in → list ≡ c.list ++ f ∷ []
+      → in_hands (note_of c.frame_seat.view f) ≡ 0 → f < t.frames
+      → length c.list + length c.fresh < 256 → IsTied t w (record c { list = list; frame_seat = seat })
+  tied_accepted seat list is end none inside room = subst (λ (s : KnownSeat). IsTied t w (record c { list = list; frame_seat = s })) (sym is)
       (record {
         seats = seats_with took_in;
-        noted = noted_accepted t.frames f c.list c.fresh c.back c.pins c.seat.view tied.noted list end none inside;
+        noted = noted_accepted t.frames f c.list c.fresh c.back c.pins c.frame_seat.view tied.noted list end none inside;
         within = let b = tied.within in let e = length_end f c.list list end in
             record { list_bound = omega (arith, e, room); fresh_bound = b.fresh_bound; pin_bound = b.pin_bound; pages_are = b.pages_are };
       })
 
-  pub tied_front_handed : (seat : KnownSeat) (rest : List ℕ) → seat ≡ seat_with c.seat f gave_back → c.list ≡ f ∷ rest
-      → IsTied t w (record c { list = rest; seat = seat })
-  tied_front_handed seat rest is front = subst (λ (s : KnownSeat). IsTied t w (record c { list = rest; seat = s })) (sym is)
+  pub tied_front_handed : (seat : KnownSeat) (rest : List ℕ) → seat ≡ seat_with c.frame_seat f gave_back → c.list ≡ f ∷ rest
+      → IsTied t w (record c { list = rest; frame_seat = seat })
+  tied_front_handed seat rest is front = subst (λ (s : KnownSeat). IsTied t w (record c { list = rest; frame_seat = s })) (sym is)
       (record {
         seats = seats_with gave_back;
-        noted = noted_front_handed t.frames f c.list c.fresh c.back c.pins c.seat.view tied.noted rest front;
+        noted = noted_front_handed t.frames f c.list c.fresh c.back c.pins c.frame_seat.view tied.noted rest front;
         within = let b = tied.within in let p = b.list_bound in let e = length_front f c.list rest front in
             record { list_bound = omega (arith, e, p); fresh_bound = b.fresh_bound; pin_bound = b.pin_bound; pages_are = b.pages_are };
       })
 
-  pub tied_back_handed : (seat : KnownSeat) (rest : List ℕ) → seat ≡ seat_with c.seat f gave_back → c.back ≡ f ∷ rest
-      → IsTied t w (record c { back = rest; seat = seat })
-  tied_back_handed seat rest is front = subst (λ (s : KnownSeat). IsTied t w (record c { back = rest; seat = s })) (sym is)
+  pub tied_back_handed : (seat : KnownSeat) (rest : List ℕ) → seat ≡ seat_with c.frame_seat f gave_back → c.back ≡ f ∷ rest
+      → IsTied t w (record c { back = rest; frame_seat = seat })
+  tied_back_handed seat rest is front = subst (λ (s : KnownSeat). IsTied t w (record c { back = rest; frame_seat = s })) (sym is)
       (record {
         seats = seats_with gave_back;
-        noted = noted_back_handed t.frames f c.list c.fresh c.back c.pins c.seat.view tied.noted rest front;
+        noted = noted_back_handed t.frames f c.list c.fresh c.back c.pins c.frame_seat.view tied.noted rest front;
         within = let b = tied.within in let p = b.pin_bound in let e = length_front f c.back rest front in
             record { list_bound = b.list_bound; fresh_bound = b.fresh_bound; pin_bound = omega (arith, e, p); pages_are = b.pages_are };
       })
 
-  pub tied_fresh_handed : (seat : KnownSeat) (stock : Seated) (rest : List ℕ) → seat ≡ seat_with c.seat f gave_back
-      → stock ≡ with_view c.stock (after_report c.stock.view 1) → c.fresh ≡ f ∷ rest
-      → IsTied t w (record c { fresh = rest; seat = seat; stock = stock })
+  pub tied_fresh_handed : (seat : KnownSeat) (stock : Seated) (rest : List ℕ) → seat ≡ seat_with c.frame_seat f gave_back
+      → stock ≡ with_view c.stock_seat (after_report c.stock_seat.view 1) → c.fresh ≡ f ∷ rest
+      → IsTied t w (record c { fresh = rest; frame_seat = seat; stock_seat = stock })
   tied_fresh_handed seat stock rest is paid front = subst (λ (s : KnownSeat × Seated). IsTied t w (record c {
     fresh = rest;
-    seat = s.0;
-    stock =
+    frame_seat = s.0;
+    stock_seat =
         s.1;
   })) (λ i. (sym is i, sym paid i))
       (record {
@@ -136,14 +136,14 @@ module _ (t : KnownTable) (w : Words) (c : KnownCpu) (tied : IsTied t w c) (f : 
           frame_cpus = s.frame_cpus;
           stock_cpus = s.stock_cpus;
         };
-        noted = noted_fresh_handed t.frames f c.list c.fresh c.back c.pins c.seat.view tied.noted rest front;
+        noted = noted_fresh_handed t.frames f c.list c.fresh c.back c.pins c.frame_seat.view tied.noted rest front;
         within = let b = tied.within in let p = b.list_bound in let q = b.fresh_bound in let r = b.pages_are in let e = length_front f c.fresh rest front in
             record { list_bound = omega (arith, e, p); fresh_bound = omega (arith, e, q); pin_bound = b.pin_bound; pages_are = omega (arith, e, r) };
       })
 
   -- the front of a list is a frame of the table
   pub front_inside : (rest : List ℕ) → (c.list ≡ f ∷ rest) ⊎ ((c.fresh ≡ f ∷ rest) ⊎ (c.back ≡ f ∷ rest)) → f < t.frames
-  front_inside rest front = frame_inside t.frames f c.list c.fresh c.back c.pins c.seat.view tied.noted (elim front [
+  front_inside rest front = frame_inside t.frames f c.list c.fresh c.back c.pins c.frame_seat.view tied.noted (elim front [
     | inl a ↦ let e = ap (times f) a ∙ times_front f f rest in let h = test_here f in omega (arith, e, h)
     | inr (inl b) ↦ let e = ap (times f) b ∙ times_front f f rest in let h = test_here f in omega (arith, e, h)
     | inr (inr d) ↦ let e = ap (times f) d ∙ times_front f f rest in let h = test_here f in omega (arith, e, h)

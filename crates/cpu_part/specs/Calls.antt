@@ -24,7 +24,7 @@ CanTake c = (length c.fresh < 32) × (1 ≤ length c.list)
 
 -- a consume of group g gave this answer, and no list changed
 abbrev pub OnlyConsumes : ℕ → Consume → KnownCpu → KnownCpu → Type 0
-OnlyConsumes g answer c d = (seen : StockView) × Consumed g answer c.stock.view seen × (d ≡ record c { stock = with_view c.stock seen })
+OnlyConsumes g answer c d = (seen : StockView) × Consumed g answer c.stock_seat.view seen × (d ≡ record c { stock_seat = with_view c.stock_seat seen })
 
 -- What alloc_fast answers for group g, in this order: 32 fresh frames; an empty list; what a consume answers.
 -- Where it took a page, the front of the list is now the newest fresh frame.
@@ -34,8 +34,8 @@ FastAnswers g ListEmpty c d = (length c.fresh < 32) × (c.list ≡ []) × (d ≡
 FastAnswers g OtherGroup c d = CanTake c × OnlyConsumes g consume.OtherGroup c d
 FastAnswers g Drained c d = CanTake c × OnlyConsumes g consume.Drained c d
 FastAnswers g NoStock c d = CanTake c × OnlyConsumes g consume.Empty c d
-FastAnswers g (Got f) c d = (length c.fresh < 32) × (rest : List ℕ) × (c.list ≡ f ∷ rest) × (seen : StockView) × Consumed g consume.Took c.stock.view seen
-    × (d ≡ record c { list = rest; fresh = c.fresh ++ f ∷ []; stock = with_view c.stock seen })
+FastAnswers g (Got f) c d = (length c.fresh < 32) × (rest : List ℕ) × (c.list ≡ f ∷ rest) × (seen : StockView) × Consumed g consume.Took c.stock_seat.view seen
+    × (d ≡ record c { list = rest; fresh = c.fresh ++ f ∷ []; stock_seat = with_view c.stock_seat seen })
 
 -- this holds of the frame that an alloc_fast got, if it got one
 abbrev pub IfGot : Fast → (ℕ → Type 0) → Type 0
@@ -45,36 +45,36 @@ IfGot other P = Unit {0}
 -- What drop_fresh answers: the page was credited, and the frame went from its place among the fresh frames to the end of the list;
 -- or the stock was drained by now.
 abbrev pub DropAnswers : ℕ → Dropped → KnownCpu → KnownCpu → Type 0
-DropAnswers f Listed c d = (i : ℕ) × (i < length c.fresh) × (slice_index c.fresh i ≡ f) × (seen : StockView) × Credited credit.Back c.stock.view seen
-    × (d ≡ record c { list = c.list ++ f ∷ []; fresh = remove c.fresh i; stock = with_view c.stock seen; drops = min (c.drops + 1) (2 ^ 64 - 1) })
-DropAnswers f NeedVisit c d = (seen : StockView) × Credited credit.Drained c.stock.view seen × (d ≡ record c { stock = with_view c.stock seen })
+DropAnswers f Listed c d = (i : ℕ) × (i < length c.fresh) × (slice_index c.fresh i ≡ f) × (seen : StockView) × Credited credit.Back c.stock_seat.view seen
+    × (d ≡ record c { list = c.list ++ f ∷ []; fresh = remove c.fresh i; stock_seat = with_view c.stock_seat seen; drops = min (c.drops + 1) (2 ^ 64 - 1) })
+DropAnswers f NeedVisit c d = (seen : StockView) × Credited credit.Drained c.stock_seat.view seen × (d ≡ record c { stock_seat = with_view c.stock_seat seen })
 
 -- What a get of f answers, and the seat after it; Held is one pin more
 abbrev pub PinAnswers : ℕ → Get → KnownCpu → KnownCpu → Type 0
-PinAnswers f Held c d = (seat : KnownSeat) × GetAnswers c.seat f Held seat × (d ≡ record c { pins = c.pins ++ f ∷ []; seat = seat })
-PinAnswers f other c d = (seat : KnownSeat) × GetAnswers c.seat f other seat × (d ≡ record c { seat = seat })
+PinAnswers f Held c d = (seat : KnownSeat) × GetAnswers c.frame_seat f Held seat × (d ≡ record c { pins = c.pins ++ f ∷ []; frame_seat = seat })
+PinAnswers f other c d = (seat : KnownSeat) × GetAnswers c.frame_seat f other seat × (d ≡ record c { frame_seat = seat })
 
 -- What a put of f answers, and the seat after it: one pin less, and after the last reference f is the newest back frame
 abbrev pub UnpinAnswers : ℕ → Put → KnownCpu → KnownCpu → Type 0
-UnpinAnswers f (Left n) c d = IsPermutation c.pins (f ∷ d.pins) × (seat : KnownSeat) × PutAnswers c.seat f (Left n) seat
-    × (d ≡ record c { pins = d.pins; seat = seat })
-UnpinAnswers f Last c d = IsPermutation c.pins (f ∷ d.pins) × (seat : KnownSeat) × PutAnswers c.seat f Last seat
-    × (d ≡ record c { pins = d.pins; back = c.back ++ f ∷ []; seat = seat })
+UnpinAnswers f (Left n) c d = IsPermutation c.pins (f ∷ d.pins) × (seat : KnownSeat) × PutAnswers c.frame_seat f (Left n) seat
+    × (d ≡ record c { pins = d.pins; frame_seat = seat })
+UnpinAnswers f Last c d = IsPermutation c.pins (f ∷ d.pins) × (seat : KnownSeat) × PutAnswers c.frame_seat f Last seat
+    × (d ≡ record c { pins = d.pins; back = c.back ++ f ∷ []; frame_seat = seat })
 
 -- f, the front of the list, passes back to the zone
 abbrev pub HandsFront : ℕ → KnownCpu → KnownCpu → Type 0
-HandsFront f c d = (rest : List ℕ) × (c.list ≡ f ∷ rest) × (d ≡ record c { list = rest; seat = seat_with c.seat f gave_back })
+HandsFront f c d = (rest : List ℕ) × (c.list ≡ f ∷ rest) × (d ≡ record c { list = rest; frame_seat = seat_with c.frame_seat f gave_back })
 
 -- f, the oldest fresh frame, passes back to the zone, and its page is reported
 abbrev pub HandsFresh : ℕ → KnownCpu → KnownCpu → Type 0
 HandsFresh f c d = (rest : List ℕ) × (c.fresh ≡ f ∷ rest)
-    × (d ≡ record c { fresh = rest; seat = seat_with c.seat f gave_back; stock = with_view c.stock (after_report c.stock.view 1) })
+    × (d ≡ record c { fresh = rest; frame_seat = seat_with c.frame_seat f gave_back; stock_seat = with_view c.stock_seat (after_report c.stock_seat.view 1) })
 
 -- f, the oldest back frame, passes back to the zone
 abbrev pub HandsBack : ℕ → KnownCpu → KnownCpu → Type 0
-HandsBack f c d = (rest : List ℕ) × (c.back ≡ f ∷ rest) × (d ≡ record c { back = rest; seat = seat_with c.seat f gave_back })
+HandsBack f c d = (rest : List ℕ) × (c.back ≡ f ∷ rest) × (d ≡ record c { back = rest; frame_seat = seat_with c.frame_seat f gave_back })
 
 -- f, the front of the list, is now the newest fresh frame, and a page of the stock of g is taken, which leaves n
 abbrev pub TakesFront : ℕ → ℕ → ℕ → KnownCpu → KnownCpu → Type 0
 TakesFront g n f c d = (rest : List ℕ) × (c.list ≡ f ∷ rest)
-    × (d ≡ record c { list = rest; fresh = c.fresh ++ f ∷ []; stock = with_view c.stock (after_took c.stock.view g n) })
+    × (d ≡ record c { list = rest; fresh = c.fresh ++ f ∷ []; stock_seat = with_view c.stock_seat (after_took c.stock_seat.view g n) })

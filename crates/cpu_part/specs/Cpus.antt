@@ -19,8 +19,8 @@ pub record KnownCpu : Type 0 where
   pub fresh : List ℕ
   pub back : List ℕ
   pub pins : List ℕ
-  pub seat : KnownSeat
-  pub stock : Seated
+  pub frame_seat : KnownSeat
+  pub stock_seat : Seated
   pub drops : ℕ
 
 -- how often x stands in the list
@@ -58,9 +58,9 @@ pub record AreWithin (list fresh back pins pages : ℕ) : Type 0 where
 
 -- What always holds: the lists and pins are what the two seats know
 pub record IsTied (t : KnownTable) (w : Words) (c : KnownCpu) : Type 0 where
-  pub seats : AreItsSeats t w c.number c.seat c.stock
-  pub noted : AreNoted t.frames c.list c.fresh c.back c.pins c.seat.view
-  pub within : AreWithin (length c.list) (length c.fresh) (length c.back) (length c.pins) c.stock.view.fresh
+  pub seats : AreItsSeats t w c.number c.frame_seat c.stock_seat
+  pub noted : AreNoted t.frames c.list c.fresh c.back c.pins c.frame_seat.view
+  pub within : AreWithin (length c.list) (length c.fresh) (length c.back) (length c.pins) c.stock_seat.view.fresh
 
 -- room is reserved for as many as there can be
 pub record HasRoom (list fresh back pins : ℕ) : Type 0 where
@@ -71,7 +71,7 @@ pub record HasRoom (list fresh back pins : ℕ) : Type 0 where
 
 -- the part of a processor that did nothing yet
 abbrev pub first_cpu : KnownSeat → Seated → KnownCpu
-first_cpu seat stock = record { number = number_of seat; list = []; fresh = []; back = []; pins = []; seat = seat; stock = stock; drops = 0 }
+first_cpu seat stock = record { number = number_of seat; list = []; fresh = []; back = []; pins = []; frame_seat = seat; stock_seat = stock; drops = 0 }
 
 -- there is no frame on the lists and no pin
 abbrev pub IsIdle : KnownCpu → Type 0

@@ -28,8 +28,8 @@ pub struct Cpu<N: BootName> {
     pub(crate) fresh: Vec<Frame>,
     pub(crate) back: VecDeque<Frame>,
     pub(crate) pins: Vec<Frame>,
-    pub(crate) seat: FrameSeat,
-    pub(crate) stock: StockSeat,
+    pub(crate) frame_seat: FrameSeat,
+    pub(crate) stock_seat: StockSeat,
     pub(crate) drops: u64,
     pub(crate) gap: [u64; 8],
     pub(crate) of: PhantomData<N>,
@@ -48,8 +48,8 @@ impl<N: BootName> Model for Cpu<N> {
       fresh = c.fresh.items;
       back = c.back.items;
       pins = c.pins.items;
-      seat = c.seat;
-      stock = c.stock;
+      frame_seat = c.frame_seat;
+      stock_seat = c.stock_seat;
       drops = c.drops;
     } };
 
@@ -59,8 +59,8 @@ impl<N: BootName> Model for Cpu<N> {
       fresh = c.fresh.items;
       back = c.back.items;
       pins = c.pins.items;
-      seat = c.seat;
-      stock = c.stock;
+      frame_seat = c.frame_seat;
+      stock_seat = c.stock_seat;
       drops = c.drops;
     }) × HasRoom (deque_capacity c.list) (vec_capacity c.fresh) (deque_capacity c.back) (vec_capacity c.pins) };
 }
@@ -72,24 +72,24 @@ impl<N: BootName> Cpu<N> {
 
     /// The part of the processor whose seats these are, which did nothing yet. All room that its
     /// calls need is reserved. `AllocError` comes where memory is wanting.
-    pub fn new(alloc: Global, seat: FrameSeat, stock: StockSeat) -> Result<Cpu<N>, AllocError>
-        requires seat { IsCpuSeat N.frames seat × (seat.view ≡ first_cpu_view (number_of seat)) }
-        requires stock { (stock.table ≡ N.stocks.table) × IsProcessor N.stocks stock.view × (stock.view.fresh ≡ 0) }
-        requires same { stock.view.number ≡ number_of seat }
-        ensures { IfOk result (λ c. c ≡ first_cpu seat stock) }
+    pub fn new(alloc: Global, frame_seat: FrameSeat, stock_seat: StockSeat) -> Result<Cpu<N>, AllocError>
+        requires frame_seat { IsCpuSeat N.frames frame_seat × (frame_seat.view ≡ first_cpu_view (number_of frame_seat)) }
+        requires stock_seat { (stock_seat.table ≡ N.stocks.table) × IsProcessor N.stocks stock_seat.view × (stock_seat.view.fresh ≡ 0) }
+        requires same { stock_seat.view.number ≡ number_of frame_seat }
+        ensures { IfOk result (λ c. c ≡ first_cpu frame_seat stock_seat) }
     {
         let list = VecDeque::with_capacity(alloc, MOST_LISTED)?;
         let fresh = Vec::with_capacity(alloc, MOST_FRESH)?;
         let back = VecDeque::with_capacity(alloc, MOST_PINS)?;
         let pins = Vec::with_capacity(alloc, MOST_PINS + SPARE)?;
         Ok(Cpu {
-            number: seat.number(),
+            number: frame_seat.number(),
             list,
             fresh,
             back,
             pins,
-            seat,
-            stock,
+            frame_seat,
+            stock_seat,
             drops: 0,
             gap: [0; 8],
             of: PhantomData,
@@ -99,7 +99,7 @@ impl<N: BootName> Cpu<N> {
     /// The two seats, where nothing is left: no frame on the lists and no pin.
     pub fn into_seats(self) -> (FrameSeat, StockSeat)
         requires { IsIdle self }
-        ensures { result ≡ (self.seat, self.stock) }
+        ensures { result ≡ (self.frame_seat, self.stock_seat) }
     {
         let Cpu {
             number: _,
@@ -107,12 +107,12 @@ impl<N: BootName> Cpu<N> {
             fresh: _,
             back: _,
             pins: _,
-            seat,
-            stock,
+            frame_seat,
+            stock_seat,
             drops: _,
             gap: _,
             of: _,
         } = self;
-        (seat, stock)
+        (frame_seat, stock_seat)
     }
 }

@@ -25,7 +25,7 @@ impl<N: BootName> Cpu<N> {
         if self.list.is_empty() {
             return Fast::ListEmpty;
         }
-        match tables.stocks.consume(&mut self.stock, group) {
+        match tables.stocks.consume(&mut self.stock_seat, group) {
             Consume::OtherGroup => Fast::OtherGroup,
             Consume::Drained => Fast::Drained,
             Consume::Empty => Fast::NoStock,
@@ -40,7 +40,7 @@ impl<N: BootName> Cpu<N> {
         requires { 1 ≤ times frame self.old.fresh }
         ensures { DropAnswers frame result self.old self.new }
     {
-        match tables.stocks.credit(&mut self.stock) {
+        match tables.stocks.credit(&mut self.stock_seat) {
             Credit::Drained => Dropped::NeedVisit,
             Credit::Back => {
                 relist(&mut self.list, &mut self.fresh, frame);

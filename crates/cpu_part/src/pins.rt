@@ -22,12 +22,12 @@ impl<N: BootName> Cpu<N> {
             (λ answer. (length self.old.back + length self.old.pins < 256) × PinAnswers frame answer self.old self.new)
             (λ fault. (fault ≡ PinsFull) × (length self.old.back + length self.old.pins ≡ 256) × (self.new ≡ self.old)) }
         ensures never_zero { 1 ≤ times frame self.old.pins → result ≢ Ok Zero }
-        ensures in_no_hand { IfOk result (λ answer. answer ≢ Zero → IsInNoHand self.old.seat frame) }
+        ensures in_no_hand { IfOk result (λ answer. answer ≢ Zero → IsInNoHand self.old.frame_seat frame) }
     {
         if self.back.len() + self.pins.len() == MOST_PINS {
             return Err(Fault::PinsFull);
         }
-        match tables.frames.get(&mut self.seat, frame) {
+        match tables.frames.get(&mut self.frame_seat, frame) {
             Get::Held => {
                 self.pins.push_reserved(frame);
                 Ok(Get::Held)
@@ -40,10 +40,10 @@ impl<N: BootName> Cpu<N> {
     pub fn put(&mut self, tables: &Tables<N>, frame: Frame) -> Put
         requires { 1 ≤ times frame self.old.pins }
         ensures answer { UnpinAnswers frame result self.old self.new }
-        ensures in_no_hand { IsInNoHand self.old.seat frame }
+        ensures in_no_hand { IsInNoHand self.old.frame_seat frame }
     {
         unpin(&mut self.pins, frame);
-        match tables.frames.put(&mut self.seat, frame) {
+        match tables.frames.put(&mut self.frame_seat, frame) {
             Put::Last => {
                 self.back.push_back_reserved(frame);
                 Put::Last

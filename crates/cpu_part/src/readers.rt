@@ -60,7 +60,7 @@ impl<N: BootName> Cpu<N> {
     pub fn fresh_len(&self) -> usize
         ensures count { result ≡ length self.now.fresh }
         ensures bound { result ≤ 32 }
-        ensures pages { result ≡ self.now.stock.view.fresh }
+        ensures pages { result ≡ self.now.stock_seat.view.fresh }
     {
         self.fresh.len()
     }
@@ -75,11 +75,11 @@ impl<N: BootName> Cpu<N> {
     /// The stock that the processor saw last, of which its fresh frames are. A drain may have come
     /// since.
     pub fn last_stock(&self) -> Stock
-        ensures last { result ≡ self.now.stock.view.last }
+        ensures last { result ≡ self.now.stock_seat.view.last }
         ensures has_word { HasWord result }
         ensures none_fresh { result ≡ NoGroup → self.now.fresh ≡ [] }
     {
-        self.stock.last()
+        self.stock_seat.last()
     }
 
     /// How often a fresh frame went back to the list. Each is one drop and one return. The count

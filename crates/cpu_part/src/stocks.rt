@@ -20,12 +20,12 @@ impl<N: BootName> Cpu<N> {
         requires group { group < 64 }
         requires pages { (0 < pages) × (pages < 65536) }
         requires drained { (account_of machine.old.view self.old.number).filled ≡ false }
-        requires settled { (self.old.fresh ≡ []) × ((account_of machine.old.view self.old.number).noted ≡ 0) }
+        requires settled { (self.old.fresh ≡ []) × ((account_of machine.old.view self.old.number).unabsorbed ≡ 0) }
         ensures nothing_booked { (account_of machine.old.view self.old.number).book ≡ 0 }
         ensures machine { machine.new ≡ with_view machine.old (filling machine.old.view self.old.number group pages) }
-        ensures cpu { self.new ≡ record self.old { stock = with_view self.old.stock (after_fill self.old.stock.view group pages) } }
+        ensures cpu { self.new ≡ record self.old { stock_seat = with_view self.old.stock_seat (after_fill self.old.stock_seat.view group pages) } }
     {
-        tables.stocks.fill(machine, &mut self.stock, group, pages);
+        tables.stocks.fill(machine, &mut self.stock_seat, group, pages);
     }
 
     /// The processor's stock by its word, and so by the books: one look, which counts at the machine's
@@ -33,15 +33,15 @@ impl<N: BootName> Cpu<N> {
     pub fn look(&mut self, tables: &Tables<N>, machine: &mut StockSeat) -> Stock
         requires machine { (machine.old.table ≡ N.stocks.table) × IsZoneStock machine.old.view }
         ensures balanced { (account_of machine.old.view self.old.number).book
-            ≡ pages_of result + self.old.stock.view.fresh + (account_of machine.old.view self.old.number).noted }
+            ≡ pages_of result + self.old.stock_seat.view.fresh + (account_of machine.old.view self.old.number).unabsorbed }
         ensures bounded { (account_of machine.old.view self.old.number).book < 65536 }
         ensures group { group_of result ≡ (account_of machine.old.view self.old.number).group }
         ensures held { is_held result ≡ (account_of machine.old.view self.old.number).filled }
-        ensures last { (result ≡ self.old.stock.view.last) ⊎ (result ≡ drained_of self.old.stock.view.last) }
+        ensures last { (result ≡ self.old.stock_seat.view.last) ⊎ (result ≡ drained_of self.old.stock_seat.view.last) }
         ensures machine { machine.new ≡ with_view machine.old (with_steps 1 machine.old.view) }
         ensures cpu { self.new ≡ self.old }
     {
-        tables.stocks.look(machine, &mut self.stock)
+        tables.stocks.look(machine, &mut self.stock_seat)
     }
 
     /// Takes the front of the list for group `group` and pays for it, always. By the books the
@@ -49,14 +49,14 @@ impl<N: BootName> Cpu<N> {
     pub fn take_front(&mut self, tables: &Tables<N>, machine: &mut StockSeat, group: u32) -> Frame
         requires machine { (machine.old.table ≡ N.stocks.table) × IsZoneStock machine.old.view }
         requires group { (account_of machine.old.view self.old.number).group ≡ Some group }
-        requires page { 0 < stocked machine.old.view self.old.stock.view }
+        requires page { 0 < stocked machine.old.view self.old.stock_seat.view }
         requires front { 1 ≤ length self.old.list }
         requires room { length self.old.fresh < 32 }
         ensures machine { machine.new ≡ machine.old }
-        ensures cpu { TakesFront group (stocked machine.old.view self.old.stock.view - 1) result self.old self.new }
+        ensures cpu { TakesFront group (stocked machine.old.view self.old.stock_seat.view - 1) result self.old self.new }
         ensures frame { result < N.frames.frames }
     {
-        tables.stocks.consume_held(machine, &mut self.stock, group);
+        tables.stocks.consume_held(machine, &mut self.stock_seat, group);
         freshen(&mut self.list, &mut self.fresh)
     }
 }

@@ -21,25 +21,25 @@ impl<N: BootName> Cpu<N> {
         requires shut { IsShut zone.old self.old.number }
         ensures zone { zone.new ≡ seat_with_visit zone.old self.old.number 1 }
         ensures cpu { self.new ≡ self.old }
-        ensures nothing_passes { NothingPasses N.frames zone.new self.new.seat }
-        ensures lent_is_borrowed { LentIsBorrowed N.frames zone.new self.new.seat }
-        ensures hands_apart { HandsAreApart N.frames zone.new self.new.seat }
+        ensures nothing_passes { NothingPasses N.frames zone.new self.new.frame_seat }
+        ensures lent_is_borrowed { LentIsBorrowed N.frames zone.new self.new.frame_seat }
+        ensures hands_apart { HandsAreApart N.frames zone.new self.new.frame_seat }
     {
-        tables.frames.open_visit(zone, &mut self.seat);
+        tables.frames.open_visit(zone, &mut self.frame_seat);
     }
 
     /// Shuts this processor's visit, which is open, and for which nothing passes any more.
     pub fn shut(&mut self, tables: &Tables<N>, zone: &mut FrameSeat)
         requires zone { IsZoneSeat N.frames zone.old }
         requires open { IsOpen zone.old self.old.number }
-        requires nothing_passes { NothingPasses N.frames zone.old self.old.seat }
+        requires nothing_passes { NothingPasses N.frames zone.old self.old.frame_seat }
         ensures zone { zone.new ≡ seat_with_visit zone.old self.old.number 0 }
         ensures cpu { self.new ≡ self.old }
-        ensures nothing_passes { NothingPasses N.frames zone.new self.new.seat }
-        ensures lent_is_borrowed { LentIsBorrowed N.frames zone.new self.new.seat }
-        ensures hands_apart { HandsAreApart N.frames zone.new self.new.seat }
+        ensures nothing_passes { NothingPasses N.frames zone.new self.new.frame_seat }
+        ensures lent_is_borrowed { LentIsBorrowed N.frames zone.new self.new.frame_seat }
+        ensures hands_apart { HandsAreApart N.frames zone.new self.new.frame_seat }
     {
-        tables.frames.shut_visit(zone, &mut self.seat);
+        tables.frames.shut_visit(zone, &mut self.frame_seat);
     }
 
     /// Takes a frame that passes for this processor and is lent to it to the end of the list, where
@@ -47,14 +47,14 @@ impl<N: BootName> Cpu<N> {
     pub fn accept(&mut self, tables: &Tables<N>, zone: &mut FrameSeat, frame: Frame)
         requires zone { IsZoneSeat N.frames zone.old }
         requires frame { frame < N.frames.frames }
-        requires passes { Passes zone.old self.old.seat frame }
+        requires passes { Passes zone.old self.old.frame_seat frame }
         requires lent { IsLent zone.old frame self.old.number }
         requires room { length self.old.list + length self.old.fresh < 256 }
-        ensures cpu { self.new ≡ record self.old { list = self.old.list ++ frame ∷ []; seat = seat_with self.old.seat frame took_in } }
+        ensures cpu { self.new ≡ record self.old { list = self.old.list ++ frame ∷ []; frame_seat = seat_with self.old.frame_seat frame took_in } }
         ensures zone { zone.new ≡ zone.old }
-        ensures nothing { HasNothingOf zone.old frame × HasNothingOf self.old.seat frame }
+        ensures nothing { HasNothingOf zone.old frame × HasNothingOf self.old.frame_seat frame }
     {
-        tables.frames.take_in(zone, &mut self.seat, frame);
+        tables.frames.take_in(zone, &mut self.frame_seat, frame);
         self.list.push_back_reserved(frame);
     }
 
@@ -69,7 +69,7 @@ impl<N: BootName> Cpu<N> {
         ensures borrowed { IfSome result (λ f. HasNothingOf zone.old f × IsLent zone.old f self.old.number) }
     {
         let frame = self.list.pop_front()?;
-        tables.frames.pass_back(zone, &mut self.seat, frame);
+        tables.frames.pass_back(zone, &mut self.frame_seat, frame);
         Some(frame)
     }
 
@@ -90,16 +90,16 @@ impl<N: BootName> Cpu<N> {
         ensures borrowed { IfSome result (λ f. HasNothingOf zone.old f × IsLent zone.old f self.old.number) }
         ensures machine { MatchOption result (machine.new ≡ machine.old)
             (λ f. machine.new ≡ with_view machine.old (noting machine.old.view self.old.number 1)) }
-        ensures booked { IfSome result (λ f. self.old.stock.view.fresh + (account_of machine.old.view self.old.number).noted
+        ensures booked { IfSome result (λ f. self.old.stock_seat.view.fresh + (account_of machine.old.view self.old.number).unabsorbed
             ≤ (account_of machine.old.view self.old.number).book) }
-        ensures group { IfSome result (λ f. group_of self.old.stock.view.last ≡ (account_of machine.old.view self.old.number).group) }
+        ensures group { IfSome result (λ f. group_of self.old.stock_seat.view.last ≡ (account_of machine.old.view self.old.number).group) }
     {
         if self.fresh.is_empty() {
             return None;
         }
         let frame = self.fresh.remove(0);
-        tables.frames.pass_back(zone, &mut self.seat, frame);
-        report_passed(&tables.stocks, machine, &mut self.stock, &self.seat, frame);
+        tables.frames.pass_back(zone, &mut self.frame_seat, frame);
+        report_passed(&tables.stocks, machine, &mut self.stock_seat, &self.frame_seat, frame);
         Some(frame)
     }
 
@@ -114,7 +114,7 @@ impl<N: BootName> Cpu<N> {
         ensures own { IfSome result (λ f. HasNothingOf zone.old f × IsLentToNone zone.old f) }
     {
         let frame = self.back.pop_front()?;
-        tables.frames.pass_back(zone, &mut self.seat, frame);
+        tables.frames.pass_back(zone, &mut self.frame_seat, frame);
         Some(frame)
     }
 
@@ -122,13 +122,13 @@ impl<N: BootName> Cpu<N> {
     pub fn collect(&mut self, tables: &Tables<N>, zone: &mut FrameSeat, frame: Frame)
         requires zone { IsZoneSeat N.frames zone.old }
         requires frame { frame < N.frames.frames }
-        requires passes { Passes zone.old self.old.seat frame }
+        requires passes { Passes zone.old self.old.frame_seat frame }
         ensures zone { zone.new ≡ seat_with zone.old frame (collected_from self.old.number) }
         ensures cpu { self.new ≡ self.old }
-        ensures nothing { HasNothingOf zone.old frame × HasNothingOf self.old.seat frame }
+        ensures nothing { HasNothingOf zone.old frame × HasNothingOf self.old.frame_seat frame }
         ensures lent { IsLentToNone zone.old frame ⊎ IsLent zone.old frame self.old.number }
     {
-        tables.frames.collect(zone, &mut self.seat, frame);
+        tables.frames.collect(zone, &mut self.frame_seat, frame);
     }
 }
 
@@ -146,7 +146,7 @@ fn report_passed(
     requires machine { IsZoneStock machine.old.view }
     requires processor { IsProcessor stocks.now stock.old.view }
     requires fresh { 1 ≤ stock.old.view.fresh }
-    ensures booked { stock.old.view.fresh + (account_for machine.old.view stock.old.view).noted ≤ (account_for machine.old.view stock.old.view).book }
+    ensures booked { stock.old.view.fresh + (account_for machine.old.view stock.old.view).unabsorbed ≤ (account_for machine.old.view stock.old.view).book }
     ensures group { group_of stock.old.view.last ≡ (account_for machine.old.view stock.old.view).group }
     ensures machine { machine.new ≡ with_view machine.old (noting machine.old.view stock.old.view.number 1) }
     ensures processor { stock.new ≡ with_view stock.old (after_report stock.old.view 1) }

@@ -25,7 +25,7 @@ pub stays : (t : KnownTable) (m : KnownMachine) (c : KnownCpu) → Visits t (sid
 stays t m c visit = record { visit = visit; opened = refl; number = refl }
 
 -- the zone's seat and the processor's stay
-pub seats_stay : (t : KnownTable) (m n : KnownMachine) (c d : KnownCpu) → Visits t (side m c) → n.seat ≡ m.seat → d.seat ≡ c.seat → d.number ≡ c.number
+pub seats_stay : (t : KnownTable) (m n : KnownMachine) (c d : KnownCpu) → Visits t (side m c) → n.frame_seat ≡ m.frame_seat → d.frame_seat ≡ c.frame_seat → d.number ≡ c.number
     → Stays t m c n d
 seats_stay t m n c d visit zone own number = record {
   visit = record {
@@ -38,22 +38,22 @@ seats_stay t m n c d visit zone own number = record {
 }
 
 -- the machine changed otherwise alone
-pub zone_stays : (t : KnownTable) (m n : KnownMachine) (c : KnownCpu) → Visits t (side m c) → n.seat ≡ m.seat → Stays t m c n c
+pub zone_stays : (t : KnownTable) (m n : KnownMachine) (c : KnownCpu) → Visits t (side m c) → n.frame_seat ≡ m.frame_seat → Stays t m c n c
 zone_stays t m n c visit zone = seats_stay t m n c c visit zone refl refl
 
 pub made_stays : {E : Type 0} (r : Result ℕ E) (t : KnownTable) (m n : KnownMachine) (c : KnownCpu) (path : List ℕ) → Visits t (side m c)
     → IfOk r (λ g. AddsGroup g path m n) → OnErr r (n ≡ m) → Stays t m c n c
-made_stays (Ok g) t m n c path visit made same = zone_stays t m n c visit (ap (λ (k : KnownMachine). k.seat) made.machine)
-made_stays (Err e) t m n c path visit made same = zone_stays t m n c visit (ap (λ (k : KnownMachine). k.seat) same)
+made_stays (Ok g) t m n c path visit made same = zone_stays t m n c visit (ap (λ (k : KnownMachine). k.frame_seat) made.machine)
+made_stays (Err e) t m n c path visit made same = zone_stays t m n c visit (ap (λ (k : KnownMachine). k.frame_seat) same)
 
 -- ---- frames that go between the zone and the list
 
 lent_seats : (frames : List ℕ) (m : KnownMachine) (c : KnownCpu) (n : KnownMachine) (d : KnownCpu) → LendsMany frames (side m c) (side n d)
-    → (n.seat.view.opened ≡ m.seat.view.opened) × (d.number ≡ c.number)
-lent_seats [] m c n d lends = (ap (λ (k : KnownMachine). k.seat.view.opened) lends.machine, ap (λ (e : KnownCpu). e.number) lends.cpu)
+    → (n.frame_seat.view.opened ≡ m.frame_seat.view.opened) × (d.number ≡ c.number)
+lent_seats [] m c n d lends = (ap (λ (k : KnownMachine). k.frame_seat.view.opened) lends.machine, ap (λ (e : KnownCpu). e.number) lends.cpu)
 lent_seats (f ∷ frames) m c n d lends =
     let rest = lent_seats frames lends.0.machine lends.0.cpu n d lends.2 in
-    (rest.0 ∙ ap (λ (k : KnownMachine). k.seat.view.opened) lends.1.lends.machine, rest.1 ∙ ap (λ (e : KnownCpu). e.number) lends.1.lends.cpu)
+    (rest.0 ∙ ap (λ (k : KnownMachine). k.frame_seat.view.opened) lends.1.lends.machine, rest.1 ∙ ap (λ (e : KnownCpu). e.number) lends.1.lends.cpu)
 
 pub refill_stays : (t : KnownTable) (k : ℕ) (m : KnownMachine) (c : KnownCpu) (n : KnownMachine) (d : KnownCpu) → Refills t k (side m c) (side n d) → Visits t (side n d)
     → Stays t m c n d
@@ -62,11 +62,11 @@ refill_stays t k m c n d refills visit =
     record { visit = visit; opened = both.0; number = both.1 }
 
 taken_seats : (frames : List ℕ) (m : KnownMachine) (c : KnownCpu) (n : KnownMachine) (d : KnownCpu) → TakesManyBack frames (side m c) (side n d)
-    → (n.seat.view.opened ≡ m.seat.view.opened) × (d.number ≡ c.number)
-taken_seats [] m c n d takes = (ap (λ (k : KnownMachine). k.seat.view.opened) takes.machine, ap (λ (e : KnownCpu). e.number) takes.cpu)
+    → (n.frame_seat.view.opened ≡ m.frame_seat.view.opened) × (d.number ≡ c.number)
+taken_seats [] m c n d takes = (ap (λ (k : KnownMachine). k.frame_seat.view.opened) takes.machine, ap (λ (e : KnownCpu). e.number) takes.cpu)
 taken_seats (f ∷ frames) m c n d takes =
     let rest = taken_seats frames takes.0.machine takes.0.cpu n d takes.2 in
-    (rest.0 ∙ ap (λ (k : KnownMachine). k.seat.view.opened) takes.1.machine, rest.1 ∙ ap (λ (e : KnownCpu). e.number) takes.1.cpu)
+    (rest.0 ∙ ap (λ (k : KnownMachine). k.frame_seat.view.opened) takes.1.machine, rest.1 ∙ ap (λ (e : KnownCpu). e.number) takes.1.cpu)
 
 pub drain_list_stays : (t : KnownTable) (frames : List ℕ) (m : KnownMachine) (c : KnownCpu) (n : KnownMachine) (d : KnownCpu)
     → TakesManyBack frames (side m c) (side n d) → Visits t (side n d) → Stays t m c n d
@@ -76,13 +76,13 @@ drain_list_stays t frames m c n d takes visit =
 
 -- ---- stocks
 
-below_seat : (g : ℕ) (m : KnownMachine) (q : ℕ) (drains : List Drain) (n : KnownMachine) → DrainsBelow g q drains m n → n.seat ≡ m.seat
-below_seat g m q [] n d = ap (λ (k : KnownMachine). k.seat) d.1
-below_seat g m q (e ∷ []) n d = ap (λ (k : KnownMachine). k.seat) d.1.drains.drains.machine
+below_seat : (g : ℕ) (m : KnownMachine) (q : ℕ) (drains : List Drain) (n : KnownMachine) → DrainsBelow g q drains m n → n.frame_seat ≡ m.frame_seat
+below_seat g m q [] n d = ap (λ (k : KnownMachine). k.frame_seat) d.1
+below_seat g m q (e ∷ []) n d = ap (λ (k : KnownMachine). k.frame_seat) d.1.drains.drains.machine
 below_seat g m q (e ∷ f ∷ more) n d = absurd d
 
-pub all_below_seat : (g k : ℕ) (drains : List Drain) (m n : KnownMachine) → DrainsAllBelow g k drains m n → n.seat ≡ m.seat
-all_below_seat g zero drains m n d = ap (λ (k : KnownMachine). k.seat) d.1
+pub all_below_seat : (g k : ℕ) (drains : List Drain) (m n : KnownMachine) → DrainsAllBelow g k drains m n → n.frame_seat ≡ m.frame_seat
+all_below_seat g zero drains m n d = ap (λ (k : KnownMachine). k.frame_seat) d.1
 all_below_seat g (suc k) drains m n d = below_seat g d.2 (suc k) d.1 n d.5 ∙ all_below_seat g k d.0 m d.2 d.4
 
 pub prepay_stays : (r : Result (Unit {0}) Over) (t : KnownTable) (g pages : ℕ) (m : KnownMachine) (c : KnownCpu) (n : KnownMachine) (d : KnownCpu)
@@ -90,34 +90,34 @@ pub prepay_stays : (r : Result (Unit {0}) Over) (t : KnownTable) (g pages : ℕ)
 prepay_stays (Ok x) t g pages m c n d visit prepays over = record {
   visit = visit;
   opened =
-      ap (λ (k : KnownMachine). k.seat.view.opened) prepays.fills.machine ∙ ap (λ (k : KnownMachine). k.seat.view.opened) prepays.drains.machine;
+      ap (λ (k : KnownMachine). k.frame_seat.view.opened) prepays.fills.machine ∙ ap (λ (k : KnownMachine). k.frame_seat.view.opened) prepays.drains.machine;
   number = ap (λ (e : KnownCpu). e.number) prepays.fills.cpu;
 }
 prepay_stays (Err e) t g pages m c n d visit prepays over = record {
   visit = visit;
-  opened = ap (λ (k : KnownMachine). k.seat.view.opened) over.drains.machine;
+  opened = ap (λ (k : KnownMachine). k.frame_seat.view.opened) over.drains.machine;
   number = ap (λ (e : KnownCpu). e.number) over.cpu;
 }
 
 -- ---- fresh frames, blocks and releases
 
 fresh_one : (f : ℕ) (m : KnownMachine) (c : KnownCpu) (n : KnownMachine) (d : KnownCpu) → SettlesFresh f (side m c) (side n d)
-    → (b : Bool) → is_killed m.killed (fresh_group c) ≡ b → n.seat.view.opened ≡ m.seat.view.opened
-fresh_one f m c n d settles true e = ap (λ (k : KnownMachine). k.seat.view.opened) (settles.drops e).machine
-fresh_one f m c n d settles false e = ap (λ (k : KnownMachine). k.seat.view.opened) (settles.keeps e).machine
+    → (b : Bool) → is_killed m.killed (fresh_group c) ≡ b → n.frame_seat.view.opened ≡ m.frame_seat.view.opened
+fresh_one f m c n d settles true e = ap (λ (k : KnownMachine). k.frame_seat.view.opened) (settles.drops e).machine
+fresh_one f m c n d settles false e = ap (λ (k : KnownMachine). k.frame_seat.view.opened) (settles.keeps e).machine
 
 fresh_opened : (frames : List ℕ) (m : KnownMachine) (c : KnownCpu) (n : KnownMachine) (d : KnownCpu) → SettlesAllFresh frames (side m c) (side n d)
-    → n.seat.view.opened ≡ m.seat.view.opened
-fresh_opened [] m c n d settles = ap (λ (k : KnownMachine). k.seat.view.opened) settles.machine
+    → n.frame_seat.view.opened ≡ m.frame_seat.view.opened
+fresh_opened [] m c n d settles = ap (λ (k : KnownMachine). k.frame_seat.view.opened) settles.machine
 fresh_opened (f ∷ frames) m c n d settles =
     fresh_opened frames settles.0.machine settles.0.cpu n d settles.2
     ∙ fresh_one f m c settles.0.machine settles.0.cpu settles.1 (is_killed m.killed (fresh_group c)) refl
 
 back_opened : (frames : List ℕ) (m : KnownMachine) (c : KnownCpu) (n : KnownMachine) (d : KnownCpu) → ReturnsAllBack frames (side m c) (side n d)
-    → n.seat.view.opened ≡ m.seat.view.opened
-back_opened [] m c n d returns = ap (λ (k : KnownMachine). k.seat.view.opened) returns.machine
+    → n.frame_seat.view.opened ≡ m.frame_seat.view.opened
+back_opened [] m c n d returns = ap (λ (k : KnownMachine). k.frame_seat.view.opened) returns.machine
 back_opened (f ∷ frames) m c n d returns =
-    back_opened frames returns.0.machine returns.0.cpu n d returns.2 ∙ ap (λ (k : KnownMachine). k.seat.view.opened) returns.1.machine
+    back_opened frames returns.0.machine returns.0.cpu n d returns.2 ∙ ap (λ (k : KnownMachine). k.frame_seat.view.opened) returns.1.machine
 
 pub settle_stays : (t : KnownTable) (m : KnownMachine) (c : KnownCpu) (n : KnownMachine) (d : KnownCpu) → Settles (side m c) (side n d) → LeavesOthers c d
     → Visits t (side n d) → Stays t m c n d
@@ -127,15 +127,15 @@ settle_stays t m c n d settles others visit = record {
   number = others.number;
 }
 
-refused_opened : (m : KnownMachine) (g k : ℕ) (f : TakeFault) (n : KnownMachine) → RefusesBlock g k f m n → n.seat.view.opened ≡ m.seat.view.opened
-refused_opened m g k (fault.Over over) n refuses = ap (λ (x : KnownMachine). x.seat.view.opened) refuses.1
-refused_opened m g k fault.NoBlock n refuses = ap (λ (x : KnownMachine). x.seat.view.opened) refuses.machine
+refused_opened : (m : KnownMachine) (g k : ℕ) (f : TakeFault) (n : KnownMachine) → RefusesBlock g k f m n → n.frame_seat.view.opened ≡ m.frame_seat.view.opened
+refused_opened m g k (fault.Over over) n refuses = ap (λ (x : KnownMachine). x.frame_seat.view.opened) refuses.1
+refused_opened m g k fault.NoBlock n refuses = ap (λ (x : KnownMachine). x.frame_seat.view.opened) refuses.machine
 
 pub block_stays : (r : Result ℕ TakeFault) (t : KnownTable) (g k : ℕ) (m : KnownMachine) (c : KnownCpu) (n : KnownMachine) (d : KnownCpu)
     → IfOk r (λ head. TakesBlock g k head m n) → IfErr r (λ f. RefusesBlock g k f m n) → d ≡ c → Visits t (side n d) → Stays t m c n d
 block_stays (Ok head) t g k m c n d takes refuses same visit = record {
   visit = visit;
-  opened = ap (λ (x : KnownMachine). x.seat.view.opened) takes.machine;
+  opened = ap (λ (x : KnownMachine). x.frame_seat.view.opened) takes.machine;
   number = ap (λ (e : KnownCpu). e.number) same;
 }
 block_stays (Err f) t g k m c n d takes refuses same visit = record {
@@ -147,19 +147,19 @@ block_stays (Err f) t g k m c n d takes refuses same visit = record {
 pub release_stays : (r : Released) (t : KnownTable) (f : ℕ) (m : KnownMachine) (c : KnownCpu) (n : KnownMachine) → Releases f r m n → Visits t (side n c)
     → Stays t m c n c
 release_stays (Left left) t f m c n releases visit =
-    record { visit = visit; opened = ap (λ (x : KnownMachine). x.seat.view.opened) releases.machine; number = refl }
+    record { visit = visit; opened = ap (λ (x : KnownMachine). x.frame_seat.view.opened) releases.machine; number = refl }
 release_stays Returned t f m c n releases visit =
-    record { visit = visit; opened = ap (λ (x : KnownMachine). x.seat.view.opened) releases.machine; number = refl }
+    record { visit = visit; opened = ap (λ (x : KnownMachine). x.frame_seat.view.opened) releases.machine; number = refl }
 
 -- ---- the visit is opened and shut
 
-pub shut_again : (m n : KnownMachine) (p q : ℕ) (zone last : KnownSeat) → AllShut m → zone ≡ seat_with_visit m.seat p 1
-    → n.seat.view.opened ≡ zone.view.opened → q ≡ p → last ≡ seat_with_visit n.seat q 0 → (r : ℕ) → IsShut last r
+pub shut_again : (m n : KnownMachine) (p q : ℕ) (zone last : KnownSeat) → AllShut m → zone ≡ seat_with_visit m.frame_seat p 1
+    → n.frame_seat.view.opened ≡ zone.view.opened → q ≡ p → last ≡ seat_with_visit n.frame_seat q 0 → (r : ℕ) → IsShut last r
 shut_again m n p q zone last shut opens stays number shuts r =
     subst (λ (s : KnownSeat). IsShut s r) (sym shuts) (elim (cases_eq r q) [
-      | inl e ↦ subst (λ (k : ℕ). IsShut (seat_with_visit n.seat q 0) k) (sym e) (put_here 0 n.seat.view.opened q 0)
+      | inl e ↦ subst (λ (k : ℕ). IsShut (seat_with_visit n.frame_seat q 0) k) (sym e) (put_here 0 n.frame_seat.view.opened q 0)
       | inr ne ↦
-          put_else 0 n.seat.view.opened q r 0 ne
+          put_else 0 n.frame_seat.view.opened q r 0 ne
           ∙ ap (λ (l : List ℕ). get_or l r 0) (stays ∙ ap (λ (s : KnownSeat). s.view.opened) opens)
-          ∙ put_else 0 m.seat.view.opened p r 1 (λ e. ne (e ∙ sym number)) ∙ shut r
+          ∙ put_else 0 m.frame_seat.view.opened p r 1 (λ e. ne (e ∙ sym number)) ∙ shut r
     ])

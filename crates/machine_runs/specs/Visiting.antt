@@ -7,10 +7,10 @@ use Rattle.mem_machine.specs.Local.{side}
 
 -- no processor's visit is open
 abbrev pub AllShut : KnownMachine → Type 0
-AllShut m = (q : ℕ) → IsShut m.seat q
+AllShut m = (q : ℕ) → IsShut m.frame_seat q
 
 -- the processor's visit is open still, and every other one is as it was
 pub record Stays (t : KnownTable) (m : KnownMachine) (c : KnownCpu) (n : KnownMachine) (d : KnownCpu) : Type 0 where
   pub visit : Visits t (side n d)
-  pub opened : n.seat.view.opened ≡ m.seat.view.opened
+  pub opened : n.frame_seat.view.opened ≡ m.frame_seat.view.opened
   pub number : d.number ≡ c.number

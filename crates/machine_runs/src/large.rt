@@ -55,7 +55,7 @@ fn lends_and_takes_back<N: BootName>(
     cpu: &mut Cpu<N>,
     frames: u32,
 )
-    requires { IsShut machine.old.seat cpu.old.number }
+    requires { IsShut machine.old.frame_seat cpu.old.number }
 {
     machine.open(tables, cpu);
     assert!(rt; frames <= 64 && cpu.list_len() == 0 && cpu.fresh_len() == 0);

@@ -38,7 +38,7 @@ use Rattle.mem_machine.proofs.Followed.{makes_both}
 
 -- the visits, and the processor's number and lists
 pub record KeepsPart (m : KnownMachine) (c : KnownCpu) (n : KnownMachine) (d : KnownCpu) : Type 0 where
-  pub opened : n.seat.view.opened ≡ m.seat.view.opened
+  pub opened : n.frame_seat.view.opened ≡ m.frame_seat.view.opened
   pub number : d.number ≡ c.number
   pub list : d.list ≡ c.list
   pub fresh : d.fresh ≡ c.fresh
@@ -64,7 +64,7 @@ lowers_keep t m n c d l same = record {
 
 fills_keep : (g k : ℕ) (m n : KnownMachine) (c d : KnownCpu) → Fills g k (side m c) (side n d) → KeepsPart m c n d
 fills_keep g k m n c d f = record {
-  opened = ap (λ (y : KnownMachine). y.seat.view.opened) f.machine;
+  opened = ap (λ (y : KnownMachine). y.frame_seat.view.opened) f.machine;
   number = ap (λ (e : KnownCpu). e.number) f.cpu;
   list = ap (λ (e : KnownCpu). e.list) f.cpu;
   fresh = ap (λ (e : KnownCpu). e.fresh) f.cpu;
@@ -128,9 +128,9 @@ pays_keep t sizes g (Err e) m n c d steps h = drain_charges_keep t sizes g (Err 
 
 filled_page : (g k : ℕ) (m n : KnownMachine) (c d : KnownCpu) → Fills g k (side m c) (side n d) → 1 ≤ k → c.fresh ≡ [] → HoldsPage (side n d) g
 filled_page g k m n c d f some none =
-    let at : account_of n.stock.view d.number ≡ filled_account m.stock.view c.number g k =
-    (λ i. account_of (f.machine i).stock.view (f.cpu i).number) ∙ filled_at m.stock.view c.number g k in
-    let book : (account_of n.stock.view d.number).book ≡ (account_of m.stock.view c.number).book + k = ap (λ (a : Account). a.book) at in
+    let at : account_of n.stock_seat.view d.number ≡ filled_account m.stock_seat.view c.number g k =
+    (λ i. account_of (f.machine i).stock_seat.view (f.cpu i).number) ∙ filled_at m.stock_seat.view c.number g k in
+    let book : (account_of n.stock_seat.view d.number).book ≡ (account_of m.stock_seat.view c.number).book + k = ap (λ (a : Account). a.book) at in
     let fresh : length d.fresh ≡ 0 = ap (λ (e : KnownCpu). length e.fresh) f.cpu ∙ ap length none in
     record { group = ap (λ (a : Account). a.group) at; held = ap (λ (a : Account). a.filled) at; some = omega (arith, book, fresh, some) }
 
@@ -144,39 +144,39 @@ charged_page t sizes g (Err e) m n c d steps valid h none = tt
 -- ---- frames that are lent
 
 pub record LentPart (frames : List ℕ) (m : KnownMachine) (c : KnownCpu) (n : KnownMachine) (d : KnownCpu) : Type 0 where
-  pub opened : n.seat.view.opened ≡ m.seat.view.opened
+  pub opened : n.frame_seat.view.opened ≡ m.frame_seat.view.opened
   pub number : d.number ≡ c.number
   pub list : d.list ≡ c.list ++ frames
   pub fresh : d.fresh ≡ c.fresh
   pub back : d.back ≡ c.back
-  pub stock : n.stock ≡ m.stock
+  pub stock_seat : n.stock_seat ≡ m.stock_seat
 
 pub lent_part : (frames : List ℕ) (m n : KnownMachine) (c d : KnownCpu) → LendsMany frames (side m c) (side n d) → LentPart frames m c n d
 lent_part [] m n c d h = record {
-  opened = ap (λ (y : KnownMachine). y.seat.view.opened) h.machine;
+  opened = ap (λ (y : KnownMachine). y.frame_seat.view.opened) h.machine;
   number = ap (λ (e : KnownCpu). e.number) h.cpu;
   list = ap (λ (e : KnownCpu). e.list) h.cpu ∙ sym (append-nil c.list);
   fresh = ap (λ (e : KnownCpu). e.fresh) h.cpu;
   back = ap (λ (e : KnownCpu). e.back) h.cpu;
-  stock = ap (λ (y : KnownMachine). y.stock) h.machine;
+  stock_seat = ap (λ (y : KnownMachine). y.stock_seat) h.machine;
 }
 lent_part (f ∷ frames) m n c d h =
     let one = h.1.lends in
     let more = lent_part frames h.0.machine n h.0.cpu d h.2 in
     record {
-      opened = more.opened ∙ ap (λ (y : KnownMachine). y.seat.view.opened) one.machine;
+      opened = more.opened ∙ ap (λ (y : KnownMachine). y.frame_seat.view.opened) one.machine;
       number = more.number ∙ ap (λ (e : KnownCpu). e.number) one.cpu;
       list = more.list ∙ ap (λ (e : KnownCpu). e.list ++ frames) one.cpu ∙ append_assoc c.list (f ∷ []) frames;
       fresh = more.fresh ∙ ap (λ (e : KnownCpu). e.fresh) one.cpu;
       back = more.back ∙ ap (λ (e : KnownCpu). e.back) one.cpu;
-      stock = more.stock ∙ ap (λ (y : KnownMachine). y.stock) one.machine;
+      stock_seat = more.stock_seat ∙ ap (λ (y : KnownMachine). y.stock_seat) one.machine;
     }
 
 pub lent_page : (frames : List ℕ) (g : ℕ) (m n : KnownMachine) (c d : KnownCpu) → LendsMany frames (side m c) (side n d) → HoldsPage (side m c) g → HoldsPage (side n d) g
 lent_page frames g m n c d lends page =
     let l = lent_part frames m n c d lends in
-    let at : account_of n.stock.view d.number ≡ account_of m.stock.view c.number = λ i. account_of (l.stock i).view (l.number i) in
-    let book : (account_of n.stock.view d.number).book ≡ (account_of m.stock.view c.number).book = ap (λ (a : Account). a.book) at in
+    let at : account_of n.stock_seat.view d.number ≡ account_of m.stock_seat.view c.number = λ i. account_of (l.stock_seat i).view (l.number i) in
+    let book : (account_of n.stock_seat.view d.number).book ≡ (account_of m.stock_seat.view c.number).book = ap (λ (a : Account). a.book) at in
     let fresh : length d.fresh ≡ length c.fresh = ap length l.fresh in
     let some = page.some in
     record {
@@ -374,8 +374,8 @@ no_frame_keeps t sizes NoFrames m n c d steps h =
 -- a reclaim leaves the stock's page
 spared_page : (t : KnownTable) (g : ℕ) (m n : KnownMachine) (c d : KnownCpu) → Spares t m c n d → HoldsPage (side m c) g → HoldsPage (side n d) g
 spared_page t g m n c d s page =
-    let at : account_of n.stock.view d.number ≡ account_of m.stock.view c.number = λ i. account_of (s.stock i).view (s.cpu i).number in
-    let book : (account_of n.stock.view d.number).book ≡ (account_of m.stock.view c.number).book = ap (λ (a : Account). a.book) at in
+    let at : account_of n.stock_seat.view d.number ≡ account_of m.stock_seat.view c.number = λ i. account_of (s.stock_seat i).view (s.cpu i).number in
+    let book : (account_of n.stock_seat.view d.number).book ≡ (account_of m.stock_seat.view c.number).book = ap (λ (a : Account). a.book) at in
     let fresh : length d.fresh ≡ length c.fresh = ap (λ (e : KnownCpu). length e.fresh) s.cpu in
     let some = page.some in
     record {
@@ -403,7 +403,7 @@ module _ (t : KnownTable) (sizes : Config) (m n : KnownMachine) (c d : KnownCpu)
 
 -- what a list that has a frame leaves
 pub record FilledPart (sizes : Config) (m : KnownMachine) (c : KnownCpu) (n : KnownMachine) (d : KnownCpu) : Type 0 where
-  pub opened : n.seat.view.opened ≡ m.seat.view.opened
+  pub opened : n.frame_seat.view.opened ≡ m.frame_seat.view.opened
   pub number : d.number ≡ c.number
   pub fresh : d.fresh ≡ c.fresh
   pub back : d.back ≡ c.back
@@ -444,7 +444,7 @@ refilled_part t sizes m n c d steps valid empty (inr h) =
 pub filled_part : (t : KnownTable) (sizes : Config) (m n : KnownMachine) (c d : KnownCpu) (steps : Run) → IsValidConfig sizes → FillsList sizes (Ok tt) (course t (side m c) steps (side n d))
     → FilledPart sizes m c n d
 filled_part t sizes m n c d steps valid (inl h) = record {
-  opened = ap (λ (y : KnownMachine). y.seat.view.opened) h.does.machine;
+  opened = ap (λ (y : KnownMachine). y.frame_seat.view.opened) h.does.machine;
   number = ap (λ (e : KnownCpu). e.number) h.does.cpu;
   fresh = ap (λ (e : KnownCpu). e.fresh) h.does.cpu;
   back = ap (λ (e : KnownCpu). e.back) h.does.cpu;

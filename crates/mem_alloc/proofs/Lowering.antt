@@ -35,17 +35,17 @@ use Rattle.mem_machine.specs.Local.{side}
 pub record Lowers (t : KnownTable) (m n : KnownMachine) : Type 0 where
   pub groups : n.ledger.groups ≡ m.ledger.groups
   pub killed : (v : ℕ) → is_killed m.killed v ≡ true → is_killed n.killed v ≡ true
-  pub opened : n.seat.view.opened ≡ m.seat.view.opened
+  pub opened : n.frame_seat.view.opened ≡ m.frame_seat.view.opened
   pub visit : (c : KnownCpu) → Visits t (side m c) → Visits t (side n c)
   pub falls : (h : ℕ) → current_of n.ledger h ≤ current_of m.ledger h
-  pub emptied : (p : ℕ) → (account_of m.stock.view p).filled ≡ false → (account_of n.stock.view p).filled ≡ false
+  pub emptied : (p : ℕ) → (account_of m.stock_seat.view p).filled ≡ false → (account_of n.stock_seat.view p).filled ≡ false
 
 -- a visit stays where the zone's seat does
-pub same_visit : (t : KnownTable) (m n : KnownMachine) → n.seat ≡ m.seat → (c : KnownCpu) → Visits t (side m c) → Visits t (side n c)
+pub same_visit : (t : KnownTable) (m n : KnownMachine) → n.frame_seat ≡ m.frame_seat → (c : KnownCpu) → Visits t (side m c) → Visits t (side n c)
 same_visit t m n seat c v = record {
   is_open = subst (λ (s : KnownSeat). IsOpen s c.number) (sym seat) v.is_open;
-  still = subst (λ (s : KnownSeat). NothingPasses t s c.seat) (sym seat) v.still;
-  lent = subst (λ (s : KnownSeat). LentIsBorrowed t s c.seat) (sym seat) v.lent;
+  still = subst (λ (s : KnownSeat). NothingPasses t s c.frame_seat) (sym seat) v.still;
+  lent = subst (λ (s : KnownSeat). LentIsBorrowed t s c.frame_seat) (sym seat) v.lent;
 }
 
 pub lowers_none : (t : KnownTable) (m : KnownMachine) → Lowers t m m
@@ -77,32 +77,32 @@ emptied_at view q k p is = elim (cases_eq p q) [
 pub drain_lowers : (t : KnownTable) (m n : KnownMachine) (q k : ℕ) → Drains q k m n → Lowers t m n
 drain_lowers t m n q k d = record {
   killed = λ v dead. ap (λ (y : KnownMachine). is_killed y.killed v) d.machine ∙ dead;
-  opened = ap (λ (y : KnownMachine). y.seat.view.opened) d.machine;
-  visit = same_visit t m n (ap (λ (y : KnownMachine). y.seat) d.machine);
+  opened = ap (λ (y : KnownMachine). y.frame_seat.view.opened) d.machine;
+  visit = same_visit t m n (ap (λ (y : KnownMachine). y.frame_seat) d.machine);
   groups = ap (λ (y : KnownMachine). y.ledger.groups) d.machine ∙ groups_stay m.ledger (stock_group m q) k;
   falls = λ h.
       let a : current_of n.ledger h ≡ current_of (uncharged m.ledger (stock_group m q) k) h = ap (λ (y : KnownMachine). current_of y.ledger h) d.machine in
       let b = current_falls m.ledger (stock_group m q) k h in
       omega (arith, a, b);
-  emptied = λ p is. ap (λ (y : KnownMachine). (account_of y.stock.view p).filled) d.machine ∙ emptied_at m.stock.view q k p is;
+  emptied = λ p is. ap (λ (y : KnownMachine). (account_of y.stock_seat.view p).filled) d.machine ∙ emptied_at m.stock_seat.view q k p is;
 }
 
-look_lowers : (t : KnownTable) (m n : KnownMachine) (q : ℕ) (o : Option ℕ) → n ≡ record m { stock = with_view m.stock (after_look m.stock.view q o) } → Lowers t m n
+look_lowers : (t : KnownTable) (m n : KnownMachine) (q : ℕ) (o : Option ℕ) → n ≡ record m { stock_seat = with_view m.stock_seat (after_look m.stock_seat.view q o) } → Lowers t m n
 look_lowers t m n q None is = record {
   killed = λ v dead. ap (λ (y : KnownMachine). is_killed y.killed v) is ∙ dead;
-  opened = ap (λ (y : KnownMachine). y.seat.view.opened) is;
-  visit = same_visit t m n (ap (λ (y : KnownMachine). y.seat) is);
+  opened = ap (λ (y : KnownMachine). y.frame_seat.view.opened) is;
+  visit = same_visit t m n (ap (λ (y : KnownMachine). y.frame_seat) is);
   groups = ap (λ (y : KnownMachine). y.ledger.groups) is;
   falls = λ h. let a : current_of n.ledger h ≡ current_of m.ledger h = ap (λ (y : KnownMachine). current_of y.ledger h) is in omega (arith, a);
-  emptied = λ p e. ap (λ (y : KnownMachine). (account_of y.stock.view p).filled) is ∙ emptied_at m.stock.view q 0 p e;
+  emptied = λ p e. ap (λ (y : KnownMachine). (account_of y.stock_seat.view p).filled) is ∙ emptied_at m.stock_seat.view q 0 p e;
 }
 look_lowers t m n q (Some g) is = record {
   killed = λ v dead. ap (λ (y : KnownMachine). is_killed y.killed v) is ∙ dead;
-  opened = ap (λ (y : KnownMachine). y.seat.view.opened) is;
-  visit = same_visit t m n (ap (λ (y : KnownMachine). y.seat) is);
+  opened = ap (λ (y : KnownMachine). y.frame_seat.view.opened) is;
+  visit = same_visit t m n (ap (λ (y : KnownMachine). y.frame_seat) is);
   groups = ap (λ (y : KnownMachine). y.ledger.groups) is;
   falls = λ h. let a : current_of n.ledger h ≡ current_of m.ledger h = ap (λ (y : KnownMachine). current_of y.ledger h) is in omega (arith, a);
-  emptied = λ p e. ap (λ (y : KnownMachine). (account_of y.stock.view p).filled) is ∙ e;
+  emptied = λ p e. ap (λ (y : KnownMachine). (account_of y.stock_seat.view p).filled) is ∙ e;
 }
 
 below_lowers : (t : KnownTable) (g q : ℕ) (m n : KnownMachine) (drains : List Drain) → DrainsBelow g q drains m n → Lowers t m n
@@ -113,7 +113,7 @@ below_lowers t g q m n (drain ∷ []) h =
       groups = l.groups;
       killed = l.killed;
       opened = l.opened;
-      visit = same_visit t m n (ap (λ (y : KnownMachine). y.seat) h.1.drains.drains.machine);
+      visit = same_visit t m n (ap (λ (y : KnownMachine). y.frame_seat) h.1.drains.drains.machine);
       falls = l.falls;
       emptied = l.emptied;
     }
@@ -151,7 +151,7 @@ keeps_lower t m n keeps = record {
   opened = keeps.opened;
   visit = keeps.visit;
   falls = keeps.usage;
-  emptied = λ p is. ap (λ (s : Seated). (account_of s.view p).filled) keeps.stock ∙ is;
+  emptied = λ p is. ap (λ (s : Seated). (account_of s.view p).filled) keeps.stock_seat ∙ is;
 }
 
 -- ---- what stays

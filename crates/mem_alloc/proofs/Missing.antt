@@ -36,7 +36,7 @@ counts_both t m x n one two a b f =
     omega (arith, p, q, r)
 
 -- by steps of which none is a freeze that missed, where none was noted
-pub counts_none : (t : KnownTable) (m n : KnownMachine) (steps : Run) → AreQuiet steps → ((f : ℕ) → misses_of n.seat f ≡ misses_of m.seat f)
+pub counts_none : (t : KnownTable) (m n : KnownMachine) (steps : Run) → AreQuiet steps → ((f : ℕ) → misses_of n.frame_seat f ≡ misses_of m.frame_seat f)
     → CountsMisses (course t m steps n)
 counts_none t m n steps quiet same f =
     let p = quiet.no_miss f in
@@ -44,7 +44,7 @@ counts_none t m n steps quiet same f =
     omega (arith, p, q)
 
 -- so it is where the zone's seat stays
-pub counts_same : (t : KnownTable) (m n : KnownMachine) (steps : Run) → AreQuiet steps → n.seat ≡ m.seat → CountsMisses (course t m steps n)
+pub counts_same : (t : KnownTable) (m n : KnownMachine) (steps : Run) → AreQuiet steps → n.frame_seat ≡ m.frame_seat → CountsMisses (course t m steps n)
 counts_same t m n steps quiet same = counts_none t m n steps quiet (λ f. ap (λ (s : KnownSeat). misses_of s f) same)
 
 -- and where the list of steps is told by another
@@ -56,17 +56,17 @@ calm = record { quiet = refl; no_miss = λ f. refl }
 
 pub counts_rest : (t : KnownTable) (m n : KnownMachine) (steps : Run) → n ≡ m → steps ≡ [] → CountsMisses (course t m steps n)
 counts_rest t m n steps same none =
-    counts_as t m n steps [] none (counts_same t m n [] calm (ap (λ (x : KnownMachine). x.seat) same))
+    counts_as t m n steps [] none (counts_same t m n [] calm (ap (λ (x : KnownMachine). x.frame_seat) same))
 
 -- ---- drains, notes and kills
 
 counts_drain : (t : KnownTable) (q k : ℕ) (m n : KnownMachine) → Drains q k m n → CountsMisses (course t m (drain_steps q (stock_group m q) k) n)
 counts_drain t q k m n d =
-    counts_same t m n (drain_steps q (stock_group m q) k) (quiet_drain q (stock_group m q) k) (ap (λ (x : KnownMachine). x.seat) d.machine)
+    counts_same t m n (drain_steps q (stock_group m q) k) (quiet_drain q (stock_group m q) k) (ap (λ (x : KnownMachine). x.frame_seat) d.machine)
 
 pub counts_drains : (t : KnownTable) (g k : ℕ) (m n : KnownMachine) (drains : List Drain) → DrainsAllBelow g k drains m n
     → CountsMisses (course t m (drain_stocks_steps drains) n)
-counts_drains t g k m n drains all = counts_same t m n (drain_stocks_steps drains) (quiet_drains drains) (all_same g k m n drains all).seat
+counts_drains t g k m n drains all = counts_same t m n (drain_stocks_steps drains) (quiet_drains drains) (all_same g k m n drains all).frame_seat
 
 counts_one : (r : Option ℕ) (t : KnownTable) (g pages v : ℕ) (m n : KnownMachine) (steps : Run) → KillsOne r g pages v (course t m steps n)
     → CountsMisses (course t m steps n)
@@ -152,17 +152,17 @@ pub back_calm : (p : ℕ) (frames : List ℕ) → AreQuiet (drain_list_steps p f
 back_calm p [] = calm
 back_calm p (f ∷ frames) = quiet_both (unlist_steps p f) (drain_list_steps p frames) (record { quiet = refl; no_miss = λ g. refl }) (back_calm p frames)
 
-lent_same : (frames : List ℕ) (m n : Side) → LendsMany frames m n → (g : ℕ) → misses_of n.machine.seat g ≡ misses_of m.machine.seat g
-lent_same [] m n h g = ap (λ (x : KnownMachine). misses_of x.seat g) h.machine
+lent_same : (frames : List ℕ) (m n : Side) → LendsMany frames m n → (g : ℕ) → misses_of n.machine.frame_seat g ≡ misses_of m.machine.frame_seat g
+lent_same [] m n h g = ap (λ (x : KnownMachine). misses_of x.frame_seat g) h.machine
 lent_same (f ∷ frames) m n h g =
-    lent_same frames h.0 n h.2 g ∙ ap (λ (x : KnownMachine). misses_of x.seat g) h.1.lends.machine
-    ∙ misses_put m.machine.seat f g (passed_out_to m.cpu.number) (λ k. refl)
+    lent_same frames h.0 n h.2 g ∙ ap (λ (x : KnownMachine). misses_of x.frame_seat g) h.1.lends.machine
+    ∙ misses_put m.machine.frame_seat f g (passed_out_to m.cpu.number) (λ k. refl)
 
-pub back_same : (frames : List ℕ) (m n : Side) → TakesManyBack frames m n → (g : ℕ) → misses_of n.machine.seat g ≡ misses_of m.machine.seat g
-back_same [] m n h g = ap (λ (x : KnownMachine). misses_of x.seat g) h.machine
+pub back_same : (frames : List ℕ) (m n : Side) → TakesManyBack frames m n → (g : ℕ) → misses_of n.machine.frame_seat g ≡ misses_of m.machine.frame_seat g
+back_same [] m n h g = ap (λ (x : KnownMachine). misses_of x.frame_seat g) h.machine
 back_same (f ∷ frames) m n h g =
-    back_same frames h.0 n h.2 g ∙ ap (λ (x : KnownMachine). misses_of x.seat g) h.1.machine
-    ∙ misses_put m.machine.seat f g (collected_from m.cpu.number) (λ k. refl)
+    back_same frames h.0 n h.2 g ∙ ap (λ (x : KnownMachine). misses_of x.frame_seat g) h.1.machine
+    ∙ misses_put m.machine.frame_seat f g (collected_from m.cpu.number) (λ k. refl)
 
 -- ---- parts put together
 
@@ -262,7 +262,7 @@ stock_counts g pages way h =
     let last = fill_steps way.before.cpu.number g pages in
     counts_as way.table way.before.machine way.after.machine way.steps last h.steps_are
     (counts_same way.table way.before.machine way.after.machine last (record { quiet = refl; no_miss = λ f. refl })
-    (ap (λ (x : KnownMachine). x.seat) h.fills.machine))
+    (ap (λ (x : KnownMachine). x.frame_seat) h.fills.machine))
 
 one_counts : (g : ℕ) (answer : Result (Unit {0}) AllocFault) → AllCounted (ChargesOne g answer)
 one_counts g (Ok v) way h = after_room_counts g 1 (FillsStock g 1) (stock_counts g 1) way h
@@ -302,7 +302,7 @@ frame_counts sizes g (Ok f) way all =
     counts_as t m n way.steps (h.paying ++ (h.filling ++ last)) h.steps_are (counts_both t m x n h.paying (h.filling ++ last)
     (pays_count sizes g (Ok tt) (course t way.before h.paying h.paid) h.pays) (counts_both t x y n h.filling last
     (fills_count sizes (Ok tt) (course t h.paid h.filling h.filled) h.fills)
-    (counts_same t y n last (record { quiet = refl; no_miss = λ f. refl }) (ap (λ (k : KnownMachine). k.seat) h.takes.machine))))
+    (counts_same t y n last (record { quiet = refl; no_miss = λ f. refl }) (ap (λ (k : KnownMachine). k.frame_seat) h.takes.machine))))
 frame_counts sizes g (Err (Over over)) way h = pays_count sizes g (Err (Over over)) way h.does
 frame_counts sizes g (Err NoFrames) way h =
     counts_turns (PaysForFrame sizes g (Ok tt)) (FillsList sizes (Err NoFrames)) (pays_count sizes g (Ok tt))
@@ -312,7 +312,7 @@ frame_counts sizes g (Err Killed) way (inr h) = pays_count sizes g (Err Killed) 
 
 -- ---- a block
 
-taken_counts : (t : KnownTable) (g k head : ℕ) (m n : KnownMachine) → ((f : ℕ) → misses_of n.seat f ≡ misses_of m.seat f)
+taken_counts : (t : KnownTable) (g k head : ℕ) (m n : KnownMachine) → ((f : ℕ) → misses_of n.frame_seat f ≡ misses_of m.frame_seat f)
     → CountsMisses (course t m (taken_steps g k head) n)
 taken_counts t g k head m n same = counts_none t m n (taken_steps g k head) (record { quiet = refl; no_miss = λ f. refl }) same
 
@@ -321,14 +321,14 @@ takes_count g k head way h =
     let m = way.before.machine in
     let n = way.after.machine in
     counts_as way.table m n way.steps (taken_steps g k head) h.steps_are (taken_counts way.table g k head m n
-    (λ f. ap (λ (x : KnownMachine). misses_of x.seat f) h.takes.machine ∙ misses_put m.seat head f (unfrozen 1) (λ x. refl)))
+    (λ f. ap (λ (x : KnownMachine). misses_of x.frame_seat f) h.takes.machine ∙ misses_put m.frame_seat head f (unfrozen 1) (λ x. refl)))
 
 finds_none_counts : (g k : ℕ) → AllCounted (FindsNoBlock g k)
 finds_none_counts g k way h =
     let m = way.before.machine in
     let n = way.after.machine in
     counts_as way.table m n way.steps (unplaced_steps g k) h.steps_are
-    (counts_same way.table m n (unplaced_steps g k) (record { quiet = refl; no_miss = λ f. refl }) (ap (λ (x : KnownMachine). x.seat) h.none.machine))
+    (counts_same way.table m n (unplaced_steps g k) (record { quiet = refl; no_miss = λ f. refl }) (ap (λ (x : KnownMachine). x.frame_seat) h.none.machine))
 
 rounds_count : (g k : ℕ) (answer : Result ℕ AllocFault) → AllCounted (TakesInRounds g k answer)
 rounds_count g k (Ok head) way h =

@@ -157,12 +157,12 @@ passes_both t c m x n one two a b = record {
 
 -- where neither the zone's seat nor the lists changed, and no step is a freeze that missed
 pub passes_same : (t : KnownTable) (c : KnownCpu) (m n : KnownMachine) (steps : Run) → IsLocalRun c.number (local_of t m c) steps (local_of t n c)
-    → n.seat ≡ m.seat → n.links ≡ m.links → AreQuiet steps → Passes t c m steps n
+    → n.frame_seat ≡ m.frame_seat → n.links ≡ m.links → AreQuiet steps → Passes t c m steps n
 passes_same t c m n steps runs seat links quiet = record {
   runs = runs;
   tied = record {
     misses = λ f.
-        let p : misses_of n.seat f ≡ misses_of m.seat f = ap (λ s. misses_of s f) seat in
+        let p : misses_of n.frame_seat f ≡ misses_of m.frame_seat f = ap (λ s. misses_of s f) seat in
         let q = quiet.no_miss f in
         omega (arith, p, q);
     owners = λ f is. ap (λ (l : List Link). owner_of (home_of l f)) links;
@@ -174,49 +174,49 @@ passes_same t c m n steps runs seat links quiet = record {
 
 -- the zone's seat, the lists and the groups are the same
 pub record SameUnits (m n : KnownMachine) : Type 0 where
-  pub seat : n.seat ≡ m.seat
+  pub frame_seat : n.frame_seat ≡ m.frame_seat
   pub links : n.links ≡ m.links
   pub groups : n.ledger.groups ≡ m.ledger.groups
 
 pub drain_same : (m n : KnownMachine) (q k : ℕ) → Drains q k m n → SameUnits m n
 drain_same m n q k d = record {
-  seat = ap (λ (x : KnownMachine). x.seat) d.machine;
+  frame_seat = ap (λ (x : KnownMachine). x.frame_seat) d.machine;
   links = ap (λ (x : KnownMachine). x.links) d.machine;
   groups = ap (λ (x : KnownMachine). x.ledger.groups) d.machine ∙ groups_stay m.ledger (stock_group m q) k;
 }
 
 one_same : (g q : ℕ) (m n : KnownMachine) (drains : List Drain) → DrainsBelow g q drains m n → SameUnits m n
 one_same g q m n [] h = record {
-  seat = ap (λ (x : KnownMachine). x.seat) h.1;
+  frame_seat = ap (λ (x : KnownMachine). x.frame_seat) h.1;
   links = ap (λ (x : KnownMachine). x.links) h.1;
   groups = ap (λ (x : KnownMachine). x.ledger.groups) h.1;
 }
 one_same g q m n (drain ∷ []) h =
     let same = drain_same m (record n { notes = m.notes }) q drain.pages h.1.drains.drains in
-    record { seat = same.seat; links = same.links; groups = same.groups }
+    record { frame_seat = same.frame_seat; links = same.links; groups = same.groups }
 one_same g q m n (one ∷ two ∷ more) h = absurd h
 
 pub all_same : (g k : ℕ) (m n : KnownMachine) (drains : List Drain) → DrainsAllBelow g k drains m n → SameUnits m n
 all_same g zero m n drains h = record {
-  seat = ap (λ (x : KnownMachine). x.seat) h.1;
+  frame_seat = ap (λ (x : KnownMachine). x.frame_seat) h.1;
   links = ap (λ (x : KnownMachine). x.links) h.1;
   groups = ap (λ (x : KnownMachine). x.ledger.groups) h.1;
 }
 all_same g (suc k) m n drains h =
     let one = one_same g (suc k) h.2 n h.1 h.5 in
     let rest = all_same g k m h.2 h.0 h.4 in
-    record { seat = one.seat ∙ rest.seat; links = one.links ∙ rest.links; groups = one.groups ∙ rest.groups }
+    record { frame_seat = one.frame_seat ∙ rest.frame_seat; links = one.links ∙ rest.links; groups = one.groups ∙ rest.groups }
 
 pub drains_pass : (t : KnownTable) (c : KnownCpu) (g k : ℕ) (m n : KnownMachine) (drains : List Drain) → DrainsAllBelow g k drains m n
     → IsLocalRun c.number (local_of t m c) (drain_stocks_steps drains) (local_of t n c) → Passes t c m (drain_stocks_steps drains) n
 drains_pass t c g k m n drains all runs =
     let same = all_same g k m n drains all in
-    passes_same t c m n (drain_stocks_steps drains) runs same.seat same.links (quiet_drains drains)
+    passes_same t c m n (drain_stocks_steps drains) runs same.frame_seat same.links (quiet_drains drains)
 
 -- ---- rounds of reclaim
 
 pub keeps_pass : (t : KnownTable) (c : KnownCpu) (m n : KnownMachine) (steps : Run) → MakesForAny t m steps n → Keeps t m n
-    → ((f : ℕ) → misses_of n.seat f ≡ misses_of m.seat f + missed_in f steps) → Passes t c m steps n
+    → ((f : ℕ) → misses_of n.frame_seat f ≡ misses_of m.frame_seat f + missed_in f steps) → Passes t c m steps n
 keeps_pass t c m n steps runs keeps misses = record {
   runs = (runs c).leads;
   tied = record {
@@ -418,7 +418,7 @@ module _ (t : KnownTable) (MayAsk : List Group → ℕ → ℕ → Type 0) (s : 
   -- ---- a limit without room
 
   -- after reclaim no stock of the subtree is held, and where there is no room each clean unit was tried
-  pub drained_on : (g : ℕ) (m n : KnownMachine) → n.ledger.groups ≡ m.ledger.groups → n.stock ≡ m.stock → AreDrained g t.cpus m → AreDrained g t.cpus n
+  pub drained_on : (g : ℕ) (m n : KnownMachine) → n.ledger.groups ≡ m.ledger.groups → n.stock_seat ≡ m.stock_seat → AreDrained g t.cpus m → AreDrained g t.cpus n
   drained_on g m n groups stock drained q low high is =
       ap (λ (z : Seated). (account_of z.view q).filled) stock
       ∙ drained q low high (ap (λ (z : List Group × Seated). of_subtree g z.0 (account_of z.1.view q).group) (λ i. (sym groups i, sym stock i)) ∙ is)
@@ -434,7 +434,7 @@ module _ (t : KnownTable) (MayAsk : List Group → ℕ → ℕ → Type 0) (s : 
       let same = all_same g t.cpus (with_max_noted_at m g pages) n h.drains h.all in
       let quiet = quiet_both (note_max_steps g) (drain_stocks_steps h.drains) (record { quiet = refl; no_miss = λ f. refl }) (quiet_drains h.drains) in
       let here = subst AreQuiet (sym h.steps_are) quiet in
-      tame_quiet made m steps n (passes_same t c m n steps (h.runs c).leads same.seat same.links here) same.groups here.quiet
+      tame_quiet made m steps n (passes_same t c m n steps (h.runs c).leads same.frame_seat same.links here) same.groups here.quiet
 
   reclaims_tame : (g pages : ℕ) (made : Run) (m : KnownMachine) (steps : Run) (n : KnownMachine) → ReclaimsFor g pages (course t m steps n)
       → Tame made m steps n
@@ -459,7 +459,7 @@ module _ (t : KnownTable) (MayAsk : List Group → ℕ → ℕ → Type 0) (s : 
       let after_one = passes_both t c s m x made h.earlier since one.passes in
       let two = reclaims_tame g pages (made ++ h.earlier) x next.earlier y next.first in
       let after_two = passes_both t c s x y (made ++ h.earlier) next.earlier after_one two.passes in
-      let drained = drained_on g x y next.first.keeps.groups next.first.keeps.stock h.first.drained in
+      let drained = drained_on g x y next.first.keeps.groups next.first.keeps.stock_seat h.first.drained in
       let still = λ (few : pages ≤ 8). subst (λ (l : List Group). MayAsk l g pages) (sym (two.groups ∙ one.groups)) (asked few) in
       let three = few_tame r g pages ((made ++ h.earlier) ++ next.earlier) y next.later n still after_two drained
       (λ over. missed_since g (made ++ h.earlier) x y after_one (next.first.missed over)) next.second in

@@ -170,7 +170,7 @@ module _ (t : KnownTable) (MayAsk : List Group → ℕ → ℕ → Type 0) (s : 
         let runs : IsLocalRun c.number (local_of t s c) steps (local_of t x.machine c) =
         subst (λ (y : KnownCpu). IsLocalRun c.number (local_of t s c) steps (local_of t x.machine y)) h.cpu h.runs.leads in
         subst (λ (k : Run). IsLocalRun c.number (local_of t s c) k (local_of t x.machine c) → Passes t c s k x.machine) (sym h.steps_are)
-        (λ r. passes_same t c s x.machine (drain_steps c.number (stock_group s c.number) h.drained) r same.seat same.links
+        (λ r. passes_same t c s x.machine (drain_steps c.number (stock_group s c.number) h.drained) r same.frame_seat same.links
         (quiet_drain c.number (stock_group s c.number) h.drained)) runs
 
     anew_rash : (sizes : Config) (answer : Result (Unit {0}) AllocFault) (steps rest : Run) (n : Side) (z : State)

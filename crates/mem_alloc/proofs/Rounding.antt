@@ -21,17 +21,17 @@ use Rattle.mem_machine.proofs.Followed.{makes_both, makes_none}
 pub record Spares (t : KnownTable) (m : KnownMachine) (c : KnownCpu) (n : KnownMachine) (d : KnownCpu) : Type 0 where
   pub lowers : Lowers t m n
   pub killed : n.killed ≡ m.killed
-  pub stock : n.stock ≡ m.stock
+  pub stock_seat : n.stock_seat ≡ m.stock_seat
   pub cpu : d ≡ c
 
 pub spares_none : (t : KnownTable) (m : KnownMachine) (c : KnownCpu) → Spares t m c m c
-spares_none t m c = record { lowers = lowers_none t m; killed = refl; stock = refl; cpu = refl }
+spares_none t m c = record { lowers = lowers_none t m; killed = refl; stock_seat = refl; cpu = refl }
 
 pub spares_both : (t : KnownTable) (m x n : KnownMachine) (c y d : KnownCpu) → Spares t m c x y → Spares t x y n d → Spares t m c n d
 spares_both t m x n c y d a b = record {
   lowers = lowers_both t m x n a.lowers b.lowers;
   killed = b.killed ∙ a.killed;
-  stock = b.stock ∙ a.stock;
+  stock_seat = b.stock_seat ∙ a.stock_seat;
   cpu = b.cpu ∙ a.cpu;
 }
 
@@ -39,12 +39,12 @@ pub spares_same : (t : KnownTable) (m n : KnownMachine) (c d : KnownCpu) → n �
 spares_same t m n c d machine cpu = record {
   lowers = subst (λ (x : KnownMachine). Lowers t m x) (sym machine) (lowers_none t m);
   killed = ap (λ (x : KnownMachine). x.killed) machine;
-  stock = ap (λ (x : KnownMachine). x.stock) machine;
+  stock_seat = ap (λ (x : KnownMachine). x.stock_seat) machine;
   cpu = cpu;
 }
 
 spares_reclaim : (t : KnownTable) (m n : KnownMachine) (c : KnownCpu) → Keeps t m n → Spares t m c n c
-spares_reclaim t m n c keeps = record { lowers = keeps_lower t m n keeps; killed = keeps.killed; stock = keeps.stock; cpu = refl }
+spares_reclaim t m n c keeps = record { lowers = keeps_lower t m n keeps; killed = keeps.killed; stock_seat = keeps.stock_seat; cpu = refl }
 
 -- a try that fails keeps this
 abbrev pub FailureSpares : KnownTable → (Course Side → Type 0) → Type 0

@@ -83,8 +83,8 @@ module _ (t : KnownTable) (g k : ℕ) (c : KnownCpu) (m x : KnownMachine) (so_fa
         room = subst (λ l. PathHasRoom l.groups (current_of l) g (2 ^ k)) (sym ledger) (room_back x.ledger g (2 ^ k) none.room);
       }
 
-  pub none_opened : TakesNoBlock g k x n → n.seat.view.opened ≡ m.seat.view.opened
-  none_opened none = ap (λ (z : KnownMachine). z.seat.view.opened) none.machine ∙ so_far.lowers.opened
+  pub none_opened : TakesNoBlock g k x n → n.frame_seat.view.opened ≡ m.frame_seat.view.opened
+  none_opened none = ap (λ (z : KnownMachine). z.frame_seat.view.opened) none.machine ∙ so_far.lowers.opened
 
 -- a charge is refused for good
 charges_refused : (t : KnownTable) (g k : ℕ) (e : AllocFault) (a b : Side)
@@ -117,7 +117,7 @@ pub record BackPart (frames : List ℕ) (m : KnownMachine) (c : KnownCpu) (n : K
   pub number : d.number ≡ c.number
   pub fresh : d.fresh ≡ c.fresh
   pub back : d.back ≡ c.back
-  pub opened : n.seat.view.opened ≡ m.seat.view.opened
+  pub opened : n.frame_seat.view.opened ≡ m.frame_seat.view.opened
   pub ledger : n.ledger ≡ m.ledger
   pub killed : n.killed ≡ m.killed
 
@@ -127,7 +127,7 @@ back_part [] m n c d h = record {
   number = ap (λ (e : KnownCpu). e.number) h.cpu;
   fresh = ap (λ (e : KnownCpu). e.fresh) h.cpu;
   back = ap (λ (e : KnownCpu). e.back) h.cpu;
-  opened = ap (λ (z : KnownMachine). z.seat.view.opened) h.machine;
+  opened = ap (λ (z : KnownMachine). z.frame_seat.view.opened) h.machine;
   ledger = ap (λ (z : KnownMachine). z.ledger) h.machine;
   killed = ap (λ (z : KnownMachine). z.killed) h.machine;
 }
@@ -139,7 +139,7 @@ back_part (f ∷ frames) m n c d h =
       number = more.number ∙ ap (λ (e : KnownCpu). e.number) one.cpu;
       fresh = more.fresh ∙ ap (λ (e : KnownCpu). e.fresh) one.cpu;
       back = more.back ∙ ap (λ (e : KnownCpu). e.back) one.cpu;
-      opened = more.opened ∙ ap (λ (z : KnownMachine). z.seat.view.opened) one.machine;
+      opened = more.opened ∙ ap (λ (z : KnownMachine). z.frame_seat.view.opened) one.machine;
       ledger = more.ledger ∙ ap (λ (z : KnownMachine). z.ledger) one.machine;
       killed = more.killed ∙ ap (λ (z : KnownMachine). z.killed) one.machine;
     }
@@ -164,16 +164,16 @@ none_spares t g k m n c d steps h = record {
   lowers = record {
     groups = ap (λ (y : KnownMachine). y.ledger.groups) h.none.machine;
     killed = λ v dead. ap (λ (y : KnownMachine). is_killed y.killed v) h.none.machine ∙ dead;
-    opened = ap (λ (y : KnownMachine). y.seat.view.opened) h.none.machine;
-    visit = same_visit t m n (ap (λ (y : KnownMachine). y.seat) h.none.machine);
+    opened = ap (λ (y : KnownMachine). y.frame_seat.view.opened) h.none.machine;
+    visit = same_visit t m n (ap (λ (y : KnownMachine). y.frame_seat) h.none.machine);
     falls = λ j.
         let ledger = ap (λ (y : KnownMachine). current_of y.ledger j) h.none.machine in
         let back : current_of n.ledger j ≡ current_of m.ledger j = ledger ∙ usage_back m.ledger g (2 ^ k) j in
         omega (arith, back);
-    emptied = λ p is. ap (λ (y : KnownMachine). (account_of y.stock.view p).filled) h.none.machine ∙ is;
+    emptied = λ p is. ap (λ (y : KnownMachine). (account_of y.stock_seat.view p).filled) h.none.machine ∙ is;
   };
   killed = ap (λ (y : KnownMachine). y.killed) h.none.machine;
-  stock = ap (λ (y : KnownMachine). y.stock) h.none.machine;
+  stock_seat = ap (λ (y : KnownMachine). y.stock_seat) h.none.machine;
   cpu = h.cpu;
 }
 
@@ -183,11 +183,11 @@ pub none_leaves : (t : KnownTable) (g k : ℕ) (m n : KnownMachine) (c d : Known
 none_leaves t g k m n c d none alive there fits = room_still t g k c m m (so_far_none t g (2 ^ k) c m alive) c refl n d none there fits
 
 -- rounds open and shut no visit
-taken_opens : (m n : KnownMachine) (g k head : ℕ) → TakesBlock g k head m n → n.seat.view.opened ≡ m.seat.view.opened
-taken_opens m n g k head takes = ap (λ (y : KnownMachine). y.seat.view.opened) takes.machine
+taken_opens : (m n : KnownMachine) (g k head : ℕ) → TakesBlock g k head m n → n.frame_seat.view.opened ≡ m.frame_seat.view.opened
+taken_opens m n g k head takes = ap (λ (y : KnownMachine). y.frame_seat.view.opened) takes.machine
 
 rounds_open : (t : KnownTable) (g k : ℕ) (r : Result ℕ AllocFault) (m n : KnownMachine) (c d : KnownCpu) (steps : Run)
-    → TakesInRounds g k r (course t (side m c) steps (side n d)) → n.seat.view.opened ≡ m.seat.view.opened
+    → TakesInRounds g k r (course t (side m c) steps (side n d)) → n.frame_seat.view.opened ≡ m.frame_seat.view.opened
 rounds_open t g k (Ok head) m n c d steps h =
     let last = in_the_end t (2 ^ k) (FindsNoBlock g k) (none_spares t g k) (TakesFreeBlock g k head) 16 m c (side n d) steps h in
     taken_opens last.before n g k head last.succeeds.takes ∙ last.spares.lowers.opened
@@ -259,9 +259,9 @@ module _ (t : KnownTable) (g k : ℕ) (m x n : KnownMachine) (c y d : KnownCpu) 
     pub reclaims_after : (r : Result ℕ AllocFault) → BySteps t (side w z) (side n d) (TakesInRounds g k r) → BySteps t (side m c) (side n d) (TakesAfterDrain g k r)
     reclaims_after r there = takes_drained r (in_rounds r there)
 
-    pub reclaims_open : (r : Result ℕ AllocFault) → BySteps t (side w z) (side n d) (TakesInRounds g k r) → n.seat.view.opened ≡ m.seat.view.opened
+    pub reclaims_open : (r : Result ℕ AllocFault) → BySteps t (side w z) (side n d) (TakesInRounds g k r) → n.frame_seat.view.opened ≡ m.frame_seat.view.opened
     reclaims_open r there =
-        rounds_open t g k r w n z d there.0 there.1 ∙ ap (λ (u : KnownMachine). u.seat.view.opened) none.machine ∙ part.opened
+        rounds_open t g k r w n z d there.0 there.1 ∙ ap (λ (u : KnownMachine). u.frame_seat.view.opened) none.machine ∙ part.opened
 
   pub list_shrinks : length d.list ≤ length c.list
   list_shrinks =

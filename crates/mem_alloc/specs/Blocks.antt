@@ -45,7 +45,7 @@ pub record MayHaveBlock (group order : ℕ) (machine : KnownMachine) : Type 0 wh
 
 -- no visit is opened or shut; and where no block is free, no limit is in its way still
 pub record LeavesRoom (group order : ℕ) (answer : Result ℕ AllocFault) (before after : KnownMachine) : Type 0 where
-  pub opened : after.seat.view.opened ≡ before.seat.view.opened
+  pub opened : after.frame_seat.view.opened ≡ before.frame_seat.view.opened
   pub still : answer ≡ Err NoFrames → MayHaveBlock group order after
 
 -- rounds of reclaim, each of which wants the pages of the block: in one of them it is taken, or in none is any block

@@ -46,7 +46,7 @@ fn fill_one<N: BootName>(
     requires visit { Visits N.frames (side machine.old cpu.old) }
     requires may_charge { MayCharge machine.old group 1 }
     requires none_fresh { cpu.old.fresh ≡ [] }
-    requires drained { (account_of machine.old.stock.view cpu.old.number).filled ≡ false }
+    requires drained { (account_of machine.old.stock_seat.view cpu.old.number).filled ≡ false }
     ensures charges { BySteps N.frames (side machine.old cpu.old) (side machine.new cpu.new)
         (ChargesOne group result) }
     ensures visit { Visits N.frames (side machine.new cpu.new) }
@@ -74,7 +74,7 @@ fn charge_frame<N: BootName>(
     requires there { IsTrue (has_group machine.old.ledger.groups group) }
     requires alive { is_killed machine.old.killed group ≡ false }
     requires none_fresh { cpu.old.fresh ≡ [] }
-    requires drained { (account_of machine.old.stock.view cpu.old.number).filled ≡ false }
+    requires drained { (account_of machine.old.stock_seat.view cpu.old.number).filled ≡ false }
     ensures charges { BySteps N.frames (side machine.old cpu.old) (side machine.new cpu.new)
         (ChargesFrame sizes group result) }
     ensures visit { Visits N.frames (side machine.new cpu.new) }

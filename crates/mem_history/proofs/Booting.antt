@@ -41,21 +41,21 @@ module _ (t : KnownTable) (w : Words) (m : KnownMachine) (first : IsFirst t w m)
   abbrev c : KnownCpu
   c = first_cpu (record { table = t.table; view = first_cpu_view p }) (record { table = w.table; view = first_processor p })
 
-  references_first : (q f : ℕ) → references_of m.seat c q f ≡ 0
+  references_first : (q f : ℕ) → references_of m.frame_seat c q f ≡ 0
   references_first q f =
-      ap (λ (n : ℕ). cond (q == 0) n (cond (q == p) 0 0)) (ap (λ (s : KnownSeat). holds s f) first.seat ∙ unreferred t.frames f)
+      ap (λ (n : ℕ). cond (q == 0) n (cond (q == p) 0 0)) (ap (λ (s : KnownSeat). holds s f) first.frame_seat ∙ unreferred t.frames f)
       ∙ ap (cond (q == 0) 0) (same_either (q == p) 0) ∙ same_either (q == 0) 0
 
   hidden_first : (q f : ℕ) → hide_references p (λ seat x. 0) q f ≡ 0
   hidden_first q f = same_either _ 0
 
-  part_first : (q : ℕ) → part_of m.stock c q ≡ no_part
-  part_first q = same_either (q == p) (part_with [] [] [] (account_of m.stock.view q)) ∙ ap (λ (s : Seated). part_with [] [] [] (account_of s.view q)) first.stock
+  part_first : (q : ℕ) → part_of m.stock_seat c q ≡ no_part
+  part_first q = same_either (q == p) (part_with [] [] [] (account_of m.stock_seat.view q)) ∙ ap (λ (s : Seated). part_with [] [] [] (account_of s.view q)) first.stock_seat
 
   boot_seen : local_of t m c ≡ seen_by p (at_boot (zone_of t))
   boot_seen = λ i. record {
     zone = zone_of t;
-    hold = ap (λ (s : KnownSeat). hold_of s p) first.seat i;
+    hold = ap (λ (s : KnownSeat). hold_of s p) first.frame_seat i;
     groups = ap (λ (l : Ledger). l.groups) first.ledger i;
     killed = λ g. (ap (λ (l : List Bool). is_killed l g) first.killed ∙ repeated 64 g false) i;
     phases = λ f. ap (phase_of c f) (ap (λ (l : List Spot). spot_at l f) first.spots ∙ repeated t.frames f Free) i;

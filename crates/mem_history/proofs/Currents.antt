@@ -89,13 +89,13 @@ module _ (t : KnownTable) (w : Words) (run : Run) (m : KnownMachine) (cpus : Lis
   fresh_times f = same_times f c.fresh ∙ ap (times f) (sym own.fresh) ∙ sound.lists p FreshFrame f
 
   -- what is lent to the processor are its listed and its fresh frames
-  pub lent_is_borrowed : LentIsBorrowed t m.seat c.seat
+  pub lent_is_borrowed : LentIsBorrowed t m.frame_seat c.frame_seat
   lent_is_borrowed f inside = (λ lent. to_borrowed lent, λ borrowed. to_lent borrowed)
     where
-      number : c.seat.view.number ≡ p
+      number : c.frame_seat.view.number ≡ p
       number = tied.tied.seats.frame_number
 
-      to_borrowed : (note_of m.seat.view f).lent ≡ c.seat.view.number → (note_of c.seat.view f).borrowed ≡ 1
+      to_borrowed : (note_of m.frame_seat.view f).lent ≡ c.frame_seat.view.number → (note_of c.frame_seat.view f).borrowed ≡ 1
       to_borrowed lent =
           let spot : spot_at m.spots f ≡ Lent p =
           lent_spot (spot_at m.spots f) p tied.tied.seats.some_number (ap some_cpu (sym (lent ∙ number)) ∙ (is.spots f inside).lent) in
@@ -115,16 +115,16 @@ module _ (t : KnownTable) (w : Words) (run : Run) (m : KnownMachine) (cpus : Lis
           ] in
           omega arith
 
-      lent_of : cover (whole.phases f) ≡ phase.Lent p OnList → (note_of m.seat.view f).lent ≡ c.seat.view.number
+      lent_of : cover (whole.phases f) ≡ phase.Lent p OnList → (note_of m.frame_seat.view f).lent ≡ c.frame_seat.view.number
       lent_of seen =
           let spot = lent_plain (spot_at m.spots f) p (sym seen ∙ spot_covers t m c whole sees f) in
-          some_is (note_of m.seat.view f).lent p ((is.spots f inside).lent ∙ ap lent_to spot) ∙ sym number
+          some_is (note_of m.frame_seat.view f).lent p ((is.spots f inside).lent ∙ ap lent_to spot) ∙ sym number
         where
           some_is : (n q : ℕ) → some_cpu n ≡ Some q → n ≡ q
           some_is zero q e = cc
           some_is (suc n) q e = cc
 
-      to_lent : (note_of c.seat.view f).borrowed ≡ 1 → (note_of m.seat.view f).lent ≡ c.seat.view.number
+      to_lent : (note_of c.frame_seat.view f).borrowed ≡ 1 → (note_of m.frame_seat.view f).lent ≡ c.frame_seat.view.number
       to_lent borrowed =
           let noted = tied.tied.noted f in
           let borrowed_is = noted.borrowed_is in
@@ -138,7 +138,7 @@ module _ (t : KnownTable) (w : Words) (run : Run) (m : KnownMachine) (cpus : Lis
                 lent_of (ap cover fresh.1)
           ]
 
-  book_of : (whole.parts p).book ≡ (account_of m.stock.view p).book
+  book_of : (whole.parts p).book ≡ (account_of m.stock_seat.view p).book
   book_of = ap (λ (x : Part). x.book) (sym (sym (own_shown t m c p refl) ∙ ap (λ (x : State). x.parts p) sees ∙ own_part p whole.parts p refl))
 
   -- its book is of the group of the stock that it saw last, and has its fresh pages
@@ -156,11 +156,11 @@ module _ (t : KnownTable) (w : Words) (run : Run) (m : KnownMachine) (cpus : Lis
     none_fresh = tied.none_fresh;
   }
     where
-      last_group : (o : Option ℕ) → stocks.group_of c.stock.view.last ≡ o → 0 < length c.fresh → Some (number_or_0 o) ≡ o
+      last_group : (o : Option ℕ) → stocks.group_of c.stock_seat.view.last ≡ o → 0 < length c.fresh → Some (number_or_0 o) ≡ o
       last_group None e some = absurd (let none = tied.none_fresh e in omega arith)
       last_group (Some g) e some = refl
 
-      group_is : 0 < length c.fresh → (account_of m.stock.view p).group ≡ stocks.group_of c.stock.view.last
+      group_is : 0 < length c.fresh → (account_of m.stock_seat.view p).group ≡ stocks.group_of c.stock_seat.view.last
       group_is some =
           let f = front_of (whole.parts p).fresh in
           let long : length (whole.parts p).fresh ≡ length c.fresh = ap length own.fresh in
@@ -170,10 +170,10 @@ module _ (t : KnownTable) (w : Words) (run : Run) (m : KnownMachine) (cpus : Lis
           let paid : PhasePaid whole.zone.cpus (groups_in whole.parts) (phase.Head fresh.0 (FreshAt p)) =
           subst (PhasePaid whole.zone.cpus (groups_in whole.parts)) fresh.1 (sound.frames f).paid in
           let unit = own.unit f fresh.0 fresh.1 in
-          let part : (account_of m.stock.view p).group ≡ (whole.parts p).stock.group =
+          let part : (account_of m.stock_seat.view p).group ≡ (whole.parts p).stock.group =
           ap (λ (x : Part). x.stock.group) (sym (own_shown t m c p refl) ∙ ap (λ (x : State). x.parts p) sees ∙ own_part p whole.parts p refl) in
           part ∙ paid.group ∙ ap (λ (u : ChargedUnit). Some u.group) unit
-          ∙ last_group (stocks.group_of c.stock.view.last) refl some
+          ∙ last_group (stocks.group_of c.stock_seat.view.last) refl some
 
   -- the ledger's number is the usage by the run
   pub current_is : AreCharges m.ledger → (g : ℕ) → current_of m.ledger g ≡ usage_of whole g

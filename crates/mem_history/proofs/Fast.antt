@@ -149,7 +149,7 @@ fast_lines_follow t run cpus k before action answer after_side shows serves =
               sees = sees;
             })
         | inr ne ↦ others_follow t run m cpus k c shows serves.is_part n d done later (HeldBy d.number) serves.number legal_run done_is stays
-            (λ i x in_list. subst (λ (o : KnownMachine). hold_of o.seat x.number ≡ HeldBy x.number) (sym serves.machine)
+            (λ i x in_list. subst (λ (o : KnownMachine). hold_of o.frame_seat x.number ≡ HeldBy x.number) (sym serves.machine)
             (ap (λ (s : State). s.hold) (shows.each i x in_list).sees))
             sees j e at ne
       ]);

@@ -88,34 +88,34 @@ module _ (t : KnownTable) (m : KnownMachine) (c d : KnownCpu) (named : d.number 
   local = local_of t m c
 
   -- one note of the part changed
-  references_changed : (f : ℕ) (change : FrameNote → FrameNote) (n : ℕ) → d.seat ≡ seat_with c.seat f change →
-      (change (note_of c.seat.view f)).references ≡ n → (q x : ℕ) →
-      references_of m.seat d q x ≡ with_at (references_of m.seat c) p (with_at (references_of m.seat c p) f n) q x
+  references_changed : (f : ℕ) (change : FrameNote → FrameNote) (n : ℕ) → d.frame_seat ≡ seat_with c.frame_seat f change →
+      (change (note_of c.frame_seat.view f)).references ≡ n → (q x : ℕ) →
+      references_of m.frame_seat d q x ≡ with_at (references_of m.frame_seat c) p (with_at (references_of m.frame_seat c p) f n) q x
   references_changed f change n is to q x = elim (cases_eq q p) [
     | inl e ↦
         own_references t m d q x (λ z. not_zero (sym e ∙ z)) (e ∙ sym named)
         ∙ (elim (cases_eq x f) [
           | inl at ↦
-              ap (λ (s : KnownSeat). holds s x) is ∙ ap (λ (y : ℕ). holds (seat_with c.seat f change) y) at
-              ∙ ap (λ (k : FrameNote). k.references) (note_here c.seat.view f change) ∙ to
-              ∙ sym (at_same (references_of m.seat c p) f n) ∙ sym (ap (with_at (references_of m.seat c p) f n) at)
+              ap (λ (s : KnownSeat). holds s x) is ∙ ap (λ (y : ℕ). holds (seat_with c.frame_seat f change) y) at
+              ∙ ap (λ (k : FrameNote). k.references) (note_here c.frame_seat.view f change) ∙ to
+              ∙ sym (at_same (references_of m.frame_seat c p) f n) ∙ sym (ap (with_at (references_of m.frame_seat c p) f n) at)
           | inr off ↦
-              ap (λ (s : KnownSeat). holds s x) is ∙ ap (λ (k : FrameNote). k.references) (note_else c.seat.view f x change off)
-              ∙ sym (own_references t m c p x not_zero refl) ∙ sym (at_other (references_of m.seat c p) f n x off)
+              ap (λ (s : KnownSeat). holds s x) is ∙ ap (λ (k : FrameNote). k.references) (note_else c.frame_seat.view f x change off)
+              ∙ sym (own_references t m c p x not_zero refl) ∙ sym (at_other (references_of m.frame_seat c p) f n x off)
         ])
-        ∙ sym (ap (λ (r : ℕ → ℕ). r x) (at_same (references_of m.seat c) p (with_at (references_of m.seat c p) f n)))
-        ∙ sym (ap (λ (k : ℕ). with_at (references_of m.seat c) p (with_at (references_of m.seat c p) f n) k x) e)
+        ∙ sym (ap (λ (r : ℕ → ℕ). r x) (at_same (references_of m.frame_seat c) p (with_at (references_of m.frame_seat c p) f n)))
+        ∙ sym (ap (λ (k : ℕ). with_at (references_of m.frame_seat c) p (with_at (references_of m.frame_seat c p) f n) k x) e)
     | inr ne ↦
-        ap (cond (q == 0) (holds m.seat x)) (cond-false (q == d.number) _ _ (ne_eqb q d.number (λ z. ne (z ∙ named)))
+        ap (cond (q == 0) (holds m.frame_seat x)) (cond-false (q == d.number) _ _ (ne_eqb q d.number (λ z. ne (z ∙ named)))
         ∙ sym (cond-false (q == p) _ _ (ne_eqb q p ne)))
-        ∙ sym (ap (λ (r : ℕ → ℕ). r x) (at_other (references_of m.seat c) p (with_at (references_of m.seat c p) f n) q ne))
+        ∙ sym (ap (λ (r : ℕ → ℕ). r x) (at_other (references_of m.frame_seat c) p (with_at (references_of m.frame_seat c p) f n) q ne))
   ]
 
   -- its own part changed
-  parts_changed : (P : Part) → (local_of t m d).parts p ≡ P → (q : ℕ) → part_of m.stock d q ≡ with_at (part_of m.stock c) p P q
+  parts_changed : (P : Part) → (local_of t m d).parts p ≡ P → (q : ℕ) → part_of m.stock_seat d q ≡ with_at (part_of m.stock_seat c) p P q
   parts_changed P is q = elim (cases_eq q p) [
-    | inl e ↦ ap (part_of m.stock d) e ∙ is ∙ sym (at_same (part_of m.stock c) p P) ∙ sym (ap (with_at (part_of m.stock c) p P) e)
-    | inr ne ↦ other_shown t m d q (λ z. ne (z ∙ named)) ∙ sym (other_shown t m c q ne) ∙ sym (at_other (part_of m.stock c) p P q ne)
+    | inl e ↦ ap (part_of m.stock_seat d) e ∙ is ∙ sym (at_same (part_of m.stock_seat c) p P) ∙ sym (ap (with_at (part_of m.stock_seat c) p P) e)
+    | inr ne ↦ other_shown t m d q (λ z. ne (z ∙ named)) ∙ sym (other_shown t m c q ne) ∙ sym (at_other (part_of m.stock_seat c) p P q ne)
   ]
 
 module _ (t : KnownTable) (w : Words) (run : Run) (m : KnownMachine) (cpus : List KnownCpu) (k : ℕ) (c : KnownCpu) (is : IsPart t w run m cpus k c) where
@@ -156,7 +156,7 @@ module _ (t : KnownTable) (w : Words) (run : Run) (m : KnownMachine) (cpus : Lis
       lent_plain (spot_at m.spots f) q (sym (ap cover was.1) ∙ covers_at f)
 
   -- a pinned frame heads a unit
-  pinned_head : (f : ℕ) → 1 ≤ holds c.seat f → (u : ChargedUnit) × (spot_at m.spots f ≡ Head u)
+  pinned_head : (f : ℕ) → 1 ≤ holds c.frame_seat f → (u : ChargedUnit) × (spot_at m.spots f ≡ Head u)
   pinned_head f pinned = elim (cases_Bool (is_live (whole.phases f))) [
     | inl live ↦
         let was = live_is (whole.phases f) live in
@@ -173,7 +173,7 @@ module _ (t : KnownTable) (w : Words) (run : Run) (m : KnownMachine) (cpus : Lis
 
   pins_are : pins_of (local_of t m c) q ≡ length c.pins
   pins_are =
-      sum_same t.frames (λ f. references_of m.seat c q f) (λ f. times f c.pins)
+      sum_same t.frames (λ f. references_of m.frame_seat c q f) (λ f. times f c.pins)
       (λ f inside. own_references t m c q f some refl ∙ (is.tied.noted f).references_are ∙ same_times f c.pins)
       ∙ count_length t.frames c.pins (λ f past. let none = (is.tied.noted f).in_table past in let same = same_times f c.pins in omega arith)
 
@@ -183,13 +183,13 @@ module _ (t : KnownTable) (w : Words) (run : Run) (m : KnownMachine) (cpus : Lis
   -- ---- get
 
   leads_held : (d : KnownCpu) (f : ℕ) → f < t.frames → length c.back + length c.pins < 256 → (pins : List ℕ) (seat : KnownSeat) (seen : ℕ) →
-      seat ≡ seat_with c.seat f (λ x. views.held (looked seen x)) → d ≡ record c { pins = pins; seat = seat } →
+      seat ≡ seat_with c.frame_seat f (λ x. views.held (looked seen x)) → d ≡ record c { pins = pins; frame_seat = seat } →
       Makes t (side m c) (cpu_makes q (Get f) Held ∷ []) (side m d)
   leads_held d f inside few pins seat seen changed now =
       let pinned = pins_are in
       let back = back_is in
       let low : nat_lt (pins_of (local_of t m c) q + length ((local_of t m c).parts q).back) 256 ≡ true = lt-ltb _ 256 (omega arith) in
-      let e : KnownCpu = record c { pins = pins; seat = seat } in
+      let e : KnownCpu = record c { pins = pins; frame_seat = seat } in
       let n = own_references t m c q f some refl in
       subst (λ (x : KnownCpu). Makes t (side m c) (cpu_makes q (Get f) Held ∷ []) (side m x)) (sym now) (record {
         leads = (
@@ -209,7 +209,7 @@ module _ (t : KnownTable) (w : Words) (run : Run) (m : KnownMachine) (cpus : Lis
 
   -- ---- put
 
-  pin_put : (f : ℕ) → 1 ≤ parts.times f c.pins → 1 ≤ holds c.seat f
+  pin_put : (f : ℕ) → 1 ≤ parts.times f c.pins → 1 ≤ holds c.frame_seat f
   pin_put f pinned = let same = (is.tied.noted f).references_are in omega arith
 
   put_legal : (f : ℕ) → 1 ≤ parts.times f c.pins → is_legal (local_of t m c) q (Put f) ≡ true
@@ -217,12 +217,12 @@ module _ (t : KnownTable) (w : Words) (run : Run) (m : KnownMachine) (cpus : Lis
       let has = pin_put f pinned in
       let same = own_references t m c q f some refl in
       and_from _ _ (and_from _ _ (or_left (is_cpu (zone_of t) q) (may_zone_act (local_of t m c).hold q) one) (lt-ltb f t.frames (pinned_frame f pinned)))
-      (le-leb 1 (references_of m.seat c q f) (omega arith))
+      (le-leb 1 (references_of m.frame_seat c q f) (omega arith))
 
-  leads_left : (d : KnownCpu) (f n : ℕ) → 1 ≤ parts.times f c.pins → (pins : List ℕ) (seat : KnownSeat) → seat ≡ seat_with c.seat f (let_go n) →
-      d ≡ record c { pins = pins; seat = seat } → Makes t (side m c) (cpu_makes q (Put f) (Left n) ∷ []) (side m d)
+  leads_left : (d : KnownCpu) (f n : ℕ) → 1 ≤ parts.times f c.pins → (pins : List ℕ) (seat : KnownSeat) → seat ≡ seat_with c.frame_seat f (let_go n) →
+      d ≡ record c { pins = pins; frame_seat = seat } → Makes t (side m c) (cpu_makes q (Put f) (Left n) ∷ []) (side m d)
   leads_left d f n pinned pins seat changed now =
-      let e : KnownCpu = record c { pins = pins; seat = seat } in
+      let e : KnownCpu = record c { pins = pins; frame_seat = seat } in
       let same = own_references t m c q f some refl in
       subst (λ (x : KnownCpu). Makes t (side m c) (cpu_makes q (Put f) (Left n) ∷ []) (side m x)) (sym now) (record {
         leads = (
@@ -267,17 +267,17 @@ module _ (t : KnownTable) (w : Words) (run : Run) (m : KnownMachine) (cpus : Lis
           let same : parts.times x (c.back ++ f ∷ []) ≡ parts.times x c.back = omega arith in
           ap (λ (n : ℕ). cond (nat_le 1 n) (phase.Head unit (BackAt q)) (phase.Head unit Live)) same
 
-  leads_last : (d : KnownCpu) (f : ℕ) → 1 ≤ parts.times f c.pins → (pins : List ℕ) (seat : KnownSeat) → seat ≡ seat_with c.seat f let_go_last →
-      d ≡ record c { pins = pins; back = c.back ++ f ∷ []; seat = seat } → Makes t (side m c) (cpu_makes q (Put f) Last ∷ []) (side m d)
+  leads_last : (d : KnownCpu) (f : ℕ) → 1 ≤ parts.times f c.pins → (pins : List ℕ) (seat : KnownSeat) → seat ≡ seat_with c.frame_seat f let_go_last →
+      d ≡ record c { pins = pins; back = c.back ++ f ∷ []; frame_seat = seat } → Makes t (side m c) (cpu_makes q (Put f) Last ∷ []) (side m d)
   leads_last d f pinned pins seat changed now =
-      let e : KnownCpu = record c { pins = pins; back = c.back ++ f ∷ []; seat = seat } in
+      let e : KnownCpu = record c { pins = pins; back = c.back ++ f ∷ []; frame_seat = seat } in
       let same = own_references t m c q f some refl in
       let head = pinned_head f (pin_put f pinned) in
       let part : (local_of t m e).parts q ≡ with_back ((local_of t m c).parts q) f =
       own_shown t m e q refl ∙ sym (ap (λ (x : Part). with_back x f) (own_shown t m c q refl)) in
-      let parts_are : (r : ℕ) → part_of m.stock e r ≡ (cond (q == 0) (part_of m.stock c) (with_at (part_of m.stock c) q (with_back ((local_of t m c).parts q) f))) r =
+      let parts_are : (r : ℕ) → part_of m.stock_seat e r ≡ (cond (q == 0) (part_of m.stock_seat c) (with_at (part_of m.stock_seat c) q (with_back ((local_of t m c).parts q) f))) r =
       λ r. parts_changed t m c e refl some (with_back ((local_of t m c).parts q) f) part r
-      ∙ sym (ap (λ (h : ℕ → Part). h r) (cond-false (q == 0) (part_of m.stock c) (with_at (part_of m.stock c) q (with_back ((local_of t m c).parts q) f)) (ne_eqb q 0 some))) in
+      ∙ sym (ap (λ (h : ℕ → Part). h r) (cond-false (q == 0) (part_of m.stock_seat c) (with_at (part_of m.stock_seat c) q (with_back ((local_of t m c).parts q) f)) (ne_eqb q 0 some))) in
       subst (λ (x : KnownCpu). Makes t (side m c) (cpu_makes q (Put f) Last ∷ []) (side m x)) (sym now) (record {
         leads = (
           record { own = inr refl; inside = refl; legal = put_legal f pinned; answered = tt },
@@ -299,7 +299,7 @@ module _ (t : KnownTable) (w : Words) (run : Run) (m : KnownMachine) (cpus : Lis
   decided_here action_is same decided =
       same (seen_together cpus q (local_of t m c)) (local_of t m c) (cond-true (q == q) _ _ (eq-eqb q q refl)) decided
 
-  own_part_is : (local_of t m c).parts q ≡ part_with c.list c.fresh c.back (account_of m.stock.view q)
+  own_part_is : (local_of t m c).parts q ≡ part_with c.list c.fresh c.back (account_of m.stock_seat.view q)
   own_part_is = own_shown t m c q refl
 
   other_phase : (d : KnownCpu) (x : ℕ) (y : Spot) → d.number ≡ q → d.back ≡ c.back → fresh_group d ≡ fresh_group c →
@@ -312,26 +312,26 @@ module _ (t : KnownTable) (w : Words) (run : Run) (m : KnownMachine) (cpus : Lis
       λ i. cond (r == named i && nat_le 1 (fresh i)) (phase.Head (record { group = group i; order = 0 }) (FreshAt r)) (phase.Lent r OnList)
 
   leads_took : (d : KnownCpu) (g f : ℕ) (rest : List ℕ) (stock : Seated) → c.list ≡ f ∷ rest → length c.fresh < 32 →
-      d ≡ record c { list = rest; fresh = c.fresh ++ f ∷ []; stock = stock } →
-      number_or_0 (stocks.group_of c.stock.view.last) ≡ g → number_or_0 (stocks.group_of stock.view.last) ≡ g →
+      d ≡ record c { list = rest; fresh = c.fresh ++ f ∷ []; stock_seat = stock } →
+      number_or_0 (stocks.group_of c.stock_seat.view.last) ≡ g → number_or_0 (stocks.group_of stock.view.last) ≡ g →
       IsAnswer (local_of t m c) q (Consume g) Took → Makes t (side m c) (cpu_makes q (Consume g) Took ∷ []) (side m d)
   leads_took d g f rest stock front room now was_group is_group answered =
-      let e : KnownCpu = record c { list = rest; fresh = c.fresh ++ f ∷ []; stock = stock } in
+      let e : KnownCpu = record c { list = rest; fresh = c.fresh ++ f ∷ []; stock_seat = stock } in
       let on_list : 1 ≤ parts.times f c.list = let a = ap (parts.times f) front in let b = times_front f f rest in let h = times_same f in omega arith in
       let spot = listed_lent f on_list in
       let noted = is.tied.noted f in
       let once = noted.once in
       let none_in_rest : parts.times f rest ≡ 0 = let a = ap (parts.times f) front in let b = times_front f f rest in let h = times_same f in omega arith in
       let none_fresh : parts.times f c.fresh ≡ 0 = omega arith in
-      let a = account_of m.stock.view q in
+      let a = account_of m.stock_seat.view q in
       let front_is : front_of ((local_of t m c).parts q).list ≡ f = ap (λ (x : Part). front_of x.list) own_part_is ∙ ap front_of front in
       let longer : length (c.fresh ++ f ∷ []) ≡ length c.fresh + 1 = length_last f c.fresh in
-      let pages : a.book - length (c.fresh ++ f ∷ []) - a.noted ≡ a.book - length c.fresh - a.noted - 1 = omega arith in
+      let pages : a.book - length (c.fresh ++ f ∷ []) - a.unabsorbed ≡ a.book - length c.fresh - a.unabsorbed - 1 = omega arith in
       let part : part_with rest (c.fresh ++ f ∷ []) c.back a ≡ paid (part_with c.list c.fresh c.back a) =
       λ i. record (part_with rest (c.fresh ++ f ∷ []) c.back a) {
         list = sym (ap (λ (h : ℕ). without h c.list) (ap front_of front) ∙ without_front f c.list rest front none_in_rest) i;
         fresh = sym (ap (with_last c.fresh) (ap front_of front)) i;
-        stock = record ((part_with rest (c.fresh ++ f ∷ []) c.back a).stock) { pages = pages i };
+        stock_seat = record ((part_with rest (c.fresh ++ f ∷ []) c.back a).stock) { pages = pages i };
       } in
       let part_is : (local_of t m e).parts q ≡ paid ((local_of t m c).parts q) = own_shown t m e q refl ∙ part ∙ sym (ap paid own_part_is) in
       let some_listed : 1 ≤ length ((local_of t m c).parts q).list = let h = ap (λ (x : Part). length x.list) own_part_is in let l = ap length front in omega arith in
@@ -366,11 +366,11 @@ module _ (t : KnownTable) (w : Words) (run : Run) (m : KnownMachine) (cpus : Lis
       })
 
   leads_listed : (d : KnownCpu) (f i : ℕ) (stock : Seated) (drops : ℕ) → i < length c.fresh → get_or c.fresh i 0 ≡ f →
-      d ≡ record c { list = c.list ++ f ∷ []; fresh = remove c.fresh i; stock = stock; drops = drops } →
-      stocks.group_of stock.view.last ≡ stocks.group_of c.stock.view.last →
+      d ≡ record c { list = c.list ++ f ∷ []; fresh = remove c.fresh i; stock_seat = stock; drops = drops } →
+      stocks.group_of stock.view.last ≡ stocks.group_of c.stock_seat.view.last →
       IsAnswer (local_of t m c) q (Credit f) Back → Makes t (side m c) (cpu_makes q (Credit f) Back ∷ []) (side m d)
   leads_listed d f i stock drops inside at now same_group answered =
-      let e : KnownCpu = record c { list = c.list ++ f ∷ []; fresh = remove c.fresh i; stock = stock; drops = drops } in
+      let e : KnownCpu = record c { list = c.list ++ f ∷ []; fresh = remove c.fresh i; stock_seat = stock; drops = drops } in
       let noted = is.tied.noted f in
       let once = noted.once in
       let stands = stands_at f c.fresh i inside at in
@@ -378,7 +378,7 @@ module _ (t : KnownTable) (w : Words) (run : Run) (m : KnownMachine) (cpus : Lis
       let alone : times f c.fresh ≡ 1 = omega arith in
       let spot = fresh_lent f (omega arith) in
       let removed : remove c.fresh i ≡ without f c.fresh = removed_once f c.fresh i inside at alone in
-      let a = account_of m.stock.view q in
+      let a = account_of m.stock_seat.view q in
       let below : f < t.frames = elim (cases_lt f t.frames) [
         | inl h ↦ h
         | inr past ↦ absurd (let none = noted.in_table past in omega arith)
@@ -392,13 +392,13 @@ module _ (t : KnownTable) (w : Words) (run : Run) (m : KnownMachine) (cpus : Lis
       sym own_part_is ∙ ap (λ (x : State). x.parts q) (is.shows.each k c is.is_part).sees ∙ own_part q whole.parts q refl in
       let shorter = length_without f c.fresh in
       let book : a.book ≡ (whole.parts q).book = ap (λ (x : Part). x.book) part_seen in
-      let reported : a.noted ≡ (whole.parts q).reported = ap (λ (x : Part). x.reported) part_seen in
+      let reported : a.unabsorbed ≡ (whole.parts q).reported = ap (λ (x : Part). x.reported) part_seen in
       let long : length c.fresh ≡ length (whole.parts q).fresh = ap (λ (x : Part). length x.fresh) part_seen in
-      let pages : a.book - length (without f c.fresh) - a.noted ≡ a.book - length c.fresh - a.noted + 1 = omega arith in
+      let pages : a.book - length (without f c.fresh) - a.unabsorbed ≡ a.book - length c.fresh - a.unabsorbed + 1 = omega arith in
       let part : part_with (c.list ++ f ∷ []) (remove c.fresh i) c.back a ≡ credited (part_with c.list c.fresh c.back a) f =
       ap (λ (l : List ℕ). part_with (c.list ++ f ∷ []) l c.back a) removed
       ∙ (λ j. record (part_with (c.list ++ f ∷ []) (without f c.fresh) c.back a) {
-        stock = record ((part_with (c.list ++ f ∷ []) (without f c.fresh) c.back a).stock) { pages = pages j };
+        stock_seat = record ((part_with (c.list ++ f ∷ []) (without f c.fresh) c.back a).stock) { pages = pages j };
       }) in
       let part_is : (local_of t m e).parts q ≡ credited ((local_of t m c).parts q) f =
       own_shown t m e q refl ∙ part ∙ sym (ap (λ (x : Part). credited x f) own_part_is) in
@@ -445,11 +445,11 @@ fast_calls_lead = record {
   putted = λ t w run m cpus k c d is f answer answers. puts t w run m cpus k c d is f answer answers;
   got = λ t w run m cpus k c d is g f answers decided.
       let stock = answers.4.2 in
-      leads_took t w run m cpus k c is d g f answers.1 (with_view c.stock answers.3) answers.2 answers.0 answers.5
+      leads_took t w run m cpus k c is d g f answers.1 (with_view c.stock_seat answers.3) answers.2 answers.0 answers.5
       (ap (λ (s : Stock). number_or_0 (stocks.group_of s)) answers.4.1) (ap (λ v. number_or_0 (stocks.group_of v.last)) stock)
       (decided_here t w run m cpus k c is (λ x. IsAnswer x c.number (Consume g) Took) (consume_same c.number g) (decided zero));
   listed = λ t w run m cpus k c d is f stands answers decided.
-      leads_listed t w run m cpus k c is d f answers.0 (with_view c.stock answers.3) _ answers.1 answers.2 answers.5
+      leads_listed t w run m cpus k c is d f answers.0 (with_view c.stock_seat answers.3) _ answers.1 answers.2 answers.5
       (ap (λ v. stocks.group_of v.last) answers.4.3 ∙ sym (ap stocks.group_of answers.4.2))
       (decided_here t w run m cpus k c is (λ x. IsAnswer x c.number (Credit f) Back)
       (λ x y same h. ap (λ (part : Part). part.stock.is_drained) (sym same) ∙ h) (decided zero));

@@ -43,14 +43,14 @@ lists_with list fresh back a P e = (
 from_outside : (list fresh back : List ℕ) (a : Account) (P : Part) → part_with [] [] [] a ≡ hide_part P → P.list ≡ list → P.fresh ≡ fresh → P.back ≡ back →
     part_with list fresh back a ≡ P
 from_outside list fresh back a P e same_list same_fresh same_back =
-    let outer : a.book - 0 - a.noted ≡ P.stock.pages + length P.fresh = ap (λ (x : Part). x.stock.pages) e in
+    let outer : a.book - 0 - a.unabsorbed ≡ P.stock.pages + length P.fresh = ap (λ (x : Part). x.stock.pages) e in
     let long : length P.fresh ≡ length fresh = ap length same_fresh in
-    let pages : a.book - length fresh - a.noted ≡ P.stock.pages = omega arith in
+    let pages : a.book - length fresh - a.unabsorbed ≡ P.stock.pages = omega arith in
     λ i. record {
       list = sym same_list i;
       fresh = sym same_fresh i;
       back = sym same_back i;
-      stock = record {
+      stock_seat = record {
         group = ap (λ (x : Part). x.stock.group) e i;
         pages = pages i;
         is_drained = ap (λ (x : Part). x.stock.is_drained) e i;
@@ -64,17 +64,17 @@ from_outside list fresh back a P e same_list same_fresh same_back =
 from_inside : (list fresh back : List ℕ) (a : Account) (P : Part) → part_with list fresh back a ≡ P →
     P.book ≡ P.stock.pages + length P.fresh + P.unreported + P.reported → part_with [] [] [] a ≡ hide_part P
 from_inside list fresh back a P e booked =
-    let inner : a.book - length fresh - a.noted ≡ P.stock.pages = ap (λ (x : Part). x.stock.pages) e in
+    let inner : a.book - length fresh - a.unabsorbed ≡ P.stock.pages = ap (λ (x : Part). x.stock.pages) e in
     let long : length fresh ≡ length P.fresh = ap (λ (x : Part). length x.fresh) e in
     let book : a.book ≡ P.book = ap (λ (x : Part). x.book) e in
     let none : ◌≡◌ {A = ℕ} 0 P.unreported = ap (λ (x : Part). x.unreported) e in
-    let noted : a.noted ≡ P.reported = ap (λ (x : Part). x.reported) e in
-    let pages : a.book - 0 - a.noted ≡ P.stock.pages + length P.fresh = omega arith in
+    let noted : a.unabsorbed ≡ P.reported = ap (λ (x : Part). x.reported) e in
+    let pages : a.book - 0 - a.unabsorbed ≡ P.stock.pages + length P.fresh = omega arith in
     λ i. record {
       list = [];
       fresh = [];
       back = [];
-      stock = record {
+      stock_seat = record {
         group = ap (λ (x : Part). x.stock.group) e i;
         pages = pages i;
         is_drained = ap (λ (x : Part). x.stock.is_drained) e i;
@@ -87,22 +87,22 @@ from_inside list fresh back a P e booked =
 -- ---- what the machine shows of parts and references
 
 pub own_shown : (t : KnownTable) (m : KnownMachine) (c : KnownCpu) (q : ℕ) → q ≡ c.number →
-    (local_of t m c).parts q ≡ part_with c.list c.fresh c.back (account_of m.stock.view q)
+    (local_of t m c).parts q ≡ part_with c.list c.fresh c.back (account_of m.stock_seat.view q)
 own_shown t m c q e = cond-true (q == c.number) _ _ (eq-eqb q c.number e)
 
 pub other_shown : (t : KnownTable) (m : KnownMachine) (c : KnownCpu) (q : ℕ) → (q ≡ c.number → ⊥) →
-    (local_of t m c).parts q ≡ part_with [] [] [] (account_of m.stock.view q)
+    (local_of t m c).parts q ≡ part_with [] [] [] (account_of m.stock_seat.view q)
 other_shown t m c q ne = cond-false (q == c.number) _ _ (ne_eqb q c.number ne)
 
 pub own_references : (t : KnownTable) (m : KnownMachine) (c : KnownCpu) (q f : ℕ) → (q ≡ 0 → ⊥) → q ≡ c.number →
-    (local_of t m c).references q f ≡ holds c.seat f
+    (local_of t m c).references q f ≡ holds c.frame_seat f
 own_references t m c q f ne e =
     cond-false (q == 0) _ _ (ne_eqb q 0 ne) ∙ cond-true (q == c.number) _ _ (eq-eqb q c.number e)
 
 -- ---- what a processor that sees a state has of it
 
 pub record HasOwn (c : KnownCpu) (s : State) : Type 0 where
-  pub references : (f : ℕ) → s.references c.number f ≡ holds c.seat f
+  pub references : (f : ℕ) → s.references c.number f ≡ holds c.frame_seat f
   pub list : (s.parts c.number).list ≡ c.list
   pub fresh : (s.parts c.number).fresh ≡ c.fresh
   pub back : (s.parts c.number).back ≡ c.back
@@ -111,9 +111,9 @@ pub record HasOwn (c : KnownCpu) (s : State) : Type 0 where
 pub has_own : (t : KnownTable) (m : KnownMachine) (c : KnownCpu) (s : State) → (c.number ≡ 0 → ⊥) → local_of t m c ≡ seen_by c.number s → HasOwn c s
 has_own t m c s ne sees =
     let q = c.number in
-    let part : part_with c.list c.fresh c.back (account_of m.stock.view q) ≡ s.parts q =
+    let part : part_with c.list c.fresh c.back (account_of m.stock_seat.view q) ≡ s.parts q =
     sym (own_shown t m c q refl) ∙ ap (λ (x : State). x.parts q) sees ∙ own_part q s.parts q refl in
-    let lists = lists_with c.list c.fresh c.back (account_of m.stock.view q) (s.parts q) part in
+    let lists = lists_with c.list c.fresh c.back (account_of m.stock_seat.view q) (s.parts q) part in
     record {
       references = λ f. sym (own_reference q s.references q f (inr refl)) ∙ sym (ap (λ (x : State). x.references q f) sees) ∙ own_references t m c q f ne refl;
       list = lists.0;
@@ -155,7 +155,7 @@ own_stays c p s later ne other sound sound_later stays own =
 -- ---- what it sees
 
 module _ (t : KnownTable) (n : KnownMachine) (d c : KnownCpu) (s : State) (sound : IsSound s) (own : HasOwn c s) (ne : c.number ≡ 0 → ⊥)
-    (other : c.number ≡ d.number → ⊥) (held : hold_of n.seat c.number ≡ HeldBy c.number) (hold : Hold)
+    (other : c.number ≡ d.number → ⊥) (held : hold_of n.frame_seat c.number ≡ HeldBy c.number) (hold : Hold)
     (sees : local_of t n d ≡ hide d.number (record s { hold = hold })) where
   abbrev q : ℕ
   q = c.number
@@ -170,11 +170,11 @@ module _ (t : KnownTable) (n : KnownMachine) (d c : KnownCpu) (s : State) (sound
       (same_times f c.back ∙ ap (times f) (sym own.back) ∙ sound.lists q BackFrame f)
       (λ u is. own.unit f u is)
 
-  references_seen : (a f : ℕ) → references_of n.seat c a f ≡ hide_references q s.references a f
+  references_seen : (a f : ℕ) → references_of n.frame_seat c a f ≡ hide_references q s.references a f
   references_seen a f = elim (cases_eq a 0) [
     | inl zero_is ↦
-        cond-true (a == 0) (holds n.seat f) _ (eq-eqb a 0 zero_is)
-        ∙ sym (cond-true (a == 0) (holds n.seat f) _ (eq-eqb a 0 zero_is)) ∙ ap (λ (x : State). x.references a f) sees
+        cond-true (a == 0) (holds n.frame_seat f) _ (eq-eqb a 0 zero_is)
+        ∙ sym (cond-true (a == 0) (holds n.frame_seat f) _ (eq-eqb a 0 zero_is)) ∙ ap (λ (x : State). x.references a f) sees
         ∙ own_reference p s.references a f (inl zero_is) ∙ sym (own_reference q s.references a f (inl zero_is))
     | inr some ↦ elim (cases_eq a q) [
       | inl e ↦ own_references t n c a f some e ∙ sym (own.references f) ∙ ap (λ (k : ℕ). s.references k f) (sym e)
@@ -185,19 +185,19 @@ module _ (t : KnownTable) (n : KnownMachine) (d c : KnownCpu) (s : State) (sound
     ]
   ]
 
-  parts_seen : (r : ℕ) → part_of n.stock c r ≡ hide_parts q s.parts r
+  parts_seen : (r : ℕ) → part_of n.stock_seat c r ≡ hide_parts q s.parts r
   parts_seen r = elim (cases_eq r q) [
     | inl e ↦
         let ne_p : r ≡ p → ⊥ = λ z. other (sym e ∙ z) in
         own_shown t n c r e
-        ∙ from_outside c.list c.fresh c.back (account_of n.stock.view r) (s.parts r)
+        ∙ from_outside c.list c.fresh c.back (account_of n.stock_seat.view r) (s.parts r)
         (sym (other_shown t n d r ne_p) ∙ ap (λ (x : State). x.parts r) sees ∙ other_part p s.parts r ne_p)
         (ap (λ (k : ℕ). (s.parts k).list) e ∙ own.list) (ap (λ (k : ℕ). (s.parts k).fresh) e ∙ own.fresh) (ap (λ (k : ℕ). (s.parts k).back) e ∙ own.back)
         ∙ sym (own_part q s.parts r e)
     | inr far ↦
         other_shown t n c r far
         ∙ (elim (cases_eq r p) [
-          | inl e ↦ from_inside d.list d.fresh d.back (account_of n.stock.view r) (s.parts r)
+          | inl e ↦ from_inside d.list d.fresh d.back (account_of n.stock_seat.view r) (s.parts r)
               (sym (own_shown t n d r e) ∙ ap (λ (x : State). x.parts r) sees ∙ own_part p s.parts r e) (sound.booked r)
           | inr off ↦ sym (other_shown t n d r off) ∙ ap (λ (x : State). x.parts r) sees ∙ other_part p s.parts r off
         ])

@@ -175,11 +175,11 @@ module _ (t : KnownTable) (w : Words) (run : Run) (m : KnownMachine) (cpus : Lis
   nobody_stock : (p : ℕ) → is_cpu zone p ≡ false → (p ≡ first.0.number → ⊥) → stock_by m cpus p ≡ (whole.parts p).stock
   nobody_stock p nobody far =
       let fresh : fresh_frames_by cpus p ≡ [] = fresh_is_by p ∙ nobody_fresh p nobody in
-      let e : part_with [] [] [] (account_of m.stock.view p) ≡ hide_part (whole.parts p) =
+      let e : part_with [] [] [] (account_of m.stock_seat.view p) ≡ hide_part (whole.parts p) =
       sym (other_shown t m first.0 p far) ∙ ap (λ (x : State). x.parts p) (seen 0 first.0 first.1).sees ∙ other_part first.0.number whole.parts p far in
       let long : length (whole.parts p).fresh ≡ 0 = ap length (nobody_fresh p nobody) in
       let pages : (hide_part (whole.parts p)).stock.pages ≡ (whole.parts p).stock.pages = omega arith in
-      ap (λ (l : List ℕ). (part_with [] l [] (account_of m.stock.view p)).stock) fresh ∙ ap (λ (x : Part). x.stock) e
+      ap (λ (l : List ℕ). (part_with [] l [] (account_of m.stock_seat.view p)).stock) fresh ∙ ap (λ (x : Part). x.stock_seat) e
       ∙ (λ i. record ((whole.parts p).stock) { pages = pages i })
 
   stock_is : (p : ℕ) → stock_by m cpus p ≡ (whole.parts p).stock
@@ -189,11 +189,11 @@ module _ (t : KnownTable) (w : Words) (run : Run) (m : KnownMachine) (cpus : Lis
         let part = there cpus k inside in
         let d = part.0 in
         let named = (seen k d part.1).number in
-        let e : part_with d.list d.fresh d.back (account_of m.stock.view (suc k)) ≡ whole.parts (suc k) =
+        let e : part_with d.list d.fresh d.back (account_of m.stock_seat.view (suc k)) ≡ whole.parts (suc k) =
         sym (own_shown t m d (suc k) (sym named)) ∙ ap (λ (x : State). x.parts (suc k)) (seen k d part.1).sees
         ∙ own_part d.number whole.parts (suc k) (sym named) in
-        ap (λ (l : List ℕ). (part_with [] l [] (account_of m.stock.view (suc k))).stock) (ap (λ o. option_map_or (λ (c : KnownCpu). c.fresh) o []) part.1)
-        ∙ ap (λ (x : Part). x.stock) e
+        ap (λ (l : List ℕ). (part_with [] l [] (account_of m.stock_seat.view (suc k))).stock) (ap (λ o. option_map_or (λ (c : KnownCpu). c.fresh) o []) part.1)
+        ∙ ap (λ (x : Part). x.stock_seat) e
     | inr past ↦ nobody_stock (suc k) (past_no k past) (λ z. let named = (seen 0 first.0 first.1).number in let count = shows.count in absurd (omega arith))
   ]
 
@@ -202,7 +202,7 @@ module _ (t : KnownTable) (w : Words) (run : Run) (m : KnownMachine) (cpus : Lis
   fresh_times : (f p : ℕ) → parts.times f (fresh_frames_by cpus p) ≡ one_if (has_as FreshFrame p (whole.phases f))
   fresh_times f p = same_times f (fresh_frames_by cpus p) ∙ ap (times f) (fresh_is_by p) ∙ sound.lists p FreshFrame f
 
-  lent_keeper : (f p : ℕ) (b : Bool) → has_as FreshFrame p (whole.phases f) ≡ b → keeper_by m cpus f (Lent p) ≡ (if b then (account_of m.stock.view p).group else None)
+  lent_keeper : (f p : ℕ) (b : Bool) → has_as FreshFrame p (whole.phases f) ≡ b → keeper_by m cpus f (Lent p) ≡ (if b then (account_of m.stock_seat.view p).group else None)
   lent_keeper f p true e = cond-true _ _ _ (le-leb 1 (parts.times f (fresh_frames_by cpus p)) (let a = fresh_times f p in let b = ap one_if e in omega arith))
   lent_keeper f p false e = cond-false _ _ _ (ap (nat_le 1) (fresh_times f p ∙ ap one_if e))
 

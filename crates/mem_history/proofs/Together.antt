@@ -27,7 +27,7 @@ there (x ∷ xs) (suc k) h = there xs k (omega arith)
 
 -- a part has what the state has of its processor
 pub record HasPart (s : State) (k : ℕ) (d : KnownCpu) : Type 0 where
-  pub references : (f : ℕ) → s.references (suc k) f ≡ holds d.seat f
+  pub references : (f : ℕ) → s.references (suc k) f ≡ holds d.frame_seat f
   pub fresh : (s.parts (suc k)).fresh ≡ d.fresh
 
 decided_counted : (s : State) (seat : ℕ) (action : Action) (answer : Answer) → IsDecided s seat action answer → IsCounted s action answer
@@ -60,7 +60,7 @@ module _ (cpus : List KnownCpu) (p : ℕ) (start s : State) (count : length cpus
         let part = there cpus k (omega arith) in
         cond-false (is_own p (suc k)) _ (references_by cpus (suc k) f)
         (or_from (suc k == 0) (suc k == p) (ne_eqb (suc k) 0 (λ z. absurd (omega arith))) (ne_eqb (suc k) p ne))
-        ∙ ap (λ o. option_map_or (λ (c : KnownCpu). holds c.seat f) o 0) part.1
+        ∙ ap (λ o. option_map_or (λ (c : KnownCpu). holds c.frame_seat f) o 0) part.1
         ∙ sym ((known k part.0 part.1).references f) ∙ sym (stays.references (suc k) (λ z. absurd (omega arith)) ne f)
   ]
 

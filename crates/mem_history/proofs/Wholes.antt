@@ -72,12 +72,12 @@ phase_still c f (Lent q) = lent_still (q == c.number && nat_le 1 (parts.times f 
 phase_still c f (Head unit) = head_still (nat_le 1 (parts.times f c.back)) unit c.number
 phase_still c f (Tail g) = refl
 
-pub may_unlock : (t : KnownTable) (m : KnownMachine) (c : KnownCpu) → is_cpu (zone_of t) c.number ≡ true → IsShut m.seat c.number →
+pub may_unlock : (t : KnownTable) (m : KnownMachine) (c : KnownCpu) → is_cpu (zone_of t) c.number ≡ true → IsShut m.frame_seat c.number →
     is_legal (local_of t m c) c.number Unlock ≡ true
 may_unlock t m c cpu shut =
     let s = local_of t m c in
-    let held : is_held_by c.number (hold_of m.seat c.number) ≡ true =
-    ap (is_held_by c.number) (hold_shut m.seat c.number shut) ∙ eq-eqb c.number c.number refl in
+    let held : is_held_by c.number (hold_of m.frame_seat c.number) ≡ true =
+    ap (is_held_by c.number) (hold_shut m.frame_seat c.number shut) ∙ eq-eqb c.number c.number refl in
     let settled : is_settled s ≡ true = all_each 64 (λ g. s.pending g == 0) (λ g below. eq-eqb (s.pending g) 0 refl) in
     let still : no_frame_passes s ≡ true =
     all_each t.frames (λ f. not (is_passing (s.phases f))) (λ f below. ap not (phase_still c f (spot_at m.spots f))) in
@@ -142,7 +142,7 @@ module _ (t : KnownTable) (run : Run) (m : KnownMachine) (cpus : List KnownCpu) 
   -- each other part sees what it would see
   pub others_follow : (n : KnownMachine) (d : KnownCpu) (later : Run) (s : State) (hold : Hold) → d.number ≡ c.number → IsLegalRun zone later →
       state_of zone later ≡ s → Stays c.number whole s →
-      ((j : ℕ) (e : KnownCpu) → slice_get cpus j ≡ Some e → hold_of n.seat e.number ≡ HeldBy e.number) → local_of t n d ≡ hide d.number (record s { hold = hold }) →
+      ((j : ℕ) (e : KnownCpu) → slice_get cpus j ≡ Some e → hold_of n.frame_seat e.number ≡ HeldBy e.number) → local_of t n d ≡ hide d.number (record s { hold = hold }) →
       (j : ℕ) (e : KnownCpu) → slice_get (slice_set cpus k d) j ≡ Some e → (j ≡ k → ⊥) → IsSeenAt t n s j e
   others_follow n d later s hold named legal is stays held sees j e at ne =
       let in_list = set_else cpus k j d e ne at in
@@ -186,7 +186,7 @@ lines_follow t run cpus k before steps after shows serves =
     let made : Run = lock ++ steps in
     let last = state_of zone made in
     let number : d.number ≡ p =
-    only_holder p d.number (slice_index n.seat.view.opened d.number == 1) (ap (λ (x : State). holds_lock p x.hold) goes.0.sees ∙ goes.0.holds) in
+    only_holder p d.number (slice_index n.frame_seat.view.opened d.number == 1) (ap (λ (x : State). holds_lock p x.hold) goes.0.sees ∙ goes.0.holds) in
     let free : IsFreeAfter zone (pushed made (record { seat = p; action = Unlock }) Done) =
     the_lock_is_passed_on.given_back zone made p (local_of t n d) goes.0
     (subst (λ (q : ℕ). is_legal (local_of t n d) q Unlock ≡ true) number
@@ -195,7 +195,7 @@ lines_follow t run cpus k before steps after shows serves =
     let done : Run = pushed made (record { seat = p; action = Unlock }) Done in
     let done_is : state_of zone done ≡ record last { hold = Unheld } = state_more zone made (record { seat = p; action = Unlock }) Done in
     let held : last.hold ≡ HeldBy p =
-    sym (ap (λ (x : State). x.hold) goes.0.sees) ∙ hold_shut n.seat d.number (serves.shut d.number) ∙ ap HeldBy number in
+    sym (ap (λ (x : State). x.hold) goes.0.sees) ∙ hold_shut n.frame_seat d.number (serves.shut d.number) ∙ ap HeldBy number in
     let sees : local_of t n d ≡ hide d.number (record (record last { hold = Unheld }) { hold = HeldBy d.number }) =
     goes.0.sees ∙ (λ i. hide (sym number i) (record last { hold = (held ∙ ap HeldBy (sym number)) i })) in
     let stays : Stays p whole (record last { hold = Unheld }) = record { references = goes.1.references; parts = goes.1.parts } in
@@ -215,7 +215,7 @@ lines_follow t run cpus k before steps after shows serves =
               sees = sees;
             })
         | inr ne ↦ others_follow t run m cpus k c shows serves.is_part n d done (record last { hold = Unheld }) (HeldBy d.number) number free.legal done_is
-            stays (λ i e there. hold_shut n.seat e.number (serves.shut e.number)) sees j e at ne
+            stays (λ i e there. hold_shut n.frame_seat e.number (serves.shut e.number)) sees j e at ne
       ]);
     })
   where

@@ -48,7 +48,7 @@ TheFirstHolderIsShown = (table : KnownTable) (words : Words) (first : KnownMachi
 -- frame
 pub record IsTiedPart (table : KnownTable) (words : Words) (cpu : KnownCpu) : Type 0 where
   pub tied : IsTied table words cpu
-  pub none_fresh : group_of cpu.stock.view.last ≡ None → length cpu.fresh ≡ 0
+  pub none_fresh : group_of cpu.stock_seat.view.last ≡ None → length cpu.fresh ≡ 0
 
 -- so it is of all parts
 abbrev pub AreTied : KnownTable → Words → List KnownCpu → Type 0
@@ -84,14 +84,14 @@ abbrev pub keeper_by : KnownMachine → List KnownCpu → ℕ → Spot → Optio
 keeper_by machine cpus frame Free = None
 keeper_by machine cpus frame (Lent processor) =
     if nat_le 1 (times frame (fresh_frames_by cpus processor))
-    then (account_of machine.stock.view processor).group else None
+    then (account_of machine.stock_seat.view processor).group else None
 keeper_by machine cpus frame (Head unit) = Some unit.group
 keeper_by machine cpus frame (Tail group) = Some group
 
 -- the stock of the processor: of its account's group, with the booked pages that are neither fresh nor noted
 abbrev pub stock_by : KnownMachine → List KnownCpu → ℕ → Stock
 stock_by machine cpus processor =
-    (part_with [] (fresh_frames_by cpus processor) [] (account_of machine.stock.view processor)).stock
+    (part_with [] (fresh_frames_by cpus processor) [] (account_of machine.stock_seat.view processor)).stock
 
 -- what the machine and the parts show: memory.current is the ledger's number, which `read` prints
 abbrev pub shown_of : KnownMachine → List KnownCpu → Shown

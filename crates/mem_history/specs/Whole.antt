@@ -52,7 +52,7 @@ TheHolderIsShown = (table : KnownTable) (run : Run) (machine : KnownMachine) (cp
 -- the references of a processor on the frame, by its part; number 0 is nobody's
 abbrev pub references_by : List KnownCpu → ℕ → ℕ → ℕ
 references_by cpus zero frame = 0
-references_by cpus (suc index) frame = option_map_or (λ cpu. holds cpu.seat frame) (slice_get cpus index) 0
+references_by cpus (suc index) frame = option_map_or (λ cpu. holds cpu.frame_seat frame) (slice_get cpus index) 0
 
 -- how many fresh frames a processor has, by its part
 abbrev pub fresh_by : List KnownCpu → ℕ → ℕ
@@ -66,7 +66,7 @@ seen_together cpus processor local = record local {
   references = λ seat frame.
       if is_own processor seat then local.references seat frame else references_by cpus seat frame;
   parts = λ other. if other == processor then local.parts other else record (local.parts other) {
-    stock = record ((local.parts other).stock) { pages = (local.parts other).stock.pages - fresh_by cpus other };
+    stock_seat = record ((local.parts other).stock) { pages = (local.parts other).stock.pages - fresh_by cpus other };
   };
 }
 
@@ -99,7 +99,7 @@ pub record ServesAt (table : KnownTable) (cpus : List KnownCpu) (index : ℕ)
   pub is_part : slice_get cpus index ≡ Some before.cpu
   pub leads : Makes table before steps after
   pub decided : AreDecided table cpus before steps
-  pub shut : (processor : ℕ) → IsShut after.machine.seat processor
+  pub shut : (processor : ℕ) → IsShut after.machine.frame_seat processor
 
 -- where a run shows the whole, it goes on with the line, and shows the whole after it
 abbrev pub LinesFollow : Type 0

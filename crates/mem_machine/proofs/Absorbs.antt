@@ -27,23 +27,23 @@ group_fits (DrainedOf h) g is e = let same : h ≡ g = ap number_or_0 e in (omeg
 
 module _ (view : StockView) (p : ℕ) where
   abbrev pub absorbed_account : Account
-  absorbed_account = let a = account_of view p in record a { book = a.book - (a.noted + 1); noted = 0 }
+  absorbed_account = let a = account_of view p in record a { book = a.book - (a.unabsorbed + 1); unabsorbed = 0 }
 
   abbrev after : StockView
   after = absorbing (noting view p 1) p
 
-  noted_at : account_of (noting view p 1) p ≡ (let a = account_of view p in record a { noted = a.noted + 1 })
-  noted_at = account_of-with_account view p (let a = account_of view p in record a { noted = a.noted + 1 })
+  noted_at : account_of (noting view p 1) p ≡ (let a = account_of view p in record a { unabsorbed = a.unabsorbed + 1 })
+  noted_at = account_of-with_account view p (let a = account_of view p in record a { unabsorbed = a.unabsorbed + 1 })
 
   pub absorbed_at : account_of after p ≡ absorbed_account
   absorbed_at =
-      account_of-with_account (noting view p 1) p (let a = account_of (noting view p 1) p in record a { book = a.book - a.noted; noted = 0 })
-      ∙ ap (λ (a : Account). record a { book = a.book - a.noted; noted = 0 }) noted_at
+      account_of-with_account (noting view p 1) p (let a = account_of (noting view p 1) p in record a { book = a.book - a.unabsorbed; unabsorbed = 0 })
+      ∙ ap (λ (a : Account). record a { book = a.book - a.unabsorbed; unabsorbed = 0 }) noted_at
 
   pub absorbed_else : (q : ℕ) → (q ≡ p → ⊥) → account_of after q ≡ account_of view q
   absorbed_else q ne =
-      account_of-with_account_other (noting view p 1) p q (let a = account_of (noting view p 1) p in record a { book = a.book - a.noted; noted = 0 }) ne
-      ∙ account_of-with_account_other view p q (let a = account_of view p in record a { noted = a.noted + 1 }) ne
+      account_of-with_account_other (noting view p 1) p q (let a = account_of (noting view p 1) p in record a { book = a.book - a.unabsorbed; unabsorbed = 0 }) ne
+      ∙ account_of-with_account_other view p q (let a = account_of view p in record a { unabsorbed = a.unabsorbed + 1 }) ne
 
   -- a test of the accounts after it
   pub absorbed_read : {X : Type 0} (h : Account → X) → (q : ℕ) → h (account_of after q) ≡ with_at (λ k. h (account_of view k)) p (h absorbed_account) q
@@ -54,9 +54,9 @@ module _ (view : StockView) (p : ℕ) where
   ]
 
   -- nothing that was reported is unabsorbed
-  pub none_noted : ((q : ℕ) → (account_of view q).noted ≡ 0) → (q : ℕ) → (account_of after q).noted ≡ 0
-  none_noted none q = absorbed_read (λ (a : Account). a.noted) q
-      ∙ at_each (λ j. (account_of view j).noted) p absorbed_account.noted (λ j x. x ≡ 0) refl (λ j ne. none j) q
+  pub none_noted : ((q : ℕ) → (account_of view q).unabsorbed ≡ 0) → (q : ℕ) → (account_of after q).unabsorbed ≡ 0
+  none_noted none q = absorbed_read (λ (a : Account). a.unabsorbed) q
+      ∙ at_each (λ j. (account_of view j).unabsorbed) p absorbed_account.unabsorbed (λ j x. x ≡ 0) refl (λ j ne. none j) q
 
   -- the books fit their words still
   pub still_bounded : ((q : ℕ) → (account_of view q).book < 65536) → (q : ℕ) → (account_of after q).book < 65536
@@ -67,7 +67,7 @@ module _ (view : StockView) (p : ℕ) where
       omega (arith, read, at)
 
 -- the books of the processor's group have one page less, and those of the other groups as many
-pub books_fall : (t : KnownTable) (stock : Seated) (p g : ℕ) → p ≤ t.cpus → (account_of stock.view p).group ≡ Some g → (account_of stock.view p).noted ≡ 0
+pub books_fall : (t : KnownTable) (stock : Seated) (p g : ℕ) → p ≤ t.cpus → (account_of stock.view p).group ≡ Some g → (account_of stock.view p).unabsorbed ≡ 0
     → 1 ≤ (account_of stock.view p).book → (h : ℕ) → pages_booked t stock h ≡ pages_booked t (with_page_absorbed stock p) h + cond (h == g) 1 0
 books_fall t stock p g inside group noted some h =
     let a = account_of stock.view p in
@@ -82,7 +82,7 @@ books_fall t stock p g inside group noted some h =
       | inl e ↦
           let u : count_of h a.group ≡ 1 = ap (count_of h) group ∙ counts_own h g e in
           let x : booked h a ≡ a.book = booked_is h a 1 u in
-          let y : booked h b ≡ a.book - (a.noted + 1) = booked_is h b 1 u in
+          let y : booked h b ≡ a.book - (a.unabsorbed + 1) = booked_is h b 1 u in
           let z : ◌≡◌ {A = ℕ} (cond (h == g) 1 0) 1 = cond-true (h == g) 1 0 (eq-eqb h g e) in
           omega (arith, change, x, y, z, noted, some)
       | inr ne ↦

@@ -40,15 +40,15 @@ use Rattle.group_charge.proofs.CallerLemmas.{uncharge_peaks, uncharge_events}
 -- what is told of a back frame that was handed over
 pub record WasBack (t : KnownTable) (m : KnownMachine) (f : ℕ) : Type 0 where
   pub inside : f < t.frames
-  pub nothing : HasNothingOf m.seat f
-  pub lent : IsLentToNone m.seat f
+  pub nothing : HasNothingOf m.frame_seat f
+  pub lent : IsLentToNone m.frame_seat f
 
 -- it heads a unit
 pub back_heads : (t : KnownTable) (w : Words) (m : KnownMachine) → IsConsistent t w m → (f : ℕ) → WasBack t m f
     → (unit : ChargedUnit) × (spot_at m.spots f ≡ Head unit)
 back_heads t w m ok f was =
     let fits = ok.spots f was.inside in
-    let none : (note_of m.seat.view f).own ≡ 0 = let a = was.nothing.1 in omega (arith, a) in
+    let none : (note_of m.frame_seat.view f).own ≡ 0 = let a = was.nothing.1 in omega (arith, a) in
     heads_one (spot_at m.spots f) (ap some_cpu (sym was.lent) ∙ fits.lent) (sym none ∙ fits.own)
 
 -- as its record is read
@@ -70,11 +70,11 @@ back_inside t w m ok i unit heads = (ok.units.heads i unit heads).block.inside
 
 -- and passes once it was handed
 pub back_passes : (t : KnownTable) (w : Words) (m now : KnownMachine) → m ≡ now → (c h : KnownCpu) → IsTied t w c → Visits t (side now c)
-    → (f : ℕ) (seat : KnownSeat) → f < t.frames → HandsBack f c h → seat ≡ m.seat → Passes seat h.seat f
+    → (f : ℕ) (seat : KnownSeat) → f < t.frames → HandsBack f c h → seat ≡ m.frame_seat → Passes seat h.frame_seat f
 back_passes t w m now same c h tied visit f seat inside hands is =
-    subst (λ (s : KnownSeat). Passes s h.seat f) (sym is)
-    (handed_passes t m.seat c.seat c.number tied.seats.frame_number f (subst (λ (x : KnownMachine). NothingPasses t x.seat c.seat)
-    (sym same) visit.still) h.seat (ap (λ (x : KnownCpu). x.seat) hands.2) inside)
+    subst (λ (s : KnownSeat). Passes s h.frame_seat f) (sym is)
+    (handed_passes t m.frame_seat c.frame_seat c.number tied.seats.frame_number f (subst (λ (x : KnownMachine). NothingPasses t x.frame_seat c.frame_seat)
+    (sym same) visit.still) h.frame_seat (ap (λ (x : KnownCpu). x.frame_seat) hands.2) inside)
 
 module _ (t : KnownTable) (w : Words) (m : KnownMachine) (c : KnownCpu) (tied : IsTied t w c) (ok : IsConsistent t w m) (visit : Visits t (side m c))
     (f : ℕ) (was : WasBack t m f) (unit : ChargedUnit) (heads : spot_at m.spots f ≡ Head unit) (rest : List ℕ) (front : c.back ≡ f ∷ rest)
@@ -94,7 +94,7 @@ module _ (t : KnownTable) (w : Words) (m : KnownMachine) (c : KnownCpu) (tied : 
     blocks = blocks;
     spots = new;
     ledger = with_uncharge m.ledger unit.group (2 ^ unit.order);
-    seat = seat_with m.seat f (collected_from c.number);
+    frame_seat = seat_with m.frame_seat f (collected_from c.number);
     counts = counts;
   }
 
@@ -103,7 +103,7 @@ module _ (t : KnownTable) (w : Words) (m : KnownMachine) (c : KnownCpu) (tied : 
   no_home None is = refl
   no_home (Some h) is = absurd (omega (arith, is))
 
-  back_fits : FitsSpot t.cpus (collected_from c.number (note_of m.seat.view f)) (home_of m.links f) Free
+  back_fits : FitsSpot t.cpus (collected_from c.number (note_of m.frame_seat.view f)) (home_of m.links f) Free
   back_fits =
       let fits = ok.spots f was.inside in
       let home = no_home (home_of m.links f) (sym was.nothing.0 ∙ fits.references) in
@@ -117,20 +117,20 @@ module _ (t : KnownTable) (w : Words) (m : KnownMachine) (c : KnownCpu) (tied : 
 
   pub returned_consistent : IsConsistent t w returned
   returned_consistent =
-      let seat = seat_with m.seat f (collected_from c.number) in
+      let seat = seat_with m.frame_seat f (collected_from c.number) in
       let sizes = ok.sizes in
       unit_freed_consistent t w m ok f unit heads new blocks m.links m.lists seat counts frees areas ok.seats.frames sizes.links sizes.lists ok.lists
       (λ x inside ne. subst (λ (k : FrameNote). FitsSpot t.cpus k (home_of m.links x) (spot_at m.spots x))
-      (sym (note_else m.seat.view f x (collected_from c.number) ne)) (ok.spots x inside))
-      (subst (λ (k : FrameNote). FitsSpot t.cpus k (home_of m.links f) Free) (sym (note_here m.seat.view f (collected_from c.number))) back_fits)
+      (sym (note_else m.frame_seat.view f x (collected_from c.number) ne)) (ok.spots x inside))
+      (subst (λ (k : FrameNote). FitsSpot t.cpus k (home_of m.links f) Free) (sym (note_here m.frame_seat.view f (collected_from c.number))) back_fits)
       (subst BalancesCounts (sym counted) (balanced_last_put m.counts ok.balances))
 
   pub returned_steps : IsLocalRun c.number s (return_steps c.number f) (local_of t returned d)
   returned_steps =
       let v = is_visited t w m c tied visit f was.inside in
       let ph = phases_freed c d m.spots f (back_else c f rest front) new unit Ended frees in
-      let re = references_same m.seat c d f c.number refl refl in
-      let pa = parts_back m.stock c f rest front at unit in
+      let re = references_same m.frame_seat c d f c.number refl refl in
+      let pa = parts_back m.stock_seat c f rest front at unit in
       return_run s c.number f unit _ v (own_part m c) (local_of t returned d) (back_phase c f (spot_at m.spots f) unit heads at.once)
       (λ i. record s { phases = λ x. sym (ph x) i; references = λ q x. sym (re q x) i; parts = λ q. sym (pa q) i })
 
@@ -161,11 +161,11 @@ pub record AllReturned (t : KnownTable) (w : Words) (now : KnownMachine) (c : Kn
 pub return_all : (t : KnownTable) (w : Words) (m now : KnownMachine) → m ≡ now → (c h d : KnownCpu) → IsTied t w c → IsConsistent t w m → Visits t (side now c)
     → (before free : List Bool) → before ≡ free_of m.spots → (f : ℕ) → WasBack t m f → HandsBack f c h → d ≡ h → (i : ℕ) → i ≡ f
     → (unit : ChargedUnit) → spot_at m.spots i ≡ Head unit
-    → (seat : KnownSeat) → seat ≡ seat_with m.seat f (collected_from h.number)
+    → (seat : KnownSeat) → seat ≡ seat_with m.frame_seat f (collected_from h.number)
     → (spots : List Spot) → FreesFrames i (2 ^ unit.order) m.spots spots → (blocks : List Block)
     → GivesFrames before (record { at = i; order = unit.order }) free → AreMaximalBlocks free blocks
     → (ledger : Ledger) → ledger ≡ with_uncharge m.ledger unit.group (2 ^ unit.order) → (counts : Counts) → counts ≡ with_last_put m.counts
-    → AllReturned t w now c f (record m { blocks = blocks; spots = spots; ledger = ledger; seat = seat; counts = counts }) d free
+    → AllReturned t w now c f (record m { blocks = blocks; spots = spots; ledger = ledger; frame_seat = seat; counts = counts }) d free
 return_all t w m now same c h d tied ok visit_now before free free_was f was hands stays i index unit heads_i seat collects spots frees_i blocks gives_i areas_i
     ledger uncharges counts counted =
     let visit : Visits t (side m c) = subst (λ (x : KnownMachine). Visits t (side x c)) (sym same) visit_now in
@@ -193,10 +193,10 @@ return_all t w m now same c h d tied ok visit_now before free free_was f was han
       };
     } in
     let number : h.number ≡ c.number = ap (λ (x : KnownCpu). x.number) hands.2 in
-    let seat_is : seat ≡ seat_with m.seat f (collected_from c.number) = collects ∙ ap (λ (x : ℕ). seat_with m.seat f (collected_from x)) number in
+    let seat_is : seat ≡ seat_with m.frame_seat f (collected_from c.number) = collects ∙ ap (λ (x : ℕ). seat_with m.frame_seat f (collected_from x)) number in
     subst (λ (x : KnownMachine × KnownMachine × KnownCpu). AllReturned t w x.0 c f x.1 x.2 free)
     (λ j. (
       same j,
-      record m { blocks = blocks; spots = spots; ledger = sym uncharges j; seat = sym seat_is j; counts = counts },
+      record m { blocks = blocks; spots = spots; ledger = sym uncharges j; frame_seat = sym seat_is j; counts = counts },
       sym (stays ∙ hands.2) j,
     )) one

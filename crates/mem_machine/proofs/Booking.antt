@@ -134,17 +134,17 @@ pub noted_books : (t : KnownTable) (stock : Seated) (p n : ℕ) → p ≤ t.cpus
     → pages_booked t (with_view stock (noting stock.view p n)) h ≡ pages_booked t stock h
 noted_books t stock p n inside h =
     let a = account_of stock.view p in
-    let move = books_move t stock p (record a { noted = a.noted + n }) inside h in
+    let move = books_move t stock p (record a { unabsorbed = a.unabsorbed + n }) inside h in
     omega (arith, move)
 
 -- the pages that are taken in come off the books of the stock's group
 pub absorbed_books : (t : KnownTable) (stock : Seated) (p g : ℕ) → p ≤ t.cpus → (account_of stock.view p).group ≡ Some g
-    → (account_of stock.view p).noted ≤ (account_of stock.view p).book → (h : ℕ)
-    → pages_booked t stock h ≡ pages_booked t (with_view stock (absorbing stock.view p)) h + cond (h == g) (account_of stock.view p).noted 0
+    → (account_of stock.view p).unabsorbed ≤ (account_of stock.view p).book → (h : ℕ)
+    → pages_booked t stock h ≡ pages_booked t (with_view stock (absorbing stock.view p)) h + cond (h == g) (account_of stock.view p).unabsorbed 0
 absorbed_books t stock p g inside group enough h =
     let a = account_of stock.view p in
-    let move = books_move t stock p (record a { book = a.book - a.noted; noted = 0 }) inside h in
-    let less = booked_less h g a.noted a group enough in
+    let move = books_move t stock p (record a { book = a.book - a.unabsorbed; unabsorbed = 0 }) inside h in
+    let less = booked_less h g a.unabsorbed a group enough in
     omega (arith, move, less)
 
 -- ---- the calls
@@ -197,12 +197,12 @@ module _ (t : KnownTable) (w : Words) (m : Seated) (sums : List ℕ) (are : AreB
         (omega (arith, small, b, read))
 
     -- what was noted is taken in
-    pub after_absorb : k ≡ (account_of m.view q).noted → k ≤ (account_of m.view q).book → (n : Seated)
+    pub after_absorb : k ≡ (account_of m.view q).unabsorbed → k ≤ (account_of m.view q).book → (n : Seated)
         → n ≡ with_view m (with_steps 1 (absorbing m.view q)) → AreBooked t w n (slice_set sums g (r - k))
     after_absorb all enough n is =
         let small = within_count enough in
         let b = are.each g fits in
-        let some : (account_of m.view q).noted ≤ (account_of m.view q).book = omega (arith, all, enough) in
+        let some : (account_of m.view q).unabsorbed ≤ (account_of m.view q).book = omega (arith, all, enough) in
         counted_less t w m n sums g k (r - k) are (same_seat m n _ refl is) fits
         (λ h. absorbed_books t m q g inside group some h
         ∙ ap (λ (z : Seated × ℕ). pages_booked t z.0 h + cond (h == g) z.1 0) (λ i. (sym is i, sym all i)))
@@ -221,13 +221,13 @@ module _ (t : KnownTable) (w : Words) (m : Seated) (sums : List ℕ) (are : AreB
 pub noted_group : (m n : Seated) (p k : ℕ) → n ≡ with_view m (noting m.view p k) → (account_of n.view p).group ≡ (account_of m.view p).group
 noted_group m n p k is =
     ap (λ (x : Seated). (account_of x.view p).group) is
-    ∙ ap (λ (a : Account). a.group) (account_of-with_account m.view p (let a = account_of m.view p in record a { noted = a.noted + k }))
+    ∙ ap (λ (a : Account). a.group) (account_of-with_account m.view p (let a = account_of m.view p in record a { unabsorbed = a.unabsorbed + k }))
 
 -- the pages of a group that is there leave its books room for as many as its root has
 pub room_booked : (t : KnownTable) (w : Words) (m now : KnownMachine) → m ≡ now → IsConsistent t w m → AreCharges m.ledger → (g n : ℕ)
-    → has_group now.ledger.groups g ≡ true → current_of now.ledger 0 + n < 2 ^ 32 → (h : ℕ) → h ≡ g → pages_booked t m.stock h + n < 2 ^ 32
+    → has_group now.ledger.groups g ≡ true → current_of now.ledger 0 + n < 2 ^ 32 → (h : ℕ) → h ≡ g → pages_booked t m.stock_seat h + n < 2 ^ 32
 room_booked t w m now same ok charges g n there fits h is =
-    subst (λ (k : ℕ). pages_booked t m.stock k + n < 2 ^ 32) (sym is)
+    subst (λ (k : ℕ). pages_booked t m.stock_seat k + n < 2 ^ 32) (sym is)
     (let here : has_group m.ledger.groups g ≡ true = ap (λ (x : KnownMachine). has_group x.ledger.groups g) same ∙ there in
     let few : current_of m.ledger 0 + n < 2 ^ 32 = subst (λ (x : KnownMachine). current_of x.ledger 0 + n < 2 ^ 32) (sym same) fits in
     let own = pages-le-current m.ledger g here in

@@ -136,10 +136,10 @@ booked_within t stock q g inside group =
 
 -- other charges and another seat of the stocks
 pub stocks_consistent : (t : KnownTable) (w : Words) (m : KnownMachine) (l : Ledger) (stock : Seated)
-    → IsConsistent t w m → stock.table ≡ m.stock.table → IsZoneStock stock.view
-    → ((p : ℕ) → (account_of stock.view p).noted ≡ 0) → ((p : ℕ) → (account_of stock.view p).book < 65536)
+    → IsConsistent t w m → stock.table ≡ m.stock_seat.table → IsZoneStock stock.view
+    → ((p : ℕ) → (account_of stock.view p).unabsorbed ≡ 0) → ((p : ℕ) → (account_of stock.view p).book < 65536)
     → ((g : ℕ) → pages_of l g ≡ frames_charged m.spots g + pages_booked t stock g)
-    → IsConsistent t w (record m { ledger = l; stock = stock })
+    → IsConsistent t w (record m { ledger = l; stock_seat = stock })
 stocks_consistent t w m l stock ok table machine noted bounded charged = record {
   sizes = let s = ok.sizes in record { spots = s.spots; links = s.links; lists = s.lists; killed = s.killed; cpus = s.cpus };
   seats = let s = ok.seats in record { frames = s.frames; table = table ∙ s.table; stocks = machine };
@@ -154,44 +154,44 @@ stocks_consistent t w m l stock ok table machine noted bounded charged = record 
 }
 
 module _ (t : KnownTable) (w : Words) (m : KnownMachine) (ok : IsConsistent t w m) (q k : ℕ) (inside : q ≤ t.cpus) (enough : k
-    ≤ (account_of m.stock.view q).book) where
+    ≤ (account_of m.stock_seat.view q).book) where
   abbrev pub emptied : Seated
-  emptied = with_view m.stock (draining m.stock.view q k)
+  emptied = with_view m.stock_seat (draining m.stock_seat.view q k)
 
-  books_change : (h : ℕ) → pages_booked t emptied h + booked h (account_of m.stock.view q)
-      ≡ pages_booked t m.stock h + booked h (drained_account m.stock.view q k)
+  books_change : (h : ℕ) → pages_booked t emptied h + booked h (account_of m.stock_seat.view q)
+      ≡ pages_booked t m.stock_seat h + booked h (drained_account m.stock_seat.view q k)
   books_change h =
       let each : (λ (p : ℕ). booked h (account_of emptied.view p))
-      ≡ with_at (λ p. booked h (account_of m.stock.view p)) q (booked h (drained_account m.stock.view q k))
-      = λ i. λ p. drained_read m.stock.view q k (booked h) p i in
-      ap (λ (f : ℕ → ℕ). sum_to (t.cpus + 1) f + booked h (account_of m.stock.view q)) each
-      ∙ sum_change (t.cpus + 1) (λ p. booked h (account_of m.stock.view p)) q (booked h (drained_account m.stock.view q k)) (omega (arith, inside))
+      ≡ with_at (λ p. booked h (account_of m.stock_seat.view p)) q (booked h (drained_account m.stock_seat.view q k))
+      = λ i. λ p. drained_read m.stock_seat.view q k (booked h) p i in
+      ap (λ (f : ℕ → ℕ). sum_to (t.cpus + 1) f + booked h (account_of m.stock_seat.view q)) each
+      ∙ sum_change (t.cpus + 1) (λ p. booked h (account_of m.stock_seat.view p)) q (booked h (drained_account m.stock_seat.view q k)) (omega (arith, inside))
 
   charged_after : (o : Option ℕ) → stock_group m q ≡ o → (o ≡ None → k ≡ 0) → (h : ℕ) → pages_of (uncharged m.ledger o k) h
       ≡ frames_charged m.spots h + pages_booked t emptied h
   charged_after None is none h =
       let a = ok.charged h in
       let b = books_change h in
-      let x = booked_no_group h (account_of m.stock.view q) is in
-      let y = booked_no_group h (drained_account m.stock.view q k) is in
+      let x = booked_no_group h (account_of m.stock_seat.view q) is in
+      let y = booked_no_group h (drained_account m.stock_seat.view q k) is in
       omega (arith, a, b, x, y)
   charged_after (Some g) is none h =
-      let within = booked_within t m.stock q g inside is in
+      let within = booked_within t m.stock_seat q g inside is in
       let all = ok.charged g in
       let fall = uncharge_pages m.ledger g k (omega (arith, within, all, enough)) h in
-      let less = booked_less h g k (account_of m.stock.view q) is enough in
+      let less = booked_less h g k (account_of m.stock_seat.view q) is enough in
       let a = ok.charged h in
       let b = books_change h in
       omega (arith, fall, less, a, b)
 
-  pub drain_consistent : (stock_group m q ≡ None → k ≡ 0) → IsConsistent t w (record m { ledger = uncharged m.ledger (stock_group m q) k; stock = emptied })
+  pub drain_consistent : (stock_group m q ≡ None → k ≡ 0) → IsConsistent t w (record m { ledger = uncharged m.ledger (stock_group m q) k; stock_seat = emptied })
   drain_consistent none = stocks_consistent t w m (uncharged m.ledger (stock_group m q) k) emptied ok refl ok.seats.stocks
-      (λ p. drained_read m.stock.view q k (λ (a : Account). a.noted) p
-      ∙ at_each (λ j. (account_of m.stock.view j).noted) q (drained_account m.stock.view q k).noted
+      (λ p. drained_read m.stock_seat.view q k (λ (a : Account). a.unabsorbed) p
+      ∙ at_each (λ j. (account_of m.stock_seat.view j).unabsorbed) q (drained_account m.stock_seat.view q k).unabsorbed
       (λ j x. x ≡ 0) (ok.absorbed q) (λ j ne. ok.absorbed j) p)
       (λ p.
-      let read = drained_read m.stock.view q k (λ (a : Account). a.book) p in
-      let at = at_each (λ j. (account_of m.stock.view j).book) q (drained_account m.stock.view q k).book (λ j x. x < 65536)
+      let read = drained_read m.stock_seat.view q k (λ (a : Account). a.book) p in
+      let at = at_each (λ j. (account_of m.stock_seat.view j).book) q (drained_account m.stock_seat.view q k).book (λ j x. x < 65536)
       (let a = ok.bounded q in omega (arith, a)) (λ j ne. ok.bounded j) p in
       omega (arith, read, at))
       (charged_after (stock_group m q) refl none)
@@ -199,7 +199,7 @@ module _ (t : KnownTable) (w : Words) (m : KnownMachine) (ok : IsConsistent t w 
   -- the pages are charged to a group that is there
   pub drained_there : (g : ℕ) → AreCharges m.ledger → stock_group m q ≡ Some g → 1 ≤ k → (has_group m.ledger.groups g ≡ true) × (k ≤ pages_of m.ledger g)
   drained_there g facts is some =
-      let within = booked_within t m.stock q g inside is in
+      let within = booked_within t m.stock_seat q g inside is in
       let all = ok.charged g in
       (charged_there m.ledger g facts (omega (arith, within, all, enough, some)), omega (arith, within, all, enough))
 
@@ -212,15 +212,15 @@ and_true false = refl
 -- a processor's part whose stock is drained
 part_drained : (l f b : List ℕ) (a : Account) (n : ℕ) → part_with l f b (record a { book = a.book - n; filled = false }) ≡ drained (part_with l f b a) n
 part_drained l f b a n =
-    let pages : a.book - n - length f - a.noted ≡ a.book - length f - a.noted - n = omega arith in
+    let pages : a.book - n - length f - a.unabsorbed ≡ a.book - length f - a.unabsorbed - n = omega arith in
     λ i. record {
       list = l;
       fresh = f;
       back = b;
-      stock = record { group = a.group; pages = pages i; is_drained = and_true (is_some a.group) i };
+      stock_seat = record { group = a.group; pages = pages i; is_drained = and_true (is_some a.group) i };
       book = a.book - n;
       unreported = 0;
-      reported = a.noted;
+      reported = a.unabsorbed;
     }
 
 module _ (stock : Seated) (c : KnownCpu) (q n : ℕ) where
@@ -284,18 +284,18 @@ drain_follows s l (Some g) q (suc k) = follows_still s l (drain_steps q (Some g)
     (uncharge_peaks l g (suc k)) (uncharge_events l g (suc k))
 
 pub drain_runs : (t : KnownTable) (m n : KnownMachine) (q k : ℕ)
-    → n ≡ record m { ledger = uncharged m.ledger (stock_group m q) k; stock = with_view m.stock (draining m.stock.view q k) }
+    → n ≡ record m { ledger = uncharged m.ledger (stock_group m q) k; stock_seat = with_view m.stock_seat (draining m.stock_seat.view q k) }
     → 1 ≤ q → q ≤ t.cpus → ((g : ℕ) → stock_group m q ≡ Some g → 1 ≤ k → has_group m.ledger.groups g ≡ true) → (c : KnownCpu)
     → MakesAs t c.number (side m c) (drain_steps q (stock_group m q) k) (side n c)
 drain_runs t m n q k is some inside there c =
     let s = local_of t m c in
-    let part = drained (part_of m.stock c q) k in
-    let acts = zone_may_act m.seat c.number in
-    let group = part_group m.stock c q k in
-    let rest : IsLocalRun c.number (record (with_part s q part) { pending = with_more nothing (part_of m.stock c q).stock.group k })
-    (ungrant_steps (part_of m.stock c q).stock.group k) (with_part s q part)
-    = ungrants c.number (with_part s q part) (part_of m.stock c q).stock.group k acts (λ g of. there g (sym group ∙ of)) in
-    let parts = parts_drained m.stock c q k in
+    let part = drained (part_of m.stock_seat c q) k in
+    let acts = zone_may_act m.frame_seat c.number in
+    let group = part_group m.stock_seat c q k in
+    let rest : IsLocalRun c.number (record (with_part s q part) { pending = with_more nothing (part_of m.stock_seat c q).stock.group k })
+    (ungrant_steps (part_of m.stock_seat c q).stock.group k) (with_part s q part)
+    = ungrants c.number (with_part s q part) (part_of m.stock_seat c q).stock.group k acts (λ g of. there g (sym group ∙ of)) in
+    let parts = parts_drained m.stock_seat c q k in
     let groups = groups_stay m.ledger (stock_group m q) k in
     subst (λ (x : KnownMachine). MakesAs t c.number (side m c) (drain_steps q (stock_group m q) k) (side x c)) (sym is) (record {
       leads = subst (λ (x : State × Option ℕ). IsLocalRun c.number s (drain_steps q x.1 k) x.0)
@@ -309,29 +309,29 @@ drain_runs t m n q k is some inside there c =
 
 -- what `drain_of` and `drain_stock` leave, of the machine as it was seen before
 pub record Drained (t : KnownTable) (w : Words) (m now : KnownMachine) (q k : ℕ) (l : Ledger) (stock : Seated) : Type 0 where
-  pub consistent : IsConsistent t w (record m { ledger = l; stock = stock })
-  pub drains : Drains q k now (record m { ledger = l; stock = stock })
+  pub consistent : IsConsistent t w (record m { ledger = l; stock_seat = stock })
+  pub drains : Drains q k now (record m { ledger = l; stock_seat = stock })
   pub steps : (c : KnownCpu) → MakesAs t c.number (side now c) (drain_steps q (stock_group now q) k)
-      (side (record m { ledger = l; stock = stock }) c)
+      (side (record m { ledger = l; stock_seat = stock }) c)
 
 drained_here : (t : KnownTable) (w : Words) (m : KnownMachine) (q k : ℕ) → IsConsistent t w m → (1 ≤ k → AreCharges m.ledger) → 1 ≤ q → q ≤ t.cpus
-    → k ≤ (account_of m.stock.view q).book → ((account_of m.stock.view q).filled ≡ false → k ≡ 0) → (stock_group m q ≡ None → k ≡ 0)
-    → Drained t w m m q k (uncharged m.ledger (stock_group m q) k) (with_view m.stock (draining m.stock.view q k))
+    → k ≤ (account_of m.stock_seat.view q).book → ((account_of m.stock_seat.view q).filled ≡ false → k ≡ 0) → (stock_group m q ≡ None → k ≡ 0)
+    → Drained t w m m q k (uncharged m.ledger (stock_group m q) k) (with_view m.stock_seat (draining m.stock_seat.view q k))
 drained_here t w m q k ok facts some inside enough before none = record {
   consistent = drain_consistent t w m ok q k inside enough none;
   drains = record { machine = refl; booked = enough; drained_before = before };
   steps = drain_runs t m (record m {
     ledger = uncharged m.ledger (stock_group m q) k;
-    stock =
-        with_view m.stock (draining m.stock.view q k);
+    stock_seat =
+        with_view m.stock_seat (draining m.stock_seat.view q k);
   }) q k refl some inside
       (λ g of one. (drained_there t w m ok q k inside enough g (facts one) of one).0);
 }
 
 pub drained_all : (t : KnownTable) (w : Words) (m now : KnownMachine) (q k : ℕ) → m ≡ now → IsConsistent t w m
     → (1 ≤ k → AreCharges m.ledger) → 1 ≤ q → q ≤ t.cpus
-    → k ≤ (account_of m.stock.view q).book → ((account_of m.stock.view q).filled ≡ false → k ≡ 0) → (o : Option ℕ) → stock_group now q ≡ o → (o ≡ None → k ≡ 0)
-    → (l : Ledger) (stock : Seated) → l ≡ uncharged m.ledger o k → stock ≡ with_view m.stock (draining m.stock.view q k) → Drained t w m now q k l stock
+    → k ≤ (account_of m.stock_seat.view q).book → ((account_of m.stock_seat.view q).filled ≡ false → k ≡ 0) → (o : Option ℕ) → stock_group now q ≡ o → (o ≡ None → k ≡ 0)
+    → (l : Ledger) (stock : Seated) → l ≡ uncharged m.ledger o k → stock ≡ with_view m.stock_seat (draining m.stock_seat.view q k) → Drained t w m now q k l stock
 drained_all t w m now q k same ok facts some inside enough before o of none l stock off emptied =
     let group : stock_group m q ≡ o = ap (λ (x : KnownMachine). stock_group x q) same ∙ of in
     let here = drained_here t w m q k ok facts some inside enough before (λ e. none (sym group ∙ e)) in
@@ -347,7 +347,7 @@ drained_none l o k none = sym (ap (uncharged l o) none ∙ uncharged_none l o)
 
 -- the group of the pages, by its number
 pub drained_within : (t : KnownTable) (w : Words) (m now : KnownMachine) → m ≡ now → IsConsistent t w m → AreCharges m.ledger → (q k : ℕ) → q ≤ t.cpus
-    → k ≤ (account_of m.stock.view q).book → (g : ℕ) → stock_group now q ≡ Some g → 1 ≤ k → (id : ℕ) → id ≡ g
+    → k ≤ (account_of m.stock_seat.view q).book → (g : ℕ) → stock_group now q ≡ Some g → 1 ≤ k → (id : ℕ) → id ≡ g
     → (has_group m.ledger.groups id ≡ true) × (k ≤ pages_of m.ledger id)
 drained_within t w m now same ok facts q k inside enough g of some id is =
     subst (λ (h : ℕ). (has_group m.ledger.groups h ≡ true) × (k ≤ pages_of m.ledger h)) (sym is)
@@ -355,16 +355,16 @@ drained_within t w m now same ok facts q k inside enough g of some id is =
 
 -- a stock of no group: the look for its group drained nothing
 pub never_drained : (t : KnownTable) (w : Words) (m now : KnownMachine) → m ≡ now → IsConsistent t w m → (q : ℕ) → 1 ≤ q → q ≤ t.cpus
-    → None ≡ stock_group m q → (stock : Seated) → stock ≡ with_view m.stock (draining m.stock.view q 0) → Drained t w m now q 0 m.ledger stock
+    → None ≡ stock_group m q → (stock : Seated) → stock ≡ with_view m.stock_seat (draining m.stock_seat.view q 0) → Drained t w m now q 0 m.ledger stock
 never_drained t w m now same ok q some inside none stock emptied =
     drained_all t w m now q 0 same ok (λ one. absurd (omega (arith, one))) some inside (omega arith) (λ e. refl) None
     (sym (ap (λ (x : KnownMachine). stock_group x q) same) ∙ sym none) (λ e. refl)
     m.ledger stock refl emptied
 
 -- a look at a stock of a group changed nothing
-pub looked_now : (m now : KnownMachine) → m ≡ now → (stock : Seated) → stock ≡ m.stock → record m { stock = stock } ≡ now
-looked_now m now same stock is = (λ i. record m { stock = is i }) ∙ same
+pub looked_now : (m now : KnownMachine) → m ≡ now → (stock : Seated) → stock ≡ m.stock_seat → record m { stock_seat = stock } ≡ now
+looked_now m now same stock is = (λ i. record m { stock_seat = is i }) ∙ same
 
-pub looked_same : (t : KnownTable) (w : Words) (m : KnownMachine) → IsConsistent t w m → (stock : Seated) → stock ≡ with_view m.stock m.stock.view
-    → IsConsistent t w (record m { stock = stock })
-looked_same t w m ok stock same = subst (λ (x : Seated). IsConsistent t w (record m { stock = x })) (sym same) ok
+pub looked_same : (t : KnownTable) (w : Words) (m : KnownMachine) → IsConsistent t w m → (stock : Seated) → stock ≡ with_view m.stock_seat m.stock_seat.view
+    → IsConsistent t w (record m { stock_seat = stock })
+looked_same t w m ok stock same = subst (λ (x : Seated). IsConsistent t w (record m { stock_seat = x })) (sym same) ok

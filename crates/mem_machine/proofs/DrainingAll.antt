@@ -43,21 +43,21 @@ module _ (test : List Group → Option ℕ → Bool) (q : ℕ) (x n : KnownMachi
   below_groups (e ∷ []) d = ap (λ (y : KnownMachine). y.ledger.groups) d.1.drains.drains.machine ∙ groups_stay x.ledger (stock_group x q) e.pages
   below_groups (e ∷ f ∷ more) d = absurd d
 
-  pub below_else : (drains : List Drain) → DrainsIf test q drains x n → (p : ℕ) → (p ≡ q → ⊥) → account_of n.stock.view p ≡ account_of x.stock.view p
-  below_else [] d p ne = ap (λ (y : KnownMachine). account_of y.stock.view p) d.1 ∙ look_else x.stock.view q p (stock_group x q) ne
-  below_else (e ∷ []) d p ne = ap (λ (y : KnownMachine). account_of y.stock.view p) d.1.drains.drains.machine ∙ drained_else x.stock.view q e.pages p ne
+  pub below_else : (drains : List Drain) → DrainsIf test q drains x n → (p : ℕ) → (p ≡ q → ⊥) → account_of n.stock_seat.view p ≡ account_of x.stock_seat.view p
+  below_else [] d p ne = ap (λ (y : KnownMachine). account_of y.stock_seat.view p) d.1 ∙ look_else x.stock_seat.view q p (stock_group x q) ne
+  below_else (e ∷ []) d p ne = ap (λ (y : KnownMachine). account_of y.stock_seat.view p) d.1.drains.drains.machine ∙ drained_else x.stock_seat.view q e.pages p ne
   below_else (e ∷ f ∷ more) d p ne = absurd d
 
   pub below_group : (drains : List Drain) → DrainsIf test q drains x n → stock_group n q ≡ stock_group x q
-  below_group [] d = ap (λ (y : KnownMachine). stock_group y q) d.1 ∙ look_group x.stock.view q (stock_group x q)
-  below_group (e ∷ []) d = ap (λ (y : KnownMachine). stock_group y q) d.1.drains.drains.machine ∙ ap (λ (a : Account). a.group) (drained_at x.stock.view q e.pages)
+  below_group [] d = ap (λ (y : KnownMachine). stock_group y q) d.1 ∙ look_group x.stock_seat.view q (stock_group x q)
+  below_group (e ∷ []) d = ap (λ (y : KnownMachine). stock_group y q) d.1.drains.drains.machine ∙ ap (λ (a : Account). a.group) (drained_at x.stock_seat.view q e.pages)
   below_group (e ∷ f ∷ more) d = absurd d
 
   pub below_filled : (drains : List Drain) → DrainsIf test q drains x n → test x.ledger.groups (stock_group x q) ≡ true
-      → (account_of n.stock.view q).filled ≡ false
+      → (account_of n.stock_seat.view q).filled ≡ false
   below_filled [] d below = absurd (false≢true (sym d.0 ∙ below))
-  below_filled (e ∷ []) d below = ap (λ (y : KnownMachine). (account_of y.stock.view q).filled) d.1.drains.drains.machine
-      ∙ ap (λ (a : Account). a.filled) (drained_at x.stock.view q e.pages)
+  below_filled (e ∷ []) d below = ap (λ (y : KnownMachine). (account_of y.stock_seat.view q).filled) d.1.drains.drains.machine
+      ∙ ap (λ (a : Account). a.filled) (drained_at x.stock_seat.view q e.pages)
   below_filled (e ∷ f ∷ more) d below = absurd d
 
 -- ---- one processor's stock
@@ -75,7 +75,7 @@ drained_one t test q pages m n below drains steps = record {
 
 -- it is of another group, or of none
 pub drained_not : (t : KnownTable) (test : List Group → Option ℕ → Bool) (q : ℕ) (m n : KnownMachine) → test m.ledger.groups (stock_group m q) ≡ false
-    → n ≡ record m { stock = with_view m.stock (after_look m.stock.view q (stock_group m q)) }
+    → n ≡ record m { stock_seat = with_view m.stock_seat (after_look m.stock_seat.view q (stock_group m q)) }
     → ((c : KnownCpu) → MakesAs t c.number (side m c) [] (side n c)) → DrainsBySteps t (DrainsIf test q) 0 m n
 drained_not t test q m n other is steps = record { drains = []; all = (other, is); sum = refl; steps = steps }
 
@@ -83,69 +83,69 @@ drained_not t test q m n other is steps = record { drains = []; all = (other, is
 part_none : (l f b : List ℕ) (a : Account) → a.group ≡ None → part_with l f b (record a { book = a.book - 0; filled = false }) ≡ part_with l f b a
 part_none l f b a none =
     let book : a.book - 0 ≡ a.book = omega arith in
-    let pages : a.book - 0 - length f - a.noted ≡ a.book - length f - a.noted = omega arith in
+    let pages : a.book - 0 - length f - a.unabsorbed ≡ a.book - length f - a.unabsorbed = omega arith in
     let drained : (is_some a.group && true) ≡ (is_some a.group && not a.filled) =
     ap (λ (o : Option ℕ). is_some o && true) none ∙ sym (ap (λ (o : Option ℕ). is_some o && not a.filled) none) in
     λ i. record {
       list = l;
       fresh = f;
       back = b;
-      stock = record { group = a.group; pages = pages i; is_drained = drained i };
+      stock_seat = record { group = a.group; pages = pages i; is_drained = drained i };
       book = book i;
       unreported = 0;
-      reported = a.noted;
+      reported = a.unabsorbed;
     }
 
 module _ (t : KnownTable) (m : KnownMachine) (q : ℕ) (none : stock_group m q ≡ None) (c : KnownCpu) where
   abbrev shown : ℕ → Account → Part
   shown p a = cond (p == c.number) (part_with c.list c.fresh c.back a) (part_with [] [] [] a)
 
-  shown_here : shown q (account_of (draining m.stock.view q 0) q) ≡ shown q (account_of m.stock.view q)
+  shown_here : shown q (account_of (draining m.stock_seat.view q 0) q) ≡ shown q (account_of m.stock_seat.view q)
   shown_here =
-      let a = account_of m.stock.view q in
-      ap (shown q) (drained_at m.stock.view q 0)
+      let a = account_of m.stock_seat.view q in
+      ap (shown q) (drained_at m.stock_seat.view q 0)
       ∙ (λ i. cond (q == c.number) (part_none c.list c.fresh c.back a none i) (part_none [] [] [] a none i))
 
-  shown_same : (p : ℕ) → shown p (account_of (draining m.stock.view q 0) p) ≡ shown p (account_of m.stock.view p)
+  shown_same : (p : ℕ) → shown p (account_of (draining m.stock_seat.view q 0) p) ≡ shown p (account_of m.stock_seat.view p)
   shown_same p = elim (cases_eq p q) [
-    | inl e ↦ subst (λ (k : ℕ). shown k (account_of (draining m.stock.view q 0) k) ≡ shown k (account_of m.stock.view k)) (sym e) shown_here
-    | inr ne ↦ ap (shown p) (drained_else m.stock.view q 0 p ne)
+    | inl e ↦ subst (λ (k : ℕ). shown k (account_of (draining m.stock_seat.view q 0) k) ≡ shown k (account_of m.stock_seat.view k)) (sym e) shown_here
+    | inr ne ↦ ap (shown p) (drained_else m.stock_seat.view q 0 p ne)
   ]
 
   -- the look at a stock of no group changes nothing that is seen
-  pub looked_none : MakesAs t c.number (side m c) [] (side (record m { stock = with_view m.stock (draining m.stock.view q 0) }) c)
-  looked_none = makes_stay t m (record m { stock = with_view m.stock (draining m.stock.view q 0) }) c c
+  pub looked_none : MakesAs t c.number (side m c) [] (side (record m { stock_seat = with_view m.stock_seat (draining m.stock_seat.view q 0) }) c)
+  looked_none = makes_stay t m (record m { stock_seat = with_view m.stock_seat (draining m.stock_seat.view q 0) }) c c
       (λ i. record (local_of t m c) { parts = λ p. sym (shown_same p) i }) refl
 
 -- the stock of a group that the test chooses, of the machine as it was seen before the look
-pub looked_own : (t : KnownTable) (m now : KnownMachine) → m ≡ now → (stock : Seated) → stock ≡ m.stock → (test : List Group → Option ℕ → Bool)
-    → (q h pages : ℕ) (n : KnownMachine) → Some h ≡ stock_group m q → test m.ledger.groups (Some h) ≡ true → DrainsNoted q pages (record m { stock = stock }) n
-    → ((c : KnownCpu) → MakesAs t c.number (side (record m { stock = stock }) c) (drain_steps q (stock_group (record m { stock = stock }) q) pages)
+pub looked_own : (t : KnownTable) (m now : KnownMachine) → m ≡ now → (stock : Seated) → stock ≡ m.stock_seat → (test : List Group → Option ℕ → Bool)
+    → (q h pages : ℕ) (n : KnownMachine) → Some h ≡ stock_group m q → test m.ledger.groups (Some h) ≡ true → DrainsNoted q pages (record m { stock_seat = stock }) n
+    → ((c : KnownCpu) → MakesAs t c.number (side (record m { stock_seat = stock }) c) (drain_steps q (stock_group (record m { stock_seat = stock }) q) pages)
     (side n c)) → DrainsBySteps t (DrainsIf test q) pages now n
 looked_own t m now same stock is test q h pages n of chosen drains steps =
     subst (λ (x : KnownMachine). DrainsBySteps t (DrainsIf test q) pages x n) (looked_now m now same stock is)
-    (drained_one t test q pages (record m { stock = stock }) n
+    (drained_one t test q pages (record m { stock_seat = stock }) n
     (ap (test m.ledger.groups) (ap (λ (s : Seated). (account_of s.view q).group) is ∙ sym of) ∙ chosen) drains steps)
 
 -- the stock of another group
 pub looked_other : (t : KnownTable) (m now : KnownMachine) → m ≡ now → (test : List Group → Option ℕ → Bool) (q h : ℕ) → Some h ≡ stock_group m q
-    → test m.ledger.groups (Some h) ≡ false → (stock : Seated) → stock ≡ m.stock → DrainsBySteps t (DrainsIf test q) 0 now (record m { stock = stock })
+    → test m.ledger.groups (Some h) ≡ false → (stock : Seated) → stock ≡ m.stock_seat → DrainsBySteps t (DrainsIf test q) 0 now (record m { stock_seat = stock })
 looked_other t m now same test q h of other stock is =
-    let n : KnownMachine = record m { stock = stock } in
-    let none : n ≡ record m { stock = with_view m.stock (after_look m.stock.view q (stock_group m q)) } =
-    (λ i. record m { stock = is i }) ∙ (λ i. record m { stock = with_view m.stock (after_look m.stock.view q (of i)) }) in
+    let n : KnownMachine = record m { stock_seat = stock } in
+    let none : n ≡ record m { stock_seat = with_view m.stock_seat (after_look m.stock_seat.view q (stock_group m q)) } =
+    (λ i. record m { stock_seat = is i }) ∙ (λ i. record m { stock_seat = with_view m.stock_seat (after_look m.stock_seat.view q (of i)) }) in
     subst (λ (x : KnownMachine). DrainsBySteps t (DrainsIf test q) 0 x n) same
-    (drained_not t test q m n (ap (test m.ledger.groups) (sym of) ∙ other) none (stayed_runs t m m refl n (λ i. record m { stock = is i })))
+    (drained_not t test q m n (ap (test m.ledger.groups) (sym of) ∙ other) none (stayed_runs t m m refl n (λ i. record m { stock_seat = is i })))
 
 -- the stock of no group
 pub looked_never : (t : KnownTable) (m now : KnownMachine) → m ≡ now → (test : List Group → Option ℕ → Bool) (q : ℕ) → None ≡ stock_group m q
-    → test m.ledger.groups None ≡ false → (stock : Seated) → stock ≡ with_view m.stock (draining m.stock.view q 0)
-    → DrainsBySteps t (DrainsIf test q) 0 now (record m { stock = stock })
+    → test m.ledger.groups None ≡ false → (stock : Seated) → stock ≡ with_view m.stock_seat (draining m.stock_seat.view q 0)
+    → DrainsBySteps t (DrainsIf test q) 0 now (record m { stock_seat = stock })
 looked_never t m now same test q of none_chosen stock is =
-    let n : KnownMachine = record m { stock = with_view m.stock (draining m.stock.view q 0) } in
-    let seen : n ≡ record m { stock = with_view m.stock (after_look m.stock.view q (stock_group m q)) } =
-    λ i. record m { stock = with_view m.stock (after_look m.stock.view q (of i)) } in
-    subst (λ (x : KnownMachine × KnownMachine). DrainsBySteps t (DrainsIf test q) 0 x.0 x.1) (λ i. (same i, record m { stock = sym is i }))
+    let n : KnownMachine = record m { stock_seat = with_view m.stock_seat (draining m.stock_seat.view q 0) } in
+    let seen : n ≡ record m { stock_seat = with_view m.stock_seat (after_look m.stock_seat.view q (stock_group m q)) } =
+    λ i. record m { stock_seat = with_view m.stock_seat (after_look m.stock_seat.view q (of i)) } in
+    subst (λ (x : KnownMachine × KnownMachine). DrainsBySteps t (DrainsIf test q) 0 x.0 x.1) (λ i. (same i, record m { stock_seat = sym is i }))
     (drained_not t test q m n (ap (test m.ledger.groups) (sym of) ∙ none_chosen) seen (looked_none t m q (sym of)))
 
 -- ---- all of them
@@ -176,7 +176,7 @@ drained_now test k x n last d before q some few below =
     let groups = below_groups test (k + 1) x n last d in
     elim (cases_eq q (k + 1)) [
       | inl e ↦
-          subst (λ (j : ℕ). (account_of n.stock.view j).filled ≡ false) (sym e)
+          subst (λ (j : ℕ). (account_of n.stock_seat.view j).filled ≡ false) (sym e)
           (below_filled test (k + 1) x n last d ((λ i. test (sym groups i) (sym (below_group test (k + 1) x n last d) i))
           ∙ ap (λ (j : ℕ). test n.ledger.groups (stock_group n j)) (sym e) ∙ below))
       | inr ne ↦

@@ -40,13 +40,13 @@ frozen_in_hand : TakesInHand (frozen 1)
 frozen_in_hand = record { own = λ k. refl; lent = λ k. refl; references = λ k. refl; passed_out = λ k. refl; collected = λ k. refl }
 
 -- a freeze is legal where the zone has the one reference that it asks for
-may_freeze : (t : KnownTable) (m : KnownMachine) (f : ℕ) → f < t.frames → holds m.seat f ≡ 1 → (c : KnownCpu) → is_legal (local_of t m c) 0 (Freeze f 1) ≡ true
+may_freeze : (t : KnownTable) (m : KnownMachine) (f : ℕ) → f < t.frames → holds m.frame_seat f ≡ 1 → (c : KnownCpu) → is_legal (local_of t m c) 0 (Freeze f 1) ≡ true
 may_freeze t m f inside held c =
-    and_from _ _ (and_from _ _ (and_from _ _ (zone_may_act m.seat c.number) (lt-ltb f t.frames inside)) refl) (le-leb 1 (holds m.seat f) (omega (arith, held)))
+    and_from _ _ (and_from _ _ (and_from _ _ (zone_may_act m.frame_seat c.number) (lt-ltb f t.frames inside)) refl) (le-leb 1 (holds m.frame_seat f) (omega (arith, held)))
 
 -- the zone has a reference on a kept unit
 pub kept_held : (t : KnownTable) (w : Words) (m now : KnownMachine) → m ≡ now → IsConsistent t w m → (f : ℕ) → f < t.frames → home_of now.links f ≢ None
-    → holds m.seat f ≡ 1
+    → holds m.frame_seat f ≡ 1
 kept_held t w m now same ok f inside kept = held_once t w m ok f inside (subst (λ (x : KnownMachine). home_of x.links f ≢ None) (sym same) kept)
 
 -- ---- a miss
@@ -54,7 +54,7 @@ kept_held t w m now same ok f inside kept = held_once t w m ok f inside (subst (
 -- the references stay
 references_stay : (seat : KnownSeat) (c : KnownCpu) (f word q x : ℕ) → references_of seat c q x ≡ references_of (seat_with seat f (missed word)) c q x
 references_stay seat c f word q x =
-    ap (λ (n : ℕ). cond (q == 0) n (cond (q == c.number) (holds c.seat x) 0)) (sym (note_keeps seat f (missed word) (λ k. k.references) (λ k. refl) x))
+    ap (λ (n : ℕ). cond (q == 0) n (cond (q == c.number) (holds c.frame_seat x) 0)) (sym (note_keeps seat f (missed word) (λ k. k.references) (λ k. refl) x))
 
 pub record AllMissed (t : KnownTable) (w : Words) (now : KnownMachine) (f : ℕ) (n : KnownMachine) : Type 0 where
   pub consistent : IsConsistent t w n
@@ -63,25 +63,25 @@ pub record AllMissed (t : KnownTable) (w : Words) (now : KnownMachine) (f : ℕ)
   pub steps : MakesForAny t now (evict_steps f None) n
 
 missed_fits : (t : KnownTable) (w : Words) (m : KnownMachine) → IsConsistent t w m → (f word g : ℕ) → g < t.frames
-    → FitsSpot t.cpus (note_of (seat_with m.seat f (missed word)).view g) (home_of m.links g) (spot_at m.spots g)
+    → FitsSpot t.cpus (note_of (seat_with m.frame_seat f (missed word)).view g) (home_of m.links g) (spot_at m.spots g)
 missed_fits t w m ok f word g within =
     let old = ok.spots g within in
     let change : FrameNote → FrameNote = missed word in
     record {
-      own = note_keeps m.seat f change (λ k. k.own) (λ k. refl) g ∙ old.own;
-      lent = ap some_cpu (note_keeps m.seat f change (λ k. k.lent) (λ k. refl) g) ∙ old.lent;
+      own = note_keeps m.frame_seat f change (λ k. k.own) (λ k. refl) g ∙ old.own;
+      lent = ap some_cpu (note_keeps m.frame_seat f change (λ k. k.lent) (λ k. refl) g) ∙ old.lent;
       borrower = old.borrower;
-      references = note_keeps m.seat f change (λ k. k.references) (λ k. refl) g ∙ old.references;
+      references = note_keeps m.frame_seat f change (λ k. k.references) (λ k. refl) g ∙ old.references;
       kept = old.kept;
     }
 
 pub missed_all : (t : KnownTable) (w : Words) (m now : KnownMachine) → m ≡ now → IsConsistent t w m → (f : ℕ) → f < t.frames → home_of now.links f ≢ None
-    → (seat : KnownSeat) → FreezeAnswers m.seat f 1 false seat → (counts : Counts) → counts ≡ with_miss m.counts
-    → AllMissed t w now f (record m { seat = seat; counts = counts })
+    → (seat : KnownSeat) → FreezeAnswers m.frame_seat f 1 false seat → (counts : Counts) → counts ≡ with_miss m.counts
+    → AllMissed t w now f (record m { frame_seat = seat; counts = counts })
 missed_all t w m now same ok f inside kept seat answered counts counted =
     let word : ℕ = answered.0 in
     let held = kept_held t w m now same ok f inside kept in
-    let n : KnownMachine = record m { seat = seat_with m.seat f (missed word); counts = with_miss m.counts } in
+    let n : KnownMachine = record m { frame_seat = seat_with m.frame_seat f (missed word); counts = with_miss m.counts } in
     let all : AllMissed t w m f n = record {
       consistent = record {
         sizes = let s = ok.sizes in record { spots = s.spots; links = s.links; lists = s.lists; killed = s.killed; cpus = s.cpus };
@@ -102,12 +102,12 @@ missed_all t w m now same ok f inside kept seat answered counts counted =
           record {
             leads = (
               zone_step s c.number (Freeze f 1) answer.Missed refl (may_freeze t m f inside held c) tt,
-              λ i. record s { references = λ q x. references_stay m.seat c f word q x i },
+              λ i. record s { references = λ q x. references_stay m.frame_seat c f word q x i },
             );
             follows = follows_same _ _ _ refl;
           };
     } in
-    subst (λ (x : KnownMachine × KnownSeat × Counts). AllMissed t w x.0 f (record m { seat = x.1; counts = x.2 }))
+    subst (λ (x : KnownMachine × KnownSeat × Counts). AllMissed t w x.0 f (record m { frame_seat = x.1; counts = x.2 }))
     (λ j. (same j, sym answered.2 j, sym counted j)) all
 
 -- ---- a freeze
@@ -131,7 +131,7 @@ pub record AllEvicted (t : KnownTable) (w : Words) (now : KnownMachine) (f pages
 
 pub evicted_all : (t : KnownTable) (w : Words) (m now : KnownMachine) → m ≡ now → IsConsistent t w m → (f i : ℕ)
     → f < t.frames → i ≡ f → home_of now.links f ≢ None → (links : List Link) (lists : List Lru) → LeavesList i (lists_of m) (group_lists links lists)
-    → AllStand links lists → length links ≡ length m.links → length lists ≡ 64 → (seat : KnownSeat) → FreezeAnswers m.seat f 1 true seat
+    → AllStand links lists → length links ≡ length m.links → length lists ≡ 64 → (seat : KnownSeat) → FreezeAnswers m.frame_seat f 1 true seat
     → (unit : ChargedUnit) → spot_at m.spots i ≡ Head unit
     → (before free : List Bool) (blocks : List Block) (spots : List Spot) (ledger : Ledger) (counts : Counts) (pages : ℕ)
     → before ≡ free_of m.spots → FreesFrames i (2 ^ unit.order) m.spots spots → GivesFrames before (record { at = i; order = unit.order }) free
@@ -143,7 +143,7 @@ pub evicted_all : (t : KnownTable) (w : Words) (m now : KnownMachine) → m ≡ 
       ledger = ledger;
       links = links;
       lists = lists;
-      seat = seat;
+      frame_seat = seat;
       counts = counts;
     })
 evicted_all t w m now same ok f i inside is kept_now links lists left_list stand linked listed seat answered unit head before free blocks spots
@@ -154,7 +154,7 @@ evicted_all t w m now same ok f i inside is kept_now links lists left_list stand
       ledger = ledger;
       links = links;
       lists = lists;
-      seat = seat;
+      frame_seat = seat;
       counts = counts;
     } in
     let back = back_all t w m now same ok f i inside is kept_now links lists left_list stand linked listed (frozen 1) frozen_in_hand seat answered.1
@@ -182,7 +182,7 @@ evicted_all t w m now same ok f i inside is kept_now links lists left_list stand
           ledger = (uncharged ∙ ap (λ (x : KnownMachine). with_uncharge x.ledger unit.group (2 ^ unit.order)) same) j;
           links = links;
           lists = lists;
-          seat = (answered.1 ∙ ap (λ (x : KnownMachine). seat_with x.seat f (frozen 1)) same) j;
+          frame_seat = (answered.1 ∙ ap (λ (x : KnownMachine). seat_with x.frame_seat f (frozen 1)) same) j;
           counts = (counted ∙ ap (λ (x : KnownMachine). with_freeze x.counts) same) j;
         };
       };

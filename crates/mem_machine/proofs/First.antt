@@ -18,7 +18,7 @@ use Rattle.step_rules.specs.declared.phase.ChargedUnit.{ChargedUnit}
 use Rattle.step_rules.proofs.Sums.{sum_none}
 use Rattle.mem_machine.specs.declared.spot.Spot.{Spot}
 use Rattle.mem_machine.specs.declared.spot.Spot.TheVariants.{Free, Head, Tail}
-use Rattle.mem_machine.specs.Spots.{spot_at, free_of, group_of, count_of, AreUnits}
+use Rattle.mem_machine.specs.Spots.{spot_at, free_of, spot_group, count_of, AreUnits}
 use Rattle.mem_machine.specs.Start.{AreEmpty}
 use Rattle.mem_machine.specs.Counts.{no_counts}
 use Rattle.mem_machine.specs.Machines.{KnownMachine, FitsSpot, IsConsistent, IsFirst, BalancesCounts, home_of, frames_charged, pages_booked, booked}
@@ -91,10 +91,10 @@ module _ (t : KnownTable) (w : Words) (m : KnownMachine) (first : IsFirst t w m)
     tails = λ x g is. absurd (not_tail g (sym (all_free x) ∙ is));
   }
 
-  note_first : (f : ℕ) → f < t.frames → note_of m.seat.view f ≡ record blank { own = 1 }
-  note_first f inside = ap (λ (s : KnownSeat). note_of s.view f) first.seat ∙ get_or-replicate t.frames f (record blank { own = 1 }) blank inside
+  note_first : (f : ℕ) → f < t.frames → note_of m.frame_seat.view f ≡ record blank { own = 1 }
+  note_first f inside = ap (λ (s : KnownSeat). note_of s.view f) first.frame_seat ∙ get_or-replicate t.frames f (record blank { own = 1 }) blank inside
 
-  pub spots_first : (f : ℕ) → f < t.frames → FitsSpot t.cpus (note_of m.seat.view f) (home_of m.links f) (spot_at m.spots f)
+  pub spots_first : (f : ℕ) → f < t.frames → FitsSpot t.cpus (note_of m.frame_seat.view f) (home_of m.links f) (spot_at m.spots f)
   spots_first f inside =
       let note = note_first f inside in
       let home : home_of m.links f ≡ None = ap (λ (l : Link). l.home) (first.nowhere f) in
@@ -102,13 +102,13 @@ module _ (t : KnownTable) (w : Words) (m : KnownMachine) (first : IsFirst t w m)
       subst (λ (x : FrameNote × Option Home × Spot). FitsSpot t.cpus x.0 x.1 x.2) (λ i. (sym note i, sym home i, sym spot i))
       (record { own = refl; lent = refl; borrower = tt; references = refl; kept = tt })
 
-  pub charged_first : (g : ℕ) → pages_of m.ledger g ≡ frames_charged m.spots g + pages_booked t m.stock g
+  pub charged_first : (g : ℕ) → pages_of m.ledger g ≡ frames_charged m.spots g + pages_booked t m.stock_seat g
   charged_first g =
       let pages : pages_of m.ledger g ≡ 0 = ap (λ (l : Ledger). pages_of l g) first.ledger ∙ no_pages g in
       let frames : frames_charged m.spots g ≡ 0 =
-      sum_none (length m.spots) (λ f. count_of g (group_of (spot_at m.spots f))) (λ f inside. ap (λ (x : Spot). count_of g (group_of x)) (all_free f)) in
-      let books : pages_booked t m.stock g ≡ 0 =
-      sum_none (t.cpus + 1) (λ p. booked g (account_of m.stock.view p)) (λ p inside. ap (λ (x : Seated). booked g (account_of x.view p)) first.stock) in
+      sum_none (length m.spots) (λ f. count_of g (spot_group (spot_at m.spots f))) (λ f inside. ap (λ (x : Spot). count_of g (spot_group x)) (all_free f)) in
+      let books : pages_booked t m.stock_seat g ≡ 0 =
+      sum_none (t.cpus + 1) (λ p. booked g (account_of m.stock_seat.view p)) (λ p inside. ap (λ (x : Seated). booked g (account_of x.view p)) first.stock_seat) in
       omega (arith, pages, frames, books)
 
   balances_first : BalancesCounts m.counts
@@ -125,16 +125,16 @@ module _ (t : KnownTable) (w : Words) (m : KnownMachine) (first : IsFirst t w m)
       cpus = cpus;
     };
     seats = record {
-      frames = (ap (λ (s : KnownSeat). s.table) first.seat, ap (λ (s : KnownSeat). number_of s) first.seat);
-      table = ap (λ (s : Seated). s.table) first.stock;
-      stocks = ap (λ (s : Seated). s.view.number) first.stock;
+      frames = (ap (λ (s : KnownSeat). s.table) first.frame_seat, ap (λ (s : KnownSeat). number_of s) first.frame_seat);
+      table = ap (λ (s : Seated). s.table) first.stock_seat;
+      stocks = ap (λ (s : Seated). s.view.number) first.stock_seat;
     };
     areas = areas;
     spots = spots_first;
     units = units_first;
     lists = stand;
-    absorbed = λ p. ap (λ (s : Seated). (account_of s.view p).noted) first.stock;
-    bounded = λ p. let none = ap (λ (s : Seated). (account_of s.view p).book) first.stock in omega (arith, none);
+    absorbed = λ p. ap (λ (s : Seated). (account_of s.view p).unabsorbed) first.stock_seat;
+    bounded = λ p. let none = ap (λ (s : Seated). (account_of s.view p).book) first.stock_seat in omega (arith, none);
     charged = charged_first;
     balances = balances_first;
   }
@@ -150,15 +150,15 @@ starts t w m free frames first sized links empty all areas cpus =
     )
 
 pub first_is : (t : KnownTable) (w : Words) (m : KnownMachine) (frames : ℕ) → frames ≡ t.frames → m.spots ≡ replicate frames Free
-    → m.ledger ≡ initial_ledger → AreNowhere m.links → m.seat ≡ record { table = t.table; view = first_zone_view t.frames }
-    → m.stock ≡ record { table = w.table; view = first_zone_stock } → m.killed ≡ replicate 64 false → m.counts ≡ no_counts
+    → m.ledger ≡ initial_ledger → AreNowhere m.links → m.frame_seat ≡ record { table = t.table; view = first_zone_view t.frames }
+    → m.stock_seat ≡ record { table = w.table; view = first_zone_stock } → m.killed ≡ replicate 64 false → m.counts ≡ no_counts
     → m.notes ≡ [] → IsFirst t w m
 first_is t w m frames sized spots ledger nowhere seat stock killed counts notes = record {
   spots = spots ∙ ap (λ (n : ℕ). replicate n Free) sized;
   ledger = ledger;
   nowhere = nowhere;
-  seat = seat;
-  stock = stock;
+  frame_seat = seat;
+  stock_seat = stock;
   killed = killed;
   counts = counts;
   notes = notes;

@@ -27,7 +27,7 @@ use Rattle.step_rules.proofs.Placing.{within_cases}
 use Rattle.mem_machine.specs.declared.spot.Spot.{Spot}
 use Rattle.mem_machine.specs.declared.spot.Spot.TheVariants.{Free, Head, Tail}
 use Rattle.mem_machine.specs.declared.counts.Counts.{Counts}
-use Rattle.mem_machine.specs.Spots.{spot_at, is_free, free_of, group_of, head_group_of, count_of, AreUnits, IsUnitAt}
+use Rattle.mem_machine.specs.Spots.{spot_at, is_free, free_of, spot_group, head_group_of, count_of, AreUnits, IsUnitAt}
 use Rattle.mem_machine.specs.Machines.{KnownMachine, FitsSpot, IsConsistent, BalancesCounts, home_of, frames_charged}
 use Rattle.mem_machine.specs.Freeing.{FreesFrames}
 use Rattle.mem_machine.proofs.Records.{free_at, length_free}
@@ -145,10 +145,10 @@ module _ (spots new : List Spot) (f : ℕ) (unit : ChargedUnit) (heads : spot_at
   mine = units.heads f unit heads
 
   -- the frames of the unit are its group's
-  group_in : (x : ℕ) → f ≤ x → x < f + n → group_of (spot_at spots x) ≡ Some unit.group
+  group_in : (x : ℕ) → f ≤ x → x < f + n → spot_group (spot_at spots x) ≡ Some unit.group
   group_in x from below = elim (cases_eq x f) [
-    | inl e ↦ ap (λ (k : ℕ). group_of (spot_at spots k)) e ∙ ap group_of heads
-    | inr ne ↦ ap group_of (mine.tails x (omega (arith, from, ne)) below)
+    | inl e ↦ ap (λ (k : ℕ). spot_group (spot_at spots k)) e ∙ ap spot_group heads
+    | inr ne ↦ ap spot_group (mine.tails x (omega (arith, from, ne)) below)
   ]
 
   spot_in : (x : ℕ) → is_within f n x ≡ true → spot_at new x ≡ Free
@@ -185,7 +185,7 @@ module _ (spots new : List Spot) (f : ℕ) (unit : ChargedUnit) (heads : spot_at
           }
     ];
     tails = λ x g is. elim (within_cases f n x) [
-      | inl w ↦ absurd (none-some g (ap group_of (sym (spot_in x w.0) ∙ is)))
+      | inl w ↦ absurd (none-some g (ap spot_group (sym (spot_in x w.0) ∙ is)))
       | inr out ↦
           let old = units.tails x g (sym (spot_out x out.0) ∙ is) in
           let from = old.from in
@@ -217,13 +217,13 @@ module _ (spots new : List Spot) (f : ℕ) (unit : ChargedUnit) (heads : spot_at
       told_unit x = unit
 
   -- the frames of the unit are charged to its group no more
-  one_less : (g x : ℕ) → count_of g (group_of (spot_at spots x))
-      ≡ count_of g (group_of (spot_at new x)) + cond (g == unit.group) (one_if (is_within f n x)) 0
+  one_less : (g x : ℕ) → count_of g (spot_group (spot_at spots x))
+      ≡ count_of g (spot_group (spot_at new x)) + cond (g == unit.group) (one_if (is_within f n x)) 0
   one_less g x = elim (within_cases f n x) [
     | inl w ↦
-        let now : count_of g (group_of (spot_at new x)) ≡ 0 = ap (λ (s : Spot). count_of g (group_of s)) (spot_in x w.0) in
+        let now : count_of g (spot_group (spot_at new x)) ≡ 0 = ap (λ (s : Spot). count_of g (spot_group s)) (spot_in x w.0) in
         let one : one_if (is_within f n x) ≡ 1 = ap one_if w.0 in
-        let was : count_of g (group_of (spot_at spots x)) ≡ cond (unit.group == g) 1 0 = ap (count_of g) (group_in x w.1 w.2) in
+        let was : count_of g (spot_group (spot_at spots x)) ≡ cond (unit.group == g) 1 0 = ap (count_of g) (group_in x w.1 w.2) in
         elim (cases_eq g unit.group) [
           | inl e ↦
               let a : ◌≡◌ {A = ℕ} (cond (unit.group == g) 1 0) 1 = cond-true (unit.group == g) 1 0 (eq-eqb unit.group g (sym e)) in
@@ -236,8 +236,8 @@ module _ (spots new : List Spot) (f : ℕ) (unit : ChargedUnit) (heads : spot_at
               omega (arith, now, was, a, b)
         ]
     | inr out ↦
-        let same : count_of g (group_of (spot_at spots x)) ≡ count_of g (group_of (spot_at new x)) =
-        ap (λ (s : Spot). count_of g (group_of s)) (sym (spot_out x out.0)) in
+        let same : count_of g (spot_group (spot_at spots x)) ≡ count_of g (spot_group (spot_at new x)) =
+        ap (λ (s : Spot). count_of g (spot_group s)) (sym (spot_out x out.0)) in
         let none : one_if (is_within f n x) ≡ 0 = ap one_if out.0 in
         let zero_is : cond (g == unit.group) (one_if (is_within f n x)) 0 ≡ 0 =
         ap (λ (k : ℕ). cond (g == unit.group) k 0) none ∙ cond_zero (g == unit.group) in
@@ -258,11 +258,11 @@ module _ (spots new : List Spot) (f : ℕ) (unit : ChargedUnit) (heads : spot_at
   pub charges_freed : (g : ℕ) → frames_charged spots g ≡ frames_charged new g + cond (g == unit.group) n 0
   charges_freed g =
       let l = length spots in
-      let a : frames_charged new g ≡ sum_to l (λ x. count_of g (group_of (spot_at new x))) =
-      ap (λ (k : ℕ). sum_to k (λ x. count_of g (group_of (spot_at new x)))) frees.frames in
-      let b = sum_same l (λ x. count_of g (group_of (spot_at spots x)))
-      (λ x. count_of g (group_of (spot_at new x)) + cond (g == unit.group) (one_if (is_within f n x)) 0) (λ x below. one_less g x) in
-      let c = sum_both l (λ x. count_of g (group_of (spot_at new x))) (λ x. cond (g == unit.group) (one_if (is_within f n x)) 0) in
+      let a : frames_charged new g ≡ sum_to l (λ x. count_of g (spot_group (spot_at new x))) =
+      ap (λ (k : ℕ). sum_to k (λ x. count_of g (spot_group (spot_at new x)))) frees.frames in
+      let b = sum_same l (λ x. count_of g (spot_group (spot_at spots x)))
+      (λ x. count_of g (spot_group (spot_at new x)) + cond (g == unit.group) (one_if (is_within f n x)) 0) (λ x below. one_less g x) in
+      let c = sum_both l (λ x. count_of g (spot_group (spot_at new x))) (λ x. cond (g == unit.group) (one_if (is_within f n x)) 0) in
       let d = sum_of g l mine.block.inside in
       omega (arith, a, b, c, d)
 
@@ -307,7 +307,7 @@ module _ (t : KnownTable) (w : Words) (m : KnownMachine) (ok : IsConsistent t w 
         ledger = with_uncharge m.ledger unit.group (2 ^ unit.order);
         links = links;
         lists = lists;
-        seat = seat;
+        frame_seat = seat;
         counts = counts;
       })
   unit_freed_consistent spots blocks links lists seat counts frees areas zone linked listed stand others head balances = record {

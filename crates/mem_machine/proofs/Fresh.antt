@@ -28,7 +28,7 @@ use Rattle.step_rules.specs.After.{is_within}
 use Rattle.mem_machine.specs.declared.spot.Spot.{Spot}
 use Rattle.mem_machine.specs.declared.spot.Spot.TheVariants.{Free, Lent, Head}
 use Rattle.mem_machine.specs.declared.counts.Counts.{Counts}
-use Rattle.mem_machine.specs.Spots.{spot_at, is_free, free_of, group_of as spot_group, head_group_of, some_cpu}
+use Rattle.mem_machine.specs.Spots.{spot_at, is_free, free_of, spot_group, head_group_of, some_cpu}
 use Rattle.mem_machine.specs.Machines.{KnownMachine, FitsSpot, IsConsistent, BalancesCounts, Visits, home_of, is_killed, pages_booked}
 use Rattle.mem_machine.specs.Local.{IsLocalRun, local_of, fresh_group, number_or_0, side, MakesAs}
 use Rattle.mem_machine.specs.Steps.{zone_makes}
@@ -54,10 +54,10 @@ use Rattle.mem_machine.proofs.Followed.{follows_same, follows_still}
 -- what is told of a frame that was collected fresh, and of its page
 pub record WasFresh (t : KnownTable) (m : KnownMachine) (c : KnownCpu) (f g : ℕ) : Type 0 where
   pub inside : f < t.frames
-  pub nothing : HasNothingOf m.seat f
-  pub lent : IsLent m.seat f c.number
-  pub booked : 1 + (account_of m.stock.view c.number).noted ≤ (account_of m.stock.view c.number).book
-  pub of_group : (account_of m.stock.view c.number).group ≡ Some g
+  pub nothing : HasNothingOf m.frame_seat f
+  pub lent : IsLent m.frame_seat f c.number
+  pub booked : 1 + (account_of m.stock_seat.view c.number).unabsorbed ≤ (account_of m.stock_seat.view c.number).book
+  pub of_group : (account_of m.stock_seat.view c.number).group ≡ Some g
   pub fits : g < 64
   pub named : fresh_group c ≡ g
 
@@ -111,11 +111,11 @@ module _ (t : KnownTable) (w : Words) (m : KnownMachine) (c : KnownCpu) (tied : 
   at : IsFreshFront c f rest
   at = fresh_front t w c tied f rest front
 
-  noted : (account_of m.stock.view c.number).noted ≡ 0
+  noted : (account_of m.stock_seat.view c.number).unabsorbed ≡ 0
   noted = ok.absorbed c.number
 
-  books : (h : ℕ) → pages_booked t m.stock h ≡ pages_booked t (with_page_absorbed m.stock c.number) h + cond (h == g) 1 0
-  books = books_fall t m.stock c.number g tied.seats.frame_cpus was.of_group noted (let a = was.booked in omega (arith, a))
+  books : (h : ℕ) → pages_booked t m.stock_seat h ≡ pages_booked t (with_page_absorbed m.stock_seat c.number) h + cond (h == g) 1 0
+  books = books_fall t m.stock_seat c.number g tied.seats.frame_cpus was.of_group noted (let a = was.booked in omega (arith, a))
 
   abbrev d : KnownCpu
   d = fresh_handed c f rest
@@ -137,8 +137,8 @@ module _ (t : KnownTable) (w : Words) (m : KnownMachine) (c : KnownCpu) (tied : 
       spots = slice_set m.spots f (Head (record { group = g; order = 0 }));
       links = links;
       lists = lists;
-      seat = seat_with m.seat f used;
-      stock = with_page_absorbed m.stock c.number;
+      frame_seat = seat_with m.frame_seat f used;
+      stock_seat = with_page_absorbed m.stock_seat c.number;
     }
 
     kept_free : free_of m.spots ≡ free_of kept.spots
@@ -151,13 +151,13 @@ module _ (t : KnownTable) (w : Words) (m : KnownMachine) (c : KnownCpu) (tied : 
         unit_kept t w m ok g was.fits b (record { order = omega arith; aligned = omega arith; inside = let a = within in omega (arith, a) }) kept.spots
         (placed_one m.spots g f within) (ap spot_group is_lent) (λ x low high ne. absurd (ne (omega (arith, low, high)))) links lists joined used
         (record { own = refl; lent = refl; references = let a = was.nothing.0 in omega (arith, a) }) m.blocks m.ledger
-        (with_page_absorbed m.stock c.number)
+        (with_page_absorbed m.stock_seat c.number)
         m.counts (record {
           areas = subst (λ (l : List Bool). AreMaximalBlocks l m.blocks) kept_free ok.areas;
           table = seats.table;
           stocks = seats.stocks;
-          absorbed = none_noted m.stock.view c.number ok.absorbed;
-          bounded = still_bounded m.stock.view c.number ok.bounded;
+          absorbed = none_noted m.stock_seat.view c.number ok.absorbed;
+          bounded = still_bounded m.stock_seat.view c.number ok.bounded;
           charged = λ h. let a = ok.charged h in let b = books h in omega (arith, a, b);
         }) ok.balances
 
@@ -168,8 +168,8 @@ module _ (t : KnownTable) (w : Words) (m : KnownMachine) (c : KnownCpu) (tied : 
         (ap (λ (n : ℕ). cond (nat_le 1 n) (phase.Head (record { group = g; order = 0 }) (BackAt c.number))
         (phase.Head (record { group = g; order = 0 }) Live)) at.none_back
         ∙ (λ i. phase.Head (record { group = sym was.named i; order = 0 }) Live)) in
-        let re = references_used m.seat c d f c.number refl refl in
-        let pa = parts_absorbed m.stock c f rest front at noted (fresh_unit c) in
+        let re = references_used m.frame_seat c d f c.number refl refl in
+        let pa = parts_absorbed m.stock_seat c f rest front at noted (fresh_unit c) in
         collect_run s c.number f (fresh_unit c) _ v (own_part m c) fresh_now noted (zone_makes (Unfreeze f 1) Done ∷ zone_makes (Publish f) Done ∷ [])
         (local_of t kept d)
         (keep_run s c.number f (fresh_unit c) _ v (own_part m c) (local_of t kept d)
@@ -190,8 +190,8 @@ module _ (t : KnownTable) (w : Words) (m : KnownMachine) (c : KnownCpu) (tied : 
       blocks = blocks;
       spots = new;
       ledger = with_uncharge m.ledger g 1;
-      seat = seat_with m.seat f (collected_from c.number);
-      stock = with_page_absorbed m.stock c.number;
+      frame_seat = seat_with m.frame_seat f (collected_from c.number);
+      stock_seat = with_page_absorbed m.stock_seat c.number;
       counts = counts;
     }
 
@@ -204,10 +204,10 @@ module _ (t : KnownTable) (w : Words) (m : KnownMachine) (c : KnownCpu) (tied : 
     homeless None is = tt
     homeless (Some x) is = is
 
-    dropped_fits : FitsSpot t.cpus (collected_from c.number (note_of m.seat.view f)) (home_of m.links f) Free
+    dropped_fits : FitsSpot t.cpus (collected_from c.number (note_of m.frame_seat.view f)) (home_of m.links f) Free
     dropped_fits =
-        let old : FitsSpot t.cpus (note_of m.seat.view f) (home_of m.links f) (Lent c.number) =
-        subst (λ (x : Spot). FitsSpot t.cpus (note_of m.seat.view f) (home_of m.links f) x) is_lent (ok.spots f was.inside) in
+        let old : FitsSpot t.cpus (note_of m.frame_seat.view f) (home_of m.links f) (Lent c.number) =
+        subst (λ (x : Spot). FitsSpot t.cpus (note_of m.frame_seat.view f) (home_of m.links f) x) is_lent (ok.spots f was.inside) in
         record { own = refl; lent = refl; borrower = tt; references = old.references; kept = homeless (home_of m.links f) old.kept }
 
     charged_one : 1 ≤ pages_of m.ledger g
@@ -228,11 +228,11 @@ module _ (t : KnownTable) (w : Words) (m : KnownMachine) (c : KnownCpu) (tied : 
       };
       seats = let z = ok.seats in record { frames = z.frames; table = z.table; stocks = z.stocks };
       areas = subst (λ (l : List Spot). AreMaximalBlocks (free_of l) blocks) one_set areas;
-      spots = spots_changed t.cpus m.seat m.links m.spots f (collected_from c.number) Free t.frames within ok.spots dropped_fits;
+      spots = spots_changed t.cpus m.frame_seat m.links m.spots f (collected_from c.number) Free t.frames within ok.spots dropped_fits;
       units = units_stay m.spots f Free within (ap spot_group is_lent) refl ok.units;
       lists = ok.lists;
-      absorbed = none_noted m.stock.view c.number ok.absorbed;
-      bounded = still_bounded m.stock.view c.number ok.bounded;
+      absorbed = none_noted m.stock_seat.view c.number ok.absorbed;
+      bounded = still_bounded m.stock_seat.view c.number ok.bounded;
       charged = λ h.
           let a = ok.charged h in
           let b = books h in
@@ -249,8 +249,8 @@ module _ (t : KnownTable) (w : Words) (m : KnownMachine) (c : KnownCpu) (tied : 
     dropped_steps killed =
         let v = is_visited t w m c tied visit f was.inside in
         let ph = phases_freed c d m.spots f (fresh_else c f rest front) new (fresh_unit c) Collected frees in
-        let re = references_same m.seat c d f c.number refl refl in
-        let pa = parts_absorbed m.stock c f rest front at noted (fresh_unit c) in
+        let re = references_same m.frame_seat c d f c.number refl refl in
+        let pa = parts_absorbed m.stock_seat c f rest front at noted (fresh_unit c) in
         collect_run s c.number f (fresh_unit c) _ v (own_part m c) fresh_now noted (zone_makes (Return f) Done ∷ []) (local_of t dropped d)
         (drop_run s c.number f (fresh_unit c) _ v (own_part m c) (local_of t dropped d) (ap (is_killed m.killed) was.named ∙ killed)
         (λ i. record s { phases = λ x. sym (ph x) i; references = λ q x. sym (re q x) i; parts = λ q. sym (pa q) i }))
@@ -273,15 +273,15 @@ pub record AllKept (t : KnownTable) (w : Words) (now : KnownMachine) (c : KnownC
 
 pub keep_all : (t : KnownTable) (w : Words) (m now : KnownMachine) → m ≡ now → (c h : KnownCpu) → IsTied t w c → IsConsistent t w m → Visits t (side now c)
     → (free : List Bool) → free ≡ free_of m.spots → (f g : ℕ) → WasFresh t m c f g → HandsFresh f c h → (i k : ℕ) → i ≡ f → k ≡ 0
-    → (mid seat : KnownSeat) → mid ≡ seat_with m.seat f (collected_from c.number) → seat ≡ seat_with mid f (unfrozen 1)
-    → (stock : Seated) → stock ≡ with_page_absorbed m.stock c.number
+    → (mid seat : KnownSeat) → mid ≡ seat_with m.frame_seat f (collected_from c.number) → seat ≡ seat_with mid f (unfrozen 1)
+    → (stock : Seated) → stock ≡ with_page_absorbed m.stock_seat c.number
     → (links : List Link) (lists : List Lru) → AllJoin m.links m.lists g i links lists
     → AllKept t w now c g f (record m {
       spots = slice_set m.spots i (Head (record { group = g; order = k }));
       links = links;
       lists = lists;
-      seat = seat;
-      stock = stock;
+      frame_seat = seat;
+      stock_seat = stock;
     }) h free
 keep_all t w m now same c h tied ok visit_now free free_is f g was hands i k index zero_is mid seat collects unfreezes stock absorbs links
     lists joined_i =
@@ -289,9 +289,9 @@ keep_all t w m now same c h tied ok visit_now free free_is f g was hands i k ind
     let rest = hands.0 in
     let front : c.fresh ≡ f ∷ rest = hands.1 in
     let joined : AllJoin m.links m.lists g f links lists = subst (λ (j : ℕ). AllJoin m.links m.lists g j links lists) index joined_i in
-    let seat_is : seat ≡ seat_with m.seat f (λ n. unfrozen 1 (collected_from c.number n)) =
+    let seat_is : seat ≡ seat_with m.frame_seat f (λ n. unfrozen 1 (collected_from c.number n)) =
     unfreezes ∙ ap (λ (x : KnownSeat). seat_with x f (unfrozen 1)) collects
-    ∙ (λ j. record { table = m.seat.table; view = changed_twice m.seat.view f (collected_from c.number) (unfrozen 1) j }) in
+    ∙ (λ j. record { table = m.frame_seat.table; view = changed_twice m.frame_seat.view f (collected_from c.number) (unfrozen 1) j }) in
     let one : AllKept t w m c g f (kept t w m c tied ok visit f g was rest front links lists joined) (fresh_handed c f rest) free =
     record {
       consistent = kept_consistent t w m c tied ok visit f g was rest front links lists joined;
@@ -310,8 +310,8 @@ keep_all t w m now same c h tied ok visit_now free free_is f g was hands i k ind
         spots = slice_set m.spots (sym index j) (Head (record { group = g; order = sym zero_is j }));
         links = links;
         lists = lists;
-        seat = sym seat_is j;
-        stock = sym absorbs j;
+        frame_seat = sym seat_is j;
+        stock_seat = sym absorbs j;
       },
       sym hands.2 j,
     )) one
@@ -327,11 +327,11 @@ pub record AllDropped (t : KnownTable) (w : Words) (now : KnownMachine) (c : Kno
 pub drop_all : (t : KnownTable) (w : Words) (m now : KnownMachine) → m ≡ now → (c h : KnownCpu) → IsTied t w c → IsConsistent t w m → Visits t (side now c)
     → (before free : List Bool) → before ≡ free_of m.spots → (f g : ℕ) → WasFresh t m c f g → is_killed now.killed g ≡ true → HandsFresh f c h
     → (i k : ℕ) → i ≡ f → k ≡ 0
-    → (seat : KnownSeat) → seat ≡ seat_with m.seat f (collected_from c.number)
-    → (stock : Seated) → stock ≡ with_page_absorbed m.stock c.number
+    → (seat : KnownSeat) → seat ≡ seat_with m.frame_seat f (collected_from c.number)
+    → (stock : Seated) → stock ≡ with_page_absorbed m.stock_seat c.number
     → (spots : List Spot) → FreesFrames i (2 ^ k) m.spots spots → (blocks : List Block) → GivesFrames before (record { at = i; order = k }) free
     → AreMaximalBlocks free blocks → (ledger : Ledger) → ledger ≡ with_uncharge m.ledger g (2 ^ k) → (counts : Counts) → counts ≡ with_drop m.counts
-    → AllDropped t w now c g f (record m { blocks = blocks; spots = spots; ledger = ledger; seat = seat; stock = stock; counts = counts }) h free
+    → AllDropped t w now c g f (record m { blocks = blocks; spots = spots; ledger = ledger; frame_seat = seat; stock_seat = stock; counts = counts }) h free
 drop_all t w m now same c h tied ok visit_now before free free_was f g was killed_now hands i k index zero_is seat collects stock absorbs spots frees_i blocks
     gives_i areas_i ledger uncharges counts counted =
     let visit : Visits t (side m c) = subst (λ (x : KnownMachine). Visits t (side x c)) (sym same) visit_now in
@@ -360,14 +360,14 @@ drop_all t w m now same c h tied ok visit_now before free free_was f g was kille
     subst (λ (x : KnownMachine × KnownMachine × KnownCpu). AllDropped t w x.0 c g f x.1 x.2 free)
     (λ j. (
       same j,
-      record m { blocks = blocks; spots = spots; ledger = sym uncharged_one j; seat = sym collects j; stock = sym absorbs j; counts = counts },
+      record m { blocks = blocks; spots = spots; ledger = sym uncharged_one j; frame_seat = sym collects j; stock_seat = sym absorbs j; counts = counts },
       sym hands.2 j,
     )) one
 
 -- what the call that collects it tells of it
-pub was_fresh : (t : KnownTable) (w : Words) (m : KnownMachine) (c : KnownCpu) (f g : ℕ) → f < t.frames → HasNothingOf m.seat f → IsLent m.seat f c.number
-    → 1 + (account_of m.stock.view c.number).noted ≤ (account_of m.stock.view c.number).book
-    → group_of c.stock.view.last ≡ (account_of m.stock.view c.number).group → group_of c.stock.view.last ≡ Some g → g < 64 → WasFresh t m c f g
+pub was_fresh : (t : KnownTable) (w : Words) (m : KnownMachine) (c : KnownCpu) (f g : ℕ) → f < t.frames → HasNothingOf m.frame_seat f → IsLent m.frame_seat f c.number
+    → 1 + (account_of m.stock_seat.view c.number).unabsorbed ≤ (account_of m.stock_seat.view c.number).book
+    → group_of c.stock_seat.view.last ≡ (account_of m.stock_seat.view c.number).group → group_of c.stock_seat.view.last ≡ Some g → g < 64 → WasFresh t m c f g
 was_fresh t w m c f g inside nothing lent booked group last fits = record {
   inside = inside;
   nothing = nothing;
@@ -384,7 +384,7 @@ pub drop_charged : (t : KnownTable) (w : Words) (m : KnownMachine) (c : KnownCpu
 drop_charged t w m c tied ok f g was k zero_is =
     let a = was.booked in
     let b = ok.charged g in
-    let z = booked_within t m.stock c.number g tied.seats.frame_cpus was.of_group in
+    let z = booked_within t m.stock_seat c.number g tied.seats.frame_cpus was.of_group in
     let one : 2 ^ k ≡ 1 = ap (λ (j : ℕ). 2 ^ j) zero_is in
     omega (arith, a, b, z, one)
 

@@ -7,7 +7,7 @@ use Rattle.group_charge.specs.Charges.{AreCharges, current_of}
 use Rattle.frame_word.specs.Views.{note_of}
 use Rattle.frame_word.specs.Seats.{KnownTable}
 use Rattle.stock_word.specs.declared.view.Stock.{Stock}
-use Rattle.stock_word.specs.Stock.{Words, Seated, account_of, stocked, pages_of, group_of, is_held}
+use Rattle.stock_word.specs.Stock.{Words, Seated, account_of, stocked, pages_of, spot_group, is_held}
 use Rattle.stock_word.specs.Kinds.{after_took}
 use Rattle.stock_word.specs.Calls.{with_view}
 use Rattle.cpu_part.specs.Cpus.{KnownCpu, IsTied, times}
@@ -22,7 +22,7 @@ use Rattle.step_rules.proofs.Basics.{at_same, at_other}
 use Rattle.mem_machine.specs.declared.spot.Spot.{Spot}
 use Rattle.mem_machine.specs.declared.spot.Spot.TheVariants.{Free, Lent, Head, Tail}
 use Rattle.mem_machine.specs.Spots.{spot_at, some_cpu}
-use Rattle.mem_machine.specs.Spots.{group_of as charged_to}
+use Rattle.mem_machine.specs.Spots.{spot_group as charged_to}
 use Rattle.mem_machine.proofs.Ledgers.{ledger_side}
 use Rattle.mem_machine.specs.Machines.{KnownMachine, IsConsistent, Visits}
 use Rattle.mem_machine.specs.Local.{local_of, phase_of, part_of, part_with, side, MakesAs}
@@ -40,8 +40,8 @@ use Rattle.mem_machine.proofs.Followed.{follows_same}
 -- ---- the own stock
 
 pub own_is : (t : KnownTable) (w : Words) (m now : KnownMachine) → m ≡ now → (c : KnownCpu) (stock : Stock) → IsTied t w c → IsConsistent t w m
-    → (account_of m.stock.view c.number).book ≡ pages_of stock + c.stock.view.fresh + (account_of m.stock.view c.number).noted
-    → group_of stock ≡ (account_of m.stock.view c.number).group → is_held stock ≡ (account_of m.stock.view c.number).filled → IsOwnStock (side now c) stock
+    → (account_of m.stock_seat.view c.number).book ≡ pages_of stock + c.stock_seat.view.fresh + (account_of m.stock_seat.view c.number).unabsorbed
+    → spot_group stock ≡ (account_of m.stock_seat.view c.number).group → is_held stock ≡ (account_of m.stock_seat.view c.number).filled → IsOwnStock (side now c) stock
 own_is t w m now same c stock tied ok balanced group held = subst (λ (x : KnownMachine). IsOwnStock (side x c) stock) same (record {
   group = group;
   held = held;
@@ -70,8 +70,8 @@ usage_small t w m ok charges g =
     let groups = m.ledger.groups in
     let charged = at_most t.frames 1 (λ f. one_if (is_below groups g (charged_to (spot_at m.spots f))))
     (λ f. one_at_most (is_below groups g (charged_to (spot_at m.spots f)))) in
-    let booked = at_most (t.cpus + 1) 65535 (λ q. cond (is_below groups g (account_of m.stock.view q).group) (account_of m.stock.view q).book 0)
-    (λ q. let a = cond_at_most (is_below groups g (account_of m.stock.view q).group) (account_of m.stock.view q).book in
+    let booked = at_most (t.cpus + 1) 65535 (λ q. cond (is_below groups g (account_of m.stock_seat.view q).group) (account_of m.stock_seat.view q).book 0)
+    (λ q. let a = cond_at_most (is_below groups g (account_of m.stock_seat.view q).group) (account_of m.stock_seat.view q).book in
     let b = ok.bounded q in omega (arith, a, b)) in
     let both = ledger_side t w m ok charges g in
     omega (arith, charged, booked, both)
@@ -87,22 +87,22 @@ room_for t w m now same ok charges size pages few =
 -- ---- the front that is paid for
 
 pub has_page : (t : KnownTable) (w : Words) (m now : KnownMachine) → m ≡ now → (c : KnownCpu) (g : ℕ) → IsTied t w c → IsConsistent t w m → HoldsPage (side now c) g
-    → 0 < stocked m.stock.view c.stock.view
+    → 0 < stocked m.stock_seat.view c.stock_seat.view
 has_page t w m now same c g tied ok page =
     let some : 1 ≤ pages_held (side m c) = subst (λ (x : KnownMachine). 1 ≤ pages_held (side x c)) (sym same) page.some in
     let none = ok.absorbed c.number in
     let fresh = tied.within.pages_are in
-    let at : stocked m.stock.view c.stock.view ≡ (account_of m.stock.view c.number).book - c.stock.view.fresh - (account_of m.stock.view c.number).noted
-    = ap (λ (p : ℕ). (account_of m.stock.view p).book - c.stock.view.fresh - (account_of m.stock.view p).noted) tied.seats.stock_number in
+    let at : stocked m.stock_seat.view c.stock_seat.view ≡ (account_of m.stock_seat.view c.number).book - c.stock_seat.view.fresh - (account_of m.stock_seat.view c.number).unabsorbed
+    = ap (λ (p : ℕ). (account_of m.stock_seat.view p).book - c.stock_seat.view.fresh - (account_of m.stock_seat.view p).unabsorbed) tied.seats.stock_number in
     omega (arith, some, none, fresh, at)
 
 pub left_after : (t : KnownTable) (w : Words) (m : KnownMachine) (c : KnownCpu) → IsTied t w c → IsConsistent t w m
-    → stocked m.stock.view c.stock.view - 1 ≡ pages_held (side m c) - 1
+    → stocked m.stock_seat.view c.stock_seat.view - 1 ≡ pages_held (side m c) - 1
 left_after t w m c tied ok =
     let none = ok.absorbed c.number in
     let fresh = tied.within.pages_are in
-    let at : stocked m.stock.view c.stock.view ≡ (account_of m.stock.view c.number).book - c.stock.view.fresh - (account_of m.stock.view c.number).noted
-    = ap (λ (p : ℕ). (account_of m.stock.view p).book - c.stock.view.fresh - (account_of m.stock.view p).noted) tied.seats.stock_number in
+    let at : stocked m.stock_seat.view c.stock_seat.view ≡ (account_of m.stock_seat.view c.number).book - c.stock_seat.view.fresh - (account_of m.stock_seat.view c.number).unabsorbed
+    = ap (λ (p : ℕ). (account_of m.stock_seat.view p).book - c.stock_seat.view.fresh - (account_of m.stock_seat.view p).unabsorbed) tied.seats.stock_number in
     omega (arith, none, fresh, at)
 
 one_time : (f : ℕ) → times f (f ∷ []) ≡ 1
@@ -121,7 +121,7 @@ and_no false = refl
 
 -- what the processor that is visited is once its front was paid for
 abbrev paid_cpu : KnownMachine → KnownCpu → ℕ → ℕ → List ℕ → KnownCpu
-paid_cpu m c g f rest = record c { list = rest; fresh = c.fresh ++ f ∷ []; stock = with_view c.stock (after_took c.stock.view g (pages_held (side m c) - 1)) }
+paid_cpu m c g f rest = record c { list = rest; fresh = c.fresh ++ f ∷ []; stock_seat = with_view c.stock_seat (after_took c.stock_seat.view g (pages_held (side m c) - 1)) }
 
 module _ (t : KnownTable) (w : Words) (m : KnownMachine) (c : KnownCpu) (tied : IsTied t w c) (ok : IsConsistent t w m) (visit : Visits t (side m c))
     (g f : ℕ) (rest : List ℕ) (front : c.list ≡ f ∷ rest) (inside : f < t.frames) (page : HoldsPage (side m c) g) (none : c.fresh ≡ []) where
@@ -143,7 +143,7 @@ module _ (t : KnownTable) (w : Words) (m : KnownMachine) (c : KnownCpu) (tied : 
       let b = n.borrowed_is in
       let o = n.once in
       let l = once.0 in
-      let borrowed : (note_of c.seat.view f).borrowed ≡ 1 = omega (arith, b, o, l) in
+      let borrowed : (note_of c.frame_seat.view f).borrowed ≡ 1 = omega (arith, b, o, l) in
       lent_spot (spot_at m.spots f) c.number tied.seats.some_number
       (ap some_cpu (sym ((visit.lent f inside).1 borrowed ∙ tied.seats.frame_number)) ∙ (ok.spots f inside).lent)
 
@@ -166,17 +166,17 @@ module _ (t : KnownTable) (w : Words) (m : KnownMachine) (c : KnownCpu) (tied : 
   fronted : front_of c.list ≡ f
   fronted = ap front_of front
 
-  part_paid : part_with rest (c.fresh ++ f ∷ []) c.back (account_of m.stock.view c.number) ≡ paid (part_of m.stock c c.number)
+  part_paid : part_with rest (c.fresh ++ f ∷ []) c.back (account_of m.stock_seat.view c.number) ≡ paid (part_of m.stock_seat c c.number)
   part_paid =
-      let a = account_of m.stock.view c.number in
+      let a = account_of m.stock_seat.view c.number in
       let long = length-append c.fresh (f ∷ []) in
       let noted = ok.absorbed c.number in
-      let pages : a.book - length (c.fresh ++ f ∷ []) - a.noted ≡ a.book - length c.fresh - a.noted - 1 = omega (arith, long, noted) in
+      let pages : a.book - length (c.fresh ++ f ∷ []) - a.unabsorbed ≡ a.book - length c.fresh - a.unabsorbed - 1 = omega (arith, long, noted) in
       sym (ap paid (own_part m c)
       ∙ (λ i. record (part_with rest (c.fresh ++ f ∷ []) c.back a) {
         list = (ap (λ (k : ℕ). without k c.list) fronted ∙ without_front f c.list rest front once.1) i;
         fresh = c.fresh ++ fronted i ∷ [];
-        stock = record { group = a.group; pages = sym pages i; is_drained = is_some a.group && not a.filled };
+        stock_seat = record { group = a.group; pages = sym pages i; is_drained = is_some a.group && not a.filled };
       }))
 
   pub front_runs : MakesAs t c.number (side m c) (take_front_steps c.number g) (side m d)
@@ -184,24 +184,24 @@ module _ (t : KnownTable) (w : Words) (m : KnownMachine) (c : KnownCpu) (tied : 
       let p = c.number in
       let s = local_of t m c in
       let own = own_part m c in
-      let a = account_of m.stock.view p in
-      let some : nat_le 1 (length (part_of m.stock c p).list) ≡ true =
+      let a = account_of m.stock_seat.view p in
+      let some : nat_le 1 (length (part_of m.stock_seat c p).list) ≡ true =
       ap (λ (x : Part). nat_le 1 (length x.list)) own ∙ le-leb 1 (length c.list) (let l = ap length front in omega (arith, l)) in
-      let room : nat_lt (length (part_of m.stock c p).fresh) 32 ≡ true = ap (λ (x : Part). nat_lt (length x.fresh) 32) own
+      let room : nat_lt (length (part_of m.stock_seat c p).fresh) 32 ≡ true = ap (λ (x : Part). nat_lt (length x.fresh) 32) own
       ∙ ap (λ (l : List ℕ). nat_lt (length l) 32) none in
       let cpu : is_cpu s.zone p ≡ true = seated_cpu t c (record { some_number = tied.seats.some_number; cpus = tied.seats.frame_cpus }) in
       let legal : is_legal s p (Consume g) ≡ true = and_from _ _ (and_from _ _ cpu some) room in
-      let pages : 1 ≤ (part_of m.stock c p).stock.pages
+      let pages : 1 ≤ (part_of m.stock_seat c p).stock.pages
       = subst (λ (x : Part). 1 ≤ x.stock.pages) (sym own) (let k = page.some in let n = ok.absorbed p in omega (arith, k, n)) in
-      let drained : (part_of m.stock c p).stock.is_drained ≡ false = ap (λ (x : Part). x.stock.is_drained) own
+      let drained : (part_of m.stock_seat c p).stock.is_drained ≡ false = ap (λ (x : Part). x.stock.is_drained) own
       ∙ ap (λ (b : Bool). is_some a.group && not b) page.held ∙ and_no (is_some a.group) in
       let answer : IsAnswer s p (Consume g) Took = (ap (λ (x : Part). x.stock.group) own ∙ page.group, drained, pages) in
-      let at : front_of (part_of m.stock c p).list ≡ f = ap (λ (x : Part). front_of x.list) own ∙ fronted in
-      let parts = parts_changed m.stock c rest (c.fresh ++ f ∷ []) c.back (paid (part_of m.stock c p)) part_paid in
+      let at : front_of (part_of m.stock_seat c p).list ≡ f = ap (λ (x : Part). front_of x.list) own ∙ fronted in
+      let parts = parts_changed m.stock_seat c rest (c.fresh ++ f ∷ []) c.back (paid (part_of m.stock_seat c p)) part_paid in
       record {
         leads = run_one p s (local_of t m d) p (Consume g) Took (cpu_step s p (Consume g) Took refl legal answer)
             ((λ i. record s { phases = λ h. phases_paid h i; parts = λ q. parts q i })
-            ∙ (λ i. record s { phases = with_at s.phases (sym at i) (consumed p g); parts = with_at s.parts p (paid (part_of m.stock c p)) }));
+            ∙ (λ i. record s { phases = with_at s.phases (sym at i) (consumed p g); parts = with_at s.parts p (paid (part_of m.stock_seat c p)) }));
         follows = follows_same _ _ _ refl;
       }
 
@@ -213,8 +213,8 @@ pub record FrontPaid (t : KnownTable) (w : Words) (now : KnownMachine) (g f : �
   pub steps : MakesAs t c.number (side now c) (take_front_steps c.number g) (side n d)
 
 pub front_paid : (t : KnownTable) (w : Words) (m now : KnownMachine) → m ≡ now → (c : KnownCpu) → IsTied t w c → IsConsistent t w m → Visits t (side now c)
-    → (g f h : ℕ) → h ≡ g → HoldsPage (side now c) g → c.fresh ≡ [] → f < t.frames → (stock : Seated) → stock ≡ m.stock → (d : KnownCpu)
-    → TakesFront h (stocked m.stock.view c.stock.view - 1) f c d → FrontPaid t w now g f c (record m { stock = stock }) d
+    → (g f h : ℕ) → h ≡ g → HoldsPage (side now c) g → c.fresh ≡ [] → f < t.frames → (stock : Seated) → stock ≡ m.stock_seat → (d : KnownCpu)
+    → TakesFront h (stocked m.stock_seat.view c.stock_seat.view - 1) f c d → FrontPaid t w now g f c (record m { stock_seat = stock }) d
 front_paid t w m now same c tied ok visit_now g f h named page_now none inside stock is d takes =
     let visit : Visits t (side m c) = subst (λ (x : KnownMachine). Visits t (side x c)) (sym same) visit_now in
     let page : HoldsPage (side m c) g = subst (λ (x : KnownMachine). HoldsPage (side x c) g) (sym same) page_now in
@@ -227,5 +227,5 @@ front_paid t w m now same c tied ok visit_now g f h named page_now none inside s
       steps = front_runs t w m c tied ok visit g f rest takes.1 inside page none;
     } in
     let cpu : d ≡ paid_cpu m c g f rest = takes.2
-    ∙ (λ i. record c { list = rest; fresh = c.fresh ++ f ∷ []; stock = with_view c.stock (after_took c.stock.view (named i) (left i)) }) in
-    subst (λ (x : KnownMachine × KnownMachine × KnownCpu). FrontPaid t w x.0 g f c x.1 x.2) (λ i. (same i, record m { stock = sym is i }, sym cpu i)) all
+    ∙ (λ i. record c { list = rest; fresh = c.fresh ++ f ∷ []; stock_seat = with_view c.stock_seat (after_took c.stock_seat.view (named i) (left i)) }) in
+    subst (λ (x : KnownMachine × KnownMachine × KnownCpu). FrontPaid t w x.0 g f c x.1 x.2) (λ i. (same i, record m { stock_seat = sym is i }, sym cpu i)) all

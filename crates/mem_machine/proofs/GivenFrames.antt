@@ -28,9 +28,9 @@ pub record AllGiven (t : KnownTable) (w : Words) (now : KnownMachine) (c : Known
 pub given_all : (t : KnownTable) (w : Words) (m now : KnownMachine) → m ≡ now → (c d : KnownCpu) → IsTied t w c → IsConsistent t w m → Visits t (side now c)
     → (before free : List Bool) (blocks : List Block) (f i q : ℕ) (seat seat' : KnownSeat) → before ≡ free_of m.spots → f < t.frames
     → spot_at now.spots f ≡ Free → TakesFrames before (record { at = i; order = 0 }) free → AreMaximalBlocks free blocks → i ≡ f → q ≡ c.number
-    → seat ≡ seat_with m.seat f (passed_out_to q) → seat' ≡ seat → d ≡ record c { list = c.list ++ f ∷ []; seat = seat_with c.seat f took_in }
-    → in_hands (note_of c.seat.view f) ≡ 0
-    → AllGiven t w now c f (record m { blocks = blocks; spots = slice_set m.spots i (Lent q); seat = seat' }) d free
+    → seat ≡ seat_with m.frame_seat f (passed_out_to q) → seat' ≡ seat → d ≡ record c { list = c.list ++ f ∷ []; frame_seat = seat_with c.frame_seat f took_in }
+    → in_hands (note_of c.frame_seat.view f) ≡ 0
+    → AllGiven t w now c f (record m { blocks = blocks; spots = slice_set m.spots i (Lent q); frame_seat = seat' }) d free
 given_all t w m now same c d tied ok visit_now before free blocks f i q seat seat' was inside free_now takes areas index number passed stays cpu none =
     let visit : Visits t (side m c) = subst (λ (x : KnownMachine). Visits t (side x c)) (sym same) visit_now in
     let there : spot_at m.spots f ≡ Free = ap (λ (x : KnownMachine). spot_at x.spots f) same ∙ free_now in
@@ -39,8 +39,8 @@ given_all t w m now same c d tied ok visit_now before free blocks f i q seat sea
     let sized = ok.sizes.spots in
     let below : f < length m.spots = omega (arith, inside, sized) in
     let free_is : free ≡ free_of (slice_set m.spots f (Lent c.number)) = free_taken before free m.spots f (Lent c.number) below was takes_f refl in
-    let n : KnownMachine = record m { blocks = blocks; spots = slice_set m.spots f (Lent c.number); seat = seat_with m.seat f (passed_out_to c.number) } in
-    let e : KnownCpu = record c { list = c.list ++ f ∷ []; seat = seat_with c.seat f took_in } in
+    let n : KnownMachine = record m { blocks = blocks; spots = slice_set m.spots f (Lent c.number); frame_seat = seat_with m.frame_seat f (passed_out_to c.number) } in
+    let e : KnownCpu = record c { list = c.list ++ f ∷ []; frame_seat = seat_with c.frame_seat f took_in } in
     let areas_f : AreMaximalBlocks (free_of (slice_set m.spots f (Lent c.number))) blocks =
     subst (λ (l : List Bool). AreMaximalBlocks l blocks) free_is areas in
     let all : AllGiven t w m c f n e free = record {
@@ -56,7 +56,7 @@ given_all t w m now same c d tied ok visit_now before free blocks f i q seat sea
       record m {
         blocks = blocks;
         spots = slice_set m.spots (sym index j) (Lent (sym number j));
-        seat = sym (stays ∙ passed ∙ ap (λ (x : ℕ). seat_with m.seat f (passed_out_to x)) number) j;
+        frame_seat = sym (stays ∙ passed ∙ ap (λ (x : ℕ). seat_with m.frame_seat f (passed_out_to x)) number) j;
       },
       sym cpu j,
     )) all
@@ -74,7 +74,7 @@ given_free t w m now same ok before f i was inside free index =
 
 -- and the zone has it in its hand
 pub given_hand : (t : KnownTable) (w : Words) (m now : KnownMachine) → m ≡ now → IsConsistent t w m → (f : ℕ) → f < t.frames → spot_at now.spots f ≡ Free
-    → IsInOwnHand m.seat f
+    → IsInOwnHand m.frame_seat f
 given_hand t w m now same ok f inside free =
     let sized = ok.sizes.spots in
     zone_hand t w m ok f f (omega (arith, inside, sized)) (ap (λ (x : KnownMachine). spot_at x.spots f) same ∙ free) refl

@@ -46,7 +46,7 @@ module _ (t : KnownTable) (m : KnownMachine) (c : KnownCpu) (g n : ℕ) (there :
   s = local_of t m c
 
   may_grant : is_legal s 0 (Grant g n) ≡ true
-  may_grant = and_from _ _ (and_from _ _ (zone_may_act m.seat c.number) there) (ap not alive)
+  may_grant = and_from _ _ (and_from _ _ (zone_may_act m.frame_seat c.number) there) (ap not alive)
 
   -- the group has the same room by the rules as by the charges
   room_same : (h : ℕ) → room.has_room m.ledger.groups (usage_of s) h n ≡ room.has_room m.ledger.groups (current_of m.ledger) h n
@@ -78,7 +78,7 @@ module _ (t : KnownTable) (m : KnownMachine) (c : KnownCpu) (g n : ℕ) (there :
   pub is_taken_back : IsLocalStep with_granted c.number 0 (Ungrant g n) Done
   is_taken_back =
       zone_step with_granted c.number (Ungrant g n) Done refl
-      (and_from _ _ (and_from _ _ (zone_may_act m.seat c.number) there) (le-leb n (with_granted.pending g) (let e = pending_is in omega arith))) tt
+      (and_from _ _ (and_from _ _ (zone_may_act m.frame_seat c.number) there) (le-leb n (with_granted.pending g) (let e = pending_is in omega arith))) tt
 
   none_left : with_granted.pending g - n ≡ 0
   none_left = let e = pending_is in omega arith
@@ -144,7 +144,7 @@ module _ (t : KnownTable) (m : KnownMachine) (c : KnownCpu) (g n : ℕ) (there :
   pub is_not_placed : IsLocalStep granted c.number 0 (PlaceBlock g k) NoFreeBlock
   is_not_placed =
       zone_step granted c.number (PlaceBlock g k) NoFreeBlock refl
-      (and_from _ _ (and_from _ _ (zone_may_act m.seat c.number) there)
+      (and_from _ _ (and_from _ _ (zone_may_act m.frame_seat c.number) there)
       (le-leb (2 ^ k) (granted.pending g) (let e = pending_is t m c g n there alive usage in omega arith)))
       (none_to_place t m c sized areas k none)
 

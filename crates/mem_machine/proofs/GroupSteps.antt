@@ -33,7 +33,7 @@ module _ (t : KnownTable) (m n : KnownMachine) (g : ℕ) (there : has_group m.le
       record {
         leads = subst (λ (k : KnownMachine). IsLocalRun c.number s (note_max_steps g) (local_of t k c)) (sym is)
             (run_one c.number s _ 0 (NoteMax g) Done
-            (zone_step s c.number (NoteMax g) Done refl (and_from _ _ (zone_may_act m.seat c.number) there) tt) refl);
+            (zone_step s c.number (NoteMax g) Done refl (and_from _ _ (zone_may_act m.frame_seat c.number) there) tt) refl);
         follows = follows_note Max t m c g n.ledger counts peaks;
       }
 
@@ -44,7 +44,7 @@ module _ (t : KnownTable) (m n : KnownMachine) (g : ℕ) (there : has_group m.le
       record {
         leads = subst (λ (k : KnownMachine). IsLocalRun c.number s (note_oom_steps g) (local_of t k c)) (sym is)
             (run_one c.number s _ 0 (NoteOom g) Done
-            (zone_step s c.number (NoteOom g) Done refl (and_from _ _ (zone_may_act m.seat c.number) there) tt) refl);
+            (zone_step s c.number (NoteOom g) Done refl (and_from _ _ (zone_may_act m.frame_seat c.number) there) tt) refl);
         follows = follows_note Oom t m c g n.ledger counts peaks;
       }
 
@@ -54,7 +54,7 @@ module _ (t : KnownTable) (m n : KnownMachine) (g : ℕ) (there : has_group m.le
       let s = local_of t m c in
       subst (λ (k : KnownMachine). MakesAs t c.number (side m c) (set_max_steps g limit) (side k c)) (sym is) (record {
         leads = run_one c.number s _ 0 (SetMax g limit) Done (zone_step s c.number (SetMax g limit) Done refl
-            (and_from _ _ (and_from _ _ (zone_may_act m.seat c.number) there) (ap not (ne_eqb g 0 below))) tt) refl;
+            (and_from _ _ (and_from _ _ (zone_may_act m.frame_seat c.number) there) (ap not (ne_eqb g 0 below))) tt) refl;
         follows = follows_limit s m.ledger g limit;
       })
 
@@ -91,7 +91,7 @@ kill_runs t m n g inside there alive is counts peaks c =
     record {
       leads = subst (λ (k : KnownMachine). IsLocalRun c.number s (kill_steps g) (local_of t k c)) (sym is)
           (run_one c.number s _ 0 (Kill g) Done
-          (zone_step s c.number (Kill g) Done refl (and_from _ _ (and_from _ _ (zone_may_act m.seat c.number) there) (ap not alive)) tt)
+          (zone_step s c.number (Kill g) Done refl (and_from _ _ (and_from _ _ (zone_may_act m.frame_seat c.number) there) (ap not alive)) tt)
           (λ i. record s { killed = marks_set m.killed g true inside i }));
       follows = follows_note OomKill t m c g n.ledger counts peaks;
     }
@@ -113,7 +113,7 @@ make_runs t m n g path inside allowed facts makes c =
     let s = local_of t m c in
     subst (λ (k : KnownMachine). MakesAs t c.number (side m c) (make_steps path g) (side k c)) (sym makes.machine) (record {
       leads = run_one c.number s _ 0 (Make path) (Number g) (zone_step s c.number (Make path) (Number g) refl (and_from _ _
-          (zone_may_act m.seat c.number) allowed) makes.least)
+          (zone_may_act m.frame_seat c.number) allowed) makes.least)
           (λ i. record s { groups = with_group m.ledger.groups g path; killed = marks_set m.killed g false inside i });
       follows = follows_make s m.ledger path g facts makes.least;
     })
@@ -153,7 +153,7 @@ module _ (t : KnownTable) (m n : KnownMachine) (c : KnownCpu) (g : ℕ) where
       and_from _ _ (and_from _ _ (and_from _ _ there (ap not (ne_eqb g 0 below))) (ap not leaf)) (eq-eqb (usage_of s g) 0 (usage ∙ empty)) in
       subst (λ (k : KnownMachine). MakesAs t c.number (side m c) (remove_steps g) (side k c)) (sym is) (record {
         leads = run_one c.number s _ 0 (Remove g) Done (zone_step s c.number (Remove g) Done refl
-            (and_from _ _ (zone_may_act m.seat c.number) removable) tt) refl;
+            (and_from _ _ (zone_may_act m.frame_seat c.number) removable) tt) refl;
         follows = follows_remove s m.ledger g;
       })
 

@@ -42,38 +42,38 @@ told k = (k.passed_out, k.collected, k.lent)
 module _ (t : KnownTable) (w : Words) (m : KnownMachine) (c : KnownCpu) (tied : IsTied t w c) (visit : Visits t (side m c)) (f : ℕ)
     (change : FrameNote → FrameNote) (same : (k : FrameNote) → told (change k) ≡ told (collected_from c.number k)) where
   abbrev zone : KnownSeat
-  zone = seat_with m.seat f change
+  zone = seat_with m.frame_seat f change
 
   abbrev plain : KnownSeat
-  plain = seat_with m.seat f (collected_from c.number)
+  plain = seat_with m.frame_seat f (collected_from c.number)
 
   abbrev cpu : KnownSeat
-  cpu = seat_with c.seat f gave_back
+  cpu = seat_with c.frame_seat f gave_back
 
   told_same : (g : ℕ) → told (note_of zone.view g) ≡ told (note_of plain.view g)
   told_same g = elim (cases_eq g f) [
     | inl e ↦ subst (λ (h : ℕ). told (note_of zone.view h) ≡ told (note_of plain.view h)) (sym e)
-        (ap told (note_here m.seat.view f change) ∙ same (note_of m.seat.view f) ∙ sym (ap told (note_here m.seat.view f (collected_from c.number))))
-    | inr ne ↦ ap told (note_else m.seat.view f g change ne) ∙ sym (ap told (note_else m.seat.view f g (collected_from c.number) ne))
+        (ap told (note_here m.frame_seat.view f change) ∙ same (note_of m.frame_seat.view f) ∙ sym (ap told (note_here m.frame_seat.view f (collected_from c.number))))
+    | inr ne ↦ ap told (note_else m.frame_seat.view f g change ne) ∙ sym (ap told (note_else m.frame_seat.view f g (collected_from c.number) ne))
   ]
 
-  not_lent_to : (0 ≡ number_of c.seat) → ⊥
+  not_lent_to : (0 ≡ number_of c.frame_seat) → ⊥
   not_lent_to is = let a = tied.seats.frame_number in let b = tied.seats.some_number in omega (arith, a, b, is)
 
   no_one : ◌≡◌ {A = ℕ} 0 1 → ⊥
   no_one is = omega (arith, is)
 
-  plain_lent : (g : ℕ) → g < t.frames → (IsLent plain g (number_of c.seat) → IsBorrowed cpu g) × (IsBorrowed cpu g → IsLent plain g (number_of c.seat))
+  plain_lent : (g : ℕ) → g < t.frames → (IsLent plain g (number_of c.frame_seat) → IsBorrowed cpu g) × (IsBorrowed cpu g → IsLent plain g (number_of c.frame_seat))
   plain_lent g inside = elim (cases_eq g f) [
-    | inl e ↦ subst (λ (h : ℕ). (IsLent plain h (number_of c.seat) → IsBorrowed cpu h) × (IsBorrowed cpu h → IsLent plain h (number_of c.seat))) (sym e) (
-      λ a. absurd (not_lent_to (sym (ap (λ (k : FrameNote). k.lent) (note_here m.seat.view f (collected_from c.number))) ∙ a)),
-      λ a. absurd (no_one (sym (ap (λ (k : FrameNote). k.borrowed) (note_here c.seat.view f gave_back)) ∙ a)),
+    | inl e ↦ subst (λ (h : ℕ). (IsLent plain h (number_of c.frame_seat) → IsBorrowed cpu h) × (IsBorrowed cpu h → IsLent plain h (number_of c.frame_seat))) (sym e) (
+      λ a. absurd (not_lent_to (sym (ap (λ (k : FrameNote). k.lent) (note_here m.frame_seat.view f (collected_from c.number))) ∙ a)),
+      λ a. absurd (no_one (sym (ap (λ (k : FrameNote). k.borrowed) (note_here c.frame_seat.view f gave_back)) ∙ a)),
     )
-    | inr ne ↦ subst (λ (k : FrameNote × FrameNote). (k.0.lent ≡ number_of c.seat → k.1.borrowed ≡ 1) × (k.1.borrowed ≡ 1 → k.0.lent ≡ number_of c.seat))
-        (λ i. (sym (note_else m.seat.view f g (collected_from c.number) ne) i, sym (note_else c.seat.view f g gave_back ne) i)) (visit.lent g inside)
+    | inr ne ↦ subst (λ (k : FrameNote × FrameNote). (k.0.lent ≡ number_of c.frame_seat → k.1.borrowed ≡ 1) × (k.1.borrowed ≡ 1 → k.0.lent ≡ number_of c.frame_seat))
+        (λ i. (sym (note_else m.frame_seat.view f g (collected_from c.number) ne) i, sym (note_else c.frame_seat.view f g gave_back ne) i)) (visit.lent g inside)
   ]
 
-  pub handed_visits : (n : KnownMachine) (d : KnownCpu) → n.seat ≡ zone → d.seat ≡ cpu → d.number ≡ c.number → Visits t (side n d)
+  pub handed_visits : (n : KnownMachine) (d : KnownCpu) → n.frame_seat ≡ zone → d.frame_seat ≡ cpu → d.number ≡ c.number → Visits t (side n d)
   handed_visits n d zone_is cpu_is number = record {
     is_open = subst (λ (x : KnownSeat × ℕ). IsOpen x.0 x.1) (λ i. (sym zone_is i, sym number i)) visit.is_open;
     still = subst (λ (x : KnownSeat × KnownSeat). (g : ℕ) → g < t.frames
@@ -82,12 +82,12 @@ module _ (t : KnownTable) (w : Words) (m : KnownMachine) (c : KnownCpu) (tied : 
         (λ i. (sym zone_is i, sym cpu_is i))
         (λ g inside.
         ap (λ (x : List ℕ × List ℕ × ℕ). get_or x.0 cpu.view.number 0 + (note_of cpu.view g).passed_back) (told_same g)
-        ∙ collected_is_still t m.seat c.seat c.number tied.seats.frame_number f visit.still cpu plain refl refl g inside
+        ∙ collected_is_still t m.frame_seat c.frame_seat c.number tied.seats.frame_number f visit.still cpu plain refl refl g inside
         ∙ sym (ap (λ (x : List ℕ × List ℕ × ℕ). get_or x.1 cpu.view.number 0 + (note_of cpu.view g).taken_in) (told_same g)));
     lent = subst (λ (x : KnownSeat × KnownSeat). (g : ℕ) → g < t.frames
         → (IsLent x.0 g (number_of x.1) → IsBorrowed x.1 g) × (IsBorrowed x.1 g → IsLent x.0 g (number_of x.1)))
         (λ i. (sym zone_is i, sym cpu_is i))
-        (λ g inside. subst (λ (x : List ℕ × List ℕ × ℕ). (x.2 ≡ number_of c.seat → IsBorrowed cpu g) × (IsBorrowed cpu g → x.2 ≡ number_of c.seat))
+        (λ g inside. subst (λ (x : List ℕ × List ℕ × ℕ). (x.2 ≡ number_of c.frame_seat → IsBorrowed cpu g) × (IsBorrowed cpu g → x.2 ≡ number_of c.frame_seat))
         (sym (told_same g)) (plain_lent g inside));
   }
 

@@ -75,58 +75,58 @@ no_pass c p f (Head unit) = head_rests (nat_le 1 (times f c.back)) p c.number un
 no_pass c p f (Tail g) = refl
 
 -- the processor's part is its own
-pub own_part : (m : KnownMachine) (c : KnownCpu) → part_of m.stock c c.number ≡ part_with c.list c.fresh c.back (account_of m.stock.view c.number)
+pub own_part : (m : KnownMachine) (c : KnownCpu) → part_of m.stock_seat c c.number ≡ part_with c.list c.fresh c.back (account_of m.stock_seat.view c.number)
 own_part m c = cond-true (c.number == c.number) _ _ (eq-eqb c.number c.number refl)
 
 unfolded_rest : (c : KnownCpu) (p f : ℕ) (x : Spot) → (not (passes_out p (phase_of c f x)) && not (passes_back p (phase_of c f x))) ≡ true
 unfolding resting
 unfolded_rest c p f x = no_pass c p f x
 
-pub open_runs : (t : KnownTable) (m n : KnownMachine) (c : KnownCpu) → n ≡ record m { seat = seat_with_visit m.seat c.number 1 } → IsShut m.seat c.number
+pub open_runs : (t : KnownTable) (m n : KnownMachine) (c : KnownCpu) → n ≡ record m { frame_seat = seat_with_visit m.frame_seat c.number 1 } → IsShut m.frame_seat c.number
     → MakesAs t c.number (side m c) (open_steps c.number) (side n c)
 open_runs t m n c is shut =
     let p = c.number in
-    let legal : (may_zone_act (hold_of m.seat p) 0 && is_held_by p (hold_of m.seat p)) ≡ true =
-    and_from _ _ (zone_may_act m.seat p) (ap (is_held_by p) (hold_shut m.seat p shut) ∙ eq-eqb p p refl) in
-    let opened : hold_of (seat_with_visit m.seat p 1) p ≡ Visiting p = hold_open (seat_with_visit m.seat p 1) p (put_here 0 m.seat.view.opened p 1) in
+    let legal : (may_zone_act (hold_of m.frame_seat p) 0 && is_held_by p (hold_of m.frame_seat p)) ≡ true =
+    and_from _ _ (zone_may_act m.frame_seat p) (ap (is_held_by p) (hold_shut m.frame_seat p shut) ∙ eq-eqb p p refl) in
+    let opened : hold_of (seat_with_visit m.frame_seat p 1) p ≡ Visiting p = hold_open (seat_with_visit m.frame_seat p 1) p (put_here 0 m.frame_seat.view.opened p 1) in
     subst (λ (k : KnownMachine). MakesAs t p (side m c) (open_steps c.number) (side k c)) (sym is) (record {
       leads = run_one p (local_of t m c) _ 0 (OpenVisit p) Done (zone_step (local_of t m c) p (OpenVisit p) Done refl legal tt)
           (λ i. record (local_of t m c) { hold = opened i });
       follows = follows_same _ _ _ refl;
     })
 
-pub shut_runs : (t : KnownTable) (m n : KnownMachine) (c : KnownCpu) → n ≡ record m { seat = seat_with_visit m.seat c.number 0 } → IsOpen m.seat c.number
-    → (account_of m.stock.view c.number).noted ≡ 0 → MakesAs t c.number (side m c) (shut_steps c.number) (side n c)
+pub shut_runs : (t : KnownTable) (m n : KnownMachine) (c : KnownCpu) → n ≡ record m { frame_seat = seat_with_visit m.frame_seat c.number 0 } → IsOpen m.frame_seat c.number
+    → (account_of m.stock_seat.view c.number).unabsorbed ≡ 0 → MakesAs t c.number (side m c) (shut_steps c.number) (side n c)
 shut_runs t m n c is was_open noted =
     let p = c.number in
     let s = local_of t m c in
     let own = own_part m c in
-    let unreported : ((part_of m.stock c p).unreported == 0) ≡ true = ap (λ (x : Part). x.unreported == 0) own in
-    let reported : ((part_of m.stock c p).reported == 0) ≡ true = ap (λ (x : Part). x.reported == 0) own ∙ eq-eqb _ 0 noted in
+    let unreported : ((part_of m.stock_seat c p).unreported == 0) ≡ true = ap (λ (x : Part). x.unreported == 0) own in
+    let reported : ((part_of m.stock_seat c p).reported == 0) ≡ true = ap (λ (x : Part). x.reported == 0) own ∙ eq-eqb _ 0 noted in
     let still : nothing_passes s p ≡ true = all_each t.frames (rests s p) (λ f inside. unfolded_rest c p f (spot_at m.spots f)) in
     let legal : is_legal s 0 (ShutVisit p) ≡ true =
-    and_from _ _ (and_from _ _ (and_from _ _ (and_from _ _ (zone_may_act m.seat p) (visits_open m.seat p was_open)) still) unreported) reported in
-    let shut : hold_of (seat_with_visit m.seat p 0) p ≡ HeldBy p = hold_shut (seat_with_visit m.seat p 0) p (put_here 0 m.seat.view.opened p 0) in
+    and_from _ _ (and_from _ _ (and_from _ _ (and_from _ _ (zone_may_act m.frame_seat p) (visits_open m.frame_seat p was_open)) still) unreported) reported in
+    let shut : hold_of (seat_with_visit m.frame_seat p 0) p ≡ HeldBy p = hold_shut (seat_with_visit m.frame_seat p 0) p (put_here 0 m.frame_seat.view.opened p 0) in
     subst (λ (k : KnownMachine). MakesAs t p (side m c) (shut_steps c.number) (side k c)) (sym is) (record {
       leads = run_one p s _ 0 (ShutVisit p) Done (zone_step s p (ShutVisit p) Done refl legal tt) (λ i. record s { hold = shut i });
       follows = follows_same _ _ _ refl;
     })
 
 -- the same, of the machine as it was seen before, and of a processor's part that stayed
-pub opens : (t : KnownTable) (m now : KnownMachine) → m ≡ now → (c d : KnownCpu) → d ≡ c → (seat : KnownSeat) → seat ≡ seat_with_visit m.seat c.number 1
-    → IsShut now.seat c.number → MakesAs t c.number (side now c) (open_steps c.number) (side (record m { seat = seat }) d)
+pub opens : (t : KnownTable) (m now : KnownMachine) → m ≡ now → (c d : KnownCpu) → d ≡ c → (seat : KnownSeat) → seat ≡ seat_with_visit m.frame_seat c.number 1
+    → IsShut now.frame_seat c.number → MakesAs t c.number (side now c) (open_steps c.number) (side (record m { frame_seat = seat }) d)
 opens t m now same c d stays seat is shut =
-    subst (λ (x : KnownMachine × KnownCpu). MakesAs t c.number (side x.0 c) (open_steps c.number) (side (record m { seat = seat }) x.1))
+    subst (λ (x : KnownMachine × KnownCpu). MakesAs t c.number (side x.0 c) (open_steps c.number) (side (record m { frame_seat = seat }) x.1))
     (λ i. (same i, sym stays i))
-    (open_runs t m (record m { seat = seat }) c (λ i. record m { seat = is i }) (subst (λ (k : KnownMachine). IsShut k.seat c.number) (sym same) shut))
+    (open_runs t m (record m { frame_seat = seat }) c (λ i. record m { frame_seat = is i }) (subst (λ (k : KnownMachine). IsShut k.frame_seat c.number) (sym same) shut))
 
-pub shuts : (t : KnownTable) (m now : KnownMachine) → m ≡ now → (c d : KnownCpu) → d ≡ c → (seat : KnownSeat) → seat ≡ seat_with_visit m.seat c.number 0
-    → Visits t (side now c) → (account_of m.stock.view c.number).noted ≡ 0
-    → MakesAs t c.number (side now c) (shut_steps c.number) (side (record m { seat = seat }) d)
+pub shuts : (t : KnownTable) (m now : KnownMachine) → m ≡ now → (c d : KnownCpu) → d ≡ c → (seat : KnownSeat) → seat ≡ seat_with_visit m.frame_seat c.number 0
+    → Visits t (side now c) → (account_of m.stock_seat.view c.number).unabsorbed ≡ 0
+    → MakesAs t c.number (side now c) (shut_steps c.number) (side (record m { frame_seat = seat }) d)
 shuts t m now same c d stays seat is visit noted =
-    subst (λ (x : KnownMachine × KnownCpu). MakesAs t c.number (side x.0 c) (shut_steps c.number) (side (record m { seat = seat }) x.1))
+    subst (λ (x : KnownMachine × KnownCpu). MakesAs t c.number (side x.0 c) (shut_steps c.number) (side (record m { frame_seat = seat }) x.1))
     (λ i. (same i, sym stays i))
-    (shut_runs t m (record m { seat = seat }) c (λ i. record m { seat = is i }) (subst (λ (k : KnownMachine). IsOpen k.seat c.number)
+    (shut_runs t m (record m { frame_seat = seat }) c (λ i. record m { frame_seat = is i }) (subst (λ (k : KnownMachine). IsOpen k.frame_seat c.number)
     (sym same) visit.is_open) noted)
 
 -- after the opening the visit is open, and after the shutting it is shut

@@ -9,12 +9,12 @@ use Rattle.step_rules.proofs.Sums.{sum_part}
 use Rattle.mem_machine.specs.declared.spot.Spot.{Spot}
 use Rattle.mem_machine.specs.declared.spot.Spot.TheVariants.{Free, Lent, Head, Tail}
 use Rattle.mem_machine.specs.declared.spot.Place.TheVariants as place
-use Rattle.mem_machine.specs.Spots.{spot_at, place_of, group_of, count_of}
+use Rattle.mem_machine.specs.Spots.{spot_at, place_of, spot_group, count_of}
 use Rattle.mem_machine.specs.Machines.{KnownMachine, IsConsistent, frames_charged}
 use Rattle.mem_machine.proofs.Draining.{charged_there}
 
 -- a frame that is charged to the group counts as one
-counts : (s : Spot) (g : ℕ) → place_of s ≡ place.Charged g → count_of g (group_of s) ≡ 1
+counts : (s : Spot) (g : ℕ) → place_of s ≡ place.Charged g → count_of g (spot_group s) ≡ 1
 counts Free g is = cc
 counts (Lent p) g is = cc
 counts (Head unit) g is = let e : unit.group ≡ g = cc in ap (λ b. cond b 1 0) (eq-eqb unit.group g e)
@@ -26,7 +26,7 @@ pub keeper_there : (t : KnownTable) (w : Words) (m : KnownMachine) (f g : ℕ) �
 keeper_there t w m f g good legal inside is =
     let one = counts (spot_at m.spots f) g is in
     let sized = good.sizes.spots in
-    let part = sum_part (length m.spots) (λ (x : ℕ). count_of g (group_of (spot_at m.spots x))) f (omega arith) in
+    let part = sum_part (length m.spots) (λ (x : ℕ). count_of g (spot_group (spot_at m.spots x))) f (omega arith) in
     let all = good.charged g in
     let some : 1 ≤ frames_charged m.spots g = omega (arith, one, part) in
     charged_there m.ledger g legal (omega (arith, all, some))

@@ -24,7 +24,7 @@ use Rattle.step_rules.proofs.Placing.{within_cases}
 use Rattle.mem_machine.specs.declared.spot.Spot.{Spot}
 use Rattle.mem_machine.specs.declared.spot.Spot.TheVariants.{Free, Lent, Head, Tail}
 use Rattle.mem_machine.specs.declared.counts.Counts.{Counts}
-use Rattle.mem_machine.specs.Spots.{spot_at, free_of, group_of, head_group_of, some_cpu}
+use Rattle.mem_machine.specs.Spots.{spot_at, free_of, spot_group, head_group_of, some_cpu}
 use Rattle.mem_machine.specs.Machines.{KnownMachine, FitsSpot, IsConsistent, BalancesCounts, home_of, lists_at, no_lists, frames_charged, pages_booked}
 use Rattle.mem_machine.specs.Blocks.{PlacesUnit}
 use Rattle.mem_machine.proofs.PlacesUnits.{head_of_block, tail_of_block, off_block}
@@ -33,17 +33,17 @@ use Rattle.mem_machine.proofs.Units.{units_placed}
 use Rattle.mem_machine.proofs.Joins.{AllJoin}
 
 -- a frame that is charged to no group stands on no list
-homeless : (h : Option Home) (x : Spot) → group_of x ≡ None → IfSome h (λ k. (k.owner < 64) × (head_group_of x ≡ Some k.owner)) → h ≡ None
+homeless : (h : Option Home) (x : Spot) → spot_group x ≡ None → IfSome h (λ k. (k.owner < 64) × (head_group_of x ≡ Some k.owner)) → h ≡ None
 homeless None x none is = refl
 homeless (Some k) x none is = absurd (none-some k.owner (sym (no_head x none) ∙ is.1))
   where
-    no_head : (y : Spot) → group_of y ≡ None → head_group_of y ≡ None
+    no_head : (y : Spot) → spot_group y ≡ None → head_group_of y ≡ None
     no_head Free e = refl
     no_head (Lent q) e = refl
     no_head (Head unit) e = absurd (none-some unit.group (sym e))
     no_head (Tail g) e = refl
 
-pub stands_nowhere : (t : KnownTable) (w : Words) (m : KnownMachine) → IsConsistent t w m → (f : ℕ) → f < t.frames → group_of (spot_at m.spots f) ≡ None
+pub stands_nowhere : (t : KnownTable) (w : Words) (m : KnownMachine) → IsConsistent t w m → (f : ℕ) → f < t.frames → spot_group (spot_at m.spots f) ≡ None
     → IsOnNone m.links f
 stands_nowhere t w m ok f inside none = homeless (home_of m.links f) (spot_at m.spots f) none (ok.spots f inside).kept
 
@@ -95,27 +95,27 @@ module _ (t : KnownTable) (w : Words) (m : KnownMachine) (ok : IsConsistent t w 
     (rest : (x : ℕ) → b.at ≤ x → x < b.at + 2 ^ b.order → x ≢ b.at → spot_at m.spots x ≡ Free)
     (links : List Link) (joined : home_of links b.at ≡ Some (record { owner = g; list = Inactive }))
     (homes : (x : ℕ) → x ≢ b.at → home_of links x ≡ home_of m.links x) (change : FrameNote → FrameNote)
-    (used : IsUsed (change (note_of m.seat.view b.at))) where
+    (used : IsUsed (change (note_of m.frame_seat.view b.at))) where
   abbrev seat : KnownSeat
-  seat = seat_with m.seat b.at change
+  seat = seat_with m.frame_seat b.at change
 
   pub unit_fits : (x : ℕ) → x < t.frames → FitsSpot t.cpus (note_of seat.view x) (home_of links x) (spot_at spots x)
   unit_fits x inside = elim (cases_eq x b.at) [
     | inl e ↦ subst (λ (y : ℕ). FitsSpot t.cpus (note_of seat.view y) (home_of links y) (spot_at spots y)) (sym e)
-        (fits_with t.cpus (change (note_of m.seat.view b.at)) (note_of seat.view b.at) (Some (record { owner = g; list = Inactive })) (home_of links b.at)
-        (Head (record { group = g; order = b.order })) (spot_at spots b.at) (note_here m.seat.view b.at change) joined
-        (placed.records b.at ∙ head_of_block m.spots g b b.at refl) (head_fits t.cpus (change (note_of m.seat.view b.at)) g b.order fits used))
+        (fits_with t.cpus (change (note_of m.frame_seat.view b.at)) (note_of seat.view b.at) (Some (record { owner = g; list = Inactive })) (home_of links b.at)
+        (Head (record { group = g; order = b.order })) (spot_at spots b.at) (note_here m.frame_seat.view b.at change) joined
+        (placed.records b.at ∙ head_of_block m.spots g b b.at refl) (head_fits t.cpus (change (note_of m.frame_seat.view b.at)) g b.order fits used))
     | inr ne ↦ elim (within_cases b.at (2 ^ b.order) x) [
       | inl within ↦
           let free = rest x within.1 within.2 ne in
-          let old : FitsSpot t.cpus (note_of m.seat.view x) (home_of m.links x) Free =
-          subst (λ (y : Spot). FitsSpot t.cpus (note_of m.seat.view x) (home_of m.links x) y) free (ok.spots x inside) in
-          fits_with t.cpus (note_of m.seat.view x) (note_of seat.view x) (home_of m.links x) (home_of links x) (Tail g) (spot_at spots x)
-          (note_else m.seat.view b.at x change ne) (homes x ne) (placed.records x ∙ tail_of_block m.spots g b x within.0 ne)
-          (tail_fits t.cpus (note_of m.seat.view x) (home_of m.links x) g old)
+          let old : FitsSpot t.cpus (note_of m.frame_seat.view x) (home_of m.links x) Free =
+          subst (λ (y : Spot). FitsSpot t.cpus (note_of m.frame_seat.view x) (home_of m.links x) y) free (ok.spots x inside) in
+          fits_with t.cpus (note_of m.frame_seat.view x) (note_of seat.view x) (home_of m.links x) (home_of links x) (Tail g) (spot_at spots x)
+          (note_else m.frame_seat.view b.at x change ne) (homes x ne) (placed.records x ∙ tail_of_block m.spots g b x within.0 ne)
+          (tail_fits t.cpus (note_of m.frame_seat.view x) (home_of m.links x) g old)
       | inr out ↦
-          fits_with t.cpus (note_of m.seat.view x) (note_of seat.view x) (home_of m.links x) (home_of links x) (spot_at m.spots x) (spot_at spots x)
-          (note_else m.seat.view b.at x change ne) (homes x ne) (placed.records x ∙ off_block m.spots g b x out.0) (ok.spots x inside)
+          fits_with t.cpus (note_of m.frame_seat.view x) (note_of seat.view x) (home_of m.links x) (home_of links x) (spot_at m.spots x) (spot_at spots x)
+          (note_else m.frame_seat.view b.at x change ne) (homes x ne) (placed.records x ∙ off_block m.spots g b x out.0) (ok.spots x inside)
     ]
   ]
 
@@ -128,17 +128,17 @@ pub record JoinsCharges (t : KnownTable) (w : Words) (m : KnownMachine) (g pages
   pub areas : AreMaximalBlocks (free_of spots) blocks
   pub table : stock.table ≡ w.table
   pub stocks : IsZoneStock stock.view
-  pub absorbed : (p : ℕ) → (account_of stock.view p).noted ≡ 0
+  pub absorbed : (p : ℕ) → (account_of stock.view p).unabsorbed ≡ 0
   pub bounded : (p : ℕ) → (account_of stock.view p).book < 65536
   pub charged : (h : ℕ) → pages_of ledger h ≡ frames_charged m.spots h + cond (h == g) pages 0 + pages_booked t stock h
 
 -- The frames of a block that were charged to no group (all but the first were free) are a unit of the group now, and its head
 -- is on the group's inactive list, in use with one reference of the zone: the machine is consistent
 pub unit_kept : (t : KnownTable) (w : Words) (m : KnownMachine) → IsConsistent t w m → (g : ℕ) → g < 64 → (b : Block) → IsBlock (length m.spots) b
-    → (spots : List Spot) → PlacesUnit g b m.spots spots → group_of (spot_at m.spots b.at) ≡ None
+    → (spots : List Spot) → PlacesUnit g b m.spots spots → spot_group (spot_at m.spots b.at) ≡ None
     → ((x : ℕ) → b.at ≤ x → x < b.at + 2 ^ b.order → x ≢ b.at → spot_at m.spots x ≡ Free)
     → (links : List Link) (lists : List Lru) → AllJoin m.links m.lists g b.at links lists
-    → (change : FrameNote → FrameNote) → IsUsed (change (note_of m.seat.view b.at))
+    → (change : FrameNote → FrameNote) → IsUsed (change (note_of m.frame_seat.view b.at))
     → (blocks : List Block) (ledger : Ledger) (stock : Seated) (counts : Counts) → JoinsCharges t w m g (2 ^ b.order) spots blocks ledger stock → BalancesCounts counts
     → IsConsistent t w (record {
       blocks = blocks;
@@ -146,17 +146,17 @@ pub unit_kept : (t : KnownTable) (w : Words) (m : KnownMachine) → IsConsistent
       ledger = ledger;
       links = links;
       lists = lists;
-      seat = seat_with m.seat b.at change;
-      stock = stock;
+      frame_seat = seat_with m.frame_seat b.at change;
+      stock_seat = stock;
       killed = m.killed;
       counts = counts;
       notes = m.notes;
     })
 unit_kept t w m ok g fits b block spots placed first rest links lists joined change used blocks ledger stock counts joins balances =
-    let uncharged : (f : ℕ) → b.at ≤ f → f < b.at + 2 ^ b.order → group_of (spot_at m.spots f) ≡ None =
+    let uncharged : (f : ℕ) → b.at ≤ f → f < b.at + 2 ^ b.order → spot_group (spot_at m.spots f) ≡ None =
     λ f low high. elim (cases_eq f b.at) [
-      | inl e ↦ ap (λ (y : ℕ). group_of (spot_at m.spots y)) e ∙ first
-      | inr ne ↦ ap group_of (rest f low high ne)
+      | inl e ↦ ap (λ (y : ℕ). spot_group (spot_at m.spots y)) e ∙ first
+      | inr ne ↦ ap spot_group (rest f low high ne)
     ] in
     record {
       sizes = let s = ok.sizes in record {

@@ -28,7 +28,7 @@ use Rattle.step_rules.specs.After.{after}
 use Rattle.step_rules.proofs.Basics.{at_same, at_other}
 use Rattle.mem_machine.specs.declared.spot.Spot.{Spot}
 use Rattle.mem_machine.specs.declared.spot.Spot.TheVariants.{Free, Lent, Head, Tail}
-use Rattle.mem_machine.specs.Spots.{spot_at, free_of, group_of, head_group_of, is_in_hand}
+use Rattle.mem_machine.specs.Spots.{spot_at, free_of, spot_group, head_group_of, is_in_hand}
 use Rattle.mem_machine.specs.Machines.{KnownMachine, FitsSpot, IsConsistent, Visits, home_of}
 use Rattle.mem_machine.specs.Lending.{LendsByStep, LendsNone}
 use Rattle.mem_machine.specs.Local.{local_of, phase_of, part_of, part_with, fresh_group, side, MakesAs}
@@ -99,14 +99,14 @@ module _ (t : KnownTable) (w : Words) (m : KnownMachine) (c : KnownCpu) (tied : 
   within : f < length m.spots
   within = let s = ok.sizes.spots in omega (arith, s, inside)
 
-  pub free_in_hand : IsInOwnHand m.seat f
+  pub free_in_hand : IsInOwnHand m.frame_seat f
   free_in_hand = (ok.spots f inside).own ∙ ap (λ (x : Spot). one_if (is_in_hand x)) free
 
-  pub lent_passes : Passes (seat_with m.seat f (passed_out_to c.number)) c.seat f
-  lent_passes = passed_out_passes t m.seat c.seat c.number tied.seats.frame_number f visit.still (seat_with m.seat f (passed_out_to c.number)) refl inside
+  pub lent_passes : Passes (seat_with m.frame_seat f (passed_out_to c.number)) c.frame_seat f
+  lent_passes = passed_out_passes t m.frame_seat c.frame_seat c.number tied.seats.frame_number f visit.still (seat_with m.frame_seat f (passed_out_to c.number)) refl inside
 
-  pub lent_is_lent : IsLent (seat_with m.seat f (passed_out_to c.number)) f c.number
-  lent_is_lent = ap (λ (k : FrameNote). k.lent) (note_here m.seat.view f (passed_out_to c.number))
+  pub lent_is_lent : IsLent (seat_with m.frame_seat f (passed_out_to c.number)) f c.number
+  lent_is_lent = ap (λ (k : FrameNote). k.lent) (note_here m.frame_seat.view f (passed_out_to c.number))
 
   -- ---- after it
 
@@ -119,14 +119,14 @@ module _ (t : KnownTable) (w : Words) (m : KnownMachine) (c : KnownCpu) (tied : 
   seated : IsSeated t c
   seated = record { some_number = tied.seats.some_number; cpus = tied.seats.frame_cpus }
 
-  lent_fits : FitsSpot t.cpus (passed_out_to c.number (note_of m.seat.view f)) (home_of m.links f) (Lent c.number)
+  lent_fits : FitsSpot t.cpus (passed_out_to c.number (note_of m.frame_seat.view f)) (home_of m.links f) (Lent c.number)
   lent_fits =
-      let old : FitsSpot t.cpus (note_of m.seat.view f) (home_of m.links f) Free = subst (λ (x : Spot). FitsSpot t.cpus (note_of m.seat.view f)
+      let old : FitsSpot t.cpus (note_of m.frame_seat.view f) (home_of m.links f) Free = subst (λ (x : Spot). FitsSpot t.cpus (note_of m.frame_seat.view f)
       (home_of m.links f) x) free (ok.spots f inside) in
       record { own = refl; lent = some_cpu_is c.number tied.seats.some_number; borrower = (tied.seats.some_number, tied.seats.frame_cpus); references = old.references; kept = homeless (home_of m.links f) old.kept }
 
   pub lend_consistent : (blocks : List Block) → AreMaximalBlocks (free_of (slice_set m.spots f (Lent c.number))) blocks
-      → IsConsistent t w (record m { blocks = blocks; spots = slice_set m.spots f (Lent c.number); seat = seat_with m.seat f (passed_out_to c.number) })
+      → IsConsistent t w (record m { blocks = blocks; spots = slice_set m.spots f (Lent c.number); frame_seat = seat_with m.frame_seat f (passed_out_to c.number) })
   lend_consistent blocks areas = record {
     sizes = let s = ok.sizes in record {
       spots = length-set m.spots f (Lent c.number) ∙ s.spots;
@@ -137,39 +137,39 @@ module _ (t : KnownTable) (w : Words) (m : KnownMachine) (c : KnownCpu) (tied : 
     };
     seats = let s = ok.seats in record { frames = s.frames; table = s.table; stocks = s.stocks };
     areas = areas;
-    spots = spots_changed t.cpus m.seat m.links m.spots f (passed_out_to c.number) (Lent c.number) t.frames within ok.spots lent_fits;
-    units = units_stay m.spots f (Lent c.number) within (ap group_of free) refl ok.units;
+    spots = spots_changed t.cpus m.frame_seat m.links m.spots f (passed_out_to c.number) (Lent c.number) t.frames within ok.spots lent_fits;
+    units = units_stay m.spots f (Lent c.number) within (ap spot_group free) refl ok.units;
     lists = ok.lists;
     absorbed = ok.absorbed;
     bounded = ok.bounded;
-    charged = λ g. let a = ok.charged g in let b = charges_stay m.spots f (Lent c.number) within (ap group_of free) refl g in omega (arith, a, b);
+    charged = λ g. let a = ok.charged g in let b = charges_stay m.spots f (Lent c.number) within (ap spot_group free) refl g in omega (arith, a, b);
     balances = ok.balances;
   }
 
-  pub lend_visits : (blocks : List Block) → Visits t (side (record m { blocks = blocks; spots = slice_set m.spots f (Lent c.number); seat = seat_with m.seat f (passed_out_to c.number) }) (record c { list = c.list ++ f ∷ []; seat = seat_with c.seat f took_in }))
+  pub lend_visits : (blocks : List Block) → Visits t (side (record m { blocks = blocks; spots = slice_set m.spots f (Lent c.number); frame_seat = seat_with m.frame_seat f (passed_out_to c.number) }) (record c { list = c.list ++ f ∷ []; frame_seat = seat_with c.frame_seat f took_in }))
   lend_visits blocks = record {
     is_open = visit.is_open;
-    still = accepted_is_still t m.seat c.seat c.number tied.seats.frame_number f visit.still (seat_with m.seat f (passed_out_to c.number))
-        (seat_with c.seat f took_in) refl refl;
+    still = accepted_is_still t m.frame_seat c.frame_seat c.number tied.seats.frame_number f visit.still (seat_with m.frame_seat f (passed_out_to c.number))
+        (seat_with c.frame_seat f took_in) refl refl;
     lent = λ g inside. elim (cases_eq g f) [
-      | inl e ↦ subst (λ (h : ℕ). (IsLent (seat_with m.seat f (passed_out_to c.number)) h (number_of c.seat) → IsBorrowed (seat_with c.seat f took_in) h)
-          × (IsBorrowed (seat_with c.seat f took_in) h → IsLent (seat_with m.seat f (passed_out_to c.number)) h (number_of c.seat))) (sym e)
-          (λ a. ap (λ (k : FrameNote). k.borrowed) (note_here c.seat.view f took_in), λ a. lent_is_lent ∙ sym tied.seats.frame_number)
-      | inr ne ↦ subst (λ (k : FrameNote × FrameNote). (k.0.lent ≡ number_of c.seat → k.1.borrowed ≡ 1) × (k.1.borrowed ≡ 1 → k.0.lent ≡ number_of c.seat))
-          (λ i. (sym (note_else m.seat.view f g (passed_out_to c.number) ne) i, sym (note_else c.seat.view f g took_in ne) i)) (visit.lent g inside)
+      | inl e ↦ subst (λ (h : ℕ). (IsLent (seat_with m.frame_seat f (passed_out_to c.number)) h (number_of c.frame_seat) → IsBorrowed (seat_with c.frame_seat f took_in) h)
+          × (IsBorrowed (seat_with c.frame_seat f took_in) h → IsLent (seat_with m.frame_seat f (passed_out_to c.number)) h (number_of c.frame_seat))) (sym e)
+          (λ a. ap (λ (k : FrameNote). k.borrowed) (note_here c.frame_seat.view f took_in), λ a. lent_is_lent ∙ sym tied.seats.frame_number)
+      | inr ne ↦ subst (λ (k : FrameNote × FrameNote). (k.0.lent ≡ number_of c.frame_seat → k.1.borrowed ≡ 1) × (k.1.borrowed ≡ 1 → k.0.lent ≡ number_of c.frame_seat))
+          (λ i. (sym (note_else m.frame_seat.view f g (passed_out_to c.number) ne) i, sym (note_else c.frame_seat.view f g took_in ne) i)) (visit.lent g inside)
     ];
   }
 
-  pub lend_runs : (blocks : List Block) → in_hands (note_of c.seat.view f) ≡ 0 → MakesAs t c.number (side m c) (lend_steps c.number f)
-      (side (record m { blocks = blocks; spots = slice_set m.spots f (Lent c.number); seat = seat_with m.seat f (passed_out_to c.number) }) (record c { list = c.list ++ f ∷ []; seat = seat_with c.seat f took_in }))
+  pub lend_runs : (blocks : List Block) → in_hands (note_of c.frame_seat.view f) ≡ 0 → MakesAs t c.number (side m c) (lend_steps c.number f)
+      (side (record m { blocks = blocks; spots = slice_set m.spots f (Lent c.number); frame_seat = seat_with m.frame_seat f (passed_out_to c.number) }) (record c { list = c.list ++ f ∷ []; frame_seat = seat_with c.frame_seat f took_in }))
   lend_runs blocks none =
       let s = local_of t m c in
-      let d : KnownCpu = record c { list = c.list ++ f ∷ []; seat = seat_with c.seat f took_in } in
+      let d : KnownCpu = record c { list = c.list ++ f ∷ []; frame_seat = seat_with c.frame_seat f took_in } in
       let out : State = after s 0 (PassOut f c.number) Done in
       let framed : is_frame s.zone f ≡ true = lt-ltb f t.frames inside in
       let is_zone_free : phases.is_free (phase_of c f (spot_at m.spots f)) ≡ true = ap (λ (x : Spot). phases.is_free (phase_of c f x)) free in
       let may_pass : is_legal s 0 (PassOut f c.number) ≡ true =
-      and_from _ _ (and_from _ _ (and_from _ _ (zone_may_act m.seat c.number) framed) (visits_open m.seat c.number visit.is_open)) is_zone_free in
+      and_from _ _ (and_from _ _ (and_from _ _ (zone_may_act m.frame_seat c.number) framed) (visits_open m.frame_seat c.number visit.is_open)) is_zone_free in
       let passing : phases.passes_out c.number (with_at s.phases f (phase.Lent c.number PassingOut) f) ≡ true =
       ap (phases.passes_out c.number) (at_same s.phases f (phase.Lent c.number PassingOut)) ∙ eq-eqb c.number c.number refl in
       let may_take : is_legal out c.number (TakeIn f) ≡ true = and_from _ _ (and_from _ _ (seated_cpu t c seated) framed) passing in
@@ -177,15 +177,15 @@ module _ (t : KnownTable) (w : Words) (m : KnownMachine) (c : KnownCpu) (tied : 
       let not_fresh : times f d.fresh ≡ 0 = omega (arith, borrowed, none) in
       let ph = phases_changed c d m.spots f (Lent c.number) (phase.Lent c.number PassingOut) (phase.Lent c.number OnList) within
       (lent_listed d f c.number not_fresh) (λ g y ne. same_phase g y) in
-      let re = references_stay m.seat (seat_with m.seat f (passed_out_to c.number)) c.seat (seat_with c.seat f took_in) c.number
-      (holds_same m.seat f (passed_out_to c.number) (λ k. refl)) (holds_same c.seat f took_in (λ k. refl)) in
-      let listed : part_with (c.list ++ f ∷ []) c.fresh c.back (account_of m.stock.view c.number)
-      ≡ record (part_of m.stock c c.number) { list = (part_of m.stock c c.number).list ++ f ∷ [] } =
+      let re = references_stay m.frame_seat (seat_with m.frame_seat f (passed_out_to c.number)) c.frame_seat (seat_with c.frame_seat f took_in) c.number
+      (holds_same m.frame_seat f (passed_out_to c.number) (λ k. refl)) (holds_same c.frame_seat f took_in (λ k. refl)) in
+      let listed : part_with (c.list ++ f ∷ []) c.fresh c.back (account_of m.stock_seat.view c.number)
+      ≡ record (part_of m.stock_seat c c.number) { list = (part_of m.stock_seat c c.number).list ++ f ∷ [] } =
       sym (ap (λ (x : Part). record x { list = x.list ++ f ∷ [] })
-      (cond-true (c.number == c.number) (part_with c.list c.fresh c.back (account_of m.stock.view c.number)) (part_with [] [] []
-      (account_of m.stock.view c.number))
+      (cond-true (c.number == c.number) (part_with c.list c.fresh c.back (account_of m.stock_seat.view c.number)) (part_with [] [] []
+      (account_of m.stock_seat.view c.number))
       (eq-eqb c.number c.number refl))) in
-      let pa = parts_changed m.stock c (c.list ++ f ∷ []) c.fresh c.back _ listed in
+      let pa = parts_changed m.stock_seat c (c.list ++ f ∷ []) c.fresh c.back _ listed in
       record {
         leads = (
           zone_step s c.number (PassOut f c.number) Done refl may_pass tt,
@@ -197,7 +197,7 @@ module _ (t : KnownTable) (w : Words) (m : KnownMachine) (c : KnownCpu) (tied : 
         follows = follows_same _ _ _ refl;
       }
     where
-      same_phase : (g : ℕ) (y : Spot) → phase_of (record c { list = c.list ++ f ∷ []; seat = seat_with c.seat f took_in }) g y ≡ phase_of c g y
+      same_phase : (g : ℕ) (y : Spot) → phase_of (record c { list = c.list ++ f ∷ []; frame_seat = seat_with c.frame_seat f took_in }) g y ≡ phase_of c g y
       same_phase g Free = refl
       same_phase g (Lent q) = refl
       same_phase g (Head unit) = refl
@@ -213,9 +213,9 @@ pub record AllLent (t : KnownTable) (w : Words) (now : KnownMachine) (c : KnownC
 pub lend_all : (t : KnownTable) (w : Words) (m now : KnownMachine) → m ≡ now → (c d : KnownCpu) → IsTied t w c → IsConsistent t w m → Visits t (side now c)
     → (before free : List Bool) (k : ℕ) (b : Block) (blocks : List Block) (f i q : ℕ) (seat seat' : KnownSeat)
     → before ≡ free_of m.spots → k ≡ 0 → IsFrontOfSmallest m.blocks k b → TakesFrames before b free → AreMaximalBlocks free blocks
-    → f ≡ b.at → i ≡ f → q ≡ c.number → seat ≡ seat_with m.seat f (passed_out_to q) → seat' ≡ seat
-    → d ≡ record c { list = c.list ++ f ∷ []; seat = seat_with c.seat f took_in } → in_hands (note_of c.seat.view f) ≡ 0
-    → AllLent t w now c (record m { blocks = blocks; spots = slice_set m.spots i (Lent q); seat = seat' }) d free
+    → f ≡ b.at → i ≡ f → q ≡ c.number → seat ≡ seat_with m.frame_seat f (passed_out_to q) → seat' ≡ seat
+    → d ≡ record c { list = c.list ++ f ∷ []; frame_seat = seat_with c.frame_seat f took_in } → in_hands (note_of c.frame_seat.view f) ≡ 0
+    → AllLent t w now c (record m { blocks = blocks; spots = slice_set m.spots i (Lent q); frame_seat = seat' }) d free
 lend_all t w m now same c d tied ok visit_now before free k b blocks f i q seat seat' was zero_is taken takes areas at index number passed stays cpu none =
     let visit : Visits t (side m c) = subst (λ (x : KnownMachine). Visits t (side x c)) (sym same) visit_now in
     let block : b ≡ record { at = f; order = 0 } = λ j. record { at = sym at j; order = (taken.order_is ∙ zero_is) j } in
@@ -226,8 +226,8 @@ lend_all t w m now same c d tied ok visit_now before free k b blocks f i q seat 
     let sized = ok.sizes.spots in
     let inside : f < t.frames = let h = there.0 in omega (arith, h, sized) in
     let free_is : free ≡ free_of (slice_set m.spots f (Lent c.number)) = free_taken before free m.spots f (Lent c.number) there.0 was takes_f refl in
-    let n : KnownMachine = record m { blocks = blocks; spots = slice_set m.spots f (Lent c.number); seat = seat_with m.seat f (passed_out_to c.number) } in
-    let e : KnownCpu = record c { list = c.list ++ f ∷ []; seat = seat_with c.seat f took_in } in
+    let n : KnownMachine = record m { blocks = blocks; spots = slice_set m.spots f (Lent c.number); frame_seat = seat_with m.frame_seat f (passed_out_to c.number) } in
+    let e : KnownCpu = record c { list = c.list ++ f ∷ []; frame_seat = seat_with c.frame_seat f took_in } in
     let areas_f : AreMaximalBlocks (free_of (slice_set m.spots f (Lent c.number))) blocks = subst (λ
     (l : List Bool). AreMaximalBlocks l blocks) free_is areas in
     let all : AllLent t w m c n e free = record {
@@ -246,7 +246,7 @@ lend_all t w m now same c d tied ok visit_now before free k b blocks f i q seat 
       record m {
         blocks = blocks;
         spots = slice_set m.spots (sym index j) (Lent (sym number j));
-        seat = sym (stays ∙ passed ∙ ap (λ (x : ℕ). seat_with m.seat f (passed_out_to x)) number) j;
+        frame_seat = sym (stays ∙ passed ∙ ap (λ (x : ℕ). seat_with m.frame_seat f (passed_out_to x)) number) j;
       },
       sym cpu j,
     )) all
@@ -269,18 +269,18 @@ block_inside spots blocks before free k b was zero_is taken takes =
 
 -- the zone has it in its hand
 pub zone_hand : (t : KnownTable) (w : Words) (m : KnownMachine) → IsConsistent t w m → (f g : ℕ) → f < length m.spots → spot_at m.spots f ≡ Free → g ≡ f
-    → IsInOwnHand m.seat g
+    → IsInOwnHand m.frame_seat g
 zone_hand t w m ok f g inside free is =
     let s = ok.sizes.spots in
-    subst (λ (x : ℕ). IsInOwnHand m.seat x) (sym is) ((ok.spots f (omega (arith, s, inside))).own ∙ ap (λ (x : Spot). one_if (is_in_hand x)) free)
+    subst (λ (x : ℕ). IsInOwnHand m.frame_seat x) (sym is) ((ok.spots f (omega (arith, s, inside))).own ∙ ap (λ (x : Spot). one_if (is_in_hand x)) free)
 
 -- and once it passed it out, it passes for the processor and is lent to it
 pub passes_to : (t : KnownTable) (w : Words) (m now : KnownMachine) → m ≡ now → (c : KnownCpu) → IsTied t w c → Visits t (side now c) → (f q : ℕ) (seat : KnownSeat)
-    → f < t.frames → q ≡ c.number → seat ≡ seat_with m.seat f (passed_out_to q) → Passes seat c.seat f
+    → f < t.frames → q ≡ c.number → seat ≡ seat_with m.frame_seat f (passed_out_to q) → Passes seat c.frame_seat f
 passes_to t w m now same c tied visit f q seat inside number is =
-    passed_out_passes t m.seat c.seat c.number tied.seats.frame_number f (subst (λ (x : KnownMachine). NothingPasses t x.seat c.seat)
+    passed_out_passes t m.frame_seat c.frame_seat c.number tied.seats.frame_number f (subst (λ (x : KnownMachine). NothingPasses t x.frame_seat c.frame_seat)
     (sym same) visit.still) seat
-    (is ∙ ap (λ (x : ℕ). seat_with m.seat f (passed_out_to x)) number) inside
+    (is ∙ ap (λ (x : ℕ). seat_with m.frame_seat f (passed_out_to x)) number) inside
 
 pub lent_to_it : (zone seat : KnownSeat) (f p q : ℕ) → q ≡ p → seat ≡ seat_with zone f (passed_out_to q) → IsLent seat f p
 lent_to_it zone seat f p q number is = ap (λ (s : KnownSeat). (note_of s.view f).lent) is

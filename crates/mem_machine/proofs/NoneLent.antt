@@ -12,7 +12,7 @@ use Rattle.cpu_part.specs.Cpus.{KnownCpu, IsTied, times}
 use Rattle.step_rules.specs.State.{one_if}
 use Rattle.mem_machine.specs.declared.spot.Spot.{Spot}
 use Rattle.mem_machine.specs.declared.spot.Spot.TheVariants.{Free, Lent, Head, Tail}
-use Rattle.mem_machine.specs.Spots.{spot_at, is_free, group_of, some_cpu, lent_to}
+use Rattle.mem_machine.specs.Spots.{spot_at, is_free, spot_group, some_cpu, lent_to}
 use Rattle.mem_machine.specs.Machines.{KnownMachine, IsConsistent}
 use Rattle.mem_machine.specs.Places.{frames_free, frames_in_groups, NoneLentTo}
 
@@ -33,10 +33,10 @@ past_free p e = none-some p (ap lent_to e)
 
 -- a frame that is lent is one of the zone's, and the zone's seat notes whom it is lent to
 lent_noted : (t : KnownTable) (w : Words) (m : KnownMachine) → IsConsistent t w m → (f p : ℕ) → spot_at m.spots f ≡ Lent p
-    → (f < t.frames) × ((note_of m.seat.view f).lent ≡ p) × (1 ≤ p)
+    → (f < t.frames) × ((note_of m.frame_seat.view f).lent ≡ p) × (1 ≤ p)
 lent_noted t w m ok f p is = elim (cases_lt f t.frames) [
   | inl inside ↦
-      let noted = lent_is (note_of m.seat.view f).lent p ((ok.spots f inside).lent ∙ ap lent_to is) in
+      let noted = lent_is (note_of m.frame_seat.view f).lent p ((ok.spots f inside).lent ∙ ap lent_to is) in
       (inside, noted.0, noted.1)
   | inr past ↦
       let sized = ok.sizes.spots in
@@ -49,12 +49,12 @@ lent_to_cpu t w m ok f p is =
     subst (λ (x : Spot). IfSome (lent_to x) (λ q. (1 ≤ q) × (q ≤ t.cpus))) is (ok.spots f (lent_noted t w m ok f p is).0).borrower
 
 -- a processor with no listed and no fresh frame has none that is lent to it
-pub none_lent : (t : KnownTable) (w : Words) (m : KnownMachine) (c : KnownCpu) → IsConsistent t w m → IsTied t w c → LentIsBorrowed t m.seat c.seat
+pub none_lent : (t : KnownTable) (w : Words) (m : KnownMachine) (c : KnownCpu) → IsConsistent t w m → IsTied t w c → LentIsBorrowed t m.frame_seat c.frame_seat
     → c.list ≡ [] → c.fresh ≡ [] → NoneLentTo c.number m.spots
 none_lent t w m c ok tied lent no_list no_fresh f is =
     let noted = lent_noted t w m ok f c.number is in
-    let its : IsLent m.seat f (number_of c.seat) = noted.1 ∙ sym tied.seats.frame_number in
-    let borrowed : IsBorrowed c.seat f = (lent f noted.0).0 its in
+    let its : IsLent m.frame_seat f (number_of c.frame_seat) = noted.1 ∙ sym tied.seats.frame_number in
+    let borrowed : IsBorrowed c.frame_seat f = (lent f noted.0).0 its in
     let listed : times f c.list ≡ 0 = ap (times f) no_list in
     let fresh : times f c.fresh ≡ 0 = ap (times f) no_fresh in
     let counted = (tied.noted f).borrowed_is in
@@ -67,11 +67,11 @@ each_is_placed (x ∷ xs) none =
     let rest = each_is_placed xs (λ f p is. none (suc f) p is) in
     let this = one_place x (λ p is. none 0 p is) in
     let free : frames_free (x ∷ xs) ≡ 0 + one_if (is_free x) + frames_free xs = sum_by-append (λ (y : Spot). one_if (is_free y)) (x ∷ []) xs in
-    let charged : frames_in_groups (x ∷ xs) ≡ 0 + one_if (is_some (group_of x)) + frames_in_groups xs =
-    sum_by-append (λ (y : Spot). one_if (is_some (group_of y))) (x ∷ []) xs in
+    let charged : frames_in_groups (x ∷ xs) ≡ 0 + one_if (is_some (spot_group x)) + frames_in_groups xs =
+    sum_by-append (λ (y : Spot). one_if (is_some (spot_group y))) (x ∷ []) xs in
     omega (arith, rest, this, free, charged)
   where
-    one_place : (x : Spot) → ((p : ℕ) → x ≡ Lent p → ⊥) → one_if (is_free x) + one_if (is_some (group_of x)) ≡ 1
+    one_place : (x : Spot) → ((p : ℕ) → x ≡ Lent p → ⊥) → one_if (is_free x) + one_if (is_some (spot_group x)) ≡ 1
     one_place Free none = refl
     one_place (Lent p) none = absurd (none p refl)
     one_place (Head unit) none = refl

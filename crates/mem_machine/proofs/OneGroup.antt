@@ -107,7 +107,7 @@ module _ (t : KnownTable) (w : Words) (m : KnownMachine) (ok : IsConsistent t w 
       };
       seats = ok.seats;
       areas = ok.areas;
-      spots = λ f within. fits_home t.cpus (note_of m.seat.view f) (home_of m.links f) (home_of links f) (spot_at m.spots f) (mapped f) (ok.spots f within);
+      spots = λ f within. fits_home t.cpus (note_of m.frame_seat.view f) (home_of m.links f) (home_of links f) (spot_at m.spots f) (mapped f) (ok.spots f within);
       units = ok.units;
       lists = all_stand;
       absorbed = ok.absorbed;

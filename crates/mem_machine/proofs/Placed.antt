@@ -35,11 +35,11 @@ use Rattle.mem_machine.specs.Steps.{zone_makes}
 -- the block stands in the second machine, with one reference of the zone on its head, and all else that is seen is the same
 pub record IsPlaced (m : KnownMachine) (c : KnownCpu) (g : ℕ) (b : Block) (n : KnownMachine) : Type 0 where
   pub spots : (f : ℕ) → spot_at n.spots f ≡ placed_spot m.spots g b f
-  pub references : (f : ℕ) → holds n.seat f ≡ with_at (holds m.seat) b.at (holds m.seat b.at + 1) f
-  pub hold : hold_of n.seat c.number ≡ hold_of m.seat c.number
+  pub references : (f : ℕ) → holds n.frame_seat f ≡ with_at (holds m.frame_seat) b.at (holds m.frame_seat b.at + 1) f
+  pub hold : hold_of n.frame_seat c.number ≡ hold_of m.frame_seat c.number
   pub groups : n.ledger.groups ≡ m.ledger.groups
   pub killed : n.killed ≡ m.killed
-  pub stock : n.stock ≡ m.stock
+  pub stock_seat : n.stock_seat ≡ m.stock_seat
 
 module _ (t : KnownTable) (m : KnownMachine) (c : KnownCpu) (g : ℕ) (b : Block) (there : has_group m.ledger.groups g ≡ true)
     (alive : is_killed m.killed g ≡ false) (usage : (h : ℕ) → usage_of (local_of t m c) h ≡ current_of m.ledger h)
@@ -73,24 +73,24 @@ module _ (t : KnownTable) (m : KnownMachine) (c : KnownCpu) (g : ℕ) (b : Block
   head_live : kept.phases b.at ≡ phase.Head unit Live
   head_live = at_same placed.phases b.at (at_stage Live (placed.phases b.at)) ∙ ap (at_stage Live) head_bare
 
-  head_held : kept.references 0 b.at ≡ holds m.seat b.at + 1
+  head_held : kept.references 0 b.at ≡ holds m.frame_seat b.at + 1
   head_held =
       ap (λ (r : ℕ → ℕ). r b.at) (at_same s.references 0 (with_at (s.references 0) b.at (s.references 0 b.at + 1)))
       ∙ at_same (s.references 0) b.at (s.references 0 b.at + 1)
 
   may_place : is_legal granted 0 (PlaceBlock g b.order) ≡ true
   may_place =
-      and_from _ _ (and_from _ _ (zone_may_act m.seat c.number) there)
+      and_from _ _ (and_from _ _ (zone_may_act m.frame_seat c.number) there)
       (le-leb (2 ^ b.order) (granted.pending g) (let e = pending_is t m c g (2 ^ b.order) there alive usage in omega arith))
 
   may_unfreeze : is_legal placed 0 (Unfreeze b.at 1) ≡ true
   may_unfreeze =
-      and_from _ _ (and_from _ _ (and_from _ _ (and_from _ _ (zone_may_act m.seat c.number) (lt-ltb b.at t.frames inside)) (ap is_head_in_hand head_bare))
+      and_from _ _ (and_from _ _ (and_from _ _ (and_from _ _ (zone_may_act m.frame_seat c.number) (lt-ltb b.at t.frames inside)) (ap is_head_in_hand head_bare))
       (le-leb 1 1 (omega arith))) (le-leb 1 255 (omega arith))
 
   may_publish : is_legal kept 0 (Publish b.at) ≡ true
   may_publish =
-      and_from _ _ (and_from _ _ (and_from _ _ (zone_may_act m.seat c.number) (lt-ltb b.at t.frames inside)) (ap is_head head_live))
+      and_from _ _ (and_from _ _ (and_from _ _ (zone_may_act m.frame_seat c.number) (lt-ltb b.at t.frames inside)) (ap is_head head_live))
       (le-leb 1 (kept.references 0 b.at) (let e = head_held in omega arith))
 
   module _ (n : KnownMachine) (is : IsPlaced m c g b n) where
@@ -116,15 +116,15 @@ module _ (t : KnownTable) (m : KnownMachine) (c : KnownCpu) (g : ℕ) (b : Block
           ∙ sym (at_other placed.phases b.at (at_stage Live (placed.phases b.at)) f ne)
     ]
 
-    references_are : (q f : ℕ) → references_of n.seat c q f ≡ kept.references q f
+    references_are : (q f : ℕ) → references_of n.frame_seat c q f ≡ kept.references q f
     references_are q f = elim (cases_eq q 0) [
       | inl e ↦
-          ap (λ (p : ℕ). references_of n.seat c p f) e ∙ is.references f
+          ap (λ (p : ℕ). references_of n.frame_seat c p f) e ∙ is.references f
           ∙ sym (ap (λ (r : ℕ → ℕ). r f) (at_same s.references 0 (with_at (s.references 0) b.at (s.references 0 b.at + 1))))
           ∙ sym (ap (λ (p : ℕ). kept.references p f) e)
       | inr ne ↦
-          ap (λ (x : Bool). cond x (holds n.seat f) (cond (q == c.number) (holds c.seat f) 0)) (ne_eqb q 0 ne)
-          ∙ sym (ap (λ (x : Bool). cond x (holds m.seat f) (cond (q == c.number) (holds c.seat f) 0)) (ne_eqb q 0 ne))
+          ap (λ (x : Bool). cond x (holds n.frame_seat f) (cond (q == c.number) (holds c.frame_seat f) 0)) (ne_eqb q 0 ne)
+          ∙ sym (ap (λ (x : Bool). cond x (holds m.frame_seat f) (cond (q == c.number) (holds c.frame_seat f) 0)) (ne_eqb q 0 ne))
           ∙ sym (ap (λ (r : ℕ → ℕ). r f) (at_other s.references 0 (with_at (s.references 0) b.at (s.references 0 b.at + 1)) q ne))
     ]
 
@@ -146,7 +146,7 @@ module _ (t : KnownTable) (m : KnownMachine) (c : KnownCpu) (g : ℕ) (b : Block
                 killed = is_killed (sym is.killed i);
                 phases = λ f. sym (phases_are f) i;
                 references = λ q f. sym (references_are q f) i;
-                parts = part_of (sym is.stock i) c;
+                parts = part_of (sym is.stock_seat i) c;
                 pending = λ h. none_pends t m c g (2 ^ b.order) there alive usage h i;
               }),
             ),

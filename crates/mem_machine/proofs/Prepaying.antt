@@ -85,26 +85,26 @@ booked_more h g k a empty =
 -- ---- consistency
 
 pub fill_consistent : (t : KnownTable) (w : Words) (m : KnownMachine) (q g k : ℕ) (l : Ledger) → IsConsistent t w m
-    → q ≤ t.cpus → (account_of m.stock.view q).book ≡ 0 → k < 65536
-    → PagesRise m.ledger l g k → IsConsistent t w (record m { ledger = l; stock = with_view m.stock (filling m.stock.view q g k) })
+    → q ≤ t.cpus → (account_of m.stock_seat.view q).book ≡ 0 → k < 65536
+    → PagesRise m.ledger l g k → IsConsistent t w (record m { ledger = l; stock_seat = with_view m.stock_seat (filling m.stock_seat.view q g k) })
 fill_consistent t w m q g k l ok inside empty small rise =
-    let stock : Seated = with_view m.stock (filling m.stock.view q g k) in
-    let a = account_of m.stock.view q in
+    let stock : Seated = with_view m.stock_seat (filling m.stock_seat.view q g k) in
+    let a = account_of m.stock_seat.view q in
     stocks_consistent t w m l stock ok refl ok.seats.stocks
-    (λ p. filled_read m.stock.view q g k (λ (x : Account). x.noted) p
-    ∙ at_each (λ j. (account_of m.stock.view j).noted) q a.noted (λ j x. x ≡ 0) (ok.absorbed q) (λ j ne. ok.absorbed j) p)
+    (λ p. filled_read m.stock_seat.view q g k (λ (x : Account). x.unabsorbed) p
+    ∙ at_each (λ j. (account_of m.stock_seat.view j).unabsorbed) q a.unabsorbed (λ j x. x ≡ 0) (ok.absorbed q) (λ j ne. ok.absorbed j) p)
     (λ p.
-    let read = filled_read m.stock.view q g k (λ (x : Account). x.book) p in
-    let at = at_each (λ j. (account_of m.stock.view j).book) q (filled_account m.stock.view q g k).book (λ j x. x < 65536) (omega (arith, empty, small))
+    let read = filled_read m.stock_seat.view q g k (λ (x : Account). x.book) p in
+    let at = at_each (λ j. (account_of m.stock_seat.view j).book) q (filled_account m.stock_seat.view q g k).book (λ j x. x < 65536) (omega (arith, empty, small))
     (λ j ne. ok.bounded j) p in
     omega (arith, read, at))
     (λ h.
     let each : (λ (p : ℕ). booked h (account_of stock.view p))
-    ≡ with_at (λ p. booked h (account_of m.stock.view p)) q (booked h (filled_account m.stock.view q g k))
-    = λ i. λ p. filled_read m.stock.view q g k (booked h) p i in
-    let change : pages_booked t stock h + booked h a ≡ pages_booked t m.stock h + booked h (filled_account m.stock.view q g k)
+    ≡ with_at (λ p. booked h (account_of m.stock_seat.view p)) q (booked h (filled_account m.stock_seat.view q g k))
+    = λ i. λ p. filled_read m.stock_seat.view q g k (booked h) p i in
+    let change : pages_booked t stock h + booked h a ≡ pages_booked t m.stock_seat h + booked h (filled_account m.stock_seat.view q g k)
     = ap (λ (f : ℕ → ℕ). sum_to (t.cpus + 1) f + booked h a) each
-    ∙ sum_change (t.cpus + 1) (λ p. booked h (account_of m.stock.view p)) q (booked h (filled_account m.stock.view q g k)) (omega (arith, inside)) in
+    ∙ sum_change (t.cpus + 1) (λ p. booked h (account_of m.stock_seat.view p)) q (booked h (filled_account m.stock_seat.view q g k)) (omega (arith, inside)) in
     let more = booked_more h g k a empty in
     let old = ok.charged h in
     let new = rise h in
@@ -113,21 +113,21 @@ fill_consistent t w m q g k l ok inside empty small rise =
 -- ---- the steps
 
 -- a processor's part whose stock is filled
-part_filled : (l f b : List ℕ) (a : Account) (g n : ℕ) → length f ≡ 0 → a.noted ≡ 0 → a.book ≡ 0
+part_filled : (l f b : List ℕ) (a : Account) (g n : ℕ) → length f ≡ 0 → a.unabsorbed ≡ 0 → a.book ≡ 0
     → part_with l f b (record a { book = a.book + n; group = Some g; filled = true }) ≡ filled (part_with l f b a) g n
 part_filled l f b a g n none noted empty =
-    let pages : a.book + n - length f - a.noted ≡ n = omega (arith, none, noted, empty) in
+    let pages : a.book + n - length f - a.unabsorbed ≡ n = omega (arith, none, noted, empty) in
     λ i. record {
       list = l;
       fresh = f;
       back = b;
-      stock = record { group = Some g; pages = pages i; is_drained = false };
+      stock_seat = record { group = Some g; pages = pages i; is_drained = false };
       book = a.book + n;
       unreported = 0;
-      reported = a.noted;
+      reported = a.unabsorbed;
     }
 
-module _ (stock : Seated) (c : KnownCpu) (g n : ℕ) (none : length c.fresh ≡ 0) (noted : (account_of stock.view c.number).noted ≡ 0)
+module _ (stock : Seated) (c : KnownCpu) (g n : ℕ) (none : length c.fresh ≡ 0) (noted : (account_of stock.view c.number).unabsorbed ≡ 0)
     (empty : (account_of stock.view c.number).book ≡ 0) where
   abbrev after_it : Seated
   after_it = with_view stock (filling stock.view c.number g n)
@@ -152,43 +152,43 @@ module _ (stock : Seated) (c : KnownCpu) (g n : ℕ) (none : length c.fresh ≡ 
   parts_filled = λ i. λ p. part_filled_at p i
 
 -- without fresh frames no phase tells the stock's group
-phase_stays : (c : KnownCpu) (s : Seated) (f : ℕ) (x : Spot) → times f c.fresh ≡ 0 → phase_of (record c { stock = s }) f x ≡ phase_of c f x
+phase_stays : (c : KnownCpu) (s : Seated) (f : ℕ) (x : Spot) → times f c.fresh ≡ 0 → phase_of (record c { stock_seat = s }) f x ≡ phase_of c f x
 phase_stays c s f Free none = refl
-phase_stays c s f (Lent q) none = lent_listed (record c { stock = s }) f q none ∙ sym (lent_listed c f q none)
+phase_stays c s f (Lent q) none = lent_listed (record c { stock_seat = s }) f q none ∙ sym (lent_listed c f q none)
 phase_stays c s f (Head unit) none = refl
 phase_stays c s f (Tail g) none = refl
 
 pub fill_runs : (t : KnownTable) (w : Words) (m : KnownMachine) (c : KnownCpu) (g k : ℕ) → IsConsistent t w m
     → AreCharges m.ledger → IsTied t w c → Visits t (side m c) → c.fresh ≡ []
-    → has_group m.ledger.groups g ≡ true → is_killed m.killed g ≡ false → (account_of m.stock.view c.number).book ≡ 0
+    → has_group m.ledger.groups g ≡ true → is_killed m.killed g ≡ false → (account_of m.stock_seat.view c.number).book ≡ 0
     → room.PathHasRoom m.ledger.groups (current_of m.ledger) g k
     → MakesAs t c.number (side m c) (fill_steps c.number g k) (side (record m {
       ledger = with_charge m.ledger g k;
-      stock =
-          with_view m.stock (filling m.stock.view c.number g k);
-    }) (record c { stock = with_view c.stock (after_fill c.stock.view g k) }))
+      stock_seat =
+          with_view m.stock_seat (filling m.stock_seat.view c.number g k);
+    }) (record c { stock_seat = with_view c.stock_seat (after_fill c.stock_seat.view g k) }))
 fill_runs t w m c g k ok facts tied visit none there alive empty has =
     let usage : (h : ℕ) → local.usage_of (local_of t m c) h ≡ current_of m.ledger h = usage_is t w m c ok facts visit.lent tied (balanced_alone m c none) in
     let p = c.number in
     let s = local_of t m c in
     let s1 : State = with_pending s g (0 + k) in
-    let acts = zone_may_act m.seat p in
+    let acts = zone_may_act m.frame_seat p in
     let len : length c.fresh ≡ 0 = ap length none in
     let own = own_part m c in
     let noted = ok.absorbed p in
-    let pages : (part_of m.stock c p).stock.pages ≡ 0
-    = ap (λ (x : Part). x.stock.pages) own ∙ (let a : (account_of m.stock.view p).book - length c.fresh -
-    (account_of m.stock.view p).noted ≡ 0 = omega (arith, empty) in a) in
-    let book : (part_of m.stock c p).book ≡ 0 = ap (λ (x : Part). x.book) own ∙ empty in
-    let may : may_fill (part_of m.stock c p) g ≡ true
-    = and_from _ _ (eq-eqb _ 0 pages) (ap (λ (b : Bool). b || is_of_group (part_of m.stock c p).stock.group g) (eq-eqb _ 0 book)) in
+    let pages : (part_of m.stock_seat c p).stock.pages ≡ 0
+    = ap (λ (x : Part). x.stock.pages) own ∙ (let a : (account_of m.stock_seat.view p).book - length c.fresh -
+    (account_of m.stock_seat.view p).unabsorbed ≡ 0 = omega (arith, empty) in a) in
+    let book : (part_of m.stock_seat c p).book ≡ 0 = ap (λ (x : Part). x.book) own ∙ empty in
+    let may : may_fill (part_of m.stock_seat c p) g ≡ true
+    = and_from _ _ (eq-eqb _ 0 pages) (ap (λ (b : Bool). b || is_of_group (part_of m.stock_seat c p).stock.group g) (eq-eqb _ 0 book)) in
     let enough : nat_le k (with_at nothing g (0 + k) g) ≡ true
     = le-leb k (with_at nothing g (0 + k) g) (let a = at_same nothing g (0 + k) in omega (arith, a)) in
-    let legal = and_from _ _ (and_from _ _ (and_from _ _ (and_from _ _ acts (visits_open m.seat p visit.is_open)) there) may) enough in
-    let d : KnownCpu = record c { stock = with_view c.stock (after_fill c.stock.view g k) } in
+    let legal = and_from _ _ (and_from _ _ (and_from _ _ (and_from _ _ acts (visits_open m.frame_seat p visit.is_open)) there) may) enough in
+    let d : KnownCpu = record c { stock_seat = with_view c.stock_seat (after_fill c.stock_seat.view g k) } in
     let phases : (λ (f : ℕ). phase_of d f (spot_at m.spots f)) ≡ (λ f. phase_of c f (spot_at m.spots f))
-    = λ i. λ f. phase_stays c (with_view c.stock (after_fill c.stock.view g k)) f (spot_at m.spots f) (ap (times f) none) i in
-    let parts = parts_filled m.stock c g k len noted empty in
+    = λ i. λ f. phase_stays c (with_view c.stock_seat (after_fill c.stock_seat.view g k)) f (spot_at m.spots f) (ap (times f) none) i in
+    let parts = parts_filled m.stock_seat c g k len noted empty in
     let back = pending_back g (0 + k) k (omega arith) in
     record {
       leads = (
@@ -201,18 +201,18 @@ fill_runs t w m c g k ok facts tied visit none there alive empty has =
 
 -- what `fill_stock` leaves, of the machine as it was seen before
 pub record Filled (t : KnownTable) (w : Words) (m now : KnownMachine) (g k : ℕ) (c : KnownCpu) (l : Ledger) (stock : Seated) (d : KnownCpu) : Type 0 where
-  pub consistent : IsConsistent t w (record m { ledger = l; stock = stock })
-  pub fills : Fills g k (side now c) (side (record m { ledger = l; stock = stock }) d)
-  pub visit : Visits t (side (record m { ledger = l; stock = stock }) d)
-  pub steps : MakesAs t c.number (side now c) (fill_steps c.number g k) (side (record m { ledger = l; stock = stock }) d)
+  pub consistent : IsConsistent t w (record m { ledger = l; stock_seat = stock })
+  pub fills : Fills g k (side now c) (side (record m { ledger = l; stock_seat = stock }) d)
+  pub visit : Visits t (side (record m { ledger = l; stock_seat = stock }) d)
+  pub steps : MakesAs t c.number (side now c) (fill_steps c.number g k) (side (record m { ledger = l; stock_seat = stock }) d)
 
 filled_here : (t : KnownTable) (w : Words) (m : KnownMachine) (c : KnownCpu) (g k : ℕ) → IsConsistent t w m
     → AreCharges m.ledger → IsTied t w c → Visits t (side m c) → c.fresh ≡ [] → k < 65536
-    → has_group m.ledger.groups g ≡ true → is_killed m.killed g ≡ false → (account_of m.stock.view c.number).book ≡ 0
+    → has_group m.ledger.groups g ≡ true → is_killed m.killed g ≡ false → (account_of m.stock_seat.view c.number).book ≡ 0
     → room.PathHasRoom m.ledger.groups (current_of m.ledger) g k
-    → Filled t w m m g k c (with_charge m.ledger g k) (with_view m.stock (filling m.stock.view c.number g k)) (record c {
-      stock =
-          with_view c.stock (after_fill c.stock.view g k);
+    → Filled t w m m g k c (with_charge m.ledger g k) (with_view m.stock_seat (filling m.stock_seat.view c.number g k)) (record c {
+      stock_seat =
+          with_view c.stock_seat (after_fill c.stock_seat.view g k);
     })
 filled_here t w m c g k ok facts tied visit none small there alive empty has = record {
   consistent = fill_consistent t w m c.number g k (with_charge m.ledger g k) ok tied.seats.frame_cpus empty small (charge_pages m.ledger g k facts there);
@@ -223,15 +223,15 @@ filled_here t w m c g k ok facts tied visit none small there alive empty has = r
 
 pub filled_all : (t : KnownTable) (w : Words) (m now : KnownMachine) (c : KnownCpu) (g k : ℕ) → m ≡ now
     → IsConsistent t w m → AreCharges m.ledger → IsTied t w c → Visits t (side now c)
-    → c.fresh ≡ [] → k < 65536 → has_group now.ledger.groups g ≡ true → is_killed now.killed g ≡ false → (account_of m.stock.view c.number).book ≡ 0
+    → c.fresh ≡ [] → k < 65536 → has_group now.ledger.groups g ≡ true → is_killed now.killed g ≡ false → (account_of m.stock_seat.view c.number).book ≡ 0
     → room.PathHasRoom m.ledger.groups (current_of m.ledger) g k → (l : Ledger) (stock : Seated) (d : KnownCpu) (h : ℕ) → h ≡ g → l ≡ with_charge m.ledger g k
-    → stock ≡ with_view m.stock (filling m.stock.view c.number h k) → d
-    ≡ record c { stock = with_view c.stock (after_fill c.stock.view h k) } → Filled t w m now g k c l stock d
+    → stock ≡ with_view m.stock_seat (filling m.stock_seat.view c.number h k) → d
+    ≡ record c { stock_seat = with_view c.stock_seat (after_fill c.stock_seat.view h k) } → Filled t w m now g k c l stock d
 filled_all t w m now c g k same ok facts tied visit none small there alive empty has l stock d h named charged filled seen =
     let here = filled_here t w m c g k ok facts tied (subst (λ (x : KnownMachine). Visits t (side x c)) (sym same) visit) none small
     (ap (λ (x : KnownMachine). has_group x.ledger.groups g) same ∙ there) (ap (λ (x : KnownMachine). is_killed x.killed g) same ∙ alive) empty has in
-    let stock_is = filled ∙ ap (λ (n : ℕ). with_view m.stock (filling m.stock.view c.number n k)) named in
-    let cpu_is = seen ∙ ap (λ (n : ℕ). record c { stock = with_view c.stock (after_fill c.stock.view n k) }) named in
+    let stock_is = filled ∙ ap (λ (n : ℕ). with_view m.stock_seat (filling m.stock_seat.view c.number n k)) named in
+    let cpu_is = seen ∙ ap (λ (n : ℕ). record c { stock_seat = with_view c.stock_seat (after_fill c.stock_seat.view n k) }) named in
     subst (λ (x : KnownMachine × Ledger × Seated × KnownCpu). Filled t w m x.0 g k c x.1 x.2 x.3) (λ i. (
       same i,
       sym charged i,
@@ -309,9 +309,9 @@ module _ (m x : KnownMachine) (q p k : ℕ) (named : q ≡ p) (d : Drains q k m 
       let b = current_falls m.ledger (stock_group m q) k 0 in
       omega (arith, a, b, fits)
 
-  pub emptied_drained : (account_of x.stock.view p).filled ≡ false
-  emptied_drained = ap (λ (n : ℕ). (account_of x.stock.view n).filled) (sym named) ∙ ap (λ (y : KnownMachine). (account_of y.stock.view q).filled) d.machine
-      ∙ ap (λ (a : Account). a.filled) (drained_at m.stock.view q k)
+  pub emptied_drained : (account_of x.stock_seat.view p).filled ≡ false
+  emptied_drained = ap (λ (n : ℕ). (account_of x.stock_seat.view n).filled) (sym named) ∙ ap (λ (y : KnownMachine). (account_of y.stock_seat.view q).filled) d.machine
+      ∙ ap (λ (a : Account). a.filled) (drained_at m.stock_seat.view q k)
 
   pub emptied_own : Drains p k m x
   emptied_own = subst (λ (n : ℕ). Drains n k m x) named d
@@ -322,15 +322,15 @@ module _ (m x : KnownMachine) (q p k : ℕ) (named : q ≡ p) (d : Drains q k m 
   emptied_whole c y stock same mine none looked =
       let own : IsOwnStock (side x c) stock = subst (λ (z : KnownMachine). IsOwnStock (side z c) stock) same looked in
       let its : c.number ≡ q = mine ∙ sym named in
-      let account : account_of x.stock.view c.number ≡ drained_account m.stock.view q k =
-      ap (account_of x.stock.view) its ∙ ap (λ (z : KnownMachine). account_of z.stock.view q) d.machine ∙ drained_at m.stock.view q k in
+      let account : account_of x.stock_seat.view c.number ≡ drained_account m.stock_seat.view q k =
+      ap (account_of x.stock_seat.view) its ∙ ap (λ (z : KnownMachine). account_of z.stock_seat.view q) d.machine ∙ drained_at m.stock_seat.view q k in
       let empty : pages_of stock ≡ 0 = none_in stock (own.held ∙ ap (λ (a : Account). a.filled) account) in
-      let left : (account_of x.stock.view c.number).book ≡ (account_of m.stock.view q).book - k = ap (λ (a : Account). a.book) account in
-      let all : pages_of stock ≡ (account_of x.stock.view c.number).book - length c.fresh = own.pages in
+      let left : (account_of x.stock_seat.view c.number).book ≡ (account_of m.stock_seat.view q).book - k = ap (λ (a : Account). a.book) account in
+      let all : pages_of stock ≡ (account_of x.stock_seat.view c.number).book - length c.fresh = own.pages in
       let fresh : length c.fresh ≡ 0 = ap length none in
       let booked = d.booked in
-      let book : (account_of m.stock.view c.number).book ≡ (account_of m.stock.view q).book = ap (λ (n : ℕ). (account_of m.stock.view n).book) its in
-      let whole : k ≡ (account_of m.stock.view c.number).book - length c.fresh = omega (arith, empty, left, all, fresh, booked, book) in
+      let book : (account_of m.stock_seat.view c.number).book ≡ (account_of m.stock_seat.view q).book = ap (λ (n : ℕ). (account_of m.stock_seat.view n).book) its in
+      let whole : k ≡ (account_of m.stock_seat.view c.number).book - length c.fresh = omega (arith, empty, left, all, fresh, booked, book) in
       whole
 
   -- the steps of the drain, and then those of the fill or of the grant that is refused

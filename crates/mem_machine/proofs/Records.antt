@@ -19,7 +19,7 @@ use Rattle.step_rules.proofs.Sums.{sum_same}
 use Rattle.lru_lists.specs.declared.record.Link.{Link}
 use Rattle.mem_machine.specs.declared.spot.Spot.{Spot}
 use Rattle.mem_machine.specs.declared.spot.Spot.TheVariants.{Free, Lent, Head, Tail}
-use Rattle.mem_machine.specs.Spots.{spot_at, is_free, free_of, group_of, count_of, is_in_hand, some_cpu, lent_to, AreUnits}
+use Rattle.mem_machine.specs.Spots.{spot_at, is_free, free_of, spot_group, count_of, is_in_hand, some_cpu, lent_to, AreUnits}
 use Rattle.mem_machine.specs.Machines.{FitsSpot, home_of, frames_charged}
 
 -- ---- which frames are free
@@ -140,36 +140,36 @@ holds_same s f change same g = elim (cases_eq g f) [
 
 -- ---- units and charges, where the frame is charged neither before nor after
 
-module _ (spots : List Spot) (f : ℕ) (x : Spot) (inside : f < length spots) (was : group_of (spot_at spots f) ≡ None) (now : group_of x ≡ None) where
+module _ (spots : List Spot) (f : ℕ) (x : Spot) (inside : f < length spots) (was : spot_group (spot_at spots f) ≡ None) (now : spot_group x ≡ None) where
   -- another frame's record stays, and one that is charged is another's
-  charged_else : (g h : ℕ) → group_of (spot_at (slice_set spots f x) g) ≡ Some h → spot_at (slice_set spots f x) g ≡ spot_at spots g
+  charged_else : (g h : ℕ) → spot_group (spot_at (slice_set spots f x) g) ≡ Some h → spot_at (slice_set spots f x) g ≡ spot_at spots g
   charged_else g h is = elim (cases_eq g f) [
-    | inl e ↦ absurd (none-some h (sym now ∙ sym (ap group_of (get_or-set_same spots f x Free inside))
-        ∙ ap (λ (k : ℕ). group_of (spot_at (slice_set spots f x) k)) (sym e) ∙ is))
+    | inl e ↦ absurd (none-some h (sym now ∙ sym (ap spot_group (get_or-set_same spots f x Free inside))
+        ∙ ap (λ (k : ℕ). spot_group (spot_at (slice_set spots f x) k)) (sym e) ∙ is))
     | inr ne ↦ get_or-set_other spots f g x Free ne
   ]
 
   -- a frame that was charged keeps its record
-  charged_stays : (g h : ℕ) → group_of (spot_at spots g) ≡ Some h → spot_at (slice_set spots f x) g ≡ spot_at spots g
+  charged_stays : (g h : ℕ) → spot_group (spot_at spots g) ≡ Some h → spot_at (slice_set spots f x) g ≡ spot_at spots g
   charged_stays g h is = elim (cases_eq g f) [
-    | inl e ↦ absurd (none-some h (sym was ∙ ap (λ (k : ℕ). group_of (spot_at spots k)) (sym e) ∙ is))
+    | inl e ↦ absurd (none-some h (sym was ∙ ap (λ (k : ℕ). spot_group (spot_at spots k)) (sym e) ∙ is))
     | inr ne ↦ get_or-set_other spots f g x Free ne
   ]
 
   pub units_stay : AreUnits spots → AreUnits (slice_set spots f x)
   units_stay units = record {
     heads = λ g unit is.
-        let old = units.heads g unit (sym (charged_else g unit.group (ap group_of is)) ∙ is) in
+        let old = units.heads g unit (sym (charged_else g unit.group (ap spot_group is)) ∙ is) in
         record {
           block = subst (λ (n : ℕ). IsBlock n (record { at = g; order = unit.order })) (sym (length-set spots f x)) old.block;
-          tails = λ y from before. charged_stays y unit.group (ap group_of (old.tails y from before)) ∙ old.tails y from before;
+          tails = λ y from before. charged_stays y unit.group (ap spot_group (old.tails y from before)) ∙ old.tails y from before;
         };
     tails = λ y g is.
-        let old = units.tails y g (sym (charged_else y g (ap group_of is)) ∙ is) in
+        let old = units.tails y g (sym (charged_else y g (ap spot_group is)) ∙ is) in
         record {
           head = old.head;
           unit = old.unit;
-          heads = charged_stays old.head old.unit.group (ap group_of old.heads) ∙ old.heads;
+          heads = charged_stays old.head old.unit.group (ap spot_group old.heads) ∙ old.heads;
           group = old.group;
           from = old.from;
           before = old.before;
@@ -178,10 +178,10 @@ module _ (spots : List Spot) (f : ℕ) (x : Spot) (inside : f < length spots) (w
 
   pub charges_stay : (g : ℕ) → frames_charged (slice_set spots f x) g ≡ frames_charged spots g
   charges_stay g =
-      ap (λ (n : ℕ). sum_to n (λ y. count_of g (group_of (spot_at (slice_set spots f x) y)))) (length-set spots f x)
-      ∙ sum_same (length spots) (λ y. count_of g (group_of (spot_at (slice_set spots f x) y))) (λ y. count_of g (group_of (spot_at spots y)))
+      ap (λ (n : ℕ). sum_to n (λ y. count_of g (spot_group (spot_at (slice_set spots f x) y)))) (length-set spots f x)
+      ∙ sum_same (length spots) (λ y. count_of g (spot_group (spot_at (slice_set spots f x) y))) (λ y. count_of g (spot_group (spot_at spots y)))
       (λ y within. elim (cases_eq y f) [
-        | inl e ↦ ap (count_of g) (ap (λ (k : ℕ). group_of (spot_at (slice_set spots f x) k)) e ∙ ap group_of (get_or-set_same spots f x Free inside) ∙ now
-            ∙ sym was ∙ ap (λ (k : ℕ). group_of (spot_at spots k)) (sym e))
-        | inr ne ↦ ap (λ (z : Spot). count_of g (group_of z)) (get_or-set_other spots f y x Free ne)
+        | inl e ↦ ap (count_of g) (ap (λ (k : ℕ). spot_group (spot_at (slice_set spots f x) k)) e ∙ ap spot_group (get_or-set_same spots f x Free inside) ∙ now
+            ∙ sym was ∙ ap (λ (k : ℕ). spot_group (spot_at spots k)) (sym e))
+        | inr ne ↦ ap (λ (z : Spot). count_of g (spot_group z)) (get_or-set_other spots f y x Free ne)
       ])

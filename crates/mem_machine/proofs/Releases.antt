@@ -66,18 +66,18 @@ module _ (s : KnownSeat) (f : ℕ) (change : FrameNote → FrameNote) where
   ]
 
 -- a visit stays open, with nothing passing, where the change leaves what was lent and handed over
-pub visit_stays : (t : KnownTable) (m n : KnownMachine) (c : KnownCpu) (f : ℕ) (change : FrameNote → FrameNote) → n.seat ≡ seat_with m.seat f change
+pub visit_stays : (t : KnownTable) (m n : KnownMachine) (c : KnownCpu) (f : ℕ) (change : FrameNote → FrameNote) → n.frame_seat ≡ seat_with m.frame_seat f change
     → ((k : FrameNote) → (change k).lent ≡ k.lent) → ((k : FrameNote) → (change k).passed_out ≡ k.passed_out)
     → ((k : FrameNote) → (change k).collected ≡ k.collected) → Visits t (side m c) → Visits t (side n c)
 visit_stays t m n c f change seat lent out back visit = record {
   is_open = subst (λ (s : KnownSeat). get_or s.view.opened c.number 0 ≡ 1) (sym seat) visit.is_open;
-  still = λ g inside. subst (λ (s : KnownSeat). get_or (note_of s.view g).passed_out (number_of c.seat) 0 + (note_of c.seat.view g).passed_back
-      ≡ get_or (note_of s.view g).collected (number_of c.seat) 0 + (note_of c.seat.view g).taken_in) (sym seat)
-      (ap (λ (l : List ℕ). get_or l (number_of c.seat) 0 + (note_of c.seat.view g).passed_back) (note_keeps m.seat f change (λ k. k.passed_out) out g)
+  still = λ g inside. subst (λ (s : KnownSeat). get_or (note_of s.view g).passed_out (number_of c.frame_seat) 0 + (note_of c.frame_seat.view g).passed_back
+      ≡ get_or (note_of s.view g).collected (number_of c.frame_seat) 0 + (note_of c.frame_seat.view g).taken_in) (sym seat)
+      (ap (λ (l : List ℕ). get_or l (number_of c.frame_seat) 0 + (note_of c.frame_seat.view g).passed_back) (note_keeps m.frame_seat f change (λ k. k.passed_out) out g)
       ∙ visit.still g inside
-      ∙ sym (ap (λ (l : List ℕ). get_or l (number_of c.seat) 0 + (note_of c.seat.view g).taken_in) (note_keeps m.seat f change (λ k. k.collected) back g)));
-  lent = λ g inside. subst (λ (k : ℕ). (k ≡ number_of c.seat → IsBorrowed c.seat g) × (IsBorrowed c.seat g → k ≡ number_of c.seat))
-      (sym (ap (λ (s : KnownSeat). (note_of s.view g).lent) seat ∙ note_keeps m.seat f change (λ k. k.lent) lent g)) (visit.lent g inside);
+      ∙ sym (ap (λ (l : List ℕ). get_or l (number_of c.frame_seat) 0 + (note_of c.frame_seat.view g).taken_in) (note_keeps m.frame_seat f change (λ k. k.collected) back g)));
+  lent = λ g inside. subst (λ (k : ℕ). (k ≡ number_of c.frame_seat → IsBorrowed c.frame_seat g) × (IsBorrowed c.frame_seat g → k ≡ number_of c.frame_seat))
+      (sym (ap (λ (s : KnownSeat). (note_of s.view g).lent) seat ∙ note_keeps m.frame_seat f change (λ k. k.lent) lent g)) (visit.lent g inside);
 }
 
 -- one reference of the zone less on the frame
@@ -95,8 +95,8 @@ references_less seat c f change less q x = elim (cases_eq q 0) [
   | inr ne ↦
       let u : (q == 0) ≡ false = ne_eqb q 0 ne in
       ap (λ (r : ℕ → ℕ). r x) (at_other (references_of seat c) 0 (with_at (references_of seat c 0) f (holds seat f - 1)) q ne)
-      ∙ ap (λ (b : Bool). cond b (holds seat x) (cond (q == c.number) (holds c.seat x) 0)) u
-      ∙ sym (ap (λ (b : Bool). cond b (holds (seat_with seat f change) x) (cond (q == c.number) (holds c.seat x) 0)) u)
+      ∙ ap (λ (b : Bool). cond b (holds seat x) (cond (q == c.number) (holds c.frame_seat x) 0)) u
+      ∙ sym (ap (λ (b : Bool). cond b (holds (seat_with seat f change) x) (cond (q == c.number) (holds c.frame_seat x) 0)) u)
 ]
 
 -- ---- what brings a frame into the zone's hand
@@ -112,9 +112,9 @@ pub record TakesInHand (change : FrameNote → FrameNote) : Type 0 where
 last_in_hand : TakesInHand let_go_last
 last_in_hand = record { own = λ k. refl; lent = λ k. refl; references = λ k. refl; passed_out = λ k. refl; collected = λ k. refl }
 
-may_put_one : (t : KnownTable) (m : KnownMachine) (f : ℕ) → f < t.frames → holds m.seat f ≡ 1 → (c : KnownCpu) → is_legal (local_of t m c) 0 (Put f) ≡ true
+may_put_one : (t : KnownTable) (m : KnownMachine) (f : ℕ) → f < t.frames → holds m.frame_seat f ≡ 1 → (c : KnownCpu) → is_legal (local_of t m c) 0 (Put f) ≡ true
 may_put_one t m f inside held c =
-    and_from _ _ (and_from _ _ (zone_may_act m.seat c.number) (lt-ltb f t.frames inside)) (le-leb 1 (holds m.seat f) (omega (arith, held)))
+    and_from _ _ (and_from _ _ (zone_may_act m.frame_seat c.number) (lt-ltb f t.frames inside)) (le-leb 1 (holds m.frame_seat f) (omega (arith, held)))
 
 -- ---- the unit
 
@@ -147,8 +147,8 @@ module _ (t : KnownTable) (w : Words) (m : KnownMachine) (ok : IsConsistent t w 
   pub kept_head : (unit : ChargedUnit) × (spot_at m.spots f ≡ Head unit)
   kept_head = kept_group (home_of m.links f) (spot_at m.spots f) (ok.spots f inside).kept kept
 
-  pub held_once : holds m.seat f ≡ 1
-  held_once = kept_once (home_of m.links f) (holds m.seat f) (ok.spots f inside).references kept
+  pub held_once : holds m.frame_seat f ≡ 1
+  held_once = kept_once (home_of m.links f) (holds m.frame_seat f) (ok.spots f inside).references kept
 
   module _ (links : List Link) (lists : List Lru) (leaves : LeavesList f (lists_of m) (group_lists links lists)) (stand : AllStand links lists)
       (linked : length links ≡ t.frames) (listed : length lists ≡ 64) where
@@ -158,7 +158,7 @@ module _ (t : KnownTable) (w : Words) (m : KnownMachine) (ok : IsConsistent t w 
     no_home : (x : Spot) → IfSome (home_of links f) (λ h. (h.owner < 64) × (head_group_of x ≡ Some h.owner))
     no_home x = subst (λ (k : Option Home). IfSome k (λ h. (h.owner < 64) × (head_group_of x ≡ Some h.owner))) (sym homeless) tt
 
-    no_reference : holds m.seat f - 1 ≡ one_if (is_some (home_of links f))
+    no_reference : holds m.frame_seat f - 1 ≡ one_if (is_some (home_of links f))
     no_reference =
         let a = held_once in
         let b : one_if (is_some (home_of links f)) ≡ 0 = ap (λ (k : Option Home). one_if (is_some k)) homeless in
@@ -166,9 +166,9 @@ module _ (t : KnownTable) (w : Words) (m : KnownMachine) (ok : IsConsistent t w 
 
     -- every other frame fits its record as before
     pub others_fit : (change : FrameNote → FrameNote) (g : ℕ) → g < t.frames → (g ≡ f → ⊥)
-        → FitsSpot t.cpus (note_of (seat_with m.seat f change).view g) (home_of links g) (spot_at m.spots g)
+        → FitsSpot t.cpus (note_of (seat_with m.frame_seat f change).view g) (home_of links g) (spot_at m.spots g)
     others_fit change g within ne = subst (λ (x : FrameNote × Option Home). FitsSpot t.cpus x.0 x.1 (spot_at m.spots g))
-        (λ i. (sym (note_else m.seat.view f g change ne) i, sym (leaves.homes g ne) i)) (ok.spots g within)
+        (λ i. (sym (note_else m.frame_seat.view f g change ne) i, sym (leaves.homes g ne) i)) (ok.spots g within)
 
     may_put : (c : KnownCpu) → is_legal (local_of t m c) 0 (Put f) ≡ true
     may_put c = may_put_one t m f inside held_once c
@@ -177,17 +177,17 @@ module _ (t : KnownTable) (w : Words) (m : KnownMachine) (ok : IsConsistent t w 
 
     module _ (left : ℕ) where
       abbrev left_seat : KnownSeat
-      left_seat = seat_with m.seat f (let_go left)
+      left_seat = seat_with m.frame_seat f (let_go left)
 
       left_fits : (g : ℕ) → g < t.frames → FitsSpot t.cpus (note_of left_seat.view g) (home_of links g) (spot_at m.spots g)
       left_fits g within = elim (cases_eq g f) [
         | inl e ↦ subst (λ (k : ℕ). FitsSpot t.cpus (note_of left_seat.view k) (home_of links k) (spot_at m.spots k)) (sym e)
-            (subst (λ (k : FrameNote). FitsSpot t.cpus k (home_of links f) (spot_at m.spots f)) (sym (note_here m.seat.view f (let_go left)))
+            (subst (λ (k : FrameNote). FitsSpot t.cpus k (home_of links f) (spot_at m.spots f)) (sym (note_here m.frame_seat.view f (let_go left)))
             (let old = ok.spots f inside in record { own = old.own; lent = old.lent; borrower = old.borrower; references = no_reference; kept = no_home (spot_at m.spots f) }))
         | inr ne ↦ others_fit (let_go left) g within ne
       ]
 
-      pub left_consistent : IsConsistent t w (record m { links = links; lists = lists; seat = left_seat })
+      pub left_consistent : IsConsistent t w (record m { links = links; lists = lists; frame_seat = left_seat })
       left_consistent = record {
         sizes = let s = ok.sizes in record { spots = s.spots; links = linked; lists = listed; killed = s.killed; cpus = s.cpus };
         seats = let s = ok.seats in record { frames = s.frames; table = s.table; stocks = s.stocks };
@@ -202,13 +202,13 @@ module _ (t : KnownTable) (w : Words) (m : KnownMachine) (ok : IsConsistent t w 
       }
 
       pub left_runs : (c : KnownCpu) → MakesAs t c.number (side m c) (release_steps f (Left left))
-          (side (record m { links = links; lists = lists; seat = left_seat }) c)
+          (side (record m { links = links; lists = lists; frame_seat = left_seat }) c)
       left_runs c =
           let s = local_of t m c in
           record {
             leads = (
               zone_step s c.number (Put f) (answer.Left left) refl (may_put c) tt,
-              λ i. record s { references = λ q x. references_less m.seat c f (let_go left) (λ k. refl) q x i },
+              λ i. record s { references = λ q x. references_less m.frame_seat c f (let_go left) (λ k. refl) q x i },
             );
             follows = follows_same _ _ _ refl;
           }
@@ -217,13 +217,13 @@ module _ (t : KnownTable) (w : Words) (m : KnownMachine) (ok : IsConsistent t w 
 
     module _ (unit : ChargedUnit) (heads : spot_at m.spots f ≡ Head unit) where
       -- the head in the zone's hand fits the record of a free frame
-      pub hand_fits : (change : FrameNote → FrameNote) → TakesInHand change → FitsSpot t.cpus (note_of (seat_with m.seat f change).view f) (home_of links f) Free
-      hand_fits change takes = subst (λ (k : FrameNote). FitsSpot t.cpus k (home_of links f) Free) (sym (note_here m.seat.view f change))
+      pub hand_fits : (change : FrameNote → FrameNote) → TakesInHand change → FitsSpot t.cpus (note_of (seat_with m.frame_seat f change).view f) (home_of links f) Free
+      hand_fits change takes = subst (λ (k : FrameNote). FitsSpot t.cpus k (home_of links f) Free) (sym (note_here m.frame_seat.view f change))
           (record {
-            own = takes.own (note_of m.seat.view f);
-            lent = ap some_cpu (takes.lent (note_of m.seat.view f)) ∙ (ok.spots f inside).lent ∙ ap lent_to heads;
+            own = takes.own (note_of m.frame_seat.view f);
+            lent = ap some_cpu (takes.lent (note_of m.frame_seat.view f)) ∙ (ok.spots f inside).lent ∙ ap lent_to heads;
             borrower = tt;
-            references = takes.references (note_of m.seat.view f) ∙ no_reference;
+            references = takes.references (note_of m.frame_seat.view f) ∙ no_reference;
             kept = no_home Free;
           })
 
@@ -243,7 +243,7 @@ module _ (t : KnownTable) (w : Words) (m : KnownMachine) (ok : IsConsistent t w 
 
         may_come_back : is_legal ended 0 (Return f) ≡ true
         may_come_back =
-            and_from _ _ (and_from _ _ (zone_may_act m.seat c.number) (lt-ltb f t.frames inside)) (ap (may_return (is_killed m.killed)) head_ended)
+            and_from _ _ (and_from _ _ (zone_may_act m.frame_seat c.number) (lt-ltb f t.frames inside)) (ap (may_return (is_killed m.killed)) head_ended)
 
         -- the frames of the unit are free, and all others have the phases that they had
         phases_after : (spots : List Spot) → FreesFrames f (2 ^ unit.order) m.spots spots → (x : ℕ)
@@ -270,7 +270,7 @@ module _ (t : KnownTable) (w : Words) (m : KnownMachine) (ok : IsConsistent t w 
               ledger = with_uncharge m.ledger unit.group (2 ^ unit.order);
               links = links;
               lists = lists;
-              seat = seat_with m.seat f change;
+              frame_seat = seat_with m.frame_seat f change;
               counts = counts;
             }) c)
         return_runs change takes spots blocks counts frees =
@@ -278,7 +278,7 @@ module _ (t : KnownTable) (w : Words) (m : KnownMachine) (ok : IsConsistent t w 
               zone_step ended c.number (Return f) answer.Done refl may_come_back tt,
               λ i. record s {
                 phases = λ x. phases_after spots frees x i;
-                references = λ q x. references_less m.seat c f change takes.references q x i;
+                references = λ q x. references_less m.frame_seat c f change takes.references q x i;
               },
             )
 
@@ -298,19 +298,19 @@ pub record AllLeft (t : KnownTable) (w : Words) (now : KnownMachine) (f left : �
   pub steps : MakesForAny t now (release_steps f (Left left)) n
 
 pub left_all : (t : KnownTable) (w : Words) (m now : KnownMachine) → m ≡ now → IsConsistent t w m → (f i : ℕ) → f < t.frames → i ≡ f → home_of now.links f ≢ None → (links : List Link) (lists : List Lru) → LeavesList i (lists_of m) (group_lists links lists) → AllStand links lists
-    → length links ≡ length m.links → length lists ≡ 64 → (left : ℕ) (seat : KnownSeat) → seat ≡ seat_with m.seat f (let_go left)
-    → AllLeft t w now f left (record m { links = links; lists = lists; seat = seat })
+    → length links ≡ length m.links → length lists ≡ 64 → (left : ℕ) (seat : KnownSeat) → seat ≡ seat_with m.frame_seat f (let_go left)
+    → AllLeft t w now f left (record m { links = links; lists = lists; frame_seat = seat })
 left_all t w m now same ok f i inside is kept_now links lists left_list stand linked listed left seat put =
     let kept : home_of m.links f ≢ None = subst (λ (x : KnownMachine). home_of x.links f ≢ None) (sym same) kept_now in
     let leaves : LeavesList f (lists_of m) (group_lists links lists) = subst (λ (x : ℕ). LeavesList x (lists_of m) (group_lists links lists)) is left_list in
     let sized : length links ≡ t.frames = linked ∙ ok.sizes.links in
-    let n : KnownMachine = record m { links = links; lists = lists; seat = seat_with m.seat f (let_go left) } in
+    let n : KnownMachine = record m { links = links; lists = lists; frame_seat = seat_with m.frame_seat f (let_go left) } in
     let all : AllLeft t w m f left n = record {
       consistent = left_consistent t w m ok f inside kept links lists leaves stand sized listed left;
       visit = λ c visit. visit_stays t m n c f (let_go left) refl (λ k. refl) (λ k. refl) (λ k. refl) visit;
       steps = left_runs t w m ok f inside kept links lists leaves stand sized listed left;
     } in
-    subst (λ (x : KnownMachine × KnownSeat). AllLeft t w x.0 f left (record m { links = links; lists = lists; seat = x.1 })) (λ j. (same j, sym put j)) all
+    subst (λ (x : KnownMachine × KnownSeat). AllLeft t w x.0 f left (record m { links = links; lists = lists; frame_seat = x.1 })) (λ j. (same j, sym put j)) all
 
 -- what is left where a kept unit came into the zone's hand by the step before the last one, and came back
 pub record AllBack (t : KnownTable) (w : Words) (now : KnownMachine) (f : ℕ) (unit : ChargedUnit) (free : List Bool) (steps : Run) (n : KnownMachine) : Type 0 where
@@ -327,9 +327,9 @@ pub record AllBack (t : KnownTable) (w : Words) (now : KnownMachine) (f : ℕ) (
 pub back_all : (t : KnownTable) (w : Words) (m now : KnownMachine) → m ≡ now → IsConsistent t w m → (f i : ℕ)
     → f < t.frames → i ≡ f → home_of now.links f ≢ None → (links : List Link) (lists : List Lru) → LeavesList i (lists_of m) (group_lists links lists)
     → AllStand links lists → length links ≡ length m.links → length lists ≡ 64
-    → (change : FrameNote → FrameNote) → TakesInHand change → (seat : KnownSeat) → seat ≡ seat_with m.seat f change
+    → (change : FrameNote → FrameNote) → TakesInHand change → (seat : KnownSeat) → seat ≡ seat_with m.frame_seat f change
     → (action : Action) (answered : Answer)
-    → ((c : KnownCpu) → holds m.seat f ≡ 1 → IsLocalStep (local_of t m c) c.number 0 action answered) → is_still action answered ≡ true
+    → ((c : KnownCpu) → holds m.frame_seat f ≡ 1 → IsLocalStep (local_of t m c) c.number 0 action answered) → is_still action answered ≡ true
     → ((c : KnownCpu) → after (local_of t m c) 0 action answered ≡ after (local_of t m c) 0 (Put f) answer.Last)
     → (unit : ChargedUnit) → spot_at m.spots i ≡ Head unit
     → (before free : List Bool) (blocks : List Block) (spots : List Spot) (ledger : Ledger) (counts : Counts)
@@ -341,7 +341,7 @@ pub back_all : (t : KnownTable) (w : Words) (m now : KnownMachine) → m ≡ now
       ledger = ledger;
       links = links;
       lists = lists;
-      seat = seat;
+      frame_seat = seat;
       counts = counts;
     })
 back_all t w m now same ok f i inside is kept_now links lists left_list stand linked listed change takes seat put action answered first still ends unit head before
@@ -363,11 +363,11 @@ back_all t w m now same ok f i inside is kept_now links lists left_list stand li
       ledger = with_uncharge m.ledger unit.group (2 ^ unit.order);
       links = links;
       lists = lists;
-      seat = seat_with m.seat f change;
+      frame_seat = seat_with m.frame_seat f change;
       counts = counts;
     } in
     let all : AllBack t w m f unit free steps n = record {
-      consistent = unit_freed_consistent t w m ok f unit heads spots blocks links lists (seat_with m.seat f change) counts frees areas
+      consistent = unit_freed_consistent t w m ok f unit heads spots blocks links lists (seat_with m.frame_seat f change) counts frees areas
           (let s = ok.seats.frames in (s.0, s.1)) sized listed stand
           (others_fit t w m ok f inside kept links lists leaves stand sized listed change)
           (hand_fits t w m ok f inside kept links lists leaves stand sized listed unit heads change takes) balances;
@@ -395,7 +395,7 @@ back_all t w m now same ok f i inside is kept_now links lists left_list stand li
         ledger = sym uncharged j;
         links = links;
         lists = lists;
-        seat = sym put j;
+        frame_seat = sym put j;
         counts = counts;
       },
     )) all
@@ -409,7 +409,7 @@ pub record AllReturned (t : KnownTable) (w : Words) (now : KnownMachine) (f : �
 
 pub returned_all : (t : KnownTable) (w : Words) (m now : KnownMachine) → m ≡ now → IsConsistent t w m → (f i : ℕ)
     → f < t.frames → i ≡ f → home_of now.links f ≢ None → (links : List Link) (lists : List Lru) → LeavesList i (lists_of m) (group_lists links lists)
-    → AllStand links lists → length links ≡ length m.links → length lists ≡ 64 → (seat : KnownSeat) → seat ≡ seat_with m.seat f let_go_last
+    → AllStand links lists → length links ≡ length m.links → length lists ≡ 64 → (seat : KnownSeat) → seat ≡ seat_with m.frame_seat f let_go_last
     → (unit : ChargedUnit) → spot_at m.spots i ≡ Head unit
     → (before free : List Bool) (blocks : List Block) (spots : List Spot) (ledger : Ledger) (counts : Counts)
     → before ≡ free_of m.spots → FreesFrames i (2 ^ unit.order) m.spots spots → GivesFrames before (record { at = i; order = unit.order }) free
@@ -420,7 +420,7 @@ pub returned_all : (t : KnownTable) (w : Words) (m now : KnownMachine) → m ≡
       ledger = ledger;
       links = links;
       lists = lists;
-      seat = seat;
+      frame_seat = seat;
       counts = counts;
     })
 returned_all t w m now same ok f i inside is kept_now links lists left_list stand linked listed seat put unit head before free blocks spots
@@ -443,7 +443,7 @@ returned_all t w m now same ok f i inside is kept_now links lists left_list stan
           ledger = (uncharged ∙ ap (λ (x : KnownMachine). with_uncharge x.ledger unit.group (2 ^ unit.order)) same) j;
           links = links;
           lists = lists;
-          seat = (put ∙ ap (λ (x : KnownMachine). seat_with x.seat f let_go_last) same) j;
+          frame_seat = (put ∙ ap (λ (x : KnownMachine). seat_with x.frame_seat f let_go_last) same) j;
           counts = (counted ∙ ap (λ (x : KnownMachine). with_last_put x.counts) same) j;
         };
       };

@@ -41,8 +41,8 @@ use Rattle.mem_machine.proofs.HandOvers.{IsVisited, IsFreshFront, IsBackFront, t
 pub is_visited : (t : KnownTable) (w : Words) (m : KnownMachine) (c : KnownCpu) → IsTied t w c → Visits t (side m c) → (f : ℕ) → f < t.frames
     → IsVisited (local_of t m c) c.number f
 is_visited t w m c tied visit f inside = record {
-  acts = zone_may_act m.seat c.number;
-  visiting = visits_open m.seat c.number visit.is_open;
+  acts = zone_may_act m.frame_seat c.number;
+  visiting = visits_open m.frame_seat c.number visit.is_open;
   cpu = seated_cpu t c (record { some_number = tied.seats.some_number; cpus = tied.seats.frame_cpus });
   framed = lt-ltb f t.frames inside;
 }
@@ -64,10 +64,10 @@ back_phase c f x unit is once = ap (phase_of c f) is ∙ cond-true (nat_le 1 (ti
 -- ---- the processor after the frame was handed over
 
 abbrev pub fresh_handed : KnownCpu → ℕ → List ℕ → KnownCpu
-fresh_handed c f rest = record c { fresh = rest; seat = seat_with c.seat f gave_back; stock = with_view c.stock (after_report c.stock.view 1) }
+fresh_handed c f rest = record c { fresh = rest; frame_seat = seat_with c.frame_seat f gave_back; stock_seat = with_view c.stock_seat (after_report c.stock_seat.view 1) }
 
 abbrev pub back_handed : KnownCpu → ℕ → List ℕ → KnownCpu
-back_handed c f rest = record c { back = rest; seat = seat_with c.seat f gave_back }
+back_handed c f rest = record c { back = rest; frame_seat = seat_with c.frame_seat f gave_back }
 
 -- other frames' phases stay
 pub fresh_else : (c : KnownCpu) (f : ℕ) (rest : List ℕ) → c.fresh ≡ f ∷ rest → (g : ℕ) (y : Spot) → (g ≡ f → ⊥)
@@ -122,7 +122,7 @@ module _ (c d : KnownCpu) (spots : List Spot) (f : ℕ) (others : (g : ℕ) (y :
 -- ---- the parts
 
 module _ (stock : Seated) (c : KnownCpu) (f : ℕ) (rest : List ℕ) (front : c.fresh ≡ f ∷ rest) (at : IsFreshFront c f rest)
-    (noted : (account_of stock.view c.number).noted ≡ 0) (unit : ChargedUnit) where
+    (noted : (account_of stock.view c.number).unabsorbed ≡ 0) (unit : ChargedUnit) where
   abbrev p : ℕ
   p = c.number
 
@@ -148,15 +148,15 @@ module _ (stock : Seated) (c : KnownCpu) (f : ℕ) (rest : List ℕ) (front : c.
       let long : length c.fresh ≡ length (f ∷ rest) = ap length front in
       let own : (c.number == c.number) ≡ true = eq-eqb c.number c.number refl in
       let one : one_if (c.number == c.number) ≡ 1 = ap one_if own in
-      let pages : a.book - (a.noted + 1) - length rest - 0 ≡ a.book - length c.fresh - a.noted = omega (arith, noted, long) in
-      let book : a.book - (a.noted + 1) ≡ a.book - 1 = omega (arith, noted) in
+      let pages : a.book - (a.unabsorbed + 1) - length rest - 0 ≡ a.book - length c.fresh - a.unabsorbed = omega (arith, noted, long) in
+      let book : a.book - (a.unabsorbed + 1) ≡ a.book - 1 = omega (arith, noted) in
       let unreported : ◌≡◌ {A = ℕ} 0 (0 + one_if (c.number == c.number) - 1) = omega (arith, one) in
-      let reported : ◌≡◌ {A = ℕ} 0 (a.noted + 1 - 1) = omega (arith, noted) in
+      let reported : ◌≡◌ {A = ℕ} 0 (a.unabsorbed + 1 - 1) = omega (arith, noted) in
       λ i. record {
         list = sym (without_none f c.list at.none_listed) i;
         fresh = sym (without_front f c.fresh rest front at.none_in_rest) i;
         back = sym (without_none f c.back at.none_back) i;
-        stock = record { group = a.group; pages = pages i; is_drained = part.stock.is_drained };
+        stock_seat = record { group = a.group; pages = pages i; is_drained = part.stock.is_drained };
         book = book i;
         unreported = unreported i;
         reported = reported i;
@@ -206,7 +206,7 @@ module _ (stock : Seated) (c : KnownCpu) (f : ℕ) (rest : List ℕ) (front : c.
 
 -- ---- references
 
-module _ (seat : KnownSeat) (c d : KnownCpu) (f p : ℕ) (cpu : d.seat ≡ seat_with c.seat f gave_back) (number : d.number ≡ c.number) where
+module _ (seat : KnownSeat) (c d : KnownCpu) (f p : ℕ) (cpu : d.frame_seat ≡ seat_with c.frame_seat f gave_back) (number : d.number ≡ c.number) where
   abbrev used : FrameNote → FrameNote
   used k = unfrozen 1 (collected_from p k)
 
@@ -217,8 +217,8 @@ module _ (seat : KnownSeat) (c d : KnownCpu) (f p : ℕ) (cpu : d.seat ≡ seat_
     | inr ne ↦ ap (λ (k : FrameNote). k.references) (note_else seat.view f x used ne) ∙ sym (at_other (holds seat) f (holds seat f + 1) x ne)
   ]
 
-  own_same : (x : ℕ) → holds d.seat x ≡ holds c.seat x
-  own_same x = ap (λ (s : KnownSeat). holds s x) cpu ∙ holds_same c.seat f gave_back (λ k. refl) x
+  own_same : (x : ℕ) → holds d.frame_seat x ≡ holds c.frame_seat x
+  own_same x = ap (λ (s : KnownSeat). holds s x) cpu ∙ holds_same c.frame_seat f gave_back (λ k. refl) x
 
   -- the zone has one reference more
   pub references_used : (q x : ℕ) → references_of (seat_with seat f used) d q x
@@ -229,9 +229,9 @@ module _ (seat : KnownSeat) (c d : KnownCpu) (f p : ℕ) (cpu : d.seat ≡ seat_
         ∙ sym (ap (λ (r : ℕ → ℕ). r x) (at_same (references_of seat c) 0 (with_at (references_of seat c 0) f (references_of seat c 0 f + 1))))
         ∙ sym (ap (λ (k : ℕ). with_at (references_of seat c) 0 (with_at (references_of seat c 0) f (references_of seat c 0 f + 1)) k x) e)
     | inr ne ↦
-        ap (λ (b : Bool). cond b (holds (seat_with seat f used) x) (cond (q == d.number) (holds d.seat x) 0)) (ne_eqb q 0 ne)
+        ap (λ (b : Bool). cond b (holds (seat_with seat f used) x) (cond (q == d.number) (holds d.frame_seat x) 0)) (ne_eqb q 0 ne)
         ∙ (λ i. cond (q == number i) (own_same x i) 0)
-        ∙ sym (ap (λ (b : Bool). cond b (holds seat x) (cond (q == c.number) (holds c.seat x) 0)) (ne_eqb q 0 ne))
+        ∙ sym (ap (λ (b : Bool). cond b (holds seat x) (cond (q == c.number) (holds c.frame_seat x) 0)) (ne_eqb q 0 ne))
         ∙ sym (ap (λ (r : ℕ → ℕ). r x) (at_other (references_of seat c) 0 (with_at (references_of seat c 0) f (references_of seat c 0 f + 1)) q ne))
   ]
 

@@ -28,7 +28,7 @@ use Rattle.step_rules.specs.After.{after, without_frame}
 use Rattle.step_rules.proofs.Basics.{at_same}
 use Rattle.mem_machine.specs.declared.spot.Spot.{Spot}
 use Rattle.mem_machine.specs.declared.spot.Spot.TheVariants.{Free, Lent, Head, Tail}
-use Rattle.mem_machine.specs.Spots.{spot_at, is_free, free_of, group_of, head_group_of, some_cpu}
+use Rattle.mem_machine.specs.Spots.{spot_at, is_free, free_of, spot_group, head_group_of, some_cpu}
 use Rattle.mem_machine.specs.Machines.{KnownMachine, FitsSpot, IsConsistent, Visits, home_of}
 use Rattle.mem_machine.specs.Lending.{TakesBackByStep, TakesNoneBack}
 use Rattle.mem_machine.specs.Local.{local_of, phase_of, part_of, part_with, side, MakesAs}
@@ -62,7 +62,7 @@ without_front f xs rest front none =
     ap (without f) front ∙ without_here f rest none
 
 module _ (t : KnownTable) (w : Words) (m : KnownMachine) (c : KnownCpu) (tied : IsTied t w c) (ok : IsConsistent t w m) (visit : Visits t (side m c))
-    (f : ℕ) (rest : List ℕ) (front : c.list ≡ f ∷ rest) (inside : f < t.frames) (lent : IsLent m.seat f c.number) where
+    (f : ℕ) (rest : List ℕ) (front : c.list ≡ f ∷ rest) (inside : f < t.frames) (lent : IsLent m.frame_seat f c.number) where
   within : f < length m.spots
   within = let s = ok.sizes.spots in omega (arith, s, inside)
 
@@ -91,14 +91,14 @@ module _ (t : KnownTable) (w : Words) (m : KnownMachine) (c : KnownCpu) (tied : 
   homeless None is = tt
   homeless (Some x) is = is
 
-  taken_fits : FitsSpot t.cpus (collected_from c.number (note_of m.seat.view f)) (home_of m.links f) Free
+  taken_fits : FitsSpot t.cpus (collected_from c.number (note_of m.frame_seat.view f)) (home_of m.links f) Free
   taken_fits =
-      let old : FitsSpot t.cpus (note_of m.seat.view f) (home_of m.links f) (Lent c.number) =
-      subst (λ (x : Spot). FitsSpot t.cpus (note_of m.seat.view f) (home_of m.links f) x) is_lent_spot (ok.spots f inside) in
+      let old : FitsSpot t.cpus (note_of m.frame_seat.view f) (home_of m.links f) (Lent c.number) =
+      subst (λ (x : Spot). FitsSpot t.cpus (note_of m.frame_seat.view f) (home_of m.links f) x) is_lent_spot (ok.spots f inside) in
       record { own = refl; lent = refl; borrower = tt; references = old.references; kept = homeless (home_of m.links f) old.kept }
 
   pub take_consistent : (blocks : List Block) → AreMaximalBlocks (free_of (slice_set m.spots f Free)) blocks
-      → IsConsistent t w (record m { blocks = blocks; spots = slice_set m.spots f Free; seat = seat_with m.seat f (collected_from c.number) })
+      → IsConsistent t w (record m { blocks = blocks; spots = slice_set m.spots f Free; frame_seat = seat_with m.frame_seat f (collected_from c.number) })
   take_consistent blocks areas = record {
     sizes = let s = ok.sizes in record {
       spots = length-set m.spots f Free ∙ s.spots;
@@ -109,77 +109,77 @@ module _ (t : KnownTable) (w : Words) (m : KnownMachine) (c : KnownCpu) (tied : 
     };
     seats = let s = ok.seats in record { frames = s.frames; table = s.table; stocks = s.stocks };
     areas = areas;
-    spots = spots_changed t.cpus m.seat m.links m.spots f (collected_from c.number) Free t.frames within ok.spots taken_fits;
-    units = units_stay m.spots f Free within (ap group_of is_lent_spot) refl ok.units;
+    spots = spots_changed t.cpus m.frame_seat m.links m.spots f (collected_from c.number) Free t.frames within ok.spots taken_fits;
+    units = units_stay m.spots f Free within (ap spot_group is_lent_spot) refl ok.units;
     lists = ok.lists;
     absorbed = ok.absorbed;
     bounded = ok.bounded;
-    charged = λ g. let a = ok.charged g in let b = charges_stay m.spots f Free within (ap group_of is_lent_spot) refl g in omega (arith, a, b);
+    charged = λ g. let a = ok.charged g in let b = charges_stay m.spots f Free within (ap spot_group is_lent_spot) refl g in omega (arith, a, b);
     balances = ok.balances;
   }
 
   -- what was not lent before isn't after
-  not_lent_to : (0 ≡ number_of c.seat) → ⊥
+  not_lent_to : (0 ≡ number_of c.frame_seat) → ⊥
   not_lent_to is = let a = tied.seats.frame_number in let b = tied.seats.some_number in omega (arith, a, b, is)
 
   no_one : ◌≡◌ {A = ℕ} 0 1 → ⊥
   no_one is = omega (arith, is)
 
-  pub take_visits : (blocks : List Block) → Visits t (side (record m { blocks = blocks; spots = slice_set m.spots f Free; seat = seat_with m.seat f (collected_from c.number) }) (record c { list = rest; seat = seat_with c.seat f gave_back }))
+  pub take_visits : (blocks : List Block) → Visits t (side (record m { blocks = blocks; spots = slice_set m.spots f Free; frame_seat = seat_with m.frame_seat f (collected_from c.number) }) (record c { list = rest; frame_seat = seat_with c.frame_seat f gave_back }))
   take_visits blocks = record {
     is_open = visit.is_open;
-    still = collected_is_still t m.seat c.seat c.number tied.seats.frame_number f visit.still (seat_with c.seat f gave_back)
-        (seat_with m.seat f (collected_from c.number)) refl refl;
+    still = collected_is_still t m.frame_seat c.frame_seat c.number tied.seats.frame_number f visit.still (seat_with c.frame_seat f gave_back)
+        (seat_with m.frame_seat f (collected_from c.number)) refl refl;
     lent = λ g inside. elim (cases_eq g f) [
-      | inl e ↦ subst (λ (h : ℕ). (IsLent (seat_with m.seat f (collected_from c.number)) h (number_of c.seat) → IsBorrowed (seat_with c.seat f gave_back) h)
-          × (IsBorrowed (seat_with c.seat f gave_back) h → IsLent (seat_with m.seat f (collected_from c.number)) h (number_of c.seat))) (sym e) (
-            λ a. absurd (not_lent_to (sym (ap (λ (k : FrameNote). k.lent) (note_here m.seat.view f (collected_from c.number))) ∙ a)),
-            λ a. absurd (no_one (sym (ap (λ (k : FrameNote). k.borrowed) (note_here c.seat.view f gave_back)) ∙ a)),
+      | inl e ↦ subst (λ (h : ℕ). (IsLent (seat_with m.frame_seat f (collected_from c.number)) h (number_of c.frame_seat) → IsBorrowed (seat_with c.frame_seat f gave_back) h)
+          × (IsBorrowed (seat_with c.frame_seat f gave_back) h → IsLent (seat_with m.frame_seat f (collected_from c.number)) h (number_of c.frame_seat))) (sym e) (
+            λ a. absurd (not_lent_to (sym (ap (λ (k : FrameNote). k.lent) (note_here m.frame_seat.view f (collected_from c.number))) ∙ a)),
+            λ a. absurd (no_one (sym (ap (λ (k : FrameNote). k.borrowed) (note_here c.frame_seat.view f gave_back)) ∙ a)),
           )
-      | inr ne ↦ subst (λ (k : FrameNote × FrameNote). (k.0.lent ≡ number_of c.seat → k.1.borrowed ≡ 1) × (k.1.borrowed ≡ 1 → k.0.lent ≡ number_of c.seat))
-          (λ i. (sym (note_else m.seat.view f g (collected_from c.number) ne) i, sym (note_else c.seat.view f g gave_back ne) i)) (visit.lent g inside)
+      | inr ne ↦ subst (λ (k : FrameNote × FrameNote). (k.0.lent ≡ number_of c.frame_seat → k.1.borrowed ≡ 1) × (k.1.borrowed ≡ 1 → k.0.lent ≡ number_of c.frame_seat))
+          (λ i. (sym (note_else m.frame_seat.view f g (collected_from c.number) ne) i, sym (note_else c.frame_seat.view f g gave_back ne) i)) (visit.lent g inside)
     ];
   }
 
-  same_phase : (g : ℕ) (y : Spot) → phase_of (record c { list = rest; seat = seat_with c.seat f gave_back }) g y ≡ phase_of c g y
+  same_phase : (g : ℕ) (y : Spot) → phase_of (record c { list = rest; frame_seat = seat_with c.frame_seat f gave_back }) g y ≡ phase_of c g y
   same_phase g Free = refl
   same_phase g (Lent q) = refl
   same_phase g (Head unit) = refl
   same_phase g (Tail h) = refl
 
   pub take_runs : (blocks : List Block) → MakesAs t c.number (side m c) (unlist_steps c.number f)
-      (side (record m { blocks = blocks; spots = slice_set m.spots f Free; seat = seat_with m.seat f (collected_from c.number) }) (record c { list = rest; seat = seat_with c.seat f gave_back }))
+      (side (record m { blocks = blocks; spots = slice_set m.spots f Free; frame_seat = seat_with m.frame_seat f (collected_from c.number) }) (record c { list = rest; frame_seat = seat_with c.frame_seat f gave_back }))
   take_runs blocks =
       let p = c.number in
       let s = local_of t m c in
-      let d : KnownCpu = record c { list = rest; seat = seat_with c.seat f gave_back } in
+      let d : KnownCpu = record c { list = rest; frame_seat = seat_with c.frame_seat f gave_back } in
       let was : s.phases f ≡ phase.Lent p OnList = ap (phase_of c f) is_lent_spot ∙ lent_listed c f p none_fresh in
-      let own : part_of m.stock c p ≡ part_with c.list c.fresh c.back (account_of m.stock.view p) = cond-true (p == p)
-      (part_with c.list c.fresh c.back (account_of m.stock.view p)) (part_with [] [] [] (account_of m.stock.view p)) (eq-eqb p p refl) in
+      let own : part_of m.stock_seat c p ≡ part_with c.list c.fresh c.back (account_of m.stock_seat.view p) = cond-true (p == p)
+      (part_with c.list c.fresh c.back (account_of m.stock_seat.view p)) (part_with [] [] [] (account_of m.stock_seat.view p)) (eq-eqb p p refl) in
       let framed : is_frame s.zone f ≡ true = lt-ltb f t.frames inside in
-      let fronted : (front_of (part_of m.stock c p).list == f) ≡ true =
+      let fronted : (front_of (part_of m.stock_seat c p).list == f) ≡ true =
       ap (λ (x : Part). front_of x.list == f) own ∙ ap (λ (l : List ℕ). front_of l == f) front ∙ eq-eqb f f refl in
       let listed : phases.has_as phases.ListFrame p (s.phases f) ≡ true = ap (phases.has_as phases.ListFrame p) was ∙ eq-eqb p p refl in
       let may_back : may_pass_back s p f ≡ true = or_left _ _ (or_left _ _ (and_from _ _ listed fronted)) in
       let may_pass : is_legal s p (PassBack f) ≡ true =
-      and_from _ _ (and_from _ _ (and_from _ _ (seated_cpu t c seated) framed) (visits_open m.seat p visit.is_open)) may_back in
+      and_from _ _ (and_from _ _ (and_from _ _ (seated_cpu t c seated) framed) (visits_open m.frame_seat p visit.is_open)) may_back in
       let mid : State = after s p (PassBack f) Done in
       let passing : mid.phases f ≡ phase.Lent p PassingBack = at_same s.phases f (phases.passed_back (s.phases f)) ∙ ap phases.passed_back was in
       let returns : phases.passes_back p (mid.phases f) ≡ true = ap (phases.passes_back p) passing ∙ eq-eqb p p refl in
       let may_collect : is_legal mid 0 (Collect f p) ≡ true =
-      and_from _ _ (and_from _ _ (and_from _ _ (zone_may_act m.seat p) framed) (seated_cpu t c seated)) returns in
+      and_from _ _ (and_from _ _ (and_from _ _ (zone_may_act m.frame_seat p) framed) (seated_cpu t c seated)) returns in
       let ph = phases_changed c d m.spots f Free (phases.passed_back (s.phases f)) (phases.collected (mid.phases f)) within
       (sym (ap phases.collected passing)) (λ g y ne. same_phase g y) in
-      let re = references_stay m.seat (seat_with m.seat f (collected_from p)) c.seat (seat_with c.seat f gave_back) p
-      (holds_same m.seat f (collected_from p) (λ k. refl)) (holds_same c.seat f gave_back (λ k. refl)) in
-      let gone : part_with rest c.fresh c.back (account_of m.stock.view p) ≡ without_frame (part_of m.stock c p) (s.phases f) p f =
+      let re = references_stay m.frame_seat (seat_with m.frame_seat f (collected_from p)) c.frame_seat (seat_with c.frame_seat f gave_back) p
+      (holds_same m.frame_seat f (collected_from p) (λ k. refl)) (holds_same c.frame_seat f gave_back (λ k. refl)) in
+      let gone : part_with rest c.fresh c.back (account_of m.stock_seat.view p) ≡ without_frame (part_of m.stock_seat c p) (s.phases f) p f =
       sym ((λ i. without_frame (own i) (was i) p f)
-      ∙ (λ i. record (part_with rest c.fresh c.back (account_of m.stock.view p)) {
+      ∙ (λ i. record (part_with rest c.fresh c.back (account_of m.stock_seat.view p)) {
         list = without_front f c.list rest front none_in_rest i;
         fresh = without_none f c.fresh none_fresh i;
         back = without_none f c.back none_back i;
       })) in
-      let pa = parts_changed m.stock c rest c.fresh c.back _ gone in
+      let pa = parts_changed m.stock_seat c rest c.fresh c.back _ gone in
       record {
         leads = (
           cpu_step s p (PassBack f) Done refl may_pass tt,
@@ -201,13 +201,13 @@ pub record AllTaken (t : KnownTable) (w : Words) (now : KnownMachine) (c : Known
 pub take_all : (t : KnownTable) (w : Words) (m now : KnownMachine) → m ≡ now → (c h d : KnownCpu) → IsTied t w c → IsConsistent t w m → Visits t (side now c)
     → (before free : List Bool) (k : ℕ) (blocks : List Block) (f i : ℕ) (seat : KnownSeat)
     → before ≡ free_of m.spots → k ≡ 0 → GivesFrames before (record { at = i; order = k }) free → AreMaximalBlocks free blocks
-    → f < t.frames → IsLent m.seat f c.number → i ≡ f → HandsFront f c h → seat ≡ seat_with m.seat f (collected_from h.number) → d ≡ h
-    → AllTaken t w now c (record m { blocks = blocks; spots = slice_set m.spots i Free; seat = seat }) d free
+    → f < t.frames → IsLent m.frame_seat f c.number → i ≡ f → HandsFront f c h → seat ≡ seat_with m.frame_seat f (collected_from h.number) → d ≡ h
+    → AllTaken t w now c (record m { blocks = blocks; spots = slice_set m.spots i Free; frame_seat = seat }) d free
 take_all t w m now same c h d tied ok visit_now before free k blocks f i seat was zero_is gives areas inside lent index hands collected stays =
     let visit : Visits t (side m c) = subst (λ (x : KnownMachine). Visits t (side x c)) (sym same) visit_now in
     let rest = hands.0 in
-    let e : KnownCpu = record c { list = rest; seat = seat_with c.seat f gave_back } in
-    let n : KnownMachine = record m { blocks = blocks; spots = slice_set m.spots f Free; seat = seat_with m.seat f (collected_from c.number) } in
+    let e : KnownCpu = record c { list = rest; frame_seat = seat_with c.frame_seat f gave_back } in
+    let n : KnownMachine = record m { blocks = blocks; spots = slice_set m.spots f Free; frame_seat = seat_with m.frame_seat f (collected_from c.number) } in
     let gives_f : GivesFrames before (record { at = f; order = 0 }) free =
     subst (λ (x : ℕ × ℕ). GivesFrames before (record { at = x.0; order = x.1 }) free) (λ j. (index j, zero_is j)) gives in
     let sized = ok.sizes.spots in
@@ -231,7 +231,7 @@ take_all t w m now same c h d tied ok visit_now before free k blocks f i seat wa
       record m {
         blocks = blocks;
         spots = slice_set m.spots (sym index j) Free;
-        seat = sym (collected ∙ ap (λ (x : ℕ). seat_with m.seat f (collected_from x)) number) j;
+        frame_seat = sym (collected ∙ ap (λ (x : ℕ). seat_with m.frame_seat f (collected_from x)) number) j;
       },
       sym (stays ∙ hands.2) j,
     )) all
@@ -239,23 +239,23 @@ take_all t w m now same c h d tied ok visit_now before free k blocks f i seat wa
 -- ---- what the steps on the way ask for
 
 -- the list is empty
-pub taken_none : (m now : KnownMachine) → m ≡ now → (c d : KnownCpu) (seat : KnownSeat) → (c.list ≡ []) × (d ≡ c) → seat ≡ m.seat
-    → TakesNoneBack (side now c) (side (record m { seat = seat }) d)
-taken_none m now same c d seat none is = record { none = none.0; stays = record { machine = (λ i. record m { seat = is i }) ∙ same; cpu = none.1 } }
+pub taken_none : (m now : KnownMachine) → m ≡ now → (c d : KnownCpu) (seat : KnownSeat) → (c.list ≡ []) × (d ≡ c) → seat ≡ m.frame_seat
+    → TakesNoneBack (side now c) (side (record m { frame_seat = seat }) d)
+taken_none m now same c d seat none is = record { none = none.0; stays = record { machine = (λ i. record m { frame_seat = is i }) ∙ same; cpu = none.1 } }
 
 -- the frame passes for the processor once it was handed
 pub passes_back_to : (t : KnownTable) (w : Words) (m now : KnownMachine) → m ≡ now → (c h : KnownCpu) → IsTied t w c → Visits t (side now c)
     → (f : ℕ) (seat : KnownSeat)
-    → f < t.frames → HandsFront f c h → seat ≡ m.seat → Passes seat h.seat f
+    → f < t.frames → HandsFront f c h → seat ≡ m.frame_seat → Passes seat h.frame_seat f
 passes_back_to t w m now same c h tied visit f seat inside hands is =
-    subst (λ (s : KnownSeat). Passes s h.seat f) (sym is)
-    (handed_passes t m.seat c.seat c.number tied.seats.frame_number f (subst (λ (x : KnownMachine). NothingPasses t x.seat c.seat)
-    (sym same) visit.still) h.seat
-    (ap (λ (x : KnownCpu). x.seat) hands.2) inside)
+    subst (λ (s : KnownSeat). Passes s h.frame_seat f) (sym is)
+    (handed_passes t m.frame_seat c.frame_seat c.number tied.seats.frame_number f (subst (λ (x : KnownMachine). NothingPasses t x.frame_seat c.frame_seat)
+    (sym same) visit.still) h.frame_seat
+    (ap (λ (x : KnownCpu). x.frame_seat) hands.2) inside)
 
 -- its frame may be given back
 pub may_give : (t : KnownTable) (w : Words) (m : KnownMachine) (c : KnownCpu) → IsTied t w c → IsConsistent t w m → (before : List Bool) (f i k : ℕ)
-    → before ≡ free_of m.spots → f < t.frames → IsLent m.seat f c.number → i ≡ f → k ≡ 0 → IsInUse before (record { at = i; order = k })
+    → before ≡ free_of m.spots → f < t.frames → IsLent m.frame_seat f c.number → i ≡ f → k ≡ 0 → IsInUse before (record { at = i; order = k })
 may_give t w m c tied ok before f i k was inside lent index zero_is =
     let sized = ok.sizes.spots in
     let within : f < length m.spots = omega (arith, inside, sized) in

@@ -30,7 +30,7 @@ use Rattle.step_rules.proofs.Basics.{at_same, at_other}
 use Rattle.step_rules.proofs.Placing.{within_cases}
 use Rattle.mem_machine.specs.declared.spot.Spot.{Spot}
 use Rattle.mem_machine.specs.declared.spot.Spot.TheVariants.{Free, Head, Tail}
-use Rattle.mem_machine.specs.Spots.{spot_at, is_free, is_in_hand, lent_to, free_of, group_of}
+use Rattle.mem_machine.specs.Spots.{spot_at, is_free, is_in_hand, lent_to, free_of, spot_group}
 use Rattle.mem_machine.specs.Machines.{KnownMachine, IsConsistent, Visits, is_killed}
 use Rattle.mem_machine.specs.Blocks.{PlacesUnit, TakesBlock, TakesNoBlock, taken_steps, unplaced_steps}
 use Rattle.mem_machine.specs.Local.{local_of, phase_of, side, MakesAs}
@@ -130,24 +130,24 @@ note_kept s f n h same x = elim (cases_eq x f) [
   | inr ne ↦ ap h (note_else s.view f x (unfrozen n) ne)
 ]
 
-pub unfrozen_visits : (t : KnownTable) (m n : KnownMachine) (c : KnownCpu) (f : ℕ) → n.seat ≡ seat_with m.seat f (unfrozen 1) → Visits t (side m c) → Visits t (side n c)
+pub unfrozen_visits : (t : KnownTable) (m n : KnownMachine) (c : KnownCpu) (f : ℕ) → n.frame_seat ≡ seat_with m.frame_seat f (unfrozen 1) → Visits t (side m c) → Visits t (side n c)
 unfrozen_visits t m n c f is visit =
-    let p = c.seat.view.number in
-    let out : (x : ℕ) → (note_of (seat_with m.seat f (unfrozen 1)).view x).passed_out ≡ (note_of m.seat.view x).passed_out =
-    note_kept m.seat f 1 (λ k. k.passed_out) (λ k. refl) in
-    let back : (x : ℕ) → (note_of (seat_with m.seat f (unfrozen 1)).view x).collected ≡ (note_of m.seat.view x).collected =
-    note_kept m.seat f 1 (λ k. k.collected) (λ k. refl) in
-    let lent : (x : ℕ) → (note_of (seat_with m.seat f (unfrozen 1)).view x).lent ≡ (note_of m.seat.view x).lent =
-    note_kept m.seat f 1 (λ k. k.lent) (λ k. refl) in
-    let still : NothingPasses t (seat_with m.seat f (unfrozen 1)) c.seat =
-    λ x inside. (λ i. slice_index (out x i) p + (note_of c.seat.view x).passed_back) ∙ visit.still x inside
-    ∙ (λ i. slice_index (sym (back x) i) p + (note_of c.seat.view x).taken_in) in
-    let borrowed : LentIsBorrowed t (seat_with m.seat f (unfrozen 1)) c.seat =
+    let p = c.frame_seat.view.number in
+    let out : (x : ℕ) → (note_of (seat_with m.frame_seat f (unfrozen 1)).view x).passed_out ≡ (note_of m.frame_seat.view x).passed_out =
+    note_kept m.frame_seat f 1 (λ k. k.passed_out) (λ k. refl) in
+    let back : (x : ℕ) → (note_of (seat_with m.frame_seat f (unfrozen 1)).view x).collected ≡ (note_of m.frame_seat.view x).collected =
+    note_kept m.frame_seat f 1 (λ k. k.collected) (λ k. refl) in
+    let lent : (x : ℕ) → (note_of (seat_with m.frame_seat f (unfrozen 1)).view x).lent ≡ (note_of m.frame_seat.view x).lent =
+    note_kept m.frame_seat f 1 (λ k. k.lent) (λ k. refl) in
+    let still : NothingPasses t (seat_with m.frame_seat f (unfrozen 1)) c.frame_seat =
+    λ x inside. (λ i. slice_index (out x i) p + (note_of c.frame_seat.view x).passed_back) ∙ visit.still x inside
+    ∙ (λ i. slice_index (sym (back x) i) p + (note_of c.frame_seat.view x).taken_in) in
+    let borrowed : LentIsBorrowed t (seat_with m.frame_seat f (unfrozen 1)) c.frame_seat =
     λ x inside. let old = visit.lent x inside in (λ a. old.0 (sym (lent x) ∙ a), λ a. lent x ∙ old.1 a) in
     record {
       is_open = ap (λ (s : KnownSeat). slice_index s.view.opened c.number) is ∙ visit.is_open;
-      still = subst (λ (s : KnownSeat). NothingPasses t s c.seat) (sym is) still;
-      lent = subst (λ (s : KnownSeat). LentIsBorrowed t s c.seat) (sym is) borrowed;
+      still = subst (λ (s : KnownSeat). NothingPasses t s c.frame_seat) (sym is) still;
+      lent = subst (λ (s : KnownSeat). LentIsBorrowed t s c.frame_seat) (sym is) borrowed;
     }
 
 one_more_reference : (s : KnownSeat) (f x : ℕ) → holds (seat_with s f (unfrozen 1)) x ≡ with_at (holds s) f (holds s f + 1) x
@@ -159,10 +159,10 @@ one_more_reference s f x = elim (cases_eq x f) [
 
 -- the frame that the zone finds free is in its hand
 pub free_in_hand : (t : KnownTable) (w : Words) (m : KnownMachine) → IsConsistent t w m → (f g : ℕ) → f < length m.spots → spot_at m.spots f ≡ Free → g ≡ f
-    → IsInOwnHand m.seat g
+    → IsInOwnHand m.frame_seat g
 free_in_hand t w m ok f g inside is named =
     let s = ok.sizes.spots in
-    subst (λ (x : ℕ). IsInOwnHand m.seat x) (sym named) ((ok.spots f (omega (arith, s, inside))).own ∙ ap (λ (x : Spot). one_if (is_in_hand x)) is)
+    subst (λ (x : ℕ). IsInOwnHand m.frame_seat x) (sym named) ((ok.spots f (omega (arith, s, inside))).own ∙ ap (λ (x : Spot). one_if (is_in_hand x)) is)
 
 -- ---- all of it
 
@@ -189,8 +189,8 @@ taken_machine m g b blocks spots links lists = record {
   ledger = with_charge m.ledger g (2 ^ b.order);
   links = links;
   lists = lists;
-  seat = seat_with m.seat b.at (unfrozen 1);
-  stock = m.stock;
+  frame_seat = seat_with m.frame_seat b.at (unfrozen 1);
+  stock_seat = m.stock_seat;
   killed = m.killed;
   counts = m.counts;
   notes = m.notes;
@@ -199,7 +199,7 @@ taken_machine m g b blocks spots links lists = record {
 taken_here : (t : KnownTable) (w : Words) (m : KnownMachine) (c : KnownCpu) → IsConsistent t w m → AreCharges m.ledger → (g : ℕ) → g < 64 → (b : Block)
     → MayTake t m c g → PathHasRoom m.ledger.groups (current_of m.ledger) g (2 ^ b.order) → PagesRise m.ledger (with_charge m.ledger g (2 ^ b.order)) g (2 ^ b.order)
     → (before free : List Bool) (blocks : List Block) → before ≡ free_of m.spots → IsFrontOfSmallest m.blocks b.order b → TakesFrames before b free
-    → AreMaximalBlocks free blocks → (spots : List Spot) → PlacesUnit g b m.spots spots → holds m.seat b.at ≡ 0
+    → AreMaximalBlocks free blocks → (spots : List Spot) → PlacesUnit g b m.spots spots → holds m.frame_seat b.at ≡ 0
     → (links : List Link) (lists : List Lru) → AllJoin m.links m.lists g b.at links lists
     → AllTaken t w m c g b.order b.at (taken_machine m g b blocks spots links lists) c free
 taken_here t w m c ok facts g fits b may room rise before free blocks was front takes areas spots placed unreferred links lists joined =
@@ -211,12 +211,12 @@ taken_here t w m c ok facts g fits b may room rise before free blocks was front 
     let inside : b.at < t.frames = let h = head_inside m.spots m.blocks ok.areas before free was b.order b front takes in omega (arith, h, sized) in
     let frees : free ≡ free_of spots = free_then m.spots m.blocks ok.areas before free was b.order b front takes spots g placed in
     let maximal : AreMaximalBlocks (free_of spots) blocks = subst (λ (l : List Bool). AreMaximalBlocks l blocks) frees areas in
-    let used : IsUsed (unfrozen 1 (note_of m.seat.view b.at)) = record {
+    let used : IsUsed (unfrozen 1 (note_of m.frame_seat.view b.at)) = record {
       own = refl;
-      lent = no_cpu_is (note_of m.seat.view b.at).lent ((ok.spots b.at inside).lent ∙ ap lent_to head);
-      references = let r : (note_of m.seat.view b.at).references ≡ 0 = unreferred in omega (arith, r);
+      lent = no_cpu_is (note_of m.frame_seat.view b.at).lent ((ok.spots b.at inside).lent ∙ ap lent_to head);
+      references = let r : (note_of m.frame_seat.view b.at).references ≡ 0 = unreferred in omega (arith, r);
     } in
-    let joins : JoinsCharges t w m g (2 ^ b.order) spots blocks (with_charge m.ledger g (2 ^ b.order)) m.stock = record {
+    let joins : JoinsCharges t w m g (2 ^ b.order) spots blocks (with_charge m.ledger g (2 ^ b.order)) m.stock_seat = record {
       areas = maximal;
       table = ok.seats.table;
       stocks = ok.seats.stocks;
@@ -225,8 +225,8 @@ taken_here t w m c ok facts g fits b may room rise before free blocks was front 
       charged = λ h. let a = rise h in let old = ok.charged h in omega (arith, a, old);
     } in
     record {
-      consistent = unit_kept t w m ok g fits b block spots placed (ap group_of head) (λ x low high ne. were_free x low high) links lists joined
-          (unfrozen 1) used blocks (with_charge m.ledger g (2 ^ b.order)) m.stock m.counts joins ok.balances;
+      consistent = unit_kept t w m ok g fits b block spots placed (ap spot_group head) (λ x low high ne. were_free x low high) links lists joined
+          (unfrozen 1) used blocks (with_charge m.ledger g (2 ^ b.order)) m.stock_seat m.counts joins ok.balances;
       free_is = frees;
       takes = record {
         room = room;
@@ -240,11 +240,11 @@ taken_here t w m c ok facts g fits b may room rise before free blocks was front 
       steps = taken_run t m c g b may.there may.alive may.usage room inside (seen_free t m c sized b block were_free) (ap (times b.at) may.none_back) n
           (record {
             spots = placed.records;
-            references = one_more_reference m.seat b.at;
+            references = one_more_reference m.frame_seat b.at;
             hold = refl;
             groups = refl;
             killed = refl;
-            stock = refl;
+            stock_seat = refl;
           }) facts (λ h. refl) (same_events (with_charge m.ledger g (2 ^ b.order)));
     }
 
@@ -252,9 +252,9 @@ pub taken_all : (t : KnownTable) (w : Words) (m now : KnownMachine) → m ≡ no
     → (k pages : ℕ) → pages ≡ 2 ^ k → MayTake t now c g → PathHasRoom m.ledger.groups (current_of m.ledger) g pages → (ledger : Ledger) → ledger ≡ with_charge m.ledger g pages
     → PagesRise m.ledger ledger g pages → (before free : List Bool) (b : Block) (blocks : List Block) → before ≡ free_of m.spots
     → IsFrontOfSmallest m.blocks k b → TakesFrames before b free → AreMaximalBlocks free blocks → (spots : List Spot) → PlacesUnit g b m.spots spots
-    → (f u : ℕ) → f ≡ b.at → u ≡ f → holds m.seat f ≡ 0 → (seat : KnownSeat) → seat ≡ seat_with m.seat f (unfrozen 1)
+    → (f u : ℕ) → f ≡ b.at → u ≡ f → holds m.frame_seat f ≡ 0 → (seat : KnownSeat) → seat ≡ seat_with m.frame_seat f (unfrozen 1)
     → (links : List Link) (lists : List Lru) → AllJoin m.links m.lists g u links lists
-    → AllTaken t w now c g k f (record m { blocks = blocks; spots = spots; ledger = ledger; links = links; lists = lists; seat = seat }) d free
+    → AllTaken t w now c g k f (record m { blocks = blocks; spots = spots; ledger = ledger; links = links; lists = lists; frame_seat = seat }) d free
 taken_all t w m now same c d stays ok facts g fits k pages size may room ledger charged rise before free b blocks was front takes areas spots placed f u at unit
     unreferred seat seat_is links lists joined =
     let order : k ≡ b.order = sym front.order_is in
@@ -266,9 +266,9 @@ taken_all t w m now same c d stays ok facts g fits k pages size may room ledger 
     let rise_here : PagesRise m.ledger (with_charge m.ledger g (2 ^ b.order)) g (2 ^ b.order) =
     subst (λ (x : Ledger × ℕ). PagesRise m.ledger x.0 g x.1) (λ j. (ledger_is j, so_many j)) rise in
     let front_here : IsFrontOfSmallest m.blocks b.order b = subst (λ (x : ℕ). IsFrontOfSmallest m.blocks x b) order front in
-    let unreferred_here : holds m.seat b.at ≡ 0 = subst (λ (x : ℕ). holds m.seat x ≡ 0) at unreferred in
+    let unreferred_here : holds m.frame_seat b.at ≡ 0 = subst (λ (x : ℕ). holds m.frame_seat x ≡ 0) at unreferred in
     let joined_here : AllJoin m.links m.lists g b.at links lists = subst (λ (x : ℕ). AllJoin m.links m.lists g x links lists) (unit ∙ at) joined in
-    let seat_here : seat ≡ seat_with m.seat b.at (unfrozen 1) = seat_is ∙ ap (λ (x : ℕ). seat_with m.seat x (unfrozen 1)) at in
+    let seat_here : seat ≡ seat_with m.frame_seat b.at (unfrozen 1) = seat_is ∙ ap (λ (x : ℕ). seat_with m.frame_seat x (unfrozen 1)) at in
     subst (λ (x : KnownMachine × KnownMachine × KnownCpu × ℕ × ℕ). AllTaken t w x.0 c g x.3 x.4 x.1 x.2 free)
     (λ j. (
       same j,
@@ -278,7 +278,7 @@ taken_all t w m now same c d stays ok facts g fits k pages size may room ledger 
         ledger = sym ledger_is j;
         links = links;
         lists = lists;
-        seat = sym seat_here j;
+        frame_seat = sym seat_here j;
       },
       sym stays j,
       sym order j,

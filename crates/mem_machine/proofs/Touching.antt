@@ -50,7 +50,7 @@ module _ (t : KnownTable) (w : Words) (m : KnownMachine) (ok : IsConsistent t w 
     };
     seats = ok.seats;
     areas = ok.areas;
-    spots = λ g within. fits_home t.cpus (note_of m.seat.view g) (home_of m.links g) (home_of links g) (spot_at m.spots g) (owners g) (ok.spots g within);
+    spots = λ g within. fits_home t.cpus (note_of m.frame_seat.view g) (home_of m.links g) (home_of links g) (spot_at m.spots g) (owners g) (ok.spots g within);
     units = ok.units;
     lists = all_stand;
     absorbed = ok.absorbed;

@@ -9,7 +9,7 @@ use Rattle.step_rules.specs.After.{is_within}
 use Rattle.step_rules.proofs.Placing.{within_cases}
 use Rattle.mem_machine.specs.declared.spot.Spot.{Spot}
 use Rattle.mem_machine.specs.declared.spot.Spot.TheVariants.{Head, Tail}
-use Rattle.mem_machine.specs.Spots.{spot_at, group_of, head_group_of, AreUnits, IsUnitAt, IsTailOf}
+use Rattle.mem_machine.specs.Spots.{spot_at, spot_group, head_group_of, AreUnits, IsUnitAt, IsTailOf}
 use Rattle.mem_machine.specs.Blocks.{PlacesUnit}
 use Rattle.mem_machine.proofs.PlacesUnits.{head_of_block, tail_of_block, off_block}
 
@@ -23,7 +23,7 @@ told_group (Tail g) = g
 told_group x = 0
 
 module _ (old new : List Spot) (g : ℕ) (b : Block) (placed : PlacesUnit g b old new) (block : IsBlock (length old) b)
-    (uncharged : (f : ℕ) → b.at ≤ f → f < b.at + 2 ^ b.order → group_of (spot_at old f) ≡ None) (units : AreUnits old) where
+    (uncharged : (f : ℕ) → b.at ≤ f → f < b.at + 2 ^ b.order → spot_group (spot_at old f) ≡ None) (units : AreUnits old) where
   abbrev mine : ChargedUnit
   mine = record { group = g; order = b.order }
 
@@ -41,13 +41,13 @@ module _ (old new : List Spot) (g : ℕ) (b : Block) (placed : PlacesUnit g b ol
 
   tail_stays : (x h : ℕ) → spot_at old x ≡ Tail h → spot_at new x ≡ Tail h
   tail_stays x h is = elim (within_cases b.at (2 ^ b.order) x) [
-    | inl w ↦ absurd (none-some h (sym (uncharged x w.1 w.2) ∙ ap group_of is))
+    | inl w ↦ absurd (none-some h (sym (uncharged x w.1 w.2) ∙ ap spot_group is))
     | inr out ↦ spot_out x out.0 ∙ is
   ]
 
   head_stays : (x : ℕ) (unit : ChargedUnit) → spot_at old x ≡ Head unit → spot_at new x ≡ Head unit
   head_stays x unit is = elim (within_cases b.at (2 ^ b.order) x) [
-    | inl w ↦ absurd (none-some unit.group (sym (uncharged x w.1 w.2) ∙ ap group_of is))
+    | inl w ↦ absurd (none-some unit.group (sym (uncharged x w.1 w.2) ∙ ap spot_group is))
     | inr out ↦ spot_out x out.0 ∙ is
   ]
 

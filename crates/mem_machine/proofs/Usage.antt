@@ -28,7 +28,7 @@ use Rattle.step_rules.proofs.Sums.{sum_same, sum_none, sum_both, sum_only}
 use Rattle.step_rules.proofs.Lists as steps
 use Rattle.mem_machine.specs.declared.spot.Spot.{Spot}
 use Rattle.mem_machine.specs.declared.spot.Spot.TheVariants.{Free, Lent, Head, Tail}
-use Rattle.mem_machine.specs.Spots.{spot_at, some_cpu, group_of}
+use Rattle.mem_machine.specs.Spots.{spot_at, some_cpu, spot_group}
 use Rattle.mem_machine.specs.Machines.{KnownMachine, IsConsistent}
 use Rattle.mem_machine.specs.Local.{number_or_0, fresh_group, phase_of, part_with, part_of, local_of}
 use Rattle.mem_machine.proofs.Ledgers.{cond_zero, cond_one, cond_sum, ledger_side}
@@ -47,12 +47,12 @@ as_steps f (x ∷ xs) =
 -- what a look at the caller's stock shows, and what is so where no frame is fresh: its book is of the group of the stock that it
 -- saw last, if there is a fresh frame, and has its fresh pages
 pub record IsBalanced (m : KnownMachine) (c : KnownCpu) : Type 0 where
-  pub group : (length c.fresh ≡ 0) ⊎ ((account_of m.stock.view c.number).group ≡ stocks.group_of c.stock.view.last)
-  pub covers : length c.fresh ≤ (account_of m.stock.view c.number).book
-  pub none_fresh : stocks.group_of c.stock.view.last ≡ None → length c.fresh ≡ 0
+  pub group : (length c.fresh ≡ 0) ⊎ ((account_of m.stock_seat.view c.number).group ≡ stocks.group_of c.stock_seat.view.last)
+  pub covers : length c.fresh ≤ (account_of m.stock_seat.view c.number).book
+  pub none_fresh : stocks.group_of c.stock_seat.view.last ≡ None → length c.fresh ≡ 0
 
 module _ (t : KnownTable) (w : Words) (m : KnownMachine) (c : KnownCpu) (is : IsConsistent t w m) (charges : AreCharges m.ledger)
-    (lent : LentIsBorrowed t m.seat c.seat) (tied : IsTied t w c) (balanced : IsBalanced m c) (g : ℕ) where
+    (lent : LentIsBorrowed t m.frame_seat c.frame_seat) (tied : IsTied t w c) (balanced : IsBalanced m c) (g : ℕ) where
   abbrev groups : List Group
   groups = m.ledger.groups
 
@@ -60,7 +60,7 @@ module _ (t : KnownTable) (w : Words) (m : KnownMachine) (c : KnownCpu) (is : Is
   spot f = spot_at m.spots f
 
   abbrev book : ℕ → Book
-  book p = account_of m.stock.view p
+  book p = account_of m.stock_seat.view p
 
   -- a fresh frame is lent to the caller
   fresh_lent : (f : ℕ) → f < t.frames → 1 ≤ times f c.fresh → (spot f ≡ Lent c.number) × (times f c.fresh ≡ 1)
@@ -69,7 +69,7 @@ module _ (t : KnownTable) (w : Words) (m : KnownMachine) (c : KnownCpu) (is : Is
       let once = noted.once in
       let one : times f c.fresh ≡ 1 = omega arith in
       let borrowed_is = noted.borrowed_is in
-      let borrowed : (note_of c.seat.view f).borrowed ≡ 1 = omega arith in
+      let borrowed : (note_of c.frame_seat.view f).borrowed ≡ 1 = omega arith in
       let to = (lent f inside).1 borrowed in
       (lent_spot (spot f) c.number tied.seats.some_number (ap some_cpu (sym (to ∙ tied.seats.frame_number)) ∙ (is.spots f inside).lent), one)
 
@@ -82,18 +82,18 @@ module _ (t : KnownTable) (w : Words) (m : KnownMachine) (c : KnownCpu) (is : Is
   back_keeper false u q = refl
 
   -- a frame that isn't fresh counts for the group that it is charged to
-  keeper_plain : (f : ℕ) (x : Spot) → nat_le 1 (times f c.fresh) ≡ false → keeper_of (phase_of c f x) ≡ group_of x
+  keeper_plain : (f : ℕ) (x : Spot) → nat_le 1 (times f c.fresh) ≡ false → keeper_of (phase_of c f x) ≡ spot_group x
   keeper_plain f Free e = refl
   keeper_plain f (Lent q) e = lent_keeper (q == c.number) (nat_le 1 (times f c.fresh)) (record { group = fresh_group c; order = 0 }) q e
   keeper_plain f (Head unit) e = back_keeper (nat_le 1 (times f c.back)) unit c.number
   keeper_plain f (Tail h) e = refl
 
   kept_each : (f : ℕ) → f < t.frames → one_if (is_below groups g (keeper_of (phase_of c f (spot f))))
-      ≡ one_if (is_below groups g (group_of (spot f))) + cond (in_subtree groups g (fresh_group c)) (times f c.fresh) 0
+      ≡ one_if (is_below groups g (spot_group (spot f))) + cond (in_subtree groups g (fresh_group c)) (times f c.fresh) 0
   kept_each f inside = elim (cases_lt (times f c.fresh) 1) [
     | inl none ↦
         let zero_is : times f c.fresh ≡ 0 = omega arith in
-        let a : one_if (is_below groups g (keeper_of (phase_of c f (spot f)))) ≡ one_if (is_below groups g (group_of (spot f))) =
+        let a : one_if (is_below groups g (keeper_of (phase_of c f (spot f)))) ≡ one_if (is_below groups g (spot_group (spot f))) =
         ap (λ (o : Option ℕ). one_if (is_below groups g o)) (keeper_plain f (spot f) (ap (λ (n : ℕ). nat_le 1 n) zero_is)) in
         let b : cond (in_subtree groups g (fresh_group c)) (times f c.fresh) 0 ≡ 0 =
         ap (λ (n : ℕ). cond (in_subtree groups g (fresh_group c)) n 0) zero_is ∙ cond_zero (in_subtree groups g (fresh_group c)) in
@@ -107,7 +107,7 @@ module _ (t : KnownTable) (w : Words) (m : KnownMachine) (c : KnownCpu) (is : Is
         ap (λ (x : Spot). one_if (is_below groups g (keeper_of (phase_of c f x)))) both.0
         ∙ ap (λ (b : Bool). one_if (is_below groups g (keeper_of (cond b (phase.Head (record { group = fresh_group c; order = 0 }) (FreshAt p))
         (phase.Lent p OnList))))) test in
-        let b : one_if (is_below groups g (group_of (spot f))) ≡ 0 = ap (λ (x : Spot). one_if (is_below groups g (group_of x))) both.0 in
+        let b : one_if (is_below groups g (spot_group (spot f))) ≡ 0 = ap (λ (x : Spot). one_if (is_below groups g (spot_group x))) both.0 in
         let d : cond (in_subtree groups g (fresh_group c)) (times f c.fresh) 0 ≡ one_if (in_subtree groups g (fresh_group c)) =
         ap (λ (n : ℕ). cond (in_subtree groups g (fresh_group c)) n 0) both.1 ∙ cond_one (in_subtree groups g (fresh_group c)) in
         omega arith
@@ -124,15 +124,15 @@ module _ (t : KnownTable) (w : Words) (m : KnownMachine) (c : KnownCpu) (is : Is
       (sum_same t.frames (λ f. times f c.fresh) (λ f. steps.times f c.fresh) (λ f lt. as_steps f c.fresh)
       ∙ steps.count_length t.frames c.fresh (λ f beyond. let none = (tied.noted f).in_table beyond in let same = as_steps f c.fresh in omega arith))
 
-  kept : frames_kept groups (λ f. phase_of c f (spot f)) t.frames g ≡ sum_to t.frames (λ f. one_if (is_below groups g (group_of (spot f)))) + fresh_pages
+  kept : frames_kept groups (λ f. phase_of c f (spot f)) t.frames g ≡ sum_to t.frames (λ f. one_if (is_below groups g (spot_group (spot f)))) + fresh_pages
   kept =
       let a = sum_same t.frames _ _ kept_each in
-      let b = sum_both t.frames (λ f. one_if (is_below groups g (group_of (spot f)))) (λ f. cond (in_subtree groups g (fresh_group c)) (times f c.fresh) 0) in
+      let b = sum_both t.frames (λ f. one_if (is_below groups g (spot_group (spot f)))) (λ f. cond (in_subtree groups g (fresh_group c)) (times f c.fresh) 0) in
       let d = fresh_counted in
       omega arith
 
   -- the fresh pages of a stock of this group, where it counts
-  fresh_of : (account_of m.stock.view c.number).group ≡ stocks.group_of c.stock.view.last → (o : Option ℕ) → (account_of m.stock.view c.number).group ≡ o
+  fresh_of : (account_of m.stock_seat.view c.number).group ≡ stocks.group_of c.stock_seat.view.last → (o : Option ℕ) → (account_of m.stock_seat.view c.number).group ≡ o
       → cond (is_below groups g o) (length c.fresh) 0 ≡ cond (in_subtree groups g (number_or_0 o)) (length c.fresh) 0
   fresh_of group None e =
       let none : length c.fresh ≡ 0 = balanced.none_fresh (sym group ∙ e) in
@@ -158,31 +158,31 @@ module _ (t : KnownTable) (w : Words) (m : KnownMachine) (c : KnownCpu) (is : Is
   own_part false x k n e h = refl
 
   stock_each : (q : ℕ) → cond (is_below groups g (book q).group) (book q).book 0
-      ≡ stock_below groups g (part_of m.stock c q) + cond (q == c.number) fresh_pages 0
+      ≡ stock_below groups g (part_of m.stock_seat c q) + cond (q == c.number) fresh_pages 0
   stock_each q = elim (cases_eq q c.number) [
     | inl e ↦
-        let mine : stock_below groups g (part_of m.stock c q) ≡ stock_below groups g (part_with c.list c.fresh c.back (book q)) =
+        let mine : stock_below groups g (part_of m.stock_seat c q) ≡ stock_below groups g (part_with c.list c.fresh c.back (book q)) =
         ap (λ (b : Bool). stock_below groups g (cond b (part_with c.list c.fresh c.back (book q)) (part_with [] [] [] (book q)))) (eq-eqb q c.number e) in
         let covers : length c.fresh ≤ (book q).book = subst (λ (p : ℕ). length c.fresh ≤ (book p).book) (sym e) balanced.covers in
-        let a = own_part (is_below groups g (book q).group) (book q).book (length c.fresh) (book q).noted (is.absorbed q) covers in
+        let a = own_part (is_below groups g (book q).group) (book q).book (length c.fresh) (book q).unabsorbed (is.absorbed q) covers in
         let b : cond (is_below groups g (book q).group) (length c.fresh) 0 ≡ fresh_pages =
         ap (λ (p : ℕ). cond (is_below groups g (book p).group) (length c.fresh) 0) e ∙ fresh_is in
         let d : cond (q == c.number) fresh_pages 0 ≡ fresh_pages = ap (λ (b : Bool). cond b fresh_pages 0) (eq-eqb q c.number e) in
         omega arith
     | inr ne ↦
-        let other : stock_below groups g (part_of m.stock c q) ≡ stock_below groups g (part_with [] [] [] (book q)) =
+        let other : stock_below groups g (part_of m.stock_seat c q) ≡ stock_below groups g (part_with [] [] [] (book q)) =
         ap (λ (b : Bool). stock_below groups g (cond b (part_with c.list c.fresh c.back (book q)) (part_with [] [] [] (book q)))) (ne_eqb q c.number ne) in
-        let a = plain_part (is_below groups g (book q).group) (book q).book (book q).noted (is.absorbed q) in
+        let a = plain_part (is_below groups g (book q).group) (book q).book (book q).unabsorbed (is.absorbed q) in
         let d : cond (q == c.number) fresh_pages 0 ≡ 0 = ap (λ (b : Bool). cond b fresh_pages 0) (ne_eqb q c.number ne) in
         omega arith
   ]
 
   prepaid : sum_to (t.cpus + 1) (λ q. cond (is_below groups g (book q).group) (book q).book 0)
-      ≡ pages_prepaid groups (part_of m.stock c) t.cpus g + fresh_pages
+      ≡ pages_prepaid groups (part_of m.stock_seat c) t.cpus g + fresh_pages
   prepaid =
       let high = tied.seats.frame_cpus in
       let a = sum_same (t.cpus + 1) _ _ (λ q lt. stock_each q) in
-      let b = sum_both (t.cpus + 1) (λ q. stock_below groups g (part_of m.stock c q)) (λ q. cond (q == c.number) fresh_pages 0) in
+      let b = sum_both (t.cpus + 1) (λ q. stock_below groups g (part_of m.stock_seat c q)) (λ q. cond (q == c.number) fresh_pages 0) in
       let one = sum_only (t.cpus + 1) (λ q. cond (q == c.number) fresh_pages 0) c.number (omega arith)
       (λ q lt ne. ap (λ (b : Bool). cond b fresh_pages 0) (ne_eqb q c.number ne)) in
       let value : cond (c.number == c.number) fresh_pages 0 ≡ fresh_pages = ap (λ (b : Bool). cond b fresh_pages 0) (eq-eqb c.number c.number refl) in
@@ -213,14 +213,14 @@ no_group (stock_is.HeldBy h n) e = absurd (none-some h (sym e))
 no_group (stock_is.DrainedOf h) e = absurd (none-some h (sym e))
 
 pub looked : (t : KnownTable) (w : Words) (m : KnownMachine) (c : KnownCpu) (stock : Stock) → IsTied t w c
-    → (account_of m.stock.view c.number).book ≡ stocks.pages_of stock + c.stock.view.fresh + (account_of m.stock.view c.number).noted
-    → stocks.group_of stock ≡ (account_of m.stock.view c.number).group
-    → (stock ≡ c.stock.view.last) ⊎ (stock ≡ stocks.drained_of c.stock.view.last)
-    → (c.stock.view.last ≡ stock_is.NoGroup → c.fresh ≡ []) → IsBalanced m c
+    → (account_of m.stock_seat.view c.number).book ≡ stocks.pages_of stock + c.stock_seat.view.fresh + (account_of m.stock_seat.view c.number).unabsorbed
+    → stocks.group_of stock ≡ (account_of m.stock_seat.view c.number).group
+    → (stock ≡ c.stock_seat.view.last) ⊎ (stock ≡ stocks.drained_of c.stock_seat.view.last)
+    → (c.stock_seat.view.last ≡ stock_is.NoGroup → c.fresh ≡ []) → IsBalanced m c
 looked t w m c stock tied book group last none = record {
-  group = inr (sym group ∙ seen_group stock c.stock.view.last last);
+  group = inr (sym group ∙ seen_group stock c.stock_seat.view.last last);
   covers = let pages = tied.within.pages_are in omega arith;
-  none_fresh = λ e. ap length (none (no_group c.stock.view.last e));
+  none_fresh = λ e. ap length (none (no_group c.stock_seat.view.last e));
 }
 
 -- without fresh frames no look is wanted
@@ -229,7 +229,7 @@ balanced_alone m c none = record { group = inl (ap length none); covers = let ze
 
 -- the same, of the machine as it was seen before the look
 pub usage_seen : (t : KnownTable) (w : Words) (m now : KnownMachine) → m ≡ now → (c : KnownCpu) → IsConsistent t w m → AreCharges m.ledger
-    → LentIsBorrowed t now.seat c.seat → IsTied t w c → IsBalanced m c → (g : ℕ) → usage_of (local_of t now c) g ≡ current_of now.ledger g
+    → LentIsBorrowed t now.frame_seat c.frame_seat → IsTied t w c → IsBalanced m c → (g : ℕ) → usage_of (local_of t now c) g ≡ current_of now.ledger g
 usage_seen t w m now same c is charges lent tied balanced g =
     subst (λ (k : KnownMachine). usage_of (local_of t k c) g ≡ current_of k.ledger g) same
-    (usage_is t w m c is charges (subst (λ (k : KnownMachine). LentIsBorrowed t k.seat c.seat) (sym same) lent) tied balanced g)
+    (usage_is t w m c is charges (subst (λ (k : KnownMachine). LentIsBorrowed t k.frame_seat c.frame_seat) (sym same) lent) tied balanced g)

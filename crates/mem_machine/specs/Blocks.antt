@@ -66,7 +66,7 @@ pub record TakesBlock (group order at : ℕ) (before after : KnownMachine) : Typ
     ledger = with_charge before.ledger group (2 ^ order);
     links = after.links;
     lists = after.lists;
-    seat = seat_with before.seat at (unfrozen 1);
+    frame_seat = seat_with before.frame_seat at (unfrozen 1);
   }
 
 -- there is no free block of the order or above: the pages were charged and went back, so that the peaks alone may be

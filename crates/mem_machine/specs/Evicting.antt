@@ -22,7 +22,7 @@ pub record MissesUnit (frame : ℕ) (before after : KnownMachine) : Type 0 where
   pub word : ℕ
   pub others : word ≢ 1
   pub machine : after ≡ record before {
-    seat = seat_with before.seat frame (missed word);
+    frame_seat = seat_with before.frame_seat frame (missed word);
     counts = with_miss before.counts;
   }
 
@@ -43,7 +43,7 @@ pub record EvictsUnit (frame pages : ℕ) (before after : KnownMachine) : Type 0
     ledger = with_uncharge before.ledger unit.group (2 ^ unit.order);
     links = after.links;
     lists = after.lists;
-    seat = seat_with before.seat frame (frozen 1);
+    frame_seat = seat_with before.frame_seat frame (frozen 1);
     counts = with_freeze before.counts;
   }
 

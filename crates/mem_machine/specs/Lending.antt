@@ -19,11 +19,11 @@ pub record LendsFrame (frame : ℕ) (before after : Side) : Type 0 where
   pub machine : after.machine ≡ record before.machine {
     blocks = after.machine.blocks;
     spots = slice_set before.machine.spots frame (Lent before.cpu.number);
-    seat = seat_with before.machine.seat frame (passed_out_to before.cpu.number);
+    frame_seat = seat_with before.machine.frame_seat frame (passed_out_to before.cpu.number);
   }
   pub cpu : after.cpu ≡ record before.cpu {
     list = before.cpu.list ++ frame ∷ [];
-    seat = seat_with before.cpu.seat frame took_in;
+    frame_seat = seat_with before.cpu.frame_seat frame took_in;
   }
 
 -- the frame, the free one of the least sufficient order that has the least address, is at the end of the processor's
@@ -71,9 +71,9 @@ pub record TakesOneBack (frame : ℕ) (before after : Side) : Type 0 where
   pub machine : after.machine ≡ record before.machine {
     blocks = after.machine.blocks;
     spots = slice_set before.machine.spots frame Free;
-    seat = seat_with before.machine.seat frame (collected_from before.cpu.number);
+    frame_seat = seat_with before.machine.frame_seat frame (collected_from before.cpu.number);
   }
-  pub cpu : after.cpu ≡ record before.cpu { list = rest; seat = seat_with before.cpu.seat frame gave_back }
+  pub cpu : after.cpu ≡ record before.cpu { list = rest; frame_seat = seat_with before.cpu.frame_seat frame gave_back }
 
 -- the list is empty, and nothing changed
 pub record TakesNoneBack (before after : Side) : Type 0 where

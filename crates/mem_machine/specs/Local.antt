@@ -31,7 +31,7 @@ number_or_0 (Some number) = number
 
 -- the group that the processor's fresh frames are of
 abbrev pub fresh_group : KnownCpu → ℕ
-fresh_group cpu = number_or_0 (stocks.group_of cpu.stock.view.last)
+fresh_group cpu = number_or_0 (stocks.group_of cpu.stock_seat.view.last)
 
 -- the phase of the frame with this record, to the processor: a frame lent to it is fresh or listed, and a unit with its
 -- own last put is in its hand
@@ -52,14 +52,14 @@ part_with list fresh back account = record {
   list = list;
   fresh = fresh;
   back = back;
-  stock = record {
+  stock_seat = record {
     group = account.group;
-    pages = account.book - length fresh - account.noted;
+    pages = account.book - length fresh - account.unabsorbed;
     is_drained = is_some account.group && not account.filled;
   };
   book = account.book;
   unreported = 0;
-  reported = account.noted;
+  reported = account.unabsorbed;
 }
 
 -- the part of the processor of this number, as `cpu` sees it: its own lists, and of the others the account alone
@@ -72,7 +72,7 @@ part_of stock cpu processor =
 -- the references of a seat on the frame, as `cpu` sees them: those of the zone, whose number is 0, and its own
 abbrev pub references_of : KnownSeat → KnownCpu → ℕ → ℕ → ℕ
 references_of zone_seat cpu seat frame =
-    if seat == 0 then holds zone_seat frame else (if seat == cpu.number then holds cpu.seat frame else 0)
+    if seat == 0 then holds zone_seat frame else (if seat == cpu.number then holds cpu.frame_seat frame else 0)
 
 -- the processor holds the lock; its visit may be open
 abbrev pub hold_of : KnownSeat → ℕ → Hold
@@ -83,12 +83,12 @@ hold_of seat processor = if slice_index seat.view.opened processor == 1 then Vis
 abbrev pub local_of : KnownTable → KnownMachine → KnownCpu → State
 local_of table machine cpu = record {
   zone = record { frames = table.frames; cpus = table.cpus };
-  hold = hold_of machine.seat cpu.number;
+  hold = hold_of machine.frame_seat cpu.number;
   groups = machine.ledger.groups;
   killed = is_killed machine.killed;
   phases = λ frame. phase_of cpu frame (spot_at machine.spots frame);
-  references = references_of machine.seat cpu;
-  parts = part_of machine.stock cpu;
+  references = references_of machine.frame_seat cpu;
+  parts = part_of machine.stock_seat cpu;
   pending = λ group. 0;
 }
 

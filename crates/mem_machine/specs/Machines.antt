@@ -34,7 +34,7 @@ use Rattle.kill_notes.specs.Notes.{noted}
 pub use Rattle.mem_machine.specs.Counts.{BalancesCounts}
 use Rattle.mem_machine.specs.Counts.{no_counts}
 use Rattle.mem_machine.specs.Spots.{AreUnits, spot_at, free_of, is_in_hand, some_cpu, lent_to}
-use Rattle.mem_machine.specs.Spots.{group_of, head_group_of, count_of}
+use Rattle.mem_machine.specs.Spots.{spot_group, head_group_of, count_of}
 
 -- The machine: the free areas, a record for each frame, the groups and their charges, the records through which the
 -- units' lists are linked and two lists for each group number, the zone's seats at the two tables, which group numbers
@@ -45,8 +45,8 @@ pub record KnownMachine : Type 0 where
   pub ledger : Ledger
   pub links : List Link
   pub lists : List Lru
-  pub seat : KnownSeat
-  pub stock : Seated
+  pub frame_seat : KnownSeat
+  pub stock_seat : Seated
   pub killed : List Bool
   pub counts : Counts
   pub notes : List Note
@@ -121,7 +121,7 @@ is_killed killed group = slice_index_or killed group false
 
 -- the frames that are charged to the group itself
 abbrev pub frames_charged : List Spot → ℕ → ℕ
-frames_charged spots group = sum_to (length spots) (λ frame. count_of group (group_of (spot_at spots frame)))
+frames_charged spots group = sum_to (length spots) (λ frame. count_of group (spot_group (spot_at spots frame)))
 
 -- the pages of a processor's book, where its stock is of the group
 abbrev pub booked : ℕ → Account → ℕ
@@ -162,17 +162,17 @@ pub record AreZoneSeats (frame_table : KnownTable) (words : Words) (seat : Known
 -- charged to it and the books of its stocks. Each unit that came back was put last, frozen or dropped
 pub record IsConsistent (table : KnownTable) (words : Words) (machine : KnownMachine) : Type 0 where
   pub sizes : AreSized table words machine
-  pub seats : AreZoneSeats table words machine.seat machine.stock
+  pub seats : AreZoneSeats table words machine.frame_seat machine.stock_seat
   pub areas : AreMaximalBlocks (free_of machine.spots) machine.blocks
   pub spots : (frame : ℕ) → frame < table.frames
-      → FitsSpot table.cpus (note_of machine.seat.view frame) (home_of machine.links frame)
+      → FitsSpot table.cpus (note_of machine.frame_seat.view frame) (home_of machine.links frame)
       (spot_at machine.spots frame)
   pub units : AreUnits machine.spots
   pub lists : AllStand machine.links machine.lists
-  pub absorbed : (processor : ℕ) → (account_of machine.stock.view processor).noted ≡ 0
-  pub bounded : (processor : ℕ) → (account_of machine.stock.view processor).book < 65536
+  pub absorbed : (processor : ℕ) → (account_of machine.stock_seat.view processor).unabsorbed ≡ 0
+  pub bounded : (processor : ℕ) → (account_of machine.stock_seat.view processor).book < 65536
   pub charged : (group : ℕ)
-      → pages_of machine.ledger group ≡ frames_charged machine.spots group + pages_booked table machine.stock group
+      → pages_of machine.ledger group ≡ frames_charged machine.spots group + pages_booked table machine.stock_seat group
   pub balances : BalancesCounts machine.counts
 
 -- a group of this path was made, and got the least free number
@@ -212,9 +212,9 @@ OneByOne IsDone (frame ∷ rest) before after =
 -- The processor is visited: its visit was opened and not shut yet, no frame passes between it and the zone, and what is
 -- lent to it are the frames that its seat has borrowed, which are its listed and fresh ones
 pub record Visits (table : KnownTable) (now : Side) : Type 0 where
-  pub is_open : IsOpen now.machine.seat now.cpu.number
-  pub still : NothingPasses table now.machine.seat now.cpu.seat
-  pub lent : LentIsBorrowed table now.machine.seat now.cpu.seat
+  pub is_open : IsOpen now.machine.frame_seat now.cpu.number
+  pub still : NothingPasses table now.machine.frame_seat now.cpu.frame_seat
+  pub lent : LentIsBorrowed table now.machine.frame_seat now.cpu.frame_seat
 
 -- whichever processor was visited before, is visited after
 abbrev pub StaysVisited : KnownTable → KnownMachine → KnownMachine → Type 0
@@ -225,7 +225,7 @@ StaysVisited table before after =
 -- number and its back frames
 pub record KeepsVisit (table : KnownTable) (before after : Side) : Type 0 where
   pub visit : Visits table after
-  pub opened : after.machine.seat.view.opened ≡ before.machine.seat.view.opened
+  pub opened : after.machine.frame_seat.view.opened ≡ before.machine.frame_seat.view.opened
   pub number : after.cpu.number ≡ before.cpu.number
   pub back : after.cpu.back ≡ before.cpu.back
 
@@ -238,8 +238,8 @@ pub record IsFirst (table : KnownTable) (words : Words) (machine : KnownMachine)
   pub spots : machine.spots ≡ replicate table.frames Free
   pub ledger : machine.ledger ≡ initial_ledger
   pub nowhere : AreNowhere machine.links
-  pub seat : machine.seat ≡ record { table = table.table; view = first_zone_view table.frames }
-  pub stock : machine.stock ≡ record { table = words.table; view = first_zone_stock }
+  pub frame_seat : machine.frame_seat ≡ record { table = table.table; view = first_zone_view table.frames }
+  pub stock_seat : machine.stock_seat ≡ record { table = words.table; view = first_zone_stock }
   pub killed : machine.killed ≡ replicate MAX_GROUPS false
   pub counts : machine.counts ≡ no_counts
   pub notes : machine.notes ≡ []

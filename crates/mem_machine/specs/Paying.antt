@@ -14,13 +14,13 @@ pub use Rattle.mem_machine.specs.Stocks.{pages_held}
 -- what the processor's stock is
 pub record IsOwnStock (now : Side) (stock : Stock) : Type 0 where
   pub group : group_of stock ≡ stock_group now.machine now.cpu.number
-  pub held : is_held stock ≡ (account_of now.machine.stock.view now.cpu.number).filled
+  pub held : is_held stock ≡ (account_of now.machine.stock_seat.view now.cpu.number).filled
   pub pages : pages_of stock ≡ pages_held now
 
 -- the processor's stock is held, and holds a page of this group
 pub record HoldsPage (now : Side) (owner : ℕ) : Type 0 where
   pub group : stock_group now.machine now.cpu.number ≡ Some owner
-  pub held : (account_of now.machine.stock.view now.cpu.number).filled ≡ true
+  pub held : (account_of now.machine.stock_seat.view now.cpu.number).filled ≡ true
   pub some : 1 ≤ pages_held now
 
 -- the frame, the front of the processor's list, is fresh now, and its stock of the group holds a page less

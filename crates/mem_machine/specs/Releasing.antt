@@ -43,7 +43,7 @@ pub record LeavesReferences (frame left : ℕ) (before after : KnownMachine) : T
   pub machine : after ≡ record before {
     links = after.links;
     lists = after.lists;
-    seat = seat_with before.seat frame (let_go left);
+    frame_seat = seat_with before.frame_seat frame (let_go left);
   }
 
 -- the unit is off its list and came back: its frames are free, and its pages off the charge of its group; nothing else
@@ -60,7 +60,7 @@ pub record ReturnsUnit (frame : ℕ) (before after : KnownMachine) : Type 0 wher
     ledger = with_uncharge before.ledger unit.group (2 ^ unit.order);
     links = after.links;
     lists = after.lists;
-    seat = seat_with before.seat frame let_go_last;
+    frame_seat = seat_with before.frame_seat frame let_go_last;
     counts = with_last_put before.counts;
   }
 

@@ -35,15 +35,15 @@ abbrev pub after_page_absorbed : Seated → ℕ → Seated
 after_page_absorbed seat processor = with_view seat (with_steps 1 (absorbing (noting seat.view processor 1) processor))
 
 -- a page of the account's book isn't noted yet
-abbrev pub HasUnnotedPage : Account → Type 0
-HasUnnotedPage account = 1 + account.noted ≤ account.book
+abbrev pub HasUnreportedPage : Account → Type 0
+HasUnreportedPage account = 1 + account.unabsorbed ≤ account.book
 
 -- the seat is the zone's at the frames' table, the visit of the processor is open there, and no frame passes between
 -- the two
 pub record IsVisitedAt (table : KnownTable) (seat : KnownSeat) (cpu : KnownCpu) : Type 0 where
   pub zone : IsZoneSeat table seat
   pub is_open : IsOpen seat cpu.number
-  pub still : NothingPasses table seat cpu.seat
+  pub still : NothingPasses table seat cpu.frame_seat
 
 -- What the zone's seats know of a fresh frame of the processor. They have nothing of it, and lent it to the processor;
 -- its page is booked to the processor's stock, and they know of which group that is
@@ -52,16 +52,16 @@ pub record KnowsFresh (table : KnownTable) (seat : KnownSeat) (stock : Seated)
   pub inside : frame < table.frames
   pub nothing : HasNothingOf seat frame
   pub lent : IsLent seat frame cpu.number
-  pub booked : HasUnnotedPage (account_of stock.view cpu.number)
-  pub group : group_of cpu.stock.view.last ≡ (account_of stock.view cpu.number).group
+  pub booked : HasUnreportedPage (account_of stock.view cpu.number)
+  pub group : group_of cpu.stock_seat.view.last ≡ (account_of stock.view cpu.number).group
 
 -- the frame, the oldest fresh one, is handed over, and its page reported
 pub record HandsOver (frame : ℕ) (before after : KnownCpu) : Type 0 where
   pub front : before.fresh ≡ frame ∷ after.fresh
   pub cpu : after ≡ record before {
     fresh = after.fresh;
-    seat = seat_with before.seat frame gave_back;
-    stock = with_view before.stock (after_report before.stock.view 1);
+    frame_seat = seat_with before.frame_seat frame gave_back;
+    stock_seat = with_view before.stock_seat (after_report before.stock_seat.view 1);
   }
 
 -- The oldest fresh frame is a kept unit of one frame, of the group: in use, with one reference of the zone, and on the
@@ -72,8 +72,8 @@ pub record KeepsFresh (group frame : ℕ) (before after : Side) : Type 0 where
     spots = slice_set before.machine.spots frame (Head (record { group = group; order = 0 }));
     links = after.machine.links;
     lists = after.machine.lists;
-    seat = seat_with before.machine.seat frame (λ note. unfrozen 1 (collected_from before.cpu.number note));
-    stock = with_page_absorbed before.machine.stock before.cpu.number;
+    frame_seat = seat_with before.machine.frame_seat frame (λ note. unfrozen 1 (collected_from before.cpu.number note));
+    stock_seat = with_page_absorbed before.machine.stock_seat before.cpu.number;
   }
   pub cpu : HandsOver frame before.cpu after.cpu
 
@@ -85,8 +85,8 @@ pub record DropsFresh (group frame : ℕ) (before after : Side) : Type 0 where
     blocks = after.machine.blocks;
     spots = after.machine.spots;
     ledger = with_uncharge before.machine.ledger group 1;
-    seat = seat_with before.machine.seat frame (collected_from before.cpu.number);
-    stock = with_page_absorbed before.machine.stock before.cpu.number;
+    frame_seat = seat_with before.machine.frame_seat frame (collected_from before.cpu.number);
+    stock_seat = with_page_absorbed before.machine.stock_seat before.cpu.number;
     counts = with_drop before.machine.counts;
   }
   pub cpu : HandsOver frame before.cpu after.cpu
@@ -101,11 +101,11 @@ pub record ReturnsBack (frame : ℕ) (before after : Side) : Type 0 where
     blocks = after.machine.blocks;
     spots = after.machine.spots;
     ledger = with_uncharge before.machine.ledger unit.group (2 ^ unit.order);
-    seat = seat_with before.machine.seat frame (collected_from before.cpu.number);
+    frame_seat = seat_with before.machine.frame_seat frame (collected_from before.cpu.number);
     counts = with_last_put before.machine.counts;
   }
   pub front : before.cpu.back ≡ frame ∷ after.cpu.back
-  pub cpu : after.cpu ≡ record before.cpu { back = after.cpu.back; seat = seat_with before.cpu.seat frame gave_back }
+  pub cpu : after.cpu ≡ record before.cpu { back = after.cpu.back; frame_seat = seat_with before.cpu.frame_seat frame gave_back }
 
 -- the group that the processor's fresh frames are of is killed
 abbrev pub is_fresh_killed : Side → Bool

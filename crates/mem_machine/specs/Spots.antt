@@ -44,10 +44,10 @@ unit_of (Head unit) = Some unit
 unit_of _ = None
 
 -- the group that the frame is charged to
-abbrev pub group_of : Spot → Option ℕ
-group_of (Head unit) = Some unit.group
-group_of (Tail group) = Some group
-group_of _ = None
+abbrev pub spot_group : Spot → Option ℕ
+spot_group (Head unit) = Some unit.group
+spot_group (Tail group) = Some group
+spot_group _ = None
 
 -- the group of the unit that the frame heads
 abbrev pub head_group_of : Spot → Option ℕ

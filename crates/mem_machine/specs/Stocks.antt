@@ -25,11 +25,11 @@ uncharged ledger (Some group) pages = with_uncharge ledger group pages
 
 -- the group that the processor's stock is of
 abbrev pub stock_group : KnownMachine → ℕ → Option ℕ
-stock_group machine processor = (account_of machine.stock.view processor).group
+stock_group machine processor = (account_of machine.stock_seat.view processor).group
 
 -- the processor's stock isn't held: it is drained, or was never filled
 abbrev pub IsDrained : KnownMachine → ℕ → Type 0
-IsDrained machine processor = (account_of machine.stock.view processor).filled ≡ false
+IsDrained machine processor = (account_of machine.stock_seat.view processor).filled ≡ false
 
 -- a stock can be filled with so many pages: one at least, and no more than a stock's word holds
 abbrev pub FitsStock : ℕ → Type 0
@@ -37,16 +37,16 @@ FitsStock pages = (0 < pages) × (pages < 65536)
 
 -- the pages that the processor's stock holds: those of its book that aren't paid for fresh frames
 abbrev pub pages_held : Side → ℕ
-pages_held now = (account_of now.machine.stock.view now.cpu.number).book - length now.cpu.fresh
+pages_held now = (account_of now.machine.stock_seat.view now.cpu.number).book - length now.cpu.fresh
 
 -- The stock of the processor, in which so many pages were, is drained: they come off its book and off the charge of its
 -- group. A stock that was drained before has none
 pub record Drains (processor pages : ℕ) (before after : KnownMachine) : Type 0 where
   pub machine : after ≡ record before {
     ledger = uncharged before.ledger (stock_group before processor) pages;
-    stock = with_view before.stock (draining before.stock.view processor pages);
+    stock_seat = with_view before.stock_seat (draining before.stock_seat.view processor pages);
   }
-  pub booked : pages ≤ (account_of before.stock.view processor).book
+  pub booked : pages ≤ (account_of before.stock_seat.view processor).book
   pub drained_before : IsDrained before processor → pages ≡ 0
 
 -- the stock of the processor is drained, and that is noted
@@ -81,7 +81,7 @@ is_chosen test machine processor = test machine.ledger.groups (stock_group machi
 abbrev pub DrainsIf : StockTest → ℕ → List Drain → KnownMachine → KnownMachine → Type 0
 DrainsIf test processor [] before after =
     (is_chosen test before processor ≡ false) × (after ≡ record before {
-      stock = with_view before.stock (after_look before.stock.view processor (stock_group before processor));
+      stock_seat = with_view before.stock_seat (after_look before.stock_seat.view processor (stock_group before processor));
     })
 DrainsIf test processor (drain ∷ []) before after =
     (is_chosen test before processor ≡ true) × DrainsOne processor drain before after
@@ -139,10 +139,10 @@ pub record Fills (group pages : ℕ) (before after : Side) : Type 0 where
   pub room : PathHasRoom before.machine.ledger.groups (current_of before.machine.ledger) group pages
   pub machine : after.machine ≡ record before.machine {
     ledger = with_charge before.machine.ledger group pages;
-    stock = with_view before.machine.stock (filling before.machine.stock.view before.cpu.number group pages);
+    stock_seat = with_view before.machine.stock_seat (filling before.machine.stock_seat.view before.cpu.number group pages);
   }
   pub cpu : after.cpu ≡ record before.cpu {
-    stock = with_view before.cpu.stock (after_fill before.cpu.stock.view group pages);
+    stock_seat = with_view before.cpu.stock_seat (after_fill before.cpu.stock_seat.view group pages);
   }
 
 -- the steps by which the processor's stock is filled with pages that are charged to the group

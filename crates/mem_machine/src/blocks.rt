@@ -77,7 +77,7 @@ impl<N: BootName> Machine<N> {
             unreachable!()
         };
         place_unit(&mut self.spots, block, group);
-        tables.frames.unfreeze(&mut self.seat, head, 1);
+        tables.frames.unfreeze(&mut self.frame_seat, head, 1);
         join_list(&mut self.links, &mut self.lists, group, head.number());
         Ok(head)
     }

@@ -108,11 +108,11 @@ impl<N: BootName> Books<N> {
         requires fits { pages_booked N.frames self.old group + pages < 2 ^ 32 }
         requires drained { (account_of self.old.view cpu.old.number).filled ≡ false }
         requires none_fresh { cpu.old.fresh ≡ [] }
-        requires absorbed { (account_of self.old.view cpu.old.number).noted ≡ 0 }
+        requires absorbed { (account_of self.old.view cpu.old.number).unabsorbed ≡ 0 }
         ensures nothing_booked { (account_of self.old.view cpu.old.number).book ≡ 0 }
         ensures seat { self.new ≡ with_view self.old (filling self.old.view cpu.old.number group pages) }
         ensures cpu { cpu.new ≡ record cpu.old {
-          stock = with_view cpu.old.stock (after_fill cpu.old.stock.view group pages);
+          stock_seat = with_view cpu.old.stock_seat (after_fill cpu.old.stock_seat.view group pages);
         } }
     {
         let _number = cpu.number(); // For the clauses.
@@ -123,11 +123,11 @@ impl<N: BootName> Books<N> {
     /// The processor's stock, as `Cpu::look` tells it.
     pub(crate) fn look(&mut self, tables: &Tables<N>, cpu: &mut Cpu<N>) -> Stock
         ensures balanced { (account_of self.old.view cpu.old.number).book
-            ≡ pages_of result + cpu.old.stock.view.fresh + (account_of self.old.view cpu.old.number).noted }
+            ≡ pages_of result + cpu.old.stock_seat.view.fresh + (account_of self.old.view cpu.old.number).unabsorbed }
         ensures bounded { (account_of self.old.view cpu.old.number).book < 65536 }
         ensures group { group_of result ≡ (account_of self.old.view cpu.old.number).group }
         ensures held { is_held result ≡ (account_of self.old.view cpu.old.number).filled }
-        ensures last { (result ≡ cpu.old.stock.view.last) ⊎ (result ≡ drained_of cpu.old.stock.view.last) }
+        ensures last { (result ≡ cpu.old.stock_seat.view.last) ⊎ (result ≡ drained_of cpu.old.stock_seat.view.last) }
         ensures seat { self.new ≡ with_view self.old (with_steps 1 self.old.view) }
         ensures cpu { cpu.new ≡ cpu.old }
     {
@@ -137,10 +137,10 @@ impl<N: BootName> Books<N> {
     /// Takes the front of the processor's list, as `Cpu::take_front` does.
     pub(crate) fn take_front(&mut self, tables: &Tables<N>, cpu: &mut Cpu<N>, group: u32) -> Frame
         requires group { (account_of self.old.view cpu.old.number).group ≡ Some group }
-        requires page { 0 < stocked self.old.view cpu.old.stock.view }
+        requires page { 0 < stocked self.old.view cpu.old.stock_seat.view }
         requires front { CanTake cpu.old }
         ensures seat { self.new ≡ self.old }
-        ensures cpu { TakesFront group (stocked self.old.view cpu.old.stock.view - 1) result cpu.old cpu.new }
+        ensures cpu { TakesFront group (stocked self.old.view cpu.old.stock_seat.view - 1) result cpu.old cpu.new }
         ensures frame { result < N.frames.frames }
     {
         cpu.take_front(tables, &mut self.seat, group)
@@ -157,7 +157,7 @@ impl<N: BootName> Books<N> {
     ) -> Frame
         requires visited { IsVisitedAt N.frames zone.old cpu.old }
         requires fresh { cpu.old.fresh ≢ [] }
-        requires group { group_of cpu.old.stock.view.last ≡ Some group }
+        requires group { group_of cpu.old.stock_seat.view.last ≡ Some group }
         ensures known { KnowsFresh N.frames zone.old self.old cpu.old result }
         ensures cpu { HandsFresh result cpu.old cpu.new }
         ensures zone { zone.new ≡ seat_with zone.old result (collected_from cpu.old.number) }

@@ -23,7 +23,7 @@ impl<N: BootName> Machine<N> {
         ensures visit { StaysVisited N.frames self.old self.new }
         ensures steps { MakesForAny N.frames self.old (evict_steps head result) self.new }
     {
-        if !tables.frames.freeze(&mut self.seat, head, 1) {
+        if !tables.frames.freeze(&mut self.frame_seat, head, 1) {
             self.counts = self.counts.with_miss();
             return None;
         }

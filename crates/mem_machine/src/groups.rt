@@ -82,7 +82,7 @@ impl<N: BootName> Machine<N> {
         let _number = cpu.number(); // For the clauses.
         let _last = cpu.last_stock(); // For the clauses.
         let _tree = self.charges.tree(); // For the clauses.
-        let _stock = self.stock.look(tables, cpu);
+        let _stock = self.stock_seat.look(tables, cpu);
     }
 
     /// Takes out a group that is there, other than the root, with no group below it and nothing charged.

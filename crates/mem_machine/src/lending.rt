@@ -32,9 +32,9 @@ impl<N: BootName> Machine<N> {
         let Some(frame) = tables.frames.frame(block.at) else {
             unreachable!()
         };
-        tables.frames.pass_out(&mut self.seat, frame, number);
+        tables.frames.pass_out(&mut self.frame_seat, frame, number);
         self.spots[frame.number() as usize] = Spot::Lent(number);
-        cpu.accept(tables, &mut self.seat, frame);
+        cpu.accept(tables, &mut self.frame_seat, frame);
         true
     }
 
@@ -71,9 +71,9 @@ impl<N: BootName> Machine<N> {
         let number = cpu.number();
         let at = frame.number();
         self.zone.take_frame(at);
-        tables.frames.pass_out(&mut self.seat, frame, number);
+        tables.frames.pass_out(&mut self.frame_seat, frame, number);
         self.spots[at as usize] = Spot::Lent(number);
-        cpu.accept(tables, &mut self.seat, frame);
+        cpu.accept(tables, &mut self.frame_seat, frame);
     }
 
     // Takes the front of the processor's list back, if there is one: it is free again.
@@ -83,10 +83,10 @@ impl<N: BootName> Machine<N> {
         ensures visit { Visits N.frames (side self.new cpu.new) }
     {
         let _number = cpu.number(); // For the clauses.
-        let Some(frame) = cpu.hand_front(tables, &mut self.seat) else {
+        let Some(frame) = cpu.hand_front(tables, &mut self.frame_seat) else {
             return false;
         };
-        cpu.collect(tables, &mut self.seat, frame);
+        cpu.collect(tables, &mut self.frame_seat, frame);
         let at = frame.number();
         self.spots[at as usize] = Spot::Free;
         self.zone.give(Block {

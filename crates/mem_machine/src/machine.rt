@@ -38,10 +38,10 @@ pub struct Machine<N: BootName> {
     pub(crate) lists: Vec<Lru>,
     // The zone's seat at the frames' table: which frames are in its hand, to whom it lent which, and its references,
     // one on the head of each kept unit.
-    pub(crate) seat: FrameSeat,
+    pub(crate) frame_seat: FrameSeat,
     // The zone's seat at the stocks' table: of each processor's stock its group and its book, 0 to 65,535 pages.
     // Between two calls nothing that a processor reported is unabsorbed.
-    pub(crate) stock: Books<N>,
+    pub(crate) stock_seat: Books<N>,
     // Whether each of the 64 group numbers is killed, by the number.
     pub(crate) killed: Vec<bool>,
     // How often units ended and came back, or were tried in vain, since the boot.
@@ -72,11 +72,11 @@ impl<N: BootName> Machine<N> {
     pub fn new(
         alloc: Global,
         tables: &Tables<N>,
-        seat: FrameSeat,
-        stock: StockSeat,
+        frame_seat: FrameSeat,
+        stock_seat: StockSeat,
     ) -> Result<Machine<N>, AllocError>
-        requires seat { seat ≡ record { table = N.frames.table; view = first_zone_view N.frames.frames } }
-        requires stock { stock ≡ record { table = N.stocks.table; view = first_zone_stock } }
+        requires frame_seat { frame_seat ≡ record { table = N.frames.table; view = first_zone_view N.frames.frames } }
+        requires stock_seat { stock_seat ≡ record { table = N.stocks.table; view = first_zone_stock } }
         requires cpus { N.stocks.cpus ≡ N.frames.cpus }
         ensures { IfOk result (λ machine. IsFirst N.frames N.stocks machine) }
     {
@@ -89,8 +89,8 @@ impl<N: BootName> Machine<N> {
             charges,
             links,
             lists,
-            seat,
-            stock: Books::new(stock),
+            frame_seat,
+            stock_seat: Books::new(stock_seat),
             killed,
             counts: Counts {
                 last_puts: 0,
@@ -107,8 +107,8 @@ impl<N: BootName> Machine<N> {
     /// Takes the machine apart, for the end of the two tables: the zone's seats at the frames' table and at the
     /// stocks'.
     pub fn into_seats(self) -> (FrameSeat, StockSeat)
-        ensures seat { result.0 ≡ self.seat }
-        ensures stock { uncounted result.1 ≡ self.stock }
+        ensures frame_seat { result.0 ≡ self.frame_seat }
+        ensures stock_seat { uncounted result.1 ≡ self.stock_seat }
         ensures consistent { IsConsistent N.frames N.stocks self }
     {
         let Machine {
@@ -117,13 +117,13 @@ impl<N: BootName> Machine<N> {
             charges: _,
             links: _,
             lists: _,
-            seat,
-            stock,
+            frame_seat,
+            stock_seat,
             killed: _,
             counts: _,
             notes: _,
             of: _,
         } = self;
-        (seat, stock.into_seat())
+        (frame_seat, stock_seat.into_seat())
     }
 }

@@ -21,7 +21,7 @@ impl<N: BootName> Machine<N> {
         ensures cpu { cpu.new ≡ cpu.old }
     {
         let _number = cpu.number(); // For the clauses.
-        self.stock.look(tables, cpu)
+        self.stock_seat.look(tables, cpu)
     }
 
     /// Shows that 65,535 pages more can be charged in a zone of this size: so many frames, and so many pages in the
@@ -48,6 +48,6 @@ impl<N: BootName> Machine<N> {
             (take_front_steps cpu.old.number group) (side self.new cpu.new) }
     {
         let _number = cpu.number(); // For the clauses.
-        self.stock.take_front(tables, cpu, group.number())
+        self.stock_seat.take_front(tables, cpu, group.number())
     }
 }

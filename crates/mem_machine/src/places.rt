@@ -40,12 +40,12 @@ impl<N: BootName> Machine<N> {
 
     /// Shows that no frame is lent to a processor which lists none and has none fresh. It does nothing.
     pub fn see_none_lent(&self, cpu: &Cpu<N>)
-        requires lent { LentIsBorrowed N.frames self.now.seat cpu.now.seat }
+        requires lent { LentIsBorrowed N.frames self.now.frame_seat cpu.now.frame_seat }
         requires none_listed { cpu.now.list ≡ [] }
         requires none_fresh { cpu.now.fresh ≡ [] }
         ensures { NoneLentTo cpu.now.number self.now.spots }
     {
-        let _ = &self.seat; // For the clauses.
+        let _ = &self.frame_seat; // For the clauses.
         let _number = cpu.number(); // For the clauses.
     }
 }

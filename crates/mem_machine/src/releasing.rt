@@ -58,7 +58,7 @@ impl<N: BootName> Machine<N> {
     {
         let at = head.number();
         leave_list(&mut self.links, &mut self.lists, at);
-        match tables.frames.put(&mut self.seat, head) {
+        match tables.frames.put(&mut self.frame_seat, head) {
             Put::Left(left) => Released::Left(left),
             Put::Last => {
                 let Spot::Head(unit) = self.spots[at as usize] else {

@@ -24,15 +24,15 @@ impl<N: BootName> Machine<N> {
     fn keep_one(&mut self, tables: &Tables<N>, cpu: &mut Cpu<N>, group: GroupId) -> Frame
         requires visit { Visits N.frames (side self.old cpu.old) }
         requires fresh { cpu.old.fresh ≢ [] }
-        requires group { group_of cpu.old.stock.view.last ≡ Some group }
+        requires group { group_of cpu.old.stock_seat.view.last ≡ Some group }
         ensures keeps { KeepsFresh group result (side self.old cpu.old) (side self.new cpu.new) }
         ensures visit { Visits N.frames (side self.new cpu.new) }
         ensures steps { Makes N.frames (side self.old cpu.old)
             (keep_steps cpu.old.number result) (side self.new cpu.new) }
     {
         let _number = cpu.number(); // For the clauses.
-        let frame = self.stock.collect_fresh(tables, cpu, &mut self.seat, group);
-        tables.frames.unfreeze(&mut self.seat, frame, 1);
+        let frame = self.stock_seat.collect_fresh(tables, cpu, &mut self.frame_seat, group);
+        tables.frames.unfreeze(&mut self.frame_seat, frame, 1);
         let at = frame.number();
         let order = Order::of(0).unwrap();
         self.spots[at as usize] = Spot::Head(ChargedUnit { group, order });
@@ -44,7 +44,7 @@ impl<N: BootName> Machine<N> {
     fn drop_one(&mut self, tables: &Tables<N>, cpu: &mut Cpu<N>, group: GroupId) -> Frame
         requires visit { Visits N.frames (side self.old cpu.old) }
         requires fresh { cpu.old.fresh ≢ [] }
-        requires group { group_of cpu.old.stock.view.last ≡ Some group }
+        requires group { group_of cpu.old.stock_seat.view.last ≡ Some group }
         requires killed { is_killed self.old.killed group ≡ true }
         ensures drops { DropsFresh group result (side self.old cpu.old) (side self.new cpu.new) }
         ensures visit { Visits N.frames (side self.new cpu.new) }
@@ -52,7 +52,7 @@ impl<N: BootName> Machine<N> {
             (drop_steps cpu.old.number result) (side self.new cpu.new) }
     {
         let _number = cpu.number(); // For the clauses.
-        let frame = self.stock.collect_fresh(tables, cpu, &mut self.seat, group);
+        let frame = self.stock_seat.collect_fresh(tables, cpu, &mut self.frame_seat, group);
         let order = Order::of(0).unwrap();
         let unit = ChargedUnit { group, order };
         free_unit(
@@ -74,10 +74,10 @@ impl<N: BootName> Machine<N> {
         ensures steps { MakesReturnSteps N.frames result (side self.old cpu.old) (side self.new cpu.new) }
     {
         let _number = cpu.number(); // For the clauses.
-        let Some(frame) = cpu.hand_back(tables, &mut self.seat) else {
+        let Some(frame) = cpu.hand_back(tables, &mut self.frame_seat) else {
             return None;
         };
-        cpu.collect(tables, &mut self.seat, frame);
+        cpu.collect(tables, &mut self.frame_seat, frame);
         let at = frame.number();
         let Spot::Head(unit) = self.spots[at as usize] else {
             unreachable!()

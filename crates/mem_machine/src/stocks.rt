@@ -29,7 +29,7 @@ impl<N: BootName> Machine<N> {
             (drain_steps processor (stock_group self.old processor) result) self.new }
     {
         let _tree = self.charges.tree(); // For the clauses.
-        let pages = self.stock.drain(tables, processor, group);
+        let pages = self.stock_seat.drain(tables, processor, group);
         if pages > 0 {
             self.charges.uncharge(GroupId::of(group).unwrap(), pages);
         }
@@ -61,7 +61,7 @@ impl<N: BootName> Machine<N> {
         ensures steps { MakesForAny N.frames self.old
             (drain_steps processor (stock_group self.old processor) result) self.new }
     {
-        match self.stock.group(tables, processor) {
+        match self.stock_seat.group(tables, processor) {
             None => 0,
             Some(group) => self.drain_of(tables, processor, group),
         }
@@ -85,7 +85,7 @@ impl<N: BootName> Machine<N> {
         requires there { IsTrue (has_group self.old.ledger.groups group) }
         ensures { DrainsBySteps N.frames (DrainsIf (of_subtree group) processor) result self.old self.new }
     {
-        match self.stock.group(tables, processor) {
+        match self.stock_seat.group(tables, processor) {
             None => 0,
             Some(number) if self.is_below(group, number) => self.drain_noted(
                 tables, processor, number,
@@ -115,7 +115,7 @@ impl<N: BootName> Machine<N> {
         requires processor { IsCpuOf N.frames processor }
         ensures { DrainsBySteps N.frames (DrainsIf (of_group group) processor) result self.old self.new }
     {
-        match self.stock.group(tables, processor) {
+        match self.stock_seat.group(tables, processor) {
             None => 0,
             Some(number) if number == group.number() => self.drain_noted(tables, processor, number),
             Some(_) => 0,
@@ -163,7 +163,7 @@ impl<N: BootName> Machine<N> {
         let _number = cpu.number(); // For the clauses.
         let _tree = self.charges.tree(); // For the clauses.
         self.charges.try_charge(group, pages)?;
-        self.stock.fill(tables, cpu, group.number(), pages);
+        self.stock_seat.fill(tables, cpu, group.number(), pages);
         Ok(())
     }
 

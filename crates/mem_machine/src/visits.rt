@@ -12,27 +12,27 @@ use cpu_part::{BootName, Cpu, Tables};
 impl<N: BootName> Machine<N> {
     /// Opens the visit of the processor, which isn't open. Frames are handed over and pages reported only inside it.
     pub fn open(&mut self, tables: &Tables<N>, cpu: &mut Cpu<N>)
-        requires { IsShut self.old.seat cpu.old.number }
-        ensures machine { self.new ≡ record self.old { seat = seat_with_visit self.old.seat cpu.old.number 1 } }
+        requires { IsShut self.old.frame_seat cpu.old.number }
+        ensures machine { self.new ≡ record self.old { frame_seat = seat_with_visit self.old.frame_seat cpu.old.number 1 } }
         ensures cpu { cpu.new ≡ cpu.old }
         ensures visits { Visits N.frames (side self.new cpu.new) }
         ensures steps { Makes N.frames (side self.old cpu.old) (open_steps cpu.old.number) (side self.new cpu.new) }
     {
         let _number = cpu.number(); // For the clauses.
-        cpu.open(tables, &mut self.seat);
+        cpu.open(tables, &mut self.frame_seat);
     }
 
     /// Shuts the visit of the processor.
     pub fn shut(&mut self, tables: &Tables<N>, cpu: &mut Cpu<N>)
         requires { Visits N.frames (side self.old cpu.old) }
-        ensures machine { self.new ≡ record self.old { seat = seat_with_visit self.old.seat cpu.old.number 0 } }
+        ensures machine { self.new ≡ record self.old { frame_seat = seat_with_visit self.old.frame_seat cpu.old.number 0 } }
         ensures cpu { cpu.new ≡ cpu.old }
-        ensures shut { IsShut self.new.seat cpu.new.number }
-        ensures still { NothingPasses N.frames self.new.seat cpu.new.seat }
-        ensures lent { LentIsBorrowed N.frames self.new.seat cpu.new.seat }
+        ensures shut { IsShut self.new.frame_seat cpu.new.number }
+        ensures still { NothingPasses N.frames self.new.frame_seat cpu.new.frame_seat }
+        ensures lent { LentIsBorrowed N.frames self.new.frame_seat cpu.new.frame_seat }
         ensures steps { Makes N.frames (side self.old cpu.old) (shut_steps cpu.old.number) (side self.new cpu.new) }
     {
         let _number = cpu.number(); // For the clauses.
-        cpu.shut(tables, &mut self.seat);
+        cpu.shut(tables, &mut self.frame_seat);
     }
 }

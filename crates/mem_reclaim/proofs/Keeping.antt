@@ -21,7 +21,7 @@ use Rattle.mem_reclaim.proofs.Moving.{misses_rose, misses_stay}
 
 pub keeps_none : (t : KnownTable) (m : KnownMachine) → Keeps t m m
 keeps_none t m = record {
-  stock = refl;
+  stock_seat = refl;
   killed = refl;
   groups = refl;
   opened = refl;
@@ -43,7 +43,7 @@ kept_before t m n keeps f kept none = no_owner (home_of n.links f) kept (keeps.o
 
 pub keeps_both : (t : KnownTable) (a b c : KnownMachine) → Keeps t a b → Keeps t b c → Keeps t a c
 keeps_both t a b c p q = record {
-  stock = q.stock ∙ p.stock;
+  stock_seat = q.stock_seat ∙ p.stock_seat;
   killed = q.killed ∙ p.killed;
   groups = q.groups ∙ p.groups;
   opened = q.opened ∙ p.opened;
@@ -72,22 +72,22 @@ missed_still t a b c d first last only f h is home clean =
 
 pub keeps_owners : (t : KnownTable) (m n : KnownMachine) → n ≡ record m { links = n.links; lists = n.lists } → SameOwners m.links n.links → Keeps t m n
 keeps_owners t m n is owners = record {
-  stock = ap (λ (x : KnownMachine). x.stock) is;
+  stock_seat = ap (λ (x : KnownMachine). x.stock_seat) is;
   killed = ap (λ (x : KnownMachine). x.killed) is;
   groups = ap (λ (x : KnownMachine). x.ledger.groups) is;
-  opened = ap (λ (x : KnownMachine). x.seat.view.opened) is;
+  opened = ap (λ (x : KnownMachine). x.frame_seat.view.opened) is;
   usage = λ g. let e = ap (λ (x : KnownMachine). current_of x.ledger g) is in omega (arith, e);
   visit = λ c v.
-      let seat : m.seat ≡ n.seat = sym (ap (λ (x : KnownMachine). x.seat) is) in
+      let seat : m.frame_seat ≡ n.frame_seat = sym (ap (λ (x : KnownMachine). x.frame_seat) is) in
       record {
         is_open = subst (λ (s : KnownSeat). IsOpen s c.number) seat v.is_open;
-        still = subst (λ (s : KnownSeat). NothingPasses t s c.seat) seat v.still;
-        lent = subst (λ (s : KnownSeat). LentIsBorrowed t s c.seat) seat v.lent;
+        still = subst (λ (s : KnownSeat). NothingPasses t s c.frame_seat) seat v.still;
+        lent = subst (λ (s : KnownSeat). LentIsBorrowed t s c.frame_seat) seat v.lent;
       };
   dirty = λ f d. record { kept = still_kept (home_of m.links f) (home_of n.links f) (owners.owner f) d.kept; dirty = owners.dirty f ∙ d.dirty };
   owners = λ f kept. owners.owner f;
   dirt = λ f kept. owners.dirty f;
-  misses = λ f. let e = ap (λ (x : KnownMachine). misses_of x.seat f) is in omega (arith, e);
+  misses = λ f. let e = ap (λ (x : KnownMachine). misses_of x.frame_seat f) is in omega (arith, e);
 }
   where
     still_kept : (h k : Option Home) → owner_of k ≡ owner_of h → h ≢ None → k ≢ None
@@ -104,10 +104,10 @@ pub keeps_missed : (t : KnownTable) (m n : KnownMachine) (f : ℕ) → MissesUni
 keeps_missed t m n f is visit =
     let links : n.links ≡ m.links = ap (λ (x : KnownMachine). x.links) is.machine in
     record {
-      stock = ap (λ (x : KnownMachine). x.stock) is.machine;
+      stock_seat = ap (λ (x : KnownMachine). x.stock_seat) is.machine;
       killed = ap (λ (x : KnownMachine). x.killed) is.machine;
       groups = ap (λ (x : KnownMachine). x.ledger.groups) is.machine;
-      opened = ap (λ (x : KnownMachine). x.seat.view.opened) is.machine;
+      opened = ap (λ (x : KnownMachine). x.frame_seat.view.opened) is.machine;
       usage = λ g. let e = ap (λ (x : KnownMachine). current_of x.ledger g) is.machine in omega (arith, e);
       visit = visit;
       dirty = λ g d. subst (λ (l : List Link). IsDirtyUnit l g) (sym links) d;
@@ -122,10 +122,10 @@ keeps_evicted t m n f pages is visit clean =
     let gone : home_of n.links f ≡ None = ap (λ (k : Link). k.home) is.list.forgotten in
     let other : (g : ℕ) → home_of n.links g ≢ None → g ≢ f = λ g kept e. kept (ap (home_of n.links) e ∙ gone) in
     record {
-      stock = ap (λ (x : KnownMachine). x.stock) is.machine;
+      stock_seat = ap (λ (x : KnownMachine). x.stock_seat) is.machine;
       killed = ap (λ (x : KnownMachine). x.killed) is.machine;
       groups = ap (λ (x : KnownMachine). x.ledger.groups) is.machine;
-      opened = ap (λ (x : KnownMachine). x.seat.view.opened) is.machine;
+      opened = ap (λ (x : KnownMachine). x.frame_seat.view.opened) is.machine;
       usage = λ g. let e = is.usage g in let low = on_path_low (in_subtree n.ledger.groups g is.unit.group) (current_of n.ledger g) pages in omega (arith, e, low);
       visit = visit;
       dirty = λ g d.

@@ -80,15 +80,15 @@ only_lets_both t a b c p q = record {
 
 -- where the links and the zone's seat at the frames stay
 pub only_lets_same : (t : KnownTable) (m n : KnownMachine) → n.ledger.groups ≡ m.ledger.groups
-    → ((g : ℕ) → current_of n.ledger g ≤ current_of m.ledger g) → n.seat ≡ m.seat → n.links ≡ m.links → OnlyLetsGo t m n
+    → ((g : ℕ) → current_of n.ledger g ≤ current_of m.ledger g) → n.frame_seat ≡ m.frame_seat → n.links ≡ m.links → OnlyLetsGo t m n
 only_lets_same t m n groups usage seat links = record {
   groups = groups;
   usage = usage;
   opened = ap (λ (s : KnownSeat). s.view.opened) seat;
   visit = λ c v. record {
     is_open = subst (λ (s : KnownSeat). IsOpen s c.number) (sym seat) v.is_open;
-    still = subst (λ (s : KnownSeat). NothingPasses t s c.seat) (sym seat) v.still;
-    lent = subst (λ (s : KnownSeat). LentIsBorrowed t s c.seat) (sym seat) v.lent;
+    still = subst (λ (s : KnownSeat). NothingPasses t s c.frame_seat) (sym seat) v.still;
+    lent = subst (λ (s : KnownSeat). LentIsBorrowed t s c.frame_seat) (sym seat) v.lent;
   };
   leaves = λ f h is. ap (λ (l : List Link). home_of l f) (sym links) ∙ is;
   dirt = λ f kept. ap (λ (l : List Link). (link_at l f).is_dirty) links;
@@ -107,7 +107,7 @@ misses_put seat f g change keeps = elim (cases_eq g f) [
 ]
 
 off_list : (t : KnownTable) (m n : KnownMachine) (f : ℕ) → LeavesList f (lists_of m) (lists_of n) → n.ledger.groups ≡ m.ledger.groups
-    → ((g : ℕ) → current_of n.ledger g ≤ current_of m.ledger g) → n.seat.view.opened ≡ m.seat.view.opened → ((g : ℕ) → misses_of n.seat g ≡ misses_of m.seat g)
+    → ((g : ℕ) → current_of n.ledger g ≤ current_of m.ledger g) → n.frame_seat.view.opened ≡ m.frame_seat.view.opened → ((g : ℕ) → misses_of n.frame_seat g ≡ misses_of m.frame_seat g)
     → ((c : KnownCpu) → Visits t (side m c) → Visits t (side n c)) → OnlyLetsGo t m n
 off_list t m n f list groups usage opened misses visit =
     let gone : home_of n.links f ≡ None = ap (λ (k : Link). k.home) list.forgotten in
@@ -128,19 +128,19 @@ pub release_lets : (t : KnownTable) (m n : KnownMachine) (f : ℕ) (left : Relea
     → ((c : KnownCpu) → Visits t (side m c) → Visits t (side n c)) → OnlyLetsGo t m n
 release_lets t m n f (Left left) is visit = off_list t m n f is.list (ap (λ (x : KnownMachine). x.ledger.groups) is.machine)
     (λ g. let e = ap (λ (x : KnownMachine). current_of x.ledger g) is.machine in omega (arith, e))
-    (ap (λ (x : KnownMachine). x.seat.view.opened) is.machine)
-    (λ g. ap (λ (x : KnownMachine). misses_of x.seat g) is.machine ∙ misses_put m.seat f g (let_go left) (λ k. refl)) visit
+    (ap (λ (x : KnownMachine). x.frame_seat.view.opened) is.machine)
+    (λ g. ap (λ (x : KnownMachine). misses_of x.frame_seat g) is.machine ∙ misses_put m.frame_seat f g (let_go left) (λ k. refl)) visit
 release_lets t m n f Returned is visit = off_list t m n f is.list (ap (λ (x : KnownMachine). x.ledger.groups) is.machine)
     (λ g.
     let e = ap (λ (x : KnownMachine). current_of x.ledger g) is.machine in
     let low = current_falls m.ledger (Some is.unit.group) (2 ^ is.unit.order) g in
     omega (arith, e, low))
-    (ap (λ (x : KnownMachine). x.seat.view.opened) is.machine)
-    (λ g. ap (λ (x : KnownMachine). misses_of x.seat g) is.machine ∙ misses_put m.seat f g let_go_last (λ k. refl)) visit
+    (ap (λ (x : KnownMachine). x.frame_seat.view.opened) is.machine)
+    (λ g. ap (λ (x : KnownMachine). misses_of x.frame_seat g) is.machine ∙ misses_put m.frame_seat f g let_go_last (λ k. refl)) visit
 
 release_stocks : (m n : KnownMachine) (f : ℕ) (left : Released) → Releases f left m n → KeepsStocks m n
-release_stocks m n f (Left left) is = record { stock = ap (λ (x : KnownMachine). x.stock) is.machine; killed = ap (λ (x : KnownMachine). x.killed) is.machine }
-release_stocks m n f Returned is = record { stock = ap (λ (x : KnownMachine). x.stock) is.machine; killed = ap (λ (x : KnownMachine). x.killed) is.machine }
+release_stocks m n f (Left left) is = record { stock_seat = ap (λ (x : KnownMachine). x.stock_seat) is.machine; killed = ap (λ (x : KnownMachine). x.killed) is.machine }
+release_stocks m n f Returned is = record { stock_seat = ap (λ (x : KnownMachine). x.stock_seat) is.machine; killed = ap (λ (x : KnownMachine). x.killed) is.machine }
 
 release_list : (m n : KnownMachine) (f : ℕ) (left : Released) → Releases f left m n → LeavesList f (lists_of m) (lists_of n)
 release_list m n f (Left left) is = is.list
@@ -175,7 +175,7 @@ let_go_first t g list m = record {
   runs = λ c. makes_none t c.number (side m c);
   left = omega arith;
   keeps = only_lets_none t m;
-  stocks = record { stock = refl; killed = refl };
+  stocks = record { stock_seat = refl; killed = refl };
 }
 
 -- the oldest unit that is left
@@ -248,7 +248,7 @@ let_go_more t g list m i now s u o f at left then releases_f visit runs_f =
       keeps = only_lets_both t m now then s.keeps (release_lets t now then u.number left releases visit);
       stocks =
           let x = release_stocks now then u.number left releases in
-          record { stock = x.stock ∙ s.stocks.stock; killed = x.killed ∙ s.stocks.killed };
+          record { stock_seat = x.stock_seat ∙ s.stocks.stock_seat; killed = x.killed ∙ s.stocks.killed };
     }
 
 none_left : (entries : List Entry) (i n : ℕ) → length entries + i ≡ n → n ≤ i → entries ≡ []
@@ -275,7 +275,7 @@ let_go_done t g list m i now s all =
 -- what a drain leaves
 pub record LeavesUnits (before after : KnownMachine) : Type 0 where
   pub groups : after.ledger.groups ≡ before.ledger.groups
-  pub seat : after.seat ≡ before.seat
+  pub frame_seat : after.frame_seat ≡ before.frame_seat
   pub links : after.links ≡ before.links
   pub killed : after.killed ≡ before.killed
   pub counts : after.counts ≡ before.counts
@@ -285,7 +285,7 @@ pub record LeavesUnits (before after : KnownMachine) : Type 0 where
 leaves_units_none : (m : KnownMachine) → LeavesUnits m m
 leaves_units_none m = record {
   groups = refl;
-  seat = refl;
+  frame_seat = refl;
   links = refl;
   killed = refl;
   counts = refl;
@@ -296,7 +296,7 @@ leaves_units_none m = record {
 leaves_units_both : (a b c : KnownMachine) → LeavesUnits a b → LeavesUnits b c → LeavesUnits a c
 leaves_units_both a b c p q = record {
   groups = q.groups ∙ p.groups;
-  seat = q.seat ∙ p.seat;
+  frame_seat = q.frame_seat ∙ p.frame_seat;
   links = q.links ∙ p.links;
   killed = q.killed ∙ p.killed;
   counts = q.counts ∙ p.counts;
@@ -310,11 +310,11 @@ looked_filled view q None is = ap (λ (a : Account). a.filled) (drained_at view 
 looked_filled view q (Some g) is = is
 
 filled_after : (test : List Group → Option ℕ → Bool) (q : ℕ) (m n : KnownMachine) (drains : List Drain) → DrainsIf test q drains m n
-    → (account_of m.stock.view q).filled ≡ false → (account_of n.stock.view q).filled ≡ false
+    → (account_of m.stock_seat.view q).filled ≡ false → (account_of n.stock_seat.view q).filled ≡ false
 filled_after test q m n [] h is =
-    ap (λ (x : KnownMachine). (account_of x.stock.view q).filled) h.1 ∙ looked_filled m.stock.view q (stock_group m q) is
+    ap (λ (x : KnownMachine). (account_of x.stock_seat.view q).filled) h.1 ∙ looked_filled m.stock_seat.view q (stock_group m q) is
 filled_after test q m n (drain ∷ []) h is =
-    ap (λ (x : KnownMachine). (account_of x.stock.view q).filled) h.1.drains.drains.machine ∙ ap (λ (a : Account). a.filled) (drained_at m.stock.view q drain.pages)
+    ap (λ (x : KnownMachine). (account_of x.stock_seat.view q).filled) h.1.drains.drains.machine ∙ ap (λ (a : Account). a.filled) (drained_at m.stock_seat.view q drain.pages)
 filled_after test q m n (one ∷ two ∷ more) h is = absurd h
 
 one_drains : (test : List Group → Option ℕ → Bool) (q : ℕ) (m n : KnownMachine) (drains : List Drain) → DrainsIf test q drains m n → OnlyDrains m n
@@ -325,8 +325,8 @@ one_drains test q m n drains h = record {
   ];
   drained = λ p is. elim (cases_eq p q) [
     | inl e ↦
-        subst (λ (x : ℕ). (account_of n.stock.view x).filled ≡ false) (sym e)
-        (filled_after test q m n drains h (ap (λ (x : ℕ). (account_of m.stock.view x).filled) (sym e) ∙ is))
+        subst (λ (x : ℕ). (account_of n.stock_seat.view x).filled ≡ false) (sym e)
+        (filled_after test q m n drains h (ap (λ (x : ℕ). (account_of m.stock_seat.view x).filled) (sym e) ∙ is))
     | inr ne ↦ ap (λ (a : Account). a.filled) (below_else test q m n drains h p ne) ∙ is
   ];
 }
@@ -334,7 +334,7 @@ one_drains test q m n drains h = record {
 drain_leaves : (m n : KnownMachine) (q pages : ℕ) → DrainsNoted q pages m n → OnlyDrains m n → LeavesUnits m n
 drain_leaves m n q pages d stocks = record {
   groups = ap (λ (x : KnownMachine). x.ledger.groups) d.drains.machine ∙ groups_stay m.ledger (stock_group m q) pages;
-  seat = ap (λ (x : KnownMachine). x.seat) d.drains.machine;
+  frame_seat = ap (λ (x : KnownMachine). x.frame_seat) d.drains.machine;
   links = ap (λ (x : KnownMachine). x.links) d.drains.machine;
   killed = ap (λ (x : KnownMachine). x.killed) d.drains.machine;
   counts = ap (λ (x : KnownMachine). x.counts) d.drains.machine;
@@ -348,7 +348,7 @@ drain_leaves m n q pages d stocks = record {
 one_leaves : (test : List Group → Option ℕ → Bool) (q : ℕ) (m n : KnownMachine) (drains : List Drain) → DrainsIf test q drains m n → LeavesUnits m n
 one_leaves test q m n [] h = record {
   groups = ap (λ (x : KnownMachine). x.ledger.groups) h.1;
-  seat = ap (λ (x : KnownMachine). x.seat) h.1;
+  frame_seat = ap (λ (x : KnownMachine). x.frame_seat) h.1;
   links = ap (λ (x : KnownMachine). x.links) h.1;
   killed = ap (λ (x : KnownMachine). x.killed) h.1;
   counts = ap (λ (x : KnownMachine). x.counts) h.1;
@@ -448,12 +448,12 @@ pub all_killed : (t : KnownTable) (w : Words) (v : ℕ) → v < 64 → (m a d b 
     → LetsGoBySteps t (entries_in b v Active) b n → entries_in n v Active ≡ [] → OnlyLetsGo t b n → KeepsStocks b n → IsConsistent t w n → AllKilled t v m n
 all_killed t w v fits m a d b n is usage killed pages drains drained first first_empty first_keeps first_stocks ok_b last last_empty last_keeps last_stocks ok_n =
     let unit = drains_leave (of_group v) t.cpus a d drains.drains drains.all in
-    let stock : n.stock ≡ d.stock = last_stocks.stock ∙ first_stocks.stock in
+    let stock : n.stock_seat ≡ d.stock_seat = last_stocks.stock_seat ∙ first_stocks.stock_seat in
     let groups : n.ledger.groups ≡ d.ledger.groups = last_keeps.groups ∙ first_keeps.groups in
     let at_first : OnlyLetsGo t m a = only_lets_same t m a (ap (λ (x : KnownMachine). x.ledger.groups) is)
-    (λ g. let e = usage g in omega (arith, e)) (ap (λ (x : KnownMachine). x.seat) is)
+    (λ g. let e = usage g in omega (arith, e)) (ap (λ (x : KnownMachine). x.frame_seat) is)
     (ap (λ (x : KnownMachine). x.links) is) in
-    let at_drain : OnlyLetsGo t a d = only_lets_same t a d unit.groups unit.usage unit.seat unit.links in
+    let at_drain : OnlyLetsGo t a d = only_lets_same t a d unit.groups unit.usage unit.frame_seat unit.links in
     let later : Run = drain_stocks_steps drains.drains ++ (first.steps ++ last.steps) in
     let quiet : AreQuiet later = quiet_both (drain_stocks_steps drains.drains) (first.steps ++ last.steps) (quiet_drains drains.drains)
     (quiet_both first.steps last.steps (quiet_units (entries_in d v Inactive) d first.steps b first.lets_go)
@@ -497,6 +497,6 @@ all_killed t w v fits m a d b n is usage killed pages drains drained first first
         of = λ p. ap (λ (x : Seated). (account_of x.view p).group) stock ∙ unit.stocks.of p ∙ ap (λ (x : KnownMachine). stock_group x p) is;
         drained = λ p was.
             ap (λ (x : Seated). (account_of x.view p).filled) stock
-            ∙ unit.stocks.drained p (ap (λ (x : KnownMachine). (account_of x.stock.view p).filled) is ∙ was);
+            ∙ unit.stocks.drained p (ap (λ (x : KnownMachine). (account_of x.stock_seat.view p).filled) is ∙ was);
       };
     }

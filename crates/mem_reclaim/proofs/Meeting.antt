@@ -41,7 +41,7 @@ meets_spared t marks_count g f e m n clean spared is renews runs = record {
   steps = [];
   does = subst (λ (x : Bool × Bool × ℕ). MeetsAs x.0 x.1 g x.2 (progress 0 m [] n)) (λ i. (sym clean i, sym spared i, sym is i))
       (record { no_page = refl; renews = renews; no_step = refl });
-  moves = moves_none t m n runs (ap (λ (x : KnownMachine). x.seat) renews.machine) (ap (λ (x : KnownMachine). x.counts) renews.machine);
+  moves = moves_none t m n runs (ap (λ (x : KnownMachine). x.frame_seat) renews.machine) (ap (λ (x : KnownMachine). x.counts) renews.machine);
 }
 
 pub meets_tried : (t : KnownTable) (marks_count : Bool) (g f : ℕ) (e : Entry) (m n : KnownMachine) (answer : Option ℕ) (given : ℕ) → e.is_dirty ≡ false

@@ -49,7 +49,7 @@ pages_both p (e ∷ rest) two a b run =
 both_false : (a b : Bool) → a ≡ false → b ≡ false → (a || b) ≡ false
 both_false a b x y = rw x y
 
-pub moves_none : (t : KnownTable) (m n : KnownMachine) → MakesForAny t m [] n → n.seat ≡ m.seat → n.counts ≡ m.counts → Moves t m 0 [] n
+pub moves_none : (t : KnownTable) (m n : KnownMachine) → MakesForAny t m [] n → n.frame_seat ≡ m.frame_seat → n.counts ≡ m.counts → Moves t m 0 [] n
 moves_none t m n runs seat counts = record {
   runs = runs;
   pages = λ c. refl;
@@ -121,11 +121,11 @@ misses_frozen seat f g = elim (cases_eq g f) [
 ]
 
 -- a miss counts on the frame
-pub misses_rose : (m n : KnownMachine) (f : ℕ) → MissesUnit f m n → (g : ℕ) → misses_of n.seat g ≡ misses_of m.seat g + cond (f == g) 1 0
-misses_rose m n f is g = ap (λ (x : KnownMachine). misses_of x.seat g) is.machine ∙ misses_more m.seat f is.word g
+pub misses_rose : (m n : KnownMachine) (f : ℕ) → MissesUnit f m n → (g : ℕ) → misses_of n.frame_seat g ≡ misses_of m.frame_seat g + cond (f == g) 1 0
+misses_rose m n f is g = ap (λ (x : KnownMachine). misses_of x.frame_seat g) is.machine ∙ misses_more m.frame_seat f is.word g
 
-pub misses_stay : (m n : KnownMachine) (f pages : ℕ) → EvictsUnit f pages m n → (g : ℕ) → misses_of n.seat g ≡ misses_of m.seat g
-misses_stay m n f pages is g = ap (λ (x : KnownMachine). misses_of x.seat g) is.machine ∙ misses_frozen m.seat f g
+pub misses_stay : (m n : KnownMachine) (f pages : ℕ) → EvictsUnit f pages m n → (g : ℕ) → misses_of n.frame_seat g ≡ misses_of m.frame_seat g
+misses_stay m n f pages is g = ap (λ (x : KnownMachine). misses_of x.frame_seat g) is.machine ∙ misses_frozen m.frame_seat f g
 
 pub moves_try : (t : KnownTable) (m n : KnownMachine) (f : ℕ) (answer : Option ℕ) → Evicts f answer m n → MakesForAny t m (evict_steps f answer) n
     → Moves t m (unwrap_or answer 0) (evict_steps f answer) n

@@ -37,7 +37,7 @@ aged_leads t m aged n g want given ages runs scans =
       does = record { aged = aged; ages = ages; scans = scans.does };
       moves = subst (λ (x : ℕ). Moves t m x scans.steps n) e
           (moves_both t m aged n 0 given [] scans.steps
-          (moves_none t m aged runs (ap (λ (x : KnownMachine). x.seat) ages.machine) (ap (λ (x : KnownMachine). x.counts) ages.machine)) scans.moves);
+          (moves_none t m aged runs (ap (λ (x : KnownMachine). x.frame_seat) ages.machine) (ap (λ (x : KnownMachine). x.counts) ages.machine)) scans.moves);
     }
 
 pub aged_keeps : (t : KnownTable) (m aged : KnownMachine) (g : ℕ) → AgesGroup g m aged → Keeps t m aged

@@ -21,7 +21,7 @@ use Rattle.mem_reclaim.proofs.Passing.{all_missed}
 -- a note changes nothing that is kept
 pub keeps_noted : (t : KnownTable) (m n : KnownMachine) (note : Note) → Keeps t m n → Keeps t m (with_note n note)
 keeps_noted t m n note k = record {
-  stock = k.stock;
+  stock_seat = k.stock_seat;
   killed = k.killed;
   groups = k.groups;
   opened = k.opened;

@@ -33,7 +33,7 @@ IsNext next (e ∷ es) = next ≡ Some e
 -- who stands on the list, clean, is still to be met, or was missed
 abbrev pub MissedOrLeft : KnownMachine → ℕ → LruList → KnownMachine → List Entry → Type 0
 MissedOrLeft m g list now todo = (f : ℕ) → home_of now.links f ≡ Some (record { owner = g; list = list }) → (link_at now.links f).is_dirty ≡ false
-    → (has_unit f todo ≡ true) ⊎ (misses_of m.seat f < misses_of now.seat f)
+    → (has_unit f todo ≡ true) ⊎ (misses_of m.frame_seat f < misses_of now.frame_seat f)
 
 -- Some units stayed, some are still to be met, and some moved behind them
 pub record ScanSoFar (t : KnownTable) (marks_count : Bool) (g : ℕ) (list : LruList) (want : ℕ) (m : KnownMachine) (i given : ℕ) (next : Option Entry)

@@ -121,17 +121,17 @@ KillsVictim table limited (Some victim) before after = IsKilledBy table limited 
 -- usage rises. Who is kept was kept on the same list, and is as dirty as it was. No unit is frozen, so no miss is noted
 pub record OnlyLetsGo (table : KnownTable) (before after : KnownMachine) : Type 0 where
   pub groups : after.ledger.groups ≡ before.ledger.groups
-  pub opened : after.seat.view.opened ≡ before.seat.view.opened
+  pub opened : after.frame_seat.view.opened ≡ before.frame_seat.view.opened
   pub usage : (group : ℕ) → current_of after.ledger group ≤ current_of before.ledger group
   pub visit : (cpu : KnownCpu) → Visits table (side before cpu) → Visits table (side after cpu)
   pub leaves : OnlyLeave before after
   pub dirt : (frame : ℕ) → HeadsKeptUnit after frame
       → (link_at after.links frame).is_dirty ≡ (link_at before.links frame).is_dirty
-  pub misses : (frame : ℕ) → misses_of after.seat frame ≡ misses_of before.seat frame
+  pub misses : (frame : ℕ) → misses_of after.frame_seat frame ≡ misses_of before.frame_seat frame
 
 -- what each processor's stock is stays, and who is killed
 pub record KeepsStocks (before after : KnownMachine) : Type 0 where
-  pub stock : after.stock ≡ before.stock
+  pub stock_seat : after.stock_seat ≡ before.stock_seat
   pub killed : after.killed ≡ before.killed
 
 -- each processor's stock is of the group that it was of, and none is held that wasn't

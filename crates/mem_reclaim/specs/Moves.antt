@@ -75,7 +75,7 @@ pub record Moves (table : KnownTable) (before : KnownMachine) (given : ℕ) (ste
   pub pages : (cpu : KnownCpu) → pages_returned (local_of table before cpu) steps ≡ given
   pub quiet : has_kill steps ≡ false
   pub misses : (frame : ℕ)
-      → misses_of after.seat frame ≡ misses_of before.seat frame + missed_in frame steps
+      → misses_of after.frame_seat frame ≡ misses_of before.frame_seat frame + missed_in frame steps
   pub returned : Rises before.counts.freezes (returned_in steps) after.counts.freezes
   pub missed : Rises before.counts.misses (all_missed_in steps) after.counts.misses
 

@@ -20,10 +20,10 @@ pub record IsDirtyUnit (links : List Link) (frame : ℕ) : Type 0 where
 -- shut. No usage rises. No dirty unit comes back. Who is kept was kept for the same group, as dirty as it is now. No
 -- miss is forgotten
 pub record Keeps (table : KnownTable) (before after : KnownMachine) : Type 0 where
-  pub stock : after.stock ≡ before.stock
+  pub stock_seat : after.stock_seat ≡ before.stock_seat
   pub killed : after.killed ≡ before.killed
   pub groups : after.ledger.groups ≡ before.ledger.groups
-  pub opened : after.seat.view.opened ≡ before.seat.view.opened
+  pub opened : after.frame_seat.view.opened ≡ before.frame_seat.view.opened
   pub usage : (group : ℕ) → current_of after.ledger group ≤ current_of before.ledger group
   pub visit : (cpu : KnownCpu) → Visits table (side before cpu) → Visits table (side after cpu)
   pub dirty : (frame : ℕ) → IsDirtyUnit before.links frame → IsDirtyUnit after.links frame
@@ -31,7 +31,7 @@ pub record Keeps (table : KnownTable) (before after : KnownMachine) : Type 0 whe
       → owner_of (home_of after.links frame) ≡ owner_of (home_of before.links frame)
   pub dirt : (frame : ℕ) → HeadsKeptUnit after frame
       → (link_at after.links frame).is_dirty ≡ (link_at before.links frame).is_dirty
-  pub misses : (frame : ℕ) → misses_of before.seat frame ≤ misses_of after.seat frame
+  pub misses : (frame : ℕ) → misses_of before.frame_seat frame ≤ misses_of after.frame_seat frame
 
 -- no unit came onto a list: who stands on one stood there
 abbrev pub OnlyLeave : KnownMachine → KnownMachine → Type 0
@@ -48,7 +48,7 @@ UsageFalls group pages before after =
 abbrev pub IsMissed : KnownMachine → KnownMachine → ℕ → Home → Type 0
 IsMissed before after frame home =
     home_of after.links frame ≡ Some home → (link_at after.links frame).is_dirty ≡ false
-    → misses_of before.seat frame < misses_of after.seat frame
+    → misses_of before.frame_seat frame < misses_of after.frame_seat frame
 
 -- a freeze of each clean unit that still stands on this list of the group missed in between
 abbrev pub MissedOnList : ℕ → LruList → KnownMachine → KnownMachine → Type 0

@@ -64,16 +64,16 @@ pub long_stocks : (cpus : List KnownCpu) → length (map stock_seat_of cpus) ≡
 long_stocks [] = refl
 long_stocks (c ∷ cpus) = let rest = long_stocks cpus in omega (arith, rest)
 
-view_at : (cpus : List KnownCpu) (k : ℕ) (any : KnownCpu) → k < length cpus → view_in (map stock_seat_of cpus) k ≡ (get_or cpus k any).stock.view
+view_at : (cpus : List KnownCpu) (k : ℕ) (any : KnownCpu) → k < length cpus → view_in (map stock_seat_of cpus) k ≡ (get_or cpus k any).stock_seat.view
 view_at [] k any inside = absurd (omega (arith, inside))
 view_at (c ∷ cpus) zero any inside = refl
 view_at (c ∷ cpus) (suc k) any inside = view_at cpus k any (omega (arith, inside))
 
 -- what each processor's seat counts 0 of is 0 of all
-none_of_all : (h : FrameView → ℕ) (cpus : List KnownCpu) → All (λ c. h c.seat.view ≡ 0) cpus → sum_over h (map view_of (map frame_seat_of cpus)) ≡ 0
+none_of_all : (h : FrameView → ℕ) (cpus : List KnownCpu) → All (λ c. h c.frame_seat.view ≡ 0) cpus → sum_over h (map view_of (map frame_seat_of cpus)) ≡ 0
 none_of_all h [] all = refl
 none_of_all h (c ∷ cpus) all =
-    let one : h c.seat.view ≡ 0 = all 0 c (omega arith) in
+    let one : h c.frame_seat.view ≡ 0 = all 0 c (omega arith) in
     let rest = none_of_all h cpus (λ k any inside. all (suc k) any (omega (arith, inside))) in
     omega (arith, one, rest)
 
@@ -91,8 +91,8 @@ module _ (t : KnownTable) (w : Words) (m : KnownMachine) (cpus : List KnownCpu) 
   abbrev views : List FrameView
   views = map view_of (map frame_seat_of cpus)
 
-  is_zone : (m.seat.view.number == 0) ≡ true
-  is_zone = eq-eqb m.seat.view.number 0 ok.seats.frames.1
+  is_zone : (m.frame_seat.view.number == 0) ≡ true
+  is_zone = eq-eqb m.frame_seat.view.number 0 ok.seats.frames.1
 
   -- no processor's seat has a reference, and only the zone's notes a visit
   no_reference : (f : ℕ) → sum_over (references_in f) views ≡ 0
@@ -105,8 +105,8 @@ module _ (t : KnownTable) (w : Words) (m : KnownMachine) (cpus : List KnownCpu) 
       let some = c.tied.seats.some_number in
       let named = c.tied.seats.frame_number in
       let c_now = get_or cpus k any in
-      cond-false (c_now.seat.view.number == 0) (slice_index c_now.seat.view.opened p) 0
-      (ne_eqb c_now.seat.view.number 0 (λ e. omega (arith, some, named, e))))
+      cond-false (c_now.frame_seat.view.number == 0) (slice_index c_now.frame_seat.view.opened p) 0
+      (ne_eqb c_now.frame_seat.view.number 0 (λ e. omega (arith, some, named, e))))
 
   abbrev kept : ℕ → ℕ
   kept f = one_if (is_some (home_of m.links f))
@@ -114,7 +114,7 @@ module _ (t : KnownTable) (w : Words) (m : KnownMachine) (cpus : List KnownCpu) 
   word_of_frame : (f : ℕ) → f < t.frames → slice_index closed.words f ≡ kept f
   word_of_frame f inside =
       let rule = closed.rule.each_frame f inside in
-      let zone : (note_of m.seat.view f).references ≡ kept f = (ok.spots f inside).references in
+      let zone : (note_of m.frame_seat.view f).references ≡ kept f = (ok.spots f inside).references in
       let none = no_reference f in
       elim rule.one_case [
         | inl referenced ↦ let same = referenced.2 in omega (arith, same, zone, none)
@@ -125,8 +125,8 @@ module _ (t : KnownTable) (w : Words) (m : KnownMachine) (cpus : List KnownCpu) 
               let low = passing.0 in
               let high = passing.1 in
               let visit = closed.rule.each_visit p (omega (arith, low)) (omega (arith, high, low)) in
-              let seen : only 0 m.seat.view (slice_index m.seat.view.opened p) ≡ 0 =
-              cond-true (m.seat.view.number == 0) (slice_index m.seat.view.opened p) 0 is_zone ∙ shut p in
+              let seen : only 0 m.frame_seat.view (slice_index m.frame_seat.view.opened p) ≡ 0 =
+              cond-true (m.frame_seat.view.number == 0) (slice_index m.frame_seat.view.opened p) 0 is_zone ∙ shut p in
               let others = no_visit p in
               let noted = visit.noted in
               absurd (visit.shut (omega (arith, noted, seen, others)) f inside (omega (arith, low)))
@@ -141,19 +141,19 @@ module _ (t : KnownTable) (w : Words) (m : KnownMachine) (cpus : List KnownCpu) 
       let k = at.place in
       let long = long_stocks cpus in
       let inside = at.inside in
-      let any : KnownCpu = record { number = 0; list = []; fresh = []; back = []; pins = []; seat = m.seat; stock = m.stock; drops = 0 } in
+      let any : KnownCpu = record { number = 0; list = []; fresh = []; back = []; pins = []; frame_seat = m.frame_seat; stock_seat = m.stock_seat; drops = 0 } in
       let c = get_or cpus k any in
       let there : k < length cpus = omega (arith, long, inside) in
       let spent = all k any there in
       let view = view_at cpus k any there in
       let number : c.number ≡ p = sym spent.tied.seats.stock_number ∙ sym (ap (λ v. v.number) view) ∙ at.number in
       let words = closed.stocks k inside in
-      let drained = ap (λ (q : ℕ). (account_of m.stock.view q).filled) (at.number ∙ sym number) ∙ spent.drained in
+      let drained = ap (λ (q : ℕ). (account_of m.stock_seat.view q).filled) (at.number ∙ sym number) ∙ spent.drained in
       let empty : pages_of words.stock ≡ 0 = not_held words.stock (words.held ∙ drained) in
       let fresh : (view_in (map stock_seat_of cpus) k).fresh ≡ 0 = ap (λ v. v.fresh) view ∙ spent.tied.within.pages_are ∙ ap length spent.idle.1 in
       let noted = words.reported ∙ ok.absorbed (view_in (map stock_seat_of cpus) k).number in
       let balanced = words.balanced in
-      let book : (account_of m.stock.view (view_in (map stock_seat_of cpus) k).number).book ≡ 0 = omega (arith, balanced, empty, fresh, noted) in (
+      let book : (account_of m.stock_seat.view (view_in (map stock_seat_of cpus) k).number).book ≡ 0 = omega (arith, balanced, empty, fresh, noted) in (
         c,
         number,
         spent,
@@ -162,13 +162,13 @@ module _ (t : KnownTable) (w : Words) (m : KnownMachine) (cpus : List KnownCpu) 
       )
 
   -- the words tell each processor's stock
-  told_each : All (λ c. IsStockOf closed.stock_words c.number m.stock.view c.stock.view) cpus
+  told_each : All (λ c. IsStockOf closed.stock_words c.number m.stock_seat.view c.stock_seat.view) cpus
   told_each k any inside =
       let c = get_or cpus k any in
       let long = long_stocks cpus in
       let view = view_at cpus k any inside in
       let number : (view_in (map stock_seat_of cpus) k).number ≡ c.number = ap (λ v. v.number) view ∙ (all k any inside).tied.seats.stock_number in
-      subst (λ (z : ℕ × StockView). IsStockOf closed.stock_words z.0 m.stock.view z.1) (λ i. (number i, view i))
+      subst (λ (z : ℕ × StockView). IsStockOf closed.stock_words z.0 m.stock_seat.view z.1) (λ i. (number i, view i))
       (closed.stocks k (omega (arith, long, inside)))
 
   none_lent : (p : ℕ) → NoneLentTo p m.spots

@@ -29,13 +29,13 @@ use Rattle.mem_machine.proofs.Followed.{makes_both, makes_none}
 -- ---- a visit
 
 -- the visit stays where the zone's seat does
-pub visit_keeps : (t : KnownTable) (m n : KnownMachine) (c : KnownCpu) → n.seat ≡ m.seat → Visits t (side m c)
+pub visit_keeps : (t : KnownTable) (m n : KnownMachine) (c : KnownCpu) → n.frame_seat ≡ m.frame_seat → Visits t (side m c)
     → KeepsVisit t (side m c) (side n c)
 visit_keeps t m n c seat v = record {
   visit = record {
     is_open = subst (λ (s : KnownSeat). IsOpen s c.number) (sym seat) v.is_open;
-    still = subst (λ (s : KnownSeat). NothingPasses t s c.seat) (sym seat) v.still;
-    lent = subst (λ (s : KnownSeat). LentIsBorrowed t s c.seat) (sym seat) v.lent;
+    still = subst (λ (s : KnownSeat). NothingPasses t s c.frame_seat) (sym seat) v.still;
+    lent = subst (λ (s : KnownSeat). LentIsBorrowed t s c.frame_seat) (sym seat) v.lent;
   };
   opened = ap (λ (s : KnownSeat). s.view.opened) seat;
   number = refl;
@@ -58,7 +58,7 @@ usage_visit : (t : KnownTable) (g limit : ℕ) (m n : KnownMachine) (c : KnownCp
     → Visits t (side m c) → KeepsVisit t (side m c) (side n c)
 usage_visit t g limit m n c steps h v =
     let x = h.drained in
-    let first = visit_keeps t m x c (all_same g t.cpus m x h.drains h.drains_all).seat v in
+    let first = visit_keeps t m x c (all_same g t.cpus m x h.drains h.drains_all).frame_seat v in
     record { visit = h.keeps.visit c first.visit; opened = h.keeps.opened ∙ first.opened; number = refl; back = refl }
 
 pub lowered_visit : (t : KnownTable) (g limit : ℕ) (m n : KnownMachine) (c : KnownCpu)
@@ -78,7 +78,7 @@ above_visit t g limit m n c b v = elim (cases_lt limit (current_of m.ledger g)) 
       let first = usage_visit t g limit (with_limit_noted m g 0) x c h.lowering h.lowers told in
       let kills = kills_lower None t g 0 x n h.killing h.kills in
       record { visit = kills.visit c first.visit; opened = kills.opened ∙ first.opened; number = refl; back = refl }
-  | inr within ↦ visit_keeps t m n c (ap (λ (k : KnownMachine). k.seat) (b.1.within (omega (arith, within))).machine) v
+  | inr within ↦ visit_keeps t m n c (ap (λ (k : KnownMachine). k.frame_seat) (b.1.within (omega (arith, within))).machine) v
 ]
 
 -- the stocks are drained, and then the rounds are made

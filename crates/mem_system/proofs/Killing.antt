@@ -129,7 +129,7 @@ module _ (t : KnownTable) (MayAsk : List Group → ℕ → ℕ → Type 0) (s : 
       let full : nat_le (current_of x.ledger g + 0) limit ≡ false = sym (ap (λ (o : Option ℕ). fits_limit o (current_of x.ledger g + 0)) here) ∙ over in
       let more = leb-false (current_of x.ledger g + 0) limit full in
       missed_since t MayAsk s c g (made ++ first) y x after_drains (low.missed (omega (arith, more))) in
-      let drained = drained_on t MayAsk s c g y x low.keeps.groups low.keeps.stock low.none_held in
+      let drained = drained_on t MayAsk s c g y x low.keeps.groups low.keeps.stock_seat low.none_held in
       let still = subst (λ (l : List Group). MayAsk l g 0) (sym groups) asked in
       let killing = tame_kills t MayAsk s c None g 0 (made ++ h.lowering) x h.killing n still (passes_both t c s m x made h.lowering since lowering) drained
       missed h.kills in

@@ -32,7 +32,7 @@ pub record Cut (frames : List ℕ) (m : KnownMachine) (c : KnownCpu) (n : KnownM
   pub number : d.number ≡ c.number
   pub fresh : d.fresh ≡ c.fresh
   pub back : d.back ≡ c.back
-  pub opened : n.seat.view.opened ≡ m.seat.view.opened
+  pub opened : n.frame_seat.view.opened ≡ m.frame_seat.view.opened
   pub free : (f : ℕ) → spot_at m.spots f ≡ Free → spot_at n.spots f ≡ Free
 
 pub cut_off : (frames : List ℕ) (m : KnownMachine) (c : KnownCpu) (n : KnownMachine) (d : KnownCpu) → TakesManyBack frames (side m c) (side n d) → Cut frames m c n d
@@ -41,7 +41,7 @@ cut_off [] m c n d t = record {
   number = ap (λ (e : KnownCpu). e.number) t.cpu;
   fresh = ap (λ (e : KnownCpu). e.fresh) t.cpu;
   back = ap (λ (e : KnownCpu). e.back) t.cpu;
-  opened = ap (λ (k : KnownMachine). k.seat.view.opened) t.machine;
+  opened = ap (λ (k : KnownMachine). k.frame_seat.view.opened) t.machine;
   free = λ f is. ap (λ (k : KnownMachine). spot_at k.spots f) t.machine ∙ is;
 }
 cut_off (f ∷ rest) m c n d t =
@@ -52,7 +52,7 @@ cut_off (f ∷ rest) m c n d t =
       number = more.number ∙ ap (λ (e : KnownCpu). e.number) one.cpu;
       fresh = more.fresh ∙ ap (λ (e : KnownCpu). e.fresh) one.cpu;
       back = more.back ∙ ap (λ (e : KnownCpu). e.back) one.cpu;
-      opened = more.opened ∙ ap (λ (k : KnownMachine). k.seat.view.opened) one.machine;
+      opened = more.opened ∙ ap (λ (k : KnownMachine). k.frame_seat.view.opened) one.machine;
       free = λ g is. more.free g (ap (λ (k : KnownMachine). spot_at k.spots g) one.machine ∙ set_free m.spots f g is);
     }
 

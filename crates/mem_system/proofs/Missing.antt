@@ -34,7 +34,7 @@ makes_counts : (path : List ℕ) (said : Reply) (way : Course KnownMachine) → 
 makes_counts path (reply.Group n) way h =
     counts_as way.table way.before way.after way.steps (make_steps path n) h.steps_are
     (counts_same way.table way.before way.after (make_steps path n) (record { quiet = refl; no_miss = λ f. refl })
-    (ap (λ (x : KnownMachine). x.seat) h.adds.machine))
+    (ap (λ (x : KnownMachine). x.frame_seat) h.adds.machine))
 makes_counts path (reply.Refused fault) way h = counts_rest way.table way.before way.after way.steps h.1.machine h.1.steps_are
 makes_counts path other way h = absurd h
 
@@ -52,7 +52,7 @@ removes_counts path reply.Done way h =
     (counts_both t way.before h.emptied way.after h.lowering (remove_steps h.group)
     (lowers_counts h.group 0 (course t way.before h.lowering h.emptied) h.lowers)
     (counts_same t h.emptied way.after (remove_steps h.group) (record { quiet = refl; no_miss = λ f. refl })
-    (ap (λ (x : KnownMachine). x.seat) h.machine)))
+    (ap (λ (x : KnownMachine). x.frame_seat) h.machine)))
 removes_counts path (reply.Refused fault.Busy) way h = lowers_counts h.group 0 way h.lowers
 removes_counts path (reply.Refused other) way h = counts_rest way.table way.before way.after way.steps h.1.machine h.1.steps_are
 removes_counts path other way h = absurd h
@@ -89,19 +89,19 @@ heads_none : (f : ℕ) (way : Course KnownMachine) → HeadsNoUnit f way → Cou
 heads_none f way h = counts_rest way.table way.before way.after way.steps h.rests.machine h.rests.steps_are
 
 -- without a step, where the zone's seat stays
-seat_stays : (way : Course KnownMachine) → way.after.seat ≡ way.before.seat → way.steps ≡ [] → CountsMisses way
+seat_stays : (way : Course KnownMachine) → way.after.frame_seat ≡ way.before.frame_seat → way.steps ≡ [] → CountsMisses way
 seat_stays way same none =
     counts_as way.table way.before way.after way.steps [] none
     (counts_same way.table way.before way.after [] (record { quiet = refl; no_miss = λ f. refl }) same)
 
 touches_counts : (f : ℕ) (said : Reply) (way : Course KnownMachine) → TouchesFrame f said way → CountsMisses way
-touches_counts f reply.Marked way h = seat_stays way (ap (λ (x : KnownMachine). x.seat) h.0.machine) h.1
-touches_counts f reply.Active way h = seat_stays way (ap (λ (x : KnownMachine). x.seat) h.0.machine) h.1
+touches_counts f reply.Marked way h = seat_stays way (ap (λ (x : KnownMachine). x.frame_seat) h.0.machine) h.1
+touches_counts f reply.Active way h = seat_stays way (ap (λ (x : KnownMachine). x.frame_seat) h.0.machine) h.1
 touches_counts f (reply.Refused fault.NotKept) way h = heads_none f way h
 touches_counts f other way h = absurd h
 
 notes_counts : (is_dirty : Bool) (f : ℕ) (said : Reply) (way : Course KnownMachine) → NotesDirt f is_dirty said way → CountsMisses way
-notes_counts is_dirty f reply.Done way h = seat_stays way (ap (λ (x : KnownMachine). x.seat) h.0.machine) h.1
+notes_counts is_dirty f reply.Done way h = seat_stays way (ap (λ (x : KnownMachine). x.frame_seat) h.0.machine) h.1
 notes_counts is_dirty f (reply.Refused fault.NotKept) way h = heads_none f way h
 notes_counts is_dirty f other way h = absurd h
 
@@ -117,7 +117,7 @@ lists_counts sizes f way h =
     (counts_none t m x cut (back_calm p h.cuts.cut) (back_same h.cuts.cut way.before h.mid h.cuts.takes)) in
     counts_as t m n way.steps (h.cutting ++ lend_steps p f) h.steps_are (counts_both t m x n h.cutting (lend_steps p f) cuts
     (counts_none t x n (lend_steps p f) (record { quiet = refl; no_miss = λ g. refl })
-    (λ g. ap (λ (k : KnownMachine). misses_of k.seat g) h.lends.machine ∙ misses_put x.seat f g (passed_out_to h.mid.cpu.number) (λ k. refl))))
+    (λ g. ap (λ (k : KnownMachine). misses_of k.frame_seat g) h.lends.machine ∙ misses_put x.frame_seat f g (passed_out_to h.mid.cpu.number) (λ k. refl))))
 
 returns_counts : (sizes : Config) (f : ℕ) (way : Course Side) → ReturnsFrames sizes f way → CountsMisses (of_machine way)
 returns_counts sizes f way h =
@@ -126,7 +126,7 @@ returns_counts sizes f way h =
     let n = way.after.machine in
     let first = release_steps f released.Returned in
     let back = counts_none t m h.freed first (record { quiet = refl; no_miss = λ g. refl })
-    (λ g. ap (λ (k : KnownMachine). misses_of k.seat g) h.returns.machine ∙ misses_put m.seat f g let_go_last (λ k. refl)) in
+    (λ g. ap (λ (k : KnownMachine). misses_of k.frame_seat g) h.returns.machine ∙ misses_put m.frame_seat f g let_go_last (λ k. refl)) in
     let listed : CountsMisses (course t h.freed h.listing n) = elim (cases_eq h.returns.unit.order 0) [
       | inl single ↦ lists_counts sizes f (course t (side h.freed way.before.cpu) h.listing way.after) (h.single single)
       | inr block ↦ counts_rest t h.freed n h.listing (h.block block).machine (h.block block).steps_are
@@ -139,7 +139,7 @@ releases_counts sizes f (reply.Left left) way h =
     let n = way.after.machine in
     let steps = release_steps f (released.Left left) in
     counts_as way.table m n way.steps steps h.steps_are (counts_none way.table m n steps (record { quiet = refl; no_miss = λ g. refl })
-    (λ g. ap (λ (k : KnownMachine). misses_of k.seat g) h.leaves.machine ∙ misses_put m.seat f g (let_go left) (λ k. refl)))
+    (λ g. ap (λ (k : KnownMachine). misses_of k.frame_seat g) h.leaves.machine ∙ misses_put m.frame_seat f g (let_go left) (λ k. refl)))
 releases_counts sizes f reply.Returned way h = returns_counts sizes f way h
 releases_counts sizes f (reply.Refused fault.NotKept) way h = heads_none f (of_machine way) h.does
 releases_counts sizes f other way h = absurd h

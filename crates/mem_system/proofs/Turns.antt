@@ -85,13 +85,13 @@ still_lent (x ∷ xs) (suc f) (suc g) p is = still_lent xs f g p is
 
 pub record TakenAlone (m : KnownMachine) (c : KnownCpu) (n : KnownMachine) (d : KnownCpu) : Type 0 where
   pub lent : (f p : ℕ) → spot_at n.spots f ≡ Lent p → spot_at m.spots f ≡ Lent p
-  pub stock : n.stock ≡ m.stock
+  pub stock_seat : n.stock_seat ≡ m.stock_seat
   pub pins : d.pins ≡ c.pins
 
 pub taken_alone : (frames : List ℕ) (m : KnownMachine) (c : KnownCpu) (n : KnownMachine) (d : KnownCpu) → TakesManyBack frames (side m c) (side n d) → TakenAlone m c n d
 taken_alone [] m c n d t = record {
   lent = λ f p is. sym (ap (λ (k : KnownMachine). spot_at k.spots f) t.machine) ∙ is;
-  stock = ap (λ (k : KnownMachine). k.stock) t.machine;
+  stock_seat = ap (λ (k : KnownMachine). k.stock_seat) t.machine;
   pins = ap (λ (e : KnownCpu). e.pins) t.cpu;
 }
 taken_alone (f ∷ rest) m c n d t =
@@ -99,7 +99,7 @@ taken_alone (f ∷ rest) m c n d t =
     let more = taken_alone rest t.0.machine t.0.cpu n d t.2 in
     record {
       lent = λ g p is. still_lent m.spots f g p (sym (ap (λ (k : KnownMachine). spot_at k.spots g) one.machine) ∙ more.lent g p is);
-      stock = more.stock ∙ ap (λ (k : KnownMachine). k.stock) one.machine;
+      stock_seat = more.stock_seat ∙ ap (λ (k : KnownMachine). k.stock_seat) one.machine;
       pins = more.pins ∙ ap (λ (e : KnownCpu). e.pins) one.cpu;
     }
 
@@ -110,23 +110,23 @@ emptied_alone m entered x y n c1 c2 frames p q k opened takes drains shut =
     let taken = taken_alone frames entered c1 x c2 takes in
     let spots : n.spots ≡ x.spots = ap (λ (z : KnownMachine). z.spots) shut ∙ ap (λ (z : KnownMachine). z.spots) drains.machine in
     let first : entered.spots ≡ m.spots = ap (λ (z : KnownMachine). z.spots) opened in
-    let view : n.stock.view ≡ draining m.stock.view q k =
-    ap (λ (z : KnownMachine). z.stock.view) shut ∙ ap (λ (z : KnownMachine). z.stock.view) drains.machine
-    ∙ ap (λ (z : Seated). draining z.view q k) (taken.stock ∙ ap (λ (z : KnownMachine). z.stock) opened) in
+    let view : n.stock_seat.view ≡ draining m.stock_seat.view q k =
+    ap (λ (z : KnownMachine). z.stock_seat.view) shut ∙ ap (λ (z : KnownMachine). z.stock_seat.view) drains.machine
+    ∙ ap (λ (z : Seated). draining z.view q k) (taken.stock_seat ∙ ap (λ (z : KnownMachine). z.stock_seat) opened) in
     record {
       none_lent = λ r none f is. none f (sym (ap (λ (l : List Spot). spot_at l f) first)
           ∙ taken.lent f r (sym (ap (λ (l : List Spot). spot_at l f) spots) ∙ is));
       drained = λ r was. ap (λ (v : StockView). (account_of v r).filled) view ∙ elim (cases_eq r q) [
-        | inl e ↦ ap (λ (j : ℕ). (account_of (draining m.stock.view q k) j).filled) e ∙ ap (λ (a : Account). a.filled) (drained_at m.stock.view q k)
-        | inr ne ↦ ap (λ (a : Account). a.filled) (drained_else m.stock.view q k r ne) ∙ was
+        | inl e ↦ ap (λ (j : ℕ). (account_of (draining m.stock_seat.view q k) j).filled) e ∙ ap (λ (a : Account). a.filled) (drained_at m.stock_seat.view q k)
+        | inr ne ↦ ap (λ (a : Account). a.filled) (drained_else m.stock_seat.view q k r ne) ∙ was
       ];
     }
 
 -- and the processor's own stock is drained
-pub emptied_drained : (x y n : KnownMachine) (p q k : ℕ) → Drains q k x y → n ≡ with_visit_of y p 0 → (account_of n.stock.view q).filled ≡ false
+pub emptied_drained : (x y n : KnownMachine) (p q k : ℕ) → Drains q k x y → n ≡ with_visit_of y p 0 → (account_of n.stock_seat.view q).filled ≡ false
 emptied_drained x y n p q k drains shut =
-    ap (λ (z : KnownMachine). (account_of z.stock.view q).filled) (shut ∙ ap (λ (z : KnownMachine). with_visit_of z p 0) drains.machine)
-    ∙ ap (λ (a : Account). a.filled) (drained_at x.stock.view q k)
+    ap (λ (z : KnownMachine). (account_of z.stock_seat.view q).filled) (shut ∙ ap (λ (z : KnownMachine). with_visit_of z p 0) drains.machine)
+    ∙ ap (λ (a : Account). a.filled) (drained_at x.stock_seat.view q k)
 
 -- the whole visit, from its four parts
 pub emptied : (t : KnownTable) (m n : KnownMachine) (c d : KnownCpu) (entered x y : KnownMachine) (c1 c2 : KnownCpu) (k q pages : ℕ)

@@ -19,31 +19,31 @@ use Rattle.mem_system.specs.Commands.{BySteps, Obeys, course}
 use Rattle.mem_system.specs.Visits.{with_visit_of, holder, IsServed}
 use Rattle.mem_machine.proofs.Followed.{makes_both}
 
-pub all_shut : (m x n : KnownMachine) (p : ℕ) → AllShut m → x.seat.view.opened ≡ put_at 0 m.seat.view.opened p 1 → n ≡ with_visit_of x p 0 → AllShut n
+pub all_shut : (m x n : KnownMachine) (p : ℕ) → AllShut m → x.frame_seat.view.opened ≡ put_at 0 m.frame_seat.view.opened p 1 → n ≡ with_visit_of x p 0 → AllShut n
 all_shut m x n p shut opened is q =
-    let now = ap (λ (k : KnownMachine). get_or k.seat.view.opened q 0) is in
+    let now = ap (λ (k : KnownMachine). get_or k.frame_seat.view.opened q 0) is in
     elim (eqb_tells q p) [
-      | inl same ↦ now ∙ ap (λ (r : ℕ). get_or (put_at 0 x.seat.view.opened p 0) r 0) same.1 ∙ put_here 0 x.seat.view.opened p 0
-      | inr other ↦ now ∙ put_else 0 x.seat.view.opened p q 0 other.1 ∙ ap (λ (l : List ℕ). get_or l q 0) opened
-          ∙ put_else 0 m.seat.view.opened p q 1 other.1 ∙ shut q
+      | inl same ↦ now ∙ ap (λ (r : ℕ). get_or (put_at 0 x.frame_seat.view.opened p 0) r 0) same.1 ∙ put_here 0 x.frame_seat.view.opened p 0
+      | inr other ↦ now ∙ put_else 0 x.frame_seat.view.opened p q 0 other.1 ∙ ap (λ (l : List ℕ). get_or l q 0) opened
+          ∙ put_else 0 m.frame_seat.view.opened p q 1 other.1 ∙ shut q
     ]
 
 -- a settled frame leaves the visits as they were
-settled_fresh : (f : ℕ) (m n : KnownMachine) (c d : KnownCpu) → SettlesFresh f (side m c) (side n d) → n.seat.view.opened ≡ m.seat.view.opened
+settled_fresh : (f : ℕ) (m n : KnownMachine) (c d : KnownCpu) → SettlesFresh f (side m c) (side n d) → n.frame_seat.view.opened ≡ m.frame_seat.view.opened
 settled_fresh f m n c d s = elim (cases_Bool (is_killed m.killed (fresh_group c))) [
-  | inl killed ↦ ap (λ (k : KnownMachine). k.seat.view.opened) (s.drops killed).machine
-  | inr alive ↦ ap (λ (k : KnownMachine). k.seat.view.opened) (s.keeps alive).machine
+  | inl killed ↦ ap (λ (k : KnownMachine). k.frame_seat.view.opened) (s.drops killed).machine
+  | inr alive ↦ ap (λ (k : KnownMachine). k.frame_seat.view.opened) (s.keeps alive).machine
 ]
 
-settled_all : (frames : List ℕ) (m n : KnownMachine) (c d : KnownCpu) → SettlesAllFresh frames (side m c) (side n d) → n.seat.view.opened ≡ m.seat.view.opened
-settled_all [] m n c d s = ap (λ (k : KnownMachine). k.seat.view.opened) s.machine
+settled_all : (frames : List ℕ) (m n : KnownMachine) (c d : KnownCpu) → SettlesAllFresh frames (side m c) (side n d) → n.frame_seat.view.opened ≡ m.frame_seat.view.opened
+settled_all [] m n c d s = ap (λ (k : KnownMachine). k.frame_seat.view.opened) s.machine
 settled_all (f ∷ rest) m n c d s = settled_all rest s.0.machine n s.0.cpu d s.2 ∙ settled_fresh f m s.0.machine c s.0.cpu s.1
 
-returned_all : (frames : List ℕ) (m n : KnownMachine) (c d : KnownCpu) → ReturnsAllBack frames (side m c) (side n d) → n.seat.view.opened ≡ m.seat.view.opened
-returned_all [] m n c d s = ap (λ (k : KnownMachine). k.seat.view.opened) s.machine
-returned_all (f ∷ rest) m n c d s = returned_all rest s.0.machine n s.0.cpu d s.2 ∙ ap (λ (k : KnownMachine). k.seat.view.opened) s.1.machine
+returned_all : (frames : List ℕ) (m n : KnownMachine) (c d : KnownCpu) → ReturnsAllBack frames (side m c) (side n d) → n.frame_seat.view.opened ≡ m.frame_seat.view.opened
+returned_all [] m n c d s = ap (λ (k : KnownMachine). k.frame_seat.view.opened) s.machine
+returned_all (f ∷ rest) m n c d s = returned_all rest s.0.machine n s.0.cpu d s.2 ∙ ap (λ (k : KnownMachine). k.frame_seat.view.opened) s.1.machine
 
-pub settled_opened : (m n : KnownMachine) (c d : KnownCpu) → Settles (side m c) (side n d) → n.seat.view.opened ≡ m.seat.view.opened
+pub settled_opened : (m n : KnownMachine) (c d : KnownCpu) → Settles (side m c) (side n d) → n.frame_seat.view.opened ≡ m.frame_seat.view.opened
 settled_opened m n c d s = returned_all c.back s.mid.machine n s.mid.cpu d s.back ∙ settled_all c.fresh m s.mid.machine c s.mid.cpu s.fresh
 
 -- the whole command, from its four parts

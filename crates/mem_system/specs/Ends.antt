@@ -74,13 +74,13 @@ pub record IsSpent (table : KnownTable) (words : Words) (machine : KnownMachine)
   pub tied : IsTied table words cpu
   pub idle : IsIdle cpu
   pub none_lent : NoneLentTo cpu.number machine.spots
-  pub drained : (account_of machine.stock.view cpu.number).filled ≡ false
+  pub drained : (account_of machine.stock_seat.view cpu.number).filled ≡ false
 
 -- no frame was lent to anyone, and no stock was filled
 pub record LendsAndFillsNone (before after : KnownMachine) : Type 0 where
   pub none_lent : (processor : ℕ) → NoneLentTo processor before.spots → NoneLentTo processor after.spots
-  pub drained : (processor : ℕ) → (account_of before.stock.view processor).filled ≡ false
-      → (account_of after.stock.view processor).filled ≡ false
+  pub drained : (processor : ℕ) → (account_of before.stock_seat.view processor).filled ≡ false
+      → (account_of after.stock_seat.view processor).filled ≡ false
 
 -- The audit is that of the machine, with so many drops of the processors' own, each of which is a return too. A count
 -- stays at its greatest
@@ -101,11 +101,11 @@ pub record AddsUp (audit : Audit) : Type 0 where
 
 -- the processor's seat at the frames' table
 abbrev pub frame_seat_of : KnownCpu → KnownSeat
-frame_seat_of cpu = cpu.seat
+frame_seat_of cpu = cpu.frame_seat
 
 -- the processor's seat at the stocks' table
 abbrev pub stock_seat_of : KnownCpu → Seated
-stock_seat_of cpu = cpu.stock
+stock_seat_of cpu = cpu.stock_seat
 
 -- one of the seats is that of the processor
 pub record HasSeatOf (seats : List Seated) (processor : ℕ) : Type 0 where
@@ -116,7 +116,7 @@ pub record HasSeatOf (seats : List Seated) (processor : ℕ) : Type 0 where
 -- the words tell the stock of the processor whose seat is at this place
 abbrev pub TellsStockAt : (words : List ℕ) → KnownMachine → (seats : List Seated) (place : ℕ) → Type 0
 TellsStockAt words machine seats place =
-    IsStockOf words (view_in seats place).number machine.stock.view (view_in seats place)
+    IsStockOf words (view_in seats place).number machine.stock_seat.view (view_in seats place)
 
 -- Both tables are closed with these seats and the machine's, which was consistent. The frames' words keep the
 -- reference rule. Each processor has a seat at the stocks' table, and the stocks' words are what it and the machine's
@@ -125,7 +125,7 @@ pub record IsClosed (table : KnownTable) (stock_table : Words) (machine : KnownM
     (frame_seats : List KnownSeat) (stock_seats : List Seated) : Type 0 where
   pub consistent : IsConsistent table stock_table machine
   pub words : List ℕ
-  pub rule : ReferenceRule table.frames table.cpus words ((machine.seat.view ∷ map view_of frame_seats) ∷ [])
+  pub rule : ReferenceRule table.frames table.cpus words ((machine.frame_seat.view ∷ map view_of frame_seats) ∷ [])
   pub stock_words : List ℕ
   pub each : (processor : ℕ) → 0 < processor → processor ≤ stock_table.cpus → HasSeatOf stock_seats processor
   pub stocks : (place : ℕ) → place < length stock_seats → TellsStockAt stock_words machine stock_seats place
@@ -135,7 +135,7 @@ pub record IsClosed (table : KnownTable) (stock_table : Words) (machine : KnownM
 pub record AreLastWords (table : KnownTable) (machine : KnownMachine) (cpus : List KnownCpu)
     (last : List ℕ) : Type 0 where
   pub rule : ReferenceRule table.frames table.cpus last
-      ((machine.seat.view ∷ map view_of (map frame_seat_of cpus)) ∷ [])
+      ((machine.frame_seat.view ∷ map view_of (map frame_seat_of cpus)) ∷ [])
   pub references : (frame : ℕ) → frame < table.frames
       → slice_index last frame ≡ one_if (is_some (home_of machine.links frame))
 
@@ -145,7 +145,7 @@ pub record HasNoPage (machine : KnownMachine) (stock_words : List ℕ) (processo
   pub encoded : slice_index stock_words (stock_place processor) ≡ word_of stock
   pub empty : pages_of stock ≡ 0
   pub none_reported : slice_index stock_words (report_place processor) ≡ 0
-  pub book : (account_of machine.stock.view processor).book ≡ 0
+  pub book : (account_of machine.stock_seat.view processor).book ≡ 0
 
 -- The end of a boot where no pin remains: each processor is settled, each list is given back and each stock drained.
 -- No frame is lent to anyone then, the closed words tell each processor's stock, no page is in one, and the audit
@@ -163,7 +163,7 @@ pub record Ends (table : KnownTable) (stock_table : Words) (locked : KnownLocked
   pub all_spent : All (λ cpu. IsSpent table stock_table last cpu) spent
   pub none_lent : (processor : ℕ) → NoneLentTo processor last.spots
   pub stock_words : List ℕ
-  pub told : All (λ cpu. IsStockOf stock_words cpu.number last.stock.view cpu.stock.view) spent
+  pub told : All (λ cpu. IsStockOf stock_words cpu.number last.stock_seat.view cpu.stock_seat.view) spent
   pub no_page : (processor : ℕ) → 1 ≤ processor → processor ≤ table.cpus → HasNoPage last stock_words processor
   pub words : List ℕ
   pub last_words : AreLastWords table last spent words

@@ -14,7 +14,7 @@ pub record KnownLocked : Type 0 where
 
 -- no visit is open
 abbrev pub AllShut : KnownMachine → Type 0
-AllShut machine = (processor : ℕ) → IsShut machine.seat processor
+AllShut machine = (processor : ℕ) → IsShut machine.frame_seat processor
 
 -- While no one holds the lock: no visit is open, the sizes are in their ranges, and the tables have them
 pub record IsQuiet (table : KnownTable) (words : Words) (locked : KnownLocked) : Type 0 where

@@ -26,7 +26,7 @@ use Rattle.mem_system.specs.Commands.{Obeys, ListAndFreshStayWithin}
 
 -- the machine with the processor's visit open (1) or shut (0)
 abbrev pub with_visit_of : KnownMachine → (processor state : ℕ) → KnownMachine
-with_visit_of machine processor state = record machine { seat = seat_with_visit machine.seat processor state }
+with_visit_of machine processor state = record machine { frame_seat = seat_with_visit machine.frame_seat processor state }
 
 -- the side once the processor's visit is open
 abbrev pub visited : Side → Side
@@ -92,8 +92,8 @@ IsCarriedOutFor table group outcome before after =
 -- borrowed
 pub record EndsVisit (table : KnownTable) (before after : Holder) : Type 0 where
   pub at_most_high : ListAndFreshStayWithin before.locked.sizes before.cpu after.cpu
-  pub still : NothingPasses table after.locked.machine.seat after.cpu.seat
-  pub lent : LentIsBorrowed table after.locked.machine.seat after.cpu.seat
+  pub still : NothingPasses table after.locked.machine.frame_seat after.cpu.frame_seat
+  pub lent : LentIsBorrowed table after.locked.machine.frame_seat after.cpu.frame_seat
 
 -- Through the lock: there was such a value behind it, with no visit open; the processor was served so in it; and what
 -- it lends the processor then are the frames that the processor's seat has borrowed
@@ -103,4 +103,4 @@ pub record IsVisited (table : KnownTable) (words : Words) (Served : Holder → H
   pub left : KnownLocked
   pub quiet : IsQuiet table words found
   pub served : Served (holder found before) (holder left after)
-  pub lent : LentIsBorrowed table left.machine.seat after.seat
+  pub lent : LentIsBorrowed table left.machine.frame_seat after.frame_seat

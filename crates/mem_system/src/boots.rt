@@ -37,7 +37,7 @@ impl Model for Boot {
     ghost view = { λ b. record { sizes = b.sizes; frames = b.frames; stocks = b.stocks } };
 
     ghost invariant = { λ b. IsBooted (record { sizes = b.sizes; frames = b.frames; stocks = b.stocks })
-        b.zone b.stock b.frame_seats.items b.stock_seats.items };
+        b.zone b.stock_seat b.frame_seats.items b.stock_seats.items };
 }
 
 impl Boot {

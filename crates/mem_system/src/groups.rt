@@ -20,7 +20,7 @@ use mem_machine::Machine;
 pub(crate) fn make_group<N: BootName>(machine: &mut Machine<N>, path: &[u8]) -> Outcome
     ensures made { ComesToForAny N.frames result (MakesGroup path.now) machine.old machine.new }
     ensures groups { HasItsGroups machine.new.ledger result }
-    ensures seat { machine.new.seat ≡ machine.old.seat }
+    ensures seat { machine.new.frame_seat ≡ machine.old.frame_seat }
 {
     match machine.make(path) {
         Ok(group) => Outcome::Group(group),

@@ -38,7 +38,7 @@ pub(crate) fn touch_frame<N: BootName>(
     requires { frame < N.frames.frames }
     ensures touched { ComesToForAny N.frames result (TouchesFrame frame) machine.old machine.new }
     ensures groups { HasItsGroups machine.new.ledger result }
-    ensures seat { machine.new.seat ≡ machine.old.seat }
+    ensures seat { machine.new.frame_seat ≡ machine.old.frame_seat }
 {
     let Some(frame) = find_unit(machine, tables, frame) else {
         return Outcome::Refused(Fault::NotKept);
@@ -59,7 +59,7 @@ pub(crate) fn note_dirt<N: BootName>(
     requires { frame < N.frames.frames }
     ensures noted { ComesToForAny N.frames result (NotesDirt frame is_dirty) machine.old machine.new }
     ensures groups { HasItsGroups machine.new.ledger result }
-    ensures seat { machine.new.seat ≡ machine.old.seat }
+    ensures seat { machine.new.frame_seat ≡ machine.old.frame_seat }
 {
     let Some(frame) = find_unit(machine, tables, frame) else {
         return Outcome::Refused(Fault::NotKept);

@@ -31,7 +31,7 @@ enum ReclaimRow {
 
 // What was noted, which is forgotten then.
 fn noted<N: BootName>(rt: &impl Abort, small: &mut SmallMachine<N>, notes: &[Note])
-    ensures opened { small.new.machine.seat.view.opened ≡ small.old.machine.seat.view.opened }
+    ensures opened { small.new.machine.frame_seat.view.opened ≡ small.old.machine.frame_seat.view.opened }
     ensures cpu { small.new.cpu ≡ small.old.cpu }
 {
     row_tells(rt, small.machine.notes() == notes, "notes");

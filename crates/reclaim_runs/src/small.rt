@@ -141,7 +141,7 @@ pub fn reclaim_from<N: BootName>(
 
 /// Kills the victim of the group, and tells its number; 64 where there is none.
 pub fn kill_for<N: BootName>(rt: &impl Abort, small: &mut SmallMachine<N>, group: GroupId) -> u32
-    ensures opened { small.new.machine.seat.view.opened ≡ small.old.machine.seat.view.opened }
+    ensures opened { small.new.machine.frame_seat.view.opened ≡ small.old.machine.frame_seat.view.opened }
     ensures cpu { small.new.cpu ≡ small.old.cpu }
 {
     assert!(rt; small.machine.charges().tree().contains(group));

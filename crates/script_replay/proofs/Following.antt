@@ -80,8 +80,8 @@ module _ (t : KnownTable) (m : KnownMachine) (c : KnownCpu) where
   pub unseen_same : (d : KnownCpu) → d ≡ c → IsUnseen t m c d
   unseen_same d is = record { number = ap (λ (x : KnownCpu). x.number) is; same = ap (local_of t m) is }
 
-  stock_phase : (stock : Seated) → group_of stock.view.last ≡ group_of c.stock.view.last → (f : ℕ) (x : Spot) →
-      phase_of (record c { stock = stock }) f x ≡ phase_of c f x
+  stock_phase : (stock : Seated) → group_of stock.view.last ≡ group_of c.stock_seat.view.last → (f : ℕ) (x : Spot) →
+      phase_of (record c { stock_seat = stock }) f x ≡ phase_of c f x
   stock_phase stock group f spot_is.Free = refl
   stock_phase stock group f (spot_is.Lent q) =
       λ i. cond (q == c.number && nat_le 1 (parts.times f c.fresh)) (phase.Head (record { group = number_or_0 (group i); order = 0 }) (FreshAt q))
@@ -90,34 +90,34 @@ module _ (t : KnownTable) (m : KnownMachine) (c : KnownCpu) where
   stock_phase stock group f (spot_is.Tail g) = refl
 
   -- it saw something of its stock, not of which group that is
-  unseen_stock : (d : KnownCpu) (stock : Seated) → d ≡ record c { stock = stock } → group_of stock.view.last ≡ group_of c.stock.view.last → IsUnseen t m c d
+  unseen_stock : (d : KnownCpu) (stock : Seated) → d ≡ record c { stock_seat = stock } → group_of stock.view.last ≡ group_of c.stock_seat.view.last → IsUnseen t m c d
   unseen_stock d stock is group = subst (IsUnseen t m c) (sym is) (record {
     number = refl;
     same = λ i. record (local_of t m c) { phases = λ f. stock_phase stock group f (spot_at m.spots f) i };
   })
 
   -- it noted something of a frame, not how many references it has
-  unseen_seat : (d : KnownCpu) (seat : KnownSeat) (f : ℕ) (change : FrameNote → FrameNote) → d ≡ record c { seat = seat } → seat ≡ seat_with c.seat f change →
+  unseen_seat : (d : KnownCpu) (seat : KnownSeat) (f : ℕ) (change : FrameNote → FrameNote) → d ≡ record c { frame_seat = seat } → seat ≡ seat_with c.frame_seat f change →
       ((k : FrameNote) → (change k).references ≡ k.references) → IsUnseen t m c d
   unseen_seat d seat f change is changed keeps = subst (IsUnseen t m c) (sym is) (record {
     number = refl;
     same = λ i. record (local_of t m c) {
-      references = λ q x. cond (q == 0) (holds m.seat x) (cond (q == c.number)
-          ((ap (λ (s : KnownSeat). holds s x) changed ∙ holds_same c.seat f change keeps x) i) 0);
+      references = λ q x. cond (q == 0) (holds m.frame_seat x) (cond (q == c.number)
+          ((ap (λ (s : KnownSeat). holds s x) changed ∙ holds_same c.frame_seat f change keeps x) i) 0);
     };
   })
 
   pub fast_unseen : (g : ℕ) (said : fast.Fast) (d : KnownCpu) → FastAnswers g said c d → ((f : ℕ) → said ≢ Got f) → IsUnseen t m c d
   fast_unseen g FreshFull d is none = unseen_same d is.1
   fast_unseen g ListEmpty d is none = unseen_same d is.2
-  fast_unseen g OtherGroup d is none = unseen_stock d (with_view c.stock is.1.0) is.1.2 (ap (λ v. group_of v.last) is.1.1.1)
+  fast_unseen g OtherGroup d is none = unseen_stock d (with_view c.stock_seat is.1.0) is.1.2 (ap (λ v. group_of v.last) is.1.1.1)
   fast_unseen g Drained d is none =
-      unseen_stock d (with_view c.stock is.1.0) is.1.2 (ap (λ v. group_of v.last) is.1.1.2 ∙ drained_group c.stock.view.last)
-  fast_unseen g NoStock d is none = unseen_stock d (with_view c.stock is.1.0) is.1.2 (ap (λ v. group_of v.last) is.1.1.1)
+      unseen_stock d (with_view c.stock_seat is.1.0) is.1.2 (ap (λ v. group_of v.last) is.1.1.2 ∙ drained_group c.stock_seat.view.last)
+  fast_unseen g NoStock d is none = unseen_stock d (with_view c.stock_seat is.1.0) is.1.2 (ap (λ v. group_of v.last) is.1.1.1)
   fast_unseen g (Got f) d is none = absurd (none f refl)
 
   drop_unseen : (f : ℕ) (d : KnownCpu) → DropAnswers f NeedVisit c d → IsUnseen t m c d
-  drop_unseen f d is = unseen_stock d (with_view c.stock is.0) is.2 (ap (λ v. group_of v.last) is.1.2 ∙ drained_group c.stock.view.last)
+  drop_unseen f d is = unseen_stock d (with_view c.stock_seat is.0) is.2 (ap (λ v. group_of v.last) is.1.2 ∙ drained_group c.stock_seat.view.last)
 
   pub list_unseen : (f : ℕ) (d : KnownCpu) → CanNotList f c d → IsUnseen t m c d
   list_unseen f d (inl is) = unseen_same d is.1

@@ -39,11 +39,11 @@ no_group (stock_is.DrainedOf h) e = absurd (none-some h (sym e))
 
 -- the other parts stay what their seats know
 pub tied_still : (t : KnownTable) (w : Words) (cpus : List KnownCpu) (k : ℕ) (c d : KnownCpu) → slice_get cpus k ≡ Some c → IsTied t w d →
-    (d.stock.view.last ≡ stock_is.NoGroup → d.fresh ≡ []) → AreTied t w cpus → AreTied t w (slice_set cpus k d)
+    (d.stock_seat.view.last ≡ stock_is.NoGroup → d.fresh ≡ []) → AreTied t w cpus → AreTied t w (slice_set cpus k d)
 tied_still t w cpus k c d is_part tied none all j e at = elim (cases_eq j k) [
   | inl here ↦
       let is : e ≡ d = set_here cpus k d e (slice_get_within cpus k c is_part) (subst (λ (i : ℕ). slice_get (slice_set cpus k d) i ≡ Some e) here at) in
-      subst (IsTiedPart t w) (sym is) (record { tied = tied; none_fresh = λ z. ap length (none (no_group d.stock.view.last z)) })
+      subst (IsTiedPart t w) (sym is) (record { tied = tied; none_fresh = λ z. ap length (none (no_group d.stock_seat.view.last z)) })
   | inr ne ↦ all j e (set_else cpus k j d e ne at)
 ]
 
@@ -52,7 +52,7 @@ pub part_keeps : (on : Terms) (before after : KnownLocked) (cpus : List KnownCpu
     {number : ℕ} {U E : Type 0} (r : Result U E) (old new : List ℕ) → line ≡ At number processor command → LineIsThere on.frames.frames (length cpus) line →
     slice_get cpus (processor - 1) ≡ Some c →
     (said : List ℕ) × AnswersText on command (holder before c) (holder after d) said × IfOk r (λ _. new ≡ old ++ said) →
-    HoldsInvariants on.frames on.stocks after → IsTied on.frames on.stocks d → (d.stock.view.last ≡ stock_is.NoGroup → d.fresh ≡ []) →
+    HoldsInvariants on.frames on.stocks after → IsTied on.frames on.stocks d → (d.stock_seat.view.last ≡ stock_is.NoGroup → d.fresh ≡ []) →
     (text : List ℕ) × ServesAndKeeps on line (standing before cpus) (standing after (slice_set cpus (processor - 1) d)) text × IfOk r (λ _. new ≡ old ++ text)
 part_keeps on before after cpus line processor command c d r old new is there is_part answered holds tied none = (
   answered.0,
@@ -73,7 +73,7 @@ pub part_read : (on : Terms) (before after : KnownLocked) (cpus : List KnownCpu)
     {number : ℕ} {U E : Type 0} (r : Result U E) (old new : List ℕ) → line ≡ At number processor command → LineIsThere on.frames.frames (length cpus) line →
     c ≡ get_or cpus (processor - 1) c →
     (said : List ℕ) × AnswersText on command (holder before c) (holder after d) said × IfOk r (λ _. new ≡ old ++ said) →
-    HoldsInvariants on.frames on.stocks after → IsTied on.frames on.stocks d → (d.stock.view.last ≡ stock_is.NoGroup → d.fresh ≡ []) →
+    HoldsInvariants on.frames on.stocks after → IsTied on.frames on.stocks d → (d.stock_seat.view.last ≡ stock_is.NoGroup → d.fresh ≡ []) →
     (text : List ℕ) × ServesAndKeeps on line (standing before cpus) (standing after (slice_set cpus (processor - 1) d)) text × IfOk r (λ _. new ≡ old ++ text)
 part_read on before after cpus line processor command c d {number = number} r old new is there read answered holds tied none =
     let named : LineIsThere on.frames.frames (length cpus) (At number processor command) = subst (LineIsThere on.frames.frames (length cpus)) is there in

@@ -90,7 +90,7 @@ fn serve_part<N: BootName>(
         (holder locked.old cpu.old) (holder locked.new cpu.new)) }
     ensures invariants { HoldsInvariants N.frames N.stocks locked.new }
     ensures tied { IsTied N.frames N.stocks cpu.new }
-    ensures none_fresh { cpu.new.stock.view.last ≡ NoGroup → cpu.new.fresh ≡ [] }
+    ensures none_fresh { cpu.new.stock_seat.view.last ≡ NoGroup → cpu.new.fresh ≡ [] }
 {
     let served = answer_text(locked, tables, cpu, command, is_explained, answers);
     let _number = cpu.number(); // For the clauses: `tied`.

@@ -58,8 +58,8 @@ alike_account x y h =
     let book = h (λ a. a.book) in
     let group = alike_group x.group y.group (λ f. h (λ a. f a.group)) in
     let filled = alike_bool x.filled y.filled (λ f. h (λ a. f a.filled)) in
-    let noted = h (λ a. a.noted) in
-    λ i. record { book = book i; group = group i; filled = filled i; noted = noted i }
+    let noted = h (λ a. a.unabsorbed) in
+    λ i. record { book = book i; group = group i; filled = filled i; unabsorbed = noted i }
 
 head_or : Account → List Account → Account
 head_or a [] = a

@@ -40,5 +40,5 @@ settled_after m0 m1 m2 m3 v v' n k i j one fresh drained noted absorbed reported
     let a3 = ap (λ (u : StockView). account_of u 1) absorbed ∙ account_of-with_account m2 1 _ in (
       ap (λ (p : ℕ). (account_of m3 p).filled) named ∙ ap (λ (a : Account). a.filled) a3 ∙ a2,
       ap (λ (u : StockView). u.fresh) reported ∙ omega (arith, fresh),
-      ap (λ (p : ℕ). (account_of m3 p).noted) named ∙ ap (λ (a : Account). a.noted) a3,
+      ap (λ (p : ℕ). (account_of m3 p).unabsorbed) named ∙ ap (λ (a : Account). a.unabsorbed) a3,
     )

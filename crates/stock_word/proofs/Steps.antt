@@ -50,7 +50,7 @@ same_held_group g n k j a b e = let c : (g + 1) * 65536 + n ≡ (k + 1) * 65536 
 same_held_pages : (g n k j : ℕ) → n < 65536 → j < 65536 → word_of (HeldBy g n) ≡ word_of (HeldBy k j) → n ≡ j
 same_held_pages g n k j a b e = let c : (g + 1) * 65536 + n ≡ (k + 1) * 65536 + j = e in omega arith
 
-exact_books : (a : Account) (v : StockView) → pages_of v.last ≡ left_of a v → v.fresh + a.noted < a.book → a.book ≡ pages_of v.last + v.fresh + a.noted
+exact_books : (a : Account) (v : StockView) → pages_of v.last ≡ left_of a v → v.fresh + a.unabsorbed < a.book → a.book ≡ pages_of v.last + v.fresh + a.unabsorbed
 exact_books a v e more = omega arith
 
 module _ {S : Type 0} (cpus slots id : ℕ) where
@@ -311,7 +311,7 @@ module _ {S : Type 0} (cpus slots id : ℕ) where
         let stock = machine_stock cpus s.words s.views rule s.words id m at zeroth p low high in
         let then = Alone absorbing_step (step slots place 0 0 none) (m ∷ [], []) in
         let a = account_of m p in
-        report_owes m zeroth p low high s rule at 0 (record a { book = a.book - a.noted; noted = 0 }) then (absorbed _ _ a view stock) (
+        report_owes m zeroth p low high s rule at 0 (record a { book = a.book - a.unabsorbed; unabsorbed = 0 }) then (absorbed _ _ a view stock) (
           with_steps 1 (absorbing m p),
           refl,
           (λ q is.
@@ -373,7 +373,7 @@ module _ {S : Type 0} (cpus slots id : ℕ) where
         let a = account_of m v.number in
         let sum : (found + n) % 2 ^ 64 ≡ found + n = small_mod (found + n) (omega (arith, stock.balanced, stock.bounded, fresh)) in
         subst (λ (x : ℕ). Owes s (m ∷ v ∷ [], []) place then x) (sym sum)
-        (joined_report_owes s rule at (found + n) (record a { noted = a.noted + n }) (after_report v n) then refl (reported _ _ a v n stock fresh) (
+        (joined_report_owes s rule at (found + n) (record a { unabsorbed = a.unabsorbed + n }) (after_report v n) then refl (reported _ _ a v n stock fresh) (
           noting m v.number n,
           after_report v n,
           refl,
@@ -422,7 +422,7 @@ module _ {S : Type 0} (cpus slots id : ℕ) where
         )
 
     -- the store of a fill
-    filling_allowed_at : (g n : ℕ) → g < 64 → n < 65536 → (account_of m v.number).filled ≡ false → v.fresh ≡ 0 → (account_of m v.number).noted ≡ 0
+    filling_allowed_at : (g n : ℕ) → g < 64 → n < 65536 → (account_of m v.number).filled ≡ false → v.fresh ≡ 0 → (account_of m v.number).unabsorbed ≡ 0
         → Allows holds slots id (m ∷ v ∷ [], []) (stock_place v.number) (λ x. word_of (HeldBy g n))
         (λ x. Joined filling_step (step slots (stock_place v.number) (word_of (HeldBy g n)) 0 none) (m ∷ v ∷ [], []) (word_of (HeldBy g n)))
     filling_allowed_at g n group few off fresh noted s rule homes at fits =
@@ -454,7 +454,7 @@ module _ {S : Type 0} (cpus slots id : ℕ) where
         )
 
     -- the subtraction of a consume that always takes
-    consuming_held_allowed_at : (g : ℕ) → (account_of m v.number).group ≡ Some g → v.fresh + (account_of m v.number).noted < (account_of m v.number).book
+    consuming_held_allowed_at : (g : ℕ) → (account_of m v.number).group ≡ Some g → v.fresh + (account_of m v.number).unabsorbed < (account_of m v.number).book
         → Allows holds slots id (m ∷ v ∷ [], []) (stock_place v.number) (λ x. (x + (2 ^ 64 - 1)) % 2 ^ 64)
         (Joined consuming_held (step slots (stock_place v.number) 1 0 none) (m ∷ v ∷ [], []))
     consuming_held_allowed_at g booked more s rule homes at fits =
@@ -586,7 +586,7 @@ reporting_allowed {S} cpus slots id me m v n is zeroth low high fresh place at_p
 
 pub filling_allowed : {S : Type 0} (cpus slots id : ℕ) (me : Me S (List StockView)) (m v : StockView) (g n : ℕ)
     → me ≡ (m ∷ v ∷ [], []) → m.number ≡ 0 → 0 < v.number → v.number ≤ cpus → g < 64 → n < 65536
-    → (account_of m v.number).filled ≡ false → v.fresh ≡ 0 → (account_of m v.number).noted ≡ 0 → (place new : ℕ) → place
+    → (account_of m v.number).filled ≡ false → v.fresh ≡ 0 → (account_of m v.number).unabsorbed ≡ 0 → (place new : ℕ) → place
     ≡ stock_place v.number → new ≡ word_of (HeldBy g n)
     → Allows (λ (s : State S (List StockView)). StockRule cpus s.words s.views) slots id me place (λ x. new)
     (λ x. Joined filling_step (step slots place new 0 none) me new)
@@ -611,7 +611,7 @@ seeing_allowed {S} cpus slots id me m v is zeroth low high place at_place =
 
 pub consuming_held_allowed : {S : Type 0} (cpus slots id : ℕ) (me : Me S (List StockView)) (m v : StockView) (g : ℕ)
     → me ≡ (m ∷ v ∷ [], []) → m.number ≡ 0 → 0 < v.number → v.number ≤ cpus
-    → (account_of m v.number).group ≡ Some g → v.fresh + (account_of m v.number).noted < (account_of m v.number).book
+    → (account_of m v.number).group ≡ Some g → v.fresh + (account_of m v.number).unabsorbed < (account_of m v.number).book
     → (place : ℕ) → place ≡ stock_place v.number
     → Allows (λ (s : State S (List StockView)). StockRule cpus s.words s.views) slots id me place
     (λ x. (x + (2 ^ 64 - 1)) % 2 ^ 64) (Joined consuming_held (step slots place 1 0 none) me)

@@ -109,7 +109,7 @@ last_group word report a v h =
 
 -- a report of n fresh pages
 pub reported : (word report : ℕ) (a : Account) (v : StockView) (n : ℕ) → IsStock word report a v → n ≤ v.fresh
-    → IsStock word (report + n) (record a { noted = a.noted + n }) (after_report v n)
+    → IsStock word (report + n) (record a { unabsorbed = a.unabsorbed + n }) (after_report v n)
 reported word report a v n h fresh = record {
   stock = h.stock;
   encoded = h.encoded;
@@ -126,7 +126,7 @@ reported word report a v n h fresh = record {
 
 -- the pages that are neither fresh nor reported
 abbrev pub left_of : Account → StockView → ℕ
-left_of a v = a.book - v.fresh - a.noted
+left_of a v = a.book - v.fresh - a.unabsorbed
 
 held_of : (s : Stock) (g : ℕ) → 0 < pages_of s → group_of s ≡ Some g → s ≡ HeldBy g (pages_of s)
 held_of NoGroup g more e = absurd (omega arith)
@@ -139,7 +139,7 @@ not_held (HeldBy g n) = refl
 not_held (DrainedOf g) = refl
 
 -- where the books say that the stock has a page, the processor saw it last
-pub held_by_books : (word report : ℕ) (a : Account) (v : StockView) (g : ℕ) (h : IsStock word report a v) → a.group ≡ Some g → v.fresh + a.noted < a.book
+pub held_by_books : (word report : ℕ) (a : Account) (v : StockView) (g : ℕ) (h : IsStock word report a v) → a.group ≡ Some g → v.fresh + a.unabsorbed < a.book
     → (v.last ≡ HeldBy g (left_of a v)) × (word ≡ word_of (HeldBy g (left_of a v)))
 held_by_books word report a v g h group more =
     let pages : pages_of h.stock ≡ left_of a v = omega (arith, h.balanced, h.reported, more) in
@@ -156,11 +156,11 @@ no_pages (HeldBy g n) e = absurd (true≢false e)
 no_pages (DrainedOf g) e = refl
 
 -- nothing is booked to a stock that is drained, of a processor with no fresh and no reported page
-pub nothing_booked : (word report : ℕ) (a : Account) (v : StockView) → IsStock word report a v → a.filled ≡ false → v.fresh ≡ 0 → a.noted ≡ 0 → a.book ≡ 0
+pub nothing_booked : (word report : ℕ) (a : Account) (v : StockView) → IsStock word report a v → a.filled ≡ false → v.fresh ≡ 0 → a.unabsorbed ≡ 0 → a.book ≡ 0
 nothing_booked word report a v h off fresh noted = let pages = no_pages h.stock (h.held ∙ off) in omega (arith, h.balanced, h.reported, pages, fresh, noted)
 
 pub filled : (word report : ℕ) (a : Account) (v : StockView) (g n : ℕ) → IsStock word report a v → g < 64 → n < 65536
-    → a.filled ≡ false → v.fresh ≡ 0 → a.noted ≡ 0
+    → a.filled ≡ false → v.fresh ≡ 0 → a.unabsorbed ≡ 0
     → IsStock (word_of (HeldBy g n)) report (record a { book = a.book + n; group = Some g; filled = true }) (after_fill v g n)
 filled word report a v g n h group fits off fresh noted =
     let empty = nothing_booked word report a v h off fresh noted in
@@ -247,7 +247,7 @@ pub of_some_group : (word report : ℕ) (a : Account) (v : StockView) (h : IsSto
 of_some_group word report a v h ne = some_group h.stock (λ e. ne (h.encoded ∙ ap word_of e))
 
 -- an absorb
-pub absorbed : (word report : ℕ) (a : Account) (v : StockView) → IsStock word report a v → IsStock word 0 (record a { book = a.book - a.noted; noted = 0 }) v
+pub absorbed : (word report : ℕ) (a : Account) (v : StockView) → IsStock word report a v → IsStock word 0 (record a { book = a.book - a.unabsorbed; unabsorbed = 0 }) v
 absorbed word report a v h = record {
   stock = h.stock;
   encoded = h.encoded;

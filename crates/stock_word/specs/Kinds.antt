@@ -36,7 +36,7 @@ after_report v n = record v { fresh = v.fresh - n; steps = v.steps + 1 }
 
 -- the machine's view with n more pages noted as reported by processor p
 abbrev pub noting : StockView → ℕ → ℕ → StockView
-noting m p n = let a = account_of m p in with_account m p (record a { noted = a.noted + n })
+noting m p n = let a = account_of m p in with_account m p (record a { unabsorbed = a.unabsorbed + n })
 
 -- the machine's view after the stock was filled for g with n pages
 abbrev pub filling : StockView → ℕ → ℕ → ℕ → StockView
@@ -52,7 +52,7 @@ draining m p n = let a = account_of m p in with_account m p (record a { book = a
 
 -- the report was taken in, by however many steps
 abbrev pub absorbing : StockView → ℕ → StockView
-absorbing m p = let a = account_of m p in with_account m p (record a { book = a.book - a.noted; noted = 0 })
+absorbing m p = let a = account_of m p in with_account m p (record a { book = a.book - a.unabsorbed; unabsorbed = 0 })
 
 -- ---- the table of kinds
 
@@ -89,7 +89,7 @@ pub record Reports (n place before after : ℕ) (m v m' v' : StockView) : Type 0
   pub at_report : place ≡ report_place v.number
   pub word_after : after ≡ before + n
   pub of_group : group_of v.last ≡ (account_of m v.number).group
-  pub enough : v.fresh + (account_of m v.number).noted ≤ (account_of m v.number).book
+  pub enough : v.fresh + (account_of m v.number).unabsorbed ≤ (account_of m v.number).book
   pub machine_after : m' ≡ noting m v.number n
   pub view_after : v' ≡ after_report v n
 
@@ -98,7 +98,7 @@ pub record ConsumesHeld (place before after : ℕ) (m v m' v' : StockView) : Typ
   pub consumes : Consumes place before after v v'
   pub of_group : (account_of m v.number).group ≡ Some consumes.group
   pub has_word : HasWord (HeldBy consumes.group consumes.pages)
-  pub exact : (account_of m v.number).book ≡ pages_of v.last + v.fresh + (account_of m v.number).noted
+  pub exact : (account_of m v.number).book ≡ pages_of v.last + v.fresh + (account_of m v.number).unabsorbed
   pub machine_after : m' ≡ m
 
 -- fill, by the joined seats: p's stock word, with no page, to held by g with n; the book was 0 and is n
@@ -148,7 +148,7 @@ pub record SeesStock (place before after : ℕ) (m v m' v' : StockView) : Type 0
   pub has_word : HasWord stock
   pub word_before : before ≡ word_of stock
   pub word_after : after ≡ before
-  pub balanced : (account_of m v.number).book ≡ pages_of stock + v.fresh + (account_of m v.number).noted
+  pub balanced : (account_of m v.number).book ≡ pages_of stock + v.fresh + (account_of m v.number).unabsorbed
   pub bounded : (account_of m v.number).book < 65536
   pub of_group : group_of stock ≡ (account_of m v.number).group
   pub held : is_held stock ≡ (account_of m v.number).filled
@@ -159,9 +159,9 @@ pub record SeesStock (place before after : ℕ) (m v m' v' : StockView) : Type 0
 -- absorb, by the machine's seat: p's report word, which is what was noted, to 0; the book is so many less
 pub record Absorbs (p place before after : ℕ) (m m' : StockView) : Type 0 where
   pub at_report : place ≡ report_place p
-  pub word_before : before ≡ (account_of m p).noted
+  pub word_before : before ≡ (account_of m p).unabsorbed
   pub word_after : after ≡ 0
-  pub enough : (account_of m p).noted ≤ (account_of m p).book
+  pub enough : (account_of m p).unabsorbed ≤ (account_of m p).book
   pub bounded : (account_of m p).book < 65536
   pub machine_after : m' ≡ with_steps 1 (absorbing m p)
 

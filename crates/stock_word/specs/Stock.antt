@@ -45,7 +45,7 @@ drained_of (DrainedOf g) = DrainedOf g
 
 -- a processor that was never filled for
 abbrev pub no_account : Account
-no_account = record { book = 0; group = None; filled = false; noted = 0 }
+no_account = record { book = 0; group = None; filled = false; unabsorbed = 0 }
 
 -- the account at p; past the end, that of a processor that was never filled for
 abbrev pub account_at : List Account → ℕ → Account
@@ -149,7 +149,7 @@ account_for machine view = account_of machine view.number
 
 -- the pages that the processor's stock has by the books: those that are neither fresh nor reported
 abbrev pub stocked : StockView → StockView → ℕ
-stocked machine view = (account_for machine view).book - view.fresh - (account_for machine view).noted
+stocked machine view = (account_for machine view).book - view.fresh - (account_for machine view).unabsorbed
 
 -- What a seat keeps beside its place in the table: it has one view, of which it keeps the number and the last stock;
 -- a processor that never saw a stock has no fresh page
@@ -178,4 +178,4 @@ Gathers machine seats views = (f : StockView → ℕ) → sum_over f views ≡ f
 
 -- the stock of a processor may be filled: it was never filled or was drained since, and the processor has no fresh page and none reported that was not taken in
 abbrev pub IsSettled : StockView → StockView → Type 0
-IsSettled machine view = ((account_of machine view.number).filled ≡ false) × (view.fresh ≡ 0) × ((account_of machine view.number).noted ≡ 0)
+IsSettled machine view = ((account_of machine view.number).filled ≡ false) × (view.fresh ≡ 0) × ((account_of machine view.number).unabsorbed ≡ 0)

@@ -37,7 +37,7 @@ pub record IsStock (word report : ℕ) (account : Account) (view : StockView) : 
   -- it is held from each fill to the next drain; else the word is 0 or drained
   pub held : is_held stock ≡ account.filled
   -- what was reported was noted
-  pub reported : report ≡ account.noted
+  pub reported : report ≡ account.unabsorbed
   -- the word is what the processor saw last, or was drained since, of the same group
   pub last_seen : (stock ≡ view.last) ⊎ (stock ≡ drained_of view.last)
   pub last_word : HasWord view.last

@@ -42,7 +42,7 @@ impl StockWords {
         requires machine { IsZoneStock seat0.old.view }
         requires processor { IsProcessor self.now seat.old.view }
         requires fresh { n ≤ seat.old.view.fresh }
-        ensures booked { seat.old.view.fresh + (account_for seat0.old.view seat.old.view).noted ≤ (account_for seat0.old.view seat.old.view).book }
+        ensures booked { seat.old.view.fresh + (account_for seat0.old.view seat.old.view).unabsorbed ≤ (account_for seat0.old.view seat.old.view).book }
         ensures group { group_of seat.old.view.last ≡ (account_for seat0.old.view seat.old.view).group }
         ensures machine { seat0.new ≡ with_view seat0.old (noting seat0.old.view seat.old.view.number n) }
         ensures processor { seat.new ≡ with_view seat.old (after_report seat.old.view n) }
@@ -60,7 +60,7 @@ impl StockWords {
         requires processor { IsProcessor self.now seat.old.view }
         ensures has_word { HasWord result }
         ensures balanced { (account_for seat0.old.view seat.old.view).book
-            ≡ pages_of result + seat.old.view.fresh + (account_for seat0.old.view seat.old.view).noted }
+            ≡ pages_of result + seat.old.view.fresh + (account_for seat0.old.view seat.old.view).unabsorbed }
         ensures bounded { (account_for seat0.old.view seat.old.view).book < 65536 }
         ensures group { group_of result ≡ (account_for seat0.old.view seat.old.view).group }
         ensures held { is_held result ≡ (account_for seat0.old.view seat.old.view).filled }
@@ -101,7 +101,7 @@ impl StockWords {
         requires group { g < 64 }
         requires pages { (0 < n) × (n < 65536) }
         requires drained { (account_for seat0.old.view seat.old.view).filled ≡ false }
-        requires settled { (seat.old.view.fresh ≡ 0) × ((account_for seat0.old.view seat.old.view).noted ≡ 0) }
+        requires settled { (seat.old.view.fresh ≡ 0) × ((account_for seat0.old.view seat.old.view).unabsorbed ≡ 0) }
         ensures nothing_booked { (account_for seat0.old.view seat.old.view).book ≡ 0 }
         ensures machine { seat0.new ≡ with_view seat0.old (filling seat0.old.view seat.old.view.number g n) }
         ensures processor { seat.new ≡ with_view seat.old (after_fill seat.old.view g n) }
@@ -154,7 +154,7 @@ impl StockWords {
         requires table { seat0.old.table ≡ self.now.table }
         requires machine { IsZoneStock seat0.old.view }
         requires processor { (0 < p) × (p ≤ self.now.cpus) }
-        ensures reported { result ≡ (account_of seat0.old.view p).noted }
+        ensures reported { result ≡ (account_of seat0.old.view p).unabsorbed }
         ensures booked { result ≤ (account_of seat0.old.view p).book }
         ensures bounded { (account_of seat0.old.view p).book < 65536 }
         ensures machine { seat0.new ≡ with_view seat0.old (with_steps 1 (absorbing seat0.old.view p)) }

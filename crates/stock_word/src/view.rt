@@ -78,7 +78,7 @@ pub struct Account {
     /// Whether it was filled and not drained since.
     pub filled: bool,
     /// Pages that were reported and not taken in yet.
-    pub noted: u64,
+    pub unabsorbed: u64,
 }
 
 /// What a seat knows. Seat 0 is the machine's, the others the processors'. No value of it is made.

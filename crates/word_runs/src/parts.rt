@@ -117,9 +117,9 @@ fn take_back<N: BootName>(
     cpu: &mut Cpu<N>,
 ) -> Option<Frame>
     requires zone { IsZoneSeat N.frames zone.old × IsOpen zone.old cpu.old.number }
-    requires still { NothingPasses N.frames zone.old cpu.old.seat }
+    requires still { NothingPasses N.frames zone.old cpu.old.frame_seat }
     ensures zone { IsZoneSeat N.frames zone.new × IsOpen zone.new cpu.new.number }
-    ensures still { NothingPasses N.frames zone.new cpu.new.seat }
+    ensures still { NothingPasses N.frames zone.new cpu.new.frame_seat }
     ensures number { cpu.new.number ≡ cpu.old.number }
 {
     // Whoever asks for the number learns what always holds of the processor's part.
@@ -167,7 +167,7 @@ fn take_fresh<N: BootName>(
 ) -> Option<Frame>
     requires zone { IsZoneSeat N.frames zone.old × IsOpen zone.old cpu.old.number }
     requires machine { (machine.old.table ≡ N.stocks.table) × IsZoneStock machine.old.view }
-    requires still { NothingPasses N.frames zone.old cpu.old.seat }
+    requires still { NothingPasses N.frames zone.old cpu.old.frame_seat }
     ensures machine { (machine.new.table ≡ N.stocks.table) × IsZoneStock machine.new.view }
 {
     let frame = cpu.hand_fresh(tables, zone, machine)?;
@@ -279,7 +279,7 @@ fn take_last<N: BootName>(
     cpu: &mut Cpu<N>,
 ) -> Option<Frame>
     requires zone { IsZoneSeat N.frames zone.old × IsOpen zone.old cpu.old.number }
-    requires still { NothingPasses N.frames zone.old cpu.old.seat }
+    requires still { NothingPasses N.frames zone.old cpu.old.frame_seat }
 {
     let frame = cpu.hand_back(tables, zone)?;
     cpu.collect(tables, zone, frame);
@@ -472,11 +472,11 @@ fn drops_beside_pins(rt: HostRuntime) {
 // Gives a frame of the zone's hand to a processor whose visit is open.
 fn give<N: BootName>(tables: &Tables<N>, zone: &mut FrameSeat, cpu: &mut Cpu<N>, frame: Frame)
     requires zone { IsZoneSeat N.frames zone.old × IsOpen zone.old cpu.old.number }
-    requires still { NothingPasses N.frames zone.old cpu.old.seat }
+    requires still { NothingPasses N.frames zone.old cpu.old.frame_seat }
     requires frame { (frame < N.frames.frames) × IsInOwnHand zone.old frame }
     requires room { length cpu.old.list + length cpu.old.fresh < 256 }
     ensures zone { IsZoneSeat N.frames zone.new × IsOpen zone.new cpu.new.number }
-    ensures still { NothingPasses N.frames zone.new cpu.new.seat }
+    ensures still { NothingPasses N.frames zone.new cpu.new.frame_seat }
     ensures others { (k : ℕ) → k ≢ frame → IsInOwnHand zone.old k → IsInOwnHand zone.new k }
     ensures number { cpu.new.number ≡ cpu.old.number }
     ensures list { (length cpu.new.list ≡ length cpu.old.list + 1) × (cpu.new.fresh ≡ cpu.old.fresh) }
@@ -522,7 +522,7 @@ pub(crate) fn give_some<N: BootName>(
 pub(crate) fn give_back<N: BootName>(tables: &Tables<N>, zone: &mut FrameSeat, cpu: &mut Cpu<N>)
     requires { IsZoneSeat N.frames zone.old × IsShut zone.old cpu.old.number }
     ensures zone { IsZoneSeat N.frames zone.new × IsOpen zone.new cpu.new.number }
-    ensures still { NothingPasses N.frames zone.new cpu.new.seat }
+    ensures still { NothingPasses N.frames zone.new cpu.new.frame_seat }
 {
     cpu.open(tables, zone);
     for _ in 0..256u64 {

@@ -4,4 +4,4 @@ use Rattle.machine_runs.proofs.Staying.{zone_stays}
 use Rattle.machine_runs.proofs.calls.set_max.Goals as goal
 
 pub returns : goal.returns
-returns g c = zone_stays _ _ _ _ c.requires (ap (λ (k : KnownMachine). k.seat) c.set_max.ensures.machine)
+returns g c = zone_stays _ _ _ _ c.requires (ap (λ (k : KnownMachine). k.frame_seat) c.set_max.ensures.machine)

@@ -39,7 +39,7 @@ returns-in-Ok-clause-stays g c =
     let part = back_part _ _ _ _ _ c.drain_list.ensures.takes in
     record {
       visit = c.take_block.ensures.visit;
-      opened = ap (λ (z : KnownMachine). z.seat.view.opened) c.in-Ok.ensures.takes.machine ∙ part.opened;
+      opened = ap (λ (z : KnownMachine). z.frame_seat.view.opened) c.in-Ok.ensures.takes.machine ∙ part.opened;
       number = ap (λ (e : KnownCpu). e.number) c.take_block.ensures.cpu ∙ part.number;
       back = ap (λ (e : KnownCpu). e.back) c.take_block.ensures.cpu ∙ part.back;
     }

@@ -74,7 +74,7 @@ returns g c =
           fills takes c.take_front.ensures.steps;
       stays = record {
         visit = c.take_front.ensures.visit;
-        opened = ap (λ (y : KnownMachine). y.seat.view.opened) takes.machine ∙ next.opened ∙ first.opened;
+        opened = ap (λ (y : KnownMachine). y.frame_seat.view.opened) takes.machine ∙ next.opened ∙ first.opened;
         number = ap (λ (e : KnownCpu). e.number) cpu ∙ next.number ∙ first.number;
         back = ap (λ (e : KnownCpu). e.back) cpu ∙ next.back ∙ first.back;
       };

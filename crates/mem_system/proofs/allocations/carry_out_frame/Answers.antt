@@ -31,7 +31,7 @@ invariant_of-locked g c =
     let x = c.alloc_frame-answer.new.machine in
     let stays = c.alloc_frame-answer.ensures.stays in
     let numbered = stays.number ∙ c.settle.ensures.others.number ∙ ap (λ (y : KnownCpu). y.number) c.open.ensures.cpu in
-    let opened = stays.opened ∙ settled_opened _ _ _ _ c.settle.ensures.settles ∙ ap (λ (k : KnownMachine). k.seat.view.opened) (c.open.ensures.machine ∙ ap (λ (y : KnownMachine). with_visit_of y c.args.cpu.now.number 1) c.forget_notes.ensures) in (
+    let opened = stays.opened ∙ settled_opened _ _ _ _ c.settle.ensures.settles ∙ ap (λ (k : KnownMachine). k.frame_seat.view.opened) (c.open.ensures.machine ∙ ap (λ (y : KnownMachine). with_visit_of y c.args.cpu.now.number 1) c.forget_notes.ensures) in (
       record {
         shut = all_shut c.locked.inside.machine x c.shut.new.self c.args.cpu.now.number quiet.shut opened
             (c.shut.ensures.machine ∙ ap (λ (q : ℕ). with_visit_of x q 0) numbered);

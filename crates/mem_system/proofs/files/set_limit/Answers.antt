@@ -24,7 +24,7 @@ returns-in-Some-clause-stays g c =
     let x = c.set_max.new.self in
     let n = c.lower_above.new.machine in
     λ (y : KnownCpu) v.
-    let first = visit_keeps t m x y (ap (λ (k : KnownMachine). k.seat) c.set_max.ensures.machine) v in
+    let first = visit_keeps t m x y (ap (λ (k : KnownMachine). k.frame_seat) c.set_max.ensures.machine) v in
     visit_both t m x n y first (above_visit t c.args.group c.in-Some.limit x n y c.lower_above.ensures first.visit)
 
 pub returns-in_default-clause-sets : goal.returns-in_default-clause-sets

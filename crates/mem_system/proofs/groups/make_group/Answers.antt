@@ -11,7 +11,7 @@ returns-in-Ok-clause-made g c =
     (make_steps c.args.path.now c.in-Ok.group, record { no_fault = sym c.in-Ok.ensures.refused; adds = c.in-Ok.ensures.made; steps_are = refl }, c.in-Ok.ensures.steps)
 
 pub returns-in-Ok-clause-seat : goal.returns-in-Ok-clause-seat
-returns-in-Ok-clause-seat g c = ap (λ (k : KnownMachine). k.seat) c.in-Ok.ensures.made.machine
+returns-in-Ok-clause-seat g c = ap (λ (k : KnownMachine). k.frame_seat) c.in-Ok.ensures.made.machine
 
 pub returns-in-Err-clause-made : goal.returns-in-Err-clause-made
 returns-in-Err-clause-made g c = (
@@ -22,4 +22,4 @@ returns-in-Err-clause-made g c = (
 )
 
 pub returns-in-Err-clause-seat : goal.returns-in-Err-clause-seat
-returns-in-Err-clause-seat g c = ap (λ (k : KnownMachine). k.seat) c.in-Err.ensures.unchanged
+returns-in-Err-clause-seat g c = ap (λ (k : KnownMachine). k.frame_seat) c.in-Err.ensures.unchanged

@@ -66,7 +66,7 @@ returns-clause-stays g c =
     let n = c.remove.new.self in
     let before = c.args.cpu.now in
     let first = lowered_visit t c.in-Ok.group _ m x before c.lower_usage.ensures c.requires in
-    let last = visit_keeps t x n before (ap (λ (k : KnownMachine). k.seat) c.remove.ensures.machine) first.visit in
+    let last = visit_keeps t x n before (ap (λ (k : KnownMachine). k.frame_seat) c.remove.ensures.machine) first.visit in
     subst (λ (y : KnownCpu). KeepsVisit t (side m before) (side n y)) (sym c.remove.ensures.cpu)
     (visit_both t m x n before first last)
 

@@ -35,8 +35,8 @@ returns-clause-shut g c =
     let x = c.drain_stock.new.self in
     let cut = cut_off _ _ _ _ _ c.drain_list.ensures.takes in
     let numbered = cut.number ∙ ap (λ (y : KnownCpu). y.number) c.open.ensures.cpu in
-    let opened = ap (λ (k : KnownMachine). k.seat.view.opened) c.drain_stock.ensures.drains.machine ∙ cut.opened
-    ∙ ap (λ (k : KnownMachine). k.seat.view.opened) c.open.ensures.machine in
+    let opened = ap (λ (k : KnownMachine). k.frame_seat.view.opened) c.drain_stock.ensures.drains.machine ∙ cut.opened
+    ∙ ap (λ (k : KnownMachine). k.frame_seat.view.opened) c.open.ensures.machine in
     all_shut c.args.machine.now x c.shut.new.self c.args.cpu.now.number c.requires.shut opened
     (c.shut.ensures.machine ∙ ap (λ (q : ℕ). with_visit_of x q 0) numbered)
 
@@ -57,7 +57,7 @@ returns-clause-spent g c =
         ap (λ (y : KnownCpu). y.pins) same ∙ (taken_alone _ _ _ _ _ done.takes).pins ∙ ap (λ (y : KnownCpu). y.pins) was ∙ c.requires.settled.no_pin,
       );
       none_lent = c.see_none_lent.ensures;
-      drained = ap (λ (q : ℕ). (account_of c.shut.new.self.stock.view q).filled) (ap (λ (y : KnownCpu). y.number) same ∙ sym c.number.ensures.number)
+      drained = ap (λ (q : ℕ). (account_of c.shut.new.self.stock_seat.view q).filled) (ap (λ (y : KnownCpu). y.number) same ∙ sym c.number.ensures.number)
           ∙ emptied_drained _ _ _ _ _ _ c.drain_stock.ensures.drains c.shut.ensures.machine;
     }
 

@@ -44,7 +44,7 @@ returns-clause-stays g c =
     let kept = cut_off _ _ _ _ _ c.cut_list.ensures.cuts.1.takes in
     record {
       visit = c.lend.ensures.visit;
-      opened = ap (λ (k : KnownMachine). k.seat.view.opened) c.lend.ensures.lends.machine ∙ kept.opened;
+      opened = ap (λ (k : KnownMachine). k.frame_seat.view.opened) c.lend.ensures.lends.machine ∙ kept.opened;
       number = ap (λ (e : KnownCpu). e.number) c.lend.ensures.lends.cpu ∙ kept.number;
       back = ap (λ (e : KnownCpu). e.back) c.lend.ensures.lends.cpu ∙ kept.back;
     }

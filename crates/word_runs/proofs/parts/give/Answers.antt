@@ -7,14 +7,14 @@ use Rattle.cpu_part.proofs.CallerLemmas.{passed_out_passes, accepted_is_still}
 use Rattle.word_runs.proofs.parts.give.Goals as goal
 
 pub accept-requires-clause-passes : goal.accept-requires-clause-passes
-accept-requires-clause-passes g c = passed_out_passes g.N.BootName.frames c.args.zone.now c.args.cpu.now.seat c.number-number.result
+accept-requires-clause-passes g c = passed_out_passes g.N.BootName.frames c.args.zone.now c.args.cpu.now.frame_seat c.number-number.result
     (c.number-number.ensures.tied.seats.frame_number ∙ sym c.number-number.ensures.number) c.args.frame c.requires.still _ c.pass_out.ensures.zone
     c.requires.frame.0
 
 pub returns-clause-still : goal.returns-clause-still
-returns-clause-still g c = accepted_is_still g.N.BootName.frames c.args.zone.now c.args.cpu.now.seat c.number-number.result
+returns-clause-still g c = accepted_is_still g.N.BootName.frames c.args.zone.now c.args.cpu.now.frame_seat c.number-number.result
     (c.number-number.ensures.tied.seats.frame_number ∙ sym c.number-number.ensures.number) c.args.frame c.requires.still _ _
-    (c.accept.ensures.zone ∙ c.pass_out.ensures.zone) (ap (λ (k : KnownCpu). k.seat) c.accept.ensures.cpu)
+    (c.accept.ensures.zone ∙ c.pass_out.ensures.zone) (ap (λ (k : KnownCpu). k.frame_seat) c.accept.ensures.cpu)
 
 pub returns-clause-others : goal.returns-clause-others
 returns-clause-others g c = λ k other own. ap (λ (n : FrameNote). n.own)

@@ -6,6 +6,6 @@ abbrev pub invariant-loop : goal.invariant-loop
 invariant-loop g l = record {
   zone : IsZoneSeat g.N.BootName.frames l.zone;
   opened : IsOpen l.zone l.cpu.number;
-  still : NothingPasses g.N.BootName.frames l.zone l.cpu.seat;
+  still : NothingPasses g.N.BootName.frames l.zone l.cpu.frame_seat;
   number : l.cpu.number ≡ l.initial.cpu.number;
 }

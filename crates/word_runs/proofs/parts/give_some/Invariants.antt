@@ -6,7 +6,7 @@ abbrev pub invariant-loop-n : goal.invariant-loop-n
 invariant-loop-n g l = record {
   zone : IsZoneSeat g.N.BootName.frames l.zone;
   opened : IsOpen l.zone l.cpu.number;
-  still : NothingPasses g.N.BootName.frames l.zone l.cpu.seat;
+  still : NothingPasses g.N.BootName.frames l.zone l.cpu.frame_seat;
   own : (k : ℕ) → l.n ≤ k → k < g.N.BootName.frames.frames → IsInOwnHand l.zone k;
   before : (k : ℕ) → k < l.fn.given.from → IsInOwnHand l.zone k;
   begun : l.fn.given.from ≤ l.n;

@@ -17,14 +17,14 @@ pass_back-requires-clause-frame g c =
 pub report_passed-requires-clause-passed : goal.report_passed-requires-clause-passed
 report_passed-requires-clause-passed g c =
     let f = c.remove-frame.result in
-    subst (λ (s : KnownSeat). IsInNoHand s f) (sym c.pass_back.ensures.cpu) (ap in_hands (note_here c.self.inside.seat.view f gave_back))
+    subst (λ (s : KnownSeat). IsInNoHand s f) (sym c.pass_back.ensures.cpu) (ap in_hands (note_here c.self.inside.frame_seat.view f gave_back))
 
 pub invariant_of-self : goal.invariant_of-self
 invariant_of-self g c =
     let some : 0 < length c.self.inside.fresh.items = search rules in
     let front = front_removed c.remove-frame.result c.self.inside.fresh.items c.remove-frame.new.self.items some c.remove-frame.ensures.value
     c.remove-frame.ensures.items in (
-      tied_fresh_handed _ _ _ c.self.invariant.0 c.remove-frame.result c.pass_back.new.cpu c.report_passed.new.stock c.remove-frame.new.self.items
+      tied_fresh_handed _ _ _ c.self.invariant.0 c.remove-frame.result c.pass_back.new.cpu c.report_passed.new.stock_seat c.remove-frame.new.self.items
           c.pass_back.ensures.cpu c.report_passed.ensures.processor front,
       search rules,
     )

@@ -17,7 +17,7 @@ fill_stock-requires-clause-charges g c =
 
 pub fill_stock-requires-clause-drained : goal.fill_stock-requires-clause-drained
 fill_stock-requires-clause-drained g c =
-    subst (λ (z : KnownMachine × KnownCpu). (account_of z.0.stock.view z.1.number).filled ≡ false)
+    subst (λ (z : KnownMachine × KnownCpu). (account_of z.0.stock_seat.view z.1.number).filled ≡ false)
     (λ i. (sym c.own_stock-emptied.ensures.machine i, sym c.own_stock-emptied.ensures.cpu i))
     (emptied_drained _ _ _ _ _ c.number-number.ensures.number c.drain_stock.ensures.drains)
 
