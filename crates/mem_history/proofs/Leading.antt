@@ -331,7 +331,7 @@ module _ (t : KnownTable) (w : Words) (run : Run) (m : KnownMachine) (cpus : Lis
       λ i. record (part_with rest (c.fresh ++ f ∷ []) c.back a) {
         list = sym (ap (λ (h : ℕ). without h c.list) (ap front_of front) ∙ without_front f c.list rest front none_in_rest) i;
         fresh = sym (ap (with_last c.fresh) (ap front_of front)) i;
-        stock_seat = record ((part_with rest (c.fresh ++ f ∷ []) c.back a).stock) { pages = pages i };
+        stock = record ((part_with rest (c.fresh ++ f ∷ []) c.back a).stock) { pages = pages i };
       } in
       let part_is : (local_of t m e).parts q ≡ paid ((local_of t m c).parts q) = own_shown t m e q refl ∙ part ∙ sym (ap paid own_part_is) in
       let some_listed : 1 ≤ length ((local_of t m c).parts q).list = let h = ap (λ (x : Part). length x.list) own_part_is in let l = ap length front in omega arith in
@@ -398,7 +398,7 @@ module _ (t : KnownTable) (w : Words) (run : Run) (m : KnownMachine) (cpus : Lis
       let part : part_with (c.list ++ f ∷ []) (remove c.fresh i) c.back a ≡ credited (part_with c.list c.fresh c.back a) f =
       ap (λ (l : List ℕ). part_with (c.list ++ f ∷ []) l c.back a) removed
       ∙ (λ j. record (part_with (c.list ++ f ∷ []) (without f c.fresh) c.back a) {
-        stock_seat = record ((part_with (c.list ++ f ∷ []) (without f c.fresh) c.back a).stock) { pages = pages j };
+        stock = record ((part_with (c.list ++ f ∷ []) (without f c.fresh) c.back a).stock) { pages = pages j };
       }) in
       let part_is : (local_of t m e).parts q ≡ credited ((local_of t m c).parts q) f =
       own_shown t m e q refl ∙ part ∙ sym (ap (λ (x : Part). credited x f) own_part_is) in

@@ -179,7 +179,7 @@ module _ (t : KnownTable) (w : Words) (run : Run) (m : KnownMachine) (cpus : Lis
       sym (other_shown t m first.0 p far) ∙ ap (λ (x : State). x.parts p) (seen 0 first.0 first.1).sees ∙ other_part first.0.number whole.parts p far in
       let long : length (whole.parts p).fresh ≡ 0 = ap length (nobody_fresh p nobody) in
       let pages : (hide_part (whole.parts p)).stock.pages ≡ (whole.parts p).stock.pages = omega arith in
-      ap (λ (l : List ℕ). (part_with [] l [] (account_of m.stock_seat.view p)).stock) fresh ∙ ap (λ (x : Part). x.stock_seat) e
+      ap (λ (l : List ℕ). (part_with [] l [] (account_of m.stock_seat.view p)).stock) fresh ∙ ap (λ (x : Part). x.stock) e
       ∙ (λ i. record ((whole.parts p).stock) { pages = pages i })
 
   stock_is : (p : ℕ) → stock_by m cpus p ≡ (whole.parts p).stock
@@ -193,7 +193,7 @@ module _ (t : KnownTable) (w : Words) (run : Run) (m : KnownMachine) (cpus : Lis
         sym (own_shown t m d (suc k) (sym named)) ∙ ap (λ (x : State). x.parts (suc k)) (seen k d part.1).sees
         ∙ own_part d.number whole.parts (suc k) (sym named) in
         ap (λ (l : List ℕ). (part_with [] l [] (account_of m.stock_seat.view (suc k))).stock) (ap (λ o. option_map_or (λ (c : KnownCpu). c.fresh) o []) part.1)
-        ∙ ap (λ (x : Part). x.stock_seat) e
+        ∙ ap (λ (x : Part). x.stock) e
     | inr past ↦ nobody_stock (suc k) (past_no k past) (λ z. let named = (seen 0 first.0 first.1).number in let count = shows.count in absurd (omega arith))
   ]
 

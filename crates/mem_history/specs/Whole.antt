@@ -66,7 +66,7 @@ seen_together cpus processor local = record local {
   references = λ seat frame.
       if is_own processor seat then local.references seat frame else references_by cpus seat frame;
   parts = λ other. if other == processor then local.parts other else record (local.parts other) {
-    stock_seat = record ((local.parts other).stock) { pages = (local.parts other).stock.pages - fresh_by cpus other };
+    stock = record ((local.parts other).stock) { pages = (local.parts other).stock.pages - fresh_by cpus other };
   };
 }
 

@@ -217,7 +217,7 @@ part_drained l f b a n =
       list = l;
       fresh = f;
       back = b;
-      stock_seat = record { group = a.group; pages = pages i; is_drained = and_true (is_some a.group) i };
+      stock = record { group = a.group; pages = pages i; is_drained = and_true (is_some a.group) i };
       book = a.book - n;
       unreported = 0;
       reported = a.unabsorbed;

@@ -90,7 +90,7 @@ part_none l f b a none =
       list = l;
       fresh = f;
       back = b;
-      stock_seat = record { group = a.group; pages = pages i; is_drained = drained i };
+      stock = record { group = a.group; pages = pages i; is_drained = drained i };
       book = book i;
       unreported = 0;
       reported = a.unabsorbed;

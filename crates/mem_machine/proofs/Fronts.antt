@@ -7,7 +7,7 @@ use Rattle.group_charge.specs.Charges.{AreCharges, current_of}
 use Rattle.frame_word.specs.Views.{note_of}
 use Rattle.frame_word.specs.Seats.{KnownTable}
 use Rattle.stock_word.specs.declared.view.Stock.{Stock}
-use Rattle.stock_word.specs.Stock.{Words, Seated, account_of, stocked, pages_of, spot_group, is_held}
+use Rattle.stock_word.specs.Stock.{Words, Seated, account_of, stocked, pages_of, group_of, is_held}
 use Rattle.stock_word.specs.Kinds.{after_took}
 use Rattle.stock_word.specs.Calls.{with_view}
 use Rattle.cpu_part.specs.Cpus.{KnownCpu, IsTied, times}
@@ -41,7 +41,7 @@ use Rattle.mem_machine.proofs.Followed.{follows_same}
 
 pub own_is : (t : KnownTable) (w : Words) (m now : KnownMachine) → m ≡ now → (c : KnownCpu) (stock : Stock) → IsTied t w c → IsConsistent t w m
     → (account_of m.stock_seat.view c.number).book ≡ pages_of stock + c.stock_seat.view.fresh + (account_of m.stock_seat.view c.number).unabsorbed
-    → spot_group stock ≡ (account_of m.stock_seat.view c.number).group → is_held stock ≡ (account_of m.stock_seat.view c.number).filled → IsOwnStock (side now c) stock
+    → group_of stock ≡ (account_of m.stock_seat.view c.number).group → is_held stock ≡ (account_of m.stock_seat.view c.number).filled → IsOwnStock (side now c) stock
 own_is t w m now same c stock tied ok balanced group held = subst (λ (x : KnownMachine). IsOwnStock (side x c) stock) same (record {
   group = group;
   held = held;
@@ -176,7 +176,7 @@ module _ (t : KnownTable) (w : Words) (m : KnownMachine) (c : KnownCpu) (tied : 
       ∙ (λ i. record (part_with rest (c.fresh ++ f ∷ []) c.back a) {
         list = (ap (λ (k : ℕ). without k c.list) fronted ∙ without_front f c.list rest front once.1) i;
         fresh = c.fresh ++ fronted i ∷ [];
-        stock_seat = record { group = a.group; pages = sym pages i; is_drained = is_some a.group && not a.filled };
+        stock = record { group = a.group; pages = sym pages i; is_drained = is_some a.group && not a.filled };
       }))
 
   pub front_runs : MakesAs t c.number (side m c) (take_front_steps c.number g) (side m d)

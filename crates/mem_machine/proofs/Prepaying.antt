@@ -121,7 +121,7 @@ part_filled l f b a g n none noted empty =
       list = l;
       fresh = f;
       back = b;
-      stock_seat = record { group = Some g; pages = pages i; is_drained = false };
+      stock = record { group = Some g; pages = pages i; is_drained = false };
       book = a.book + n;
       unreported = 0;
       reported = a.unabsorbed;

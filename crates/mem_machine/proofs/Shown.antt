@@ -156,7 +156,7 @@ module _ (stock : Seated) (c : KnownCpu) (f : ℕ) (rest : List ℕ) (front : c.
         list = sym (without_none f c.list at.none_listed) i;
         fresh = sym (without_front f c.fresh rest front at.none_in_rest) i;
         back = sym (without_none f c.back at.none_back) i;
-        stock_seat = record { group = a.group; pages = pages i; is_drained = part.stock.is_drained };
+        stock = record { group = a.group; pages = pages i; is_drained = part.stock.is_drained };
         book = book i;
         unreported = unreported i;
         reported = reported i;

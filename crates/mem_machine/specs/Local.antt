@@ -46,13 +46,13 @@ phase_of cpu frame (Head unit) =
 phase_of cpu frame (Tail group) = phase.Tail group
 
 -- the part of a processor with these lists and this account: its stock has the booked pages that are neither fresh nor
--- noted
+-- unabsorbed
 abbrev pub part_with : List ℕ → List ℕ → List ℕ → Account → Part
 part_with list fresh back account = record {
   list = list;
   fresh = fresh;
   back = back;
-  stock_seat = record {
+  stock = record {
     group = account.group;
     pages = account.book - length fresh - account.unabsorbed;
     is_drained = is_some account.group && not account.filled;

@@ -1,7 +1,7 @@
 //! The zone's seat at the stocks, and how many pages are booked to the stocks of each group.
 
 ghost use Rattle.std.specs.Prelude.{◌≡◌, ◌≢◌, ◌+◌, ◌-◌, ◌^◌, ◌<◌, ◌≤◌, ◌⊎◌, [], false};
-ghost use Rattle.std.specs.Prelude.{Some, IfSome};
+ghost use Rattle.std.specs.Prelude.{Some};
 ghost use Rattle.frame_word.specs.Views.{collected_from};
 ghost use Rattle.frame_word.specs.Seats.{seat_with};
 ghost use Rattle.stock_word.specs.Stock.{account_of, drained_of, first_zone_stock, group_of, is_held, pages_of};
@@ -12,7 +12,6 @@ ghost use Rattle.cpu_part.specs.Calls.{CanTake, HandsFresh, TakesFront};
 ghost use Rattle.mem_machine.specs.Machines.{IsCpuOf, pages_booked};
 ghost use Rattle.mem_machine.specs.Settling.{IsVisitedAt, KnowsFresh, after_page_absorbed};
 ghost use Rattle.mem_machine.specs.Stocks.{FitsStock};
-ghost use Rattle.group_tree.specs.declared.group.TheConstants.{MAX_GROUPS};
 
 use cpu_part::{BootName, Cpu, Tables};
 use frame_word::{Frame, FrameSeat};
@@ -76,20 +75,19 @@ impl<N: BootName> Books<N> {
     }
 
     /// The group of the processor's stock, as `StockWords::group` tells it.
-    pub(crate) fn group(&mut self, tables: &Tables<N>, processor: u32) -> Option<u32>
+    pub(crate) fn group(&mut self, tables: &Tables<N>, processor: u32) -> Option<GroupId>
         requires processor { IsCpuOf N.frames processor }
         ensures group { result ≡ (account_of self.old.view processor).group }
-        ensures fits { IfSome result (λ group. group < MAX_GROUPS) }
         ensures seat { self.new ≡ with_view self.old (with_steps 1 (after_look self.old.view processor result)) }
     {
-        tables.stocks.group(&mut self.seat, processor)
+        let number = tables.stocks.group(&mut self.seat, processor)?;
+        Some(GroupId::of(number).unwrap())
     }
 
     /// Drains the stock of the processor, which is of this group, as `StockWords::drain` does.
-    pub(crate) fn drain(&mut self, tables: &Tables<N>, processor: u32, group: u32) -> u32
+    pub(crate) fn drain(&mut self, tables: &Tables<N>, processor: u32, group: GroupId) -> u32
         requires processor { IsCpuOf N.frames processor }
         requires group { (account_of self.old.view processor).group ≡ Some group }
-        requires fits { group < MAX_GROUPS }
         ensures seat { self.new ≡ with_view self.old
             (with_steps (steps_of_drain (account_of self.old.view processor).group)
             (draining self.old.view processor result)) }
@@ -97,13 +95,12 @@ impl<N: BootName> Books<N> {
         ensures drained_before { (account_of self.old.view processor).filled ≡ false → result ≡ 0 }
     {
         let pages = tables.stocks.drain(&mut self.seat, processor);
-        self.sums[group as usize] -= pages;
+        self.sums[group.number() as usize] -= pages;
         pages
     }
 
     /// Fills the processor's stock, as `Cpu::fill` does. The pages booked to the group stay below 2^32.
-    pub(crate) fn fill(&mut self, tables: &Tables<N>, cpu: &mut Cpu<N>, group: u32, pages: u32)
-        requires number { group < MAX_GROUPS }
+    pub(crate) fn fill(&mut self, tables: &Tables<N>, cpu: &mut Cpu<N>, group: GroupId, pages: u32)
         requires pages { FitsStock pages }
         requires fits { pages_booked N.frames self.old group + pages < 2 ^ 32 }
         requires drained { (account_of self.old.view cpu.old.number).filled ≡ false }
@@ -116,8 +113,9 @@ impl<N: BootName> Books<N> {
         } }
     {
         let _number = cpu.number(); // For the clauses.
-        cpu.fill(tables, &mut self.seat, group, pages);
-        self.sums[group as usize] += pages;
+        let owner = group.number();
+        cpu.fill(tables, &mut self.seat, owner, pages);
+        self.sums[owner as usize] += pages;
     }
 
     /// The processor's stock, as `Cpu::look` tells it.
@@ -135,7 +133,12 @@ impl<N: BootName> Books<N> {
     }
 
     /// Takes the front of the processor's list, as `Cpu::take_front` does.
-    pub(crate) fn take_front(&mut self, tables: &Tables<N>, cpu: &mut Cpu<N>, group: u32) -> Frame
+    pub(crate) fn take_front(
+        &mut self,
+        tables: &Tables<N>,
+        cpu: &mut Cpu<N>,
+        group: GroupId,
+    ) -> Frame
         requires group { (account_of self.old.view cpu.old.number).group ≡ Some group }
         requires page { 0 < stocked self.old.view cpu.old.stock_seat.view }
         requires front { CanTake cpu.old }
@@ -143,7 +146,7 @@ impl<N: BootName> Books<N> {
         ensures cpu { TakesFront group (stocked self.old.view cpu.old.stock_seat.view - 1) result cpu.old cpu.new }
         ensures frame { result < N.frames.frames }
     {
-        cpu.take_front(tables, &mut self.seat, group)
+        cpu.take_front(tables, &mut self.seat, group.number())
     }
 
     /// Takes the oldest fresh frame of the processor that is visited into the zone's hand, and its page off the book of

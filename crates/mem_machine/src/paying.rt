@@ -48,6 +48,6 @@ impl<N: BootName> Machine<N> {
             (take_front_steps cpu.old.number group) (side self.new cpu.new) }
     {
         let _number = cpu.number(); // For the clauses.
-        self.stock_seat.take_front(tables, cpu, group.number())
+        self.stock_seat.take_front(tables, cpu, group)
     }
 }

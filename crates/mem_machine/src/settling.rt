@@ -31,7 +31,9 @@ impl<N: BootName> Machine<N> {
             (keep_steps cpu.old.number result) (side self.new cpu.new) }
     {
         let _number = cpu.number(); // For the clauses.
-        let frame = self.stock_seat.collect_fresh(tables, cpu, &mut self.frame_seat, group);
+        let frame = self
+            .stock_seat
+            .collect_fresh(tables, cpu, &mut self.frame_seat, group);
         tables.frames.unfreeze(&mut self.frame_seat, frame, 1);
         let at = frame.number();
         let order = Order::of(0).unwrap();
@@ -52,7 +54,9 @@ impl<N: BootName> Machine<N> {
             (drop_steps cpu.old.number result) (side self.new cpu.new) }
     {
         let _number = cpu.number(); // For the clauses.
-        let frame = self.stock_seat.collect_fresh(tables, cpu, &mut self.frame_seat, group);
+        let frame = self
+            .stock_seat
+            .collect_fresh(tables, cpu, &mut self.frame_seat, group);
         let order = Order::of(0).unwrap();
         let unit = ChargedUnit { group, order };
         free_unit(

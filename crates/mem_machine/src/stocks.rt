@@ -1,7 +1,6 @@
 //! The processors' stocks: drained, and filled.
 
 ghost use Rattle.std.specs.Prelude.{◌≡◌, ◌<◌, [], Some, IsTrue, OnOk, OnErr, IfErr};
-ghost use Rattle.group_tree.specs.declared.group.TheConstants.{MAX_GROUPS};
 ghost use Rattle.group_tree.specs.Groups.{has_group, in_subtree};
 ghost use Rattle.mem_machine.specs.Machines.{IsCpuOf, LacksRoom, SideStays, Visits};
 ghost use Rattle.mem_machine.specs.Stocks.{IsDrained, AreDrained, AreOwnDrained, FitsStock, stock_group};
@@ -20,10 +19,9 @@ use kill_notes::note::Note;
 
 impl<N: BootName> Machine<N> {
     // Drains the stock of the processor, which is of this group, and tells how many pages were in it.
-    fn drain_of(&mut self, tables: &Tables<N>, processor: u32, group: u32) -> u32
+    fn drain_of(&mut self, tables: &Tables<N>, processor: u32, group: GroupId) -> u32
         requires processor { IsCpuOf N.frames processor }
         requires group { stock_group self.old processor ≡ Some group }
-        requires fits { group < MAX_GROUPS }
         ensures drains { Drains processor result self.old self.new }
         ensures steps { MakesForAny N.frames self.old
             (drain_steps processor (stock_group self.old processor) result) self.new }
@@ -31,16 +29,15 @@ impl<N: BootName> Machine<N> {
         let _tree = self.charges.tree(); // For the clauses.
         let pages = self.stock_seat.drain(tables, processor, group);
         if pages > 0 {
-            self.charges.uncharge(GroupId::of(group).unwrap(), pages);
+            self.charges.uncharge(group, pages);
         }
         pages
     }
 
     // Drains the stock of the processor, which is of this group, notes that, and tells how many pages were in it.
-    fn drain_noted(&mut self, tables: &Tables<N>, processor: u32, group: u32) -> u32
+    fn drain_noted(&mut self, tables: &Tables<N>, processor: u32, group: GroupId) -> u32
         requires processor { IsCpuOf N.frames processor }
         requires group { stock_group self.old processor ≡ Some group }
-        requires fits { group < MAX_GROUPS }
         ensures drains { DrainsNoted processor result self.old self.new }
         ensures steps { MakesForAny N.frames self.old
             (drain_steps processor (stock_group self.old processor) result) self.new }
@@ -67,15 +64,13 @@ impl<N: BootName> Machine<N> {
         }
     }
 
-    // Whether a group of this number is there and is the group or lies below it.
-    fn is_below(&self, group: GroupId, number: u32) -> bool
-        requires there { IsTrue (has_group self.now.ledger.groups group) }
-        requires fits { number < MAX_GROUPS }
-        ensures { result ≡ in_subtree self.now.ledger.groups group number }
+    // Whether the other group is there and is the group or lies below it.
+    fn is_below(&self, group: GroupId, other: GroupId) -> bool
+        requires { IsTrue (has_group self.now.ledger.groups group) }
+        ensures { result ≡ in_subtree self.now.ledger.groups group other }
     {
         let tree = self.charges.tree();
-        let below = GroupId::of(number).unwrap();
-        tree.contains(below) && tree.in_subtree(group, below)
+        tree.contains(other) && tree.in_subtree(group, other)
     }
 
     // Drains the stock of the processor where it is of the subtree of the group, notes that, and tells how many pages
@@ -87,8 +82,8 @@ impl<N: BootName> Machine<N> {
     {
         match self.stock_seat.group(tables, processor) {
             None => 0,
-            Some(number) if self.is_below(group, number) => self.drain_noted(
-                tables, processor, number,
+            Some(owner) if self.is_below(group, owner) => self.drain_noted(
+                tables, processor, owner,
             ),
             Some(_) => 0,
         }
@@ -117,7 +112,7 @@ impl<N: BootName> Machine<N> {
     {
         match self.stock_seat.group(tables, processor) {
             None => 0,
-            Some(number) if number == group.number() => self.drain_noted(tables, processor, number),
+            Some(owner) if owner == group => self.drain_noted(tables, processor, owner),
             Some(_) => 0,
         }
     }
@@ -163,7 +158,7 @@ impl<N: BootName> Machine<N> {
         let _number = cpu.number(); // For the clauses.
         let _tree = self.charges.tree(); // For the clauses.
         self.charges.try_charge(group, pages)?;
-        self.stock_seat.fill(tables, cpu, group.number(), pages);
+        self.stock_seat.fill(tables, cpu, group, pages);
         Ok(())
     }
 

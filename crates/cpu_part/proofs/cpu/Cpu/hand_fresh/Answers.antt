@@ -24,7 +24,7 @@ invariant_of-self g c =
     let some : 0 < length c.self.inside.fresh.items = search rules in
     let front = front_removed c.remove-frame.result c.self.inside.fresh.items c.remove-frame.new.self.items some c.remove-frame.ensures.value
     c.remove-frame.ensures.items in (
-      tied_fresh_handed _ _ _ c.self.invariant.0 c.remove-frame.result c.pass_back.new.cpu c.report_passed.new.stock_seat c.remove-frame.new.self.items
+      tied_fresh_handed _ _ _ c.self.invariant.0 c.remove-frame.result c.pass_back.new.cpu c.report_passed.new.stock c.remove-frame.new.self.items
           c.pass_back.ensures.cpu c.report_passed.ensures.processor front,
       search rules,
     )

@@ -9,9 +9,9 @@ use Rattle.mem_machine.proofs.books.Books.collect_fresh.Goals as goal
 pub collect-requires-clause-passes : goal.collect-requires-clause-passes
 collect-requires-clause-passes g c =
     let inside : c.in-Some.frame < g.N.BootName.frames.frames = search rules in
-    subst (λ (s : KnownSeat). Passes s c.hand_fresh.new.self.seat c.in-Some.frame) (sym c.in-Some.ensures.zone)
+    subst (λ (s : KnownSeat). Passes s c.hand_fresh.new.self.frame_seat c.in-Some.frame) (sym c.in-Some.ensures.zone)
     (handed_passes g.N.BootName.frames c.args.zone.now c.args.cpu.now.frame_seat c.args.cpu.now.number c.number-number.ensures.tied.seats.frame_number
-    c.in-Some.frame c.requires.visited.still c.hand_fresh.new.self.seat (ap (λ (x : KnownCpu). x.frame_seat) c.in-Some.ensures.answer.2) inside)
+    c.in-Some.frame c.requires.visited.still c.hand_fresh.new.self.frame_seat (ap (λ (x : KnownCpu). x.frame_seat) c.in-Some.ensures.answer.2) inside)
 
 pub overflow_sub-self : goal.overflow_sub-self
 overflow_sub-self g c =

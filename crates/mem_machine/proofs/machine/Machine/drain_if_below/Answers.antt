@@ -17,10 +17,10 @@ returns-in-None g c = looked_never g.N.BootName.frames _ _ c.self.view_is (of_su
 
 pub returns-in-Some : goal.returns-in-Some
 returns-in-Some g c =
-    looked_own g.N.BootName.frames _ _ c.self.view_is _ (ap uncounted c.in-Some.ensures.seat) (of_subtree c.args.group) c.args.processor c.in-Some.number c.drain_noted.result _
+    looked_own g.N.BootName.frames _ _ c.self.view_is _ (ap uncounted c.in-Some.ensures.seat) (of_subtree c.args.group) c.args.processor c.in-Some.owner c.drain_noted.result _
     c.in-Some.ensures.group (sym c.is_below.ensures ∙ c.if-is_below.true) c.drain_noted.ensures.drains c.drain_noted.ensures.steps
 
 pub returns-in-Some-2 : goal.returns-in-Some-2
 returns-in-Some-2 g c =
-    looked_other g.N.BootName.frames _ _ c.self.view_is (of_subtree c.args.group) c.args.processor c.in-Some.number c.in-Some.ensures.group
+    looked_other g.N.BootName.frames _ _ c.self.view_is (of_subtree c.args.group) c.args.processor c.in-Some.owner c.in-Some.ensures.group
     (sym c.is_below.ensures ∙ c.if-is_below.false) _ (ap uncounted c.in-Some.ensures.seat)

@@ -1,5 +1,4 @@
 use Rattle.std.proofs.Common.{◌∙◌, sym, ap, refl}
-use Rattle.std.proofs.lemmas.Bool.{eq-eqb, ne_eqb}
 use Rattle.stock_word.specs.Calls.{uncounted}
 use Rattle.mem_machine.specs.Stocks.{of_group}
 use Rattle.mem_machine.proofs.Draining.{never_drained}
@@ -19,10 +18,10 @@ returns-in-None g c =
 
 pub returns-in-Some : goal.returns-in-Some
 returns-in-Some g c =
-    looked_own g.N.BootName.frames _ _ c.self.view_is _ (ap uncounted c.in-Some.ensures.seat) (of_group c.args.group) c.args.processor c.in-Some.number
-    c.drain_noted.result _ c.in-Some.ensures.group (eq-eqb _ _ (c.if-number.true ∙ c.number.ensures.value)) c.drain_noted.ensures.drains c.drain_noted.ensures.steps
+    looked_own g.N.BootName.frames _ _ c.self.view_is _ (ap uncounted c.in-Some.ensures.seat) (of_group c.args.group) c.args.processor c.in-Some.owner
+    c.drain_noted.result _ c.in-Some.ensures.group (sym c.eq.ensures ∙ c.if-eq.true) c.drain_noted.ensures.drains c.drain_noted.ensures.steps
 
 pub returns-in-Some-2 : goal.returns-in-Some-2
 returns-in-Some-2 g c =
-    looked_other g.N.BootName.frames _ _ c.self.view_is (of_group c.args.group) c.args.processor c.in-Some.number c.in-Some.ensures.group
-    (ne_eqb _ _ (λ e. c.if-number.false (e ∙ sym c.number.ensures.value))) _ (ap uncounted c.in-Some.ensures.seat)
+    looked_other g.N.BootName.frames _ _ c.self.view_is (of_group c.args.group) c.args.processor c.in-Some.owner c.in-Some.ensures.group
+    (sym c.eq.ensures ∙ c.if-eq.false) _ (ap uncounted c.in-Some.ensures.seat)

@@ -1,35 +1,31 @@
-use Rattle.std.proofs.Common.{◌≡◌, ◌≤◌, ℕ, Some, rules, ap, ◌∙◌}
-use Rattle.group_charge.specs.Charges.{with_uncharge}
+use Rattle.std.proofs.Common.{◌≡◌, ◌≤◌, Some, rules, refl, ap}
 use Rattle.stock_word.specs.Calls.{uncounted}
 use Rattle.mem_machine.proofs.Draining.{drained_all, drained_none, drained_within, some_not_none}
 use Rattle.mem_machine.proofs.machine.Machine.drain_of.Goals as goal
 
 pub uncharge-requires-clause-there : goal.uncharge-requires-clause-there
 uncharge-requires-clause-there g c =
-    let id : c.unwrap.result ≡ c.args.group = search rules in
     let some : 1 ≤ c.drain-pages.result = search rules in
     (drained_within g.N.BootName.frames g.N.BootName.stocks _ _ c.self.view_is c.self.invariant.0 c.tree-tree.ensures.legal _ _
     c.requires.processor.1 c.drain-pages.ensures.booked
-    _ c.requires.group some _ id).0
+    _ c.requires.group some _ refl).0
 
 pub uncharge-requires-clause-charged : goal.uncharge-requires-clause-charged
 uncharge-requires-clause-charged g c =
-    let id : c.unwrap.result ≡ c.args.group = search rules in
     let some : 1 ≤ c.drain-pages.result = search rules in
     (drained_within g.N.BootName.frames g.N.BootName.stocks _ _ c.self.view_is c.self.invariant.0 c.tree-tree.ensures.legal _ _
     c.requires.processor.1 c.drain-pages.ensures.booked
-    _ c.requires.group some _ id).1
+    _ c.requires.group some _ refl).1
 
 pub invariant_of-self : goal.invariant_of-self
-invariant_of-self g c =
-    let id : c.unwrap.result ≡ c.args.group = search rules in (
-      (drained_all g.N.BootName.frames g.N.BootName.stocks _ _ _ _ c.self.view_is c.self.invariant.0
-          (λ some. c.tree-tree.ensures.legal) c.requires.processor.0 c.requires.processor.1
-          c.drain-pages.ensures.booked c.drain-pages.ensures.drained_before (Some c.args.group) c.requires.group (some_not_none _ _) _ _
-          (c.uncharge.ensures.uncharged ∙ ap (λ (n : ℕ). with_uncharge c.self.inside.charges n c.drain-pages.result) id)
-          (ap uncounted c.drain-pages.ensures.seat)).consistent,
-      c.self.invariant.1,
-    )
+invariant_of-self g c = (
+  (drained_all g.N.BootName.frames g.N.BootName.stocks _ _ _ _ c.self.view_is c.self.invariant.0
+      (λ some. c.tree-tree.ensures.legal) c.requires.processor.0 c.requires.processor.1
+      c.drain-pages.ensures.booked c.drain-pages.ensures.drained_before (Some c.args.group) c.requires.group (some_not_none _ _) _ _
+      c.uncharge.ensures.uncharged
+      (ap uncounted c.drain-pages.ensures.seat)).consistent,
+  c.self.invariant.1,
+)
 
 pub invariant_of-self-else-pages-gt0 : goal.invariant_of-self-else-pages-gt0
 invariant_of-self-else-pages-gt0 g c =
@@ -43,11 +39,10 @@ invariant_of-self-else-pages-gt0 g c =
 
 pub returns-then-pages-gt0-clause-steps : goal.returns-then-pages-gt0-clause-steps
 returns-then-pages-gt0-clause-steps g c =
-    let id : c.unwrap.result ≡ c.args.group = search rules in
     (drained_all g.N.BootName.frames g.N.BootName.stocks _ _ _ _ c.self.view_is c.self.invariant.0
     (λ some. c.tree-tree.ensures.legal) c.requires.processor.0 c.requires.processor.1
     c.drain-pages.ensures.booked c.drain-pages.ensures.drained_before (Some c.args.group) c.requires.group (some_not_none _ _) _ _
-    (c.uncharge.ensures.uncharged ∙ ap (λ (n : ℕ). with_uncharge c.self.inside.charges n c.drain-pages.result) id) (ap uncounted c.drain-pages.ensures.seat)).steps
+    c.uncharge.ensures.uncharged (ap uncounted c.drain-pages.ensures.seat)).steps
 
 pub returns-else-pages-gt0 : goal.returns-else-pages-gt0
 returns-else-pages-gt0 g c =

@@ -32,7 +32,7 @@ invariant_of-self g c =
     e.known.booked e.known.group c.requires.group fits in
     let u = c.free_unit.ensures in
     let all = (drop_all g.N.BootName.frames g.N.BootName.stocks _ _ c.self.view_is c.args.cpu.now _ c.number-number.ensures.tied c.self.invariant.0
-    c.requires.visit _ _ c.self.invariant.1 _ c.args.group was c.requires.killed e.cpu _ c.unwrap-order.result c.number.ensures k0 _ e.zone _ (ap uncounted e.frame_seat)
+    c.requires.visit _ _ c.self.invariant.1 _ c.args.group was c.requires.killed e.cpu _ c.unwrap-order.result c.number.ensures k0 _ e.zone _ (ap uncounted e.seat)
     _ u.spots _ u.frames u.areas _ u.charges _
     c.with_drop-self-inside.ensures) in
     (all.consistent, all.free_is)
@@ -46,7 +46,7 @@ returns g c =
     e.known.booked e.known.group c.requires.group fits in
     let u = c.free_unit.ensures in
     let all = drop_all g.N.BootName.frames g.N.BootName.stocks _ _ c.self.view_is c.args.cpu.now _ c.number-number.ensures.tied c.self.invariant.0
-    c.requires.visit _ _ c.self.invariant.1 _ c.args.group was c.requires.killed e.cpu _ c.unwrap-order.result c.number.ensures k0 _ e.zone _ (ap uncounted e.frame_seat)
+    c.requires.visit _ _ c.self.invariant.1 _ c.args.group was c.requires.killed e.cpu _ c.unwrap-order.result c.number.ensures k0 _ e.zone _ (ap uncounted e.seat)
     _ u.spots _ u.frames u.areas _ u.charges _
     c.with_drop-self-inside.ensures in
     record { drops = all.drops; visit = all.visit; steps = all.steps }

@@ -12,14 +12,14 @@ use Rattle.mem_machine.proofs.machine.Machine.fill_stock.Goals as goal
 pub fill-requires-clause-fits : goal.fill-requires-clause-fits
 fill-requires-clause-fits g c =
     room_booked g.N.BootName.frames g.N.BootName.stocks _ _ c.self.view_is c.self.invariant.0 c.tree-tree.ensures.legal c.args.group c.args.pages
-    c.requires.charges.there c.requires.charges.fits _ c.number.ensures.value
+    c.requires.charges.there c.requires.charges.fits _ refl
 
 pub invariant_of-self-2 : goal.invariant_of-self-2
 invariant_of-self-2 g c = (
   (filled_all g.N.BootName.frames g.N.BootName.stocks _ _ c.args.cpu.now c.args.group c.args.pages c.self.view_is c.self.invariant.0 c.tree-tree.ensures.legal
       c.number-number.ensures.tied c.requires.visit c.requires.none_fresh c.requires.pages.1 c.requires.charges.there c.requires.charges.alive
       c.fill.ensures.nothing_booked (c.in_ok-try_charge.ensures.granted.0 refl)
-      _ _ _ _ c.number.ensures.value c.in_ok-try_charge.ensures.charged (ap uncounted c.fill.ensures.seat) c.fill.ensures.cpu).consistent,
+      _ _ _ _ refl c.in_ok-try_charge.ensures.charged (ap uncounted c.fill.ensures.seat) c.fill.ensures.cpu).consistent,
   c.self.invariant.1,
 )
 
@@ -28,7 +28,7 @@ returns-clause-steps g c =
     (filled_all g.N.BootName.frames g.N.BootName.stocks _ _ c.args.cpu.now c.args.group c.args.pages c.self.view_is c.self.invariant.0 c.tree-tree.ensures.legal
     c.number-number.ensures.tied c.requires.visit c.requires.none_fresh c.requires.pages.1 c.requires.charges.there c.requires.charges.alive
     c.fill.ensures.nothing_booked (c.in_ok-try_charge.ensures.granted.0 refl)
-    _ _ _ _ c.number.ensures.value c.in_ok-try_charge.ensures.charged (ap uncounted c.fill.ensures.seat) c.fill.ensures.cpu).steps
+    _ _ _ _ refl c.in_ok-try_charge.ensures.charged (ap uncounted c.fill.ensures.seat) c.fill.ensures.cpu).steps
 
 pub returns-in_err-try_charge-clause-refused : goal.returns-in_err-try_charge-clause-refused
 returns-in_err-try_charge-clause-refused g c =

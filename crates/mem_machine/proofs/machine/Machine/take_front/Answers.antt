@@ -1,4 +1,4 @@
-use Rattle.std.proofs.Common.{ap}
+use Rattle.std.proofs.Common.{refl, ap}
 use Rattle.stock_word.specs.Calls.{uncounted}
 use Rattle.mem_machine.proofs.Fronts.{has_page, front_paid}
 use Rattle.mem_machine.proofs.machine.Machine.take_front.Goals as goal
@@ -11,7 +11,7 @@ take_front-requires-clause-page g c =
 pub invariant_of-self : goal.invariant_of-self
 invariant_of-self g c = (
   (front_paid g.N.BootName.frames g.N.BootName.stocks _ _ c.self.view_is c.args.cpu.now c.number-number.ensures.tied c.self.invariant.0 c.requires.visit
-      c.args.group c.take_front.result c.number.result c.number.ensures.value c.requires.page c.requires.none_fresh c.take_front.ensures.frame
+      c.args.group c.take_front.result c.args.group refl c.requires.page c.requires.none_fresh c.take_front.ensures.frame
       _ (ap uncounted c.take_front.ensures.seat) _ c.take_front.ensures.cpu).consistent,
   c.self.invariant.1,
 )
@@ -19,6 +19,6 @@ invariant_of-self g c = (
 pub returns : goal.returns
 returns g c =
     let all = front_paid g.N.BootName.frames g.N.BootName.stocks _ _ c.self.view_is c.args.cpu.now c.number-number.ensures.tied c.self.invariant.0
-    c.requires.visit c.args.group c.take_front.result c.number.result c.number.ensures.value c.requires.page c.requires.none_fresh
+    c.requires.visit c.args.group c.take_front.result c.args.group refl c.requires.page c.requires.none_fresh
     c.take_front.ensures.frame _ (ap uncounted c.take_front.ensures.seat) _ c.take_front.ensures.cpu in
     record { pays = all.pays; frame = c.take_front.ensures.frame; visit = all.visit; steps = all.steps }
