@@ -95,7 +95,8 @@ impl<N: BootName> Books<N> {
         ensures drained_before { (account_of self.old.view processor).filled ≡ false → result ≡ 0 }
     {
         let pages = tables.stocks.drain(&mut self.seat, processor);
-        self.sums[group.number() as usize] -= pages;
+        let number = group.number();
+        self.sums[number as usize] -= pages;
         pages
     }
 

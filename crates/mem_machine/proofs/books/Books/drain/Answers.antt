@@ -5,16 +5,16 @@ use Rattle.mem_machine.proofs.books.Books.drain.Goals as goal
 
 pub overflow_sub-self : goal.overflow_sub-self
 overflow_sub-self g c =
-    let group : (account_of c.self.inside.seat.view c.args.processor).group ≡ Some c.number.result =
-    ap (λ (x : Seated). (account_of x.view c.args.processor).group) c.self.view_is ∙ c.requires.group ∙ ap Some (sym c.number.ensures.value) in
-    within_count g.N.BootName.frames g.N.BootName.stocks _ _ c.self.invariant c.args.processor c.number.result _ c.requires.processor.1
-    c.number.ensures.below group
+    let group : (account_of c.self.inside.seat.view c.args.processor).group ≡ Some c.number-number.result =
+    ap (λ (x : Seated). (account_of x.view c.args.processor).group) c.self.view_is ∙ c.requires.group ∙ ap Some (sym c.number-number.ensures.value) in
+    within_count g.N.BootName.frames g.N.BootName.stocks _ _ c.self.invariant c.args.processor c.number-number.result _ c.requires.processor.1
+    c.number-number.ensures.below group
     _ refl c.drain-pages.ensures.booked
 
 pub invariant_of-self : goal.invariant_of-self
 invariant_of-self g c =
-    let group : (account_of c.self.inside.seat.view c.args.processor).group ≡ Some c.number.result =
-    ap (λ (x : Seated). (account_of x.view c.args.processor).group) c.self.view_is ∙ c.requires.group ∙ ap Some (sym c.number.ensures.value) in
-    after_drain g.N.BootName.frames g.N.BootName.stocks _ _ c.self.invariant c.args.processor c.number.result _ c.requires.processor.1
-    c.number.ensures.below group
+    let group : (account_of c.self.inside.seat.view c.args.processor).group ≡ Some c.number-number.result =
+    ap (λ (x : Seated). (account_of x.view c.args.processor).group) c.self.view_is ∙ c.requires.group ∙ ap Some (sym c.number-number.ensures.value) in
+    after_drain g.N.BootName.frames g.N.BootName.stocks _ _ c.self.invariant c.args.processor c.number-number.result _ c.requires.processor.1
+    c.number-number.ensures.below group
     _ refl c.drain-pages.ensures.booked _ _ c.drain-pages.ensures.machine
