@@ -25,7 +25,7 @@ use Rattle.mem_alloc.specs.declared.faults.AllocFault.{AllocFault}
 use Rattle.mem_alloc.specs.declared.faults.AllocFault.TheVariants.{Over, NoFrames, Killed}
 use Rattle.mem_alloc.specs.Stepping.{BySteps, Course, OfMachineAlone, Where, course}
 use Rattle.mem_alloc.specs.Room.{AfterRoom, IsRefusedAt, IsRefusedFor, IsRefusedAtSome, MakesRoom}
-use Rattle.mem_alloc.specs.Charging.{ChargesAfterDrain, ChargesFrame, ChargesOne, DrainsStock, FillsStock, LacksBatch, PaysForFrame}
+use Rattle.mem_alloc.specs.Charging.{ChargesAfterDrain, ChargesFrame, ChargesOne, DrainsStock, FillsStock, AfterBatchRefused, PaysForFrame}
 use Rattle.mem_alloc.specs.Rounds.{FailsInRounds}
 use Rattle.mem_alloc.specs.Frames.{AllocatesFrame, FillsList, HasNoFreeFrame, LendsBatch, LendsNoFrame, RefillsInRounds, RefillsList}
 use Rattle.mem_alloc.proofs.Making.{answer_is}
@@ -72,10 +72,10 @@ fills_keep g k m n c d f = record {
 }
 
 pub refused_lowers : (t : KnownTable) (g pages over : ℕ) (answer : Result (Unit {0}) AllocFault) (m n : KnownMachine) (steps : Run)
-    → IsRefusedAt g pages over answer (course t m steps n) → Lowers t m n
+    → IsRefusedAt g over pages answer (course t m steps n) → Lowers t m n
 refused_lowers t g pages over answer m n steps r = relieves_lower t g over pages m n r.relieving r.relieves
 
-pub makes_lower : (t : KnownTable) (g pages : ℕ) (before : List ℕ) (m n : KnownMachine) (steps : Run) → MakesRoom g pages before (course t m steps n) → Lowers t m n
+pub makes_lower : (t : KnownTable) (g pages : ℕ) (before : List ℕ) (m n : KnownMachine) (steps : Run) → MakesRoom g before pages (course t m steps n) → Lowers t m n
 makes_lower t g pages [] m n steps h = subst (λ (x : KnownMachine). Lowers t m x) (sym h.machine) (lowers_none t m)
 makes_lower t g pages (over ∷ later) m n steps h =
     lowers_both t m h.between n (refused_lowers t g pages over (Ok tt) m h.between h.earlier h.first)
@@ -197,7 +197,7 @@ module _ (t : KnownTable) (sizes : Config) (g over : ℕ) (m x n : KnownMachine)
     (lowest : IsLowestOver m.ledger.groups (current_of m.ledger) g sizes.stock over)
     (refused : MakesAs t c.number (side m c) (over_steps g sizes.stock over) (side m c)) where
   lacks : (r : Result (Unit {0}) AllocFault) → BySteps t (side x y) (side n d) (ChargesOne g r)
-      → BySteps t (side m c) (side n d) (LacksBatch sizes g (ChargesOne g r))
+      → BySteps t (side m c) (side n d) (AfterBatchRefused sizes g (ChargesOne g r))
   lacks r b =
       let here = subst (λ (z : KnownMachine × KnownCpu). BySteps t (side z.0 z.1) (side n d) (ChargesOne g r)) (λ i. (stays i, its i)) b in (
         over_steps g sizes.stock over ++ here.0,

@@ -81,13 +81,13 @@ no_rounds t g pages m none = (
 )
 
 -- charges that were refused, and then one more
-room_more : (t : KnownTable) (g pages over : ℕ) (before : List ℕ) (m x n : KnownMachine) (making last : Run) → MakesRoom g pages before (course t m making x)
-    → IsRefusedAt g pages over (Ok tt) (course t x last n) → MakesRoom g pages (before ++ over ∷ []) (course t m (making ++ last) n)
+room_more : (t : KnownTable) (g pages over : ℕ) (before : List ℕ) (m x n : KnownMachine) (making last : Run) → MakesRoom g before pages (course t m making x)
+    → IsRefusedAt g over pages (Ok tt) (course t x last n) → MakesRoom g (before ++ over ∷ []) pages (course t m (making ++ last) n)
 room_more t g pages over [] m x n making last makes refused = record {
   between = n;
   earlier = last;
   later = [];
-  first = subst (λ (y : KnownMachine). IsRefusedAt g pages over (Ok tt) (course t y last n)) makes.machine refused;
+  first = subst (λ (y : KnownMachine). IsRefusedAt g over pages (Ok tt) (course t y last n)) makes.machine refused;
   second = record { machine = refl; steps_are = refl };
   steps_are = ap (λ (r : Run). r ++ last) makes.steps_are ∙ sym (append-nil last);
 }
@@ -104,7 +104,7 @@ room_more t g pages over (h ∷ before) m x n making last makes refused = record
 pub record RoomSoFar (t : KnownTable) (g pages : ℕ) (c : KnownCpu) (m n : KnownMachine) : Type 0 where
   pub refused_at : List ℕ
   pub making : Run
-  pub makes : MakesRoom g pages refused_at (course t m making n)
+  pub makes : MakesRoom g refused_at pages (course t m making n)
   pub runs : MakesAs t c.number (side m c) making (side n c)
   pub lowers : Lowers t m n
   pub alive : is_killed n.killed g ≡ false
@@ -128,7 +128,7 @@ module _ (t : KnownTable) (g pages : ℕ) (c : KnownCpu) (m x : KnownMachine) (s
     its = subst (λ (k : KnownMachine). ByStepsOfAny t k n (RelievesLimit g over pages)) same relieves
 
     refused : (answer : Result (Unit {0}) AllocFault) → TellsRoom g over pages answer n
-        → IsRefusedAt g pages over answer (course t x (over_steps g pages over ++ its.0) n)
+        → IsRefusedAt g over pages answer (course t x (over_steps g pages over ++ its.0) n)
     refused answer room = record {
       lowest = subst (λ (k : KnownMachine). IsLowestOver k.ledger.groups (current_of k.ledger) g pages over) before_it low;
       relieving = its.0;

@@ -19,7 +19,7 @@ use Rattle.mem_alloc.specs.declared.faults.AllocFault.TheVariants.{Over, NoFrame
 use Rattle.mem_alloc.specs.Stepping.{CountsMisses, Course, InTurn, OfMachineAlone, Stays, Where, course, of_machine}
 use Rattle.mem_alloc.specs.Kills.{KillsEach, KillsFor, KillsOne, has_room_at, with_oom_noted_at}
 use Rattle.mem_alloc.specs.Room.{AfterRoom, ClearsBelow, IsRefusedAt, IsRefusedFor, IsRefusedAtSome, KillsForFew, MakesRoom, RelievesLimit, with_max_noted_at}
-use Rattle.mem_alloc.specs.Charging.{ChargesAfterDrain, ChargesFrame, ChargesOne, DrainsStock, FillsStock, LacksBatch, PaysForFrame}
+use Rattle.mem_alloc.specs.Charging.{ChargesAfterDrain, ChargesFrame, ChargesOne, DrainsStock, FillsStock, AfterBatchRefused, PaysForFrame}
 use Rattle.mem_alloc.specs.Rounds.{FailsInRounds, GivesInRound, MakesRound, SucceedsInRounds}
 use Rattle.mem_alloc.specs.Frames.{AllocatesFrame, FillsList, HasNoFreeFrame, LendsBatch, LendsNoFrame, RefillsInRounds}
 use Rattle.mem_alloc.specs.Blocks.{AllocatesBlock, ChargesBlock, FindsNoBlock, RetriesBlock, TakesAfterDrain, TakesFreeBlock, TakesInRounds, TakesOrReclaims}
@@ -130,12 +130,12 @@ over_counts : (t : KnownTable) (g pages over : ℕ) (m : KnownMachine) → Count
 over_counts t g pages over m = counts_same t m m (over_steps g pages over) (record { quiet = refl; no_miss = λ f. refl }) refl
 
 counts_refused : (t : KnownTable) (g pages over : ℕ) (answer : Result (Unit {0}) AllocFault) (m n : KnownMachine) (steps : Run)
-    → IsRefusedAt g pages over answer (course t m steps n) → CountsMisses (course t m steps n)
+    → IsRefusedAt g over pages answer (course t m steps n) → CountsMisses (course t m steps n)
 counts_refused t g pages over answer m n steps h =
     counts_as t m n steps (over_steps g pages over ++ h.relieving) h.steps_are
     (counts_both t m m n (over_steps g pages over) h.relieving (over_counts t g pages over m) (counts_relief t g over pages m n h.relieving h.relieves))
 
-counts_room : (t : KnownTable) (g pages : ℕ) (refused : List ℕ) (m n : KnownMachine) (steps : Run) → MakesRoom g pages refused (course t m steps n)
+counts_room : (t : KnownTable) (g pages : ℕ) (refused : List ℕ) (m n : KnownMachine) (steps : Run) → MakesRoom g refused pages (course t m steps n)
     → CountsMisses (course t m steps n)
 counts_room t g pages [] m n steps h = counts_rest t m n steps h.machine h.steps_are
 counts_room t g pages (over ∷ later) m n steps h =
@@ -268,7 +268,7 @@ one_counts : (g : ℕ) (answer : Result (Unit {0}) AllocFault) → AllCounted (C
 one_counts g (Ok v) way h = after_room_counts g 1 (FillsStock g 1) (stock_counts g 1) way h
 one_counts g (Err cause) way h = refusal_counts g 1 cause way h
 
-lacks_counts : (sizes : Config) (g : ℕ) (answer : Result (Unit {0}) AllocFault) → AllCounted (LacksBatch sizes g (ChargesOne g answer))
+lacks_counts : (sizes : Config) (g : ℕ) (answer : Result (Unit {0}) AllocFault) → AllCounted (AfterBatchRefused sizes g (ChargesOne g answer))
 lacks_counts sizes g answer way h =
     let t = way.table in
     let m = way.before.machine in

@@ -472,7 +472,7 @@ module _ (t : KnownTable) (MayAsk : List Group → ℕ → ℕ → Type 0) (s : 
   module _ (g pages : ℕ) (base : List Group) (asks : (over : ℕ) → in_subtree base over g ≡ true → pages ≤ 8 → MayAsk base over pages) where
     -- where the charge is refused, and the group named has room afterwards or not
     refused_tame : (over : ℕ) (answer : Result (Unit {0}) AllocFault) (made : Run) (m : KnownMachine) (steps rest : Run) (n : KnownMachine) (z : State) → m.ledger.groups ≡ base → Passes t c s made m
-        → IsLocalRun c.number (local_of t m c) (steps ++ rest) z → IsRefusedAt g pages over answer (course t m steps n) → Tame made m steps n
+        → IsLocalRun c.number (local_of t m c) (steps ++ rest) z → IsRefusedAt g over pages answer (course t m steps n) → Tame made m steps n
     refused_tame over answer made m steps rest n z is since whole h =
         let first = over_steps g pages over in
         let grant = over_runs c.number g pages over (h.relieving ++ rest) (local_of t m c) z
@@ -484,7 +484,7 @@ module _ (t : KnownTable) (MayAsk : List Group → ℕ → ℕ → Type 0) (s : 
         subst (λ (k : Run). Tame made m k n) (sym h.steps_are) (tame_both made m m n first h.relieving (tame_quiet made m first m refused refl refl) relieved)
 
     pub makes_tame : (refused : List ℕ) (made : Run) (m : KnownMachine) (steps rest : Run) (n : KnownMachine) (z : State) → m.ledger.groups ≡ base → Passes t c s made m
-        → IsLocalRun c.number (local_of t m c) (steps ++ rest) z → MakesRoom g pages refused (course t m steps n) → Tame made m steps n
+        → IsLocalRun c.number (local_of t m c) (steps ++ rest) z → MakesRoom g refused pages (course t m steps n) → Tame made m steps n
     makes_tame [] made m steps rest n z is since whole h =
         subst (λ (y : Run × KnownMachine). Tame made m y.0 y.1) (λ i. (sym h.steps_are i, sym h.machine i)) (tame_none made m)
     makes_tame (over ∷ later) made m steps rest n z is since whole h =

@@ -21,7 +21,7 @@ use Rattle.mem_reclaim.proofs.LettingGo.{quiet_drain}
 use Rattle.mem_alloc.specs.declared.faults.AllocFault.{AllocFault}
 use Rattle.mem_alloc.specs.declared.faults.AllocFault.TheVariants.{Over, NoFrames, Killed}
 use Rattle.mem_alloc.specs.Stepping.{Course, InTurn, Where, course}
-use Rattle.mem_alloc.specs.Charging.{ChargesAfterDrain, ChargesFrame, ChargesOne, DrainsStock, FillsStock, LacksBatch, PaysForFrame}
+use Rattle.mem_alloc.specs.Charging.{ChargesAfterDrain, ChargesFrame, ChargesOne, DrainsStock, FillsStock, AfterBatchRefused, PaysForFrame}
 use Rattle.mem_alloc.specs.Rounds.{FailsInRounds, GivesInRound, MakesRound, SucceedsInRounds}
 use Rattle.mem_alloc.specs.Frames.{AllocatesFrame, FillsList, HasNoFreeFrame, LendsBatch, LendsNoFrame, RefillsInRounds}
 use Rattle.mem_alloc.specs.Blocks.{AllocatesBlock, ChargesBlock, FindsNoBlock, RetriesBlock, TakesAfterDrain, TakesFreeBlock, TakesInRounds, TakesOrReclaims}
@@ -145,7 +145,7 @@ module _ (t : KnownTable) (MayAsk : List Group → ℕ → ℕ → Type 0) (s : 
 
     lacks_rash : (sizes : Config) (answer : Result (Unit {0}) AllocFault) (made : Run) (x : KnownMachine) (steps rest : Run) (n : Side) (z : State)
         → x.ledger.groups ≡ s.ledger.groups → Passes t c s made x → IsLocalRun c.number (local_of t x c) (steps ++ rest) z
-        → LacksBatch sizes g (ChargesOne g answer) (course t (side x c) steps n) → RashFree t MayAsk s c made steps
+        → AfterBatchRefused sizes g (ChargesOne g answer) (course t (side x c) steps n) → RashFree t MayAsk s c made steps
     lacks_rash sizes answer made x steps rest n z is since whole h =
         let first = over_steps g sizes.stock h.over in
         let all = subst (λ (k : Run). IsLocalRun c.number (local_of t x c) (k ++ rest) z) h.steps_are whole in

@@ -23,7 +23,7 @@ ChargesOne group (Ok done) way = AfterRoom group 1 (FillsStock group 1) way
 ChargesOne group (Err cause) way = IsRefusedFor group 1 cause way
 
 -- the limit of some group has no room for all the pages that the stock takes, which is no event; and this is done then
-pub record LacksBatch (sizes : Config) (group : ℕ) (Does : Course Side → Type 0) (way : Course Side) : Type 0 where
+pub record AfterBatchRefused (sizes : Config) (group : ℕ) (Does : Course Side → Type 0) (way : Course Side) : Type 0 where
   pub over : ℕ
   pub batch : LacksRoom way.before.machine group sizes.stock over
   pub later : Run
@@ -34,8 +34,8 @@ pub record LacksBatch (sizes : Config) (group : ℕ) (Does : Course Side → Typ
 -- of that one is refused
 abbrev pub ChargesFrame : Config → ℕ → Result (Unit {0}) AllocFault → Course Side → Type 0
 ChargesFrame sizes group (Ok done) way =
-    FillsStock group sizes.stock way ⊎ LacksBatch sizes group (ChargesOne group (Ok done)) way
-ChargesFrame sizes group (Err cause) way = LacksBatch sizes group (ChargesOne group (Err cause)) way
+    FillsStock group sizes.stock way ⊎ AfterBatchRefused sizes group (ChargesOne group (Ok done)) way
+ChargesFrame sizes group (Err cause) way = AfterBatchRefused sizes group (ChargesOne group (Err cause)) way
 
 -- the processor's own stock is drained, of `drained` pages, which go back to their group
 pub record DrainsStock (way : Course Side) : Type 0 where

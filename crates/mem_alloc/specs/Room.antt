@@ -42,26 +42,26 @@ with_max_noted_at machine group pages = record machine {
 
 -- it is noted that so many pages were about to take the group's usage over its limit, and then the stocks of its
 -- subtree are drained, by these steps, whoever holds the lock
-pub record ClearsBelow (group pages : ℕ) (way : Course KnownMachine) : Type 0 where
+pub record ClearsBelow (limited pages : ℕ) (way : Course KnownMachine) : Type 0 where
   pub drains : List Drain
-  pub all : DrainsAllBelow group way.table.cpus drains (with_max_noted_at way.before group pages) way.after
-  pub drained : AreDrained group way.table.cpus way.after
-  pub steps_are : way.steps ≡ note_max_steps group ++ drain_stocks_steps drains
+  pub all : DrainsAllBelow limited way.table.cpus drains (with_max_noted_at way.before limited pages) way.after
+  pub drained : AreDrained limited way.table.cpus way.after
+  pub steps_are : way.steps ≡ note_max_steps limited ++ drain_stocks_steps drains
   pub runs : MakesForAny way.table way.before way.steps way.after
 
 -- what is reclaimed from the group's subtree before this limit of it: nothing where it has none, else so many pages as
 -- are missing, in at most `max_rounds` rounds
 abbrev pub ReclaimsBefore : Option ℕ → ℕ → ℕ → Reclaiming
-ReclaimsBefore None group pages = GivesNothing
-ReclaimsBefore (Some limit) group pages = MakesRounds group (pages_missing group pages limit) max_rounds
+ReclaimsBefore None limited pages = GivesNothing
+ReclaimsBefore (Some limit) limited pages = MakesRounds limited (pages_missing limited pages limit) max_rounds
 
 -- Clean units of the group's subtree come back in rounds, `given` pages in all, until its limit has room for so many
 -- pages. Where it has none still, each clean unit that the subtree still keeps was tried, and missed
-pub record ReclaimsFor (group pages : ℕ) (way : Course KnownMachine) : Type 0 where
+pub record ReclaimsFor (limited pages : ℕ) (way : Course KnownMachine) : Type 0 where
   pub given : ℕ
-  pub reclaims : ReclaimsBefore (limit_of way.before.ledger.groups group) group pages
+  pub reclaims : ReclaimsBefore (limit_of way.before.ledger.groups limited) limited pages
       (progress given way.before way.steps way.after)
-  pub missed : has_room_at way.after.ledger group pages ≡ false → MissedAll group way.before way.after
+  pub missed : has_room_at way.after.ledger limited pages ≡ false → MissedAll limited way.before way.after
   pub keeps : Keeps way.table way.before way.after
   pub moves : Moves way.table way.before given way.steps way.after
 
@@ -93,7 +93,7 @@ TellsRoom requester limited pages (Err NoFrames) after = ⊥
 
 -- A charge of so many pages to the group `requester` is refused at the group `limited`, the lowest of its path without
 -- room. Its limit is relieved then, and this is the answer
-pub record IsRefusedAt (requester pages limited : ℕ) (answer : Result (Unit {0}) AllocFault)
+pub record IsRefusedAt (requester limited pages : ℕ) (answer : Result (Unit {0}) AllocFault)
     (way : Course KnownMachine) : Type 0 where
   pub lowest : LacksRoom way.before requester pages limited
   pub relieving : Run
@@ -102,10 +102,10 @@ pub record IsRefusedAt (requester pages limited : ℕ) (answer : Result (Unit {0
   pub steps_are : way.steps ≡ over_steps requester pages limited ++ relieving
 
 -- a charge is refused at each of these groups, one after the other, and each has room for the pages then
-abbrev pub MakesRoom : ℕ → ℕ → List ℕ → Course KnownMachine → Type 0
-MakesRoom requester pages [] way = Rests way
-MakesRoom requester pages (limited ∷ others) way =
-    InTurn (IsRefusedAt requester pages limited (Ok tt)) (MakesRoom requester pages others) way
+abbrev pub MakesRoom : ℕ → List ℕ → ℕ → Course KnownMachine → Type 0
+MakesRoom requester [] pages way = Rests way
+MakesRoom requester (limited ∷ others) pages way =
+    InTurn (IsRefusedAt requester limited pages (Ok tt)) (MakesRoom requester others pages) way
 
 -- A charge of so many pages to the requester may be refused first, at the groups `refused_at`, which have room then.
 -- After that this is done
@@ -114,13 +114,13 @@ pub record AfterRoom (requester pages : ℕ) (Does : Course Side → Type 0) (wa
   pub cleared : KnownMachine
   pub making : Run
   pub later : Run
-  pub makes : MakesRoom requester pages refused_at (course way.table way.before.machine making cleared)
+  pub makes : MakesRoom requester refused_at pages (course way.table way.before.machine making cleared)
   pub does : Does (course way.table (side cleared way.before.cpu) later way.after)
   pub steps_are : way.steps ≡ making ++ later
 
 -- a charge is refused at some group, which has no room after that, or the requester was killed there: this is the cause
 abbrev pub IsRefusedAtSome : ℕ → ℕ → AllocFault → Course KnownMachine → Type 0
-IsRefusedAtSome requester pages cause way = (limited : ℕ) × IsRefusedAt requester pages limited (Err cause) way
+IsRefusedAtSome requester pages cause way = (limited : ℕ) × IsRefusedAt requester limited pages (Err cause) way
 
 -- a charge is refused for good, for this cause: other groups may have refused it before, and have room since
 abbrev pub IsRefusedFor : ℕ → ℕ → AllocFault → Course Side → Type 0

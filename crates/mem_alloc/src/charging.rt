@@ -3,9 +3,9 @@
 ghost use Rattle.std.specs.Prelude.{◌≡◌, ◌↔◌, [], IsTrue, false, OnOk};
 ghost use Rattle.zone_sizes.specs.Config.{IsValidConfig};
 ghost use Rattle.group_tree.specs.Groups.{has_group};
-ghost use Rattle.stock_word.specs.Stock.{account_of};
 ghost use Rattle.mem_machine.specs.Machines.{Visits, is_killed};
 ghost use Rattle.mem_machine.specs.Paying.{HoldsPage, IsOfSize, MayCharge};
+ghost use Rattle.mem_machine.specs.Stocks.{IsDrained};
 ghost use Rattle.mem_alloc.specs.Stepping.{BySteps};
 ghost use Rattle.mem_alloc.specs.Charging.{ChargesFrame, ChargesOne, PaysForFrame};
 ghost use Rattle.mem_machine.specs.Local.{side};
@@ -46,7 +46,7 @@ fn fill_one<N: BootName>(
     requires visit { Visits N.frames (side machine.old cpu.old) }
     requires may_charge { MayCharge machine.old group 1 }
     requires none_fresh { cpu.old.fresh ≡ [] }
-    requires drained { (account_of machine.old.stock_seat.view cpu.old.number).filled ≡ false }
+    requires drained { IsDrained machine.old cpu.old.number }
     ensures charges { BySteps N.frames (side machine.old cpu.old) (side machine.new cpu.new)
         (ChargesOne group result) }
     ensures visit { Visits N.frames (side machine.new cpu.new) }
@@ -74,7 +74,7 @@ fn charge_frame<N: BootName>(
     requires there { IsTrue (has_group machine.old.ledger.groups group) }
     requires alive { is_killed machine.old.killed group ≡ false }
     requires none_fresh { cpu.old.fresh ≡ [] }
-    requires drained { (account_of machine.old.stock_seat.view cpu.old.number).filled ≡ false }
+    requires drained { IsDrained machine.old cpu.old.number }
     ensures charges { BySteps N.frames (side machine.old cpu.old) (side machine.new cpu.new)
         (ChargesFrame sizes group result) }
     ensures visit { Visits N.frames (side machine.new cpu.new) }

@@ -33,19 +33,19 @@ pub(crate) fn has_room_at(charges: &Charges, group: GroupId, pages: u32) -> bool
 fn is_wanting<N: BootName>(
     machine: &Machine<N>,
     requester: &Option<GroupId>,
-    group: GroupId,
+    limited: GroupId,
     pages: u32,
 ) -> bool
-    requires { IsTrue (has_group machine.now.ledger.groups group) }
-    ensures { IsTrue result ↔ IsWanting requester.now group pages machine.now }
+    requires { IsTrue (has_group machine.now.ledger.groups limited) }
+    ensures { IsTrue result ↔ IsWanting requester.now limited pages machine.now }
 {
     match requester {
         Some(asking) if machine.is_killed(*asking) => false,
-        _ => !has_room_at(machine.charges(), group, pages),
+        _ => !has_room_at(machine.charges(), limited, pages),
     }
 }
 
-/// Kills for a limit: where the limit of `group` has no room for so many pages more, that is noted once as `oom` at
+/// Kills for a limit: where the limit of `limited` has no room for so many pages more, that is noted once as `oom` at
 /// it, and then victims of it are killed, one after the other, until it has room, or the group that asks for the
 /// pages is killed, or no victim is left. For `requester` None no group asks, as where a limit is written: with 0
 /// `pages` there is room then where the usage is at most the limit. Where there is room nothing is done. Modelled on
@@ -54,25 +54,25 @@ pub fn kill_for<N: BootName>(
     machine: &mut Machine<N>,
     tables: &Tables<N>,
     requester: Option<GroupId>,
-    group: GroupId,
+    limited: GroupId,
     pages: u32,
 )
-    requires { IsTrue (has_group machine.old.ledger.groups group) }
-    ensures { ByStepsOfAny N.frames machine.old machine.new (KillsFor requester group pages) }
+    requires { IsTrue (has_group machine.old.ledger.groups limited) }
+    ensures { ByStepsOfAny N.frames machine.old machine.new (KillsFor requester limited pages) }
 {
-    if has_room_at(machine.charges(), group, pages) {
+    if has_room_at(machine.charges(), limited, pages) {
         return;
     }
-    machine.note_oom(group);
-    machine.note(Note::Oom { group });
+    machine.note_oom(limited);
+    machine.note(Note::Oom { group: limited });
     'kills: loop {
         let _spots = machine.spots(); // For the clauses.
         let charges = machine.charges();
         let _tree = charges.tree(); // For the clauses.
-        if !is_wanting(machine, &requester, group, pages) {
+        if !is_wanting(machine, &requester, limited, pages) {
             return;
         }
-        let Some(_victim) = kill(machine, tables, group) else {
+        let Some(_victim) = kill(machine, tables, limited) else {
             return;
         };
     }
@@ -83,13 +83,13 @@ pub(crate) fn kill_for_few<N: BootName>(
     machine: &mut Machine<N>,
     tables: &Tables<N>,
     requester: GroupId,
-    group: GroupId,
+    limited: GroupId,
     pages: u32,
 )
-    requires { IsTrue (has_group machine.old.ledger.groups group) }
-    ensures { ByStepsOfAny N.frames machine.old machine.new (KillsForFew requester group pages) }
+    requires { IsTrue (has_group machine.old.ledger.groups limited) }
+    ensures { ByStepsOfAny N.frames machine.old machine.new (KillsForFew requester limited pages) }
 {
     if pages <= MOST_KILLED_FOR {
-        kill_for(machine, tables, Some(requester), group, pages);
+        kill_for(machine, tables, Some(requester), limited, pages);
     }
 }

@@ -18,14 +18,14 @@ use mem_reclaim::make_rounds;
 fn reclaim_for<N: BootName>(
     machine: &mut Machine<N>,
     tables: &Tables<N>,
-    group: GroupId,
+    limited: GroupId,
     pages: u32,
 )
-    requires { IsTrue (has_group machine.old.ledger.groups group) }
-    ensures reclaims { ByStepsOfAny N.frames machine.old machine.new (ReclaimsFor group pages) }
+    requires { IsTrue (has_group machine.old.ledger.groups limited) }
+    ensures reclaims { ByStepsOfAny N.frames machine.old machine.new (ReclaimsFor limited pages) }
 {
-    if let Some(limit) = machine.charges().max(group) {
-        make_rounds(machine, tables, group, pages, limit);
+    if let Some(limit) = machine.charges().max(limited) {
+        make_rounds(machine, tables, limited, pages, limit);
     }
 }
 
@@ -46,7 +46,7 @@ pub fn note_limit<N: BootName>(machine: &mut Machine<N>, group: GroupId, need: u
     }
 }
 
-// Relieves the limit of `group`, the lowest on the path of `requester` without room for so many pages. That is noted
+// Relieves the limit of `limited`, the lowest on the path of `requester` without room for so many pages. That is noted
 // (`max`), and the stocks of the subtree are drained. Where there is no room still, clean units of the subtree are
 // reclaimed, in at most 16 rounds. Where that makes none either, for up to 8 pages, an order of at most 3, `oom` is
 // noted, and victims of the subtree are killed until there is room. Where no victim is left, or for more pages, the
@@ -55,26 +55,26 @@ pub(crate) fn make_room<N: BootName>(
     machine: &mut Machine<N>,
     tables: &Tables<N>,
     requester: GroupId,
-    group: GroupId,
+    limited: GroupId,
     pages: u32,
 ) -> Result<(), AllocFault>
-    requires { IsTrue (has_group machine.old.ledger.groups group) }
-    ensures clears { ByStepsOfAny N.frames machine.old machine.new (RelievesLimit requester group pages) }
-    ensures room { TellsRoom requester group pages result machine.new }
-    ensures below { group < MAX_GROUPS }
+    requires { IsTrue (has_group machine.old.ledger.groups limited) }
+    ensures clears { ByStepsOfAny N.frames machine.old machine.new (RelievesLimit requester limited pages) }
+    ensures room { TellsRoom requester limited pages result machine.new }
+    ensures below { limited < MAX_GROUPS }
 {
-    let _number = group.number(); // For the clauses.
-    note_limit(machine, group, pages);
-    machine.note_max(group);
-    machine.drain_stocks(tables, group);
-    reclaim_for(machine, tables, group, pages);
-    kill_for_few(machine, tables, requester, group, pages);
+    let _number = limited.number(); // For the clauses.
+    note_limit(machine, limited, pages);
+    machine.note_max(limited);
+    machine.drain_stocks(tables, limited);
+    reclaim_for(machine, tables, limited, pages);
+    kill_for_few(machine, tables, requester, limited, pages);
     if machine.is_killed(requester) {
         return Err(AllocFault::Killed);
     }
-    if has_room_at(machine.charges(), group, pages) {
+    if has_room_at(machine.charges(), limited, pages) {
         Ok(())
     } else {
-        Err(AllocFault::Over(group))
+        Err(AllocFault::Over(limited))
     }
 }

@@ -14,60 +14,60 @@ use Rattle.mem_alloc.proofs.kills.kill_for.Goals as goal
 pub kills-init : goal.kills-init
 kills-init g c =
     let t = g.N.BootName.frames in
-    subst (λ (y : KnownMachine). KillsSoFar c.args.requester t c.args.group c.args.pages (with_oom_noted_at c.args.machine.now c.args.group) y)
-    (sym (c.note.ensures ∙ ap (λ (x : KnownMachine). with_note x (Oom c.args.group)) c.note_oom.ensures.machine))
-    (so_far_nobody c.args.requester t c.args.group c.args.pages (with_oom_noted_at c.args.machine.now c.args.group))
+    subst (λ (y : KnownMachine). KillsSoFar c.args.requester t c.args.limited c.args.pages (with_oom_noted_at c.args.machine.now c.args.limited) y)
+    (sym (c.note.ensures ∙ ap (λ (x : KnownMachine). with_note x (Oom c.args.limited)) c.note_oom.ensures.machine))
+    (so_far_nobody c.args.requester t c.args.limited c.args.pages (with_oom_noted_at c.args.machine.now c.args.limited))
 
 pub is_wanting-requires : goal.is_wanting-requires
 is_wanting-requires g c =
-    so_far_there c.args.requester g.N.BootName.frames c.args.group c.args.pages (with_oom_noted_at c.args.machine.now c.args.group) c.kills.machine
+    so_far_there c.args.requester g.N.BootName.frames c.args.limited c.args.pages (with_oom_noted_at c.args.machine.now c.args.limited) c.kills.machine
     c.kills.invariant c.requires
 
 pub returns-then-not-is_wanting : goal.returns-then-not-is_wanting
 returns-then-not-is_wanting g c =
-    let over : has_room_at c.args.machine.now.ledger c.args.group c.args.pages ≡ false =
-    ap (λ (l : Ledger). has_room_at l c.args.group c.args.pages) (sym c.charges.ensures) ∙ sym c.has_room_at.ensures ∙ c.if-has_room_at.false in
-    kills_end c.args.requester g.N.BootName.frames c.args.group c.args.pages c.args.machine.now c.note_oom.new.self c.kills.machine over
+    let over : has_room_at c.args.machine.now.ledger c.args.limited c.args.pages ≡ false =
+    ap (λ (l : Ledger). has_room_at l c.args.limited c.args.pages) (sym c.charges.ensures) ∙ sym c.has_room_at.ensures ∙ c.if-has_room_at.false in
+    kills_end c.args.requester g.N.BootName.frames c.args.limited c.args.pages c.args.machine.now c.note_oom.new.self c.kills.machine over
     c.note_oom.ensures.machine c.note_oom.ensures.steps c.kills.invariant
     (λ wanting. absurd (false≢true (sym c.if-not-is_wanting.true ∙ c.is_wanting.ensures.1 wanting)))
 
 pub kill-requires : goal.kill-requires
 kill-requires g c =
-    so_far_there c.args.requester g.N.BootName.frames c.args.group c.args.pages (with_oom_noted_at c.args.machine.now c.args.group) c.kills.machine
+    so_far_there c.args.requester g.N.BootName.frames c.args.limited c.args.pages (with_oom_noted_at c.args.machine.now c.args.limited) c.kills.machine
     c.kills.invariant c.requires
 
 pub returns-in_default : goal.returns-in_default
 returns-in_default g c =
     let t = g.N.BootName.frames in
-    let over : has_room_at c.args.machine.now.ledger c.args.group c.args.pages ≡ false =
-    ap (λ (l : Ledger). has_room_at l c.args.group c.args.pages) (sym c.charges.ensures) ∙ sym c.has_room_at.ensures ∙ c.if-has_room_at.false in
-    let none = subst (λ (o : Option ℕ). IsVictim c.kills.machine c.args.group o) c.in_default.is c.kill.ensures.victim in
+    let over : has_room_at c.args.machine.now.ledger c.args.limited c.args.pages ≡ false =
+    ap (λ (l : Ledger). has_room_at l c.args.limited c.args.pages) (sym c.charges.ensures) ∙ sym c.has_room_at.ensures ∙ c.if-has_room_at.false in
+    let none = subst (λ (o : Option ℕ). IsVictim c.kills.machine c.args.limited o) c.in_default.is c.kill.ensures.victim in
     let same : c.kill.new.machine ≡ c.kills.machine =
-    subst (λ (o : Option ℕ). KillsVictim t c.args.group o c.kills.machine c.kill.new.machine) c.in_default.is c.kill.ensures.kills in
-    subst (λ (y : KnownMachine). ByStepsOfAny t c.args.machine.now y (KillsFor c.args.requester c.args.group c.args.pages)) (sym same)
-    (kills_end c.args.requester t c.args.group c.args.pages c.args.machine.now c.note_oom.new.self c.kills.machine over
+    subst (λ (o : Option ℕ). KillsVictim t c.args.limited o c.kills.machine c.kill.new.machine) c.in_default.is c.kill.ensures.kills in
+    subst (λ (y : KnownMachine). ByStepsOfAny t c.args.machine.now y (KillsFor c.args.requester c.args.limited c.args.pages)) (sym same)
+    (kills_end c.args.requester t c.args.limited c.args.pages c.args.machine.now c.note_oom.new.self c.kills.machine over
     c.note_oom.ensures.machine c.note_oom.ensures.steps c.kills.invariant (λ wanting. none))
 
 pub kills-smaller : goal.kills-smaller
 kills-smaller g c =
     let t = g.N.BootName.frames in
     let charges : AreCharges c.kills.machine.ledger = subst (λ (l : Ledger). AreCharges l) c.charges-charges.ensures c.tree-tree.ensures.legal in
-    let most : IsVictim c.kills.machine c.args.group (Some c.in-Some._victim) =
-    subst (λ (o : Option ℕ). IsVictim c.kills.machine c.args.group o) c.in-Some.is c.kill.ensures.victim in
+    let most : IsVictim c.kills.machine c.args.limited (Some c.in-Some._victim) =
+    subst (λ (o : Option ℕ). IsVictim c.kills.machine c.args.limited o) c.in-Some.is c.kill.ensures.victim in
     let marked : c.kill.new.machine.killed ≡ slice_set c.kills.machine.killed c.in-Some._victim true =
     subst (λ (o : Option ℕ). IfSome o (λ v. c.kill.new.machine.killed ≡ slice_set c.kills.machine.killed v true)) c.in-Some.is c.kill.ensures.marked in
-    fewer_alive t g.N.BootName.stocks c.kills.machine c.kill.new.machine c.args.group c.in-Some._victim c.spots-spots.ensures.consistent charges most marked
+    fewer_alive t g.N.BootName.stocks c.kills.machine c.kill.new.machine c.args.limited c.in-Some._victim c.spots-spots.ensures.consistent charges most marked
 
 pub kills-preserved : goal.kills-preserved
 kills-preserved g c =
     let t = g.N.BootName.frames in
     let charges : AreCharges c.kills.machine.ledger = subst (λ (l : Ledger). AreCharges l) c.charges-charges.ensures c.tree-tree.ensures.legal in
-    let most : IsVictim c.kills.machine c.args.group (Some c.in-Some._victim) =
-    subst (λ (o : Option ℕ). IsVictim c.kills.machine c.args.group o) c.in-Some.is c.kill.ensures.victim in
-    let kills : IsKilledBy t c.args.group c.in-Some._victim c.kills.machine c.kill.new.machine =
-    subst (λ (o : Option ℕ). KillsVictim t c.args.group o c.kills.machine c.kill.new.machine) c.in-Some.is c.kill.ensures.kills in
+    let most : IsVictim c.kills.machine c.args.limited (Some c.in-Some._victim) =
+    subst (λ (o : Option ℕ). IsVictim c.kills.machine c.args.limited o) c.in-Some.is c.kill.ensures.victim in
+    let kills : IsKilledBy t c.args.limited c.in-Some._victim c.kills.machine c.kill.new.machine =
+    subst (λ (o : Option ℕ). KillsVictim t c.args.limited o c.kills.machine c.kill.new.machine) c.in-Some.is c.kill.ensures.kills in
     let marked : c.kill.new.machine.killed ≡ slice_set c.kills.machine.killed c.in-Some._victim true =
     subst (λ (o : Option ℕ). IfSome o (λ v. c.kill.new.machine.killed ≡ slice_set c.kills.machine.killed v true)) c.in-Some.is c.kill.ensures.marked in
-    so_far_killed c.args.requester t g.N.BootName.stocks c.args.group c.args.pages c.in-Some._victim (with_oom_noted_at c.args.machine.now c.args.group)
+    so_far_killed c.args.requester t g.N.BootName.stocks c.args.limited c.args.pages c.in-Some._victim (with_oom_noted_at c.args.machine.now c.args.limited)
     c.kills.machine c.kill.new.machine c.kills.invariant (c.is_wanting.ensures.0 c.if-not-is_wanting.false) c.spots-spots.ensures.consistent charges most kills
     marked c.kill.ensures.stocks c.kill.ensures.keeps

@@ -3,9 +3,9 @@ use Rattle.mem_alloc.proofs.kills.kill_for_few.Goals as goal
 
 pub returns-then-pages-le-MOST_KILLED_FOR : goal.returns-then-pages-le-MOST_KILLED_FOR
 returns-then-pages-le-MOST_KILLED_FOR g c =
-    few_kills g.N.BootName.frames c.args.requester c.args.group c.args.pages c.args.machine.now c.kill_for.new.machine
+    few_kills g.N.BootName.frames c.args.requester c.args.limited c.args.pages c.args.machine.now c.kill_for.new.machine
     c.if-pages-le-MOST_KILLED_FOR.true c.kill_for.ensures
 
 pub returns-else-pages-le-MOST_KILLED_FOR : goal.returns-else-pages-le-MOST_KILLED_FOR
 returns-else-pages-le-MOST_KILLED_FOR g c =
-    many_rest g.N.BootName.frames c.args.requester c.args.group c.args.pages c.args.machine.now c.if-pages-le-MOST_KILLED_FOR.false
+    many_rest g.N.BootName.frames c.args.requester c.args.limited c.args.pages c.args.machine.now c.if-pages-le-MOST_KILLED_FOR.false

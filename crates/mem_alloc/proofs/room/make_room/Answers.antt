@@ -14,59 +14,59 @@ reclaim_for-requires g c =
     let sub = c.drain_stocks.ensures.drains in
     let noted : Lowers g.N.BootName.frames c.args.machine.now c.note_max.new.self =
     subst (λ (y : KnownMachine). Lowers g.N.BootName.frames c.args.machine.now y)
-    (sym (c.note_max.ensures.machine ∙ ap (λ (y : KnownMachine). record y { ledger = with_max_noted y.ledger c.args.group }) c.note_limit.ensures))
-    (note_lowers g.N.BootName.frames c.args.machine.now c.args.group c.args.pages) in
-    let lowers = lowers_both g.N.BootName.frames _ _ _ noted (all_lower g.N.BootName.frames c.args.group g.N.BootName.frames.cpus _ _ sub.drains sub.all) in
-    lowered_there g.N.BootName.frames _ _ c.args.group lowers c.requires
+    (sym (c.note_max.ensures.machine ∙ ap (λ (y : KnownMachine). record y { ledger = with_max_noted y.ledger c.args.limited }) c.note_limit.ensures))
+    (note_lowers g.N.BootName.frames c.args.machine.now c.args.limited c.args.pages) in
+    let lowers = lowers_both g.N.BootName.frames _ _ _ noted (all_lower g.N.BootName.frames c.args.limited g.N.BootName.frames.cpus _ _ sub.drains sub.all) in
+    lowered_there g.N.BootName.frames _ _ c.args.limited lowers c.requires
 
 pub kill_for_few-requires : goal.kill_for_few-requires
 kill_for_few-requires g c =
     let sub = c.drain_stocks.ensures.drains in
     let noted : Lowers g.N.BootName.frames c.args.machine.now c.note_max.new.self =
     subst (λ (y : KnownMachine). Lowers g.N.BootName.frames c.args.machine.now y)
-    (sym (c.note_max.ensures.machine ∙ ap (λ (y : KnownMachine). record y { ledger = with_max_noted y.ledger c.args.group }) c.note_limit.ensures))
-    (note_lowers g.N.BootName.frames c.args.machine.now c.args.group c.args.pages) in
-    let lowers = lowers_both g.N.BootName.frames _ _ _ noted (all_lower g.N.BootName.frames c.args.group g.N.BootName.frames.cpus _ _ sub.drains sub.all) in
-    ap (λ (x : List Group). has_group x c.args.group) c.reclaim_for.ensures.reclaims.1.keeps.groups
-    ∙ lowered_there g.N.BootName.frames _ _ c.args.group lowers c.requires
+    (sym (c.note_max.ensures.machine ∙ ap (λ (y : KnownMachine). record y { ledger = with_max_noted y.ledger c.args.limited }) c.note_limit.ensures))
+    (note_lowers g.N.BootName.frames c.args.machine.now c.args.limited c.args.pages) in
+    let lowers = lowers_both g.N.BootName.frames _ _ _ noted (all_lower g.N.BootName.frames c.args.limited g.N.BootName.frames.cpus _ _ sub.drains sub.all) in
+    ap (λ (x : List Group). has_group x c.args.limited) c.reclaim_for.ensures.reclaims.1.keeps.groups
+    ∙ lowered_there g.N.BootName.frames _ _ c.args.limited lowers c.requires
 
 pub has_room_at-requires : goal.has_room_at-requires
 has_room_at-requires g c =
     let sub = c.drain_stocks.ensures.drains in
     let noted : Lowers g.N.BootName.frames c.args.machine.now c.note_max.new.self =
     subst (λ (y : KnownMachine). Lowers g.N.BootName.frames c.args.machine.now y)
-    (sym (c.note_max.ensures.machine ∙ ap (λ (y : KnownMachine). record y { ledger = with_max_noted y.ledger c.args.group }) c.note_limit.ensures))
-    (note_lowers g.N.BootName.frames c.args.machine.now c.args.group c.args.pages) in
-    let lowers = lowers_both g.N.BootName.frames _ _ _ noted (all_lower g.N.BootName.frames c.args.group g.N.BootName.frames.cpus _ _ sub.drains sub.all) in
-    let there : has_group c.reclaim_for.new.machine.ledger.groups c.args.group ≡ true =
-    ap (λ (x : List Group). has_group x c.args.group) c.reclaim_for.ensures.reclaims.1.keeps.groups
-    ∙ lowered_there g.N.BootName.frames _ _ c.args.group lowers c.requires in
+    (sym (c.note_max.ensures.machine ∙ ap (λ (y : KnownMachine). record y { ledger = with_max_noted y.ledger c.args.limited }) c.note_limit.ensures))
+    (note_lowers g.N.BootName.frames c.args.machine.now c.args.limited c.args.pages) in
+    let lowers = lowers_both g.N.BootName.frames _ _ _ noted (all_lower g.N.BootName.frames c.args.limited g.N.BootName.frames.cpus _ _ sub.drains sub.all) in
+    let there : has_group c.reclaim_for.new.machine.ledger.groups c.args.limited ≡ true =
+    ap (λ (x : List Group). has_group x c.args.limited) c.reclaim_for.ensures.reclaims.1.keeps.groups
+    ∙ lowered_there g.N.BootName.frames _ _ c.args.limited lowers c.requires in
     let killed = c.kill_for_few.ensures in
-    subst (λ (l : Ledger). has_group l.groups c.args.group ≡ true) (sym c.charges.ensures)
-    (lowered_there g.N.BootName.frames _ _ c.args.group
-    (few_lower g.N.BootName.frames c.args.requester c.args.group c.args.pages c.reclaim_for.new.machine c.kill_for_few.new.machine killed.0 killed.1) there)
+    subst (λ (l : Ledger). has_group l.groups c.args.limited ≡ true) (sym c.charges.ensures)
+    (lowered_there g.N.BootName.frames _ _ c.args.limited
+    (few_lower g.N.BootName.frames c.args.requester c.args.limited c.args.pages c.reclaim_for.new.machine c.kill_for_few.new.machine killed.0 killed.1) there)
 
 pub returns-then-is_killed-clause-clears : goal.returns-then-is_killed-clause-clears
 returns-then-is_killed-clause-clears g c =
-    relieves_by g.N.BootName.frames c.args.requester c.args.group c.args.pages c.args.machine.now c.drain_stocks.new.self c.reclaim_for.new.machine
+    relieves_by g.N.BootName.frames c.args.requester c.args.limited c.args.pages c.args.machine.now c.drain_stocks.new.self c.reclaim_for.new.machine
     c.kill_for_few.new.machine
-    (clears_by g.N.BootName.frames c.args.group c.args.pages c.drain_stocks.result c.args.machine.now c.note_limit.new.machine c.note_max.new.self
+    (clears_by g.N.BootName.frames c.args.limited c.args.pages c.drain_stocks.result c.args.machine.now c.note_limit.new.machine c.note_max.new.self
     c.drain_stocks.new.self c.note_limit.ensures c.note_max.ensures.machine c.note_max.ensures.steps c.drain_stocks.ensures.drains c.drain_stocks.ensures.drained)
     c.reclaim_for.ensures.reclaims c.kill_for_few.ensures
 
 pub returns-then-has_room_at-clause-clears : goal.returns-then-has_room_at-clause-clears
 returns-then-has_room_at-clause-clears g c =
-    relieves_by g.N.BootName.frames c.args.requester c.args.group c.args.pages c.args.machine.now c.drain_stocks.new.self c.reclaim_for.new.machine
+    relieves_by g.N.BootName.frames c.args.requester c.args.limited c.args.pages c.args.machine.now c.drain_stocks.new.self c.reclaim_for.new.machine
     c.kill_for_few.new.machine
-    (clears_by g.N.BootName.frames c.args.group c.args.pages c.drain_stocks.result c.args.machine.now c.note_limit.new.machine c.note_max.new.self
+    (clears_by g.N.BootName.frames c.args.limited c.args.pages c.drain_stocks.result c.args.machine.now c.note_limit.new.machine c.note_max.new.self
     c.drain_stocks.new.self c.note_limit.ensures c.note_max.ensures.machine c.note_max.ensures.steps c.drain_stocks.ensures.drains c.drain_stocks.ensures.drained)
     c.reclaim_for.ensures.reclaims c.kill_for_few.ensures
 
 pub returns-else-has_room_at-clause-clears : goal.returns-else-has_room_at-clause-clears
 returns-else-has_room_at-clause-clears g c =
-    relieves_by g.N.BootName.frames c.args.requester c.args.group c.args.pages c.args.machine.now c.drain_stocks.new.self c.reclaim_for.new.machine
+    relieves_by g.N.BootName.frames c.args.requester c.args.limited c.args.pages c.args.machine.now c.drain_stocks.new.self c.reclaim_for.new.machine
     c.kill_for_few.new.machine
-    (clears_by g.N.BootName.frames c.args.group c.args.pages c.drain_stocks.result c.args.machine.now c.note_limit.new.machine c.note_max.new.self
+    (clears_by g.N.BootName.frames c.args.limited c.args.pages c.drain_stocks.result c.args.machine.now c.note_limit.new.machine c.note_max.new.self
     c.drain_stocks.new.self c.note_limit.ensures c.note_max.ensures.machine c.note_max.ensures.steps c.drain_stocks.ensures.drains c.drain_stocks.ensures.drained)
     c.reclaim_for.ensures.reclaims c.kill_for_few.ensures
 
@@ -75,7 +75,7 @@ returns-then-is_killed-clause-room g c = sym c.is_killed.ensures ∙ c.if-is_kil
 
 pub returns-then-has_room_at-clause-room : goal.returns-then-has_room_at-clause-room
 returns-then-has_room_at-clause-room g c = record {
-  room = ap (λ (l : Ledger). has_room_at l c.args.group c.args.pages) (sym c.charges.ensures) ∙ sym c.has_room_at.ensures ∙ c.if-has_room_at.true;
+  room = ap (λ (l : Ledger). has_room_at l c.args.limited c.args.pages) (sym c.charges.ensures) ∙ sym c.has_room_at.ensures ∙ c.if-has_room_at.true;
   alive = sym c.is_killed.ensures ∙ c.if-is_killed.false;
 }
 
@@ -83,7 +83,7 @@ pub returns-else-has_room_at-clause-room : goal.returns-else-has_room_at-clause-
 returns-else-has_room_at-clause-room g c = (
   refl,
   record {
-    over = ap (λ (l : Ledger). has_room_at l c.args.group c.args.pages) (sym c.charges.ensures) ∙ sym c.has_room_at.ensures ∙ c.if-has_room_at.false;
+    over = ap (λ (l : Ledger). has_room_at l c.args.limited c.args.pages) (sym c.charges.ensures) ∙ sym c.has_room_at.ensures ∙ c.if-has_room_at.false;
     alive = sym c.is_killed.ensures ∙ c.if-is_killed.false;
   },
 )
