@@ -18,14 +18,14 @@ pub record IsSizedAs (sizes : Config) (table : KnownTable) (words : Words) : Typ
   pub cpus : table.cpus ≡ sizes.cpus
   pub stock_cpus : words.cpus ≡ sizes.cpus
 
--- the sizes are in their ranges, the tables have them, and the seats are all those of the tables, none of which did
--- anything
-pub record IsBooted (boot : KnownBoot) (zone : KnownSeat) (stock : Seated)
+-- the sizes are in their ranges, the tables have them, and the seats, the zone's and the processors', are all those of
+-- the tables, none of which did anything
+pub record IsBooted (boot : KnownBoot) (frame_seat : KnownSeat) (stock_seat : Seated)
     (frame_seats : List KnownSeat) (stock_seats : List Seated) : Type 0 where
   pub valid : IsValidConfig boot.sizes
   pub sized : IsSizedAs boot.sizes boot.frames boot.stocks
-  pub zone_is : zone ≡ record { table = boot.frames.table; view = first_zone_view boot.frames.frames }
-  pub stock_is : stock ≡ record { table = boot.stocks.table; view = first_zone_stock }
+  pub frame_seat_is : frame_seat ≡ record { table = boot.frames.table; view = first_zone_view boot.frames.frames }
+  pub stock_seat_is : stock_seat ≡ record { table = boot.stocks.table; view = first_zone_stock }
   pub frame_seats_are : frame_seats ≡ first_cpu_seats boot.frames.table 1 boot.sizes.cpus
   pub stock_seats_are : stock_seats ≡ first_seats boot.stocks.table 1 boot.sizes.cpus
 

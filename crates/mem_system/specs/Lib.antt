@@ -5,6 +5,7 @@ pub mod Commands
 pub mod Ends
 pub mod Files
 pub mod Groups
+pub mod Kept
 pub mod Leaves
 pub mod Locked
 pub mod Outcomes

@@ -1,6 +1,6 @@
 //! Frames and blocks that are allocated for the group of a path.
 
-ghost use Rattle.std.specs.Prelude.{◌≡◌, ℕ, [], IsTrue, Err};
+ghost use Rattle.std.specs.Prelude.{◌≡◌, ℕ, IsTrue, Err};
 ghost use Rattle.group_tree.specs.Groups.{has_group};
 ghost use Rattle.mem_machine.specs.Machines.{KeepsVisit};
 ghost use Rattle.mem_machine.specs.Local.{side};
@@ -8,9 +8,7 @@ ghost use Rattle.mem_alloc.specs.declared.faults.AllocFault.TheVariants as cause
 ghost use Rattle.mem_system.specs.Allocations.{Allocates, AllocatesAs, FreshOf, outcome_of};
 ghost use Rattle.mem_system.specs.Outcomes.{ComesTo, HasItsGroups, reply_of};
 ghost use Rattle.mem_system.specs.Commands.{BySteps, ListAndFreshStayWithin, MayObey};
-ghost use Rattle.mem_system.specs.Visits.{EndsVisit, IsCarriedOutFor, holder};
 
-use crate::lock::Locked;
 use crate::outcome::Outcome;
 use cpu_part::{BootName, Cpu, Tables};
 use frame_word::Frame;
@@ -22,7 +20,7 @@ use zone_blocks::order::Order;
 use zone_sizes::config::Config;
 
 // What an allocation comes to.
-fn outcome_of(answer: &Result<Frame, AllocFault>) -> Outcome
+pub(crate) fn outcome_of(answer: &Result<Frame, AllocFault>) -> Outcome
     ensures { result ≡ outcome_of answer.now }
 {
     match answer {
@@ -84,29 +82,5 @@ pub(crate) fn allocate<N: BootName>(
         return Outcome::Refused(Fault::BadOrder);
     };
     let answer = allocate_as(machine, tables, cpu, sizes, group, order);
-    outcome_of(&answer)
-}
-
-/// Serves an Alloc of order 0 for a group that is there, as `carry_out` does for each path of that group: no path is
-/// sought.
-#[inline(always)]
-pub fn carry_out_frame<N: BootName>(
-    locked: &mut Locked<N>,
-    tables: &Tables<N>,
-    cpu: &mut Cpu<N>,
-    group: GroupId,
-) -> Outcome
-    requires there { IsTrue (has_group locked.old.machine.ledger.groups group) }
-    ensures served { IsCarriedOutFor N.frames group result (holder locked.old cpu.old) (holder locked.new cpu.new) }
-    ensures groups { HasItsGroups locked.new.machine.ledger result }
-    ensures fresh { FreshOf (reply_of locked.new.machine.ledger result) 0 cpu.new.fresh }
-    ensures back { cpu.new.back ≡ [] }
-    ensures ends { EndsVisit N.frames (holder locked.old cpu.old) (holder locked.new cpu.new) }
-{
-    locked.machine.forget_notes();
-    locked.machine.open(tables, cpu);
-    locked.machine.settle(tables, cpu);
-    let answer = alloc_frame(&mut locked.machine, tables, cpu, locked.sizes, group);
-    locked.machine.shut(tables, cpu);
     outcome_of(&answer)
 }

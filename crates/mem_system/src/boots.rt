@@ -1,14 +1,18 @@
-//! A boot, and the tables, machine and processors' parts that it is taken apart into.
+//! A boot: its two tables with all their seats, and the tables, machine and processors' parts that it is taken apart
+//! into.
 
-ghost use Rattle.std.specs.Prelude.{◌≡◌, length, All, IfOk};
+ghost use Rattle.std.specs.Prelude.{◌≡◌, ◌↔◌, length, All, IfOk};
 ghost use Rattle.frame_word.specs.Seats.{first_cpu_seats};
 ghost use Rattle.stock_word.specs.Stock.{first_seats};
 ghost use Rattle.mem_machine.specs.Machines.{IsFirst};
 ghost use Rattle.cpu_part.specs.Cpus.{IsIdle};
 ghost use Rattle.mem_system.specs.Locked.{IsQuiet};
-ghost use Rattle.mem_system.specs.Boots.{first_cpus};
+ghost use Rattle.mem_system.specs.Boots.{IsSizedAs, first_cpus};
+ghost use Rattle.mem_system.specs.declared.boots.BootFault.TheVariants.{BadConfig, NoMemory};
+ghost use Rattle.zone_sizes.specs.Config.{IsValidConfig};
 
 use crate::lock::Locked;
+use crate::system::System;
 use cpu_part::{BootName, Cpu, Tables};
 use frame_word::{FrameSeat, FrameWords};
 use mem_machine::Machine;
@@ -17,16 +21,35 @@ use std::marker::Model;
 use stock_word::{StockSeat, StockWords};
 use zone_sizes::config::Config;
 
+/// Why there is no boot.
+#[derive(Clone, Copy, Debug, PartialEq, Eq)]
+pub enum BootFault {
+    /// A size is out of its range.
+    BadConfig,
+    /// Memory was wanting.
+    NoMemory,
+}
+
+impl From<AllocError> for BootFault {
+    ghost from_gives = { λ _ e. e ≡ NoMemory };
+
+    fn from(_error: AllocError) -> BootFault {
+        BootFault::NoMemory
+    }
+}
+
 /// The two tables of a boot with all their seats, of which none was used yet.
 #[derive(Drop)]
 pub struct Boot {
-    pub(crate) sizes: Config,
-    pub(crate) frames: FrameWords,
-    pub(crate) stocks: StockWords,
-    pub(crate) zone: FrameSeat,
-    pub(crate) stock: StockSeat,
-    pub(crate) frame_seats: Vec<FrameSeat>,
-    pub(crate) stock_seats: Vec<StockSeat>,
+    sizes: Config,
+    frames: FrameWords,
+    stocks: StockWords,
+    // The zone's seats at the two tables.
+    frame_seat: FrameSeat,
+    stock_seat: StockSeat,
+    // Those of the processors, in order.
+    frame_seats: Vec<FrameSeat>,
+    stock_seats: Vec<StockSeat>,
 }
 
 impl Model for Boot {
@@ -37,10 +60,33 @@ impl Model for Boot {
     ghost view = { λ b. record { sizes = b.sizes; frames = b.frames; stocks = b.stocks } };
 
     ghost invariant = { λ b. IsBooted (record { sizes = b.sizes; frames = b.frames; stocks = b.stocks })
-        b.zone b.stock_seat b.frame_seats.items b.stock_seats.items };
+        b.frame_seat b.stock_seat b.frame_seats.items b.stock_seats.items };
 }
 
 impl Boot {
+    /// Makes the two tables of a zone of these sizes, with all their seats. `BadConfig` comes exactly where a size is
+    /// out of its range, else `NoMemory` where memory is wanting.
+    pub fn new(alloc: Global, sizes: Config) -> Result<Boot, BootFault>
+        ensures sizes { IfOk result (λ boot. boot.sizes ≡ sizes) }
+        ensures sized { IfOk result (λ boot. IsSizedAs sizes boot.frames boot.stocks) }
+        ensures bad_config { (result ≡ Err BadConfig) ↔ (¬ IsValidConfig sizes) }
+    {
+        if !sizes.is_valid() {
+            return Err(BootFault::BadConfig);
+        }
+        let (frames, frame_seat, frame_seats) = FrameWords::new(alloc, sizes.frames, sizes.cpus)?;
+        let (stocks, stock_seat, stock_seats) = StockWords::new(alloc, sizes.cpus)?;
+        Ok(Boot {
+            sizes,
+            frames,
+            stocks,
+            frame_seat,
+            stock_seat,
+            frame_seats,
+            stock_seats,
+        })
+    }
+
     /// Makes what the boot consists of, under a name of its tables: the tables, what lies behind the lock, and a part
     /// for each processor, in order. All room that later calls need is reserved here. `AllocError` comes where memory
     /// is wanting; nothing stays then.
@@ -54,21 +100,35 @@ impl Boot {
         ensures sizes { IfOk result (λ parts. parts.1.sizes ≡ self.sizes) }
         ensures cpus { IfOk result (λ parts. parts.2.items ≡ first_cpus N.frames N.stocks 1 self.sizes.cpus) }
         ensures count { IfOk result (λ parts. length parts.2.items ≡ N.frames.cpus) }
+        ensures sized { IfOk result (λ _. IsSizedAs self.sizes N.frames N.stocks) }
     {
         let Boot {
             sizes,
             frames,
             stocks,
-            zone,
-            stock,
+            frame_seat,
+            stock_seat,
             frame_seats,
             stock_seats,
         } = self;
         let tables = Tables::<N>::new(frames, stocks);
-        let machine = Machine::<N>::new(alloc, &tables, zone, stock)?;
+        let machine = Machine::<N>::new(alloc, &tables, frame_seat, stock_seat)?;
         let locked = lock_up(alloc, sizes, machine)?;
         let cpus = make_cpus(alloc, sizes.cpus, frame_seats, stock_seats)?;
         Ok((tables, locked, cpus))
+    }
+
+    /// Starts the boot under a name of its tables: the system, and a part for each processor, in order. `AllocError`
+    /// comes where memory is wanting; nothing stays then. A clause can't look through the lock: `Boot::into_parts` says
+    /// what lies behind it.
+    pub fn start<N: BootName>(self, alloc: Global) -> Result<(System<N>, Vec<Cpu<N>>), AllocError>
+        requires frames { self.frames ≡ N.frames }
+        requires stocks { self.stocks ≡ N.stocks }
+        ensures cpus { IfOk result (λ started. started.1.items ≡ first_cpus N.frames N.stocks 1 self.sizes.cpus) }
+        ensures count { IfOk result (λ started. length started.1.items ≡ N.frames.cpus) }
+    {
+        let (tables, locked, cpus) = self.into_parts(alloc)?;
+        Ok((System::of(locked, tables), cpus))
     }
 }
 

@@ -9,7 +9,6 @@
 mod allocations;
 mod audit;
 mod boot_end;
-mod boot_tables;
 mod boots;
 mod command;
 mod files;
@@ -27,16 +26,14 @@ mod units;
 mod usage;
 mod visits;
 
-pub use allocations::carry_out_frame;
 pub use audit::Audit;
 pub use boot_end::{Pinned, end};
-pub use boot_tables::{BootFault, boot};
-pub use boots::Boot;
+pub use boots::{Boot, BootFault};
 pub use command::{Cmd, Reply};
 pub use gates::{Gate, NoGate};
 pub use lock::Locked;
 pub use outcome::Outcome;
 pub use system::System;
 pub use system_end::Held;
-pub use texts::{blocks, settle, show};
-pub use visits::{carry_out, serve};
+pub use texts::{blocks, show};
+pub use visits::{carry_out, carry_out_frame, serve, settle};

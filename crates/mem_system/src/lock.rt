@@ -24,17 +24,15 @@ pub struct Locked<N: BootName> {
 }
 
 impl<N: BootName> Model for Locked<N> {
-    ghost use Rattle.std.specs.Prelude.{length};
-    ghost use Rattle.std.specs.Vec.{vec_capacity};
-    ghost use Rattle.mem_system.specs.Locked.{KnownLocked, IsQuiet, IsEmptyWithRoom};
+    ghost use Rattle.mem_system.specs.Locked.{KnownLocked};
 
     ghost Value = { KnownLocked };
 
-    ghost view = { λ l. record { machine = l.machine; sizes = l.sizes } };
+    ghost use Rattle.mem_system.specs.Kept.{locked_of, IsKept};
 
-    ghost invariant = { λ l. IsQuiet N.frames N.stocks (record { machine = l.machine; sizes = l.sizes })
-        × IsEmptyWithRoom l.sizes.cpus (length l.frame_seats.items) (vec_capacity l.frame_seats)
-        × IsEmptyWithRoom l.sizes.cpus (length l.stock_seats.items) (vec_capacity l.stock_seats) };
+    ghost view = { locked_of };
+
+    ghost invariant = { λ fields. IsKept N.frames N.stocks fields };
 }
 
 impl<N: BootName> Locked<N> {

@@ -1,21 +1,18 @@
 //! The system: the zone's lock, with what lies behind it, and the tables that all processors share.
 
-ghost use Rattle.std.specs.Prelude.{◌≡◌, length, IfOk};
+ghost use Rattle.std.specs.Prelude.{◌≡◌};
 ghost use Rattle.group_tree.specs.Groups.{number_at};
 ghost use Rattle.mem_machine.specs.Machines.{IsConsistent};
 ghost use Rattle.mem_system.specs.Locked.{BehindLock, IsQuiet};
-ghost use Rattle.mem_system.specs.Boots.{first_cpus};
 ghost use Rattle.mem_system.specs.Commands.{IsOfZone, IsSettledAfter};
 ghost use Rattle.mem_system.specs.Visits.{IsServed, IsVisited};
 
-use crate::boots::Boot;
 use crate::command::{Cmd, Reply};
 use crate::gates::{Gate, NoGate};
 use crate::lock::Locked;
 use crate::visits::serve_into;
 use cpu_part::{BootName, Cpu, Tables};
 use group_tree::group::GroupId;
-use std::alloc::{AllocError, Global};
 use std::sync::{Mutex, Wait};
 
 /// A boot that has started: the machine behind the zone's lock, and its tables. Processors share it by `&`.
@@ -23,21 +20,6 @@ use std::sync::{Mutex, Wait};
 pub struct System<N: BootName> {
     pub(crate) locked: Mutex<Locked<N>>,
     pub(crate) tables: Tables<N>,
-}
-
-impl Boot {
-    /// Starts the boot under a name of its tables: the system, and a part for each processor, in order. `AllocError`
-    /// comes where memory is wanting; nothing stays then. A clause can't look through the lock: `Boot::into_parts` says
-    /// what lies behind it.
-    pub fn start<N: BootName>(self, alloc: Global) -> Result<(System<N>, Vec<Cpu<N>>), AllocError>
-        requires frames { self.frames ≡ N.frames }
-        requires stocks { self.stocks ≡ N.stocks }
-        ensures cpus { IfOk result (λ started. started.1.items ≡ first_cpus N.frames N.stocks 1 self.sizes.cpus) }
-        ensures count { IfOk result (λ started. length started.1.items ≡ N.frames.cpus) }
-    {
-        let (tables, locked, cpus) = self.into_parts(alloc)?;
-        Ok((System::of(locked, tables), cpus))
-    }
 }
 
 impl<N: BootName> System<N> {

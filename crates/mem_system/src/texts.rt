@@ -1,4 +1,4 @@
-//! A processor that is settled, and the texts that it is told of the machine then.
+//! The texts that a processor is told of the machine once it is settled.
 
 ghost use Rattle.std.specs.Prelude.{◌≡◌, IfOk};
 ghost use Rattle.std.specs.String.{string_bytes};
@@ -8,23 +8,13 @@ ghost use Rattle.mem_system.specs.Shown.{SettlesCaller, TellsOf};
 ghost use Rattle.mem_system.specs.Commands.{IsSettled};
 ghost use Rattle.mem_system.specs.Visits.{EndsVisit, holder};
 
-use crate::command::Cmd;
 use crate::lock::Locked;
 use crate::system::System;
-use crate::visits::carry_out;
+use crate::visits::settle;
 use cpu_part::{BootName, Cpu, Tables};
 use machine_texts::{write_blocks, write_show};
 use std::alloc::{AllocError, Global};
 use std::sync::Wait;
-
-/// Serves `Settle`: the processor is settled, and nothing else.
-pub fn settle<N: BootName>(locked: &mut Locked<N>, tables: &Tables<N>, cpu: &mut Cpu<N>)
-    ensures served { SettlesCaller N.frames (holder locked.old cpu.old) (holder locked.new cpu.new) }
-    ensures settled { IsSettled cpu.new }
-    ensures ends { EndsVisit N.frames (holder locked.old cpu.old) (holder locked.new cpu.new) }
-{
-    let _done = carry_out(locked, tables, cpu, &Cmd::Settle);
-}
 
 /// Serves `Settle`, and then tells a line for each longest run of frames with equal place, and one for each group but
 /// the root with its usage in bytes. `AllocError` comes where memory is wanting: the settling stands then, and

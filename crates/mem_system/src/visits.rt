@@ -1,13 +1,20 @@
 //! Commands, served under the lock.
 
+ghost use Rattle.std.specs.Prelude.{◌≡◌, [], IsTrue};
+ghost use Rattle.group_tree.specs.Groups.{has_group};
+ghost use Rattle.mem_system.specs.Allocations.{FreshOf};
 ghost use Rattle.mem_system.specs.Outcomes.{HasItsGroups, reply_of};
-ghost use Rattle.mem_system.specs.Commands.{IsOfZone, IsSettledAfter};
-ghost use Rattle.mem_system.specs.Visits.{EndsVisit, IsCarriedOut, IsServed, holder};
+ghost use Rattle.mem_system.specs.Commands.{IsOfZone, IsSettled, IsSettledAfter};
+ghost use Rattle.mem_system.specs.Shown.{SettlesCaller};
+ghost use Rattle.mem_system.specs.Visits.{EndsVisit, IsCarriedOut, IsCarriedOutFor, IsServed, holder};
 
+use crate::allocations::outcome_of;
 use crate::command::{Cmd, Reply, obey};
 use crate::lock::Locked;
 use crate::outcome::{Outcome, tell};
 use cpu_part::{BootName, Cpu, Tables};
+use group_tree::group::GroupId;
+use mem_alloc::alloc_frame;
 
 /// Serves one command of the processor, which holds the lock: what was noted before is forgotten, its visit is opened,
 /// its fresh and back frames are settled, the command is obeyed, and the visit is shut. What is noted then are the
@@ -69,4 +76,39 @@ pub fn serve<N: BootName>(
     let mut reply = Reply::Done;
     serve_into(locked, tables, cpu, cmd, &mut reply);
     reply
+}
+
+/// Serves an Alloc of order 0 for a group that is there, as `carry_out` does for each path of that group: no path is
+/// sought.
+#[inline(always)]
+pub fn carry_out_frame<N: BootName>(
+    locked: &mut Locked<N>,
+    tables: &Tables<N>,
+    cpu: &mut Cpu<N>,
+    group: GroupId,
+) -> Outcome
+    requires there { IsTrue (has_group locked.old.machine.ledger.groups group) }
+    ensures served { IsCarriedOutFor N.frames group result (holder locked.old cpu.old) (holder locked.new cpu.new) }
+    ensures groups { HasItsGroups locked.new.machine.ledger result }
+    ensures fresh { FreshOf (reply_of locked.new.machine.ledger result) 0 cpu.new.fresh }
+    ensures back { cpu.new.back ≡ [] }
+    ensures ends { EndsVisit N.frames (holder locked.old cpu.old) (holder locked.new cpu.new) }
+{
+    let sizes = locked.sizes;
+    let machine = &mut locked.machine;
+    machine.forget_notes();
+    machine.open(tables, cpu);
+    machine.settle(tables, cpu);
+    let answer = alloc_frame(machine, tables, cpu, sizes, group);
+    machine.shut(tables, cpu);
+    outcome_of(&answer)
+}
+
+/// Serves `Settle`: the processor is settled, and nothing else.
+pub fn settle<N: BootName>(locked: &mut Locked<N>, tables: &Tables<N>, cpu: &mut Cpu<N>)
+    ensures served { SettlesCaller N.frames (holder locked.old cpu.old) (holder locked.new cpu.new) }
+    ensures settled { IsSettled cpu.new }
+    ensures ends { EndsVisit N.frames (holder locked.old cpu.old) (holder locked.new cpu.new) }
+{
+    let _done = carry_out(locked, tables, cpu, &Cmd::Settle);
 }

@@ -58,7 +58,7 @@ close_tables-requires-clause-stocks g c =
     let longer = turn_long (ByVisit t Empties) _ _ _ _ c.empty_all.ensures.empties ∙ ap length second in
     let last = written_back c.args.cpus.len c.empty_all.new.cpus _ longer (size ∙ sym (ap length same ∙ long)) in
     let seats = c.gather_seats-frame_seats.ensures.stocks ∙ ap (λ (l : List KnownCpu). map stock_seat_of l) last in
-    let sized = c.locked.invariant.0.sized in (
+    let sized = c.locked.invariant.quiet.sized in (
       subst (AreOf w.table) (sym seats) (stock_seats_at t w c.empty_all.new.machine c.empty_all.new.cpus c.empty_all.ensures.spent),
       ap length seats ∙ long_stocks c.empty_all.new.cpus ∙ longer ∙ ap length same ∙ long ∙ c.requires ∙ sized.cpus ∙ sym sized.stock_cpus,
     )
@@ -87,5 +87,5 @@ returns-clause-ends g c =
     c.empty_all.ensures.empties in
     subst (λ (l : KnownLocked). Ends t w l c.args.cpus.items c.take_audit-audit.result) c.locked.view_is
     (all_ends t w (record { machine = c.locked.inside.machine; sizes = c.locked.inside.sizes }) c.args.cpus.items c.settle_all.new.machine c.settle_all.new.cpus
-    c.empty_all.new.machine c.empty_all.new.cpus c.take_audit-audit.result _ _ _ c.locked.invariant.0 none dropped rests empties c.empty_all.ensures.shut c.empty_all.ensures.spent
+    c.empty_all.new.machine c.empty_all.new.cpus c.take_audit-audit.result _ _ _ c.locked.invariant.quiet none dropped rests empties c.empty_all.ensures.shut c.empty_all.ensures.spent
     c.take_audit-audit.ensures c.close_tables.ensures frames stocks)

@@ -13,20 +13,21 @@ use Rattle.mem_system.proofs.visits.carry_out.Goals as goal
 
 pub invariant_of-locked : goal.invariant_of-locked
 invariant_of-locked g c =
-    let quiet = c.locked.invariant.0 in
+    let quiet = c.locked.invariant.quiet in
     let x = c.obey-outcome.new.machine in
     let numbered = c.obey-outcome.ensures.stays.number ∙ c.settle.ensures.others.number ∙ ap (λ (y : KnownCpu). y.number) c.open.ensures.cpu in
     let opened = c.obey-outcome.ensures.stays.opened ∙ settled_opened _ _ _ _ c.settle.ensures.settles
-    ∙ ap (λ (k : KnownMachine). k.frame_seat.view.opened) (c.open.ensures.machine ∙ ap (λ (y : KnownMachine). with_visit_of y c.args.cpu.now.number 1) c.forget_notes.ensures) in (
-      record {
+    ∙ ap (λ (k : KnownMachine). k.frame_seat.view.opened) (c.open.ensures.machine ∙ ap (λ (y : KnownMachine). with_visit_of y c.args.cpu.now.number 1) c.forget_notes.ensures) in
+    record {
+      quiet = record {
         shut = all_shut c.locked.inside.machine x c.shut.new.self c.args.cpu.now.number quiet.shut opened
             (c.shut.ensures.machine ∙ ap (λ (q : ℕ). with_visit_of x q 0) numbered);
         valid = quiet.valid;
         sized = quiet.sized;
-      },
-      c.locked.invariant.1,
-      c.locked.invariant.2,
-    )
+      };
+      frame_seats = c.locked.invariant.frame_seats;
+      stock_seats = c.locked.invariant.stock_seats;
+    }
 
 pub returns : goal.returns
 returns g c =

@@ -1,5 +1,5 @@
 use Rattle.std.proofs.Common.{rules}
-use Rattle.mem_system.proofs.texts.settle.Goals as goal
+use Rattle.mem_system.proofs.visits.settle.Goals as goal
 
 pub returns-clause-served : goal.returns-clause-served
 returns-clause-served g c = search rules

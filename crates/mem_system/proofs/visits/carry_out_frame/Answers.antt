@@ -16,7 +16,7 @@ use Rattle.mem_system.specs.Visits.{with_visit_of, holder, IsServed}
 use Rattle.mem_system.proofs.Visiting.{all_shut, settled_opened, served}
 use Rattle.mem_system.proofs.Staying.{settled_groups}
 use Rattle.mem_system.proofs.Allocating.{frame_allocated, has_groups, over_is_there}
-use Rattle.mem_system.proofs.allocations.carry_out_frame.Goals as goal
+use Rattle.mem_system.proofs.visits.carry_out_frame.Goals as goal
 
 pub alloc_frame-answer-requires-clause-there : goal.alloc_frame-answer-requires-clause-there
 alloc_frame-answer-requires-clause-there g c =
@@ -27,20 +27,21 @@ alloc_frame-answer-requires-clause-there g c =
 
 pub invariant_of-locked : goal.invariant_of-locked
 invariant_of-locked g c =
-    let quiet = c.locked.invariant.0 in
+    let quiet = c.locked.invariant.quiet in
     let x = c.alloc_frame-answer.new.machine in
     let stays = c.alloc_frame-answer.ensures.stays in
     let numbered = stays.number ∙ c.settle.ensures.others.number ∙ ap (λ (y : KnownCpu). y.number) c.open.ensures.cpu in
-    let opened = stays.opened ∙ settled_opened _ _ _ _ c.settle.ensures.settles ∙ ap (λ (k : KnownMachine). k.frame_seat.view.opened) (c.open.ensures.machine ∙ ap (λ (y : KnownMachine). with_visit_of y c.args.cpu.now.number 1) c.forget_notes.ensures) in (
-      record {
+    let opened = stays.opened ∙ settled_opened _ _ _ _ c.settle.ensures.settles ∙ ap (λ (k : KnownMachine). k.frame_seat.view.opened) (c.open.ensures.machine ∙ ap (λ (y : KnownMachine). with_visit_of y c.args.cpu.now.number 1) c.forget_notes.ensures) in
+    record {
+      quiet = record {
         shut = all_shut c.locked.inside.machine x c.shut.new.self c.args.cpu.now.number quiet.shut opened
             (c.shut.ensures.machine ∙ ap (λ (q : ℕ). with_visit_of x q 0) numbered);
         valid = quiet.valid;
         sized = quiet.sized;
-      },
-      c.locked.invariant.1,
-      c.locked.invariant.2,
-    )
+      };
+      frame_seats = c.locked.invariant.frame_seats;
+      stock_seats = c.locked.invariant.stock_seats;
+    }
 
 pub returns-clause-served : goal.returns-clause-served
 returns-clause-served g c path at =

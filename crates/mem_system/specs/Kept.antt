@@ -1,0 +1,18 @@
+-- What a contract sees of the fields of what lies behind the zone's lock, and what always holds of them.
+use Rattle.std.specs.Prelude.{length}
+use Rattle.std.specs.Vec.{vec_capacity}
+use Rattle.frame_word.specs.Seats.{KnownTable}
+use Rattle.stock_word.specs.Stock.{Words}
+use Rattle.mem_system.specs.declared.lock.Locked.TheInside.{Inside}
+use Rattle.mem_system.specs.Locked.{KnownLocked, IsEmptyWithRoom, IsQuiet}
+
+-- what a contract sees of these fields: all but the room for the processors' seats
+abbrev pub locked_of : {N : Type 0} → Inside N → KnownLocked
+locked_of fields = record { machine = fields.machine; sizes = fields.sizes }
+
+-- while no one holds the lock, what lies behind it is quiet, and there is room for the seats of all processors, which
+-- are gathered at the end
+pub record IsKept {N : Type 0} (table : KnownTable) (words : Words) (fields : Inside N) : Type 0 where
+  pub quiet : IsQuiet table words (locked_of fields)
+  pub frame_seats : IsEmptyWithRoom fields.sizes.cpus (length fields.frame_seats.items) (vec_capacity fields.frame_seats)
+  pub stock_seats : IsEmptyWithRoom fields.sizes.cpus (length fields.stock_seats.items) (vec_capacity fields.stock_seats)
