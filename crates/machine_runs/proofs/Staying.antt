@@ -52,8 +52,8 @@ lent_seats : (frames : List ℕ) (m : KnownMachine) (c : KnownCpu) (n : KnownMac
     → (n.frame_seat.view.opened ≡ m.frame_seat.view.opened) × (d.number ≡ c.number)
 lent_seats [] m c n d lends = (ap (λ (k : KnownMachine). k.frame_seat.view.opened) lends.machine, ap (λ (e : KnownCpu). e.number) lends.cpu)
 lent_seats (f ∷ frames) m c n d lends =
-    let rest = lent_seats frames lends.0.machine lends.0.cpu n d lends.2 in
-    (rest.0 ∙ ap (λ (k : KnownMachine). k.frame_seat.view.opened) lends.1.lends.machine, rest.1 ∙ ap (λ (e : KnownCpu). e.number) lends.1.lends.cpu)
+    let rest = lent_seats frames lends.between.machine lends.between.cpu n d lends.rest in
+    (rest.0 ∙ ap (λ (k : KnownMachine). k.frame_seat.view.opened) lends.first.lends.machine, rest.1 ∙ ap (λ (e : KnownCpu). e.number) lends.first.lends.cpu)
 
 pub refill_stays : (t : KnownTable) (k : ℕ) (m : KnownMachine) (c : KnownCpu) (n : KnownMachine) (d : KnownCpu) → Refills t k (side m c) (side n d) → Visits t (side n d)
     → Stays t m c n d
@@ -65,8 +65,8 @@ taken_seats : (frames : List ℕ) (m : KnownMachine) (c : KnownCpu) (n : KnownMa
     → (n.frame_seat.view.opened ≡ m.frame_seat.view.opened) × (d.number ≡ c.number)
 taken_seats [] m c n d takes = (ap (λ (k : KnownMachine). k.frame_seat.view.opened) takes.machine, ap (λ (e : KnownCpu). e.number) takes.cpu)
 taken_seats (f ∷ frames) m c n d takes =
-    let rest = taken_seats frames takes.0.machine takes.0.cpu n d takes.2 in
-    (rest.0 ∙ ap (λ (k : KnownMachine). k.frame_seat.view.opened) takes.1.machine, rest.1 ∙ ap (λ (e : KnownCpu). e.number) takes.1.cpu)
+    let rest = taken_seats frames takes.between.machine takes.between.cpu n d takes.rest in
+    (rest.0 ∙ ap (λ (k : KnownMachine). k.frame_seat.view.opened) takes.first.machine, rest.1 ∙ ap (λ (e : KnownCpu). e.number) takes.first.cpu)
 
 pub drain_list_stays : (t : KnownTable) (frames : List ℕ) (m : KnownMachine) (c : KnownCpu) (n : KnownMachine) (d : KnownCpu)
     → TakesManyBack frames (side m c) (side n d) → Visits t (side n d) → Stays t m c n d
@@ -83,7 +83,7 @@ below_seat g m q (e ∷ f ∷ more) n d = absurd d
 
 pub all_below_seat : (g k : ℕ) (drains : List Drain) (m n : KnownMachine) → DrainsAllBelow g k drains m n → n.frame_seat ≡ m.frame_seat
 all_below_seat g zero drains m n d = ap (λ (k : KnownMachine). k.frame_seat) d.1
-all_below_seat g (suc k) drains m n d = below_seat g d.2 (suc k) d.1 n d.5 ∙ all_below_seat g k d.0 m d.2 d.4
+all_below_seat g (suc k) drains m n d = below_seat g d.between (suc k) d.last n d.makes_last ∙ all_below_seat g k d.first m d.between d.makes_first
 
 pub prepay_stays : (r : Result (Unit {0}) Over) (t : KnownTable) (g pages : ℕ) (m : KnownMachine) (c : KnownCpu) (n : KnownMachine) (d : KnownCpu)
     → Visits t (side n d) → OnOk r (Prepays g pages (side m c) (side n d)) → IfErr r (λ e. IsOver g pages e.group (side m c) (side n d)) → Stays t m c n d
@@ -110,14 +110,14 @@ fresh_opened : (frames : List ℕ) (m : KnownMachine) (c : KnownCpu) (n : KnownM
     → n.frame_seat.view.opened ≡ m.frame_seat.view.opened
 fresh_opened [] m c n d settles = ap (λ (k : KnownMachine). k.frame_seat.view.opened) settles.machine
 fresh_opened (f ∷ frames) m c n d settles =
-    fresh_opened frames settles.0.machine settles.0.cpu n d settles.2
-    ∙ fresh_one f m c settles.0.machine settles.0.cpu settles.1 (is_killed m.killed (fresh_group c)) refl
+    fresh_opened frames settles.between.machine settles.between.cpu n d settles.rest
+    ∙ fresh_one f m c settles.between.machine settles.between.cpu settles.first (is_killed m.killed (fresh_group c)) refl
 
 back_opened : (frames : List ℕ) (m : KnownMachine) (c : KnownCpu) (n : KnownMachine) (d : KnownCpu) → ReturnsAllBack frames (side m c) (side n d)
     → n.frame_seat.view.opened ≡ m.frame_seat.view.opened
 back_opened [] m c n d returns = ap (λ (k : KnownMachine). k.frame_seat.view.opened) returns.machine
 back_opened (f ∷ frames) m c n d returns =
-    back_opened frames returns.0.machine returns.0.cpu n d returns.2 ∙ ap (λ (k : KnownMachine). k.frame_seat.view.opened) returns.1.machine
+    back_opened frames returns.between.machine returns.between.cpu n d returns.rest ∙ ap (λ (k : KnownMachine). k.frame_seat.view.opened) returns.first.machine
 
 pub settle_stays : (t : KnownTable) (m : KnownMachine) (c : KnownCpu) (n : KnownMachine) (d : KnownCpu) → Settles (side m c) (side n d) → LeavesOthers c d
     → Visits t (side n d) → Stays t m c n d

@@ -161,8 +161,8 @@ lent_part [] m n c d h = record {
   stock_seat = ap (λ (y : KnownMachine). y.stock_seat) h.machine;
 }
 lent_part (f ∷ frames) m n c d h =
-    let one = h.1.lends in
-    let more = lent_part frames h.0.machine n h.0.cpu d h.2 in
+    let one = h.first.lends in
+    let more = lent_part frames h.between.machine n h.between.cpu d h.rest in
     record {
       opened = more.opened ∙ ap (λ (y : KnownMachine). y.frame_seat.view.opened) one.machine;
       number = more.number ∙ ap (λ (e : KnownCpu). e.number) one.cpu;

@@ -121,7 +121,7 @@ below_lowers t g q m n (one ∷ two ∷ more) h = absurd h
 
 pub all_lower : (t : KnownTable) (g k : ℕ) (m n : KnownMachine) (drains : List Drain) → DrainsAllBelow g k drains m n → Lowers t m n
 all_lower t g zero m n drains h = subst (λ (x : KnownMachine). Lowers t m x) (sym h.1) (lowers_none t m)
-all_lower t g (suc k) m n drains h = lowers_both t m h.2 n (all_lower t g k m h.2 h.0 h.4) (below_lowers t g (suc k) h.2 n h.1 h.5)
+all_lower t g (suc k) m n drains h = lowers_both t m h.between n (all_lower t g k m h.between h.first h.makes_first) (below_lowers t g (suc k) h.between n h.last h.makes_last)
 
 usage_noted : (groups : List Group) (xs : List charge.Account) (g m : ℕ) → usage_of groups (map (noted groups g) xs) m ≡ usage_of groups xs m
 unfolding usage_of

@@ -155,13 +155,13 @@ back_calm p (f ∷ frames) = quiet_both (unlist_steps p f) (drain_list_steps p f
 lent_same : (frames : List ℕ) (m n : Side) → LendsMany frames m n → (g : ℕ) → misses_of n.machine.frame_seat g ≡ misses_of m.machine.frame_seat g
 lent_same [] m n h g = ap (λ (x : KnownMachine). misses_of x.frame_seat g) h.machine
 lent_same (f ∷ frames) m n h g =
-    lent_same frames h.0 n h.2 g ∙ ap (λ (x : KnownMachine). misses_of x.frame_seat g) h.1.lends.machine
+    lent_same frames h.between n h.rest g ∙ ap (λ (x : KnownMachine). misses_of x.frame_seat g) h.first.lends.machine
     ∙ misses_put m.machine.frame_seat f g (passed_out_to m.cpu.number) (λ k. refl)
 
 pub back_same : (frames : List ℕ) (m n : Side) → TakesManyBack frames m n → (g : ℕ) → misses_of n.machine.frame_seat g ≡ misses_of m.machine.frame_seat g
 back_same [] m n h g = ap (λ (x : KnownMachine). misses_of x.frame_seat g) h.machine
 back_same (f ∷ frames) m n h g =
-    back_same frames h.0 n h.2 g ∙ ap (λ (x : KnownMachine). misses_of x.frame_seat g) h.1.machine
+    back_same frames h.between n h.rest g ∙ ap (λ (x : KnownMachine). misses_of x.frame_seat g) h.first.machine
     ∙ misses_put m.machine.frame_seat f g (collected_from m.cpu.number) (λ k. refl)
 
 -- ---- parts put together

@@ -203,8 +203,8 @@ all_same g zero m n drains h = record {
   groups = ap (λ (x : KnownMachine). x.ledger.groups) h.1;
 }
 all_same g (suc k) m n drains h =
-    let one = one_same g (suc k) h.2 n h.1 h.5 in
-    let rest = all_same g k m h.2 h.0 h.4 in
+    let one = one_same g (suc k) h.between n h.last h.makes_last in
+    let rest = all_same g k m h.between h.first h.makes_first in
     record { frame_seat = one.frame_seat ∙ rest.frame_seat; links = one.links ∙ rest.links; groups = one.groups ∙ rest.groups }
 
 pub drains_pass : (t : KnownTable) (c : KnownCpu) (g k : ℕ) (m n : KnownMachine) (drains : List Drain) → DrainsAllBelow g k drains m n

@@ -132,8 +132,8 @@ back_part [] m n c d h = record {
   killed = ap (λ (z : KnownMachine). z.killed) h.machine;
 }
 back_part (f ∷ frames) m n c d h =
-    let one = h.1 in
-    let more = back_part frames h.0.machine n h.0.cpu d h.2 in
+    let one = h.first in
+    let more = back_part frames h.between.machine n h.between.cpu d h.rest in
     record {
       split = one.front ∙ ap (λ (l : List ℕ). f ∷ l) (sym (ap (λ (e : KnownCpu). e.list) one.cpu) ∙ more.split);
       number = more.number ∙ ap (λ (e : KnownCpu). e.number) one.cpu;

@@ -198,7 +198,14 @@ drained_more t test k pages more m x n before last bound =
     record {
       drains = before.drains ++ last.drains;
       all = subst (λ (j : ℕ). DrainsAllIf test j (before.drains ++ last.drains) m n) next
-          (before.drains, last.drains, x, refl, before.all, subst (λ (j : ℕ). DrainsIf test j last.drains x n) (sym next) last.all);
+          (record {
+            first = before.drains;
+            last = last.drains;
+            between = x;
+            drains_are = refl;
+            makes_first = before.all;
+            makes_last = subst (λ (j : ℕ). DrainsIf test j last.drains x n) (sym next) last.all;
+          });
       sum = omega (arith, both, a, b);
       groups = below_groups test (k + 1) x n last.drains last.all ∙ before.groups;
       drained = drained_now test k x n last.drains last.all before.drained;

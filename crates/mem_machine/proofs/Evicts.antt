@@ -28,7 +28,7 @@ use Rattle.mem_machine.specs.Machines.{KnownMachine, FitsSpot, IsConsistent, Vis
 use Rattle.mem_machine.specs.Local.{MakesForAny, local_of, references_of, side}
 use Rattle.mem_machine.specs.Freeing.{FreesFrames}
 use Rattle.mem_machine.specs.Counts.{with_freeze, with_miss}
-use Rattle.mem_machine.specs.Releasing.{LeavesList}
+use Rattle.mem_machine.specs.Lists.{LeavesList}
 use Rattle.mem_machine.specs.Evicting.{MissesUnit, EvictsUnit, evict_steps}
 use Rattle.mem_machine.proofs.Balances.{balanced_freeze}
 use Rattle.mem_machine.proofs.Reaching.{zone_step}

@@ -24,29 +24,38 @@ use Rattle.mem_machine.specs.Counts.{no_counts}
 use Rattle.mem_machine.specs.Machines.{KnownMachine, FitsSpot, IsConsistent, IsFirst, BalancesCounts, home_of, frames_charged, pages_booked, booked}
 
 pub empty_none : (lists : List Lru) → lists ≡ [] → AreEmpty lists 0
-empty_none lists none = record { count = ap length none; each = λ k any inside. let e = ap length none in absurd (omega arith) }
+empty_none lists none = record {
+  count = ap length none;
+  owned = λ k any inside. let e = ap length none in absurd (omega arith);
+  stand = λ k any inside. let e = ap length none in absurd (omega arith);
+}
 
 pub empty_pushed : (lists more : List Lru) (n : ℕ) (new : Lru) → AreEmpty lists n → new.owner ≡ n
     → ((links : List Link) → HasNoUnits links n → StandsIn links new) → more ≡ lists ++ new ∷ [] → AreEmpty more (n + 1)
 empty_pushed lists more n new empty owner stands is = subst (λ (l : List Lru). AreEmpty l (n + 1)) (sym is)
     (let count = empty.count in let longer = length_push lists new in record {
       count = omega (arith, count, longer);
-      each = λ k any inside. elim (cases_lt k n) [
+      owned = λ k any inside. elim (cases_lt k n) [
         | inl below ↦
             let same : get_or (lists ++ new ∷ []) k any ≡ get_or lists k any = get_or_append_left lists (new ∷ []) any k (omega arith) in
-            let old = empty.each k any (omega arith) in
-            (ap (λ (l : Lru). l.owner) same ∙ old.0, λ links away. subst (StandsIn links) (sym same) (old.1 links away))
+            ap (λ (l : Lru). l.owner) same ∙ empty.owned k any (omega arith)
         | inr past ↦
             let last : k ≡ n = omega arith in
-            let same : get_or (lists ++ new ∷ []) k any ≡ new = get_or_push lists new any k (omega arith) in (
-              ap (λ (l : Lru). l.owner) same ∙ owner ∙ sym last,
-              λ links away. subst (StandsIn links) (sym same) (stands links (λ f. ap (λ (l : Link). place_of l.home n) (away f))),
-            )
+            let same : get_or (lists ++ new ∷ []) k any ≡ new = get_or_push lists new any k (omega arith) in
+            ap (λ (l : Lru). l.owner) same ∙ owner ∙ sym last
+      ];
+      stand = λ k any inside links away. elim (cases_lt k n) [
+        | inl below ↦
+            let same : get_or (lists ++ new ∷ []) k any ≡ get_or lists k any = get_or_append_left lists (new ∷ []) any k (omega arith) in
+            subst (StandsIn links) (sym same) (empty.stand k any (omega arith) links away)
+        | inr past ↦
+            let same : get_or (lists ++ new ∷ []) k any ≡ new = get_or_push lists new any k (omega arith) in
+            subst (StandsIn links) (sym same) (stands links (λ f. ap (λ (l : Link). place_of l.home n) (away f)))
       ];
     })
 
 pub empty_stand : (lists : List Lru) (n : ℕ) → AreEmpty lists n → (links : List Link) → AreNowhere links → AllStand links lists
-empty_stand lists n empty links away = λ k any inside. ((empty.each k any inside).0, (empty.each k any inside).1 links away)
+empty_stand lists n empty links away = λ k any inside. (empty.owned k any inside, empty.stand k any inside links away)
 
 pub free_all : (n : ℕ) → free_of (replicate n Free) ≡ replicate n true
 free_all zero = refl

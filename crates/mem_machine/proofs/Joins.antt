@@ -10,7 +10,7 @@ use Rattle.lru_lists.specs.Queue.{link_at}
 use Rattle.lru_lists.specs.Lists.{OthersStand, OneOfAllChanges, StandsIn, AllStand, ChangesOwn, MovesOnly, place_of, inactive_of, active_of}
 use Rattle.lru_lists.specs.Lists as lists
 use Rattle.mem_machine.specs.Machines.{lists_at, no_lists, group_lists}
-use Rattle.mem_machine.specs.Blocks.{JoinsList}
+use Rattle.mem_machine.specs.Lists.{JoinsList}
 use Rattle.mem_machine.proofs.Listed.{others_stay}
 
 -- a unit was added to the lists of a group

@@ -10,7 +10,7 @@ use Rattle.lru_lists.specs.Queue.{link_at, nowhere, SameUse}
 use Rattle.lru_lists.specs.Lists.{OthersStand, OneOfAllChanges, StandsIn, AllStand, ChangesOwn, MovesOnly, inactive_of, active_of, entries_without}
 use Rattle.lru_lists.specs.Lists.{list_of, place_of}
 use Rattle.mem_machine.specs.Machines.{home_of, lists_at, no_lists, group_lists}
-use Rattle.mem_machine.specs.Releasing.{LeavesList}
+use Rattle.mem_machine.specs.Lists.{LeavesList}
 use Rattle.mem_machine.proofs.Listed.{others_stay}
 use Rattle.mem_machine.proofs.Dirties.{on_list}
 

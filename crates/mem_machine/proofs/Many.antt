@@ -33,8 +33,16 @@ length_more frames f k all = let a = length-append frames (f ∷ []) in omega (a
 lends_more : (frames : List ℕ) (f : ℕ) (m : KnownMachine) (c : KnownCpu) (x : KnownMachine) (y : KnownCpu) (n : KnownMachine) (d : KnownCpu)
     → LendsMany frames (side m c) (side x y) → LendsOne f (side x y) (side n d) → LendsMany (frames ++ f ∷ []) (side m c) (side n d)
 lends_more [] f m c x y n d before one =
-    (side n d, subst (λ (z : KnownMachine × KnownCpu). LendsOne f (side z.0 z.1) (side n d)) (λ i. (before.machine i, before.cpu i)) one, side_stays (side n d))
-lends_more (g ∷ frames) f m c x y n d before one = (before.0, before.1, lends_more frames f before.0.machine before.0.cpu x y n d before.2 one)
+    record {
+      between = side n d;
+      first = subst (λ (z : KnownMachine × KnownCpu). LendsOne f (side z.0 z.1) (side n d)) (λ i. (before.machine i, before.cpu i)) one;
+      rest = side_stays (side n d);
+    }
+lends_more (g ∷ frames) f m c x y n d before one = record {
+  between = before.between;
+  first = before.first;
+  rest = lends_more frames f before.between.machine before.between.cpu x y n d before.rest one;
+}
 
 -- what the loop of `refill` keeps after k frames
 pub record LentSoFar (t : KnownTable) (k : ℕ) (m : KnownMachine) (c : KnownCpu) (n : KnownMachine) (d : KnownCpu) : Type 0 where
@@ -86,8 +94,16 @@ lent_end t k m c x y n d before none = (
 takes_more : (frames : List ℕ) (f : ℕ) (m : KnownMachine) (c : KnownCpu) (x : KnownMachine) (y : KnownCpu) (n : KnownMachine) (d : KnownCpu)
     → TakesManyBack frames (side m c) (side x y) → TakesOneBack f (side x y) (side n d) → TakesManyBack (frames ++ f ∷ []) (side m c) (side n d)
 takes_more [] f m c x y n d before one =
-    (side n d, subst (λ (z : KnownMachine × KnownCpu). TakesOneBack f (side z.0 z.1) (side n d)) (λ i. (before.machine i, before.cpu i)) one, side_stays (side n d))
-takes_more (g ∷ frames) f m c x y n d before one = (before.0, before.1, takes_more frames f before.0.machine before.0.cpu x y n d before.2 one)
+    record {
+      between = side n d;
+      first = subst (λ (z : KnownMachine × KnownCpu). TakesOneBack f (side z.0 z.1) (side n d)) (λ i. (before.machine i, before.cpu i)) one;
+      rest = side_stays (side n d);
+    }
+takes_more (g ∷ frames) f m c x y n d before one = record {
+  between = before.between;
+  first = before.first;
+  rest = takes_more frames f before.between.machine before.between.cpu x y n d before.rest one;
+}
 
 -- what the loop of `drain_list` keeps after k frames
 pub record TakenSoFar (t : KnownTable) (k : ℕ) (m : KnownMachine) (c : KnownCpu) (n : KnownMachine) (d : KnownCpu) : Type 0 where

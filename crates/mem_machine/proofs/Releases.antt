@@ -42,7 +42,8 @@ use Rattle.mem_machine.specs.Machines.{KnownMachine, FitsSpot, IsConsistent, Vis
 use Rattle.mem_machine.specs.Local.{IsLocalRun, MakesForAny, local_of, phase_of, references_of, side, MakesAs}
 use Rattle.mem_machine.specs.Counts.{with_last_put}
 use Rattle.mem_machine.specs.Freeing.{FreesFrames}
-use Rattle.mem_machine.specs.Releasing.{LeavesList, ReturnsUnit, release_steps}
+use Rattle.mem_machine.specs.Lists.{LeavesList}
+use Rattle.mem_machine.specs.Releasing.{ReturnsUnit, release_steps}
 use Rattle.mem_machine.specs.Steps.{zone_makes}
 use Rattle.mem_machine.specs.declared.counts.Counts.{Counts}
 use Rattle.mem_machine.specs.declared.releasing.Released.TheVariants.{Left, Returned}

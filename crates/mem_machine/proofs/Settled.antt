@@ -116,7 +116,7 @@ fresh_more t m c x y x' y' f so_far one visit run =
     let run_c : MakesAs t p (side x y) (fresh_steps k p f) (side x' y') =
     subst (λ (z : ℕ × Bool). MakesAs t z.0 (side x y) (fresh_steps z.1 z.0 f) (side x' y')) (λ i. (so_far.others.number i, so_far.killed i)) run in
     record {
-      settles = λ n d rest. so_far.settles n d (subst (λ (l : List ℕ). SettlesAllFresh l (side x y) (side n d)) (sym over.front) (side x' y', one, rest));
+      settles = λ n d rest. so_far.settles n d (subst (λ (l : List ℕ). SettlesAllFresh l (side x y) (side n d)) (sym over.front) (record { between = side x' y'; first = one; rest = rest }));
       steps = λ b rest. so_far.steps b (subst (λ (l : List ℕ). MakesAs t p (side x y) (flat_map (fresh_steps k p) l) b) (sym over.front)
           (makes_both t p (fresh_steps k p f) (flat_map (fresh_steps k p) y'.fresh) (side x y) (side x' y') b run_c rest));
       visit = visit;
@@ -174,7 +174,7 @@ back_more t m c x y x' y' f so_far one visit run =
     let run_c : MakesAs t p (side x y) (return_steps p f) (side x' y') =
     subst (λ (q : ℕ). MakesAs t q (side x y) (return_steps q f) (side x' y')) so_far.others.number run in
     record {
-      returns = λ n d rest. so_far.returns n d (subst (λ (l : List ℕ). ReturnsAllBack l (side x y) (side n d)) (sym one.front) (side x' y', one, rest));
+      returns = λ n d rest. so_far.returns n d (subst (λ (l : List ℕ). ReturnsAllBack l (side x y) (side n d)) (sym one.front) (record { between = side x' y'; first = one; rest = rest }));
       steps = λ b rest. so_far.steps b (subst (λ (l : List ℕ). MakesAs t p (side x y) (flat_map (return_steps p) l) b) (sym one.front)
           (makes_both t p (return_steps p f) (flat_map (return_steps p) y'.back) (side x y) (side x' y') b run_c rest));
       visit = visit;

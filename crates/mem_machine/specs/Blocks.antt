@@ -1,4 +1,4 @@
--- Blocks that are charged to a group and taken, and units that come onto its lists.
+-- Blocks that are charged to a group and taken.
 use Rattle.std.specs.Prelude.{◌≡◌, ◌≢◌, ℕ, ◌^◌, ◌==◌, false, Some, None, Result, Ok, Err}
 use Rattle.std.specs.Prelude.{List, [], ◌∷◌, ◌++◌, length, if◌then◌else◌}
 use Rattle.zone_blocks.specs.declared.block.Block.{Block}
@@ -7,9 +7,6 @@ use Rattle.frame_word.specs.Views.{unfrozen}
 use Rattle.frame_word.specs.Seats.{seat_with}
 use Rattle.group_tree.specs.Room.{PathHasRoom}
 use Rattle.group_charge.specs.Charges.{current_of, with_charge, with_uncharge}
-use Rattle.lru_lists.specs.declared.record.LruList.TheVariants.{Inactive}
-use Rattle.lru_lists.specs.Queue.{link_at}
-use Rattle.lru_lists.specs.Lists.{inactive_of, active_of}
 use Rattle.step_rules.specs.declared.step.Action.TheVariants.{Grant, Ungrant, PlaceBlock, Unfreeze, Publish}
 use Rattle.step_rules.specs.declared.step.Answer.TheVariants.{Done, Granted, Over, Placed, NoFreeBlock}
 use Rattle.step_rules.specs.After.{Run, is_within}
@@ -18,7 +15,8 @@ use Rattle.mem_machine.specs.declared.spot.Spot.TheVariants.{Head, Tail}
 use Rattle.mem_machine.specs.declared.blocks.TakeFault.{TakeFault}
 use Rattle.mem_machine.specs.declared.blocks.TakeFault.TheVariants as fault
 use Rattle.mem_machine.specs.Spots.{spot_at, free_of}
-use Rattle.mem_machine.specs.Machines.{KnownMachine, GroupLists, OthersStay, LacksRoom, home_of, lists_at, lists_of}
+use Rattle.mem_machine.specs.Lists.{ListsUnit}
+use Rattle.mem_machine.specs.Machines.{KnownMachine, LacksRoom}
 use Rattle.mem_machine.specs.Steps.{zone_makes}
 
 -- the record of a frame once the block is a unit of the group: the first frame heads it, and the rest are tails
@@ -32,24 +30,6 @@ placed_spot spots group block frame =
 pub record PlacesUnit (group : ℕ) (block : Block) (before after : List Spot) : Type 0 where
   pub frames : length after ≡ length before
   pub records : (frame : ℕ) → spot_at after frame ≡ placed_spot before group block frame
-
--- the unit comes to the newest end of its group's inactive list, clean and unmarked; every other frame and the lists of
--- all other groups are as they were, and each other frame on no list has the record that it had
-pub record JoinsList (group frame : ℕ) (before after : GroupLists) : Type 0 where
-  pub stands : home_of after.links frame ≡ Some (record { owner = group; list = Inactive })
-  pub homes : (other : ℕ) → other ≢ frame → home_of after.links other ≡ home_of before.links other
-  pub inactive : inactive_of after.links (lists_at after.lists group)
-      ≡ inactive_of before.links (lists_at before.lists group)
-      ++ record { number = frame; is_marked = false; is_dirty = false } ∷ []
-  pub active : active_of after.links (lists_at after.lists group)
-      ≡ active_of before.links (lists_at before.lists group)
-  pub others : OthersStay group before after
-  pub loose : (other : ℕ) → other ≢ frame → home_of before.links other ≡ None
-      → link_at after.links other ≡ link_at before.links other
-
--- the unit comes onto its group's inactive list, in the machine
-abbrev pub ListsUnit : ℕ → ℕ → KnownMachine → KnownMachine → Type 0
-ListsUnit group frame before after = JoinsList group frame (lists_of before) (lists_of after)
 
 -- The group is charged for a block of this order, and has it: the front of the free block of the least sufficient order
 -- that has the least address. Its head is in use, with one reference of the zone, and stands on the group's inactive

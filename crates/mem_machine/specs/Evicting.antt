@@ -13,7 +13,7 @@ use Rattle.mem_machine.specs.Spots.{spot_at, free_of}
 use Rattle.mem_machine.specs.Machines.{KnownMachine, lists_of}
 use Rattle.mem_machine.specs.Counts.{with_freeze, with_miss}
 use Rattle.mem_machine.specs.Freeing.{FreesFrames}
-use Rattle.mem_machine.specs.Releasing.{LeavesList}
+use Rattle.mem_machine.specs.Lists.{LeavesList}
 use Rattle.mem_machine.specs.Steps.{zone_makes}
 
 -- someone else has a reference: the zone's seat noted one miss more on the frame, which is counted, and nothing else

@@ -23,6 +23,6 @@ machine_of fields = record {
 }
 
 -- what the fields show is consistent, and the zone's free frames are those whose record is Free
-abbrev pub AreKept : {N : Type 0} → KnownTable → Words → Inside N → Type 0
-AreKept table words fields =
-    IsConsistent table words (machine_of fields) × (fields.zone.free ≡ free_of fields.spots.items)
+pub record AreKept {N : Type 0} (table : KnownTable) (words : Words) (fields : Inside N) : Type 0 where
+  pub consistent : IsConsistent table words (machine_of fields)
+  pub free : fields.zone.free ≡ free_of fields.spots.items

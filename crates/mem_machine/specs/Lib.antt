@@ -12,6 +12,7 @@ pub mod Stocks
 pub mod Marks
 pub mod Ageing
 pub mod Freeing
+pub mod Lists
 pub mod Blocks
 pub mod Interleaving
 pub mod Telling

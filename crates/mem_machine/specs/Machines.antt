@@ -203,11 +203,16 @@ pub record SideStays (before after : Side) : Type 0 where
   pub machine : after.machine ≡ before.machine
   pub cpu : after.cpu ≡ before.cpu
 
+-- something first leads from one side to another, and the rest goes on from there
+pub record FirstThen (First Rest : Side → Side → Type 0) (before after : Side) : Type 0 where
+  pub between : Side
+  pub first : First before between
+  pub rest : Rest between after
+
 -- the same is done with each of these frames, one after the other, in this order
 abbrev pub OneByOne : (ℕ → Side → Side → Type 0) → List ℕ → Side → Side → Type 0
 OneByOne IsDone [] before after = SideStays before after
-OneByOne IsDone (frame ∷ rest) before after =
-    (mid : Side) × IsDone frame before mid × OneByOne IsDone rest mid after
+OneByOne IsDone (frame ∷ others) before after = FirstThen (IsDone frame) (OneByOne IsDone others) before after
 
 -- The processor is visited: its visit was opened and not shut yet, no frame passes between it and the zone, and what is
 -- lent to it are the frames that its seat has borrowed, which are its listed and fresh ones

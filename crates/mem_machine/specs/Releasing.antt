@@ -4,9 +4,6 @@ use Rattle.zone_blocks.specs.Areas.{AreMaximalBlocks}
 use Rattle.frame_word.specs.Views.{let_go, let_go_last}
 use Rattle.frame_word.specs.Seats.{seat_with}
 use Rattle.group_charge.specs.Charges.{with_uncharge}
-use Rattle.lru_lists.specs.declared.record.LruList.{LruList}
-use Rattle.lru_lists.specs.Queue.{link_at, nowhere, SameUse}
-use Rattle.lru_lists.specs.Lists.{inactive_of, active_of, entries_without}
 use Rattle.step_rules.specs.declared.phase.ChargedUnit.{ChargedUnit}
 use Rattle.step_rules.specs.declared.step.Action.TheVariants.{Put, Return}
 use Rattle.step_rules.specs.declared.step.Answer.TheVariants as answer
@@ -15,26 +12,11 @@ use Rattle.mem_machine.specs.declared.spot.Spot.TheVariants.{Head}
 use Rattle.mem_machine.specs.declared.releasing.Released.{Released}
 use Rattle.mem_machine.specs.declared.releasing.Released.TheVariants.{Left, Returned}
 use Rattle.mem_machine.specs.Spots.{spot_at, free_of}
-use Rattle.mem_machine.specs.Machines.{KnownMachine, GroupLists, OthersStay, LooseStay, home_of, lists_at, lists_of}
+use Rattle.mem_machine.specs.Lists.{LeavesList}
+use Rattle.mem_machine.specs.Machines.{KnownMachine, lists_of}
 use Rattle.mem_machine.specs.Counts.{with_last_put}
 use Rattle.mem_machine.specs.Freeing.{FreesFrames}
 use Rattle.mem_machine.specs.Steps.{zone_makes}
-
--- the unit is off the list that it stood on, of the group of this number; every other unit stands on the list that it
--- stood on, at its place there, marked and dirty as it was, and each frame on no list has the record that it had
-pub record LeavesList (frame : ℕ) (before after : GroupLists) : Type 0 where
-  pub group : ℕ
-  pub list : LruList
-  pub stands : home_of before.links frame ≡ Some (record { owner = group; list = list })
-  pub forgotten : link_at after.links frame ≡ nowhere
-  pub homes : (other : ℕ) → other ≢ frame → home_of after.links other ≡ home_of before.links other
-  pub loose : LooseStay before.links after.links
-  pub used : SameUse before.links after.links frame
-  pub inactive : inactive_of after.links (lists_at after.lists group)
-      ≡ entries_without frame (inactive_of before.links (lists_at before.lists group))
-  pub active : active_of after.links (lists_at after.lists group)
-      ≡ entries_without frame (active_of before.links (lists_at before.lists group))
-  pub others : OthersStay group before after
 
 -- the unit is off its list, and so many references of processors are left; nothing else changed
 pub record LeavesReferences (frame left : ℕ) (before after : KnownMachine) : Type 0 where

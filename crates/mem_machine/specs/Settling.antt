@@ -22,7 +22,7 @@ use Rattle.mem_machine.specs.Spots.{spot_at, free_of}
 use Rattle.mem_machine.specs.Machines.{OneByOne, Side, SideStays, is_killed}
 use Rattle.mem_machine.specs.Local.{Makes, fresh_group}
 use Rattle.mem_machine.specs.Steps.{zone_makes, cpu_makes}
-use Rattle.mem_machine.specs.Blocks.{ListsUnit}
+use Rattle.mem_machine.specs.Lists.{ListsUnit}
 use Rattle.mem_machine.specs.Counts.{with_drop, with_last_put}
 use Rattle.mem_machine.specs.Freeing.{FreesFrames}
 

@@ -10,6 +10,6 @@ use Rattle.lru_lists.specs.Lists.{StandsIn}
 -- frame is on a list
 pub record AreEmpty (lists : List Lru) (owners : ℕ) : Type 0 where
   pub count : length lists ≡ owners
-  pub each : (owner : ℕ) (any : Lru) → owner < length lists
-      → ((slice_index_or lists owner any).owner ≡ owner)
-      × ((links : List Link) → AreNowhere links → StandsIn links (slice_index_or lists owner any))
+  pub owned : (owner : ℕ) (any : Lru) → owner < length lists → (slice_index_or lists owner any).owner ≡ owner
+  pub stand : (owner : ℕ) (any : Lru) → owner < length lists
+      → (links : List Link) → AreNowhere links → StandsIn links (slice_index_or lists owner any)

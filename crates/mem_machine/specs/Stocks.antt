@@ -87,12 +87,21 @@ DrainsIf test processor (drain ∷ []) before after =
     (is_chosen test before processor ≡ true) × DrainsOne processor drain before after
 DrainsIf test processor (one ∷ two ∷ more) before after = ⊥
 
+-- some drains are made first, and after them the last ones
+pub record DrainsInTurn (AreFirst AreLast : List Drain → KnownMachine → KnownMachine → Type 0) (drains : List Drain)
+    (before after : KnownMachine) : Type 0 where
+  pub first : List Drain
+  pub last : List Drain
+  pub between : KnownMachine
+  pub drains_are : drains ≡ first ++ last
+  pub makes_first : AreFirst first before between
+  pub makes_last : AreLast last between after
+
 -- the stocks of so many processors, from number 1 on, are drained where the test chooses them, one after the other
 abbrev pub DrainsAllIf : StockTest → ℕ → List Drain → KnownMachine → KnownMachine → Type 0
 DrainsAllIf test zero drains before after = (drains ≡ []) × (after ≡ before)
 DrainsAllIf test (suc count) drains before after =
-    (first last : List Drain) × (mid : KnownMachine) × (drains ≡ first ++ last)
-    × DrainsAllIf test count first before mid × DrainsIf test (suc count) last mid after
+    DrainsInTurn (DrainsAllIf test count) (DrainsIf test (suc count)) drains before after
 
 -- the processor's stock is drained where it is of the group's subtree
 abbrev pub DrainsBelow : ℕ → ℕ → List Drain → KnownMachine → KnownMachine → Type 0

@@ -3,7 +3,7 @@
 ghost use Rattle.std.specs.Prelude.{◌≡◌, ◌<◌, [], Some, length};
 ghost use Rattle.lru_lists.specs.declared.record.LruList.TheVariants.{Inactive};
 ghost use Rattle.lru_lists.specs.Lists.{first_entry, entry_after};
-ghost use Rattle.mem_machine.specs.Machines.{home_of, frames_charged};
+ghost use Rattle.mem_machine.specs.Machines.{home_of};
 ghost use Rattle.mem_machine.specs.Ageing.{AgesGroup, RenewsUnit, entries_in};
 ghost use Rattle.mem_machine.specs.Local.{MakesForAny};
 
@@ -64,16 +64,5 @@ impl<N: BootName> Machine<N> {
         ensures { result ≡ entry_after head (entries_in self.now group list) }
     {
         self.lists[group.number() as usize].newer(&self.links, head.number())
-    }
-
-    /// How many frames are charged to the group itself, those of units that aren't kept any more among them: its pages
-    /// less those that are booked to its stocks.
-    pub fn frames_of(&self, group: GroupId) -> u64
-        ensures { result ≡ frames_charged self.now.spots group }
-    {
-        if !self.charges.tree().contains(group) {
-            return 0;
-        }
-        u64::from(self.charges.pages(group) - self.stock_seat.booked(group))
     }
 }

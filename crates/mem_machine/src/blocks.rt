@@ -6,7 +6,7 @@ ghost use Rattle.mem_machine.specs.Paying.{MayCharge};
 ghost use Rattle.mem_machine.specs.Blocks.{PlacesUnit, TakesBlock, RefusesBlock, block_steps};
 ghost use Rattle.mem_machine.specs.Local.{Makes, side};
 
-use crate::joining::join_list;
+use crate::lists::join_list;
 use crate::machine::Machine;
 use crate::spot::Spot;
 use cpu_part::{BootName, Cpu, Tables};

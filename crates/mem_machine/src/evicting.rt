@@ -6,8 +6,8 @@ ghost use Rattle.mem_machine.specs.Evicting.{Evicts, evict_steps};
 ghost use Rattle.mem_machine.specs.Local.{MakesForAny};
 
 use crate::freed::free_unit;
+use crate::lists::leave_list;
 use crate::machine::Machine;
-use crate::releasing::leave_list;
 use crate::spot::Spot;
 use cpu_part::{BootName, Tables};
 use frame_word::Frame;

@@ -1,10 +1,10 @@
 //! What stands behind the zone's lock: the free areas, one record for each frame, the groups with their charges and
 //! their lists of kept units, and the zone's own seats at the two tables. Each call is a list of steps of the core.
 //!
-//! Contracts name the machine's two seats, `seat` at the table of the frames' words and `stock` at that of the stocks'
-//! words: a seat is the right to step there, and it is by these steps that other processors meet a call.
+//! Contracts name the machine's seats at the two tables: a seat is the right to step there, and it is by these steps
+//! that other processors meet a call.
 //!
-//! Some more words recur. A `Spot` is the record of one frame: free, lent, or in a charged unit. A frame that is lent
+//! Some words recur. A `Spot` is the record of one frame: free, lent, or in a charged unit. A frame that is lent
 //! is fresh once it was taken and paid for, until the processor is settled; a back frame heads a unit of which the
 //! processor had the last put. A stock's book is all that was charged for it: the pages in it, those that fresh
 //! frames were paid with, and those that were reported and not absorbed yet. A `Side` is the machine together with the
@@ -23,9 +23,9 @@ mod counts;
 mod evicting;
 mod freed;
 mod groups;
-mod joining;
 pub mod laws;
 mod lending;
+mod lists;
 mod machine;
 mod marks;
 mod noting;

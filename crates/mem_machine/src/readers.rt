@@ -5,7 +5,7 @@ ghost use Rattle.group_tree.specs.Groups.{has_group};
 ghost use Rattle.group_charge.specs.Charges.{current_of};
 ghost use Rattle.zone_blocks.specs.Areas.{AreMaximalBlocks};
 ghost use Rattle.mem_machine.specs.Spots.{spot_at, free_of, place_of, unit_of};
-ghost use Rattle.mem_machine.specs.Machines.{HeadsKeptUnit, IsConsistent, is_killed};
+ghost use Rattle.mem_machine.specs.Machines.{HeadsKeptUnit, IsConsistent, frames_charged, is_killed};
 
 use crate::counts::Counts;
 use crate::machine::Machine;
@@ -89,5 +89,16 @@ impl<N: BootName> Machine<N> {
         ensures { result ≡ self.now.counts }
     {
         self.counts
+    }
+
+    /// How many frames are charged to the group itself, those of units that aren't kept any more among them: its pages
+    /// less those that are booked to its stocks.
+    pub fn frames_of(&self, group: GroupId) -> u64
+        ensures { result ≡ frames_charged self.now.spots group }
+    {
+        if !self.charges.tree().contains(group) {
+            return 0;
+        }
+        u64::from(self.charges.pages(group) - self.stock_seat.booked(group))
     }
 }

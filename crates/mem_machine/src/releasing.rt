@@ -1,19 +1,16 @@
 //! Kept units that are released.
 
-ghost use Rattle.std.specs.Prelude.{◌≡◌, ◌≢◌, ◌<◌, None, IfSome, length};
-ghost use Rattle.group_tree.specs.declared.group.TheConstants.{MAX_GROUPS};
-ghost use Rattle.mem_machine.specs.Machines.{AreGroupLists, HeadsKeptUnit, StaysVisited, Visits, home_of, group_lists};
-ghost use Rattle.mem_machine.specs.Releasing.{LeavesList, Releases, release_steps};
+ghost use Rattle.std.specs.Prelude.{◌<◌};
+ghost use Rattle.mem_machine.specs.Machines.{HeadsKeptUnit, StaysVisited, Visits};
+ghost use Rattle.mem_machine.specs.Releasing.{Releases, release_steps};
 ghost use Rattle.mem_machine.specs.Local.{Makes, MakesForAny, side};
 
 use crate::freed::free_unit;
+use crate::lists::leave_list;
 use crate::machine::Machine;
 use crate::spot::Spot;
 use cpu_part::{BootName, Cpu, Tables};
 use frame_word::{Frame, Put};
-use lru_lists::laws as list_laws;
-use lru_lists::links::Links;
-use lru_lists::lru::Lru;
 
 /// What a release left.
 #[derive(Clone, Copy, Debug, PartialEq, Eq)]
@@ -23,26 +20,6 @@ pub enum Released {
     Left(u64),
     /// It came back: its frames are free, and its pages off the charge of its group.
     Returned,
-}
-
-/// Takes a kept unit off its list. The unit goes by its head.
-pub(crate) fn leave_list(links: &mut Links, lists: &mut Vec<Lru>, head: u32)
-    requires frame { head < length links.old }
-    requires kept { home_of links.old head ≢ None }
-    requires owner { IfSome (home_of links.old head) (λ home. home.owner < MAX_GROUPS) }
-    requires lists { AreGroupLists links.old lists.old.items }
-    ensures leaves { LeavesList head (group_lists links.old lists.old.items) (group_lists links.new lists.new.items) }
-    ensures lists { AreGroupLists links.new lists.new.items }
-    ensures frames { length links.new ≡ length links.old }
-{
-    let Some(home) = links.home(head) else {
-        unreachable!()
-    };
-    list_laws::others_stand();
-    list_laws::one_of_all_changes();
-    let mut own = lists[home.owner as usize];
-    own.take_off(links, head);
-    lists[home.owner as usize] = own;
 }
 
 impl<N: BootName> Machine<N> {

@@ -10,7 +10,7 @@ ghost use Rattle.mem_machine.specs.Settling.{MakesFreshSteps, MakesReturnSteps, 
 ghost use Rattle.mem_machine.specs.Settling.{all_fresh_steps, return_all_steps, settle_steps};
 
 use crate::freed::free_unit;
-use crate::joining::join_list;
+use crate::lists::join_list;
 use crate::machine::Machine;
 use crate::spot::Spot;
 use cpu_part::{BootName, Cpu, Tables};

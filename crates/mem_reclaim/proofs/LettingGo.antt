@@ -25,7 +25,8 @@ use Rattle.mem_machine.specs.declared.releasing.Released.TheVariants.{Left, Retu
 use Rattle.mem_machine.specs.Machines.{KnownMachine, IsConsistent, Visits, home_of, side, lists_of}
 use Rattle.mem_machine.specs.Local.{MakesForAny}
 use Rattle.mem_machine.specs.Ageing.{entries_in}
-use Rattle.mem_machine.specs.Releasing.{LeavesList, Releases, release_steps}
+use Rattle.mem_machine.specs.Lists.{LeavesList}
+use Rattle.mem_machine.specs.Releasing.{Releases, release_steps}
 use Rattle.mem_machine.specs.Steps.{Drain, drain_stocks_steps, kill_steps, drain_steps}
 use Rattle.mem_machine.specs.Stocks.{AreOwnDrained, DrainsNoted, DrainsIf, DrainsAllIf, DrainsGroup, of_group, stock_group, uncharged}
 use Rattle.mem_machine.proofs.Draining.{drained_at, groups_stay}
@@ -361,7 +362,7 @@ one_leaves test q m n (one ∷ two ∷ more) h = absurd h
 pub drains_leave : (test : List Group → Option ℕ → Bool) (k : ℕ) (m n : KnownMachine) (drains : List Drain) → DrainsAllIf test k drains m n → LeavesUnits m n
 drains_leave test zero m n drains h = subst (λ (x : KnownMachine). LeavesUnits m x) (sym h.1) (leaves_units_none m)
 drains_leave test (suc k) m n drains h =
-    leaves_units_both m h.2 n (drains_leave test k m h.2 h.0 h.4) (one_leaves test (suc k) h.2 n h.1 h.5)
+    leaves_units_both m h.between n (drains_leave test k m h.between h.first h.makes_first) (one_leaves test (suc k) h.between n h.last h.makes_last)
 
 -- ---- which steps these are
 

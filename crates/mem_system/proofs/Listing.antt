@@ -45,8 +45,8 @@ cut_off [] m c n d t = record {
   free = λ f is. ap (λ (k : KnownMachine). spot_at k.spots f) t.machine ∙ is;
 }
 cut_off (f ∷ rest) m c n d t =
-    let one = t.1 in
-    let more = cut_off rest t.0.machine t.0.cpu n d t.2 in
+    let one = t.first in
+    let more = cut_off rest t.between.machine t.between.cpu n d t.rest in
     record {
       split = one.front ∙ ap (λ (l : List ℕ). f ∷ l) (sym (ap (λ (e : KnownCpu). e.list) one.cpu) ∙ more.split);
       number = more.number ∙ ap (λ (e : KnownCpu). e.number) one.cpu;

@@ -95,8 +95,8 @@ taken_alone [] m c n d t = record {
   pins = ap (λ (e : KnownCpu). e.pins) t.cpu;
 }
 taken_alone (f ∷ rest) m c n d t =
-    let one = t.1 in
-    let more = taken_alone rest t.0.machine t.0.cpu n d t.2 in
+    let one = t.first in
+    let more = taken_alone rest t.between.machine t.between.cpu n d t.rest in
     record {
       lent = λ g p is. still_lent m.spots f g p (sym (ap (λ (k : KnownMachine). spot_at k.spots g) one.machine) ∙ more.lent g p is);
       stock_seat = more.stock_seat ∙ ap (λ (k : KnownMachine). k.stock_seat) one.machine;

@@ -37,11 +37,11 @@ settled_fresh f m n c d s = elim (cases_Bool (is_killed m.killed (fresh_group c)
 
 settled_all : (frames : List ℕ) (m n : KnownMachine) (c d : KnownCpu) → SettlesAllFresh frames (side m c) (side n d) → n.frame_seat.view.opened ≡ m.frame_seat.view.opened
 settled_all [] m n c d s = ap (λ (k : KnownMachine). k.frame_seat.view.opened) s.machine
-settled_all (f ∷ rest) m n c d s = settled_all rest s.0.machine n s.0.cpu d s.2 ∙ settled_fresh f m s.0.machine c s.0.cpu s.1
+settled_all (f ∷ rest) m n c d s = settled_all rest s.between.machine n s.between.cpu d s.rest ∙ settled_fresh f m s.between.machine c s.between.cpu s.first
 
 returned_all : (frames : List ℕ) (m n : KnownMachine) (c d : KnownCpu) → ReturnsAllBack frames (side m c) (side n d) → n.frame_seat.view.opened ≡ m.frame_seat.view.opened
 returned_all [] m n c d s = ap (λ (k : KnownMachine). k.frame_seat.view.opened) s.machine
-returned_all (f ∷ rest) m n c d s = returned_all rest s.0.machine n s.0.cpu d s.2 ∙ ap (λ (k : KnownMachine). k.frame_seat.view.opened) s.1.machine
+returned_all (f ∷ rest) m n c d s = returned_all rest s.between.machine n s.between.cpu d s.rest ∙ ap (λ (k : KnownMachine). k.frame_seat.view.opened) s.first.machine
 
 pub settled_opened : (m n : KnownMachine) (c d : KnownCpu) → Settles (side m c) (side n d) → n.frame_seat.view.opened ≡ m.frame_seat.view.opened
 settled_opened m n c d s = returned_all c.back s.mid.machine n s.mid.cpu d s.back ∙ settled_all c.fresh m s.mid.machine c s.mid.cpu s.fresh

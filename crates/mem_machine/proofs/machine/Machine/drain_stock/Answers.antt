@@ -9,16 +9,16 @@ use Rattle.mem_machine.proofs.Draining.{never_drained, looked_now}
 use Rattle.mem_machine.proofs.machine.Machine.drain_stock.Goals as goal
 
 pub invariant_of-self : goal.invariant_of-self
-invariant_of-self g c = (
-  (never_drained g.N.BootName.frames g.N.BootName.stocks _ _ c.self.view_is c.self.invariant.0 c.args.processor c.requires.processor.0
+invariant_of-self g c = record {
+  consistent = (never_drained g.N.BootName.frames g.N.BootName.stocks _ _ c.self.view_is c.self.invariant.consistent c.args.processor c.requires.processor.0
       c.requires.processor.1 c.in-None.ensures.group _
-      (ap uncounted c.in-None.ensures.seat)).consistent,
-  c.self.invariant.1,
-)
+      (ap uncounted c.in-None.ensures.seat)).consistent;
+  free = c.self.invariant.free;
+}
 
 pub returns-in-None : goal.returns-in-None
 returns-in-None g c =
-    let all = never_drained g.N.BootName.frames g.N.BootName.stocks _ _ c.self.view_is c.self.invariant.0 c.args.processor c.requires.processor.0
+    let all = never_drained g.N.BootName.frames g.N.BootName.stocks _ _ c.self.view_is c.self.invariant.consistent c.args.processor c.requires.processor.0
     c.requires.processor.1 c.in-None.ensures.group _
     (ap uncounted c.in-None.ensures.seat) in
     record { drains = all.drains; steps = all.steps }

@@ -10,8 +10,8 @@ free_unit-requires-clause-in_use g c =
     let e = c.collect_fresh-frame.ensures in
     let was = was_fresh g.N.BootName.frames g.N.BootName.stocks _ c.args.cpu.now _ c.args.group e.known.inside e.known.nothing e.known.lent
     e.known.booked e.known.group c.requires.group fits in
-    drop_in_use g.N.BootName.frames g.N.BootName.stocks _ c.args.cpu.now c.number-number.ensures.tied c.self.invariant.0 _ _ c.args.group _
-    c.unwrap-order.result c.self.invariant.1 was c.number.ensures k0
+    drop_in_use g.N.BootName.frames g.N.BootName.stocks _ c.args.cpu.now c.number-number.ensures.tied c.self.invariant.consistent _ _ c.args.group _
+    c.unwrap-order.result c.self.invariant.free was c.number.ensures k0
 
 pub free_unit-requires-clause-charged : goal.free_unit-requires-clause-charged
 free_unit-requires-clause-charged g c =
@@ -20,7 +20,7 @@ free_unit-requires-clause-charged g c =
     let e = c.collect_fresh-frame.ensures in
     let was = was_fresh g.N.BootName.frames g.N.BootName.stocks _ c.args.cpu.now _ c.args.group e.known.inside e.known.nothing e.known.lent
     e.known.booked e.known.group c.requires.group fits in
-    drop_charged g.N.BootName.frames g.N.BootName.stocks _ c.args.cpu.now c.number-number.ensures.tied c.self.invariant.0 _ c.args.group was
+    drop_charged g.N.BootName.frames g.N.BootName.stocks _ c.args.cpu.now c.number-number.ensures.tied c.self.invariant.consistent _ c.args.group was
     c.unwrap-order.result k0
 
 pub invariant_of-self : goal.invariant_of-self
@@ -31,11 +31,11 @@ invariant_of-self g c =
     let was = was_fresh g.N.BootName.frames g.N.BootName.stocks _ c.args.cpu.now _ c.args.group e.known.inside e.known.nothing e.known.lent
     e.known.booked e.known.group c.requires.group fits in
     let u = c.free_unit.ensures in
-    let all = (drop_all g.N.BootName.frames g.N.BootName.stocks _ _ c.self.view_is c.args.cpu.now _ c.number-number.ensures.tied c.self.invariant.0
-    c.requires.visit _ _ c.self.invariant.1 _ c.args.group was c.requires.killed e.cpu _ c.unwrap-order.result c.number.ensures k0 _ e.zone _ (ap uncounted e.seat)
+    let all = (drop_all g.N.BootName.frames g.N.BootName.stocks _ _ c.self.view_is c.args.cpu.now _ c.number-number.ensures.tied c.self.invariant.consistent
+    c.requires.visit _ _ c.self.invariant.free _ c.args.group was c.requires.killed e.cpu _ c.unwrap-order.result c.number.ensures k0 _ e.zone _ (ap uncounted e.seat)
     _ u.spots _ u.frames u.areas _ u.charges _
     c.with_drop-self-inside.ensures) in
-    (all.consistent, all.free_is)
+    record { consistent = all.consistent; free = all.free_is }
 
 pub returns : goal.returns
 returns g c =
@@ -45,8 +45,8 @@ returns g c =
     let was = was_fresh g.N.BootName.frames g.N.BootName.stocks _ c.args.cpu.now _ c.args.group e.known.inside e.known.nothing e.known.lent
     e.known.booked e.known.group c.requires.group fits in
     let u = c.free_unit.ensures in
-    let all = drop_all g.N.BootName.frames g.N.BootName.stocks _ _ c.self.view_is c.args.cpu.now _ c.number-number.ensures.tied c.self.invariant.0
-    c.requires.visit _ _ c.self.invariant.1 _ c.args.group was c.requires.killed e.cpu _ c.unwrap-order.result c.number.ensures k0 _ e.zone _ (ap uncounted e.seat)
+    let all = drop_all g.N.BootName.frames g.N.BootName.stocks _ _ c.self.view_is c.args.cpu.now _ c.number-number.ensures.tied c.self.invariant.consistent
+    c.requires.visit _ _ c.self.invariant.free _ c.args.group was c.requires.killed e.cpu _ c.unwrap-order.result c.number.ensures k0 _ e.zone _ (ap uncounted e.seat)
     _ u.spots _ u.frames u.areas _ u.charges _
     c.with_drop-self-inside.ensures in
     record { drops = all.drops; visit = all.visit; steps = all.steps }

@@ -4,54 +4,54 @@ use Rattle.mem_machine.proofs.Evicts.{missed_all, evicted_all}
 use Rattle.mem_machine.proofs.machine.Machine.evict.Goals as goal
 
 pub invariant_of-self : goal.invariant_of-self
-invariant_of-self g c = (
-  (missed_all g.N.BootName.frames g.N.BootName.stocks _ _ c.self.view_is c.self.invariant.0 c.args.head c.requires.frame c.requires.kept _
-      c.if-not-freeze.ensures.answer _ c.with_miss-self-inside.ensures).consistent,
-  c.self.invariant.1,
-)
+invariant_of-self g c = record {
+  consistent = (missed_all g.N.BootName.frames g.N.BootName.stocks _ _ c.self.view_is c.self.invariant.consistent c.args.head c.requires.frame c.requires.kept _
+      c.if-not-freeze.ensures.answer _ c.with_miss-self-inside.ensures).consistent;
+  free = c.self.invariant.free;
+}
 
 pub returns-then-not-freeze : goal.returns-then-not-freeze
 returns-then-not-freeze g c =
-    let all = missed_all g.N.BootName.frames g.N.BootName.stocks _ _ c.self.view_is c.self.invariant.0 c.args.head c.requires.frame c.requires.kept _
+    let all = missed_all g.N.BootName.frames g.N.BootName.stocks _ _ c.self.view_is c.self.invariant.consistent c.args.head c.requires.frame c.requires.kept _
     c.if-not-freeze.ensures.answer _ c.with_miss-self-inside.ensures in
     record { evicts = all.misses; visit = all.visit; steps = all.steps }
 
 pub free_unit-requires-clause-in_use : goal.free_unit-requires-clause-in_use
 free_unit-requires-clause-in_use g c =
-    let head = read_head g.N.BootName.frames g.N.BootName.stocks _ c.self.invariant.0 c.args.head _ c.requires.frame c.number-at.ensures _ c.in-Head.unit
+    let head = read_head g.N.BootName.frames g.N.BootName.stocks _ c.self.invariant.consistent c.args.head _ c.requires.frame c.number-at.ensures _ c.in-Head.unit
     c.index.ensures c.in-Head.is in
-    unit_in_use _ _ _ c.in-Head.unit c.self.invariant.1 c.self.invariant.0.units head
+    unit_in_use _ _ _ c.in-Head.unit c.self.invariant.free c.self.invariant.consistent.units head
 
 pub free_unit-requires-clause-inside : goal.free_unit-requires-clause-inside
 free_unit-requires-clause-inside g c =
-    let head = read_head g.N.BootName.frames g.N.BootName.stocks _ c.self.invariant.0 c.args.head _ c.requires.frame c.number-at.ensures _ c.in-Head.unit
+    let head = read_head g.N.BootName.frames g.N.BootName.stocks _ c.self.invariant.consistent c.args.head _ c.requires.frame c.number-at.ensures _ c.in-Head.unit
     c.index.ensures c.in-Head.is in
-    (c.self.invariant.0.units.heads _ c.in-Head.unit head).block.inside
+    (c.self.invariant.consistent.units.heads _ c.in-Head.unit head).block.inside
 
 pub free_unit-requires-clause-charged : goal.free_unit-requires-clause-charged
 free_unit-requires-clause-charged g c =
-    let head = read_head g.N.BootName.frames g.N.BootName.stocks _ c.self.invariant.0 c.args.head _ c.requires.frame c.number-at.ensures _ c.in-Head.unit
+    let head = read_head g.N.BootName.frames g.N.BootName.stocks _ c.self.invariant.consistent c.args.head _ c.requires.frame c.number-at.ensures _ c.in-Head.unit
     c.index.ensures c.in-Head.is in
-    unit_charged g.N.BootName.frames g.N.BootName.stocks _ c.self.invariant.0 _ c.in-Head.unit head
+    unit_charged g.N.BootName.frames g.N.BootName.stocks _ c.self.invariant.consistent _ c.in-Head.unit head
 
 pub invariant_of-self-2 : goal.invariant_of-self-2
 invariant_of-self-2 g c =
-    let head = read_head g.N.BootName.frames g.N.BootName.stocks _ c.self.invariant.0 c.args.head _ c.requires.frame c.number-at.ensures _ c.in-Head.unit
+    let head = read_head g.N.BootName.frames g.N.BootName.stocks _ c.self.invariant.consistent c.args.head _ c.requires.frame c.number-at.ensures _ c.in-Head.unit
     c.index.ensures c.in-Head.is in
-    let all = evicted_all g.N.BootName.frames g.N.BootName.stocks _ _ c.self.view_is c.self.invariant.0 c.args.head _
+    let all = evicted_all g.N.BootName.frames g.N.BootName.stocks _ _ c.self.view_is c.self.invariant.consistent c.args.head _
     c.requires.frame c.number-at.ensures c.requires.kept _ _ c.leave_list.ensures.leaves c.leave_list.ensures.lists.stand c.leave_list.ensures.frames
-    c.leave_list.ensures.lists.groups _ c.if-not-freeze.ensures.answer c.in-Head.unit head _ _ _ _ _ _ _ c.self.invariant.1 c.free_unit.ensures.spots
+    c.leave_list.ensures.lists.groups _ c.if-not-freeze.ensures.answer c.in-Head.unit head _ _ _ _ _ _ _ c.self.invariant.free c.free_unit.ensures.spots
     c.free_unit.ensures.frames c.free_unit.ensures.areas c.free_unit.ensures.charges c.free_unit.ensures.usage
     c.with_freeze-self-inside.ensures c.frames.ensures.frames in
-    (all.consistent, all.free_is)
+    record { consistent = all.consistent; free = all.free_is }
 
 pub returns : goal.returns
 returns g c =
-    let head = read_head g.N.BootName.frames g.N.BootName.stocks _ c.self.invariant.0 c.args.head _ c.requires.frame c.number-at.ensures _ c.in-Head.unit
+    let head = read_head g.N.BootName.frames g.N.BootName.stocks _ c.self.invariant.consistent c.args.head _ c.requires.frame c.number-at.ensures _ c.in-Head.unit
     c.index.ensures c.in-Head.is in
-    let all = evicted_all g.N.BootName.frames g.N.BootName.stocks _ _ c.self.view_is c.self.invariant.0 c.args.head _
+    let all = evicted_all g.N.BootName.frames g.N.BootName.stocks _ _ c.self.view_is c.self.invariant.consistent c.args.head _
     c.requires.frame c.number-at.ensures c.requires.kept _ _ c.leave_list.ensures.leaves c.leave_list.ensures.lists.stand c.leave_list.ensures.frames
-    c.leave_list.ensures.lists.groups _ c.if-not-freeze.ensures.answer c.in-Head.unit head _ _ _ _ _ _ _ c.self.invariant.1 c.free_unit.ensures.spots
+    c.leave_list.ensures.lists.groups _ c.if-not-freeze.ensures.answer c.in-Head.unit head _ _ _ _ _ _ _ c.self.invariant.free c.free_unit.ensures.spots
     c.free_unit.ensures.frames c.free_unit.ensures.areas c.free_unit.ensures.charges c.free_unit.ensures.usage
     c.with_freeze-self-inside.ensures c.frames.ensures.frames in
     record { evicts = all.evicts; visit = all.visit; steps = all.steps }

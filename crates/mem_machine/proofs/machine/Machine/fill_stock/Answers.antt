@@ -11,21 +11,21 @@ use Rattle.mem_machine.proofs.machine.Machine.fill_stock.Goals as goal
 
 pub fill-requires-clause-fits : goal.fill-requires-clause-fits
 fill-requires-clause-fits g c =
-    room_booked g.N.BootName.frames g.N.BootName.stocks _ _ c.self.view_is c.self.invariant.0 c.tree-tree.ensures.legal c.args.group c.args.pages
+    room_booked g.N.BootName.frames g.N.BootName.stocks _ _ c.self.view_is c.self.invariant.consistent c.tree-tree.ensures.legal c.args.group c.args.pages
     c.requires.charges.there c.requires.charges.fits _ refl
 
 pub invariant_of-self-2 : goal.invariant_of-self-2
-invariant_of-self-2 g c = (
-  (filled_all g.N.BootName.frames g.N.BootName.stocks _ _ c.args.cpu.now c.args.group c.args.pages c.self.view_is c.self.invariant.0 c.tree-tree.ensures.legal
+invariant_of-self-2 g c = record {
+  consistent = (filled_all g.N.BootName.frames g.N.BootName.stocks _ _ c.args.cpu.now c.args.group c.args.pages c.self.view_is c.self.invariant.consistent c.tree-tree.ensures.legal
       c.number-number.ensures.tied c.requires.visit c.requires.none_fresh c.requires.pages.1 c.requires.charges.there c.requires.charges.alive
       c.fill.ensures.nothing_booked (c.in_ok-try_charge.ensures.granted.0 refl)
-      _ _ _ _ refl c.in_ok-try_charge.ensures.charged (ap uncounted c.fill.ensures.seat) c.fill.ensures.cpu).consistent,
-  c.self.invariant.1,
-)
+      _ _ _ _ refl c.in_ok-try_charge.ensures.charged (ap uncounted c.fill.ensures.seat) c.fill.ensures.cpu).consistent;
+  free = c.self.invariant.free;
+}
 
 pub returns-clause-steps : goal.returns-clause-steps
 returns-clause-steps g c =
-    (filled_all g.N.BootName.frames g.N.BootName.stocks _ _ c.args.cpu.now c.args.group c.args.pages c.self.view_is c.self.invariant.0 c.tree-tree.ensures.legal
+    (filled_all g.N.BootName.frames g.N.BootName.stocks _ _ c.args.cpu.now c.args.group c.args.pages c.self.view_is c.self.invariant.consistent c.tree-tree.ensures.legal
     c.number-number.ensures.tied c.requires.visit c.requires.none_fresh c.requires.pages.1 c.requires.charges.there c.requires.charges.alive
     c.fill.ensures.nothing_booked (c.in_ok-try_charge.ensures.granted.0 refl)
     _ _ _ _ refl c.in_ok-try_charge.ensures.charged (ap uncounted c.fill.ensures.seat) c.fill.ensures.cpu).steps
@@ -35,7 +35,7 @@ returns-in_err-try_charge-clause-refused g c =
     let over : IfErr c.from_residual.result (λ (e : Over). IsLowestOver c.args.self.now.ledger.groups (current_of c.args.self.now.ledger) c.args.group
     c.args.pages e.group) = search rules in
     IfErr-weaker c.from_residual.result _ _ (λ e low. refused_all g.N.BootName.frames g.N.BootName.stocks _ _ c.self.view_is c.args.cpu.now c.args.group
-    c.args.pages e.group c.self.invariant.0 c.tree-tree.ensures.legal c.number-number.ensures.tied c.requires.visit c.requires.none_fresh c.requires.charges.there
+    c.args.pages e.group c.self.invariant.consistent c.tree-tree.ensures.legal c.number-number.ensures.tied c.requires.visit c.requires.none_fresh c.requires.charges.there
     c.requires.charges.alive low) over
 
 pub invariant_of-self : goal.invariant_of-self

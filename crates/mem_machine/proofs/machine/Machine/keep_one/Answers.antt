@@ -14,11 +14,11 @@ invariant_of-self g c =
     let was = was_fresh g.N.BootName.frames g.N.BootName.stocks _ c.args.cpu.now _ c.args.group e.known.inside e.known.nothing e.known.lent
     e.known.booked e.known.group c.requires.group fits in
     let a = c.join_list.ensures in
-    let all = (keep_all g.N.BootName.frames g.N.BootName.stocks _ _ c.self.view_is c.args.cpu.now _ c.number-number.ensures.tied c.self.invariant.0
-    c.requires.visit _ c.self.invariant.1 _ c.args.group was e.cpu _ c.unwrap-order.result c.number-at.ensures k0 _ _
+    let all = (keep_all g.N.BootName.frames g.N.BootName.stocks _ _ c.self.view_is c.args.cpu.now _ c.number-number.ensures.tied c.self.invariant.consistent
+    c.requires.visit _ c.self.invariant.free _ c.args.group was e.cpu _ c.unwrap-order.result c.number-at.ensures k0 _ _
     e.zone c.unfreeze.ensures.seat _ (ap uncounted e.seat) _ _
     (record { joins = a.joins; stand = a.lists.stand; frames = a.frames; groups = a.lists.groups })) in
-    (all.consistent, all.free_is)
+    record { consistent = all.consistent; free = all.free_is }
 
 pub returns : goal.returns
 returns g c =
@@ -28,8 +28,8 @@ returns g c =
     let was = was_fresh g.N.BootName.frames g.N.BootName.stocks _ c.args.cpu.now _ c.args.group e.known.inside e.known.nothing e.known.lent
     e.known.booked e.known.group c.requires.group fits in
     let a = c.join_list.ensures in
-    let all = keep_all g.N.BootName.frames g.N.BootName.stocks _ _ c.self.view_is c.args.cpu.now _ c.number-number.ensures.tied c.self.invariant.0
-    c.requires.visit _ c.self.invariant.1 _ c.args.group was e.cpu _ c.unwrap-order.result c.number-at.ensures k0 _ _
+    let all = keep_all g.N.BootName.frames g.N.BootName.stocks _ _ c.self.view_is c.args.cpu.now _ c.number-number.ensures.tied c.self.invariant.consistent
+    c.requires.visit _ c.self.invariant.free _ c.args.group was e.cpu _ c.unwrap-order.result c.number-at.ensures k0 _ _
     e.zone c.unfreeze.ensures.seat _ (ap uncounted e.seat) _ _
     (record { joins = a.joins; stand = a.lists.stand; frames = a.frames; groups = a.lists.groups }) in
     record { keeps = all.keeps; visit = all.visit; steps = all.steps }

@@ -4,12 +4,12 @@ use Rattle.mem_machine.proofs.machine.Machine.lend.Goals as goal
 
 pub take_frame-requires : goal.take_frame-requires
 take_frame-requires g c =
-    given_free g.N.BootName.frames g.N.BootName.stocks _ _ c.self.view_is c.self.invariant.0 _ c.args.frame _ c.self.invariant.1 c.requires.frame
+    given_free g.N.BootName.frames g.N.BootName.stocks _ _ c.self.view_is c.self.invariant.consistent _ c.args.frame _ c.self.invariant.free c.requires.frame
     c.requires.free c.number-at.ensures
 
 pub pass_out-requires-clause-hand : goal.pass_out-requires-clause-hand
 pass_out-requires-clause-hand g c =
-    given_hand g.N.BootName.frames g.N.BootName.stocks _ _ c.self.view_is c.self.invariant.0 _ c.requires.frame c.requires.free
+    given_hand g.N.BootName.frames g.N.BootName.stocks _ _ c.self.view_is c.self.invariant.consistent _ c.requires.frame c.requires.free
 
 pub accept-requires-clause-passes : goal.accept-requires-clause-passes
 accept-requires-clause-passes g c =
@@ -21,14 +21,14 @@ accept-requires-clause-lent g c = lent_to_it _ _ _ _ _ c.number-number.ensures.n
 
 pub invariant_of-self : goal.invariant_of-self
 invariant_of-self g c =
-    let all = (given_all g.N.BootName.frames g.N.BootName.stocks _ _ c.self.view_is c.args.cpu.now _ c.number-number.ensures.tied c.self.invariant.0
-    c.requires.visit _ _ _ c.args.frame _ c.number-number.result _ _ c.self.invariant.1 c.requires.frame c.requires.free c.take_frame.ensures.frames c.take_frame.ensures.areas
+    let all = (given_all g.N.BootName.frames g.N.BootName.stocks _ _ c.self.view_is c.args.cpu.now _ c.number-number.ensures.tied c.self.invariant.consistent
+    c.requires.visit _ _ _ c.args.frame _ c.number-number.result _ _ c.self.invariant.free c.requires.frame c.requires.free c.take_frame.ensures.frames c.take_frame.ensures.areas
     c.number-at.ensures c.number-number.ensures.number c.pass_out.ensures.zone c.accept.ensures.zone c.accept.ensures.cpu c.accept.ensures.nothing.1.1) in
-    (all.consistent, all.free_is)
+    record { consistent = all.consistent; free = all.free_is }
 
 pub returns : goal.returns
 returns g c =
-    let all = given_all g.N.BootName.frames g.N.BootName.stocks _ _ c.self.view_is c.args.cpu.now _ c.number-number.ensures.tied c.self.invariant.0 c.requires.visit
-    _ _ _ c.args.frame _ c.number-number.result _ _ c.self.invariant.1 c.requires.frame c.requires.free c.take_frame.ensures.frames c.take_frame.ensures.areas
+    let all = given_all g.N.BootName.frames g.N.BootName.stocks _ _ c.self.view_is c.args.cpu.now _ c.number-number.ensures.tied c.self.invariant.consistent c.requires.visit
+    _ _ _ c.args.frame _ c.number-number.result _ _ c.self.invariant.free c.requires.frame c.requires.free c.take_frame.ensures.frames c.take_frame.ensures.areas
     c.number-at.ensures c.number-number.ensures.number c.pass_out.ensures.zone c.accept.ensures.zone c.accept.ensures.cpu c.accept.ensures.nothing.1.1 in
     record { lends = all.lends; visit = all.visit; steps = all.steps }

@@ -11,8 +11,8 @@ returns-in_default-clause-lends g c =
 pub pass_out-requires-clause-hand : goal.pass_out-requires-clause-hand
 pass_out-requires-clause-hand g c =
     let k0 : c.unwrap.result ≡ 0 = search rules in
-    let there = block_inside _ _ _ _ c.unwrap.result c.in-Some.block c.self.invariant.1 k0 c.in-Some.ensures.taken c.in-Some.ensures.frames in
-    zone_hand _ _ _ c.self.invariant.0 _ _ there.0 there.1 c.in-Some-frame.ensures.0
+    let there = block_inside _ _ _ _ c.unwrap.result c.in-Some.block c.self.invariant.free k0 c.in-Some.ensures.taken c.in-Some.ensures.frames in
+    zone_hand _ _ _ c.self.invariant.consistent _ _ there.0 there.1 c.in-Some-frame.ensures.0
 
 pub accept-requires-clause-passes : goal.accept-requires-clause-passes
 accept-requires-clause-passes g c =
@@ -26,18 +26,18 @@ accept-requires-clause-lent g c = lent_to_it _ _ _ _ _ c.number-number.ensures.n
 pub invariant_of-self-2 : goal.invariant_of-self-2
 invariant_of-self-2 g c =
     let k0 : c.unwrap.result ≡ 0 = search rules in
-    let all = (lend_all g.N.BootName.frames g.N.BootName.stocks _ _ c.self.view_is c.args.cpu.now _ c.number-number.ensures.tied c.self.invariant.0
+    let all = (lend_all g.N.BootName.frames g.N.BootName.stocks _ _ c.self.view_is c.args.cpu.now _ c.number-number.ensures.tied c.self.invariant.consistent
     c.requires.visit _ _
-    c.unwrap.result c.in-Some.block _ c.in-Some-frame.frame _ c.number-number.result _ _ c.self.invariant.1 k0 c.in-Some.ensures.taken c.in-Some.ensures.frames
+    c.unwrap.result c.in-Some.block _ c.in-Some-frame.frame _ c.number-number.result _ _ c.self.invariant.free k0 c.in-Some.ensures.taken c.in-Some.ensures.frames
     c.in-Some.ensures.areas c.in-Some-frame.ensures.0 c.number.ensures c.number-number.ensures.number c.pass_out.ensures.zone c.accept.ensures.zone
     c.accept.ensures.cpu c.accept.ensures.nothing.1.1) in
-    (all.consistent, all.free_is)
+    record { consistent = all.consistent; free = all.free_is }
 
 pub returns : goal.returns
 returns g c =
     let k0 : c.unwrap.result ≡ 0 = search rules in
-    let all = lend_all g.N.BootName.frames g.N.BootName.stocks _ _ c.self.view_is c.args.cpu.now _ c.number-number.ensures.tied c.self.invariant.0 c.requires.visit _ _
-    c.unwrap.result c.in-Some.block _ c.in-Some-frame.frame _ c.number-number.result _ _ c.self.invariant.1 k0 c.in-Some.ensures.taken c.in-Some.ensures.frames
+    let all = lend_all g.N.BootName.frames g.N.BootName.stocks _ _ c.self.view_is c.args.cpu.now _ c.number-number.ensures.tied c.self.invariant.consistent c.requires.visit _ _
+    c.unwrap.result c.in-Some.block _ c.in-Some-frame.frame _ c.number-number.result _ _ c.self.invariant.free k0 c.in-Some.ensures.taken c.in-Some.ensures.frames
     c.in-Some.ensures.areas c.in-Some-frame.ensures.0 c.number.ensures c.number-number.ensures.number c.pass_out.ensures.zone c.accept.ensures.zone
     c.accept.ensures.cpu c.accept.ensures.nothing.1.1 in
     record { lends = all.lends; visit = all.visit }
@@ -45,10 +45,10 @@ returns g c =
 pub unreachable-requires : goal.unreachable-requires
 unreachable-requires g c =
     let k0 : c.unwrap.result ≡ 0 = search rules in
-    let there = block_inside _ _ _ _ c.unwrap.result c.in-Some.block c.self.invariant.1 k0 c.in-Some.ensures.taken c.in-Some.ensures.frames in
+    let there = block_inside _ _ _ _ c.unwrap.result c.in-Some.block c.self.invariant.free k0 c.in-Some.ensures.taken c.in-Some.ensures.frames in
     let past : g.N.BootName.frames.frames ≤ c.in-Some.block.at = search rules in
     let inside = there.0 in
-    let sized = c.self.invariant.0.sizes.spots in
+    let sized = c.self.invariant.consistent.sizes.spots in
     omega (arith, past, inside, sized)
 
 pub invariant_of-self : goal.invariant_of-self

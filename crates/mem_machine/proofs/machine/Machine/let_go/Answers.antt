@@ -5,53 +5,53 @@ use Rattle.mem_machine.proofs.machine.Machine.let_go.Goals as goal
 
 pub free_unit-requires-clause-in_use : goal.free_unit-requires-clause-in_use
 free_unit-requires-clause-in_use g c =
-    let head = read_head g.N.BootName.frames g.N.BootName.stocks _ c.self.invariant.0 c.args.head _ c.requires.frame c.number-at.ensures _ c.in-Head.unit
+    let head = read_head g.N.BootName.frames g.N.BootName.stocks _ c.self.invariant.consistent c.args.head _ c.requires.frame c.number-at.ensures _ c.in-Head.unit
     c.index.ensures c.in-Head.is in
-    unit_in_use _ _ _ c.in-Head.unit c.self.invariant.1 c.self.invariant.0.units head
+    unit_in_use _ _ _ c.in-Head.unit c.self.invariant.free c.self.invariant.consistent.units head
 
 pub free_unit-requires-clause-inside : goal.free_unit-requires-clause-inside
 free_unit-requires-clause-inside g c =
-    let head = read_head g.N.BootName.frames g.N.BootName.stocks _ c.self.invariant.0 c.args.head _ c.requires.frame c.number-at.ensures _ c.in-Head.unit
+    let head = read_head g.N.BootName.frames g.N.BootName.stocks _ c.self.invariant.consistent c.args.head _ c.requires.frame c.number-at.ensures _ c.in-Head.unit
     c.index.ensures c.in-Head.is in
-    (c.self.invariant.0.units.heads _ c.in-Head.unit head).block.inside
+    (c.self.invariant.consistent.units.heads _ c.in-Head.unit head).block.inside
 
 pub free_unit-requires-clause-charged : goal.free_unit-requires-clause-charged
 free_unit-requires-clause-charged g c =
-    let head = read_head g.N.BootName.frames g.N.BootName.stocks _ c.self.invariant.0 c.args.head _ c.requires.frame c.number-at.ensures _ c.in-Head.unit
+    let head = read_head g.N.BootName.frames g.N.BootName.stocks _ c.self.invariant.consistent c.args.head _ c.requires.frame c.number-at.ensures _ c.in-Head.unit
     c.index.ensures c.in-Head.is in
-    unit_charged g.N.BootName.frames g.N.BootName.stocks _ c.self.invariant.0 _ c.in-Head.unit head
+    unit_charged g.N.BootName.frames g.N.BootName.stocks _ c.self.invariant.consistent _ c.in-Head.unit head
 
 pub invariant_of-self : goal.invariant_of-self
-invariant_of-self g c = (
-  (left_all g.N.BootName.frames g.N.BootName.stocks _ _ c.self.view_is c.self.invariant.0 c.args.head _
+invariant_of-self g c = record {
+  consistent = (left_all g.N.BootName.frames g.N.BootName.stocks _ _ c.self.view_is c.self.invariant.consistent c.args.head _
       c.requires.frame c.number-at.ensures c.requires.kept _ _ c.leave_list.ensures.leaves c.leave_list.ensures.lists.stand c.leave_list.ensures.frames
-      c.leave_list.ensures.lists.groups c.in-Left.left _ c.in-Left.ensures.answer.2).consistent,
-  c.self.invariant.1,
-)
+      c.leave_list.ensures.lists.groups c.in-Left.left _ c.in-Left.ensures.answer.2).consistent;
+  free = c.self.invariant.free;
+}
 
 pub returns-in-Left : goal.returns-in-Left
 returns-in-Left g c =
-    let all = left_all g.N.BootName.frames g.N.BootName.stocks _ _ c.self.view_is c.self.invariant.0 c.args.head _
+    let all = left_all g.N.BootName.frames g.N.BootName.stocks _ _ c.self.view_is c.self.invariant.consistent c.args.head _
     c.requires.frame c.number-at.ensures c.requires.kept _ _ c.leave_list.ensures.leaves c.leave_list.ensures.lists.stand c.leave_list.ensures.frames
     c.leave_list.ensures.lists.groups c.in-Left.left _ c.in-Left.ensures.answer.2 in
     record { releases = search rules; visit = all.visit; steps = all.steps }
 
 pub invariant_of-self-in-Last : goal.invariant_of-self-in-Last
 invariant_of-self-in-Last g c =
-    let head = read_head g.N.BootName.frames g.N.BootName.stocks _ c.self.invariant.0 c.args.head _ c.requires.frame c.number-at.ensures _ c.in-Head.unit
+    let head = read_head g.N.BootName.frames g.N.BootName.stocks _ c.self.invariant.consistent c.args.head _ c.requires.frame c.number-at.ensures _ c.in-Head.unit
     c.index.ensures c.in-Head.is in
-    let all = returned_all g.N.BootName.frames g.N.BootName.stocks _ _ c.self.view_is c.self.invariant.0 c.args.head _
+    let all = returned_all g.N.BootName.frames g.N.BootName.stocks _ _ c.self.view_is c.self.invariant.consistent c.args.head _
     c.requires.frame c.number-at.ensures c.requires.kept _ _ c.leave_list.ensures.leaves c.leave_list.ensures.lists.stand c.leave_list.ensures.frames
-    c.leave_list.ensures.lists.groups _ c.in-Last.ensures.answer.0 c.in-Head.unit head _ _ _ _ _ _ c.self.invariant.1 c.free_unit.ensures.spots
+    c.leave_list.ensures.lists.groups _ c.in-Last.ensures.answer.0 c.in-Head.unit head _ _ _ _ _ _ c.self.invariant.free c.free_unit.ensures.spots
     c.free_unit.ensures.frames c.free_unit.ensures.areas c.free_unit.ensures.charges c.with_last_put-self-inside.ensures in
-    (all.consistent, all.free_is)
+    record { consistent = all.consistent; free = all.free_is }
 
 pub returns-in-Head : goal.returns-in-Head
 returns-in-Head g c =
-    let head = read_head g.N.BootName.frames g.N.BootName.stocks _ c.self.invariant.0 c.args.head _ c.requires.frame c.number-at.ensures _ c.in-Head.unit
+    let head = read_head g.N.BootName.frames g.N.BootName.stocks _ c.self.invariant.consistent c.args.head _ c.requires.frame c.number-at.ensures _ c.in-Head.unit
     c.index.ensures c.in-Head.is in
-    let all = returned_all g.N.BootName.frames g.N.BootName.stocks _ _ c.self.view_is c.self.invariant.0 c.args.head _
+    let all = returned_all g.N.BootName.frames g.N.BootName.stocks _ _ c.self.view_is c.self.invariant.consistent c.args.head _
     c.requires.frame c.number-at.ensures c.requires.kept _ _ c.leave_list.ensures.leaves c.leave_list.ensures.lists.stand c.leave_list.ensures.frames
-    c.leave_list.ensures.lists.groups _ c.in-Last.ensures.answer.0 c.in-Head.unit head _ _ _ _ _ _ c.self.invariant.1 c.free_unit.ensures.spots
+    c.leave_list.ensures.lists.groups _ c.in-Last.ensures.answer.0 c.in-Head.unit head _ _ _ _ _ _ c.self.invariant.free c.free_unit.ensures.spots
     c.free_unit.ensures.frames c.free_unit.ensures.areas c.free_unit.ensures.charges c.with_last_put-self-inside.ensures in
     record { releases = all.returns; visit = all.visit; steps = all.steps }

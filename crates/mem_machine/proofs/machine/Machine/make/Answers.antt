@@ -7,7 +7,7 @@ pub returns-clause-steps : goal.returns-clause-steps
 returns-clause-steps g c =
     let value = c.number-number.ensures.value in
     let below = c.number-number.ensures.below in
-    let sized = c.self.invariant.0.sizes.killed in
+    let sized = c.self.invariant.consistent.sizes.killed in
     let inside : c.in_ok-group.group < length c.self.inside.killed.items = omega (arith, value, below, sized) in
     made_runs g.N.BootName.frames _ _ c.self.view_is _ _ c.in_ok-group.group c.args.path.now inside c.in_ok-group.ensures.refused
     c.tree-tree.ensures.legal c.in_ok-group.ensures.least

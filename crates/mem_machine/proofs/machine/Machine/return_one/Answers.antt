@@ -17,51 +17,51 @@ free_unit-requires-clause-in_use g c =
     let inside : c.in-Some.frame < g.N.BootName.frames.frames = search rules in
     let was : WasBack g.N.BootName.frames _ c.in-Some.frame =
     record { inside = inside; nothing = c.in-Some.ensures.own.0; lent = c.in-Some.ensures.own.1 } in
-    let heads = read_head g.N.BootName.frames g.N.BootName.stocks _ c.self.invariant.0 _ _ was c.number-at.ensures _ c.index.ensures _ c.in-Head.is in
-    back_in_use g.N.BootName.frames g.N.BootName.stocks _ c.self.invariant.0 _ _ _ c.self.invariant.1 heads
+    let heads = read_head g.N.BootName.frames g.N.BootName.stocks _ c.self.invariant.consistent _ _ was c.number-at.ensures _ c.index.ensures _ c.in-Head.is in
+    back_in_use g.N.BootName.frames g.N.BootName.stocks _ c.self.invariant.consistent _ _ _ c.self.invariant.free heads
 
 pub free_unit-requires-clause-inside : goal.free_unit-requires-clause-inside
 free_unit-requires-clause-inside g c =
     let inside : c.in-Some.frame < g.N.BootName.frames.frames = search rules in
     let was : WasBack g.N.BootName.frames _ c.in-Some.frame =
     record { inside = inside; nothing = c.in-Some.ensures.own.0; lent = c.in-Some.ensures.own.1 } in
-    let heads = read_head g.N.BootName.frames g.N.BootName.stocks _ c.self.invariant.0 _ _ was c.number-at.ensures _ c.index.ensures _ c.in-Head.is in
-    back_inside g.N.BootName.frames g.N.BootName.stocks _ c.self.invariant.0 _ _ heads
+    let heads = read_head g.N.BootName.frames g.N.BootName.stocks _ c.self.invariant.consistent _ _ was c.number-at.ensures _ c.index.ensures _ c.in-Head.is in
+    back_inside g.N.BootName.frames g.N.BootName.stocks _ c.self.invariant.consistent _ _ heads
 
 pub free_unit-requires-clause-charged : goal.free_unit-requires-clause-charged
 free_unit-requires-clause-charged g c =
     let inside : c.in-Some.frame < g.N.BootName.frames.frames = search rules in
     let was : WasBack g.N.BootName.frames _ c.in-Some.frame =
     record { inside = inside; nothing = c.in-Some.ensures.own.0; lent = c.in-Some.ensures.own.1 } in
-    let heads = read_head g.N.BootName.frames g.N.BootName.stocks _ c.self.invariant.0 _ _ was c.number-at.ensures _ c.index.ensures _ c.in-Head.is in
-    unit_charged g.N.BootName.frames g.N.BootName.stocks _ c.self.invariant.0 _ _ heads
+    let heads = read_head g.N.BootName.frames g.N.BootName.stocks _ c.self.invariant.consistent _ _ was c.number-at.ensures _ c.index.ensures _ c.in-Head.is in
+    unit_charged g.N.BootName.frames g.N.BootName.stocks _ c.self.invariant.consistent _ _ heads
 
 pub invariant_of-self-2 : goal.invariant_of-self-2
 invariant_of-self-2 g c =
     let inside : c.in-Some.frame < g.N.BootName.frames.frames = search rules in
     let was : WasBack g.N.BootName.frames _ c.in-Some.frame =
     record { inside = inside; nothing = c.in-Some.ensures.own.0; lent = c.in-Some.ensures.own.1 } in
-    let heads = read_head g.N.BootName.frames g.N.BootName.stocks _ c.self.invariant.0 _ _ was c.number-at.ensures _ c.index.ensures _ c.in-Head.is in
+    let heads = read_head g.N.BootName.frames g.N.BootName.stocks _ c.self.invariant.consistent _ _ was c.number-at.ensures _ c.index.ensures _ c.in-Head.is in
     let collected = c.collect.ensures.zone ∙ ap (λ (s : KnownSeat). seat_with s c.in-Some.frame
     (collected_from c.hand_back.new.self.number)) c.in-Some.ensures.zone in
     let u = c.free_unit.ensures in
     let all = (return_all g.N.BootName.frames g.N.BootName.stocks _ _ c.self.view_is c.args.cpu.now c.hand_back.new.self _ c.number-number.ensures.tied
-    c.self.invariant.0 c.requires _ _ c.self.invariant.1 _ was c.in-Some.ensures.answer c.collect.ensures.cpu _ c.number-at.ensures _ heads _ collected
+    c.self.invariant.consistent c.requires _ _ c.self.invariant.free _ was c.in-Some.ensures.answer c.collect.ensures.cpu _ c.number-at.ensures _ heads _ collected
     _ u.spots _ u.frames u.areas _ u.charges _
     c.with_last_put-self-inside.ensures) in
-    (all.consistent, all.free_is)
+    record { consistent = all.consistent; free = all.free_is }
 
 pub returns : goal.returns
 returns g c =
     let inside : c.in-Some.frame < g.N.BootName.frames.frames = search rules in
     let was : WasBack g.N.BootName.frames _ c.in-Some.frame =
     record { inside = inside; nothing = c.in-Some.ensures.own.0; lent = c.in-Some.ensures.own.1 } in
-    let heads = read_head g.N.BootName.frames g.N.BootName.stocks _ c.self.invariant.0 _ _ was c.number-at.ensures _ c.index.ensures _ c.in-Head.is in
+    let heads = read_head g.N.BootName.frames g.N.BootName.stocks _ c.self.invariant.consistent _ _ was c.number-at.ensures _ c.index.ensures _ c.in-Head.is in
     let collected = c.collect.ensures.zone ∙ ap (λ (s : KnownSeat). seat_with s c.in-Some.frame
     (collected_from c.hand_back.new.self.number)) c.in-Some.ensures.zone in
     let u = c.free_unit.ensures in
     let all = return_all g.N.BootName.frames g.N.BootName.stocks _ _ c.self.view_is c.args.cpu.now c.hand_back.new.self _ c.number-number.ensures.tied
-    c.self.invariant.0 c.requires _ _ c.self.invariant.1 _ was c.in-Some.ensures.answer c.collect.ensures.cpu _ c.number-at.ensures _ heads _ collected
+    c.self.invariant.consistent c.requires _ _ c.self.invariant.free _ was c.in-Some.ensures.answer c.collect.ensures.cpu _ c.number-at.ensures _ heads _ collected
     _ u.spots _ u.frames u.areas _ u.charges _
     c.with_last_put-self-inside.ensures in
     record { returns = all.returns; visit = all.visit; steps = all.steps }

@@ -7,7 +7,7 @@ pub returns-clause-shut : goal.returns-clause-shut
 returns-clause-shut g c = is_shut_then _ _ _ _ c.shut.ensures.zone (ap (λ (d : KnownCpu). d.number) c.shut.ensures.cpu)
 
 pub returns-clause-steps : goal.returns-clause-steps
-returns-clause-steps g c = shuts g.N.BootName.frames _ _ c.self.view_is _ _ c.shut.ensures.cpu _ c.shut.ensures.zone c.requires (c.self.invariant.0.absorbed _)
+returns-clause-steps g c = shuts g.N.BootName.frames _ _ c.self.view_is _ _ c.shut.ensures.cpu _ c.shut.ensures.zone c.requires (c.self.invariant.consistent.absorbed _)
 
 pub invariant_of-self : goal.invariant_of-self
 invariant_of-self g c = search rules

@@ -6,7 +6,7 @@ use Rattle.mem_machine.proofs.machine.Machine.take_block.Goals as goal
 pub returns-in_default-take : goal.returns-in_default-take
 returns-in_default-take g c =
     let all = none_all g.N.BootName.frames g.N.BootName.stocks _ _ (c.self.view_is ∙ c.see_usage.ensures.machine) c.args.cpu.now _ c.see_usage.ensures.cpu
-    c.self.invariant.0 c.tree-tree.ensures.legal c.args.group c.args.order _ c.frames-pages.ensures.frames
+    c.self.invariant.consistent c.tree-tree.ensures.legal c.args.group c.args.order _ c.frames-pages.ensures.frames
     (record {
       visit = c.requires.visit;
       none_back = c.requires.none_back;
@@ -20,19 +20,19 @@ returns-in_default-take g c =
 pub unreachable-requires : goal.unreachable-requires
 unreachable-requires g c =
     let past : g.N.BootName.frames.frames ≤ c.in-Some.block.at = search rules in
-    let inside = head_inside _ _ c.self.invariant.0.areas _ _ c.self.invariant.1 _ c.in-Some.block c.in-Some.ensures.taken c.in-Some.ensures.frames in
-    let sized = c.self.invariant.0.sizes.spots in
+    let inside = head_inside _ _ c.self.invariant.consistent.areas _ _ c.self.invariant.free _ c.in-Some.block c.in-Some.ensures.taken c.in-Some.ensures.frames in
+    let sized = c.self.invariant.consistent.sizes.spots in
     omega (arith, past, inside, sized)
 
 pub place_unit-requires : goal.place_unit-requires
 place_unit-requires g c =
-    (taken_inside _ _ c.self.invariant.0.areas _ _ c.self.invariant.1 _ c.in-Some.block c.in-Some.ensures.taken c.in-Some.ensures.frames).inside
+    (taken_inside _ _ c.self.invariant.consistent.areas _ _ c.self.invariant.free _ c.in-Some.block c.in-Some.ensures.taken c.in-Some.ensures.frames).inside
 
 pub unfreeze-requires-clause-hand : goal.unfreeze-requires-clause-hand
 unfreeze-requires-clause-hand g c =
-    free_in_hand _ _ _ c.self.invariant.0 c.in-Some.block.at c.in-Some-frame.head
-    (head_inside _ _ c.self.invariant.0.areas _ _ c.self.invariant.1 _ c.in-Some.block c.in-Some.ensures.taken c.in-Some.ensures.frames)
-    (head_free _ _ c.self.invariant.0.areas _ _ c.self.invariant.1 _ c.in-Some.block c.in-Some.ensures.taken c.in-Some.ensures.frames)
+    free_in_hand _ _ _ c.self.invariant.consistent c.in-Some.block.at c.in-Some-frame.head
+    (head_inside _ _ c.self.invariant.consistent.areas _ _ c.self.invariant.free _ c.in-Some.block c.in-Some.ensures.taken c.in-Some.ensures.frames)
+    (head_free _ _ c.self.invariant.consistent.areas _ _ c.self.invariant.free _ c.in-Some.block c.in-Some.ensures.taken c.in-Some.ensures.frames)
     c.in-Some-frame.ensures.0
 
 pub invariant_of-self-2 : goal.invariant_of-self-2
@@ -40,32 +40,32 @@ invariant_of-self-2 g c =
     let fits : c.args.group < 64 = search rules in
     let j = c.join_list.ensures in
     let all = taken_all g.N.BootName.frames g.N.BootName.stocks _ _ (c.self.view_is ∙ c.see_usage.ensures.machine) c.args.cpu.now _ c.see_usage.ensures.cpu
-    c.self.invariant.0 c.tree-tree.ensures.legal c.args.group fits c.args.order _ c.frames-pages.ensures.frames
+    c.self.invariant.consistent c.tree-tree.ensures.legal c.args.group fits c.args.order _ c.frames-pages.ensures.frames
     (record {
       visit = c.requires.visit;
       none_back = c.requires.none_back;
       usage = c.see_usage.ensures.usage;
       there = c.requires.charges.there;
       alive = c.requires.charges.alive;
-    }) (c.in_default.ensures.granted.0 refl) _ c.in_default.ensures.charged c.in_default.ensures.pages _ _ c.in-Some.block _ c.self.invariant.1
+    }) (c.in_default.ensures.granted.0 refl) _ c.in_default.ensures.charged c.in_default.ensures.pages _ _ c.in-Some.block _ c.self.invariant.free
     c.in-Some.ensures.taken c.in-Some.ensures.frames c.in-Some.ensures.areas _ c.place_unit.ensures c.in-Some-frame.head _ c.in-Some-frame.ensures.0
     c.number.ensures c.unfreeze.ensures.no_reference _ c.unfreeze.ensures.seat _ _
     (record { joins = j.joins; stand = j.lists.stand; frames = j.frames; groups = j.lists.groups }) in
-    (all.consistent, all.free_is)
+    record { consistent = all.consistent; free = all.free_is }
 
 pub returns : goal.returns
 returns g c =
     let fits : c.args.group < 64 = search rules in
     let j = c.join_list.ensures in
     let all = taken_all g.N.BootName.frames g.N.BootName.stocks _ _ (c.self.view_is ∙ c.see_usage.ensures.machine) c.args.cpu.now _ c.see_usage.ensures.cpu
-    c.self.invariant.0 c.tree-tree.ensures.legal c.args.group fits c.args.order _ c.frames-pages.ensures.frames
+    c.self.invariant.consistent c.tree-tree.ensures.legal c.args.group fits c.args.order _ c.frames-pages.ensures.frames
     (record {
       visit = c.requires.visit;
       none_back = c.requires.none_back;
       usage = c.see_usage.ensures.usage;
       there = c.requires.charges.there;
       alive = c.requires.charges.alive;
-    }) (c.in_default.ensures.granted.0 refl) _ c.in_default.ensures.charged c.in_default.ensures.pages _ _ c.in-Some.block _ c.self.invariant.1
+    }) (c.in_default.ensures.granted.0 refl) _ c.in_default.ensures.charged c.in_default.ensures.pages _ _ c.in-Some.block _ c.self.invariant.free
     c.in-Some.ensures.taken c.in-Some.ensures.frames c.in-Some.ensures.areas _ c.place_unit.ensures c.in-Some-frame.head _ c.in-Some-frame.ensures.0
     c.number.ensures c.unfreeze.ensures.no_reference _ c.unfreeze.ensures.seat _ _
     (record { joins = j.joins; stand = j.lists.stand; frames = j.frames; groups = j.lists.groups }) in

@@ -18,10 +18,10 @@ invariant_of-self-2 g c =
     let collected = c.collect.ensures.zone ∙ ap (λ (s : KnownSeat). seat_with s c.in-Some.frame
     (collected_from c.hand_front.new.self.number)) c.in-Some.ensures.zone in
     let all = (take_all g.N.BootName.frames g.N.BootName.stocks _ _ c.self.view_is c.args.cpu.now c.hand_front.new.self _
-    c.number-number.ensures.tied c.self.invariant.0
-    c.requires _ _ c.unwrap.result _ c.in-Some.frame _ _ c.self.invariant.1 k0 c.give.ensures.frames c.give.ensures.areas inside c.in-Some.ensures.borrowed.1
+    c.number-number.ensures.tied c.self.invariant.consistent
+    c.requires _ _ c.unwrap.result _ c.in-Some.frame _ _ c.self.invariant.free k0 c.give.ensures.frames c.give.ensures.areas inside c.in-Some.ensures.borrowed.1
     c.number-at.ensures c.in-Some.ensures.answer collected c.collect.ensures.cpu) in
-    (all.consistent, all.free_is)
+    record { consistent = all.consistent; free = all.free_is }
 
 pub returns : goal.returns
 returns g c =
@@ -29,8 +29,8 @@ returns g c =
     let inside : c.in-Some.frame < g.N.BootName.frames.frames = search rules in
     let collected = c.collect.ensures.zone ∙ ap (λ (s : KnownSeat). seat_with s c.in-Some.frame
     (collected_from c.hand_front.new.self.number)) c.in-Some.ensures.zone in
-    let all = take_all g.N.BootName.frames g.N.BootName.stocks _ _ c.self.view_is c.args.cpu.now c.hand_front.new.self _ c.number-number.ensures.tied c.self.invariant.0
-    c.requires _ _ c.unwrap.result _ c.in-Some.frame _ _ c.self.invariant.1 k0 c.give.ensures.frames c.give.ensures.areas inside c.in-Some.ensures.borrowed.1
+    let all = take_all g.N.BootName.frames g.N.BootName.stocks _ _ c.self.view_is c.args.cpu.now c.hand_front.new.self _ c.number-number.ensures.tied c.self.invariant.consistent
+    c.requires _ _ c.unwrap.result _ c.in-Some.frame _ _ c.self.invariant.free k0 c.give.ensures.frames c.give.ensures.areas inside c.in-Some.ensures.borrowed.1
     c.number-at.ensures c.in-Some.ensures.answer collected c.collect.ensures.cpu in
     record { takes = all.takes; visit = all.visit }
 

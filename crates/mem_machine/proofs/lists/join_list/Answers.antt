@@ -1,6 +1,6 @@
 use Rattle.std.proofs.Common.{rules}
 use Rattle.mem_machine.proofs.Joins.{join_all}
-use Rattle.mem_machine.proofs.joining.join_list.Goals as goal
+use Rattle.mem_machine.proofs.lists.join_list.Goals as goal
 
 pub returns : goal.returns
 returns c =

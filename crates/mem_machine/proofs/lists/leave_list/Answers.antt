@@ -1,6 +1,6 @@
 use Rattle.std.proofs.Common.{rules}
 use Rattle.mem_machine.proofs.Leaving.{leave_all}
-use Rattle.mem_machine.proofs.releasing.leave_list.Goals as goal
+use Rattle.mem_machine.proofs.lists.leave_list.Goals as goal
 
 pub returns : goal.returns
 returns c =

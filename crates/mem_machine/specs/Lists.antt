@@ -1,0 +1,41 @@
+-- Units that come onto the lists of their groups, and that leave them.
+use Rattle.std.specs.Prelude.{◌≡◌, ◌≢◌, ℕ, Some, None, List, [], ◌∷◌, ◌++◌, false}
+use Rattle.lru_lists.specs.declared.record.LruList.{LruList}
+use Rattle.lru_lists.specs.declared.record.LruList.TheVariants.{Inactive}
+use Rattle.lru_lists.specs.Queue.{link_at, nowhere, SameUse}
+use Rattle.lru_lists.specs.Lists.{inactive_of, active_of, entries_without}
+use Rattle.mem_machine.specs.Machines.{KnownMachine, GroupLists, OthersStay, LooseStay, home_of, lists_at, lists_of}
+
+-- the unit comes to the newest end of its group's inactive list, clean and unmarked; every other frame and the lists of
+-- all other groups are as they were, and each other frame on no list has the record that it had
+pub record JoinsList (group frame : ℕ) (before after : GroupLists) : Type 0 where
+  pub stands : home_of after.links frame ≡ Some (record { owner = group; list = Inactive })
+  pub homes : (other : ℕ) → other ≢ frame → home_of after.links other ≡ home_of before.links other
+  pub inactive : inactive_of after.links (lists_at after.lists group)
+      ≡ inactive_of before.links (lists_at before.lists group)
+      ++ record { number = frame; is_marked = false; is_dirty = false } ∷ []
+  pub active : active_of after.links (lists_at after.lists group)
+      ≡ active_of before.links (lists_at before.lists group)
+  pub others : OthersStay group before after
+  pub loose : (other : ℕ) → other ≢ frame → home_of before.links other ≡ None
+      → link_at after.links other ≡ link_at before.links other
+
+-- the unit comes onto its group's inactive list, in the machine
+abbrev pub ListsUnit : ℕ → ℕ → KnownMachine → KnownMachine → Type 0
+ListsUnit group frame before after = JoinsList group frame (lists_of before) (lists_of after)
+
+-- the unit is off the list that it stood on, of the group of this number; every other unit stands on the list that it
+-- stood on, at its place there, marked and dirty as it was, and each frame on no list has the record that it had
+pub record LeavesList (frame : ℕ) (before after : GroupLists) : Type 0 where
+  pub group : ℕ
+  pub list : LruList
+  pub stands : home_of before.links frame ≡ Some (record { owner = group; list = list })
+  pub forgotten : link_at after.links frame ≡ nowhere
+  pub homes : (other : ℕ) → other ≢ frame → home_of after.links other ≡ home_of before.links other
+  pub loose : LooseStay before.links after.links
+  pub used : SameUse before.links after.links frame
+  pub inactive : inactive_of after.links (lists_at after.lists group)
+      ≡ entries_without frame (inactive_of before.links (lists_at before.lists group))
+  pub active : active_of after.links (lists_at after.lists group)
+      ≡ entries_without frame (active_of before.links (lists_at before.lists group))
+  pub others : OthersStay group before after
