@@ -8,7 +8,7 @@ use Rattle.frame_word.specs.Seats.{seat_with}
 use Rattle.group_tree.specs.Room.{PathHasRoom}
 use Rattle.group_charge.specs.Charges.{current_of, with_charge, with_uncharge}
 use Rattle.step_rules.specs.declared.step.Action.TheVariants.{Grant, Ungrant, PlaceBlock, Unfreeze, Publish}
-use Rattle.step_rules.specs.declared.step.Answer.TheVariants.{Done, Granted, Over, Placed, NoFreeBlock}
+use Rattle.step_rules.specs.declared.step.Answer.TheVariants.{Done, Granted, Placed, NoFreeBlock}
 use Rattle.step_rules.specs.After.{Run, is_within}
 use Rattle.mem_machine.specs.declared.spot.Spot.{Spot}
 use Rattle.mem_machine.specs.declared.spot.Spot.TheVariants.{Head, Tail}
@@ -17,7 +17,7 @@ use Rattle.mem_machine.specs.declared.blocks.TakeFault.TheVariants as fault
 use Rattle.mem_machine.specs.Spots.{spot_at, free_of}
 use Rattle.mem_machine.specs.Lists.{ListsUnit}
 use Rattle.mem_machine.specs.Machines.{KnownMachine, LacksRoom}
-use Rattle.mem_machine.specs.Steps.{zone_makes}
+use Rattle.mem_machine.specs.Steps.{over_steps, zone_makes}
 
 -- the record of a frame once the block is a unit of the group: the first frame heads it, and the rest are tails
 abbrev pub placed_spot : List Spot → ℕ → Block → ℕ → Spot
@@ -74,10 +74,6 @@ taken_steps group order at =
     ∷ zone_makes (Publish at) Done
     ∷ []
 
--- the one step where a limit has no room for the block, that of group `over` the lowest
-abbrev pub refused_steps : ℕ → ℕ → ℕ → Run
-refused_steps group order over = zone_makes (Grant group (2 ^ order)) (Over over) ∷ []
-
 -- the steps where no free block of the order or above is there
 abbrev pub unplaced_steps : ℕ → ℕ → Run
 unplaced_steps group order =
@@ -89,5 +85,5 @@ unplaced_steps group order =
 -- the steps of a call that takes a block, by its answer
 abbrev pub block_steps : ℕ → ℕ → Result ℕ TakeFault → Run
 block_steps group order (Ok at) = taken_steps group order at
-block_steps group order (Err (fault.Over over)) = refused_steps group order over.group
+block_steps group order (Err (fault.Over over)) = over_steps group (2 ^ order) over.group
 block_steps group order (Err fault.NoBlock) = unplaced_steps group order

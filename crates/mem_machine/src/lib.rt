@@ -13,7 +13,7 @@
 //! words of the rules (`step_rules`). `Makes` says that a list of steps leads from one side to another.
 //!
 //! A line that ends in 'For the clauses' calls a reader for what its contract tells, and changes nothing: what always
-//! holds of a type's values is known only where one of its calls says it. So does a call of `laws::..`.
+//! holds of a type's values is known only where one of its calls says it. So does a call of `list_laws::..`.
 #![tactic(auto)]
 
 mod ageing;
