@@ -103,7 +103,8 @@ lists_of machine = group_lists machine.links machine.lists
 -- the lists of all groups but this one stand as they stood: the same units in the same order, with their marks and dirt
 abbrev pub OthersStay : ℕ → GroupLists → GroupLists → Type 0
 OthersStay group before after = (other : ℕ) (list : LruList) → other < MAX_GROUPS → other ≢ group
-    → entries_of after.links (lists_at after.lists other) list ≡ entries_of before.links (lists_at before.lists other) list
+    → entries_of after.links (lists_at after.lists other) list
+    ≡ entries_of before.links (lists_at before.lists other) list
 
 -- each frame on no list has the record that it had, mark and dirt included
 abbrev pub LooseStay : List Link → List Link → Type 0

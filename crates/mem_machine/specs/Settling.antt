@@ -105,7 +105,10 @@ pub record ReturnsBack (frame : ℕ) (before after : Side) : Type 0 where
     counts = with_last_put before.machine.counts;
   }
   pub front : before.cpu.back ≡ frame ∷ after.cpu.back
-  pub cpu : after.cpu ≡ record before.cpu { back = after.cpu.back; frame_seat = seat_with before.cpu.frame_seat frame gave_back }
+  pub cpu : after.cpu ≡ record before.cpu {
+    back = after.cpu.back;
+    frame_seat = seat_with before.cpu.frame_seat frame gave_back;
+  }
 
 -- the group that the processor's fresh frames are of is killed
 abbrev pub is_fresh_killed : Side → Bool

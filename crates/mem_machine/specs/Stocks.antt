@@ -81,7 +81,8 @@ is_chosen test machine processor = test machine.ledger.groups (stock_group machi
 abbrev pub DrainsIf : StockTest → ℕ → List Drain → KnownMachine → KnownMachine → Type 0
 DrainsIf test processor [] before after =
     (is_chosen test before processor ≡ false) × (after ≡ record before {
-      stock_seat = with_view before.stock_seat (after_look before.stock_seat.view processor (stock_group before processor));
+      stock_seat = with_view before.stock_seat
+          (after_look before.stock_seat.view processor (stock_group before processor));
     })
 DrainsIf test processor (drain ∷ []) before after =
     (is_chosen test before processor ≡ true) × DrainsOne processor drain before after
@@ -148,7 +149,8 @@ pub record Fills (group pages : ℕ) (before after : Side) : Type 0 where
   pub room : PathHasRoom before.machine.ledger.groups (current_of before.machine.ledger) group pages
   pub machine : after.machine ≡ record before.machine {
     ledger = with_charge before.machine.ledger group pages;
-    stock_seat = with_view before.machine.stock_seat (filling before.machine.stock_seat.view before.cpu.number group pages);
+    stock_seat = with_view before.machine.stock_seat
+        (filling before.machine.stock_seat.view before.cpu.number group pages);
   }
   pub cpu : after.cpu ≡ record before.cpu {
     stock_seat = with_view before.cpu.stock_seat (after_fill before.cpu.stock_seat.view group pages);

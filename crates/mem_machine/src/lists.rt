@@ -15,7 +15,8 @@ pub(crate) fn join_list(links: &mut Links, lists: &mut Vec<Lru>, group: GroupId,
     requires frame { head < length links.old }
     requires away { home_of links.old head ≡ None }
     requires lists { AreGroupLists links.old lists.old.items }
-    ensures joins { JoinsList group head (group_lists links.old lists.old.items) (group_lists links.new lists.new.items) }
+    ensures joins { JoinsList group head
+        (group_lists links.old lists.old.items) (group_lists links.new lists.new.items) }
     ensures lists { AreGroupLists links.new lists.new.items }
     ensures frames { length links.new ≡ length links.old }
 {

@@ -13,7 +13,9 @@ impl<N: BootName> Machine<N> {
     /// Opens the visit of the processor, which isn't open. Frames are handed over and pages reported only inside it.
     pub fn open(&mut self, tables: &Tables<N>, cpu: &mut Cpu<N>)
         requires { IsShut self.old.frame_seat cpu.old.number }
-        ensures machine { self.new ≡ record self.old { frame_seat = seat_with_visit self.old.frame_seat cpu.old.number 1 } }
+        ensures machine { self.new ≡ record self.old {
+          frame_seat = seat_with_visit self.old.frame_seat cpu.old.number 1;
+        } }
         ensures cpu { cpu.new ≡ cpu.old }
         ensures visits { Visits N.frames (side self.new cpu.new) }
         ensures steps { Makes N.frames (side self.old cpu.old) (open_steps cpu.old.number) (side self.new cpu.new) }
@@ -25,7 +27,9 @@ impl<N: BootName> Machine<N> {
     /// Shuts the visit of the processor.
     pub fn shut(&mut self, tables: &Tables<N>, cpu: &mut Cpu<N>)
         requires { Visits N.frames (side self.old cpu.old) }
-        ensures machine { self.new ≡ record self.old { frame_seat = seat_with_visit self.old.frame_seat cpu.old.number 0 } }
+        ensures machine { self.new ≡ record self.old {
+          frame_seat = seat_with_visit self.old.frame_seat cpu.old.number 0;
+        } }
         ensures cpu { cpu.new ≡ cpu.old }
         ensures shut { IsShut self.new.frame_seat cpu.new.number }
         ensures still { NothingPasses N.frames self.new.frame_seat cpu.new.frame_seat }
