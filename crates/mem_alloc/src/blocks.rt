@@ -30,8 +30,8 @@ fn charge_block<N: BootName>(
     requires visit { Visits N.frames (side machine.old cpu.old) }
     requires may_charge { MayCharge machine.old group (2 ^ order) }
     requires none_back { cpu.old.back ≡ [] }
-    ensures charges { BySteps N.frames (side machine.old cpu.old) (side machine.new cpu.new)
-        (ChargesBlock group order result) }
+    ensures charges { BySteps N.frames (ChargesBlock group order result)
+        (side machine.old cpu.old) (side machine.new cpu.new) }
     ensures cpu { cpu.new ≡ cpu.old }
     ensures visit { Visits N.frames (side machine.new cpu.new) }
     ensures leaves { LeavesRoom group order result machine.old machine.new }
@@ -58,8 +58,8 @@ fn take_in_rounds<N: BootName>(
     requires visit { Visits N.frames (side machine.old cpu.old) }
     requires room { MayHaveBlock group order machine.old }
     requires none_back { cpu.old.back ≡ [] }
-    ensures takes { BySteps N.frames (side machine.old cpu.old) (side machine.new cpu.new)
-        (TakesInRounds group order result) }
+    ensures takes { BySteps N.frames (TakesInRounds group order result)
+        (side machine.old cpu.old) (side machine.new cpu.new) }
     ensures cpu { cpu.new ≡ cpu.old }
     ensures visit { Visits N.frames (side machine.new cpu.new) }
 {
@@ -88,8 +88,8 @@ fn take_after_drain<N: BootName>(
     requires visit { Visits N.frames (side machine.old cpu.old) }
     requires room { MayHaveBlock group order machine.old }
     requires settled { IsSettled cpu.old }
-    ensures takes { BySteps N.frames (side machine.old cpu.old) (side machine.new cpu.new)
-        (TakesAfterDrain group order result) }
+    ensures takes { BySteps N.frames (TakesAfterDrain group order result)
+        (side machine.old cpu.old) (side machine.new cpu.new) }
     ensures stays { KeepsVisit N.frames (side machine.old cpu.old) (side machine.new cpu.new) }
     ensures fresh { cpu.new.fresh ≡ [] }
     ensures list { length cpu.new.list ≤ length cpu.old.list }
@@ -125,8 +125,8 @@ pub fn alloc_block<N: BootName>(
     requires size { IsOfSize N.frames }
     requires there { IsTrue (has_group machine.old.ledger.groups group) }
     requires settled { IsSettled cpu.old }
-    ensures allocates { BySteps N.frames (side machine.old cpu.old) (side machine.new cpu.new)
-        (AllocatesBlock group order result) }
+    ensures allocates { BySteps N.frames (AllocatesBlock group order result)
+        (side machine.old cpu.old) (side machine.new cpu.new) }
     ensures stays { KeepsVisit N.frames (side machine.old cpu.old) (side machine.new cpu.new) }
     ensures fresh { cpu.new.fresh ≡ [] }
     ensures list { length cpu.new.list ≤ length cpu.old.list }

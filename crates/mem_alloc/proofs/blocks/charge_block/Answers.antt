@@ -47,8 +47,8 @@ tries-smaller g c =
     let r = is_refused _ _ c.args.group c.args.order c.in-Err-Over.field-0 c.in-Err-Over.over c.in-Err-Over.field-0-is c.in-Err-Over.ensures.refuses in
     usages_fall g.N.BootName.frames c.tries.machine c.make_room.new.machine c.in-Err-Over.over.group (2 ^ c.args.order)
     (relieving_lowers g.N.BootName.frames c.args.group c.in-Err-Over.over.group c.frames-pages.result c.tries.machine c.make_room.new.machine
-    (subst (λ (y : KnownMachine). ByStepsOfAny g.N.BootName.frames y c.make_room.new.machine
-    (RelievesLimit c.args.group c.in-Err-Over.over.group c.frames-pages.result)) r.1
+    (subst (λ (y : KnownMachine). ByStepsOfAny g.N.BootName.frames (RelievesLimit c.args.group c.in-Err-Over.over.group c.frames-pages.result)
+    y c.make_room.new.machine) r.1
     c.make_room.ensures.clears)) c.make_room.ensures.below r.0.over
     (subst (λ (n : ℕ). has_room_at c.make_room.new.machine.ledger c.in-Err-Over.over.group n ≡ true) c.frames-pages.ensures.frames
     c.in_ok-make_room-in-Err-Over.ensures.room.room)
@@ -56,8 +56,8 @@ tries-smaller g c =
 pub tries-preserved : goal.tries-preserved
 tries-preserved g c =
     let t = g.N.BootName.frames in
-    let clears = subst (λ (n : ℕ). ByStepsOfAny g.N.BootName.frames c.take_block.new.self c.make_room.new.machine
-    (RelievesLimit c.args.group c.in-Err-Over.over.group n)) c.frames-pages.ensures.frames c.make_room.ensures.clears in
+    let clears = subst (λ (n : ℕ). ByStepsOfAny g.N.BootName.frames (RelievesLimit c.args.group c.in-Err-Over.over.group n)
+    c.take_block.new.self c.make_room.new.machine) c.frames-pages.ensures.frames c.make_room.ensures.clears in
     let r = is_refused _ _ c.args.group c.args.order c.in-Err-Over.field-0 c.in-Err-Over.over c.in-Err-Over.field-0-is c.in-Err-Over.ensures.refuses in
     let run = subst (λ (z : KnownMachine × KnownCpu). MakesAs t c.tries.cpu.number (side c.tries.machine c.tries.cpu)
     (over_steps c.args.group (2 ^ c.args.order) c.in-Err-Over.over.group) (side z.0 z.1)) (λ i. (r.1 i, c.in-Err-Over.ensures.cpu i))
@@ -73,8 +73,8 @@ tries-preserved g c =
 pub returns-in_err-make_room-in-Err-Over-clause-charges : goal.returns-in_err-make_room-in-Err-Over-clause-charges
 returns-in_err-make_room-in-Err-Over-clause-charges g c =
     let t = g.N.BootName.frames in
-    let clears = subst (λ (n : ℕ). ByStepsOfAny g.N.BootName.frames c.take_block.new.self c.make_room.new.machine
-    (RelievesLimit c.args.group c.in-Err-Over.over.group n)) c.frames-pages.ensures.frames c.make_room.ensures.clears in
+    let clears = subst (λ (n : ℕ). ByStepsOfAny g.N.BootName.frames (RelievesLimit c.args.group c.in-Err-Over.over.group n)
+    c.take_block.new.self c.make_room.new.machine) c.frames-pages.ensures.frames c.make_room.ensures.clears in
     let r = is_refused _ _ c.args.group c.args.order c.in-Err-Over.field-0 c.in-Err-Over.over c.in-Err-Over.field-0-is c.in-Err-Over.ensures.refuses in
     let run = subst (λ (z : KnownMachine × KnownCpu). MakesAs t c.tries.cpu.number (side c.tries.machine c.tries.cpu)
     (over_steps c.args.group (2 ^ c.args.order) c.in-Err-Over.over.group) (side z.0 z.1)) (λ i. (r.1 i, c.in-Err-Over.ensures.cpu i))

@@ -24,7 +24,7 @@ pub tries-smaller : goal.tries-smaller
 tries-smaller g c =
     usages_fall g.N.BootName.frames c.tries.machine c.make_room.new.machine c.in-Err.over.group 1
     (relieving_lowers g.N.BootName.frames c.args.group c.in-Err.over.group 1 c.tries.machine c.make_room.new.machine
-    (subst (λ (y : KnownMachine). ByStepsOfAny g.N.BootName.frames y c.make_room.new.machine (RelievesLimit c.args.group c.in-Err.over.group 1)) c.in-Err.ensures.unchanged.machine
+    (subst (λ (y : KnownMachine). ByStepsOfAny g.N.BootName.frames (RelievesLimit c.args.group c.in-Err.over.group 1) y c.make_room.new.machine) c.in-Err.ensures.unchanged.machine
     c.make_room.ensures.clears)) c.make_room.ensures.below c.in-Err.ensures.over.over c.in_ok-make_room.ensures.room.room
 
 pub tries-preserved : goal.tries-preserved

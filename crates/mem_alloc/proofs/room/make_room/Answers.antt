@@ -27,7 +27,7 @@ kill_for_few-requires g c =
     (sym (c.note_max.ensures.machine ∙ ap (λ (y : KnownMachine). record y { ledger = with_max_noted y.ledger c.args.limited }) c.note_limit.ensures))
     (note_lowers g.N.BootName.frames c.args.machine.now c.args.limited c.args.pages) in
     let lowers = lowers_both g.N.BootName.frames _ _ _ noted (all_lower g.N.BootName.frames c.args.limited g.N.BootName.frames.cpus _ _ sub.drains sub.all) in
-    ap (λ (x : List Group). has_group x c.args.limited) c.reclaim_for.ensures.reclaims.1.keeps.groups
+    ap (λ (x : List Group). has_group x c.args.limited) c.reclaim_for.ensures.reclaims.does.keeps.groups
     ∙ lowered_there g.N.BootName.frames _ _ c.args.limited lowers c.requires
 
 pub has_room_at-requires : goal.has_room_at-requires
@@ -39,12 +39,12 @@ has_room_at-requires g c =
     (note_lowers g.N.BootName.frames c.args.machine.now c.args.limited c.args.pages) in
     let lowers = lowers_both g.N.BootName.frames _ _ _ noted (all_lower g.N.BootName.frames c.args.limited g.N.BootName.frames.cpus _ _ sub.drains sub.all) in
     let there : has_group c.reclaim_for.new.machine.ledger.groups c.args.limited ≡ true =
-    ap (λ (x : List Group). has_group x c.args.limited) c.reclaim_for.ensures.reclaims.1.keeps.groups
+    ap (λ (x : List Group). has_group x c.args.limited) c.reclaim_for.ensures.reclaims.does.keeps.groups
     ∙ lowered_there g.N.BootName.frames _ _ c.args.limited lowers c.requires in
     let killed = c.kill_for_few.ensures in
     subst (λ (l : Ledger). has_group l.groups c.args.limited ≡ true) (sym c.charges.ensures)
     (lowered_there g.N.BootName.frames _ _ c.args.limited
-    (few_lower g.N.BootName.frames c.args.requester c.args.limited c.args.pages c.reclaim_for.new.machine c.kill_for_few.new.machine killed.0 killed.1) there)
+    (few_lower g.N.BootName.frames c.args.requester c.args.limited c.args.pages c.reclaim_for.new.machine c.kill_for_few.new.machine killed.steps killed.does) there)
 
 pub returns-then-is_killed-clause-clears : goal.returns-then-is_killed-clause-clears
 returns-then-is_killed-clause-clears g c =
