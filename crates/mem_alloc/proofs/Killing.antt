@@ -21,7 +21,7 @@ use Rattle.mem_machine.specs.Steps.{note_oom_steps}
 use Rattle.mem_reclaim.specs.Killing.{IsKilledBy, OnlyDrains, OnlyLetsGo}
 use Rattle.mem_reclaim.specs.Victim.{IsVictim}
 use Rattle.mem_reclaim.proofs.Choosing.{chosen_there}
-use Rattle.mem_alloc.specs.Stepping.{ByStepsOfAny, Rests, course}
+use Rattle.mem_alloc.specs.Stepping.{ByStepsOfAny, MachineStays, course}
 use Rattle.mem_alloc.specs.Kills.{IsWanting, KillsEach, KillsFor, KillsOne, has_room_at, with_oom_noted_at}
 use Rattle.mem_alloc.specs.Room.{KillsForFew, RelievesLimit}
 use Rattle.mem_alloc.proofs.Lowering.{Lowers, lowers_none, lowers_both, same_visit, clears_lower, keeps_lower, sum_less}
@@ -70,12 +70,12 @@ oom_lowers t m g = record {
   emptied = λ p is. is;
 }
 
-rests_lower : (t : KnownTable) (m n : KnownMachine) (steps : Run) → Rests (course t m steps n) → Lowers t m n
-rests_lower t m n steps h = subst (λ (x : KnownMachine). Lowers t m x) (sym h.machine) (lowers_none t m)
+stays_lower : (t : KnownTable) (m n : KnownMachine) (steps : Run) → MachineStays (course t m steps n) → Lowers t m n
+stays_lower t m n steps h = subst (λ (x : KnownMachine). Lowers t m x) (sym h.machine) (lowers_none t m)
 
 pub kills_lower : (r : Option ℕ) (t : KnownTable) (g pages : ℕ) (m n : KnownMachine) (steps : Run) → KillsFor r g pages (course t m steps n) → Lowers t m n
 kills_lower r t g pages m n steps k = elim (cases_Bool (has_room_at m.ledger g pages)) [
-  | inl room ↦ rests_lower t m n steps (k.room room)
+  | inl room ↦ stays_lower t m n steps (k.room room)
   | inr over ↦
       let h = k.over over in
       lowers_both t m (with_oom_noted_at m g) n (oom_lowers t m g) (each_lowers r t g pages h.victims (with_oom_noted_at m g) n h.killing h.kills)
@@ -83,7 +83,7 @@ kills_lower r t g pages m n steps k = elim (cases_Bool (has_room_at m.ledger g p
 
 pub few_lower : (t : KnownTable) (r g pages : ℕ) (m n : KnownMachine) (steps : Run) → KillsForFew r g pages (course t m steps n) → Lowers t m n
 few_lower t r g pages m n steps k = elim (cases_lt 8 pages) [
-  | inl many ↦ rests_lower t m n steps (k.many many)
+  | inl many ↦ stays_lower t m n steps (k.many many)
   | inr few ↦ kills_lower (Some r) t g pages m n steps (k.few few)
 ]
 

@@ -33,7 +33,7 @@ use Rattle.mem_reclaim.specs.Moves.{has_kill, is_kill, is_miss, missed_in}
 use Rattle.mem_reclaim.specs.Staying.{Keeps, MissedAll}
 use Rattle.mem_reclaim.specs.Killing.{IsKilledBy, OnlyDrains, OnlyLetsGo}
 use Rattle.mem_reclaim.proofs.LettingGo.{AreQuiet, quiet_both, quiet_drains}
-use Rattle.mem_alloc.specs.Stepping.{Course, OfMachineAlone, Rests, course}
+use Rattle.mem_alloc.specs.Stepping.{Course, OfMachineAlone, MachineStays, course}
 use Rattle.mem_alloc.specs.Kills.{KillsEach, KillsFor, KillsOne, KillsUntilRoom, has_room_at, with_oom_noted_at}
 use Rattle.mem_alloc.specs.Room.{AfterRoom, ClearsBelow, IsRefusedAt, IsRefusedFor, IsRefusedAtSome, KillsForFew, MakesRoom, ReclaimsFor, RelievesLimit}
 use Rattle.mem_alloc.specs.Room.{with_max_noted_at}
@@ -284,8 +284,8 @@ module _ (t : KnownTable) (MayAsk : List Group → ℕ → ℕ → Type 0) (s : 
     groups = b.groups ∙ a.groups;
   }
 
-  tame_rests : (made : Run) (m : KnownMachine) (steps : Run) (n : KnownMachine) → Rests (course t m steps n) → Tame made m steps n
-  tame_rests made m steps n h =
+  tame_stays : (made : Run) (m : KnownMachine) (steps : Run) (n : KnownMachine) → MachineStays (course t m steps n) → Tame made m steps n
+  tame_stays made m steps n h =
       subst (λ (z : Run × KnownMachine). Tame made m z.0 z.1) (λ i. (sym h.steps_are i, sym h.machine i)) (tame_none made m)
 
   -- ---- kills
@@ -382,7 +382,7 @@ module _ (t : KnownTable) (MayAsk : List Group → ℕ → ℕ → Type 0) (s : 
 
   tame_each : (r : Option ℕ) (g pages : ℕ) (victims : List ℕ) (made : Run) (m : KnownMachine) (steps : Run) (n : KnownMachine)
       → MayAsk m.ledger.groups g pages → Ready g made m → KillsEach r g pages victims (course t m steps n) → Tame made m steps n
-  tame_each r g pages [] made m steps n asked ready each = tame_rests made m steps n each
+  tame_each r g pages [] made m steps n asked ready each = tame_stays made m steps n each
   tame_each r g pages (v ∷ later) made m steps n asked ready each =
       let x = each.between in
       let first = each.earlier in
@@ -411,7 +411,7 @@ module _ (t : KnownTable) (MayAsk : List Group → ℕ → ℕ → Type 0) (s : 
       → Passes t c s made m → AreDrained g t.cpus m → (has_room_at m.ledger g pages ≡ false → MissedAll g s m)
       → KillsFor r g pages (course t m steps n) → Tame made m steps n
   tame_kills r g pages made m steps n asked since drained missed h = elim (cases_Bool (has_room_at m.ledger g pages)) [
-    | inl room ↦ tame_rests made m steps n (h.room room)
+    | inl room ↦ tame_stays made m steps n (h.room room)
     | inr over ↦ tame_victims r g pages made m steps n asked since drained (missed over) (h.over over)
   ]
 
@@ -445,7 +445,7 @@ module _ (t : KnownTable) (MayAsk : List Group → ℕ → ℕ → Type 0) (s : 
       → Passes t c s made m → AreDrained g t.cpus m → (has_room_at m.ledger g pages ≡ false → MissedAll g s m)
       → KillsForFew r g pages (course t m steps n) → Tame made m steps n
   few_tame r g pages made m steps n asked since drained missed h = elim (cases_lt 8 pages) [
-    | inl many ↦ tame_rests made m steps n (h.many many)
+    | inl many ↦ tame_stays made m steps n (h.many many)
     | inr few ↦ tame_kills (Some r) g pages made m steps n (asked few) since drained missed (h.few few)
   ]
 

@@ -24,7 +24,7 @@ use Rattle.mem_alloc.specs.declared.faults.AllocFault.{AllocFault}
 use Rattle.mem_alloc.specs.declared.faults.AllocFault.TheVariants.{Over, NoFrames, Killed}
 use Rattle.mem_alloc.specs.Stepping.{BySteps, Course, course}
 use Rattle.mem_alloc.specs.Room.{AfterRoom, IsRefusedFor, TellsRoom}
-use Rattle.mem_alloc.specs.Blocks.{AllocatesBlock, ChargesBlock, FindsNoBlock, LeavesRoom, MayHaveBlock, RetriesBlock}
+use Rattle.mem_alloc.specs.Blocks.{AllocatesBlock, ChargesBlock, FindsNoBlock, MayHaveBlock, RetriesBlock}
 use Rattle.mem_alloc.specs.Blocks.{TakesAfterDrain, TakesFreeBlock, TakesInRounds, TakesOrReclaims}
 use Rattle.mem_alloc.proofs.Lowering.{Lowers, same_visit, lowered_fits, usage_back, room_back}
 use Rattle.mem_alloc.proofs.Making.{RoomSoFar, so_far_does, so_far_none}
@@ -70,7 +70,7 @@ module _ (t : KnownTable) (g k : ℕ) (c : KnownCpu) (m x : KnownMachine) (so_fa
       (record { steps = unplaced_steps g k; does = record { none = none; cpu = cpu; steps_are = refl }; makes = run })
 
   -- what a call for which no block is free leaves
-  pub room_still : TakesNoBlock g k x n → has_group m.ledger.groups g ≡ true → HasRoomFor m (2 ^ k) → MayHaveBlock g k n
+  pub room_still : TakesNoBlock g k x n → has_group m.ledger.groups g ≡ true → HasRoomFor m (2 ^ k) → MayHaveBlock n g k
   room_still none there fits =
       let ledger : n.ledger ≡ with_uncharge (with_charge x.ledger g (2 ^ k)) g (2 ^ k) = ap (λ (z : KnownMachine). z.ledger) none.machine in
       let groups : n.ledger.groups ≡ m.ledger.groups = ap (λ (z : KnownMachine). z.ledger.groups) none.machine ∙ so_far.lowers.groups in
@@ -105,12 +105,12 @@ abbrev fault_of : Result ℕ AllocFault → AllocFault
 fault_of (Ok head) = Killed
 fault_of (Err cause) = cause
 
-pub over_leaves : (t : KnownTable) (g k over : ℕ) (r : Result ℕ AllocFault) (x : AllocFault) (m n : KnownMachine) → r ≡ Err x
-    → TellsRoom g over (2 ^ k) (Err x) n → Lowers t m n → LeavesRoom g k r m n
-over_leaves t g k over r x m n is why l = record {
-  opened = l.opened;
-  still = λ none. let same : x ≡ NoFrames = sym (ap fault_of is) ∙ ap fault_of none in absurd (subst (λ (z : AllocFault). TellsRoom g over (2 ^ k) (Err z) n) same why);
-}
+-- which isn't for want of a free block
+pub over_not_none : (g k over : ℕ) (r : Result ℕ AllocFault) (x : AllocFault) (n : KnownMachine) → r ≡ Err x
+    → TellsRoom g over (2 ^ k) (Err x) n → r ≡ Err NoFrames → ⊥
+over_not_none g k over r x n is why none =
+    let same : x ≡ NoFrames = sym (ap fault_of is) ∙ ap fault_of none in
+    subst (λ (z : AllocFault). TellsRoom g over (2 ^ k) (Err z) n) same why
 
 -- ---- the list given back
 
@@ -181,7 +181,7 @@ none_spares t g k m n c d steps h = record {
 
 -- what one try that finds no block leaves
 pub none_leaves : (t : KnownTable) (g k : ℕ) (m n : KnownMachine) (c d : KnownCpu) → TakesNoBlock g k m n → is_killed m.killed g ≡ false → has_group m.ledger.groups g ≡ true
-    → HasRoomFor m (2 ^ k) → MayHaveBlock g k n
+    → HasRoomFor m (2 ^ k) → MayHaveBlock n g k
 none_leaves t g k m n c d none alive there fits = room_still t g k c m m (so_far_none t g (2 ^ k) c m alive) c refl n d none there fits
 
 -- rounds open and shut no visit

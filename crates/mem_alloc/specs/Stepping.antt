@@ -67,7 +67,7 @@ CountsMisses way =
     (frame : ℕ) → misses_of way.after.frame_seat frame ≡ misses_of way.before.frame_seat frame + missed_in frame way.steps
 
 -- nothing of the machine changed, without a step
-pub record Rests (way : Course KnownMachine) : Type 0 where
+pub record MachineStays (way : Course KnownMachine) : Type 0 where
   pub machine : way.after ≡ way.before
   pub steps_are : way.steps ≡ []
 

@@ -59,7 +59,7 @@ pub(crate) fn make_room<N: BootName>(
     pages: u32,
 ) -> Result<(), AllocFault>
     requires { IsTrue (has_group machine.old.ledger.groups limited) }
-    ensures clears { ByStepsOfAny N.frames (RelievesLimit requester limited pages) machine.old machine.new }
+    ensures relieves { ByStepsOfAny N.frames (RelievesLimit requester limited pages) machine.old machine.new }
     ensures room { TellsRoom requester limited pages result machine.new }
     ensures below { limited < MAX_GROUPS }
 {

@@ -46,24 +46,24 @@ has_room_at-requires g c =
     (lowered_there g.N.BootName.frames _ _ c.args.limited
     (few_lower g.N.BootName.frames c.args.requester c.args.limited c.args.pages c.reclaim_for.new.machine c.kill_for_few.new.machine killed.steps killed.does) there)
 
-pub returns-then-is_killed-clause-clears : goal.returns-then-is_killed-clause-clears
-returns-then-is_killed-clause-clears g c =
+pub returns-then-is_killed-clause-relieves : goal.returns-then-is_killed-clause-relieves
+returns-then-is_killed-clause-relieves g c =
     relieves_by g.N.BootName.frames c.args.requester c.args.limited c.args.pages c.args.machine.now c.drain_stocks.new.self c.reclaim_for.new.machine
     c.kill_for_few.new.machine
     (clears_by g.N.BootName.frames c.args.limited c.args.pages c.drain_stocks.result c.args.machine.now c.note_limit.new.machine c.note_max.new.self
     c.drain_stocks.new.self c.note_limit.ensures c.note_max.ensures.machine c.note_max.ensures.steps c.drain_stocks.ensures.drains c.drain_stocks.ensures.drained)
     c.reclaim_for.ensures.reclaims c.kill_for_few.ensures
 
-pub returns-then-has_room_at-clause-clears : goal.returns-then-has_room_at-clause-clears
-returns-then-has_room_at-clause-clears g c =
+pub returns-then-has_room_at-clause-relieves : goal.returns-then-has_room_at-clause-relieves
+returns-then-has_room_at-clause-relieves g c =
     relieves_by g.N.BootName.frames c.args.requester c.args.limited c.args.pages c.args.machine.now c.drain_stocks.new.self c.reclaim_for.new.machine
     c.kill_for_few.new.machine
     (clears_by g.N.BootName.frames c.args.limited c.args.pages c.drain_stocks.result c.args.machine.now c.note_limit.new.machine c.note_max.new.self
     c.drain_stocks.new.self c.note_limit.ensures c.note_max.ensures.machine c.note_max.ensures.steps c.drain_stocks.ensures.drains c.drain_stocks.ensures.drained)
     c.reclaim_for.ensures.reclaims c.kill_for_few.ensures
 
-pub returns-else-has_room_at-clause-clears : goal.returns-else-has_room_at-clause-clears
-returns-else-has_room_at-clause-clears g c =
+pub returns-else-has_room_at-clause-relieves : goal.returns-else-has_room_at-clause-relieves
+returns-else-has_room_at-clause-relieves g c =
     relieves_by g.N.BootName.frames c.args.requester c.args.limited c.args.pages c.args.machine.now c.drain_stocks.new.self c.reclaim_for.new.machine
     c.kill_for_few.new.machine
     (clears_by g.N.BootName.frames c.args.limited c.args.pages c.drain_stocks.result c.args.machine.now c.note_limit.new.machine c.note_max.new.self
