@@ -38,7 +38,7 @@ use Rattle.mem_alloc.specs.Kills.{KillsEach, KillsFor, KillsOne, KillsUntilRoom,
 use Rattle.mem_alloc.specs.Room.{AfterRoom, ClearsBelow, IsRefusedAt, IsRefusedFor, IsRefusedAtSome, KillsForFew, MakesRoom, ReclaimsFor, RelievesLimit}
 use Rattle.mem_alloc.specs.Room.{with_max_noted_at}
 use Rattle.mem_alloc.specs.declared.faults.AllocFault.{AllocFault}
-use Rattle.mem_alloc.specs.NoRash.{IsLeftBySteps, MayKill, has_oom_note, is_oom_note}
+use Rattle.mem_alloc.specs.NoRash.{IsLeftBySteps, MayKill, MayKillAfter, has_oom_note, is_oom_note}
 
 -- ---- where a pair of a list stands
 
@@ -232,8 +232,7 @@ keeps_pass t c m n steps runs keeps misses = record {
 abbrev pub RashFree : KnownTable → (List Group → ℕ → ℕ → Type 0) → KnownMachine → KnownCpu → Run → Run → Type 0
 RashFree t MayAsk start c made steps =
     (before rest : Run) (e : Step × Answer) (victim : ℕ) → steps ≡ before ++ e ∷ rest → e.0.action ≡ Kill victim
-    → (now : KnownMachine) × IsLocalRun c.number (local_of t start c) (made ++ before) (local_of t now c)
-    × MayKill MayAsk (course t start (made ++ before) now) victim
+    → MayKillAfter t MayAsk start c (made ++ before) victim
 
 module _ (t : KnownTable) (MayAsk : List Group → ℕ → ℕ → Type 0) (s : KnownMachine) (c : KnownCpu) where
   pub rash_quiet : (made steps : Run) → has_kill steps ≡ false → RashFree t MayAsk s c made steps
@@ -247,8 +246,7 @@ module _ (t : KnownTable) (MayAsk : List Group → ℕ → ℕ → Type 0) (s : 
     | inr there ↦
         let same : (made ++ one) ++ there.0 ≡ made ++ before =
         append_assoc made one there.0 ∙ ap (λ (r : Run). made ++ r) (sym there.1) in
-        subst (λ (done : Run). (now : KnownMachine) × IsLocalRun c.number (local_of t s c) done (local_of t now c) × MayKill MayAsk (course t s done now) v) same
-        (last there.0 rest e v there.2 kill)
+        subst (λ (done : Run). MayKillAfter t MayAsk s c done v) same (last there.0 rest e v there.2 kill)
   ]
 
   -- a kill, and then steps without one
@@ -259,8 +257,7 @@ module _ (t : KnownTable) (MayAsk : List Group → ℕ → ℕ → Type 0) (s : 
         let only = only_one (record { seat = 0; action = Kill v }, Done) before here.0 e here.1 in
         let who : v ≡ u = same_victim v u (ap (λ (x : Step × Answer). x.0.action) only.1 ∙ kill) in
         let done : made ≡ made ++ before = sym (append-nil made) ∙ ap (λ (r : Run). made ++ r) (sym only.0) in
-        subst (λ (z : Run × ℕ). (now : KnownMachine) × IsLocalRun c.number (local_of t s c) z.0 (local_of t now c) × MayKill MayAsk (course t s z.0 now) z.1)
-        (λ i. (done i, who i)) (m, runs, may)
+        subst (λ (z : Run × ℕ). MayKillAfter t MayAsk s c z.0 z.1) (λ i. (done i, who i)) (record { now = m; leads = runs; may = may })
     | inr there ↦ absurd (false≢true (sym quiet ∙ ap has_kill there.2 ∙ kills_there there.0 rest e u kill))
   ]
 
