@@ -189,25 +189,25 @@ lent_page frames g m n c d lends page =
 
 -- the batch fits
 pub batch_fits : (t : KnownTable) (sizes : Config) (g : ℕ) (m n : KnownMachine) (c d : KnownCpu) → Fills g sizes.stock (side m c) (side n d)
-    → MakesAs t c.number (side m c) (fill_steps c.number g sizes.stock) (side n d) → BySteps t (side m c) (side n d) (ChargesFrame sizes g (Ok tt))
-batch_fits t sizes g m n c d fills steps = (fill_steps c.number g sizes.stock, inl (record { fills = fills; steps_are = refl }), steps)
+    → MakesAs t c.number (side m c) (fill_steps c.number g sizes.stock) (side n d) → BySteps t (ChargesFrame sizes g (Ok tt)) (side m c) (side n d)
+batch_fits t sizes g m n c d fills steps = record { steps = fill_steps c.number g sizes.stock; does = inl (record { fills = fills; steps_are = refl }); makes = steps }
 
 -- the batch doesn't fit, and then one page is charged, or is refused
 module _ (t : KnownTable) (sizes : Config) (g over : ℕ) (m x n : KnownMachine) (c y d : KnownCpu) (stays : x ≡ m) (its : y ≡ c)
     (lowest : IsLowestOver m.ledger.groups (current_of m.ledger) g sizes.stock over)
     (refused : MakesAs t c.number (side m c) (over_steps g sizes.stock over) (side m c)) where
-  lacks : (r : Result (Unit {0}) AllocFault) → BySteps t (side x y) (side n d) (ChargesOne g r)
-      → BySteps t (side m c) (side n d) (AfterBatchRefused sizes g (ChargesOne g r))
+  lacks : (r : Result (Unit {0}) AllocFault) → BySteps t (ChargesOne g r) (side x y) (side n d)
+      → BySteps t (AfterBatchRefused sizes g (ChargesOne g r)) (side m c) (side n d)
   lacks r b =
-      let here = subst (λ (z : KnownMachine × KnownCpu). BySteps t (side z.0 z.1) (side n d) (ChargesOne g r)) (λ i. (stays i, its i)) b in (
-        over_steps g sizes.stock over ++ here.0,
-        record { over = over; batch = lowest; later = here.0; does = here.1; steps_are = refl },
-        makes_both t c.number (over_steps g sizes.stock over) here.0 (side m c) (side m c) (side n d) refused here.2,
-      )
+      let here = subst (λ (z : KnownMachine × KnownCpu). BySteps t (ChargesOne g r) (side z.0 z.1) (side n d)) (λ i. (stays i, its i)) b in record {
+        steps = over_steps g sizes.stock over ++ here.steps;
+        does = record { over = over; batch = lowest; later = here.steps; does = here.does; steps_are = refl };
+        makes = makes_both t c.number (over_steps g sizes.stock over) here.steps (side m c) (side m c) (side n d) refused here.makes;
+      }
 
-  pub one_charged : (r : Result (Unit {0}) AllocFault) → BySteps t (side x y) (side n d) (ChargesOne g r)
-      → BySteps t (side m c) (side n d) (ChargesFrame sizes g r)
-  one_charged (Ok v) b = let l = lacks (Ok v) b in (l.0, inr l.1, l.2)
+  pub one_charged : (r : Result (Unit {0}) AllocFault) → BySteps t (ChargesOne g r) (side x y) (side n d)
+      → BySteps t (ChargesFrame sizes g r) (side m c) (side n d)
+  one_charged (Ok v) b = let l = lacks (Ok v) b in record { steps = l.steps; does = inr l.does; makes = l.makes }
   one_charged (Err e) b = lacks (Err e) b
 
 -- the own stock is drained first
@@ -233,32 +233,32 @@ module _ (t : KnownTable) (pages q : ℕ) (m k x : KnownMachine) (c e : KnownCpu
     steps_are = refl;
   }
 
-  pub drained_own : BySteps t (side m c) (side x c) DrainsStock
-  drained_own = (own_steps, drains_own, by_drain)
+  pub drained_own : BySteps t DrainsStock (side m c) (side x c)
+  drained_own = record { steps = own_steps; does = drains_own; makes = by_drain }
 
   module _ (sizes : Config) (g : ℕ) (n : KnownMachine) (d : KnownCpu) (lacks : ¬ HoldsPage (side m c) g) where
-    charges_anew : (r : Result (Unit {0}) AllocFault) → BySteps t (side x e) (side n d) (ChargesFrame sizes g r)
-        → BySteps t (side m c) (side n d) (ChargesAfterDrain sizes g r)
+    charges_anew : (r : Result (Unit {0}) AllocFault) → BySteps t (ChargesFrame sizes g r) (side x e) (side n d)
+        → BySteps t (ChargesAfterDrain sizes g r) (side m c) (side n d)
     charges_anew r b =
-        let here = subst (λ (z : KnownCpu). BySteps t (side x z) (side n d) (ChargesFrame sizes g r)) mine b in (
-          own_steps ++ here.0,
-          record {
+        let here = subst (λ (z : KnownCpu). BySteps t (ChargesFrame sizes g r) (side x z) (side n d)) mine b in record {
+          steps = own_steps ++ here.steps;
+          does = record {
             is = lacks;
             does = record {
               between = side x c;
               earlier = own_steps;
-              later = here.0;
+              later = here.steps;
               first = drains_own;
-              second = here.1;
+              second = here.does;
               steps_are = refl;
             };
-          },
-          makes_both t c.number own_steps here.0 (side m c) (side x c) (side n d) by_drain here.2,
-        )
+          };
+          makes = makes_both t c.number own_steps here.steps (side m c) (side x c) (side n d) by_drain here.makes;
+        }
 
-    pub pays_anew : (r : Result (Unit {0}) AllocFault) → BySteps t (side x e) (side n d) (ChargesFrame sizes g r)
-        → BySteps t (side m c) (side n d) (PaysForFrame sizes g r)
-    pays_anew (Ok v) b = let h = charges_anew (Ok v) b in (h.0, inr h.1, h.2)
+    pub pays_anew : (r : Result (Unit {0}) AllocFault) → BySteps t (ChargesFrame sizes g r) (side x e) (side n d)
+        → BySteps t (PaysForFrame sizes g r) (side m c) (side n d)
+    pays_anew (Ok v) b = let h = charges_anew (Ok v) b in record { steps = h.steps; does = inr h.does; makes = h.makes }
     pays_anew (Err cause) b = charges_anew (Err cause) b
 
 -- ---- the list
@@ -275,16 +275,16 @@ no_steps t [] m n c d none run = run
 no_steps t (f ∷ frames) m n c d none run = absurd (omega (arith, none))
 
 pub lent_none : (t : KnownTable) (count batch : ℕ) (m n : KnownMachine) (c d : KnownCpu) → Refills t count (side m c) (side n d)
-    → count ≤ 0 → (count < batch → HasNoneFrom n.blocks 0) → 1 ≤ batch → BySteps t (side m c) (side n d) LendsNoFrame
+    → count ≤ 0 → (count < batch → HasNoneFrom n.blocks 0) → 1 ≤ batch → BySteps t LendsNoFrame (side m c) (side n d)
 lent_none t count batch m n c d refills few fewer some =
     let all = refills.all in
     let none : length refills.frames ≡ 0 = omega (arith, few, all) in
     let same = none_lent refills.frames m n c d none refills.lends in
-    let free : HasNoneFrom m.blocks 0 = subst (λ (x : KnownMachine). HasNoneFrom x.blocks 0) same.0 (fewer (omega (arith, few, some))) in (
-      [],
-      record { is = free; does = record { machine = same.0; cpu = same.1; steps_are = refl } },
-      no_steps t refills.frames m n c d none refills.steps,
-    )
+    let free : HasNoneFrom m.blocks 0 = subst (λ (x : KnownMachine). HasNoneFrom x.blocks 0) same.0 (fewer (omega (arith, few, some))) in record {
+      steps = [];
+      does = record { is = free; does = record { machine = same.0; cpu = same.1; steps_are = refl } };
+      makes = no_steps t refills.frames m n c d none refills.steps;
+    }
 
 -- some were lent
 pub lent_batch : (t : KnownTable) (count batch : ℕ) (m n : KnownMachine) (c d : KnownCpu) (refills : Refills t count (side m c) (side n d))
@@ -319,46 +319,46 @@ none_after t (suc more) m n c d steps none (inr h) =
 
 -- no frame is free, also after rounds of reclaim, and the stock is drained
 module _ (t : KnownTable) (sizes : Config) (m k x n : KnownMachine) (c e y : KnownCpu) (empty : c.list ≡ [])
-    (first : BySteps t (side m c) (side k e) LendsNoFrame) where
+    (first : BySteps t LendsNoFrame (side m c) (side k e)) where
   from_first : (P : KnownMachine → KnownCpu → Type 0) → P k e → P m c
-  from_first P p = subst (λ (z : KnownMachine × KnownCpu). P z.0 z.1) (λ i. (first.1.does.machine i, first.1.does.cpu i)) p
+  from_first P p = subst (λ (z : KnownMachine × KnownCpu). P z.0 z.1) (λ i. (first.does.does.machine i, first.does.does.cpu i)) p
 
-  pub no_frame : (pages q : ℕ) → BySteps t (side k e) (side x y) (RefillsInRounds sizes.batch false) → q ≡ y.number → Drains q pages x n
+  pub no_frame : (pages q : ℕ) → BySteps t (RefillsInRounds sizes.batch false) (side k e) (side x y) → q ≡ y.number → Drains q pages x n
       → ((h : KnownCpu) → MakesAs t h.number (side x h) (drain_steps q (stock_group x q) pages) (side n h))
-      → BySteps t (side m c) (side n y) (FillsList sizes (Err NoFrames))
+      → BySteps t (FillsList sizes (Err NoFrames)) (side m c) (side n y)
   no_frame pages q rounds named drains steps =
-      let there = from_first (λ u v. BySteps t (side u v) (side x y) (RefillsInRounds sizes.batch false)) rounds in
-      let cpu : y ≡ c = (fails_spare t 1 LendsNoFrame (no_frame_spares t) 16 m x c y there.0 there.1).cpu in
+      let there = from_first (λ u v. BySteps t (RefillsInRounds sizes.batch false) (side u v) (side x y)) rounds in
+      let cpu : y ≡ c = (fails_spare t 1 LendsNoFrame (no_frame_spares t) 16 m x c y there.steps there.does).cpu in
       let last = drained_own t pages q x x n y y refl refl named drains steps in
-      let number = ap (λ (h : KnownCpu). h.number) cpu in (
-        there.0 ++ last.0,
-        record {
+      let number = ap (λ (h : KnownCpu). h.number) cpu in record {
+        steps = there.steps ++ last.steps;
+        does = record {
           is = empty;
           does = record {
-            is = first.1.is;
+            is = first.does.is;
             does = record {
               between = side x y;
-              earlier = there.0;
-              later = last.0;
-              first = there.1;
-              second = record { is = none_after t 16 m x c y there.0 first.1.is there.1; does = last.1 };
+              earlier = there.steps;
+              later = last.steps;
+              first = there.does;
+              second = record { is = none_after t 16 m x c y there.steps first.does.is there.does; does = last.does };
               steps_are = refl;
             };
           };
-        },
-        makes_both t c.number there.0 last.0 (side m c) (side x y) (side n y) there.2
-            (subst (λ (p : ℕ). MakesAs t p (side x y) last.0 (side n y)) number last.2),
-      )
+        };
+        makes = makes_both t c.number there.steps last.steps (side m c) (side x y) (side n y) there.makes
+            (subst (λ (p : ℕ). MakesAs t p (side x y) last.steps (side n y)) number last.makes);
+      }
 
   -- or free frames come to the list after rounds
-  pub reclaims_for : BySteps t (side k e) (side x y) (RefillsInRounds sizes.batch true)
-      → BySteps t (side m c) (side x y) (Where HasNoFreeFrame (RefillsInRounds sizes.batch true))
+  pub reclaims_for : BySteps t (RefillsInRounds sizes.batch true) (side k e) (side x y)
+      → BySteps t (Where HasNoFreeFrame (RefillsInRounds sizes.batch true)) (side m c) (side x y)
   reclaims_for rounds =
-      let here = from_first (λ u v. BySteps t (side u v) (side x y) (RefillsInRounds sizes.batch true)) rounds in (
-        here.0,
-        record { is = first.1.is; does = here.1 },
-        here.2,
-      )
+      let here = from_first (λ u v. BySteps t (RefillsInRounds sizes.batch true) (side u v) (side x y)) rounds in record {
+        steps = here.steps;
+        does = record { is = first.does.is; does = here.does };
+        makes = here.makes;
+      }
 
 pub no_frame_keeps : (t : KnownTable) (sizes : Config) (cause : AllocFault) (m n : KnownMachine) (c d : KnownCpu) (steps : Run)
     → FillsList sizes (Err cause) (course t (side m c) steps (side n d)) → KeepsPart m c n d
@@ -456,65 +456,65 @@ filled_part t sizes m n c d steps valid (inr h) = refilled_part t sizes m n c d 
 
 module _ (t : KnownTable) (sizes : Config) (g : ℕ) (m : KnownMachine) (c : KnownCpu) (alive : is_killed m.killed g ≡ false) where
   -- a charge is refused for good
-  refused_for : (x : AllocFault) (n : KnownMachine) (d : KnownCpu) → BySteps t (side m c) (side n d) (PaysForFrame sizes g (Err x))
-      → BySteps t (side m c) (side n d) (AllocatesFrame sizes g (Err x))
-  refused_for (Over over) n d b = (b.0, record { is = alive; does = b.1 }, b.2)
-  refused_for NoFrames n d b = absurd b.1.does.second.does.does.does.1.room
-  refused_for Killed n d b = (b.0, inr (record { is = alive; does = b.1 }), b.2)
+  refused_for : (x : AllocFault) (n : KnownMachine) (d : KnownCpu) → BySteps t (PaysForFrame sizes g (Err x)) (side m c) (side n d)
+      → BySteps t (AllocatesFrame sizes g (Err x)) (side m c) (side n d)
+  refused_for (Over over) n d b = record { steps = b.steps; does = record { is = alive; does = b.does }; makes = b.makes }
+  refused_for NoFrames n d b = absurd b.does.does.second.does.does.does.1.room
+  refused_for Killed n d b = record { steps = b.steps; does = inr (record { is = alive; does = b.does }); makes = b.makes }
 
   pub not_paid : (r : Result ℕ AllocFault) (x : AllocFault) (n : KnownMachine) (d : KnownCpu) → IsErr r → IfErr r (λ e. e ≡ x)
-      → BySteps t (side m c) (side n d) (PaysForFrame sizes g (Err x)) → BySteps t (side m c) (side n d) (AllocatesFrame sizes g r)
+      → BySteps t (PaysForFrame sizes g (Err x)) (side m c) (side n d) → BySteps t (AllocatesFrame sizes g r) (side m c) (side n d)
   not_paid r x n d not is b =
-      subst (λ (z : Result ℕ AllocFault). BySteps t (side m c) (side n d) (AllocatesFrame sizes g z))
+      subst (λ (z : Result ℕ AllocFault). BySteps t (AllocatesFrame sizes g z) (side m c) (side n d))
       (sym (answer_is r x not is))
       (refused_for x n d b)
 
-  module _ (k : KnownMachine) (y : KnownCpu) (number : y.number ≡ c.number) (pays : BySteps t (side m c) (side k y) (PaysForFrame sizes g (Ok tt))) where
+  module _ (k : KnownMachine) (y : KnownCpu) (number : y.number ≡ c.number) (pays : BySteps t (PaysForFrame sizes g (Ok tt)) (side m c) (side k y)) where
     -- no frame is free
-    none_found : (x : AllocFault) (n : KnownMachine) (d : KnownCpu) → BySteps t (side k y) (side n d) (FillsList sizes (Err x))
-        → BySteps t (side m c) (side n d) (AllocatesFrame sizes g (Err x))
-    none_found (Over over) n d b = absurd b.1
-    none_found Killed n d b = absurd b.1
-    none_found NoFrames n d b = (
-      pays.0 ++ b.0,
-      record {
+    none_found : (x : AllocFault) (n : KnownMachine) (d : KnownCpu) → BySteps t (FillsList sizes (Err x)) (side k y) (side n d)
+        → BySteps t (AllocatesFrame sizes g (Err x)) (side m c) (side n d)
+    none_found (Over over) n d b = absurd b.does
+    none_found Killed n d b = absurd b.does
+    none_found NoFrames n d b = record {
+      steps = pays.steps ++ b.steps;
+      does = record {
         is = alive;
-        does = record { between = side k y; earlier = pays.0; later = b.0; first = pays.1; second = b.1; steps_are = refl };
-      },
-      makes_both t c.number pays.0 b.0 (side m c) (side k y) (side n d) pays.2
-          (subst (λ (p : ℕ). MakesAs t p (side k y) b.0 (side n d)) number b.2),
-    )
+        does = record { between = side k y; earlier = pays.steps; later = b.steps; first = pays.does; second = b.does; steps_are = refl };
+      };
+      makes = makes_both t c.number pays.steps b.steps (side m c) (side k y) (side n d) pays.makes
+          (subst (λ (p : ℕ). MakesAs t p (side k y) b.steps (side n d)) number b.makes);
+    }
 
     pub not_found : (r : Result ℕ AllocFault) (x : AllocFault) (n : KnownMachine) (d : KnownCpu) → IsErr r → IfErr r (λ e. e ≡ x)
-        → BySteps t (side k y) (side n d) (FillsList sizes (Err x)) → BySteps t (side m c) (side n d) (AllocatesFrame sizes g r)
+        → BySteps t (FillsList sizes (Err x)) (side k y) (side n d) → BySteps t (AllocatesFrame sizes g r) (side m c) (side n d)
     not_found r x n d not is b =
-        subst (λ (z : Result ℕ AllocFault). BySteps t (side m c) (side n d) (AllocatesFrame sizes g z))
+        subst (λ (z : Result ℕ AllocFault). BySteps t (AllocatesFrame sizes g z) (side m c) (side n d))
         (sym (answer_is r x not is))
         (none_found x n d b)
 
     -- the front of the list is paid for
-    pub gets_frame : (f : ℕ) (l n : KnownMachine) (z d : KnownCpu) → z.number ≡ y.number → BySteps t (side k y) (side l z) (FillsList sizes (Ok tt))
+    pub gets_frame : (f : ℕ) (l n : KnownMachine) (z d : KnownCpu) → z.number ≡ y.number → BySteps t (FillsList sizes (Ok tt)) (side k y) (side l z)
         → PaysForFront g f (side l z) (side n d) → MakesAs t z.number (side l z) (take_front_steps z.number g) (side n d)
-        → BySteps t (side m c) (side n d) (AllocatesFrame sizes g (Ok f))
+        → BySteps t (AllocatesFrame sizes g (Ok f)) (side m c) (side n d)
     gets_frame f l n z d named fills takes steps =
         let last : MakesAs t c.number (side l z) (take_front_steps c.number g) (side n d) =
         subst (λ (p : ℕ). MakesAs t p (side l z) (take_front_steps p g) (side n d)) (named ∙ number) steps in
-        let next : MakesAs t c.number (side k y) fills.0 (side l z) =
-        subst (λ (p : ℕ). MakesAs t p (side k y) fills.0 (side l z)) number fills.2 in (
-          pays.0 ++ (fills.0 ++ take_front_steps c.number g),
-          record {
+        let next : MakesAs t c.number (side k y) fills.steps (side l z) =
+        subst (λ (p : ℕ). MakesAs t p (side k y) fills.steps (side l z)) number fills.makes in record {
+          steps = pays.steps ++ (fills.steps ++ take_front_steps c.number g);
+          does = record {
             is = alive;
             does = record {
               paid = side k y;
               filled = side l z;
-              paying = pays.0;
-              filling = fills.0;
-              pays = pays.1;
-              fills = fills.1;
+              paying = pays.steps;
+              filling = fills.steps;
+              pays = pays.does;
+              fills = fills.does;
               takes = takes;
               steps_are = refl;
             };
-          },
-          makes_both t c.number pays.0 (fills.0 ++ take_front_steps c.number g) (side m c) (side k y) (side n d) pays.2
-              (makes_both t c.number fills.0 (take_front_steps c.number g) (side k y) (side l z) (side n d) next last),
-        )
+          };
+          makes = makes_both t c.number pays.steps (fills.steps ++ take_front_steps c.number g) (side m c) (side k y) (side n d) pays.makes
+              (makes_both t c.number fills.steps (take_front_steps c.number g) (side k y) (side l z) (side n d) next last);
+        }

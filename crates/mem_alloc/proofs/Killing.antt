@@ -21,7 +21,7 @@ use Rattle.mem_machine.specs.Steps.{note_oom_steps}
 use Rattle.mem_reclaim.specs.Killing.{IsKilledBy, OnlyDrains, OnlyLetsGo}
 use Rattle.mem_reclaim.specs.Victim.{IsVictim}
 use Rattle.mem_reclaim.proofs.Choosing.{chosen_there}
-use Rattle.mem_alloc.specs.Stepping.{ByStepsOfAny, Rests, course}
+use Rattle.mem_alloc.specs.Stepping.{ByStepsOfAny, MachineStays, course}
 use Rattle.mem_alloc.specs.Kills.{IsWanting, KillsEach, KillsFor, KillsOne, has_room_at, with_oom_noted_at}
 use Rattle.mem_alloc.specs.Room.{KillsForFew, RelievesLimit}
 use Rattle.mem_alloc.proofs.Lowering.{Lowers, lowers_none, lowers_both, same_visit, clears_lower, keeps_lower, sum_less}
@@ -70,12 +70,12 @@ oom_lowers t m g = record {
   emptied = λ p is. is;
 }
 
-rests_lower : (t : KnownTable) (m n : KnownMachine) (steps : Run) → Rests (course t m steps n) → Lowers t m n
-rests_lower t m n steps h = subst (λ (x : KnownMachine). Lowers t m x) (sym h.machine) (lowers_none t m)
+stays_lower : (t : KnownTable) (m n : KnownMachine) (steps : Run) → MachineStays (course t m steps n) → Lowers t m n
+stays_lower t m n steps h = subst (λ (x : KnownMachine). Lowers t m x) (sym h.machine) (lowers_none t m)
 
 pub kills_lower : (r : Option ℕ) (t : KnownTable) (g pages : ℕ) (m n : KnownMachine) (steps : Run) → KillsFor r g pages (course t m steps n) → Lowers t m n
 kills_lower r t g pages m n steps k = elim (cases_Bool (has_room_at m.ledger g pages)) [
-  | inl room ↦ rests_lower t m n steps (k.room room)
+  | inl room ↦ stays_lower t m n steps (k.room room)
   | inr over ↦
       let h = k.over over in
       lowers_both t m (with_oom_noted_at m g) n (oom_lowers t m g) (each_lowers r t g pages h.victims (with_oom_noted_at m g) n h.killing h.kills)
@@ -83,7 +83,7 @@ kills_lower r t g pages m n steps k = elim (cases_Bool (has_room_at m.ledger g p
 
 pub few_lower : (t : KnownTable) (r g pages : ℕ) (m n : KnownMachine) (steps : Run) → KillsForFew r g pages (course t m steps n) → Lowers t m n
 few_lower t r g pages m n steps k = elim (cases_lt 8 pages) [
-  | inl many ↦ rests_lower t m n steps (k.many many)
+  | inl many ↦ stays_lower t m n steps (k.many many)
   | inr few ↦ kills_lower (Some r) t g pages m n steps (k.few few)
 ]
 
@@ -95,8 +95,8 @@ relieves_lower t r g pages m n steps h =
     lowers_both t m x n (clears_lower t g pages m x h.earlier h.first)
     (lowers_both t x y n (keeps_lower t x y h.second.first.keeps) (few_lower t r g pages y n h.second.later h.second.second))
 
-pub relieving_lowers : (t : KnownTable) (r g pages : ℕ) (m n : KnownMachine) → ByStepsOfAny t m n (RelievesLimit r g pages) → Lowers t m n
-relieving_lowers t r g pages m n b = relieves_lower t r g pages m n b.0 b.1
+pub relieving_lowers : (t : KnownTable) (r g pages : ℕ) (m n : KnownMachine) → ByStepsOfAny t (RelievesLimit r g pages) m n → Lowers t m n
+relieving_lowers t r g pages m n b = relieves_lower t r g pages m n b.steps b.does
 
 -- ---- the loop of kills
 
@@ -194,10 +194,10 @@ so_far_there r t g pages m n so_far there =
 -- the kills are over
 pub kills_end : (r : Option ℕ) (t : KnownTable) (g pages : ℕ) (m x n : KnownMachine) → has_room_at m.ledger g pages ≡ false
     → x ≡ record m { ledger = with_oom_noted m.ledger g } → MakesForAny t m (note_oom_steps g) x → KillsSoFar r t g pages (with_oom_noted_at m g) n
-    → (IsWanting r g pages n → IsVictim n g None) → ByStepsOfAny t m n (KillsFor r g pages)
-kills_end r t g pages m x n over noted noting so_far ended = (
-  note_oom_steps g ++ so_far.killing,
-  record {
+    → (IsWanting r g pages n → IsVictim n g None) → ByStepsOfAny t (KillsFor r g pages) m n
+kills_end r t g pages m x n over noted noting so_far ended = record {
+  steps = note_oom_steps g ++ so_far.killing;
+  does = record {
     room = λ room. absurd (false≢true (sym over ∙ room));
     over = λ _. record {
       victims = so_far.victims;
@@ -207,9 +207,9 @@ kills_end r t g pages m x n over noted noting so_far ended = (
       ended = ended;
       steps_are = refl;
     };
-  },
-  λ c. makes_both t c.number (note_oom_steps g) so_far.killing (side m c) (side (with_oom_noted_at m g) c) (side n c) (told c) (so_far.runs c),
-)
+  };
+  makes = λ c. makes_both t c.number (note_oom_steps g) so_far.killing (side m c) (side (with_oom_noted_at m g) c) (side n c) (told c) (so_far.runs c);
+}
   where
     noting_m : MakesForAny t m (note_oom_steps g) (record m { ledger = with_oom_noted m.ledger g })
     noting_m = subst (λ (y : KnownMachine). MakesForAny t m (note_oom_steps g) y) noted noting
@@ -219,13 +219,13 @@ kills_end r t g pages m x n over noted noting so_far ended = (
 
 -- ---- kills for a few pages alone
 
-pub few_kills : (t : KnownTable) (r g pages : ℕ) (m n : KnownMachine) → pages ≤ 8 → ByStepsOfAny t m n (KillsFor (Some r) g pages)
-    → ByStepsOfAny t m n (KillsForFew r g pages)
-few_kills t r g pages m n few kills = (kills.0, record { few = λ _. kills.1; many = λ many. absurd (omega (arith, few, many)) }, kills.2)
+pub few_kills : (t : KnownTable) (r g pages : ℕ) (m n : KnownMachine) → pages ≤ 8 → ByStepsOfAny t (KillsFor (Some r) g pages) m n
+    → ByStepsOfAny t (KillsForFew r g pages) m n
+few_kills t r g pages m n few kills = record { steps = kills.steps; does = record { few = λ _. kills.does; many = λ many. absurd (omega (arith, few, many)) }; makes = kills.makes }
 
-pub many_rest : (t : KnownTable) (r g pages : ℕ) (m : KnownMachine) → 8 < pages → ByStepsOfAny t m m (KillsForFew r g pages)
-many_rest t r g pages m many = (
-  [],
-  record { few = λ few. absurd (omega (arith, few, many)); many = λ _. record { machine = refl; steps_are = refl } },
-  λ c. makes_none t c.number (side m c),
-)
+pub many_rest : (t : KnownTable) (r g pages : ℕ) (m : KnownMachine) → 8 < pages → ByStepsOfAny t (KillsForFew r g pages) m m
+many_rest t r g pages m many = record {
+  steps = [];
+  does = record { few = λ few. absurd (omega (arith, few, many)); many = λ _. record { machine = refl; steps_are = refl } };
+  makes = λ c. makes_none t c.number (side m c);
+}

@@ -32,53 +32,53 @@ note_then_drains t g pages m x n noting drains c =
 
 -- the notes, and then the drains. Serves `make_room`
 pub clears_by : (t : KnownTable) (g pages back : ℕ) (m y x n : KnownMachine) → y ≡ with_limit_noted m g pages → x ≡ record y { ledger = with_max_noted y.ledger g }
-    → MakesForAny t y (note_max_steps g) x → DrainsSubtree t g back x n → AreDrained g t.cpus n → ByStepsOfAny t m n (ClearsBelow g pages)
+    → MakesForAny t y (note_max_steps g) x → DrainsSubtree t g back x n → AreDrained g t.cpus n → ByStepsOfAny t (ClearsBelow g pages) m n
 clears_by t g pages back m y x n told noted noting_y drains drained =
     let both : x ≡ with_max_noted_at m g pages = noted ∙ ap (λ (k : KnownMachine). record k { ledger = with_max_noted k.ledger g }) told in
     let noting_told : MakesForAny t (with_limit_noted m g pages) (note_max_steps g) x =
     subst (λ (k : KnownMachine). MakesForAny t k (note_max_steps g) x) told noting_y in
-    let noting : MakesForAny t m (note_max_steps g) x = λ c. record { leads = (noting_told c).leads; follows = (noting_told c).follows } in (
-      note_max_steps g ++ drain_stocks_steps drains.drains,
-      record {
+    let noting : MakesForAny t m (note_max_steps g) x = λ c. record { leads = (noting_told c).leads; follows = (noting_told c).follows } in record {
+      steps = note_max_steps g ++ drain_stocks_steps drains.drains;
+      does = record {
         drains = drains.drains;
         all = subst (λ (k : KnownMachine). DrainsAllBelow g t.cpus drains.drains k n) both drains.all;
         drained = drained;
         steps_are = refl;
         runs = λ c. note_then_drains t g back m x n noting drains c;
-      },
-      λ c. note_then_drains t g back m x n noting drains c,
-    )
+      };
+      makes = λ c. note_then_drains t g back m x n noting drains c;
+    }
 
 -- and then the rounds, and the kills
-pub relieves_by : (t : KnownTable) (r g pages : ℕ) (m x y n : KnownMachine) → ByStepsOfAny t m x (ClearsBelow g pages) → ByStepsOfAny t x y (ReclaimsFor g pages)
-    → ByStepsOfAny t y n (KillsForFew r g pages) → ByStepsOfAny t m n (RelievesLimit r g pages)
-relieves_by t r g pages m x y n first next last = (
-  first.0 ++ (next.0 ++ last.0),
-  record {
+pub relieves_by : (t : KnownTable) (r g pages : ℕ) (m x y n : KnownMachine) → ByStepsOfAny t (ClearsBelow g pages) m x → ByStepsOfAny t (ReclaimsFor g pages) x y
+    → ByStepsOfAny t (KillsForFew r g pages) y n → ByStepsOfAny t (RelievesLimit r g pages) m n
+relieves_by t r g pages m x y n first next last = record {
+  steps = first.steps ++ (next.steps ++ last.steps);
+  does = record {
     between = x;
-    earlier = first.0;
-    later = next.0 ++ last.0;
-    first = first.1;
-    second = record { between = y; earlier = next.0; later = last.0; first = next.1; second = last.1; steps_are = refl };
+    earlier = first.steps;
+    later = next.steps ++ last.steps;
+    first = first.does;
+    second = record { between = y; earlier = next.steps; later = last.steps; first = next.does; second = last.does; steps_are = refl };
     steps_are = refl;
-  },
-  λ c. makes_both t c.number first.0 (next.0 ++ last.0) (side m c) (side x c) (side n c) (first.2 c)
-      (makes_both t c.number next.0 last.0 (side x c) (side y c) (side n c) (next.2 c) (last.2 c)),
-)
+  };
+  makes = λ c. makes_both t c.number first.steps (next.steps ++ last.steps) (side m c) (side x c) (side n c) (first.makes c)
+      (makes_both t c.number next.steps last.steps (side x c) (side y c) (side n c) (next.makes c) (last.makes c));
+}
 
 -- there is no limit
-pub no_rounds : (t : KnownTable) (g pages : ℕ) (m : KnownMachine) → limit_of m.ledger.groups g ≡ None → ByStepsOfAny t m m (ReclaimsFor g pages)
-no_rounds t g pages m none = (
-  [],
-  record {
+pub no_rounds : (t : KnownTable) (g pages : ℕ) (m : KnownMachine) → limit_of m.ledger.groups g ≡ None → ByStepsOfAny t (ReclaimsFor g pages) m m
+no_rounds t g pages m none = record {
+  steps = [];
+  does = record {
     given = 0;
     reclaims = subst (λ (o : Option ℕ). ReclaimsBefore o g pages (progress 0 m [] m)) (sym none) (record { no_page = refl; machine = refl; no_step = refl });
     missed = λ over. absurd (false≢true (sym over ∙ ap (λ (o : Option ℕ). fits_limit o (current_of m.ledger g + pages)) none));
     keeps = keeps_none t m;
     moves = moves_rest t m;
-  },
-  λ c. makes_none t c.number (side m c),
-)
+  };
+  makes = λ c. makes_none t c.number (side m c);
+}
 
 -- charges that were refused, and then one more
 room_more : (t : KnownTable) (g pages over : ℕ) (before : List ℕ) (m x n : KnownMachine) (making last : Run) → MakesRoom g before pages (course t m making x)
@@ -123,83 +123,83 @@ module _ (t : KnownTable) (g pages : ℕ) (c : KnownCpu) (m x : KnownMachine) (s
   -- one more charge was refused, by its steps
   module _ (y z n : KnownMachine) (d : KnownCpu) (over : ℕ) (same : y ≡ x) (mine : d ≡ c)
       (low : IsLowestOver z.ledger.groups (current_of z.ledger) g pages over) (before_it : z ≡ x)
-      (refusing : MakesAs t d.number (side z d) (over_steps g pages over) (side z d)) (relieves : ByStepsOfAny t y n (RelievesLimit g over pages)) where
-    its : ByStepsOfAny t x n (RelievesLimit g over pages)
-    its = subst (λ (k : KnownMachine). ByStepsOfAny t k n (RelievesLimit g over pages)) same relieves
+      (refusing : MakesAs t d.number (side z d) (over_steps g pages over) (side z d)) (relieves : ByStepsOfAny t (RelievesLimit g over pages) y n) where
+    its : ByStepsOfAny t (RelievesLimit g over pages) x n
+    its = subst (λ (k : KnownMachine). ByStepsOfAny t (RelievesLimit g over pages) k n) same relieves
 
     refused : (answer : Result (Unit {0}) AllocFault) → TellsRoom g over pages answer n
-        → IsRefusedAt g over pages answer (course t x (over_steps g pages over ++ its.0) n)
+        → IsRefusedAt g over pages answer (course t x (over_steps g pages over ++ its.steps) n)
     refused answer room = record {
       lowest = subst (λ (k : KnownMachine). IsLowestOver k.ledger.groups (current_of k.ledger) g pages over) before_it low;
-      relieving = its.0;
-      relieves = its.1;
+      relieving = its.steps;
+      relieves = its.does;
       room = room;
       steps_are = refl;
     }
 
-    runs_on : MakesAs t c.number (side m c) (so_far.making ++ (over_steps g pages over ++ its.0))
+    runs_on : MakesAs t c.number (side m c) (so_far.making ++ (over_steps g pages over ++ its.steps))
         (side n c)
-    runs_on = makes_both t c.number so_far.making (over_steps g pages over ++ its.0) (side m c)
+    runs_on = makes_both t c.number so_far.making (over_steps g pages over ++ its.steps) (side m c)
         (side x c) (side n c) so_far.runs
-        (makes_both t c.number (over_steps g pages over) its.0 (side x c) (side x c)
+        (makes_both t c.number (over_steps g pages over) its.steps (side x c) (side x c)
         (side n c)
         (subst (λ (k : KnownMachine × KnownCpu). MakesAs t k.1.number (side k.0 k.1) (over_steps g pages over) (side k.0 k.1))
         (λ i. (before_it i, mine i)) refusing)
-        (its.2 c))
+        (its.makes c))
 
     -- and its group has room now
     pub so_far_more : HasMadeRoom g over pages n → RoomSoFar t g pages c m n
     so_far_more room = record {
       refused_at = so_far.refused_at ++ over ∷ [];
-      making = so_far.making ++ (over_steps g pages over ++ its.0);
+      making = so_far.making ++ (over_steps g pages over ++ its.steps);
       makes = room_more t g pages over so_far.refused_at m x n so_far.making
-          (over_steps g pages over ++ its.0) so_far.makes (refused (Ok tt) room);
+          (over_steps g pages over ++ its.steps) so_far.makes (refused (Ok tt) room);
       runs = runs_on;
       lowers = lowers_both t m x n so_far.lowers (relieving_lowers t g over pages x n its);
       alive = room.alive;
     }
 
     -- or it is refused for good
-    pub so_far_over : (cause : AllocFault) → TellsRoom g over pages (Err cause) n → BySteps t (side m c) (side n c) (IsRefusedFor g pages cause)
-    so_far_over cause is = (
-      so_far.making ++ (over_steps g pages over ++ its.0),
-      record {
+    pub so_far_over : (cause : AllocFault) → TellsRoom g over pages (Err cause) n → BySteps t (IsRefusedFor g pages cause) (side m c) (side n c)
+    so_far_over cause is = record {
+      steps = so_far.making ++ (over_steps g pages over ++ its.steps);
+      does = record {
         refused_at = so_far.refused_at;
         cleared = x;
         making = so_far.making;
-        later = over_steps g pages over ++ its.0;
+        later = over_steps g pages over ++ its.steps;
         makes = so_far.makes;
         does = record { does = (over, refused (Err cause) is); cpu = refl };
         steps_are = refl;
-      },
-      runs_on,
-    )
+      };
+      makes = runs_on;
+    }
 
   -- this is done by steps of its own, now that there is room
-  pub so_far_does : (Does : Course Side → Type 0) (n : KnownMachine) (d : KnownCpu) → BySteps t (side x c) (side n d) Does
-      → BySteps t (side m c) (side n d) (AfterRoom g pages Does)
-  so_far_does Does n d b = (
-    so_far.making ++ b.0,
-    record {
+  pub so_far_does : (Does : Course Side → Type 0) (n : KnownMachine) (d : KnownCpu) → BySteps t Does (side x c) (side n d)
+      → BySteps t (AfterRoom g pages Does) (side m c) (side n d)
+  so_far_does Does n d b = record {
+    steps = so_far.making ++ b.steps;
+    does = record {
       refused_at = so_far.refused_at;
       cleared = x;
       making = so_far.making;
-      later = b.0;
+      later = b.steps;
       makes = so_far.makes;
-      does = b.1;
+      does = b.does;
       steps_are = refl;
-    },
-    makes_both t c.number so_far.making b.0 (side m c) (side x c) (side n d) so_far.runs b.2,
-  )
+    };
+    makes = makes_both t c.number so_far.making b.steps (side m c) (side x c) (side n d) so_far.runs b.makes;
+  }
 
   -- the pages are granted, and fill the stock
   pub so_far_fills : (y : KnownCpu) → y ≡ c → (n : KnownMachine) (d : KnownCpu) → Fills g pages (side x y) (side n d)
       → MakesAs t y.number (side x y) (fill_steps y.number g pages) (side n d)
-      → BySteps t (side m c) (side n d) (AfterRoom g pages (FillsStock g pages))
+      → BySteps t (AfterRoom g pages (FillsStock g pages)) (side m c) (side n d)
   so_far_fills y mine n d fills steps =
-      let there : BySteps t (side x y) (side n d) (FillsStock g pages) =
-      (fill_steps y.number g pages, record { fills = fills; steps_are = refl }, steps) in
-      so_far_does (FillsStock g pages) n d (subst (λ (k : KnownCpu). BySteps t (side x k) (side n d) (FillsStock g pages)) mine there)
+      let there : BySteps t (FillsStock g pages) (side x y) (side n d) =
+      record { steps = fill_steps y.number g pages; does = record { fills = fills; steps_are = refl }; makes = steps } in
+      so_far_does (FillsStock g pages) n d (subst (λ (k : KnownCpu). BySteps t (FillsStock g pages) (side x k) (side n d)) mine there)
 
 -- an answer that is a refusal, of this cause
 pub refused_with : {T E : Type 0} (r : Result T E) (x : E) (P : T → Type 0) (Q : E → Type 0) → IsErr r → IfErr r (λ e. e ≡ x)
@@ -214,9 +214,9 @@ answer_is (Err e) x not is = ap (λ (z : AllocFault). Err z) is
 
 -- a refusal for good of a charge of one page
 pub refuses_one : (t : KnownTable) (g : ℕ) (r : Result (Unit {0}) AllocFault) (cause : AllocFault) (m : KnownMachine) (c : KnownCpu) (n : KnownMachine) (d : KnownCpu)
-    → r ≡ Err cause → d ≡ c → BySteps t (side m c) (side n c) (IsRefusedFor g 1 cause) → BySteps t (side m c) (side n d) (ChargesOne g r)
+    → r ≡ Err cause → d ≡ c → BySteps t (IsRefusedFor g 1 cause) (side m c) (side n c) → BySteps t (ChargesOne g r) (side m c) (side n d)
 refuses_one t g r cause m c n d is cpu b =
-    subst (λ (z : KnownCpu × Result (Unit {0}) AllocFault). BySteps t (side m c) (side n z.0) (ChargesOne g z.1))
+    subst (λ (z : KnownCpu × Result (Unit {0}) AllocFault). BySteps t (ChargesOne g z.1) (side m c) (side n z.0))
     (λ i. (sym cpu i, sym is i)) b
 
 pub if_ok_none : {T E : Type 0} (r : Result T E) (P : T → Type 0) → IsErr r → IfOk r P

@@ -33,12 +33,12 @@ use Rattle.mem_reclaim.specs.Moves.{has_kill, is_kill, is_miss, missed_in}
 use Rattle.mem_reclaim.specs.Staying.{Keeps, MissedAll}
 use Rattle.mem_reclaim.specs.Killing.{IsKilledBy, OnlyDrains, OnlyLetsGo}
 use Rattle.mem_reclaim.proofs.LettingGo.{AreQuiet, quiet_both, quiet_drains}
-use Rattle.mem_alloc.specs.Stepping.{Course, OfMachineAlone, Rests, course}
+use Rattle.mem_alloc.specs.Stepping.{Course, OfMachineAlone, MachineStays, course}
 use Rattle.mem_alloc.specs.Kills.{KillsEach, KillsFor, KillsOne, KillsUntilRoom, has_room_at, with_oom_noted_at}
 use Rattle.mem_alloc.specs.Room.{AfterRoom, ClearsBelow, IsRefusedAt, IsRefusedFor, IsRefusedAtSome, KillsForFew, MakesRoom, ReclaimsFor, RelievesLimit}
 use Rattle.mem_alloc.specs.Room.{with_max_noted_at}
 use Rattle.mem_alloc.specs.declared.faults.AllocFault.{AllocFault}
-use Rattle.mem_alloc.specs.NoRash.{IsLeftBySteps, MayKill, has_oom_note, is_oom_note}
+use Rattle.mem_alloc.specs.NoRash.{IsLeftBySteps, MayKill, MayKillAfter, has_oom_note, is_oom_note}
 
 -- ---- where a pair of a list stands
 
@@ -232,8 +232,7 @@ keeps_pass t c m n steps runs keeps misses = record {
 abbrev pub RashFree : KnownTable → (List Group → ℕ → ℕ → Type 0) → KnownMachine → KnownCpu → Run → Run → Type 0
 RashFree t MayAsk start c made steps =
     (before rest : Run) (e : Step × Answer) (victim : ℕ) → steps ≡ before ++ e ∷ rest → e.0.action ≡ Kill victim
-    → (now : KnownMachine) × IsLocalRun c.number (local_of t start c) (made ++ before) (local_of t now c)
-    × MayKill MayAsk (course t start (made ++ before) now) victim
+    → MayKillAfter t MayAsk start c (made ++ before) victim
 
 module _ (t : KnownTable) (MayAsk : List Group → ℕ → ℕ → Type 0) (s : KnownMachine) (c : KnownCpu) where
   pub rash_quiet : (made steps : Run) → has_kill steps ≡ false → RashFree t MayAsk s c made steps
@@ -247,8 +246,7 @@ module _ (t : KnownTable) (MayAsk : List Group → ℕ → ℕ → Type 0) (s : 
     | inr there ↦
         let same : (made ++ one) ++ there.0 ≡ made ++ before =
         append_assoc made one there.0 ∙ ap (λ (r : Run). made ++ r) (sym there.1) in
-        subst (λ (done : Run). (now : KnownMachine) × IsLocalRun c.number (local_of t s c) done (local_of t now c) × MayKill MayAsk (course t s done now) v) same
-        (last there.0 rest e v there.2 kill)
+        subst (λ (done : Run). MayKillAfter t MayAsk s c done v) same (last there.0 rest e v there.2 kill)
   ]
 
   -- a kill, and then steps without one
@@ -259,8 +257,7 @@ module _ (t : KnownTable) (MayAsk : List Group → ℕ → ℕ → Type 0) (s : 
         let only = only_one (record { seat = 0; action = Kill v }, Done) before here.0 e here.1 in
         let who : v ≡ u = same_victim v u (ap (λ (x : Step × Answer). x.0.action) only.1 ∙ kill) in
         let done : made ≡ made ++ before = sym (append-nil made) ∙ ap (λ (r : Run). made ++ r) (sym only.0) in
-        subst (λ (z : Run × ℕ). (now : KnownMachine) × IsLocalRun c.number (local_of t s c) z.0 (local_of t now c) × MayKill MayAsk (course t s z.0 now) z.1)
-        (λ i. (done i, who i)) (m, runs, may)
+        subst (λ (z : Run × ℕ). MayKillAfter t MayAsk s c z.0 z.1) (λ i. (done i, who i)) (record { now = m; leads = runs; may = may })
     | inr there ↦ absurd (false≢true (sym quiet ∙ ap has_kill there.2 ∙ kills_there there.0 rest e u kill))
   ]
 
@@ -284,8 +281,8 @@ module _ (t : KnownTable) (MayAsk : List Group → ℕ → ℕ → Type 0) (s : 
     groups = b.groups ∙ a.groups;
   }
 
-  tame_rests : (made : Run) (m : KnownMachine) (steps : Run) (n : KnownMachine) → Rests (course t m steps n) → Tame made m steps n
-  tame_rests made m steps n h =
+  tame_stays : (made : Run) (m : KnownMachine) (steps : Run) (n : KnownMachine) → MachineStays (course t m steps n) → Tame made m steps n
+  tame_stays made m steps n h =
       subst (λ (z : Run × KnownMachine). Tame made m z.0 z.1) (λ i. (sym h.steps_are i, sym h.machine i)) (tame_none made m)
 
   -- ---- kills
@@ -382,7 +379,7 @@ module _ (t : KnownTable) (MayAsk : List Group → ℕ → ℕ → Type 0) (s : 
 
   tame_each : (r : Option ℕ) (g pages : ℕ) (victims : List ℕ) (made : Run) (m : KnownMachine) (steps : Run) (n : KnownMachine)
       → MayAsk m.ledger.groups g pages → Ready g made m → KillsEach r g pages victims (course t m steps n) → Tame made m steps n
-  tame_each r g pages [] made m steps n asked ready each = tame_rests made m steps n each
+  tame_each r g pages [] made m steps n asked ready each = tame_stays made m steps n each
   tame_each r g pages (v ∷ later) made m steps n asked ready each =
       let x = each.between in
       let first = each.earlier in
@@ -411,7 +408,7 @@ module _ (t : KnownTable) (MayAsk : List Group → ℕ → ℕ → Type 0) (s : 
       → Passes t c s made m → AreDrained g t.cpus m → (has_room_at m.ledger g pages ≡ false → MissedAll g s m)
       → KillsFor r g pages (course t m steps n) → Tame made m steps n
   tame_kills r g pages made m steps n asked since drained missed h = elim (cases_Bool (has_room_at m.ledger g pages)) [
-    | inl room ↦ tame_rests made m steps n (h.room room)
+    | inl room ↦ tame_stays made m steps n (h.room room)
     | inr over ↦ tame_victims r g pages made m steps n asked since drained (missed over) (h.over over)
   ]
 
@@ -445,7 +442,7 @@ module _ (t : KnownTable) (MayAsk : List Group → ℕ → ℕ → Type 0) (s : 
       → Passes t c s made m → AreDrained g t.cpus m → (has_room_at m.ledger g pages ≡ false → MissedAll g s m)
       → KillsForFew r g pages (course t m steps n) → Tame made m steps n
   few_tame r g pages made m steps n asked since drained missed h = elim (cases_lt 8 pages) [
-    | inl many ↦ tame_rests made m steps n (h.many many)
+    | inl many ↦ tame_stays made m steps n (h.many many)
     | inr few ↦ tame_kills (Some r) g pages made m steps n (asked few) since drained missed (h.few few)
   ]
 

@@ -126,16 +126,16 @@ module _ (t : KnownTable) (want : ℕ) (Fails : Course Side → Type 0) (Succeed
 
   module _ (made : ℕ) (now : KnownMachine) (d : KnownCpu) (so : RoundsSoFar t want Fails Succeeds m c made now d) where
     -- it failed in all rounds
-    pub rounds_done : 16 ≤ made → BySteps t (side m c) (side now d) (FailsInRounds 16 want Fails)
+    pub rounds_done : 16 ≤ made → BySteps t (FailsInRounds 16 want Fails) (side m c) (side now d)
     rounds_done all =
         let e : 0 ≡ 16 - made = omega (arith, all) in
         let none : FailsInRounds 0 want Fails (course t (side now d) [] (side now d)) =
-        record { machine = refl; cpu = refl; steps_are = refl } in (
-          so.steps ++ [],
-          so.fails [] (side now d)
-              (subst (λ (k : ℕ). FailsInRounds k want Fails (course t (side now d) [] (side now d))) e none),
-          subst (λ (r : Run). MakesAs t c.number (side m c) r (side now d)) (sym (append-nil so.steps)) so.runs,
-        )
+        record { machine = refl; cpu = refl; steps_are = refl } in record {
+          steps = so.steps ++ [];
+          does = so.fails [] (side now d)
+              (subst (λ (k : ℕ). FailsInRounds k want Fails (course t (side now d) [] (side now d))) e none);
+          makes = subst (λ (r : Run). MakesAs t c.number (side m c) r (side now d)) (sym (append-nil so.steps)) so.runs;
+        }
 
     -- one round more
     module _ (left : made < 16) (given : ℕ) (x : KnownMachine) (leads : Leads t given now x (Reclaims 0 want))
@@ -170,26 +170,26 @@ module _ (t : KnownTable) (want : ℕ) (Fails : Course Side → Type 0) (Succeed
 
       -- in which it succeeded
       pub rounds_succeed : (k : ℕ) → Succeeds k (course t (side x d) trying (side then e))
-          → BySteps t (side m c) (side then e) (SucceedsInRounds 16 want (Succeeds k) Fails)
-      rounds_succeed k does = (
-        so.steps ++ first,
-        so.succeeds k first (side then e)
+          → BySteps t (SucceedsInRounds 16 want (Succeeds k) Fails) (side m c) (side then e)
+      rounds_succeed k does = record {
+        steps = so.steps ++ first;
+        does = so.succeeds k first (side then e)
             (subst (λ (j : ℕ). SucceedsInRounds j want (Succeeds k) Fails (course t (side now d) first (side then e))) next_left
-            (inl (given, round (Succeeds k) does))),
-        runs_on,
-      )
+            (inl (given, round (Succeeds k) does)));
+        makes = runs_on;
+      }
 
       module _ (does : Fails (course t (side x d) trying (side then e))) where
         -- in which it failed, and no page came back
-        pub rounds_end : given ≡ 0 → BySteps t (side m c) (side then e) (FailsInRounds 16 want Fails)
+        pub rounds_end : given ≡ 0 → BySteps t (FailsInRounds 16 want Fails) (side m c) (side then e)
         rounds_end none =
             let last : FailsInRounds (suc (16 - (made + 1))) want Fails (course t (side now d) first (side then e)) =
-            inl (subst (λ (k : ℕ). MakesRound want k Fails (course t (side now d) first (side then e))) none (round Fails does)) in (
-              so.steps ++ first,
-              so.fails first (side then e)
-                  (subst (λ (j : ℕ). FailsInRounds j want Fails (course t (side now d) first (side then e))) next_left last),
-              runs_on,
-            )
+            inl (subst (λ (k : ℕ). MakesRound want k Fails (course t (side now d) first (side then e))) none (round Fails does)) in record {
+              steps = so.steps ++ first;
+              does = so.fails first (side then e)
+                  (subst (λ (j : ℕ). FailsInRounds j want Fails (course t (side now d) first (side then e))) next_left last);
+              makes = runs_on;
+            }
 
         gave_pages : given ≢ 0 → GivesInRound want Fails (course t (side now d) first (side then e))
         gave_pages gave = record { given = given; some = omega (arith, gave); round = round Fails does }

@@ -24,7 +24,7 @@ use Rattle.mem_alloc.specs.declared.faults.AllocFault.{AllocFault}
 use Rattle.mem_alloc.specs.declared.faults.AllocFault.TheVariants.{Over, NoFrames, Killed}
 use Rattle.mem_alloc.specs.Stepping.{BySteps, Course, course}
 use Rattle.mem_alloc.specs.Room.{AfterRoom, IsRefusedFor, TellsRoom}
-use Rattle.mem_alloc.specs.Blocks.{AllocatesBlock, ChargesBlock, FindsNoBlock, LeavesRoom, MayHaveBlock, RetriesBlock}
+use Rattle.mem_alloc.specs.Blocks.{AllocatesBlock, ChargesBlock, FindsNoBlock, MayHaveBlock, RetriesBlock}
 use Rattle.mem_alloc.specs.Blocks.{TakesAfterDrain, TakesFreeBlock, TakesInRounds, TakesOrReclaims}
 use Rattle.mem_alloc.proofs.Lowering.{Lowers, same_visit, lowered_fits, usage_back, room_back}
 use Rattle.mem_alloc.proofs.Making.{RoomSoFar, so_far_does, so_far_none}
@@ -54,21 +54,23 @@ by_none {t = t} p g k a b e is steps = subst (λ (x : TakeFault). MakesAs t p a 
 
 module _ (t : KnownTable) (g k : ℕ) (c : KnownCpu) (m x : KnownMachine) (so_far : RoomSoFar t g (2 ^ k) c m x) (y : KnownCpu) (mine : y ≡ c)
     (n : KnownMachine) (d : KnownCpu) where
-  does_here : (Does : Course Side → Type 0) → BySteps t (side x y) (side n d) Does → BySteps t (side m c) (side n d) (AfterRoom g (2 ^ k) Does)
-  does_here Does b = so_far_does t g (2 ^ k) c m x so_far Does n d (subst (λ (e : KnownCpu). BySteps t (side x e) (side n d) Does) mine b)
+  does_here : (Does : Course Side → Type 0) → BySteps t Does (side x y) (side n d) → BySteps t (AfterRoom g (2 ^ k) Does) (side m c) (side n d)
+  does_here Does b = so_far_does t g (2 ^ k) c m x so_far Does n d (subst (λ (e : KnownCpu). BySteps t Does (side x e) (side n d)) mine b)
 
   pub so_far_takes : (head : ℕ) → TakesBlock g k head x n → d ≡ y → MakesAs t y.number (side x y) (taken_steps g k head) (side n d)
-      → BySteps t (side m c) (side n d) (AfterRoom g (2 ^ k) (TakesFreeBlock g k head))
+      → BySteps t (AfterRoom g (2 ^ k) (TakesFreeBlock g k head)) (side m c) (side n d)
   so_far_takes head takes cpu run =
-      does_here (TakesFreeBlock g k head) (taken_steps g k head, record { takes = takes; cpu = cpu; steps_are = refl }, run)
+      does_here (TakesFreeBlock g k head)
+      (record { steps = taken_steps g k head; does = record { takes = takes; cpu = cpu; steps_are = refl }; makes = run })
 
   pub so_far_no_block : TakesNoBlock g k x n → d ≡ y → MakesAs t y.number (side x y) (unplaced_steps g k) (side n d)
-      → BySteps t (side m c) (side n d) (AfterRoom g (2 ^ k) (FindsNoBlock g k))
+      → BySteps t (AfterRoom g (2 ^ k) (FindsNoBlock g k)) (side m c) (side n d)
   so_far_no_block none cpu run =
-      does_here (FindsNoBlock g k) (unplaced_steps g k, record { none = none; cpu = cpu; steps_are = refl }, run)
+      does_here (FindsNoBlock g k)
+      (record { steps = unplaced_steps g k; does = record { none = none; cpu = cpu; steps_are = refl }; makes = run })
 
   -- what a call for which no block is free leaves
-  pub room_still : TakesNoBlock g k x n → has_group m.ledger.groups g ≡ true → HasRoomFor m (2 ^ k) → MayHaveBlock g k n
+  pub room_still : TakesNoBlock g k x n → has_group m.ledger.groups g ≡ true → HasRoomFor m (2 ^ k) → MayHaveBlock n g k
   room_still none there fits =
       let ledger : n.ledger ≡ with_uncharge (with_charge x.ledger g (2 ^ k)) g (2 ^ k) = ap (λ (z : KnownMachine). z.ledger) none.machine in
       let groups : n.ledger.groups ≡ m.ledger.groups = ap (λ (z : KnownMachine). z.ledger.groups) none.machine ∙ so_far.lowers.groups in
@@ -88,27 +90,27 @@ module _ (t : KnownTable) (g k : ℕ) (c : KnownCpu) (m x : KnownMachine) (so_fa
 
 -- a charge is refused for good
 charges_refused : (t : KnownTable) (g k : ℕ) (e : AllocFault) (a b : Side)
-    → BySteps t a b (IsRefusedFor g (2 ^ k) e) → BySteps t a b (ChargesBlock g k (Err e))
+    → BySteps t (IsRefusedFor g (2 ^ k) e) a b → BySteps t (ChargesBlock g k (Err e)) a b
 charges_refused t g k (Over over) a b by = by
-charges_refused t g k NoFrames a b by = absurd by.1.does.does.1.room
+charges_refused t g k NoFrames a b by = absurd by.does.does.does.1.room
 charges_refused t g k Killed a b by = by
 
 pub over_charges : (t : KnownTable) (g k : ℕ) (r : Result ℕ AllocFault) (x : AllocFault) (m n : KnownMachine) (c d : KnownCpu) → r ≡ Err x
-    → d ≡ c → BySteps t (side m c) (side n c) (IsRefusedFor g (2 ^ k) x) → BySteps t (side m c) (side n d) (ChargesBlock g k r)
+    → d ≡ c → BySteps t (IsRefusedFor g (2 ^ k) x) (side m c) (side n c) → BySteps t (ChargesBlock g k r) (side m c) (side n d)
 over_charges t g k r x m n c d is cpu by =
-    subst (λ (z : KnownCpu × Result ℕ AllocFault). BySteps t (side m c) (side n z.0) (ChargesBlock g k z.1)) (λ i. (sym cpu i, sym is i))
+    subst (λ (z : KnownCpu × Result ℕ AllocFault). BySteps t (ChargesBlock g k z.1) (side m c) (side n z.0)) (λ i. (sym cpu i, sym is i))
     (charges_refused t g k x (side m c) (side n c) by)
 
 abbrev fault_of : Result ℕ AllocFault → AllocFault
 fault_of (Ok head) = Killed
 fault_of (Err cause) = cause
 
-pub over_leaves : (t : KnownTable) (g k over : ℕ) (r : Result ℕ AllocFault) (x : AllocFault) (m n : KnownMachine) → r ≡ Err x
-    → TellsRoom g over (2 ^ k) (Err x) n → Lowers t m n → LeavesRoom g k r m n
-over_leaves t g k over r x m n is why l = record {
-  opened = l.opened;
-  still = λ none. let same : x ≡ NoFrames = sym (ap fault_of is) ∙ ap fault_of none in absurd (subst (λ (z : AllocFault). TellsRoom g over (2 ^ k) (Err z) n) same why);
-}
+-- which isn't for want of a free block
+pub over_not_none : (g k over : ℕ) (r : Result ℕ AllocFault) (x : AllocFault) (n : KnownMachine) → r ≡ Err x
+    → TellsRoom g over (2 ^ k) (Err x) n → r ≡ Err NoFrames → ⊥
+over_not_none g k over r x n is why none =
+    let same : x ≡ NoFrames = sym (ap fault_of is) ∙ ap fault_of none in
+    subst (λ (z : AllocFault). TellsRoom g over (2 ^ k) (Err z) n) same why
 
 -- ---- the list given back
 
@@ -179,7 +181,7 @@ none_spares t g k m n c d steps h = record {
 
 -- what one try that finds no block leaves
 pub none_leaves : (t : KnownTable) (g k : ℕ) (m n : KnownMachine) (c d : KnownCpu) → TakesNoBlock g k m n → is_killed m.killed g ≡ false → has_group m.ledger.groups g ≡ true
-    → HasRoomFor m (2 ^ k) → MayHaveBlock g k n
+    → HasRoomFor m (2 ^ k) → MayHaveBlock n g k
 none_leaves t g k m n c d none alive there fits = room_still t g k c m m (so_far_none t g (2 ^ k) c m alive) c refl n d none there fits
 
 -- rounds open and shut no visit
@@ -217,51 +219,52 @@ module _ (t : KnownTable) (g k : ℕ) (m x n : KnownMachine) (c y d : KnownCpu) 
   then steps run = makes_both t c.number (drain_list_steps c.number c.list) steps (side m c) (side x y) (side n d) by_giving
       (subst (λ (p : ℕ). MakesAs t p (side x y) steps (side n d)) part.number run)
 
-  takes_drained : (r : Result ℕ AllocFault) → BySteps t (side x y) (side n d) (TakesOrReclaims g k r)
-      → BySteps t (side m c) (side n d) (TakesAfterDrain g k r)
-  takes_drained r b = (
-    drain_list_steps c.number c.list ++ b.0,
-    record {
+  takes_drained : (r : Result ℕ AllocFault) → BySteps t (TakesOrReclaims g k r) (side x y) (side n d)
+      → BySteps t (TakesAfterDrain g k r) (side m c) (side n d)
+  takes_drained r b = record {
+    steps = drain_list_steps c.number c.list ++ b.steps;
+    does = record {
       drained = x;
-      later = b.0;
+      later = b.steps;
       drains = given;
-      takes = subst (λ (z : KnownCpu). TakesOrReclaims g k r (course t (side x z) b.0 (side n d))) (sym stays) b.1;
+      takes = subst (λ (z : KnownCpu). TakesOrReclaims g k r (course t (side x z) b.steps (side n d))) (sym stays) b.does;
       steps_are = refl;
-    },
-    then b.0 b.2,
-  )
+    };
+    makes = then b.steps b.makes;
+  }
 
   -- it takes the block
   pub takes_after : (head : ℕ) → TakesBlock g k head x n → MakesAs t y.number (side x y) (taken_steps g k head) (side n d)
-      → BySteps t (side m c) (side n d) (TakesAfterDrain g k (Ok head))
+      → BySteps t (TakesAfterDrain g k (Ok head)) (side m c) (side n d)
   takes_after head takes run =
-      takes_drained (Ok head) (taken_steps g k head, inl (record { takes = takes; cpu = stays; steps_are = refl }), run)
+      takes_drained (Ok head)
+      (record { steps = taken_steps g k head; does = inl (record { takes = takes; cpu = stays; steps_are = refl }); makes = run })
 
   -- or finds none, and rounds of reclaim follow
   module _ (w : KnownMachine) (z : KnownCpu) (none : TakesNoBlock g k x w) (same : z ≡ y)
       (vain : MakesAs t y.number (side x y) (unplaced_steps g k) (side w z)) where
-    in_rounds : (r : Result ℕ AllocFault) → BySteps t (side w z) (side n d) (TakesInRounds g k r) → BySteps t (side x y) (side n d) (TakesOrReclaims g k r)
+    in_rounds : (r : Result ℕ AllocFault) → BySteps t (TakesInRounds g k r) (side w z) (side n d) → BySteps t (TakesOrReclaims g k r) (side x y) (side n d)
     in_rounds r there =
-        let rounds = subst (λ (u : KnownCpu). BySteps t (side w u) (side n d) (TakesInRounds g k r)) same there in
-        let first = subst (λ (u : KnownCpu). MakesAs t y.number (side x y) (unplaced_steps g k) (side w u)) same vain in (
-          unplaced_steps g k ++ rounds.0,
-          inr (record {
+        let rounds = subst (λ (u : KnownCpu). BySteps t (TakesInRounds g k r) (side w u) (side n d)) same there in
+        let first = subst (λ (u : KnownCpu). MakesAs t y.number (side x y) (unplaced_steps g k) (side w u)) same vain in record {
+          steps = unplaced_steps g k ++ rounds.steps;
+          does = inr (record {
             between = side w y;
             earlier = unplaced_steps g k;
-            later = rounds.0;
+            later = rounds.steps;
             first = record { none = none; cpu = refl; steps_are = refl };
-            second = rounds.1;
+            second = rounds.does;
             steps_are = refl;
-          }),
-          makes_both t y.number (unplaced_steps g k) rounds.0 (side x y) (side w y) (side n d) first rounds.2,
-        )
+          });
+          makes = makes_both t y.number (unplaced_steps g k) rounds.steps (side x y) (side w y) (side n d) first rounds.makes;
+        }
 
-    pub reclaims_after : (r : Result ℕ AllocFault) → BySteps t (side w z) (side n d) (TakesInRounds g k r) → BySteps t (side m c) (side n d) (TakesAfterDrain g k r)
+    pub reclaims_after : (r : Result ℕ AllocFault) → BySteps t (TakesInRounds g k r) (side w z) (side n d) → BySteps t (TakesAfterDrain g k r) (side m c) (side n d)
     reclaims_after r there = takes_drained r (in_rounds r there)
 
-    pub reclaims_open : (r : Result ℕ AllocFault) → BySteps t (side w z) (side n d) (TakesInRounds g k r) → n.frame_seat.view.opened ≡ m.frame_seat.view.opened
+    pub reclaims_open : (r : Result ℕ AllocFault) → BySteps t (TakesInRounds g k r) (side w z) (side n d) → n.frame_seat.view.opened ≡ m.frame_seat.view.opened
     reclaims_open r there =
-        rounds_open t g k r w n z d there.0 there.1 ∙ ap (λ (u : KnownMachine). u.frame_seat.view.opened) none.machine ∙ part.opened
+        rounds_open t g k r w n z d there.steps there.does ∙ ap (λ (u : KnownMachine). u.frame_seat.view.opened) none.machine ∙ part.opened
 
   pub list_shrinks : length d.list ≤ length c.list
   list_shrinks =
@@ -285,29 +288,29 @@ no_kill g k way h = elim h.takes [
 ]
 
 module _ (t : KnownTable) (g k : ℕ) (m : KnownMachine) (c : KnownCpu) (alive : is_killed m.killed g ≡ false) where
-  by_answer : (r : Result ℕ AllocFault) (n : Side) → BySteps t (side m c) n (RetriesBlock g k r) → BySteps t (side m c) n (AllocatesBlock g k r)
-  by_answer (Ok head) n b = (b.0, inr (record { is = alive; does = b.1 }), b.2)
-  by_answer (Err NoFrames) n b = (b.0, record { is = alive; does = b.1 }, b.2)
-  by_answer (Err (Over over)) n b = absurd (no_over g k over _ b.1.second)
-  by_answer (Err Killed) n b = absurd (no_kill g k _ b.1.second)
+  by_answer : (r : Result ℕ AllocFault) (n : Side) → BySteps t (RetriesBlock g k r) (side m c) n → BySteps t (AllocatesBlock g k r) (side m c) n
+  by_answer (Ok head) n b = record { steps = b.steps; does = inr (record { is = alive; does = b.does }); makes = b.makes }
+  by_answer (Err NoFrames) n b = record { steps = b.steps; does = record { is = alive; does = b.does }; makes = b.makes }
+  by_answer (Err (Over over)) n b = absurd (no_over g k over _ b.does.second)
+  by_answer (Err Killed) n b = absurd (no_kill g k _ b.does.second)
 
   -- no block is free at first, and what comes of the drained list decides
   pub decides_drained : (r : Result ℕ AllocFault) (cause : AllocFault) (x n : KnownMachine) (y d : KnownCpu) → cause ≡ NoFrames → y ≡ c
-      → BySteps t (side m c) (side x y) (ChargesBlock g k (Err cause))
-      → BySteps t (side x y) (side n d) (TakesAfterDrain g k r) → BySteps t (side m c) (side n d) (AllocatesBlock g k r)
+      → BySteps t (ChargesBlock g k (Err cause)) (side m c) (side x y)
+      → BySteps t (TakesAfterDrain g k r) (side x y) (side n d) → BySteps t (AllocatesBlock g k r) (side m c) (side n d)
   decides_drained r cause x n y d named mine charged drained =
-      let first = subst (λ (f : AllocFault). BySteps t (side m c) (side x y) (ChargesBlock g k (Err f))) named charged in
+      let first = subst (λ (f : AllocFault). BySteps t (ChargesBlock g k (Err f)) (side m c) (side x y)) named charged in
       let number = ap (λ (z : KnownCpu). z.number) mine in
-      by_answer r (side n d) (
-        first.0 ++ drained.0,
-        record {
+      by_answer r (side n d) (record {
+        steps = first.steps ++ drained.steps;
+        does = record {
           between = side x y;
-          earlier = first.0;
-          later = drained.0;
-          first = first.1;
-          second = drained.1;
+          earlier = first.steps;
+          later = drained.steps;
+          first = first.does;
+          second = drained.does;
           steps_are = refl;
-        },
-        makes_both t c.number first.0 drained.0 (side m c) (side x y) (side n d) first.2
-            (subst (λ (p : ℕ). MakesAs t p (side x y) drained.0 (side n d)) number drained.2),
-      )
+        };
+        makes = makes_both t c.number first.steps drained.steps (side m c) (side x y) (side n d) first.makes
+            (subst (λ (p : ℕ). MakesAs t p (side x y) drained.steps (side n d)) number drained.makes);
+      })

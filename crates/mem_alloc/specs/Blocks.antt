@@ -39,14 +39,9 @@ ChargesBlock group order (Err Killed) way = IsRefusedFor group (2 ^ order) Kille
 
 -- no limit is in the way of a block for the group: its pages may be charged, and each limit on its path has room for
 -- them
-pub record MayHaveBlock (group order : ℕ) (machine : KnownMachine) : Type 0 where
+pub record MayHaveBlock (machine : KnownMachine) (group order : ℕ) : Type 0 where
   pub charges : MayCharge machine group (2 ^ order)
   pub room : PathHasRoom machine.ledger.groups (current_of machine.ledger) group (2 ^ order)
-
--- no visit is opened or shut; and where no block is free, no limit is in its way still
-pub record LeavesRoom (group order : ℕ) (answer : Result ℕ AllocFault) (before after : KnownMachine) : Type 0 where
-  pub opened : after.frame_seat.view.opened ≡ before.frame_seat.view.opened
-  pub still : answer ≡ Err NoFrames → MayHaveBlock group order after
 
 -- rounds of reclaim, each of which wants the pages of the block: in one of them it is taken, or in none is any block
 -- free

@@ -11,7 +11,7 @@ use Rattle.mem_machine.specs.Local.{MakesForAny}
 use Rattle.mem_machine.specs.Steps.{note_oom_steps}
 use Rattle.mem_reclaim.specs.Killing.{IsKilledBy, OnlyDrains, OnlyLetsGo}
 use Rattle.mem_reclaim.specs.Victim.{IsVictim}
-use Rattle.mem_alloc.specs.Stepping.{Course, InTurn, Rests, course}
+use Rattle.mem_alloc.specs.Stepping.{Course, InTurn, MachineStays, course}
 
 -- for how many pages of one charge groups are killed at most: those of an order of 3
 abbrev pub most_killed_for : ℕ
@@ -56,7 +56,7 @@ pub record KillsOne (requester : Option ℕ) (limited pages victim : ℕ) (way :
 
 -- these victims are killed, one after the other
 abbrev pub KillsEach : Option ℕ → ℕ → ℕ → List ℕ → Course KnownMachine → Type 0
-KillsEach requester limited pages [] way = Rests way
+KillsEach requester limited pages [] way = MachineStays way
 KillsEach requester limited pages (victim ∷ others) way =
     InTurn (KillsOne requester limited pages victim) (KillsEach requester limited pages others) way
 
@@ -73,5 +73,5 @@ pub record KillsUntilRoom (requester : Option ℕ) (limited pages : ℕ) (way : 
 
 -- victims of the group are killed where its limit has no room for so many pages; where it has, nothing is done
 pub record KillsFor (requester : Option ℕ) (limited pages : ℕ) (way : Course KnownMachine) : Type 0 where
-  pub room : has_room_at way.before.ledger limited pages ≡ true → Rests way
+  pub room : has_room_at way.before.ledger limited pages ≡ true → MachineStays way
   pub over : has_room_at way.before.ledger limited pages ≡ false → KillsUntilRoom requester limited pages way

@@ -67,11 +67,16 @@ pub record MayKill (MayAsk : List Group → ℕ → ℕ → Type 0) (way : Cours
   pub charges : AreCharges way.after.ledger
   pub tied : IsLeftBySteps way
 
--- Each kill among the steps of a call comes where the victim may be killed: for each split of the list at a kill there
--- is a machine to which the steps before it lead, and there it may
+-- after these steps of a call the victim may be killed: there is a machine to which they lead, and there it may
+pub record MayKillAfter (table : KnownTable) (MayAsk : List Group → ℕ → ℕ → Type 0) (start : KnownMachine)
+    (cpu : KnownCpu) (before : Run) (victim : ℕ) : Type 0 where
+  pub now : KnownMachine
+  pub leads : IsLocalRun cpu.number (local_of table start cpu) before (local_of table now cpu)
+  pub may : MayKill MayAsk (course table start before now) victim
+
+-- each kill among the steps of a call comes where the victim may be killed: for each split of the list at a step that
+-- is made and kills, the victim may be killed after the steps before it
 abbrev pub NoRashKill : KnownTable → (List Group → ℕ → ℕ → Type 0) → KnownMachine → KnownCpu → Run → Type 0
 NoRashKill table MayAsk start cpu steps =
-    (before rest : Run) (e : Step × Answer) (victim : ℕ)
-    → steps ≡ before ++ e ∷ rest → e.0.action ≡ Kill victim
-    → (now : KnownMachine) × IsLocalRun cpu.number (local_of table start cpu) before (local_of table now cpu)
-    × MayKill MayAsk (course table start before now) victim
+    (before rest : Run) (made : Step × Answer) (victim : ℕ)
+    → steps ≡ before ++ made ∷ rest → made.0.action ≡ Kill victim → MayKillAfter table MayAsk start cpu before victim

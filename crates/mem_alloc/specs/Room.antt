@@ -17,7 +17,7 @@ use Rattle.mem_reclaim.specs.Rounds.{MakesRounds, max_rounds, pages_missing}
 use Rattle.mem_reclaim.specs.Staying.{Keeps, MissedAll}
 use Rattle.mem_alloc.specs.declared.faults.AllocFault.{AllocFault}
 use Rattle.mem_alloc.specs.declared.faults.AllocFault.TheVariants.{Over, NoFrames, Killed}
-use Rattle.mem_alloc.specs.Stepping.{Course, InTurn, OfMachineAlone, Rests, course}
+use Rattle.mem_alloc.specs.Stepping.{Course, InTurn, OfMachineAlone, MachineStays, course}
 -- what is killed, and whether there is room
 pub use Rattle.mem_alloc.specs.Kills.{IsWanting, KillsFor, has_room_at, most_killed_for}
 
@@ -68,7 +68,7 @@ pub record ReclaimsFor (limited pages : ℕ) (way : Course KnownMachine) : Type 
 -- what is done where reclaim makes no room: victims are killed for up to `most_killed_for` pages, and nobody for more
 pub record KillsForFew (requester limited pages : ℕ) (way : Course KnownMachine) : Type 0 where
   pub few : pages ≤ most_killed_for → KillsFor (Some requester) limited pages way
-  pub many : most_killed_for < pages → Rests way
+  pub many : most_killed_for < pages → MachineStays way
 
 -- The limit of the group `limited` had no room for so many pages: that is noted there as `max`, the stocks of its
 -- subtree are drained, its units are reclaimed in rounds, and then its victims are killed
@@ -103,7 +103,7 @@ pub record IsRefusedAt (requester limited pages : ℕ) (answer : Result (Unit {0
 
 -- a charge is refused at each of these groups, one after the other, and each has room for the pages then
 abbrev pub MakesRoom : ℕ → List ℕ → ℕ → Course KnownMachine → Type 0
-MakesRoom requester [] pages way = Rests way
+MakesRoom requester [] pages way = MachineStays way
 MakesRoom requester (limited ∷ others) pages way =
     InTurn (IsRefusedAt requester limited pages (Ok tt)) (MakesRoom requester others pages) way
 

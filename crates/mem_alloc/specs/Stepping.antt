@@ -49,14 +49,17 @@ pub record Where {Stand : Type 0} (Is : Stand → Type 0) (Does : Course Stand �
   pub does : Does way
 
 -- a list of local steps with their answers leads from one side to another, and this is done by them
-abbrev pub BySteps : KnownTable → Side → Side → (Course Side → Type 0) → Type 0
-BySteps table before after Does =
-    (steps : Run) × Does (course table before steps after) × Makes table before steps after
+pub record BySteps (table : KnownTable) (Does : Course Side → Type 0) (before after : Side) : Type 0 where
+  pub steps : Run
+  pub does : Does (course table before steps after)
+  pub makes : Makes table before steps after
 
 -- a list of local steps leads from one machine to another, whoever holds the lock, and this is done by them
-abbrev pub ByStepsOfAny : KnownTable → KnownMachine → KnownMachine → (Course KnownMachine → Type 0) → Type 0
-ByStepsOfAny table before after Does =
-    (steps : Run) × Does (course table before steps after) × MakesForAny table before steps after
+pub record ByStepsOfAny (table : KnownTable) (Does : Course KnownMachine → Type 0)
+    (before after : KnownMachine) : Type 0 where
+  pub steps : Run
+  pub does : Does (course table before steps after)
+  pub makes : MakesForAny table before steps after
 
 -- the misses that the zone's seat noted of each frame grew by the freezes of it that missed among the steps
 abbrev pub CountsMisses : Course KnownMachine → Type 0
@@ -64,7 +67,7 @@ CountsMisses way =
     (frame : ℕ) → misses_of way.after.frame_seat frame ≡ misses_of way.before.frame_seat frame + missed_in frame way.steps
 
 -- nothing of the machine changed, without a step
-pub record Rests (way : Course KnownMachine) : Type 0 where
+pub record MachineStays (way : Course KnownMachine) : Type 0 where
   pub machine : way.after ≡ way.before
   pub steps_are : way.steps ≡ []
 

@@ -1,11 +1,12 @@
 //! Blocks of frames: they come from the zone, and are kept units at once.
 
-ghost use Rattle.std.specs.Prelude.{◌≡◌, ◌^◌, ◌≤◌, [], length, IsTrue};
+ghost use Rattle.std.specs.Prelude.{◌≡◌, ◌^◌, ◌≤◌, [], length, Err, IsTrue};
 ghost use Rattle.group_tree.specs.Groups.{has_group};
 ghost use Rattle.mem_machine.specs.Machines.{KeepsVisit, Visits};
 ghost use Rattle.mem_machine.specs.Paying.{IsOfSize, MayCharge};
+ghost use Rattle.mem_alloc.specs.declared.faults.AllocFault.TheVariants.{NoFrames};
 ghost use Rattle.mem_alloc.specs.Stepping.{BySteps, IsSettled};
-ghost use Rattle.mem_alloc.specs.Blocks.{AllocatesBlock, ChargesBlock, LeavesRoom, MayHaveBlock};
+ghost use Rattle.mem_alloc.specs.Blocks.{AllocatesBlock, ChargesBlock, MayHaveBlock};
 ghost use Rattle.mem_alloc.specs.Blocks.{TakesAfterDrain, TakesInRounds};
 ghost use Rattle.mem_machine.specs.Local.{side};
 
@@ -30,11 +31,12 @@ fn charge_block<N: BootName>(
     requires visit { Visits N.frames (side machine.old cpu.old) }
     requires may_charge { MayCharge machine.old group (2 ^ order) }
     requires none_back { cpu.old.back ≡ [] }
-    ensures charges { BySteps N.frames (side machine.old cpu.old) (side machine.new cpu.new)
-        (ChargesBlock group order result) }
+    ensures charges { BySteps N.frames (ChargesBlock group order result)
+        (side machine.old cpu.old) (side machine.new cpu.new) }
     ensures cpu { cpu.new ≡ cpu.old }
     ensures visit { Visits N.frames (side machine.new cpu.new) }
-    ensures leaves { LeavesRoom group order result machine.old machine.new }
+    ensures opened { machine.new.frame_seat.view.opened ≡ machine.old.frame_seat.view.opened }
+    ensures room { result ≡ Err NoFrames → MayHaveBlock machine.new group order }
 {
     let pages = order.frames();
     'tries: loop {
@@ -56,10 +58,10 @@ fn take_in_rounds<N: BootName>(
     order: Order,
 ) -> Result<Frame, AllocFault>
     requires visit { Visits N.frames (side machine.old cpu.old) }
-    requires room { MayHaveBlock group order machine.old }
+    requires room { MayHaveBlock machine.old group order }
     requires none_back { cpu.old.back ≡ [] }
-    ensures takes { BySteps N.frames (side machine.old cpu.old) (side machine.new cpu.new)
-        (TakesInRounds group order result) }
+    ensures takes { BySteps N.frames (TakesInRounds group order result)
+        (side machine.old cpu.old) (side machine.new cpu.new) }
     ensures cpu { cpu.new ≡ cpu.old }
     ensures visit { Visits N.frames (side machine.new cpu.new) }
 {
@@ -86,10 +88,10 @@ fn take_after_drain<N: BootName>(
     order: Order,
 ) -> Result<Frame, AllocFault>
     requires visit { Visits N.frames (side machine.old cpu.old) }
-    requires room { MayHaveBlock group order machine.old }
+    requires room { MayHaveBlock machine.old group order }
     requires settled { IsSettled cpu.old }
-    ensures takes { BySteps N.frames (side machine.old cpu.old) (side machine.new cpu.new)
-        (TakesAfterDrain group order result) }
+    ensures takes { BySteps N.frames (TakesAfterDrain group order result)
+        (side machine.old cpu.old) (side machine.new cpu.new) }
     ensures stays { KeepsVisit N.frames (side machine.old cpu.old) (side machine.new cpu.new) }
     ensures fresh { cpu.new.fresh ≡ [] }
     ensures list { length cpu.new.list ≤ length cpu.old.list }
@@ -125,8 +127,8 @@ pub fn alloc_block<N: BootName>(
     requires size { IsOfSize N.frames }
     requires there { IsTrue (has_group machine.old.ledger.groups group) }
     requires settled { IsSettled cpu.old }
-    ensures allocates { BySteps N.frames (side machine.old cpu.old) (side machine.new cpu.new)
-        (AllocatesBlock group order result) }
+    ensures allocates { BySteps N.frames (AllocatesBlock group order result)
+        (side machine.old cpu.old) (side machine.new cpu.new) }
     ensures stays { KeepsVisit N.frames (side machine.old cpu.old) (side machine.new cpu.new) }
     ensures fresh { cpu.new.fresh ≡ [] }
     ensures list { length cpu.new.list ≤ length cpu.old.list }

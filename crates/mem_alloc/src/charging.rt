@@ -47,8 +47,8 @@ fn fill_one<N: BootName>(
     requires may_charge { MayCharge machine.old group 1 }
     requires none_fresh { cpu.old.fresh ≡ [] }
     requires drained { IsDrained machine.old cpu.old.number }
-    ensures charges { BySteps N.frames (side machine.old cpu.old) (side machine.new cpu.new)
-        (ChargesOne group result) }
+    ensures charges { BySteps N.frames (ChargesOne group result)
+        (side machine.old cpu.old) (side machine.new cpu.new) }
     ensures visit { Visits N.frames (side machine.new cpu.new) }
 {
     'tries: loop {
@@ -75,8 +75,8 @@ fn charge_frame<N: BootName>(
     requires alive { is_killed machine.old.killed group ≡ false }
     requires none_fresh { cpu.old.fresh ≡ [] }
     requires drained { IsDrained machine.old cpu.old.number }
-    ensures charges { BySteps N.frames (side machine.old cpu.old) (side machine.new cpu.new)
-        (ChargesFrame sizes group result) }
+    ensures charges { BySteps N.frames (ChargesFrame sizes group result)
+        (side machine.old cpu.old) (side machine.new cpu.new) }
     ensures visit { Visits N.frames (side machine.new cpu.new) }
 {
     machine.see_room();
@@ -100,8 +100,8 @@ pub(crate) fn pay_for_frame<N: BootName>(
     requires there { IsTrue (has_group machine.old.ledger.groups group) }
     requires alive { is_killed machine.old.killed group ≡ false }
     requires none_fresh { cpu.old.fresh ≡ [] }
-    ensures pays { BySteps N.frames (side machine.old cpu.old) (side machine.new cpu.new)
-        (PaysForFrame sizes group result) }
+    ensures pays { BySteps N.frames (PaysForFrame sizes group result)
+        (side machine.old cpu.old) (side machine.new cpu.new) }
     ensures visit { Visits N.frames (side machine.new cpu.new) }
     ensures page { OnOk result (HoldsPage (side machine.new cpu.new) group) }
 {

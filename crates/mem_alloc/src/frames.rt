@@ -32,8 +32,8 @@ fn refill_in_rounds<N: BootName>(
     requires visit { Visits N.frames (side machine.old cpu.old) }
     requires room { HasListRoom cpu.old batch }
     requires some { 1 ≤ batch }
-    ensures refills { BySteps N.frames (side machine.old cpu.old) (side machine.new cpu.new)
-        (RefillsInRounds batch result) }
+    ensures refills { BySteps N.frames (RefillsInRounds batch result)
+        (side machine.old cpu.old) (side machine.new cpu.new) }
     ensures visit { Visits N.frames (side machine.new cpu.new) }
 {
     for _round in 0..MAX_ROUNDS {
@@ -61,8 +61,8 @@ fn fill_list<N: BootName>(
     requires sizes { IsValidConfig sizes }
     requires none_fresh { cpu.old.fresh ≡ [] }
     requires page { HoldsPage (side machine.old cpu.old) group }
-    ensures fills { BySteps N.frames (side machine.old cpu.old) (side machine.new cpu.new)
-        (FillsList sizes result) }
+    ensures fills { BySteps N.frames (FillsList sizes result)
+        (side machine.old cpu.old) (side machine.new cpu.new) }
     ensures visit { Visits N.frames (side machine.new cpu.new) }
     ensures page { OnOk result (HoldsPage (side machine.new cpu.new) group) }
     ensures front { OnOk result (1 ≤ length cpu.new.list) }
@@ -105,8 +105,8 @@ pub fn alloc_frame<N: BootName>(
     requires sizes { IsValidConfig sizes }
     requires there { IsTrue (has_group machine.old.ledger.groups group) }
     requires settled { IsSettled cpu.old }
-    ensures allocates { BySteps N.frames (side machine.old cpu.old) (side machine.new cpu.new)
-        (AllocatesFrame sizes group result) }
+    ensures allocates { BySteps N.frames (AllocatesFrame sizes group result)
+        (side machine.old cpu.old) (side machine.new cpu.new) }
     ensures stays { KeepsVisit N.frames (side machine.old cpu.old) (side machine.new cpu.new) }
     ensures fresh { MatchResult result (λ f. cpu.new.fresh ≡ f ∷ []) (λ cause. cpu.new.fresh ≡ []) }
     ensures at_most_high { length cpu.old.list + length cpu.old.fresh ≤ sizes.high

@@ -58,7 +58,7 @@ pub fn kill_for<N: BootName>(
     pages: u32,
 )
     requires { IsTrue (has_group machine.old.ledger.groups limited) }
-    ensures { ByStepsOfAny N.frames machine.old machine.new (KillsFor requester limited pages) }
+    ensures { ByStepsOfAny N.frames (KillsFor requester limited pages) machine.old machine.new }
 {
     if has_room_at(machine.charges(), limited, pages) {
         return;
@@ -87,7 +87,7 @@ pub(crate) fn kill_for_few<N: BootName>(
     pages: u32,
 )
     requires { IsTrue (has_group machine.old.ledger.groups limited) }
-    ensures { ByStepsOfAny N.frames machine.old machine.new (KillsForFew requester limited pages) }
+    ensures { ByStepsOfAny N.frames (KillsForFew requester limited pages) machine.old machine.new }
 {
     if pages <= MOST_KILLED_FOR {
         kill_for(machine, tables, Some(requester), limited, pages);

@@ -22,7 +22,7 @@ fn reclaim_for<N: BootName>(
     pages: u32,
 )
     requires { IsTrue (has_group machine.old.ledger.groups limited) }
-    ensures reclaims { ByStepsOfAny N.frames machine.old machine.new (ReclaimsFor limited pages) }
+    ensures reclaims { ByStepsOfAny N.frames (ReclaimsFor limited pages) machine.old machine.new }
 {
     if let Some(limit) = machine.charges().max(limited) {
         make_rounds(machine, tables, limited, pages, limit);
@@ -59,7 +59,7 @@ pub(crate) fn make_room<N: BootName>(
     pages: u32,
 ) -> Result<(), AllocFault>
     requires { IsTrue (has_group machine.old.ledger.groups limited) }
-    ensures clears { ByStepsOfAny N.frames machine.old machine.new (RelievesLimit requester limited pages) }
+    ensures relieves { ByStepsOfAny N.frames (RelievesLimit requester limited pages) machine.old machine.new }
     ensures room { TellsRoom requester limited pages result machine.new }
     ensures below { limited < MAX_GROUPS }
 {

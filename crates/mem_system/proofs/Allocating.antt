@@ -58,16 +58,16 @@ block_fresh l order (Err Killed) fresh block none = none
 -- ---- a single frame
 
 pub over_is_there : (t : KnownTable) (sizes : Config) (group : ℕ) (m n : KnownMachine) (c d : KnownCpu) (answer : Result ℕ AllocFault)
-    → BySteps t (side m c) (side n d) (AllocatesFrame sizes group answer) → (g : ℕ) → answer ≡ Err (Over g) → IsTrue (has_group n.ledger.groups g)
-over_is_there t sizes group m n c d answer told g is = frame_over_there t sizes group g m n c d told.0
-    (subst (λ (r : Result ℕ AllocFault). AllocatesFrame sizes group r (course t (side m c) told.0 (side n d))) is told.1)
+    → BySteps t (AllocatesFrame sizes group answer) (side m c) (side n d) → (g : ℕ) → answer ≡ Err (Over g) → IsTrue (has_group n.ledger.groups g)
+over_is_there t sizes group m n c d answer told g is = frame_over_there t sizes group g m n c d told.steps
+    (subst (λ (r : Result ℕ AllocFault). AllocatesFrame sizes group r (course t (side m c) told.steps (side n d))) is told.does)
 
 pub frame_allocated : (t : KnownTable) (sizes : Config) (path : List ℕ) (group : ℕ) (m n : KnownMachine) (c d : KnownCpu) (answer : Result ℕ AllocFault)
-    → number_at m.ledger.groups path ≡ Some group → BySteps t (side m c) (side n d) (AllocatesFrame sizes group answer)
-    → BySteps t (side m c) (side n d) (Allocates sizes path 0 (reply_of n.ledger (outcome_of answer)))
-frame_allocated t sizes path group m n c d answer found told = (
-  told.0,
-  allocated sizes path 0 group (course t (side m c) told.0 (side n d)) found (omega arith) answer
-      (record { frame = λ same. told.1; block = λ more. absurd (more refl) }) (over_is_there t sizes group m n c d answer told),
-  told.2,
-)
+    → number_at m.ledger.groups path ≡ Some group → BySteps t (AllocatesFrame sizes group answer) (side m c) (side n d)
+    → BySteps t (Allocates sizes path 0 (reply_of n.ledger (outcome_of answer))) (side m c) (side n d)
+frame_allocated t sizes path group m n c d answer found told = record {
+  steps = told.steps;
+  does = allocated sizes path 0 group (course t (side m c) told.steps (side n d)) found (omega arith) answer
+      (record { frame = λ same. told.does; block = λ more. absurd (more refl) }) (over_is_there t sizes group m n c d answer told);
+  makes = told.makes;
+}

@@ -24,7 +24,8 @@ use Rattle.mem_machine.proofs.NoneLent.{lent_to_cpu, each_is_placed}
 use Rattle.mem_system.specs.declared.audit.Audit.{Audit}
 use Rattle.mem_system.specs.Locked.{KnownLocked, IsQuiet, AllShut}
 use Rattle.mem_machine.specs.Local.{Side}
-use Rattle.mem_system.specs.Ends.{ByVisit, ForEachCpu, SettlesInVisit, Empties, IsSpent, IsAuditOf, IsClosed, HasNoPage, Ends, frame_seat_of, stock_seat_of, drops_of, pins_of}
+use Rattle.mem_system.specs.Commands.{BySteps}
+use Rattle.mem_system.specs.Ends.{ForEachCpu, SettlesInVisit, Empties, IsSpent, IsAuditOf, IsClosed, HasNoPage, Ends, frame_seat_of, stock_seat_of, drops_of, pins_of}
 
 -- as many processors are visited as there are
 pub turn_long : (Visit : Side → Side → Type 0) (m : KnownMachine) (cpus : List KnownCpu) (n : KnownMachine) (after : List KnownCpu) → ForEachCpu Visit m cpus n after
@@ -185,7 +186,7 @@ drops_join a b c k most = omega arith
 pub all_ends : (t : KnownTable) (w : Words) (l : KnownLocked) (cpus : List KnownCpu) (x : KnownMachine) (rested : List KnownCpu) (y : KnownMachine)
     (spent : List KnownCpu) (a : Audit) (frame_seats : List KnownSeat) (stock_seats : List Seated) (drops : ℕ) → IsQuiet t w l → pins_of cpus ≡ 0
     → drops ≡ min (drops_of cpus) max_count
-    → ForEachCpu (ByVisit t SettlesInVisit) l.machine cpus x rested → ForEachCpu (ByVisit t Empties) x rested y spent → AllShut y → All (λ c. IsSpent t w y c) spent → IsAuditOf t y drops a
+    → ForEachCpu (BySteps t SettlesInVisit) l.machine cpus x rested → ForEachCpu (BySteps t Empties) x rested y spent → AllShut y → All (λ c. IsSpent t w y c) spent → IsAuditOf t y drops a
     → IsClosed t w y frame_seats stock_seats → frame_seats ≡ map frame_seat_of spent → stock_seats ≡ map stock_seat_of spent → Ends t w l cpus a
 all_ends t w l cpus x rested y spent a frame_seats stock_seats drops quiet no_pin drops_are rests empties shut all tells closing frames stocks =
     let closed : IsClosed t w y (map frame_seat_of spent) (map stock_seat_of spent) =

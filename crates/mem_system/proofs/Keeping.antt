@@ -50,9 +50,9 @@ visit_both t m x n c a b = record { visit = b.visit; opened = b.opened ∙ a.ope
 
 -- ---- a usage that is lowered
 
-pub lowered_groups : (t : KnownTable) (g limit : ℕ) (m n : KnownMachine) → ByStepsOfAny t m n (LowersUsage g limit)
+pub lowered_groups : (t : KnownTable) (g limit : ℕ) (m n : KnownMachine) → ByStepsOfAny t (LowersUsage g limit) m n
     → n.ledger.groups ≡ m.ledger.groups
-lowered_groups t g limit m n b = b.1.keeps.groups ∙ (all_same g t.cpus m b.1.drained b.1.drains b.1.drains_all).groups
+lowered_groups t g limit m n b = b.does.keeps.groups ∙ (all_same g t.cpus m b.does.drained b.does.drains b.does.drains_all).groups
 
 usage_visit : (t : KnownTable) (g limit : ℕ) (m n : KnownMachine) (c : KnownCpu) (steps : Run) → LowersUsage g limit (course t m steps n)
     → Visits t (side m c) → KeepsVisit t (side m c) (side n c)
@@ -62,33 +62,33 @@ usage_visit t g limit m n c steps h v =
     record { visit = h.keeps.visit c first.visit; opened = h.keeps.opened ∙ first.opened; number = refl; back = refl }
 
 pub lowered_visit : (t : KnownTable) (g limit : ℕ) (m n : KnownMachine) (c : KnownCpu)
-    → ByStepsOfAny t m n (LowersUsage g limit) → Visits t (side m c)
+    → ByStepsOfAny t (LowersUsage g limit) m n → Visits t (side m c)
     → KeepsVisit t (side m c) (side n c)
-lowered_visit t g limit m n c b v = usage_visit t g limit m n c b.0 b.1 v
+lowered_visit t g limit m n c b v = usage_visit t g limit m n c b.steps b.does v
 
 -- so it is where it is lowered only if it is above
 pub above_visit : (t : KnownTable) (g limit : ℕ) (m n : KnownMachine) (c : KnownCpu)
-    → ByStepsOfAny t m n (LowersAbove g limit) → Visits t (side m c)
+    → ByStepsOfAny t (LowersAbove g limit) m n → Visits t (side m c)
     → KeepsVisit t (side m c) (side n c)
 above_visit t g limit m n c b v = elim (cases_lt limit (current_of m.ledger g)) [
   | inl over ↦
-      let h = b.1.above over in
+      let h = b.does.above over in
       let x = h.lowered in
       let told : Visits t (side (with_limit_noted m g 0) c) = record { is_open = v.is_open; still = v.still; lent = v.lent } in
       let first = usage_visit t g limit (with_limit_noted m g 0) x c h.lowering h.lowers told in
       let kills = kills_lower None t g 0 x n h.killing h.kills in
       record { visit = kills.visit c first.visit; opened = kills.opened ∙ first.opened; number = refl; back = refl }
-  | inr within ↦ visit_keeps t m n c (ap (λ (k : KnownMachine). k.frame_seat) (b.1.within (omega (arith, within))).machine) v
+  | inr within ↦ visit_keeps t m n c (ap (λ (k : KnownMachine). k.frame_seat) (b.does.within (omega (arith, within))).machine) v
 ]
 
 -- the stocks are drained, and then the rounds are made
 pub lowered_by : (t : KnownTable) (g limit pages given : ℕ) (m x n : KnownMachine) → DrainsSubtree t g pages m x
     → AreDrained g t.cpus x
     → Leads t given x n (MakesRounds g (pages_missing g 0 limit) 16)
-    → (limit < current_of n.ledger g + 0 → MissedAll g x n) → Keeps t x n → ByStepsOfAny t m n (LowersUsage g limit)
-lowered_by t g limit pages given m x n sub none leads missed keeps = (
-  drain_stocks_steps sub.drains ++ leads.steps,
-  record {
+    → (limit < current_of n.ledger g + 0 → MissedAll g x n) → Keeps t x n → ByStepsOfAny t (LowersUsage g limit) m n
+lowered_by t g limit pages given m x n sub none leads missed keeps = record {
+  steps = drain_stocks_steps sub.drains ++ leads.steps;
+  does = record {
     drains = sub.drains;
     drained = x;
     drains_all = sub.all;
@@ -99,70 +99,70 @@ lowered_by t g limit pages given m x n sub none leads missed keeps = (
     missed = λ over. missed (omega (arith, over));
     keeps = keeps;
     steps_are = refl;
-  },
-  λ c. makes_both t c.number (drain_stocks_steps sub.drains) leads.steps (side m c) (side x c) (side n c)
-      (sub.steps c) (leads.moves.runs c),
-)
+  };
+  makes = λ c. makes_both t c.number (drain_stocks_steps sub.drains) leads.steps (side m c) (side x c) (side n c)
+      (sub.steps c) (leads.moves.runs c);
+}
 
 -- ---- a limit that is set
 
 -- the usage is above it
 pub lowered_above : (t : KnownTable) (g limit : ℕ) (m y x n : KnownMachine) → limit < current_of m.ledger g → y ≡ with_limit_noted m g 0
-    → ByStepsOfAny t y x (LowersUsage g limit) → ByStepsOfAny t x n (KillsFor None g 0)
-    → ByStepsOfAny t m n (LowersAbove g limit)
+    → ByStepsOfAny t (LowersUsage g limit) y x → ByStepsOfAny t (KillsFor None g 0) x n
+    → ByStepsOfAny t (LowersAbove g limit) m n
 lowered_above t g limit m y x n over told of_y k =
-    let b = subst (λ (z : KnownMachine). ByStepsOfAny t z x (LowersUsage g limit)) told of_y in (
-      b.0 ++ k.0,
-      record {
-        above = λ more. record { lowered = x; lowering = b.0; killing = k.0; lowers = b.1; kills = k.1; steps_are = refl };
+    let b = subst (λ (z : KnownMachine). ByStepsOfAny t (LowersUsage g limit) z x) told of_y in record {
+      steps = b.steps ++ k.steps;
+      does = record {
+        above = λ more. record { lowered = x; lowering = b.steps; killing = k.steps; lowers = b.does; kills = k.does; steps_are = refl };
         within = λ (less : current_of m.ledger g ≤ limit). absurd (omega (arith, over, less));
-      },
-      λ c. makes_both t c.number b.0 k.0 (side m c) (side x c) (side n c)
-          (record { leads = (b.2 c).leads; follows = (b.2 c).follows }) (k.2 c),
-    )
+      };
+      makes = λ c. makes_both t c.number b.steps k.steps (side m c) (side x c) (side n c)
+          (record { leads = (b.makes c).leads; follows = (b.makes c).follows }) (k.makes c);
+    }
 
 -- the usage is within it
 pub lowered_none : (t : KnownTable) (g limit : ℕ) (m : KnownMachine) → current_of m.ledger g ≤ limit
-    → ByStepsOfAny t m m (LowersAbove g limit)
-lowered_none t g limit m within = (
-  [],
-  record {
+    → ByStepsOfAny t (LowersAbove g limit) m m
+lowered_none t g limit m within = record {
+  steps = [];
+  does = record {
     above = λ (over : limit < current_of m.ledger g). absurd (omega (arith, over, within));
     within = λ less. record { machine = refl; steps_are = refl };
-  },
-  λ c. makes_none t c.number (side m c),
-)
+  };
+  makes = λ c. makes_none t c.number (side m c);
+}
 
 -- the limit is set, and then the usage is kept to it
 limited_by : (t : KnownTable) (g : ℕ) (of : Option ℕ) (m x n : KnownMachine) → x ≡ with_limit_of m g of
     → MakesForAny t m (set_max_steps g of) x
-    → ByStepsOfAny t x n (KeepsToLimit g of) → ByStepsOfAny t m n (SetsLimit g of)
-limited_by t g of m x n is first last = (
-  set_max_steps g of ++ last.0,
-  record {
-    lowering = last.0;
-    keeps = subst (λ (k : KnownMachine). KeepsToLimit g of (course t k last.0 n)) is last.1;
+    → ByStepsOfAny t (KeepsToLimit g of) x n → ByStepsOfAny t (SetsLimit g of) m n
+limited_by t g of m x n is first last = record {
+  steps = set_max_steps g of ++ last.steps;
+  does = record {
+    lowering = last.steps;
+    keeps = subst (λ (k : KnownMachine). KeepsToLimit g of (course t k last.steps n)) is last.does;
     steps_are = refl;
-  },
-  λ c. makes_both t c.number (set_max_steps g of) last.0 (side m c) (side x c) (side n c) (first c)
-      (last.2 c),
-)
+  };
+  makes = λ c. makes_both t c.number (set_max_steps g of) last.steps (side m c) (side x c) (side n c) (first c)
+      (last.makes c);
+}
 
 -- there is one
 pub limited_to : (t : KnownTable) (g limit : ℕ) (of : Option ℕ) (m x n : KnownMachine) → of ≡ Some limit
     → x ≡ with_limit_of m g of
-    → MakesForAny t m (set_max_steps g of) x → ByStepsOfAny t x n (LowersAbove g limit)
-    → ByStepsOfAny t m n (SetsLimit g of)
+    → MakesForAny t m (set_max_steps g of) x → ByStepsOfAny t (LowersAbove g limit) x n
+    → ByStepsOfAny t (SetsLimit g of) m n
 limited_to t g limit of m x n some is first last =
-    let keeps = subst (λ (o : Option ℕ). KeepsToLimit g o (course t x last.0 n)) (sym some) last.1 in
-    limited_by t g of m x n is first (last.0, keeps, last.2)
+    let keeps = subst (λ (o : Option ℕ). KeepsToLimit g o (course t x last.steps n)) (sym some) last.does in
+    limited_by t g of m x n is first (record { steps = last.steps; does = keeps; makes = last.makes })
 
 -- there is none
 pub limited_none : (t : KnownTable) (g : ℕ) (of : Option ℕ) (m x : KnownMachine) → of ≡ None → x ≡ with_limit_of m g of
-    → MakesForAny t m (set_max_steps g of) x → ByStepsOfAny t m x (SetsLimit g of)
+    → MakesForAny t m (set_max_steps g of) x → ByStepsOfAny t (SetsLimit g of) m x
 limited_none t g of m x none is first =
     let keeps = subst (λ (o : Option ℕ). KeepsToLimit g o (course t x [] x)) (sym none) (record { machine = refl; steps_are = refl }) in
-    limited_by t g of m x x is first ([], keeps, λ c. makes_none t c.number (side x c))
+    limited_by t g of m x x is first (record { steps = []; does = keeps; makes = λ c. makes_none t c.number (side x c) })
 
 -- ---- a group that is taken out
 

@@ -70,12 +70,12 @@ removes_quiet path other way h = absurd h
 touches_quiet : (f : ℕ) (said : Reply) (way : Course KnownMachine) → TouchesFrame f said way → has_kill way.steps ≡ false
 touches_quiet f reply.Marked way h = ap has_kill h.1
 touches_quiet f reply.Active way h = ap has_kill h.1
-touches_quiet f (reply.Refused fault.NotKept) way h = ap has_kill h.rests.steps_are
+touches_quiet f (reply.Refused fault.NotKept) way h = ap has_kill h.stays.steps_are
 touches_quiet f other way h = absurd h
 
 notes_quiet : (is_dirty : Bool) (f : ℕ) (said : Reply) (way : Course KnownMachine) → NotesDirt f is_dirty said way → has_kill way.steps ≡ false
 notes_quiet is_dirty f reply.Done way h = ap has_kill h.1
-notes_quiet is_dirty f (reply.Refused fault.NotKept) way h = ap has_kill h.rests.steps_are
+notes_quiet is_dirty f (reply.Refused fault.NotKept) way h = ap has_kill h.stays.steps_are
 notes_quiet is_dirty f other way h = absurd h
 
 cuts_quiet : (sizes : Config) (way : Course Side) → CutsList sizes way → has_kill way.steps ≡ false
@@ -97,7 +97,7 @@ returns_quiet sizes f way h =
 releases_quiet : (sizes : Config) (f : ℕ) (said : Reply) (way : Course Side) → ReleasesFrame sizes f said way → has_kill way.steps ≡ false
 releases_quiet sizes f (reply.Left left) way h = ap has_kill h.steps_are
 releases_quiet sizes f reply.Returned way h = returns_quiet sizes f way h
-releases_quiet sizes f (reply.Refused fault.NotKept) way h = ap has_kill h.does.rests.steps_are
+releases_quiet sizes f (reply.Refused fault.NotKept) way h = ap has_kill h.does.stays.steps_are
 releases_quiet sizes f other way h = absurd h
 
 -- ---- a limit that is written

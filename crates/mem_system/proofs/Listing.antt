@@ -76,33 +76,33 @@ left_over k list left listed split =
 -- a single frame came back and went to the list
 pub returned_single : (t : KnownTable) (sizes : Config) (f : ℕ) (m freed n : KnownMachine) (c d : KnownCpu) (returns : ReturnsUnit f m freed)
     → returns.unit.order ≡ 0 → MakesAs t c.number (side m c) (release_steps f Returned) (side freed c)
-    → BySteps t (side freed c) (side n d) (ListsFrame sizes f) → BySteps t (side m c) (side n d) (ReturnsFrames sizes f)
-returned_single t sizes f m freed n c d returns single first lists = (
-  release_steps f Returned ++ lists.0,
-  record {
+    → BySteps t (ListsFrame sizes f) (side freed c) (side n d) → BySteps t (ReturnsFrames sizes f) (side m c) (side n d)
+returned_single t sizes f m freed n c d returns single first lists = record {
+  steps = release_steps f Returned ++ lists.steps;
+  does = record {
     freed = freed;
     returns = returns;
-    listing = lists.0;
-    single = λ _. lists.1;
+    listing = lists.steps;
+    single = λ _. lists.does;
     block = λ more. absurd (more single);
     steps_are = refl;
-  },
-  makes_both t c.number (release_steps f Returned) lists.0 (side m c) (side freed c) (side n d) first lists.2,
-)
+  };
+  makes = makes_both t c.number (release_steps f Returned) lists.steps (side m c) (side freed c) (side n d) first lists.makes;
+}
 
 -- a block came back
 pub returned_block : (t : KnownTable) (sizes : Config) (f : ℕ) (m freed : KnownMachine) (c : KnownCpu) (returns : ReturnsUnit f m freed)
     → returns.unit.order ≢ 0 → MakesAs t c.number (side m c) (release_steps f Returned) (side freed c)
-    → BySteps t (side m c) (side freed c) (ReturnsFrames sizes f)
-returned_block t sizes f m freed c returns more first = (
-  release_steps f Returned,
-  record {
+    → BySteps t (ReturnsFrames sizes f) (side m c) (side freed c)
+returned_block t sizes f m freed c returns more first = record {
+  steps = release_steps f Returned;
+  does = record {
     freed = freed;
     returns = returns;
     listing = [];
     single = λ single. absurd (more single);
     block = λ _. record { machine = refl; cpu = refl; steps_are = refl };
     steps_are = refl;
-  },
-  first,
-)
+  };
+  makes = first;
+}

@@ -32,7 +32,7 @@ pub rested : (t : KnownTable) (m n : KnownMachine) (c d : KnownCpu) (entered x :
     → MakesAs t c.number (side m c) (open_steps c.number) (side entered c1)
     → Settles (side entered c1) (side x c2) → MakesAs t c1.number (side entered c1) (settle_steps (side entered c1)) (side x c2)
     → MakesAs t c2.number (side x c2) (shut_steps c2.number) (side n d)
-    → BySteps t (side m c) (side n d) SettlesInVisit
+    → BySteps t SettlesInVisit (side m c) (side n d)
 rested t m n c d entered x c1 c2 opened same second shut after first settles rests last =
     let p = c.number in
     let begins = with_visit_of m p 1 in
@@ -42,17 +42,17 @@ rested t m n c d entered x c1 c2 opened same second shut after first settles res
     let settled : Settles (side begins c) (side x c2) = subst (λ (y : KnownMachine × KnownCpu). Settles (side y.0 y.1) (side x c2)) (λ i. (opened i, same i)) settles in
     let done : MakesAs t p (side begins c) (settle_steps (side begins c)) (side x c2) =
     subst (λ (y : KnownMachine × KnownCpu). MakesAs t y.1.number (side y.0 y.1) (settle_steps (side y.0 y.1)) (side x c2)) (λ i. (opened i, same i)) rests in
-    let ended = subst (λ (q : ℕ). MakesAs t q (side x c2) (shut_steps q) (side n d)) two last in (
-      open_steps p ++ (settle_steps (side begins c) ++ shut_steps p),
-      record {
+    let ended = subst (λ (q : ℕ). MakesAs t q (side x c2) (shut_steps q) (side n d)) two last in record {
+      steps = open_steps p ++ (settle_steps (side begins c) ++ shut_steps p);
+      does = record {
         settled = x;
         settles = subst (λ (y : KnownCpu). Settles (side begins c) (side x y)) (sym after) settled;
         machine = shut ∙ ap (λ (q : ℕ). with_visit_of x q 0) two;
         steps_are = refl;
-      },
-      makes_both t p (open_steps p) (settle_steps (side begins c) ++ shut_steps p) (side m c) (side begins c) (side n d) begun
-          (makes_both t p (settle_steps (side begins c)) (shut_steps p) (side begins c) (side x c2) (side n d) done ended),
-    )
+      };
+      makes = makes_both t p (open_steps p) (settle_steps (side begins c) ++ shut_steps p) (side m c) (side begins c) (side n d) begun
+          (makes_both t p (settle_steps (side begins c)) (shut_steps p) (side begins c) (side x c2) (side n d) done ended);
+    }
 
 -- ---- a list that is given back whole
 
@@ -137,7 +137,7 @@ pub emptied : (t : KnownTable) (m n : KnownMachine) (c d : KnownCpu) (entered x 
     → Drains q pages x y
     → ((e : KnownCpu) → MakesAs t e.number (side x e) (drain_steps q (stock_group x q) pages) (side y e))
     → MakesAs t c2.number (side y c2) (shut_steps c2.number) (side n d)
-    → BySteps t (side m c) (side n d) Empties
+    → BySteps t Empties (side m c) (side n d)
 emptied t m n c d entered x y c1 c2 k q pages opened same second named shut after whole first takes gives drains drips last =
     let p = c.number in
     let begins = with_visit_of m p 1 in
@@ -153,9 +153,9 @@ emptied t m n c d entered x y c1 c2 k q pages opened same second named shut afte
     (λ i. (list i, opened i, same i)) gives in
     let dripped : MakesAs t p (side x c2) (drain_steps p (stock_group x p) pages) (side y c2) =
     subst (λ (z : ℕ × ℕ). MakesAs t z.0 (side x c2) (drain_steps z.1 (stock_group x z.1) pages) (side y c2)) (λ i. (two i, its i)) (drips c2) in
-    let ended = subst (λ (r : ℕ). MakesAs t r (side y c2) (shut_steps r) (side n d)) two last in (
-      open_steps p ++ (drain_list_steps p c.list ++ (drain_steps p (stock_group x p) pages ++ shut_steps p)),
-      record {
+    let ended = subst (λ (r : ℕ). MakesAs t r (side y c2) (shut_steps r) (side n d)) two last in record {
+      steps = open_steps p ++ (drain_list_steps p c.list ++ (drain_steps p (stock_group x p) pages ++ shut_steps p));
+      does = record {
         emptied = x;
         takes = subst (λ (z : KnownCpu). TakesManyBack c.list (side begins c) (side x z)) (sym after) taken;
         pages = pages;
@@ -163,10 +163,10 @@ emptied t m n c d entered x y c1 c2 k q pages opened same second named shut afte
         drains = subst (λ (r : ℕ). Drains r pages x y) its drains;
         machine = shut ∙ ap (λ (r : ℕ). with_visit_of y r 0) two;
         steps_are = refl;
-      },
-      makes_both t p (open_steps p) (drain_list_steps p c.list ++ (drain_steps p (stock_group x p) pages ++ shut_steps p)) (side m c) (side begins c)
+      };
+      makes = makes_both t p (open_steps p) (drain_list_steps p c.list ++ (drain_steps p (stock_group x p) pages ++ shut_steps p)) (side m c) (side begins c)
           (side n d) begun
           (makes_both t p (drain_list_steps p c.list) (drain_steps p (stock_group x p) pages ++ shut_steps p) (side begins c) (side x c2)
           (side n d) given
-          (makes_both t p (drain_steps p (stock_group x p) pages) (shut_steps p) (side x c2) (side y c2) (side n d) dripped ended)),
-    )
+          (makes_both t p (drain_steps p (stock_group x p) pages) (shut_steps p) (side x c2) (side y c2) (side n d) dripped ended));
+    }

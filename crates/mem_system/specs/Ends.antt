@@ -50,10 +50,6 @@ pub record Empties (way : Course Side) : Type 0 where
       ++ (drain_steps way.before.cpu.number (stock_group emptied way.before.cpu.number) pages
       ++ shut_steps way.before.cpu.number))
 
--- this is done in a visit, by local steps of the processor
-abbrev pub ByVisit : KnownTable → (Course Side → Type 0) → (before after : Side) → Type 0
-ByVisit table Does before after = BySteps table before after Does
-
 -- Each of these processors is visited so, one after the other: this leads from one machine, with the parts of the
 -- processors, to another, with the parts that are left
 abbrev pub ForEachCpu : (Visit : Side → Side → Type 0) (before : KnownMachine) (cpus : List KnownCpu)
@@ -156,10 +152,10 @@ pub record Ends (table : KnownTable) (stock_table : Words) (locked : KnownLocked
   pub no_pin : pins_of cpus ≡ 0
   pub settled : KnownMachine
   pub settled_cpus : List KnownCpu
-  pub settles : ForEachCpu (ByVisit table SettlesInVisit) locked.machine cpus settled settled_cpus
+  pub settles : ForEachCpu (BySteps table SettlesInVisit) locked.machine cpus settled settled_cpus
   pub last : KnownMachine
   pub spent : List KnownCpu
-  pub empties : ForEachCpu (ByVisit table Empties) settled settled_cpus last spent
+  pub empties : ForEachCpu (BySteps table Empties) settled settled_cpus last spent
   pub all_spent : All (λ cpu. IsSpent table stock_table last cpu) spent
   pub none_lent : (processor : ℕ) → NoneLentTo processor last.spots
   pub stock_words : List ℕ

@@ -15,7 +15,7 @@ use Rattle.step_rules.specs.After.{Run}
 use Rattle.mem_machine.specs.Machines.{KnownMachine, KeepsVisit, Visits}
 use Rattle.mem_machine.specs.Local.{side}
 use Rattle.mem_machine.specs.Steps.{set_max_steps}
-use Rattle.mem_alloc.specs.Stepping.{Course, Rests, course}
+use Rattle.mem_alloc.specs.Stepping.{Course, MachineStays, course}
 use Rattle.mem_system.specs.declared.command.Reply.{Reply}
 use Rattle.mem_system.specs.declared.command.Reply.TheVariants.{Text, Done, Refused}
 use Rattle.mem_system.specs.Usage.{KeepsToLimit}
@@ -97,5 +97,5 @@ pub record WritesLimit (path name value : List ℕ) (way : Course KnownMachine) 
 abbrev pub Writes : (path name value : List ℕ) → Reply → Course KnownMachine → Type 0
 Writes path name value Done way = WritesLimit path name value way
 Writes path name value (Refused fault) way =
-    RefusesWrite way.before.ledger.groups path name value fault × Rests way
+    RefusesWrite way.before.ledger.groups path name value fault × MachineStays way
 Writes path name value other way = ⊥

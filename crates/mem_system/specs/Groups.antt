@@ -6,7 +6,7 @@ use Rattle.group_charge.specs.Charges.{current_of, with_group_removed}
 use Rattle.step_rules.specs.After.{Run}
 use Rattle.mem_machine.specs.Machines.{KnownMachine, AddsGroup}
 use Rattle.mem_machine.specs.Steps.{make_steps, remove_steps}
-use Rattle.mem_alloc.specs.Stepping.{Course, Rests, course}
+use Rattle.mem_alloc.specs.Stepping.{Course, MachineStays, course}
 use Rattle.mem_system.specs.declared.command.Reply.{Reply}
 use Rattle.mem_system.specs.declared.command.Reply.TheVariants.{Group, Done, Refused}
 use Rattle.mem_system.specs.Leaves.{IsLeafAt, HasNoLeaf}
@@ -21,7 +21,7 @@ pub record MakesNewGroup (path : List ℕ) (number : ℕ) (way : Course KnownMac
 -- Mkdir: the group is made; or it is refused for the first cause that holds, and nothing changed
 abbrev pub MakesGroup : (path : List ℕ) → Reply → Course KnownMachine → Type 0
 MakesGroup path (Group number) way = MakesNewGroup path number way
-MakesGroup path (Refused fault) way = (make_fault way.before.ledger.groups path ≡ Some fault) × Rests way
+MakesGroup path (Refused fault) way = (make_fault way.before.ledger.groups path ≡ Some fault) × MachineStays way
 MakesGroup path other way = ⊥
 
 -- the usage of the group is lowered to nothing, and it is gone
@@ -47,5 +47,5 @@ pub record StaysBusy (path : List ℕ) (way : Course KnownMachine) : Type 0 wher
 abbrev pub Removes : (path : List ℕ) → Reply → Course KnownMachine → Type 0
 Removes path Done way = RemovesGroup path way
 Removes path (Refused Busy) way = StaysBusy path way
-Removes path (Refused fault) way = HasNoLeaf way.before.ledger.groups path fault × Rests way
+Removes path (Refused fault) way = HasNoLeaf way.before.ledger.groups path fault × MachineStays way
 Removes path other way = ⊥

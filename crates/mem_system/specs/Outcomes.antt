@@ -44,10 +44,10 @@ HasItsGroups ledger other = Unit {0}
 -- A call came to this outcome: a list of local steps leads from one side to another, and this is done by them, with the
 -- reply that the ledger tells of the outcome then
 abbrev pub ComesTo : KnownTable → Outcome → (Reply → Course Side → Type 0) → (before after : Side) → Type 0
-ComesTo table outcome Does before after = BySteps table before after (Does (reply_of after.machine.ledger outcome))
+ComesTo table outcome Does before after = BySteps table (Does (reply_of after.machine.ledger outcome)) before after
 
 -- so it is of the machine alone, whoever holds the lock
 abbrev pub ComesToForAny : KnownTable → Outcome → (Reply → Course KnownMachine → Type 0)
     → (before after : KnownMachine) → Type 0
 ComesToForAny table outcome Does before after =
-    ByStepsOfAny table before after (Does (reply_of after.ledger outcome))
+    ByStepsOfAny table (Does (reply_of after.ledger outcome)) before after

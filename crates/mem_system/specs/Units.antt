@@ -4,14 +4,14 @@ use Rattle.group_tree.specs.declared.fault.Fault.TheVariants.{NotKept}
 use Rattle.lru_lists.specs.declared.lru.Touched.TheVariants as touched
 use Rattle.mem_machine.specs.Machines.{KnownMachine, home_of}
 use Rattle.mem_machine.specs.Marks.{TouchesUnit, Dirties}
-use Rattle.mem_alloc.specs.Stepping.{Course, Rests}
+use Rattle.mem_alloc.specs.Stepping.{Course, MachineStays}
 use Rattle.mem_system.specs.declared.command.Reply.{Reply}
 use Rattle.mem_system.specs.declared.command.Reply.TheVariants.{Done, Marked, Active, Refused}
 
 -- the frame heads no kept unit, and nothing changed
 pub record HeadsNoUnit (frame : ℕ) (way : Course KnownMachine) : Type 0 where
   pub on_no_list : home_of way.before.links frame ≡ None
-  pub rests : Rests way
+  pub stays : MachineStays way
 
 -- Touch: the unit is marked, on the inactive list; or it is at the newest end of the active list, unmarked; or there
 -- is none

@@ -11,7 +11,7 @@ use Rattle.mem_reclaim.specs.Rounds.{MakesRounds, max_rounds, pages_missing}
 use Rattle.mem_reclaim.specs.Staying.{Keeps, MissedAll}
 use Rattle.mem_alloc.specs.Room.{with_limit_noted}
 use Rattle.mem_alloc.specs.Kills.{KillsFor}
-use Rattle.mem_alloc.specs.Stepping.{Course, course, Rests}
+use Rattle.mem_alloc.specs.Stepping.{Course, course, MachineStays}
 
 -- The stocks of the group's subtree are drained, and then its units are reclaimed, in at most 16 rounds, as long as its
 -- usage is above the limit. Where it is above it even then, each clean unit that the subtree still keeps was tried, and
@@ -41,9 +41,9 @@ pub record LowersByKills (group limit : ℕ) (way : Course KnownMachine) : Type 
 -- the group's usage is lowered to the limit where it is above it, also by kills, and else nothing is done
 pub record LowersAbove (group limit : ℕ) (way : Course KnownMachine) : Type 0 where
   pub above : limit < current_of way.before.ledger group → LowersByKills group limit way
-  pub within : current_of way.before.ledger group ≤ limit → Rests way
+  pub within : current_of way.before.ledger group ≤ limit → MachineStays way
 
 -- the group's usage is kept to its limit, if it has one
 abbrev pub KeepsToLimit : (group : ℕ) → Option ℕ → Course KnownMachine → Type 0
-KeepsToLimit group None way = Rests way
+KeepsToLimit group None way = MachineStays way
 KeepsToLimit group (Some limit) way = LowersAbove group limit way

@@ -44,8 +44,8 @@ fn allocate_as<N: BootName>(
 ) -> Result<Frame, AllocFault>
     requires visit { MayObey N.frames N.stocks sizes (side machine.old cpu.old) }
     requires there { IsTrue (has_group machine.old.ledger.groups group) }
-    ensures allocates { BySteps N.frames (side machine.old cpu.old) (side machine.new cpu.new)
-        (AllocatesAs sizes group order result) }
+    ensures allocates { BySteps N.frames (AllocatesAs sizes group order result)
+        (side machine.old cpu.old) (side machine.new cpu.new) }
     ensures stays { KeepsVisit N.frames (side machine.old cpu.old) (side machine.new cpu.new) }
     ensures fresh { FreshOf (reply_of machine.new.ledger (outcome_of result)) order cpu.new.fresh }
     ensures at_most_high { ListAndFreshStayWithin sizes cpu.old cpu.new }

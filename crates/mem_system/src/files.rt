@@ -77,7 +77,7 @@ fn set_limit<N: BootName>(
 )
     requires there { IsTrue (has_group machine.old.ledger.groups group) }
     requires below_root { group ≢ 0 }
-    ensures sets { ByStepsOfAny N.frames machine.old machine.new (SetsLimit group limit) }
+    ensures sets { ByStepsOfAny N.frames (SetsLimit group limit) machine.old machine.new }
     ensures stays { KeepsAnyVisit N.frames machine.old machine.new }
 {
     machine.set_max(group, limit);

@@ -4,7 +4,8 @@ ghost use Rattle.std.specs.Prelude.{◌≡◌, [], All};
 ghost use Rattle.frame_word.specs.Seats.{IsShut};
 ghost use Rattle.mem_machine.specs.Machines.{KnownMachine};
 ghost use Rattle.mem_system.specs.Locked.{AllShut};
-ghost use Rattle.mem_system.specs.Ends.{ByVisit, Empties, ForEachCpu, SettlesInVisit};
+ghost use Rattle.mem_system.specs.Commands.{BySteps};
+ghost use Rattle.mem_system.specs.Ends.{Empties, ForEachCpu, SettlesInVisit};
 ghost use Rattle.mem_system.specs.Ends.{IsSettledUnpinned, IsSpent, LendsAndFillsNone, pins_of};
 ghost use Rattle.mem_machine.specs.Local.{side};
 
@@ -15,7 +16,7 @@ use mem_machine::Machine;
 fn settle_cpu<N: BootName>(machine: &mut Machine<N>, tables: &Tables<N>, cpu: &mut Cpu<N>)
     requires shut { AllShut machine.old }
     requires no_pin { cpu.old.pins ≡ [] }
-    ensures settles { ByVisit N.frames SettlesInVisit (side machine.old cpu.old) (side machine.new cpu.new) }
+    ensures settles { BySteps N.frames SettlesInVisit (side machine.old cpu.old) (side machine.new cpu.new) }
     ensures shut { AllShut machine.new }
     ensures settled { IsSettledUnpinned cpu.new }
 {
@@ -28,7 +29,7 @@ fn settle_cpu<N: BootName>(machine: &mut Machine<N>, tables: &Tables<N>, cpu: &m
 fn empty_cpu<N: BootName>(machine: &mut Machine<N>, tables: &Tables<N>, cpu: &mut Cpu<N>)
     requires shut { AllShut machine.old }
     requires settled { IsSettledUnpinned cpu.old }
-    ensures empties { ByVisit N.frames Empties (side machine.old cpu.old) (side machine.new cpu.new) }
+    ensures empties { BySteps N.frames Empties (side machine.old cpu.old) (side machine.new cpu.new) }
     ensures shut { AllShut machine.new }
     ensures spent { IsSpent N.frames N.stocks machine.new cpu.new }
     ensures others { LendsAndFillsNone machine.old machine.new }
@@ -49,7 +50,7 @@ pub(crate) fn settle_all<N: BootName>(
 )
     requires shut { AllShut machine.old }
     requires no_pin { pins_of cpus.old ≡ 0 }
-    ensures settles { ForEachCpu (ByVisit N.frames SettlesInVisit) machine.old cpus.old machine.new cpus.new }
+    ensures settles { ForEachCpu (BySteps N.frames SettlesInVisit) machine.old cpus.old machine.new cpus.new }
     ensures shut { AllShut machine.new }
     ensures settled { All IsSettledUnpinned cpus.new }
 {
@@ -66,7 +67,7 @@ pub(crate) fn empty_all<N: BootName>(
 )
     requires shut { AllShut machine.old }
     requires settled { All IsSettledUnpinned cpus.old }
-    ensures empties { ForEachCpu (ByVisit N.frames Empties) machine.old cpus.old machine.new cpus.new }
+    ensures empties { ForEachCpu (BySteps N.frames Empties) machine.old cpus.old machine.new cpus.new }
     ensures shut { AllShut machine.new }
     ensures spent { All (λ cpu. IsSpent N.frames N.stocks machine.new cpu) cpus.new }
 {

@@ -39,7 +39,7 @@ fn cut_list<N: BootName>(
 )
     requires visit { Visits N.frames (side machine.old cpu.old) }
     requires sizes { IsValidConfig sizes }
-    ensures cuts { BySteps N.frames (side machine.old cpu.old) (side machine.new cpu.new) (CutsList sizes) }
+    ensures cuts { BySteps N.frames (CutsList sizes) (side machine.old cpu.old) (side machine.new cpu.new) }
     ensures visit { Visits N.frames (side machine.new cpu.new) }
     ensures room { length cpu.new.list < 256 }
     ensures below_high { length cpu.old.list ≤ sizes.high → length cpu.new.list < sizes.high }
@@ -62,7 +62,7 @@ fn list_frame<N: BootName>(
     requires frame { frame < N.frames.frames }
     requires free { spot_at machine.old.spots frame ≡ Free }
     requires none_fresh { cpu.old.fresh ≡ [] }
-    ensures lists { BySteps N.frames (side machine.old cpu.old) (side machine.new cpu.new) (ListsFrame sizes frame) }
+    ensures lists { BySteps N.frames (ListsFrame sizes frame) (side machine.old cpu.old) (side machine.new cpu.new) }
     ensures stays { KeepsVisit N.frames (side machine.old cpu.old) (side machine.new cpu.new) }
     ensures fresh { cpu.new.fresh ≡ cpu.old.fresh }
     ensures at_most_high { ListStaysWithin sizes cpu.old cpu.new }

@@ -20,7 +20,7 @@ pub(crate) fn lower_usage<N: BootName>(
     limit: u32,
 )
     requires { IsTrue (has_group machine.old.ledger.groups group) }
-    ensures { ByStepsOfAny N.frames machine.old machine.new (LowersUsage group limit) }
+    ensures { ByStepsOfAny N.frames (LowersUsage group limit) machine.old machine.new }
 {
     machine.drain_stocks(tables, group);
     make_rounds(machine, tables, group, 0, limit);
@@ -35,7 +35,7 @@ pub(crate) fn lower_above<N: BootName>(
     limit: u32,
 )
     requires { IsTrue (has_group machine.old.ledger.groups group) }
-    ensures { ByStepsOfAny N.frames machine.old machine.new (LowersAbove group limit) }
+    ensures { ByStepsOfAny N.frames (LowersAbove group limit) machine.old machine.new }
 {
     if limit < machine.current(group) {
         note_limit(machine, group, 0);

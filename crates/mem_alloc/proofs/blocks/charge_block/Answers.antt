@@ -1,4 +1,4 @@
-use Rattle.std.proofs.Common.{◌≡◌, ℕ, ◌^◌, true, refl, sym, ◌∙◌, subst, rules}
+use Rattle.std.proofs.Common.{◌≡◌, ℕ, ◌^◌, true, refl, sym, ap, ◌∙◌, subst, rules}
 use Rattle.std.specs.Prelude.{Err, IfErr}
 use Rattle.group_tree.specs.Groups.{has_group}
 use Rattle.group_tree.proofs.CallerLemmas.{in_subtree-above}
@@ -8,10 +8,10 @@ use Rattle.mem_machine.specs.Steps.{over_steps}
 use Rattle.cpu_part.specs.Cpus.{KnownCpu}
 use Rattle.mem_alloc.specs.Stepping.{ByStepsOfAny}
 use Rattle.mem_alloc.specs.Room.{HasMadeRoom, RelievesLimit, TellsRoom, has_room_at}
-use Rattle.mem_alloc.proofs.Lowering.{Lowers, lowers_both, lowered_visit, usages_fall}
+use Rattle.mem_alloc.proofs.Lowering.{lowered_visit, usages_fall}
 use Rattle.mem_alloc.proofs.Killing.{relieving_lowers}
 use Rattle.mem_alloc.proofs.Making.{answer_is, so_far_more, so_far_over}
-use Rattle.mem_alloc.proofs.Taking.{is_refused, by_refusal, is_none, by_none, so_far_takes, so_far_no_block, room_still, none_opened, over_charges, over_leaves}
+use Rattle.mem_alloc.proofs.Taking.{is_refused, by_refusal, is_none, by_none, so_far_takes, so_far_no_block, room_still, none_opened, over_charges, over_not_none}
 use Rattle.mem_alloc.proofs.blocks.charge_block.Goals as goal
 
 pub returns-in-Ok-clause-charges : goal.returns-in-Ok-clause-charges
@@ -26,15 +26,17 @@ returns-in-Err-NoBlock-clause-charges g c =
     (is_none _ _ c.args.group c.args.order c.in-Err-NoBlock.field-0 c.in-Err-NoBlock.field-0-is c.in-Err-NoBlock.ensures.refuses) c.in-Err-NoBlock.ensures.cpu
     (by_none c.tries.cpu.number c.args.group c.args.order _ _ c.in-Err-NoBlock.field-0 c.in-Err-NoBlock.field-0-is c.in-Err-NoBlock.ensures.steps)
 
-pub returns-in-Err-NoBlock-clause-leaves : goal.returns-in-Err-NoBlock-clause-leaves
-returns-in-Err-NoBlock-clause-leaves g c =
+pub returns-in-Err-NoBlock-clause-opened : goal.returns-in-Err-NoBlock-clause-opened
+returns-in-Err-NoBlock-clause-opened g c =
     let none = is_none _ _ c.args.group c.args.order c.in-Err-NoBlock.field-0 c.in-Err-NoBlock.field-0-is c.in-Err-NoBlock.ensures.refuses in
-    record {
-      opened = none_opened g.N.BootName.frames c.args.group c.args.order c.args.cpu.now c.args.machine.now c.tries.machine c.tries.invariant.0 c.tries.cpu
-          c.tries.invariant.1 c.take_block.new.self c.take_block.new.cpu none;
-      still = λ _. room_still g.N.BootName.frames c.args.group c.args.order c.args.cpu.now c.args.machine.now c.tries.machine c.tries.invariant.0 c.tries.cpu
-          c.tries.invariant.1 c.take_block.new.self c.take_block.new.cpu none c.requires.may_charge.there c.requires.may_charge.fits;
-    }
+    none_opened g.N.BootName.frames c.args.group c.args.order c.args.cpu.now c.args.machine.now c.tries.machine c.tries.invariant.0 c.tries.cpu
+    c.tries.invariant.1 c.take_block.new.self c.take_block.new.cpu none
+
+pub returns-in-Err-NoBlock-clause-room : goal.returns-in-Err-NoBlock-clause-room
+returns-in-Err-NoBlock-clause-room g c _ =
+    let none = is_none _ _ c.args.group c.args.order c.in-Err-NoBlock.field-0 c.in-Err-NoBlock.field-0-is c.in-Err-NoBlock.ensures.refuses in
+    room_still g.N.BootName.frames c.args.group c.args.order c.args.cpu.now c.args.machine.now c.tries.machine c.tries.invariant.0 c.tries.cpu
+    c.tries.invariant.1 c.take_block.new.self c.take_block.new.cpu none c.requires.may_charge.there c.requires.may_charge.fits
 
 pub make_room-requires : goal.make_room-requires
 make_room-requires g c =
@@ -47,24 +49,24 @@ tries-smaller g c =
     let r = is_refused _ _ c.args.group c.args.order c.in-Err-Over.field-0 c.in-Err-Over.over c.in-Err-Over.field-0-is c.in-Err-Over.ensures.refuses in
     usages_fall g.N.BootName.frames c.tries.machine c.make_room.new.machine c.in-Err-Over.over.group (2 ^ c.args.order)
     (relieving_lowers g.N.BootName.frames c.args.group c.in-Err-Over.over.group c.frames-pages.result c.tries.machine c.make_room.new.machine
-    (subst (λ (y : KnownMachine). ByStepsOfAny g.N.BootName.frames y c.make_room.new.machine
-    (RelievesLimit c.args.group c.in-Err-Over.over.group c.frames-pages.result)) r.1
-    c.make_room.ensures.clears)) c.make_room.ensures.below r.0.over
+    (subst (λ (y : KnownMachine). ByStepsOfAny g.N.BootName.frames (RelievesLimit c.args.group c.in-Err-Over.over.group c.frames-pages.result)
+    y c.make_room.new.machine) r.1
+    c.make_room.ensures.relieves)) c.make_room.ensures.below r.0.over
     (subst (λ (n : ℕ). has_room_at c.make_room.new.machine.ledger c.in-Err-Over.over.group n ≡ true) c.frames-pages.ensures.frames
     c.in_ok-make_room-in-Err-Over.ensures.room.room)
 
 pub tries-preserved : goal.tries-preserved
 tries-preserved g c =
     let t = g.N.BootName.frames in
-    let clears = subst (λ (n : ℕ). ByStepsOfAny g.N.BootName.frames c.take_block.new.self c.make_room.new.machine
-    (RelievesLimit c.args.group c.in-Err-Over.over.group n)) c.frames-pages.ensures.frames c.make_room.ensures.clears in
+    let relieves = subst (λ (n : ℕ). ByStepsOfAny g.N.BootName.frames (RelievesLimit c.args.group c.in-Err-Over.over.group n)
+    c.take_block.new.self c.make_room.new.machine) c.frames-pages.ensures.frames c.make_room.ensures.relieves in
     let r = is_refused _ _ c.args.group c.args.order c.in-Err-Over.field-0 c.in-Err-Over.over c.in-Err-Over.field-0-is c.in-Err-Over.ensures.refuses in
     let run = subst (λ (z : KnownMachine × KnownCpu). MakesAs t c.tries.cpu.number (side c.tries.machine c.tries.cpu)
     (over_steps c.args.group (2 ^ c.args.order) c.in-Err-Over.over.group) (side z.0 z.1)) (λ i. (r.1 i, c.in-Err-Over.ensures.cpu i))
     (by_refusal c.tries.cpu.number c.args.group c.args.order _ _ c.in-Err-Over.field-0 c.in-Err-Over.over c.in-Err-Over.field-0-is
     c.in-Err-Over.ensures.steps) in (
       so_far_more t c.args.group (2 ^ c.args.order) c.args.cpu.now c.args.machine.now c.tries.machine c.tries.invariant.0 c.take_block.new.self c.tries.machine
-          c.make_room.new.machine c.tries.cpu c.in-Err-Over.over.group r.1 c.tries.invariant.1 r.0 refl run clears
+          c.make_room.new.machine c.tries.cpu c.in-Err-Over.over.group r.1 c.tries.invariant.1 r.0 refl run relieves
           (subst (λ (n : ℕ). HasMadeRoom c.args.group c.in-Err-Over.over.group n c.make_room.new.machine) c.frames-pages.ensures.frames
           c.in_ok-make_room-in-Err-Over.ensures.room),
       c.in-Err-Over.ensures.cpu ∙ c.tries.invariant.1,
@@ -73,8 +75,8 @@ tries-preserved g c =
 pub returns-in_err-make_room-in-Err-Over-clause-charges : goal.returns-in_err-make_room-in-Err-Over-clause-charges
 returns-in_err-make_room-in-Err-Over-clause-charges g c =
     let t = g.N.BootName.frames in
-    let clears = subst (λ (n : ℕ). ByStepsOfAny g.N.BootName.frames c.take_block.new.self c.make_room.new.machine
-    (RelievesLimit c.args.group c.in-Err-Over.over.group n)) c.frames-pages.ensures.frames c.make_room.ensures.clears in
+    let relieves = subst (λ (n : ℕ). ByStepsOfAny g.N.BootName.frames (RelievesLimit c.args.group c.in-Err-Over.over.group n)
+    c.take_block.new.self c.make_room.new.machine) c.frames-pages.ensures.frames c.make_room.ensures.relieves in
     let r = is_refused _ _ c.args.group c.args.order c.in-Err-Over.field-0 c.in-Err-Over.over c.in-Err-Over.field-0-is c.in-Err-Over.ensures.refuses in
     let run = subst (λ (z : KnownMachine × KnownCpu). MakesAs t c.tries.cpu.number (side c.tries.machine c.tries.cpu)
     (over_steps c.args.group (2 ^ c.args.order) c.in-Err-Over.over.group) (side z.0 z.1)) (λ i. (r.1 i, c.in-Err-Over.ensures.cpu i))
@@ -85,25 +87,27 @@ returns-in_err-make_room-in-Err-Over-clause-charges g c =
     over_charges t c.args.group c.args.order c.from_residual.result x c.args.machine.now c.make_room.new.machine c.args.cpu.now
     c.take_block.new.cpu (answer_is c.from_residual.result x c.from_residual.ensures.0 is) (c.in-Err-Over.ensures.cpu ∙ c.tries.invariant.1)
     (so_far_over t c.args.group (2 ^ c.args.order) c.args.cpu.now c.args.machine.now c.tries.machine c.tries.invariant.0 c.take_block.new.self c.tries.machine
-    c.make_room.new.machine c.tries.cpu c.in-Err-Over.over.group r.1 c.tries.invariant.1 r.0 refl run clears x
+    c.make_room.new.machine c.tries.cpu c.in-Err-Over.over.group r.1 c.tries.invariant.1 r.0 refl run relieves x
     (subst (λ (n : ℕ). TellsRoom c.args.group c.in-Err-Over.over.group n (Err x) c.make_room.new.machine) c.frames-pages.ensures.frames
     c.in_err-make_room-in-Err-Over.ensures.room))
 
 pub returns-in_err-make_room-in-Err-Over-clause-visit : goal.returns-in_err-make_room-in-Err-Over-clause-visit
 returns-in_err-make_room-in-Err-Over-clause-visit g c =
-    lowered_visit g.N.BootName.frames _ _ _ c.take_block.new.cpu (relieving_lowers g.N.BootName.frames c.args.group c.in-Err-Over.over.group c.frames-pages.result _ _ c.make_room.ensures.clears) refl
+    lowered_visit g.N.BootName.frames _ _ _ c.take_block.new.cpu (relieving_lowers g.N.BootName.frames c.args.group c.in-Err-Over.over.group c.frames-pages.result _ _ c.make_room.ensures.relieves) refl
     c.in-Err-Over.ensures.visit
 
-pub returns-in_err-make_room-in-Err-Over-clause-leaves : goal.returns-in_err-make_room-in-Err-Over-clause-leaves
-returns-in_err-make_room-in-Err-Over-clause-leaves g c =
+pub returns-in_err-make_room-in-Err-Over-clause-opened : goal.returns-in_err-make_room-in-Err-Over-clause-opened
+returns-in_err-make_room-in-Err-Over-clause-opened g c =
     let t = g.N.BootName.frames in
     let r = is_refused _ _ c.args.group c.args.order c.in-Err-Over.field-0 c.in-Err-Over.over c.in-Err-Over.field-0-is c.in-Err-Over.ensures.refuses in
+    let lowers = relieving_lowers t c.args.group c.in-Err-Over.over.group c.frames-pages.result c.take_block.new.self c.make_room.new.machine c.make_room.ensures.relieves in
+    lowers.opened ∙ ap (λ (y : KnownMachine). y.frame_seat.view.opened) r.1 ∙ c.tries.invariant.0.lowers.opened
+
+pub returns-in_err-make_room-in-Err-Over-clause-room : goal.returns-in_err-make_room-in-Err-Over-clause-room
+returns-in_err-make_room-in-Err-Over-clause-room g c none =
     let x = c.in_err-make_room-in-Err-Over.field-0.0 in
     let is : IfErr c.from_residual.result (λ e. e ≡ x) = search rules in
-    let clears = relieving_lowers t c.args.group c.in-Err-Over.over.group c.frames-pages.result c.take_block.new.self c.make_room.new.machine c.make_room.ensures.clears in
-    over_leaves g.N.BootName.frames c.args.group c.args.order c.in-Err-Over.over.group c.from_residual.result x c.args.machine.now c.make_room.new.machine
+    absurd (over_not_none c.args.group c.args.order c.in-Err-Over.over.group c.from_residual.result x c.make_room.new.machine
     (answer_is c.from_residual.result x c.from_residual.ensures.0 is)
     (subst (λ (n : ℕ). TellsRoom c.args.group c.in-Err-Over.over.group n (Err x) c.make_room.new.machine) c.frames-pages.ensures.frames
-    c.in_err-make_room-in-Err-Over.ensures.room)
-    (lowers_both g.N.BootName.frames c.args.machine.now c.tries.machine c.make_room.new.machine c.tries.invariant.0.lowers
-    (subst (λ (y : KnownMachine). Lowers g.N.BootName.frames y c.make_room.new.machine) r.1 clears))
+    c.in_err-make_room-in-Err-Over.ensures.room) none)

@@ -24,14 +24,14 @@ pub tries-smaller : goal.tries-smaller
 tries-smaller g c =
     usages_fall g.N.BootName.frames c.tries.machine c.make_room.new.machine c.in-Err.over.group 1
     (relieving_lowers g.N.BootName.frames c.args.group c.in-Err.over.group 1 c.tries.machine c.make_room.new.machine
-    (subst (λ (y : KnownMachine). ByStepsOfAny g.N.BootName.frames y c.make_room.new.machine (RelievesLimit c.args.group c.in-Err.over.group 1)) c.in-Err.ensures.unchanged.machine
-    c.make_room.ensures.clears)) c.make_room.ensures.below c.in-Err.ensures.over.over c.in_ok-make_room.ensures.room.room
+    (subst (λ (y : KnownMachine). ByStepsOfAny g.N.BootName.frames (RelievesLimit c.args.group c.in-Err.over.group 1) y c.make_room.new.machine) c.in-Err.ensures.unchanged.machine
+    c.make_room.ensures.relieves)) c.make_room.ensures.below c.in-Err.ensures.over.over c.in_ok-make_room.ensures.room.room
 
 pub tries-preserved : goal.tries-preserved
 tries-preserved g c = (
   so_far_more g.N.BootName.frames c.args.group 1 c.args.cpu.now c.args.machine.now c.tries.machine c.tries.invariant.0 c.fill_stock.new.self c.tries.machine
       c.make_room.new.machine c.tries.cpu c.in-Err.over.group c.in-Err.ensures.unchanged.machine c.tries.invariant.1 c.in-Err.ensures.over refl
-      c.in-Err.ensures.refused c.make_room.ensures.clears c.in_ok-make_room.ensures.room,
+      c.in-Err.ensures.refused c.make_room.ensures.relieves c.in_ok-make_room.ensures.room,
   c.in-Err.ensures.unchanged.cpu ∙ c.tries.invariant.1,
 )
 
@@ -44,9 +44,9 @@ returns-in_err-make_room-clause-charges g c =
     c.fill_stock.new.cpu (answer_is r x c.from_residual.ensures.0 is) (c.in-Err.ensures.unchanged.cpu ∙ c.tries.invariant.1)
     (so_far_over g.N.BootName.frames c.args.group 1 c.args.cpu.now c.args.machine.now c.tries.machine c.tries.invariant.0 c.fill_stock.new.self c.tries.machine
     c.make_room.new.machine c.tries.cpu c.in-Err.over.group c.in-Err.ensures.unchanged.machine c.tries.invariant.1 c.in-Err.ensures.over refl
-    c.in-Err.ensures.refused c.make_room.ensures.clears x c.in_err-make_room.ensures.room)
+    c.in-Err.ensures.refused c.make_room.ensures.relieves x c.in_err-make_room.ensures.room)
 
 pub returns-in_err-make_room-clause-visit : goal.returns-in_err-make_room-clause-visit
 returns-in_err-make_room-clause-visit g c =
-    lowered_visit g.N.BootName.frames _ _ _ c.fill_stock.new.cpu (relieving_lowers g.N.BootName.frames c.args.group c.in-Err.over.group 1 _ _ c.make_room.ensures.clears) refl
+    lowered_visit g.N.BootName.frames _ _ _ c.fill_stock.new.cpu (relieving_lowers g.N.BootName.frames c.args.group c.in-Err.over.group 1 _ _ c.make_room.ensures.relieves) refl
     c.in-Err.ensures.visit

@@ -16,5 +16,5 @@ returns-clause-pays g c =
 pub returns-clause-page : goal.returns-clause-page
 returns-clause-page g c =
     let b = c.charge_frame.ensures.charges in
-    charged_page g.N.BootName.frames c.args.sizes c.args.group c.charge_frame.result _ _ _ _ b.0 c.requires.sizes b.1
+    charged_page g.N.BootName.frames c.args.sizes c.args.group c.charge_frame.result _ _ _ _ b.steps c.requires.sizes b.does
     (ap (λ e. e.fresh) c.holds_page.ensures.cpu ∙ c.requires.none_fresh)

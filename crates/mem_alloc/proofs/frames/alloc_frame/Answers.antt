@@ -17,7 +17,7 @@ returns-in_err-pay_for_frame g c =
     let not = c.from_residual.ensures.0 in
     let is : IfErr r (λ e. e ≡ x) = search rules in
     let refused = c.in_err-pay_for_frame.ensures.pays in
-    let k = pays_keep t c.args.sizes c.args.group (Err x) _ _ _ _ refused.0 refused.1 in
+    let k = pays_keep t c.args.sizes c.args.group (Err x) _ _ _ _ refused.steps refused.does in
     let fresh = k.fresh ∙ c.requires.settled.0 in
     record {
       allocates = not_paid t c.args.sizes c.args.group c.args.machine.now c.args.cpu.now alive r x _ _ not is refused;
@@ -38,8 +38,8 @@ returns-in_err-fill_list g c =
     let is : IfErr r (λ e. e ≡ x) = subst (λ (z : Result ℕ AllocFault). IfErr z (λ e. e ≡ x)) (sym err.1) err.2 in
     let paid = c.in_ok-pay_for_frame.ensures.pays in
     let none = c.in_err-fill_list.ensures.fills in
-    let first = pays_keep t c.args.sizes c.args.group (Ok tt) _ _ _ _ paid.0 paid.1 in
-    let then = no_frame_keeps g.N.BootName.frames c.args.sizes x _ _ _ _ none.0 none.1 in
+    let first = pays_keep t c.args.sizes c.args.group (Ok tt) _ _ _ _ paid.steps paid.does in
+    let then = no_frame_keeps g.N.BootName.frames c.args.sizes x _ _ _ _ none.steps none.does in
     let k = keeps_both _ _ _ _ _ _ first then in
     let fresh = k.fresh ∙ c.requires.settled.0 in
     record {
@@ -54,8 +54,8 @@ pub take_front-requires-clause-none_fresh : goal.take_front-requires-clause-none
 take_front-requires-clause-none_fresh g c =
     let paid = c.in_ok-pay_for_frame.ensures.pays in
     let fills = c.in_ok-fill_list.ensures.fills in
-    let first = pays_keep g.N.BootName.frames c.args.sizes c.args.group (Ok tt) _ _ _ _ paid.0 paid.1 in
-    (filled_part g.N.BootName.frames c.args.sizes _ _ _ _ fills.0 c.requires.sizes fills.1).fresh ∙ first.fresh ∙ c.requires.settled.0
+    let first = pays_keep g.N.BootName.frames c.args.sizes c.args.group (Ok tt) _ _ _ _ paid.steps paid.does in
+    (filled_part g.N.BootName.frames c.args.sizes _ _ _ _ fills.steps c.requires.sizes fills.does).fresh ∙ first.fresh ∙ c.requires.settled.0
 
 pub returns : goal.returns
 returns g c =
@@ -63,8 +63,8 @@ returns g c =
     let alive : is_killed c.args.machine.now.killed c.args.group ≡ false = sym c.is_killed.ensures ∙ c.if-is_killed.false in
     let paid = c.in_ok-pay_for_frame.ensures.pays in
     let fills = c.in_ok-fill_list.ensures.fills in
-    let first = pays_keep t c.args.sizes c.args.group (Ok tt) _ _ _ _ paid.0 paid.1 in
-    let next = filled_part g.N.BootName.frames c.args.sizes _ _ _ _ fills.0 c.requires.sizes fills.1 in
+    let first = pays_keep t c.args.sizes c.args.group (Ok tt) _ _ _ _ paid.steps paid.does in
+    let next = filled_part g.N.BootName.frames c.args.sizes _ _ _ _ fills.steps c.requires.sizes fills.does in
     let takes = c.take_front.ensures.pays in
     let cpu = takes.takes.2 in
     let none = next.fresh ∙ first.fresh ∙ c.requires.settled.0 in

@@ -8,15 +8,15 @@ pub returns-then-refill-gt0-clause-fills : goal.returns-then-refill-gt0-clause-f
 returns-then-refill-gt0-clause-fills g c =
     let t = g.N.BootName.frames in
     let done = c.refill.ensures in
-    let many = c.if-refill-gt0.true in (
-      refill_steps c.args.cpu.now.number done.refills.frames,
-      inr (record {
+    let many = c.if-refill-gt0.true in record {
+      steps = refill_steps c.args.cpu.now.number done.refills.frames;
+      does = inr (record {
         is = nil_from_length c.args.cpu.now.list (omega (arith, c.list_len.ensures.count));
         does = inl (lent_batch t c.refill.result c.args.sizes.batch _ _ _ _ done.refills (omega (arith, many)) done.at_most
             done.fewer_only_at_the_end);
-      }),
-      done.refills.steps,
-    )
+      });
+      makes = done.refills.steps;
+    }
 
 pub returns-then-refill-gt0-clause-page : goal.returns-then-refill-gt0-clause-page
 returns-then-refill-gt0-clause-page g c = lent_page _ c.args.group _ _ _ _ c.refill.ensures.refills.lends c.requires.page
@@ -37,11 +37,11 @@ returns-then-refill_in_rounds-clause-fills g c =
     done.refills c.if-refill-gt0.false done.fewer_only_at_the_end c.requires.sizes.batch_low in
     let reclaims = reclaims_for t c.args.sizes c.args.machine.now c.refill.new.self c.refill_in_rounds.new.machine
     c.refill_in_rounds.new.machine c.args.cpu.now c.refill.new.cpu c.refill_in_rounds.new.cpu
-    (nil_from_length c.args.cpu.now.list (omega (arith, c.list_len.ensures.count))) first c.if-refill_in_rounds.ensures.refills in (
-      reclaims.0,
-      inr (record { is = nil_from_length c.args.cpu.now.list (omega (arith, c.list_len.ensures.count)); does = inr reclaims.1 }),
-      reclaims.2,
-    )
+    (nil_from_length c.args.cpu.now.list (omega (arith, c.list_len.ensures.count))) first c.if-refill_in_rounds.ensures.refills in record {
+      steps = reclaims.steps;
+      does = inr (record { is = nil_from_length c.args.cpu.now.list (omega (arith, c.list_len.ensures.count)); does = inr reclaims.does });
+      makes = reclaims.makes;
+    }
 
 pub returns-then-refill_in_rounds-clause-page : goal.returns-then-refill_in_rounds-clause-page
 returns-then-refill_in_rounds-clause-page g c =
@@ -53,7 +53,7 @@ returns-then-refill_in_rounds-clause-page g c =
     c.refill_in_rounds.new.machine c.args.cpu.now c.refill.new.cpu c.refill_in_rounds.new.cpu
     (nil_from_length c.args.cpu.now.list (omega (arith, c.list_len.ensures.count))) first c.if-refill_in_rounds.ensures.refills in
     reclaimed_page t c.args.sizes c.args.machine.now c.refill_in_rounds.new.machine c.args.cpu.now c.refill_in_rounds.new.cpu
-    reclaims.0 reclaims.1 c.args.group c.requires.page
+    reclaims.steps reclaims.does c.args.group c.requires.page
 
 pub returns-then-refill_in_rounds-clause-front : goal.returns-then-refill_in_rounds-clause-front
 returns-then-refill_in_rounds-clause-front g c =
@@ -65,7 +65,7 @@ returns-then-refill_in_rounds-clause-front g c =
     c.refill_in_rounds.new.machine c.args.cpu.now c.refill.new.cpu c.refill_in_rounds.new.cpu
     (nil_from_length c.args.cpu.now.list (omega (arith, c.list_len.ensures.count))) first c.if-refill_in_rounds.ensures.refills in
     reclaimed_front t c.args.sizes c.args.machine.now c.refill_in_rounds.new.machine c.args.cpu.now c.refill_in_rounds.new.cpu
-    reclaims.0 reclaims.1
+    reclaims.steps reclaims.does
 
 pub returns-clause-fills : goal.returns-clause-fills
 returns-clause-fills g c =

@@ -31,7 +31,7 @@ returns-then-given-eq0-clause-refills g c =
     c.loop-round.machine c.loop-round.cpu c.loop-round.invariant c.loop-round-test.true c.reclaim_anywhere-given.result
     c.reclaim_anywhere-given.new.machine c.reclaim_anywhere-given.ensures.reclaims c.reclaim_anywhere-given.ensures.missed
     c.reclaim_anywhere-given.ensures.keeps
-    c.refill.new.self c.refill.new.cpu none.0 none.2 none.1 c.if-given-eq0.true
+    c.refill.new.self c.refill.new.cpu none.steps none.makes none.does c.if-given-eq0.true
 
 pub loop-round-preserved : goal.loop-round-preserved
 loop-round-preserved g c =
@@ -43,8 +43,8 @@ loop-round-preserved g c =
     c.loop-round.machine c.loop-round.cpu c.loop-round.invariant c.loop-round-test.true c.reclaim_anywhere-given.result
     c.reclaim_anywhere-given.new.machine c.reclaim_anywhere-given.ensures.reclaims c.reclaim_anywhere-given.ensures.missed
     c.reclaim_anywhere-given.ensures.keeps
-    c.refill.new.self c.refill.new.cpu none.0 none.2 none.1 c.if-given-eq0.false
-    (no_frame_spares t _ _ _ _ none.0 none.1)
+    c.refill.new.self c.refill.new.cpu none.steps none.makes none.does c.if-given-eq0.false
+    (no_frame_spares t _ _ _ _ none.steps none.does)
 
 pub returns-clause-refills : goal.returns-clause-refills
 returns-clause-refills g c =

@@ -44,7 +44,7 @@ returns-in_default g c =
     let none = subst (λ (o : Option ℕ). IsVictim c.kills.machine c.args.limited o) c.in_default.is c.kill.ensures.victim in
     let same : c.kill.new.machine ≡ c.kills.machine =
     subst (λ (o : Option ℕ). KillsVictim t c.args.limited o c.kills.machine c.kill.new.machine) c.in_default.is c.kill.ensures.kills in
-    subst (λ (y : KnownMachine). ByStepsOfAny t c.args.machine.now y (KillsFor c.args.requester c.args.limited c.args.pages)) (sym same)
+    subst (λ (y : KnownMachine). ByStepsOfAny t (KillsFor c.args.requester c.args.limited c.args.pages) c.args.machine.now y) (sym same)
     (kills_end c.args.requester t c.args.limited c.args.pages c.args.machine.now c.note_oom.new.self c.kills.machine over
     c.note_oom.ensures.machine c.note_oom.ensures.steps c.kills.invariant (λ wanting. none))
 

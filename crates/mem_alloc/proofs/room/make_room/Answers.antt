@@ -27,7 +27,7 @@ kill_for_few-requires g c =
     (sym (c.note_max.ensures.machine ∙ ap (λ (y : KnownMachine). record y { ledger = with_max_noted y.ledger c.args.limited }) c.note_limit.ensures))
     (note_lowers g.N.BootName.frames c.args.machine.now c.args.limited c.args.pages) in
     let lowers = lowers_both g.N.BootName.frames _ _ _ noted (all_lower g.N.BootName.frames c.args.limited g.N.BootName.frames.cpus _ _ sub.drains sub.all) in
-    ap (λ (x : List Group). has_group x c.args.limited) c.reclaim_for.ensures.reclaims.1.keeps.groups
+    ap (λ (x : List Group). has_group x c.args.limited) c.reclaim_for.ensures.reclaims.does.keeps.groups
     ∙ lowered_there g.N.BootName.frames _ _ c.args.limited lowers c.requires
 
 pub has_room_at-requires : goal.has_room_at-requires
@@ -39,31 +39,31 @@ has_room_at-requires g c =
     (note_lowers g.N.BootName.frames c.args.machine.now c.args.limited c.args.pages) in
     let lowers = lowers_both g.N.BootName.frames _ _ _ noted (all_lower g.N.BootName.frames c.args.limited g.N.BootName.frames.cpus _ _ sub.drains sub.all) in
     let there : has_group c.reclaim_for.new.machine.ledger.groups c.args.limited ≡ true =
-    ap (λ (x : List Group). has_group x c.args.limited) c.reclaim_for.ensures.reclaims.1.keeps.groups
+    ap (λ (x : List Group). has_group x c.args.limited) c.reclaim_for.ensures.reclaims.does.keeps.groups
     ∙ lowered_there g.N.BootName.frames _ _ c.args.limited lowers c.requires in
     let killed = c.kill_for_few.ensures in
     subst (λ (l : Ledger). has_group l.groups c.args.limited ≡ true) (sym c.charges.ensures)
     (lowered_there g.N.BootName.frames _ _ c.args.limited
-    (few_lower g.N.BootName.frames c.args.requester c.args.limited c.args.pages c.reclaim_for.new.machine c.kill_for_few.new.machine killed.0 killed.1) there)
+    (few_lower g.N.BootName.frames c.args.requester c.args.limited c.args.pages c.reclaim_for.new.machine c.kill_for_few.new.machine killed.steps killed.does) there)
 
-pub returns-then-is_killed-clause-clears : goal.returns-then-is_killed-clause-clears
-returns-then-is_killed-clause-clears g c =
+pub returns-then-is_killed-clause-relieves : goal.returns-then-is_killed-clause-relieves
+returns-then-is_killed-clause-relieves g c =
     relieves_by g.N.BootName.frames c.args.requester c.args.limited c.args.pages c.args.machine.now c.drain_stocks.new.self c.reclaim_for.new.machine
     c.kill_for_few.new.machine
     (clears_by g.N.BootName.frames c.args.limited c.args.pages c.drain_stocks.result c.args.machine.now c.note_limit.new.machine c.note_max.new.self
     c.drain_stocks.new.self c.note_limit.ensures c.note_max.ensures.machine c.note_max.ensures.steps c.drain_stocks.ensures.drains c.drain_stocks.ensures.drained)
     c.reclaim_for.ensures.reclaims c.kill_for_few.ensures
 
-pub returns-then-has_room_at-clause-clears : goal.returns-then-has_room_at-clause-clears
-returns-then-has_room_at-clause-clears g c =
+pub returns-then-has_room_at-clause-relieves : goal.returns-then-has_room_at-clause-relieves
+returns-then-has_room_at-clause-relieves g c =
     relieves_by g.N.BootName.frames c.args.requester c.args.limited c.args.pages c.args.machine.now c.drain_stocks.new.self c.reclaim_for.new.machine
     c.kill_for_few.new.machine
     (clears_by g.N.BootName.frames c.args.limited c.args.pages c.drain_stocks.result c.args.machine.now c.note_limit.new.machine c.note_max.new.self
     c.drain_stocks.new.self c.note_limit.ensures c.note_max.ensures.machine c.note_max.ensures.steps c.drain_stocks.ensures.drains c.drain_stocks.ensures.drained)
     c.reclaim_for.ensures.reclaims c.kill_for_few.ensures
 
-pub returns-else-has_room_at-clause-clears : goal.returns-else-has_room_at-clause-clears
-returns-else-has_room_at-clause-clears g c =
+pub returns-else-has_room_at-clause-relieves : goal.returns-else-has_room_at-clause-relieves
+returns-else-has_room_at-clause-relieves g c =
     relieves_by g.N.BootName.frames c.args.requester c.args.limited c.args.pages c.args.machine.now c.drain_stocks.new.self c.reclaim_for.new.machine
     c.kill_for_few.new.machine
     (clears_by g.N.BootName.frames c.args.limited c.args.pages c.drain_stocks.result c.args.machine.now c.note_limit.new.machine c.note_max.new.self

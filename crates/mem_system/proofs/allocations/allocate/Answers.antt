@@ -23,12 +23,12 @@ returns-clause-allocates g c =
     let within : c.in-Some-of.order ≤ 10 = search rules in
     let same : c.in-Some-of.order ≡ c.args.order = search rules in
     let told = c.allocate_as-answer.ensures.allocates in
-    rw c.outcome_of.ensures (subst (λ (k : ℕ). BySteps t before after (Allocates c.args.sizes c.args.path.now k (reply_of after.machine.ledger (outcome_of answer)))) same (
-      told.0,
-      allocated c.args.sizes c.args.path.now c.in-Some-of.order c.in-Some.group (course t before told.0 after) found within answer told.1
-          c.allocate_as-answer.ensures.there,
-      told.2,
-    ))
+    rw c.outcome_of.ensures (subst (λ (k : ℕ). BySteps t (Allocates c.args.sizes c.args.path.now k (reply_of after.machine.ledger (outcome_of answer))) before after) same (record {
+      steps = told.steps;
+      does = allocated c.args.sizes c.args.path.now c.in-Some-of.order c.in-Some.group (course t before told.steps after) found within answer told.does
+          c.allocate_as-answer.ensures.there;
+      makes = told.makes;
+    }))
 
 pub returns-clause-groups : goal.returns-clause-groups
 returns-clause-groups g c = rw c.outcome_of.ensures (has_groups c.allocate_as-answer.new.machine.ledger c.allocate_as-answer.result c.allocate_as-answer.ensures.there)

@@ -13,17 +13,17 @@ pub returns-then-exponent-eq0-clause-there : goal.returns-then-exponent-eq0-clau
 returns-then-exponent-eq0-clause-there g c =
     let t = g.N.BootName.frames in
     let told = c.alloc_frame.ensures.allocates in
-    λ h is. frame_over_there t c.args.sizes c.args.group h _ _ _ _ told.0
+    λ h is. frame_over_there t c.args.sizes c.args.group h _ _ _ _ told.steps
     (subst (λ (r : Result ℕ AllocFault). AllocatesFrame c.args.sizes c.args.group r
-    (course t (side c.args.machine.now c.args.cpu.now) told.0 (side c.alloc_frame.new.machine c.alloc_frame.new.cpu))) is told.1)
+    (course t (side c.args.machine.now c.args.cpu.now) told.steps (side c.alloc_frame.new.machine c.alloc_frame.new.cpu))) is told.does)
 
 pub returns-else-exponent-eq0-clause-there : goal.returns-else-exponent-eq0-clause-there
 returns-else-exponent-eq0-clause-there g c =
     let t = g.N.BootName.frames in
     let told = c.alloc_block.ensures.allocates in
-    λ h is. block_over_there t c.args.group c.args.order h _ _ _ _ told.0
+    λ h is. block_over_there t c.args.group c.args.order h _ _ _ _ told.steps
     (subst (λ (r : Result ℕ AllocFault). AllocatesBlock c.args.group c.args.order r
-    (course t (side c.args.machine.now c.args.cpu.now) told.0 (side c.alloc_block.new.machine c.alloc_block.new.cpu))) is told.1)
+    (course t (side c.args.machine.now c.args.cpu.now) told.steps (side c.alloc_block.new.machine c.alloc_block.new.cpu))) is told.does)
 
 pub returns-then-exponent-eq0-clause-fresh : goal.returns-then-exponent-eq0-clause-fresh
 returns-then-exponent-eq0-clause-fresh g c =

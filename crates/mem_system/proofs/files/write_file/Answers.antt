@@ -13,14 +13,14 @@ set_limit-requires-clause-there g c =
 pub returns-clause-written : goal.returns-clause-written
 returns-clause-written g c =
     let is = subst (λ (l : Ledger). IsFileOf l.groups c.args.path.now c.args.name.now c.in-Ok.found.0 Max) c.charges.ensures c.in-Ok.ensures.0 in
-    let set = c.set_limit.ensures.sets in (
-      set.0,
-      record {
+    let set = c.set_limit.ensures.sets in record {
+      steps = set.steps;
+      does = record {
         group = c.in-Ok.found.0;
         limit = c.in-Ok.found.1;
         file = is;
         reads = c.in-Ok.ensures.1;
-        sets = set.1;
-      },
-      set.2,
-    )
+        sets = set.does;
+      };
+      makes = set.makes;
+    }

@@ -41,22 +41,22 @@ returns-clause-removed g c =
     let t = g.N.BootName.frames in
     let leaf = subst (λ (l : Ledger). IsLeafAt l.groups c.args.path.now c.in-Ok.group) c.charges.ensures c.in-Ok.ensures in
     let lowers = c.lower_usage.ensures in
-    let before = c.args.cpu.now in (
-      lowers.0 ++ remove_steps c.in-Ok.group,
-      record {
+    let before = c.args.cpu.now in record {
+      steps = lowers.steps ++ remove_steps c.in-Ok.group;
+      does = record {
         group = c.in-Ok.group;
         leaf = leaf;
-        lowering = lowers.0;
+        lowering = lowers.steps;
         emptied = c.lower_usage.new.machine;
-        lowers = lowers.1;
+        lowers = lowers.does;
         empty = sym c.current.ensures ∙ (let e : c.current.result ≡ 0 = omega arith in e);
         machine = c.remove.ensures.machine;
         steps_are = refl;
-      },
-      makes_both t before.number lowers.0 (remove_steps c.in-Ok.group) (side c.args.machine.now before)
+      };
+      makes = makes_both t before.number lowers.steps (remove_steps c.in-Ok.group) (side c.args.machine.now before)
           (side c.lower_usage.new.machine before) (side c.remove.new.self c.remove.new.cpu)
-          (lowers.2 before) c.remove.ensures.steps,
-    )
+          (lowers.makes before) c.remove.ensures.steps;
+    }
 
 pub returns-clause-stays : goal.returns-clause-stays
 returns-clause-stays g c =

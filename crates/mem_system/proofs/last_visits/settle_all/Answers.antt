@@ -1,5 +1,6 @@
 use Rattle.std.proofs.Common.{◌<◌, ◌≤◌, length, rules}
-use Rattle.mem_system.specs.Ends.{ByVisit, SettlesInVisit, IsSettledUnpinned}
+use Rattle.mem_system.specs.Commands.{BySteps}
+use Rattle.mem_system.specs.Ends.{SettlesInVisit, IsSettledUnpinned}
 use Rattle.mem_system.proofs.InTurns.{so_far_more, so_far_end, no_pin_at, all_more, all_taken}
 use Rattle.mem_system.proofs.last_visits.settle_all.Goals as goal
 
@@ -13,14 +14,14 @@ pub loop-cpu-preserved : goal.loop-cpu-preserved
 loop-cpu-preserved g c =
     let inside : c.loop-cpu.cpu-index < length c.loop-cpu.cpus = search rules in
     let done = c.settle_cpu.ensures in (
-      so_far_more (ByVisit g.N.BootName.frames SettlesInVisit) _ _ _ _ _ _ c.cpu-item.result _ c.loop-cpu.invariant.0 inside done.settles done.shut,
+      so_far_more (BySteps g.N.BootName.frames SettlesInVisit) _ _ _ _ _ _ c.cpu-item.result _ c.loop-cpu.invariant.0 inside done.settles done.shut,
       all_more IsSettledUnpinned c.loop-cpu.cpus c.loop-cpu.cpu-index c.settle_cpu.new.cpu inside c.loop-cpu.invariant.1 done.settled,
     )
 
 pub returns-clause-settles : goal.returns-clause-settles
 returns-clause-settles g c =
     let past : length c.loop-cpu.cpus ≤ c.loop-cpu.cpu-index = search rules in
-    so_far_end (ByVisit g.N.BootName.frames SettlesInVisit) _ _ _ _ _ c.loop-cpu.invariant.0 past
+    so_far_end (BySteps g.N.BootName.frames SettlesInVisit) _ _ _ _ _ c.loop-cpu.invariant.0 past
 
 pub returns-clause-settled : goal.returns-clause-settled
 returns-clause-settled g c =

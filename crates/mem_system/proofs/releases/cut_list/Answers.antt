@@ -12,17 +12,17 @@ returns-then-list_len-sizes-clause-cuts g c =
     let stands : c.args.sizes.high ≤ length before.list = omega (arith, c.list_len.ensures.count) in
     let kept = cut_off _ _ _ _ _ done.takes in
     let all = whole_batch c.drain_list.result c.args.sizes.batch c.args.sizes.high before.list c.drain_list.new.cpu.list done.at_most done.listed
-    done.fewer_only_at_the_end kept.split c.requires.sizes.high_low stands in (
-      drain_list_steps before.number (take c.drain_list.result before.list),
-      record {
+    done.fewer_only_at_the_end kept.split c.requires.sizes.high_low stands in record {
+      steps = drain_list_steps before.number (take c.drain_list.result before.list);
+      does = record {
         cut = take c.drain_list.result before.list;
         at_high = λ _. ap (λ (k : ℕ). take k before.list) all;
         below_high = λ less. absurd (omega (arith, less, stands));
         takes = done.takes;
         steps_are = refl;
-      },
-      done.steps,
-    )
+      };
+      makes = done.steps;
+    }
 
 pub returns-then-list_len-sizes-clause-room : goal.returns-then-list_len-sizes-clause-room
 returns-then-list_len-sizes-clause-room g c =
@@ -50,11 +50,11 @@ returns-then-list_len-sizes-clause-below_high g c =
 
 pub returns-else-list_len-sizes-clause-cuts : goal.returns-else-list_len-sizes-clause-cuts
 returns-else-list_len-sizes-clause-cuts g c =
-    let below : length c.args.cpu.now.list < c.args.sizes.high = omega (arith, c.list_len.ensures.count) in (
-      [],
-      record { cut = []; at_high = λ stands. absurd (omega (arith, stands, below)); below_high = λ _. refl; takes = record { machine = refl; cpu = refl }; steps_are = refl },
-      makes_none g.N.BootName.frames c.args.cpu.now.number (side c.args.machine.now c.args.cpu.now),
-    )
+    let below : length c.args.cpu.now.list < c.args.sizes.high = omega (arith, c.list_len.ensures.count) in record {
+      steps = [];
+      does = record { cut = []; at_high = λ stands. absurd (omega (arith, stands, below)); below_high = λ _. refl; takes = record { machine = refl; cpu = refl }; steps_are = refl };
+      makes = makes_none g.N.BootName.frames c.args.cpu.now.number (side c.args.machine.now c.args.cpu.now);
+    }
 
 pub returns-else-list_len-sizes-clause-below_high : goal.returns-else-list_len-sizes-clause-below_high
 returns-else-list_len-sizes-clause-below_high g c = search rules

@@ -9,11 +9,11 @@ use Rattle.mem_system.proofs.releases.list_frame.Goals as goal
 use Rattle.mem_machine.proofs.Followed.{makes_both}
 
 pub lend-requires-clause-free : goal.lend-requires-clause-free
-lend-requires-clause-free g c = (cut_off _ _ _ _ _ c.cut_list.ensures.cuts.1.takes).free c.args.frame c.requires.free
+lend-requires-clause-free g c = (cut_off _ _ _ _ _ c.cut_list.ensures.cuts.does.takes).free c.args.frame c.requires.free
 
 pub lend-requires-clause-room : goal.lend-requires-clause-room
 lend-requires-clause-room g c =
-    let kept = cut_off _ _ _ _ _ c.cut_list.ensures.cuts.1.takes in
+    let kept = cut_off _ _ _ _ _ c.cut_list.ensures.cuts.does.takes in
     let none = ap length (kept.fresh ∙ c.requires.none_fresh) in
     let room = c.cut_list.ensures.room in
     omega (arith, none, room)
@@ -24,24 +24,24 @@ returns-clause-lists g c =
     let before = c.args.cpu.now in
     let cuts = c.cut_list.ensures.cuts in
     let p = before.number in
-    let same : c.cut_list.new.cpu.number ≡ p = (cut_off _ _ _ _ _ cuts.1.takes).number in
+    let same : c.cut_list.new.cpu.number ≡ p = (cut_off _ _ _ _ _ cuts.does.takes).number in
     let lent = subst (λ (q : ℕ). MakesAs t q (side c.cut_list.new.machine c.cut_list.new.cpu) (lend_steps q c.args.frame)
-    (side c.lend.new.self c.lend.new.cpu)) same c.lend.ensures.steps in (
-      cuts.0 ++ lend_steps p c.args.frame,
-      record {
+    (side c.lend.new.self c.lend.new.cpu)) same c.lend.ensures.steps in record {
+      steps = cuts.steps ++ lend_steps p c.args.frame;
+      does = record {
         mid = side c.cut_list.new.machine c.cut_list.new.cpu;
-        cutting = cuts.0;
-        cuts = cuts.1;
+        cutting = cuts.steps;
+        cuts = cuts.does;
         lends = c.lend.ensures.lends;
         steps_are = refl;
-      },
-      makes_both t p cuts.0 (lend_steps p c.args.frame) (side c.args.machine.now before) (side c.cut_list.new.machine c.cut_list.new.cpu)
-          (side c.lend.new.self c.lend.new.cpu) cuts.2 lent,
-    )
+      };
+      makes = makes_both t p cuts.steps (lend_steps p c.args.frame) (side c.args.machine.now before) (side c.cut_list.new.machine c.cut_list.new.cpu)
+          (side c.lend.new.self c.lend.new.cpu) cuts.makes lent;
+    }
 
 pub returns-clause-stays : goal.returns-clause-stays
 returns-clause-stays g c =
-    let kept = cut_off _ _ _ _ _ c.cut_list.ensures.cuts.1.takes in
+    let kept = cut_off _ _ _ _ _ c.cut_list.ensures.cuts.does.takes in
     record {
       visit = c.lend.ensures.visit;
       opened = ap (λ (k : KnownMachine). k.frame_seat.view.opened) c.lend.ensures.lends.machine ∙ kept.opened;
@@ -51,7 +51,7 @@ returns-clause-stays g c =
 
 pub returns-clause-fresh : goal.returns-clause-fresh
 returns-clause-fresh g c =
-    ap (λ (e : KnownCpu). e.fresh) c.lend.ensures.lends.cpu ∙ (cut_off _ _ _ _ _ c.cut_list.ensures.cuts.1.takes).fresh
+    ap (λ (e : KnownCpu). e.fresh) c.lend.ensures.lends.cpu ∙ (cut_off _ _ _ _ _ c.cut_list.ensures.cuts.does.takes).fresh
 
 pub returns-clause-at_most_high : goal.returns-clause-at_most_high
 returns-clause-at_most_high g c =
