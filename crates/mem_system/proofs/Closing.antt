@@ -33,7 +33,7 @@ pub turn_long : (Visit : Side → Side → Type 0) (m : KnownMachine) (cpus : Li
 turn_long Visit m [] n [] turn = refl
 turn_long Visit m [] n (d ∷ after) turn = absurd turn
 turn_long Visit m (c ∷ cpus) n [] turn = absurd turn
-turn_long Visit m (c ∷ cpus) n (d ∷ after) turn = let rest = turn_long Visit turn.0 cpus n after turn.2 in omega (arith, rest)
+turn_long Visit m (c ∷ cpus) n (d ∷ after) turn = let rest = turn_long Visit turn.between cpus n after turn.rest in omega (arith, rest)
 
 -- a list that is written back whole
 pub written_back : (k : ℕ) (new old : List KnownCpu) → length new ≡ length old → k ≡ length old → take k (new ++ drop (length new) old) ≡ new
@@ -112,7 +112,7 @@ module _ (t : KnownTable) (w : Words) (m : KnownMachine) (cpus : List KnownCpu) 
   abbrev kept : ℕ → ℕ
   kept f = one_if (is_some (home_of m.links f))
 
-  word_of_frame : (f : ℕ) → f < t.frames → slice_index closed.words f ≡ kept f
+  word_of_frame : (f : ℕ) → f < t.frames → slice_index closed.frame_words f ≡ kept f
   word_of_frame f inside =
       let rule = closed.rule.each_frame f inside in
       let zone : (note_of m.frame_seat.view f).references ≡ kept f = (ok.spots f inside).references in
@@ -122,7 +122,7 @@ module _ (t : KnownTable) (w : Words) (m : KnownMachine) (cpus : List KnownCpu) 
         | inr other ↦ elim other [
           | inl in_hand ↦ let nothing = in_hand.0 in let no = in_hand.1 in omega (arith, nothing, no, zone, none)
           | inr passing ↦
-              let p = slice_index closed.words f - no_mark in
+              let p = slice_index closed.frame_words f - no_mark in
               let low = passing.0 in
               let high = passing.1 in
               let visit = closed.rule.each_visit p (omega (arith, low)) (omega (arith, high, low)) in
@@ -211,7 +211,7 @@ all_ends t w l cpus x rested y spent a frame_seats stock_seats drops quiet no_pi
       no_page = λ p some within. (found t w y spent shut all closed p some within).3;
       stock_words = closed.stock_words;
       told = told_each t w y spent shut all closed;
-      words = closed.words;
+      frame_words = closed.frame_words;
       last_words = record { rule = closed.rule; references = word_of_frame t w y spent shut all closed };
       counted = subst (λ (k : ℕ). IsAuditOf t y k a) drops_are tells;
       adds_up = record {

@@ -46,7 +46,7 @@ so_far_more Visit i m cpus x y now any d so_far inside one shut =
       left = drop-set-lt (i + 1) now i d (omega arith) ∙ ap (λ (l : List KnownCpu). drop 1 l) next;
       turns = λ n rest turn. subst (λ (l : List KnownCpu). ForEachCpu Visit m cpus n l)
           (sym (append_assoc (take i now) (d ∷ []) rest) ∙ ap (λ (l : List KnownCpu). l ++ rest) (sym (take_more_set now i d inside)))
-          (so_far.turns n (d ∷ rest) (subst (λ (l : List KnownCpu). ForEachCpu Visit x l n (d ∷ rest)) (sym (drop_more cpus i any within)) (y, its, turn)));
+          (so_far.turns n (d ∷ rest) (subst (λ (l : List KnownCpu). ForEachCpu Visit x l n (d ∷ rest)) (sym (drop_more cpus i any within)) (record { between = y; first = its; rest = turn })));
       shut = shut;
     }
 

@@ -10,8 +10,6 @@ use Rattle.group_tree.specs.Groups.{has_group, in_subtree, limit_of, number_at, 
 use Rattle.group_tree.specs.Room.{fits_limit}
 use Rattle.group_tree.proofs.CallerLemmas.{limit_of-limited}
 use Rattle.group_charge.specs.Charges.{current_of}
-use Rattle.control_files.specs.declared.file.File.TheVariants.{Max}
-use Rattle.control_files.specs.Limit.{ReadsAs}
 use Rattle.zone_sizes.specs.declared.config.Config.{Config}
 use Rattle.cpu_part.specs.Cpus.{KnownCpu}
 use Rattle.step_rules.specs.State.{State}
@@ -38,7 +36,7 @@ use Rattle.mem_system.specs.declared.command.Cmd.TheVariants.{Mkdir, Rmdir, Writ
 use Rattle.mem_system.specs.declared.command.Reply.{Reply}
 use Rattle.mem_system.specs.declared.command.Reply.TheVariants as reply
 use Rattle.mem_system.specs.Groups.{MakesGroup, Removes}
-use Rattle.mem_system.specs.Files.{IsFileOf, SetsLimit, Writes, with_limit_of}
+use Rattle.mem_system.specs.Files.{IsLimitFor, SetsLimit, Writes, with_limit_of}
 use Rattle.mem_alloc.specs.Room.{with_limit_noted}
 use Rattle.mem_system.specs.Usage.{LowersUsage, LowersAbove, LowersByKills, KeepsToLimit}
 use Rattle.mem_system.specs.Allocations.{Allocates, AllocatesFor}
@@ -163,13 +161,13 @@ module _ (t : KnownTable) (MayAsk : List Group → ℕ → ℕ → Type 0) (s : 
 -- ---- all commands
 
 writes_no_rash : (t : KnownTable) (cmd : Cmd) (path name value : List ℕ) (said : Reply) (s : KnownMachine) (c : KnownCpu) (steps : Run) (n : KnownMachine)
-    (z : State) → ((g : ℕ) (of : Option ℕ) → IsFileOf s.ledger.groups path name g Max → ReadsAs value of
+    (z : State) → ((g : ℕ) (of : Option ℕ) → IsLimitFor s.ledger.groups path name value g of
     → MayAskFor cmd s.ledger.groups (with_limit s.ledger.groups g of) g 0)
     → IsLocalRun c.number (local_of t s c) steps z → Writes path name value said (course t s steps n)
     → NoRashKill t (MayAskFor cmd s.ledger.groups) s c steps
 writes_no_rash t cmd path name value reply.Done s c steps n z asks whole h =
-    sets_rash t (MayAskFor cmd s.ledger.groups) s c h.group h.limit steps n z (found_there s.ledger.groups path h.group h.file.number)
-    (asks h.group h.limit h.file h.reads) whole h.sets
+    sets_rash t (MayAskFor cmd s.ledger.groups) s c h.group h.limit steps n z (found_there s.ledger.groups path h.group h.asks.file.number)
+    (asks h.group h.limit h.asks) whole h.sets
 writes_no_rash t cmd path name value (reply.Refused fault) s c steps n z asks whole h =
     rash_quiet t (MayAskFor cmd s.ledger.groups) s c [] steps (ap has_kill h.1.steps_are)
 writes_no_rash t cmd path name value other s c steps n z asks whole h = absurd h
@@ -220,7 +218,7 @@ obeys_no_rash t sizes (Rmdir path) said s c steps n z h whole =
     rash_quiet t (MayAskFor (Rmdir path) s.ledger.groups) s c [] steps (removes_quiet path.now said (course t s steps n.machine) h.does)
 obeys_no_rash t sizes (Write path file value) said s c steps n z h whole =
     writes_no_rash t (Write path file value) path.now file.now value.now said s c steps n.machine z
-    (λ g of file reads. record { limit = of; file = file; reads = reads; now_is = refl; no_page = refl }) whole h.does
+    (λ g of asked. record { limit = of; asks = asked; now_is = refl; no_page = refl }) whole h.does
 obeys_no_rash t sizes (Read path file) said s c steps n z h whole =
     rash_quiet t (MayAskFor (Read path file) s.ledger.groups) s c [] steps (ap has_kill h.1.steps_are)
 obeys_no_rash t sizes Settle said s c steps n z h whole =

@@ -2,12 +2,10 @@
 use Rattle.std.specs.Prelude.{◌≡◌, ℕ, ◌^◌, Option, Some, List}
 use Rattle.group_tree.specs.declared.group.Group.{Group}
 use Rattle.group_tree.specs.Groups.{number_at, with_limit}
-use Rattle.control_files.specs.declared.file.File.TheVariants.{Max}
-use Rattle.control_files.specs.Limit.{ReadsAs}
 use Rattle.mem_alloc.specs.NoRash.{IsChargedBelow}
 use Rattle.mem_system.specs.declared.command.Cmd.{Cmd}
 use Rattle.mem_system.specs.declared.command.Cmd.TheVariants.{Write, Alloc}
-use Rattle.mem_system.specs.Files.{IsFileOf}
+use Rattle.mem_system.specs.Files.{IsLimitFor}
 
 -- What groups are killed for: the limit of this group has no room for so many pages more. Beside it the groups, with
 -- their limits, as the command found them and as they are now
@@ -27,8 +25,7 @@ pub record AsksForPages (path : List ℕ) (order : ℕ) (asked : Ask) : Type 0 w
 -- a Write asks by the limit that it wrote, for no page more
 pub record AsksForLimit (path name value : List ℕ) (asked : Ask) : Type 0 where
   pub limit : Option ℕ
-  pub file : IsFileOf asked.groups_before path name asked.limited Max
-  pub reads : ReadsAs value limit
+  pub asks : IsLimitFor asked.groups_before path name value asked.limited limit
   pub now_is : asked.groups ≡ with_limit asked.groups_before asked.limited limit
   pub no_page : asked.pages ≡ 0
 

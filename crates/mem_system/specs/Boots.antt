@@ -1,4 +1,4 @@
--- What a contract sees of a boot, and of the parts of its processors at first.
+-- What a contract sees of a boot, of a system, and of the parts of its processors at first.
 use Rattle.std.specs.Prelude.{◌≡◌, ℕ, zero, suc, ◌+◌, List, [], ◌∷◌}
 use Rattle.frame_word.specs.Seats.{KnownTable, KnownSeat, first_zone_view, first_cpu_view, first_cpu_seats}
 use Rattle.stock_word.specs.Stock.{Words, Seated, first_zone_stock, first_processor, first_seats}
@@ -12,11 +12,16 @@ pub record KnownBoot : Type 0 where
   pub frames : KnownTable
   pub stocks : Words
 
+-- What a system shares: the two tables of its boot. What lies behind its lock no clause sees
+pub record KnownSystem : Type 0 where
+  pub frames : KnownTable
+  pub stocks : Words
+
 -- the tables have these sizes
-pub record IsSizedAs (sizes : Config) (table : KnownTable) (words : Words) : Type 0 where
+pub record IsSizedAs (sizes : Config) (table : KnownTable) (stock_table : Words) : Type 0 where
   pub frames : table.frames ≡ sizes.frames
   pub cpus : table.cpus ≡ sizes.cpus
-  pub stock_cpus : words.cpus ≡ sizes.cpus
+  pub stock_cpus : stock_table.cpus ≡ sizes.cpus
 
 -- the sizes are in their ranges, the tables have them, and the seats, the zone's and the processors', are all those of
 -- the tables, none of which did anything
@@ -31,12 +36,13 @@ pub record IsBooted (boot : KnownBoot) (frame_seat : KnownSeat) (stock_seat : Se
 
 -- the part of this processor, which did nothing yet
 abbrev pub part_at_first : KnownTable → Words → (processor : ℕ) → KnownCpu
-part_at_first table words processor =
+part_at_first table stock_table processor =
     first_cpu (record { table = table.table; view = first_cpu_view processor })
-    (record { table = words.table; view = first_processor processor })
+    (record { table = stock_table.table; view = first_processor processor })
 
 -- the parts of so many processors, from the first on, which did nothing yet: no frame is listed, fresh or back, and
 -- there is no pin
 abbrev pub first_cpus : KnownTable → Words → (first count : ℕ) → List KnownCpu
-first_cpus table words first zero = []
-first_cpus table words first (suc more) = part_at_first table words first ∷ first_cpus table words (first + 1) more
+first_cpus table stock_table first zero = []
+first_cpus table stock_table first (suc more) =
+    part_at_first table stock_table first ∷ first_cpus table stock_table (first + 1) more

@@ -38,11 +38,11 @@ IsOfZone table command = NamesFrameBelow table.frames command
 
 -- What a command finds inside its visit: the processor is visited and was settled, the sizes are in their ranges, and
 -- the tables have them
-pub record MayObey (table : KnownTable) (words : Words) (sizes : Config) (now : Side) : Type 0 where
+pub record MayObey (table : KnownTable) (stock_table : Words) (sizes : Config) (now : Side) : Type 0 where
   pub visit : Visits table now
   pub settled : IsSettled now.cpu
   pub valid : IsValidConfig sizes
-  pub sized : IsSizedAs sizes table words
+  pub sized : IsSizedAs sizes table stock_table
 
 -- What the command does inside the visit, and what it answers
 abbrev pub Obeys : Config → Cmd → Reply → Course Side → Type 0

@@ -50,13 +50,20 @@ pub record Empties (way : Course Side) : Type 0 where
       ++ (drain_steps way.before.cpu.number (stock_group emptied way.before.cpu.number) pages
       ++ shut_steps way.before.cpu.number))
 
+-- the processor, the first of several, is visited so, and from the machine between on this is so of the rest
+pub record VisitsFirst (Visit : Side → Side → Type 0) (before : KnownMachine) (cpu cpu_left : KnownCpu)
+    (Rest : KnownMachine → Type 0) : Type 0 where
+  pub between : KnownMachine
+  pub first : Visit (side before cpu) (side between cpu_left)
+  pub rest : Rest between
+
 -- Each of these processors is visited so, one after the other: this leads from one machine, with the parts of the
 -- processors, to another, with the parts that are left
 abbrev pub ForEachCpu : (Visit : Side → Side → Type 0) (before : KnownMachine) (cpus : List KnownCpu)
     (after : KnownMachine) (left : List KnownCpu) → Type 0
 ForEachCpu Visit before [] after [] = after ≡ before
 ForEachCpu Visit before (cpu ∷ cpus) after (cpu_left ∷ left) =
-    (mid : KnownMachine) × Visit (side before cpu) (side mid cpu_left) × ForEachCpu Visit mid cpus after left
+    VisitsFirst Visit before cpu cpu_left (λ between. ForEachCpu Visit between cpus after left)
 ForEachCpu Visit before cpus after left = ⊥
 
 -- nothing of the processor is fresh or back, and it has no pin
@@ -66,8 +73,8 @@ pub record IsSettledUnpinned (cpu : KnownCpu) : Type 0 where
   pub no_pin : cpu.pins ≡ []
 
 -- the processor has no frame on a list and no pin, none is lent to it, and its stock is drained
-pub record IsSpent (table : KnownTable) (words : Words) (machine : KnownMachine) (cpu : KnownCpu) : Type 0 where
-  pub tied : IsTied table words cpu
+pub record IsSpent (table : KnownTable) (stock_table : Words) (machine : KnownMachine) (cpu : KnownCpu) : Type 0 where
+  pub tied : IsTied table stock_table cpu
   pub idle : IsIdle cpu
   pub none_lent : NoneLentTo cpu.number machine.spots
   pub drained : (account_of machine.stock_seat.view cpu.number).filled ≡ false
@@ -110,9 +117,9 @@ pub record HasSeatOf (seats : List Seated) (processor : ℕ) : Type 0 where
   pub number : (view_in seats place).number ≡ processor
 
 -- the words tell the stock of the processor whose seat is at this place
-abbrev pub TellsStockAt : (words : List ℕ) → KnownMachine → (seats : List Seated) (place : ℕ) → Type 0
-TellsStockAt words machine seats place =
-    IsStockOf words (view_in seats place).number machine.stock_seat.view (view_in seats place)
+abbrev pub TellsStockAt : (stock_words : List ℕ) → KnownMachine → (seats : List Seated) (place : ℕ) → Type 0
+TellsStockAt stock_words machine seats place =
+    IsStockOf stock_words (view_in seats place).number machine.stock_seat.view (view_in seats place)
 
 -- Both tables are closed with these seats and the machine's, which was consistent. The frames' words keep the
 -- reference rule. Each processor has a seat at the stocks' table, and the stocks' words are what it and the machine's
@@ -120,8 +127,9 @@ TellsStockAt words machine seats place =
 pub record IsClosed (table : KnownTable) (stock_table : Words) (machine : KnownMachine)
     (frame_seats : List KnownSeat) (stock_seats : List Seated) : Type 0 where
   pub consistent : IsConsistent table stock_table machine
-  pub words : List ℕ
-  pub rule : ReferenceRule table.frames table.cpus words ((machine.frame_seat.view ∷ map view_of frame_seats) ∷ [])
+  pub frame_words : List ℕ
+  pub rule : ReferenceRule table.frames table.cpus frame_words
+      ((machine.frame_seat.view ∷ map view_of frame_seats) ∷ [])
   pub stock_words : List ℕ
   pub each : (processor : ℕ) → 0 < processor → processor ≤ stock_table.cpus → HasSeatOf stock_seats processor
   pub stocks : (place : ℕ) → place < length stock_seats → TellsStockAt stock_words machine stock_seats place
@@ -161,7 +169,7 @@ pub record Ends (table : KnownTable) (stock_table : Words) (locked : KnownLocked
   pub stock_words : List ℕ
   pub told : All (λ cpu. IsStockOf stock_words cpu.number last.stock_seat.view cpu.stock_seat.view) spent
   pub no_page : (processor : ℕ) → 1 ≤ processor → processor ≤ table.cpus → HasNoPage last stock_words processor
-  pub words : List ℕ
-  pub last_words : AreLastWords table last spent words
+  pub frame_words : List ℕ
+  pub last_words : AreLastWords table last spent frame_words
   pub counted : IsAuditOf table last (min (drops_of cpus) max_count) audit
   pub adds_up : AddsUp audit

@@ -85,12 +85,16 @@ pub record SetsLimit (group : ℕ) (limit : Option ℕ) (way : Course KnownMachi
   pub keeps : KeepsToLimit group limit (course way.table (with_limit_of way.before group limit) lowering way.after)
   pub steps_are : way.steps ≡ set_max_steps group limit ++ lowering
 
+-- the file is memory.max of this group, and the value is this limit
+pub record IsLimitFor (groups : List Group) (path name value : List ℕ) (group : ℕ) (limit : Option ℕ) : Type 0 where
+  pub file : IsFileOf groups path name group Max
+  pub reads : ReadsAs value limit
+
 -- the file is memory.max of a group, and the value is the limit that the group gets
 pub record WritesLimit (path name value : List ℕ) (way : Course KnownMachine) : Type 0 where
   pub group : ℕ
   pub limit : Option ℕ
-  pub file : IsFileOf way.before.ledger.groups path name group Max
-  pub reads : ReadsAs value limit
+  pub asks : IsLimitFor way.before.ledger.groups path name value group limit
   pub sets : SetsLimit group limit way
 
 -- Write: the limit is set; or it is refused, and nothing changed

@@ -12,7 +12,9 @@ locked_of fields = record { machine = fields.machine; sizes = fields.sizes }
 
 -- while no one holds the lock, what lies behind it is quiet, and there is room for the seats of all processors, which
 -- are gathered at the end
-pub record IsKept {N : Type 0} (table : KnownTable) (words : Words) (fields : Inside N) : Type 0 where
-  pub quiet : IsQuiet table words (locked_of fields)
-  pub frame_seats : IsEmptyWithRoom fields.sizes.cpus (length fields.frame_seats.items) (vec_capacity fields.frame_seats)
-  pub stock_seats : IsEmptyWithRoom fields.sizes.cpus (length fields.stock_seats.items) (vec_capacity fields.stock_seats)
+pub record IsKept {N : Type 0} (table : KnownTable) (stock_table : Words) (fields : Inside N) : Type 0 where
+  pub quiet : IsQuiet table stock_table (locked_of fields)
+  pub frame_seats :
+      IsEmptyWithRoom fields.sizes.cpus (length fields.frame_seats.items) (vec_capacity fields.frame_seats)
+  pub stock_seats :
+      IsEmptyWithRoom fields.sizes.cpus (length fields.stock_seats.items) (vec_capacity fields.stock_seats)

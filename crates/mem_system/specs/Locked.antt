@@ -17,16 +17,16 @@ abbrev pub AllShut : KnownMachine → Type 0
 AllShut machine = (processor : ℕ) → IsShut machine.frame_seat processor
 
 -- While no one holds the lock: no visit is open, the sizes are in their ranges, and the tables have them
-pub record IsQuiet (table : KnownTable) (words : Words) (locked : KnownLocked) : Type 0 where
+pub record IsQuiet (table : KnownTable) (stock_table : Words) (locked : KnownLocked) : Type 0 where
   pub shut : AllShut locked.machine
   pub valid : IsValidConfig locked.sizes
-  pub sized : IsSizedAs locked.sizes table words
+  pub sized : IsSizedAs locked.sizes table stock_table
 
 -- This is so of some value that lay behind the lock while no one held it: no clause can name that value, since none
 -- looks through the lock
-pub record BehindLock (table : KnownTable) (words : Words) (IsSo : KnownLocked → Type 0) : Type 0 where
+pub record BehindLock (table : KnownTable) (stock_table : Words) (IsSo : KnownLocked → Type 0) : Type 0 where
   pub locked : KnownLocked
-  pub quiet : IsQuiet table words locked
+  pub quiet : IsQuiet table stock_table locked
   pub so : IsSo locked
 
 -- a vector for one kind of the processors' seats, which has none yet, and room for that of each

@@ -14,11 +14,11 @@ SettlesCaller table before after = IsServed table Settle Done before after
 
 -- Through the lock: there was such a value behind it, the caller was settled in it, and this is so of the machine that
 -- was left. No visit was open before and after
-pub record TellsOf (table : KnownTable) (words : Words) (before after : KnownCpu)
-    (tells : KnownMachine → Type 0) : Type 0 where
+pub record TellsOf (table : KnownTable) (stock_table : Words) (tells : KnownMachine → Type 0)
+    (before after : KnownCpu) : Type 0 where
   pub found : KnownLocked
   pub left : KnownLocked
-  pub quiet_before : IsQuiet table words found
+  pub quiet_before : IsQuiet table stock_table found
   pub settles : SettlesCaller table (holder found before) (holder left after)
-  pub quiet_after : IsQuiet table words left
+  pub quiet_after : IsQuiet table stock_table left
   pub told : tells left.machine

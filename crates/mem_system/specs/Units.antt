@@ -2,11 +2,16 @@
 use Rattle.std.specs.Prelude.{◌≡◌, ℕ, Bool, None, []}
 use Rattle.group_tree.specs.declared.fault.Fault.TheVariants.{NotKept}
 use Rattle.lru_lists.specs.declared.lru.Touched.TheVariants as touched
-use Rattle.mem_machine.specs.Machines.{KnownMachine, home_of}
+use Rattle.mem_machine.specs.Machines.{KnownMachine, HeadsKeptUnit, home_of}
 use Rattle.mem_machine.specs.Marks.{TouchesUnit, Dirties}
 use Rattle.mem_alloc.specs.Stepping.{Course, MachineStays}
 use Rattle.mem_system.specs.declared.command.Reply.{Reply}
 use Rattle.mem_system.specs.declared.command.Reply.TheVariants.{Done, Marked, Active, Refused}
+
+-- the frame that was found is that of the number, and heads a kept unit
+pub record IsUnitOf (machine : KnownMachine) (number found : ℕ) : Type 0 where
+  pub same : found ≡ number
+  pub heads : HeadsKeptUnit machine found
 
 -- the frame heads no kept unit, and nothing changed
 pub record HeadsNoUnit (frame : ℕ) (way : Course KnownMachine) : Type 0 where

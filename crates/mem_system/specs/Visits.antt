@@ -26,7 +26,8 @@ use Rattle.mem_system.specs.Commands.{Obeys, ListAndFreshStayWithin}
 
 -- the machine with the processor's visit open (1) or shut (0)
 abbrev pub with_visit_of : KnownMachine → (processor state : ℕ) → KnownMachine
-with_visit_of machine processor state = record machine { frame_seat = seat_with_visit machine.frame_seat processor state }
+with_visit_of machine processor state =
+    record machine { frame_seat = seat_with_visit machine.frame_seat processor state }
 
 -- the side once the processor's visit is open
 abbrev pub visited : Side → Side
@@ -47,7 +48,7 @@ holder locked cpu = record { locked = locked; cpu = cpu }
 
 -- the machine that the holder has behind the lock, and its part
 abbrev pub side_of : Holder → Side
-side_of held = side held.locked.machine held.cpu
+side_of now = side now.locked.machine now.cpu
 
 -- the steps of a visit: it is opened, its processor is settled, these are made, and it is shut
 abbrev pub visit_steps : Side → Run → Run
@@ -97,10 +98,10 @@ pub record EndsVisit (table : KnownTable) (before after : Holder) : Type 0 where
 
 -- Through the lock: there was such a value behind it, with no visit open; the processor was served so in it; and what
 -- it lends the processor then are the frames that the processor's seat has borrowed
-pub record IsVisited (table : KnownTable) (words : Words) (Served : Holder → Holder → Type 0) (before after : KnownCpu)
-    : Type 0 where
+pub record IsVisited (table : KnownTable) (stock_table : Words) (Served : Holder → Holder → Type 0)
+    (before after : KnownCpu) : Type 0 where
   pub found : KnownLocked
   pub left : KnownLocked
-  pub quiet : IsQuiet table words found
+  pub quiet : IsQuiet table stock_table found
   pub served : Served (holder found before) (holder left after)
   pub lent : LentIsBorrowed table left.machine.frame_seat after.frame_seat

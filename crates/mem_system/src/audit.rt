@@ -1,7 +1,5 @@
 //! What is counted where a system ends.
 
-ghost use Rattle.std.specs.Prelude.{◌≡◌};
-ghost use Rattle.mem_machine.specs.Machines.{BalancesCounts};
 ghost use Rattle.mem_system.specs.Ends.{IsAuditOf};
 
 use cpu_part::{BootName, Tables};

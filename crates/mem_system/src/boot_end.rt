@@ -77,8 +77,10 @@ fn close_tables<N: BootName>(
     frame_seats: Vec<FrameSeat>,
     stock_seats: Vec<StockSeat>,
 )
-    requires frames { AreSeatsAt N.frames.table frame_seats.items × (length frame_seats.items ≡ N.frames.cpus) }
-    requires stocks { AreOf N.stocks.table stock_seats.items × (length stock_seats.items ≡ N.stocks.cpus) }
+    requires frames { AreSeatsAt N.frames.table frame_seats.items }
+    requires frame_count { length frame_seats.items ≡ N.frames.cpus }
+    requires stocks { AreOf N.stocks.table stock_seats.items }
+    requires stock_count { length stock_seats.items ≡ N.stocks.cpus }
     ensures { IsClosed N.frames N.stocks machine frame_seats.items stock_seats.items }
 {
     let (frames, stocks) = tables.into_tables();

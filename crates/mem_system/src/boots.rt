@@ -1,4 +1,4 @@
-//! A boot: its two tables with all their seats, and the tables, machine and processors' parts that it is taken apart
+//! A boot: its two tables with all their seats, and the machine, tables and processors' parts that it is taken apart
 //! into.
 
 ghost use Rattle.std.specs.Prelude.{◌≡◌, ◌↔◌, length, All, IfOk};
@@ -87,17 +87,17 @@ impl Boot {
         })
     }
 
-    /// Makes what the boot consists of, under a name of its tables: the tables, what lies behind the lock, and a part
+    /// Makes what the boot consists of, under a name of its tables: what lies behind the lock, the tables, and a part
     /// for each processor, in order. All room that later calls need is reserved here. `AllocError` comes where memory
     /// is wanting; nothing stays then.
     pub fn into_parts<N: BootName>(
         self,
         alloc: Global,
-    ) -> Result<(Tables<N>, Locked<N>, Vec<Cpu<N>>), AllocError>
+    ) -> Result<(Locked<N>, Tables<N>, Vec<Cpu<N>>), AllocError>
         requires frames { self.frames ≡ N.frames }
         requires stocks { self.stocks ≡ N.stocks }
-        ensures machine { IfOk result (λ parts. IsFirst N.frames N.stocks parts.1.machine) }
-        ensures sizes { IfOk result (λ parts. parts.1.sizes ≡ self.sizes) }
+        ensures machine { IfOk result (λ parts. IsFirst N.frames N.stocks parts.0.machine) }
+        ensures sizes { IfOk result (λ parts. parts.0.sizes ≡ self.sizes) }
         ensures cpus { IfOk result (λ parts. parts.2.items ≡ first_cpus N.frames N.stocks 1 self.sizes.cpus) }
         ensures count { IfOk result (λ parts. length parts.2.items ≡ N.frames.cpus) }
         ensures sized { IfOk result (λ _. IsSizedAs self.sizes N.frames N.stocks) }
@@ -115,7 +115,7 @@ impl Boot {
         let machine = Machine::<N>::new(alloc, &tables, frame_seat, stock_seat)?;
         let locked = lock_up(alloc, sizes, machine)?;
         let cpus = make_cpus(alloc, sizes.cpus, frame_seats, stock_seats)?;
-        Ok((tables, locked, cpus))
+        Ok((locked, tables, cpus))
     }
 
     /// Starts the boot under a name of its tables: the system, and a part for each processor, in order. `AllocError`
@@ -127,7 +127,7 @@ impl Boot {
         ensures cpus { IfOk result (λ started. started.1.items ≡ first_cpus N.frames N.stocks 1 self.sizes.cpus) }
         ensures count { IfOk result (λ started. length started.1.items ≡ N.frames.cpus) }
     {
-        let (tables, locked, cpus) = self.into_parts(alloc)?;
+        let (locked, tables, cpus) = self.into_parts(alloc)?;
         Ok((System::of(locked, tables), cpus))
     }
 }
@@ -161,7 +161,8 @@ fn make_cpus<N: BootName>(
 ) -> Result<Vec<Cpu<N>>, AllocError>
     requires frame_seats { frame_seats.items ≡ first_cpu_seats N.frames.table 1 cpus }
     requires stock_seats { stock_seats.items ≡ first_seats N.stocks.table 1 cpus }
-    requires counts { (cpus ≡ N.frames.cpus) × (cpus ≡ N.stocks.cpus) }
+    requires cpus { cpus ≡ N.frames.cpus }
+    requires stock_cpus { cpus ≡ N.stocks.cpus }
     ensures { IfOk result (λ made. made.items ≡ first_cpus N.frames N.stocks 1 cpus) }
 {
     let mut made = Vec::with_capacity(alloc, cpus as usize)?;

@@ -1,12 +1,11 @@
 //! The files of the groups: read and written.
 
-ghost use Rattle.std.specs.Prelude.{◌≡◌, ◌≢◌, ◌<◌, IsTrue, MatchResult};
+ghost use Rattle.std.specs.Prelude.{◌≢◌, IsTrue, IfOk, IfErr};
 ghost use Rattle.group_tree.specs.Groups.{has_group};
-ghost use Rattle.control_files.specs.declared.file.File.TheVariants.{Max};
-ghost use Rattle.control_files.specs.Limit.{ReadsAs};
 ghost use Rattle.mem_system.specs.Outcomes.{ComesToForAny, HasItsGroups, reply_of};
 ghost use Rattle.mem_alloc.specs.Stepping.{ByStepsOfAny};
-ghost use Rattle.mem_system.specs.Files.{IsFileOf, HasNoFile, KeepsAnyVisit, Reads, RefusesWrite, SetsLimit, Writes};
+ghost use Rattle.mem_system.specs.Files.{IsFileOf, IsLimitFor, HasNoFile, Reads, RefusesWrite, Writes};
+ghost use Rattle.mem_system.specs.Files.{KeepsAnyVisit, SetsLimit};
 
 use crate::outcome::Outcome;
 use crate::usage::lower_above;
@@ -20,9 +19,8 @@ use mem_machine::Machine;
 
 // The group of the path and its file of this name.
 fn find_file(charges: &Charges, path: &[u8], name: &[u8]) -> Result<(GroupId, File), Fault>
-    ensures { MatchResult result
-        (λ found. IsFileOf charges.now.groups path.now name.now found.0 found.1)
-        (HasNoFile charges.now.groups path.now name.now) }
+    ensures found { IfOk result (λ found. IsFileOf charges.now.groups path.now name.now found.0 found.1) }
+    ensures none { IfErr result (HasNoFile charges.now.groups path.now name.now) }
 {
     let Some(group) = charges.tree().find(path) else {
         return Err(Fault::NoGroup);
@@ -51,9 +49,9 @@ fn find_limit(
     name: &[u8],
     value: &[u8],
 ) -> Result<(GroupId, Limit), Fault>
-    ensures { MatchResult result
-        (λ found. IsFileOf charges.now.groups path.now name.now found.0 Max × ReadsAs value.now found.1)
-        (RefusesWrite charges.now.groups path.now name.now value.now) }
+    ensures found { IfOk result (λ found.
+        IsLimitFor charges.now.groups path.now name.now value.now found.0 found.1) }
+    ensures refused { IfErr result (RefusesWrite charges.now.groups path.now name.now value.now) }
 {
     let (group, file) = match find_file(charges, path, name) {
         Ok(found) => found,

@@ -1,8 +1,6 @@
 //! The visits of the processors at the end: each is settled, and then each list is given back and each stock drained.
 
 ghost use Rattle.std.specs.Prelude.{◌≡◌, [], All};
-ghost use Rattle.frame_word.specs.Seats.{IsShut};
-ghost use Rattle.mem_machine.specs.Machines.{KnownMachine};
 ghost use Rattle.mem_system.specs.Locked.{AllShut};
 ghost use Rattle.mem_system.specs.Commands.{BySteps};
 ghost use Rattle.mem_system.specs.Ends.{Empties, ForEachCpu, SettlesInVisit};

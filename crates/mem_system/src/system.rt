@@ -13,6 +13,7 @@ use crate::lock::Locked;
 use crate::visits::serve_into;
 use cpu_part::{BootName, Cpu, Tables};
 use group_tree::group::GroupId;
+use std::marker::Model;
 use std::sync::{Mutex, Wait};
 
 /// A boot that has started: the machine behind the zone's lock, and its tables. Processors share it by `&`.
@@ -22,11 +23,20 @@ pub struct System<N: BootName> {
     pub(crate) tables: Tables<N>,
 }
 
+impl<N: BootName> Model for System<N> {
+    ghost use Rattle.mem_system.specs.Boots.{KnownSystem};
+
+    ghost Value = { KnownSystem };
+
+    ghost view = { λ s. record { frames = s.tables.frames; stocks = s.tables.stocks } };
+}
+
 impl<N: BootName> System<N> {
     /// The system of what lies behind the lock and of these tables: processors share it from now on. What it says of
     /// the tables is all that a clause can say: none looks through the lock.
     pub fn of(locked: Locked<N>, tables: Tables<N>) -> System<N>
-        ensures tables { result.tables ≡ tables }
+        ensures frames { result.frames ≡ tables.frames }
+        ensures stocks { result.stocks ≡ tables.stocks }
     {
         let locked = Mutex::new(locked);
         System { locked, tables }
@@ -38,7 +48,8 @@ impl<N: BootName> System<N> {
     pub fn into_parts(self) -> (Locked<N>, Tables<N>)
         ensures quiet { IsQuiet N.frames N.stocks result.0 }
         ensures consistent { IsConsistent N.frames N.stocks result.0.machine }
-        ensures tables { result.1 ≡ self.tables }
+        ensures frames { result.1.frames ≡ self.frames }
+        ensures stocks { result.1.stocks ≡ self.stocks }
     {
         let System { locked, tables } = self;
         let locked = locked.into_inner();

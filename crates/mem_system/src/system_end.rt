@@ -1,7 +1,7 @@
 //! A system that is shut down.
 
 ghost use Rattle.std.specs.Prelude.{◌≡◌, ◌≤◌, length, IfOk, IfErr};
-ghost use Rattle.mem_system.specs.Locked.{KnownLocked};
+ghost use Rattle.mem_system.specs.Locked.{BehindLock};
 ghost use Rattle.mem_system.specs.Ends.{AddsUp, Ends, pins_of};
 
 use crate::audit::Audit;
@@ -24,7 +24,8 @@ impl<N: BootName> System<N> {
     /// ended so.
     pub fn shutdown(self, cpus: Vec<Cpu<N>>) -> Result<Audit, Held<N>>
         requires { length cpus.items ≡ N.frames.cpus }
-        ensures ends { IfOk result (λ audit. (found : KnownLocked) × Ends N.frames N.stocks found cpus.items audit) }
+        ensures ends { IfOk result (λ audit.
+            BehindLock N.frames N.stocks (λ found. Ends N.frames N.stocks found cpus.items audit)) }
         ensures frames { IfOk result (λ audit. audit.frames ≡ N.frames.frames) }
         ensures adds_up { IfOk result (λ audit. AddsUp audit) }
         ensures no_pin { IfOk result (λ _. pins_of cpus.items ≡ 0) }

@@ -65,8 +65,8 @@ impl<N: BootName> System<N> {
         alloc: Global,
         cpu: &mut Cpu<N>,
     ) -> Result<String, AllocError>
-        ensures told { TellsOf N.frames N.stocks cpu.old cpu.new
-            (λ machine. IfOk result (λ text. string_bytes text ≡ show_text machine)) }
+        ensures told { TellsOf N.frames N.stocks
+            (λ machine. IfOk result (λ text. string_bytes text ≡ show_text machine)) cpu.old cpu.new }
         ensures settled { IsSettled cpu.new }
     {
         let mut guard = self.locked.lock(rt);
@@ -84,8 +84,8 @@ impl<N: BootName> System<N> {
         alloc: Global,
         cpu: &mut Cpu<N>,
     ) -> Result<String, AllocError>
-        ensures told { TellsOf N.frames N.stocks cpu.old cpu.new
-            (λ machine. IfOk result (λ text. string_bytes text ≡ blocks_text machine.blocks)) }
+        ensures told { TellsOf N.frames N.stocks
+            (λ machine. IfOk result (λ text. string_bytes text ≡ blocks_text machine.blocks)) cpu.old cpu.new }
         ensures settled { IsSettled cpu.new }
     {
         let mut guard = self.locked.lock(rt);

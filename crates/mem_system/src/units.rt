@@ -1,8 +1,8 @@
 //! Kept units: touched, and noted as dirty or clean.
 
-ghost use Rattle.std.specs.Prelude.{◌≡◌, ◌<◌, None, MatchOption};
-ghost use Rattle.mem_machine.specs.Machines.{HeadsKeptUnit, home_of};
-ghost use Rattle.mem_system.specs.Units.{TouchesFrame, NotesDirt};
+ghost use Rattle.std.specs.Prelude.{◌≡◌, ◌<◌, None, IfSome, IfNone};
+ghost use Rattle.mem_machine.specs.Machines.{home_of};
+ghost use Rattle.mem_system.specs.Units.{IsUnitOf, TouchesFrame, NotesDirt};
 ghost use Rattle.mem_system.specs.Outcomes.{ComesToForAny, HasItsGroups};
 
 use crate::outcome::Outcome;
@@ -19,8 +19,8 @@ pub(crate) fn find_unit<N: BootName>(
     frame: u32,
 ) -> Option<Frame>
     requires { frame < N.frames.frames }
-    ensures { MatchOption result (home_of machine.now.links frame ≡ None)
-        (λ found. (found ≡ frame) × HeadsKeptUnit machine.now frame) }
+    ensures found { IfSome result (λ found. IsUnitOf machine.now frame found) }
+    ensures none { IfNone result (home_of machine.now.links frame ≡ None) }
 {
     let frame = tables.frames.frame(frame).unwrap();
     if !machine.is_kept(frame) {

@@ -42,10 +42,21 @@ close_tables-requires-clause-frames g c =
     let same = written_back c.args.cpus.len c.settle_all.new.cpus c.args.cpus.items long size in
     let longer = turn_long (BySteps t Empties) _ _ _ _ c.empty_all.ensures.empties ∙ ap length second in
     let last = written_back c.args.cpus.len c.empty_all.new.cpus _ longer (size ∙ sym (ap length same ∙ long)) in
-    let seats = c.gather_seats-frame_seats.ensures.frames ∙ ap (λ (l : List KnownCpu). map frame_seat_of l) last in (
-      subst (AreSeatsAt t.table) (sym seats) (frame_seats_at t w c.empty_all.new.machine c.empty_all.new.cpus c.empty_all.ensures.spent),
-      ap length seats ∙ long_frames c.empty_all.new.cpus ∙ longer ∙ ap length same ∙ long ∙ c.requires,
-    )
+    let seats = c.gather_seats-frame_seats.ensures.frames ∙ ap (λ (l : List KnownCpu). map frame_seat_of l) last in
+    subst (AreSeatsAt t.table) (sym seats) (frame_seats_at t w c.empty_all.new.machine c.empty_all.new.cpus c.empty_all.ensures.spent)
+
+pub close_tables-requires-clause-frame_count : goal.close_tables-requires-clause-frame_count
+close_tables-requires-clause-frame_count g c =
+    let t = g.N.BootName.frames in
+    let first = c.deref_mut.ensures.value in
+    let second = c.deref_mut-2.ensures.value in
+    let size = sym c.deref_mut.ensures.len ∙ ap length first in
+    let long = turn_long (ByVisit t SettlesInVisit) _ _ _ _ c.settle_all.ensures.settles ∙ ap length first in
+    let same = written_back c.args.cpus.len c.settle_all.new.cpus c.args.cpus.items long size in
+    let longer = turn_long (ByVisit t Empties) _ _ _ _ c.empty_all.ensures.empties ∙ ap length second in
+    let last = written_back c.args.cpus.len c.empty_all.new.cpus _ longer (size ∙ sym (ap length same ∙ long)) in
+    let seats = c.gather_seats-frame_seats.ensures.frames ∙ ap (λ (l : List KnownCpu). map frame_seat_of l) last in
+    ap length seats ∙ long_frames c.empty_all.new.cpus ∙ longer ∙ ap length same ∙ long ∙ c.requires
 
 pub close_tables-requires-clause-stocks : goal.close_tables-requires-clause-stocks
 close_tables-requires-clause-stocks g c =
@@ -59,10 +70,21 @@ close_tables-requires-clause-stocks g c =
     let longer = turn_long (BySteps t Empties) _ _ _ _ c.empty_all.ensures.empties ∙ ap length second in
     let last = written_back c.args.cpus.len c.empty_all.new.cpus _ longer (size ∙ sym (ap length same ∙ long)) in
     let seats = c.gather_seats-frame_seats.ensures.stocks ∙ ap (λ (l : List KnownCpu). map stock_seat_of l) last in
-    let sized = c.locked.invariant.quiet.sized in (
-      subst (AreOf w.table) (sym seats) (stock_seats_at t w c.empty_all.new.machine c.empty_all.new.cpus c.empty_all.ensures.spent),
-      ap length seats ∙ long_stocks c.empty_all.new.cpus ∙ longer ∙ ap length same ∙ long ∙ c.requires ∙ sized.cpus ∙ sym sized.stock_cpus,
-    )
+    subst (AreOf w.table) (sym seats) (stock_seats_at t w c.empty_all.new.machine c.empty_all.new.cpus c.empty_all.ensures.spent)
+
+pub close_tables-requires-clause-stock_count : goal.close_tables-requires-clause-stock_count
+close_tables-requires-clause-stock_count g c =
+    let t = g.N.BootName.frames in
+    let first = c.deref_mut.ensures.value in
+    let second = c.deref_mut-2.ensures.value in
+    let size = sym c.deref_mut.ensures.len ∙ ap length first in
+    let long = turn_long (ByVisit t SettlesInVisit) _ _ _ _ c.settle_all.ensures.settles ∙ ap length first in
+    let same = written_back c.args.cpus.len c.settle_all.new.cpus c.args.cpus.items long size in
+    let longer = turn_long (ByVisit t Empties) _ _ _ _ c.empty_all.ensures.empties ∙ ap length second in
+    let last = written_back c.args.cpus.len c.empty_all.new.cpus _ longer (size ∙ sym (ap length same ∙ long)) in
+    let seats = c.gather_seats-frame_seats.ensures.stocks ∙ ap (λ (l : List KnownCpu). map stock_seat_of l) last in
+    let sized = c.locked.invariant.quiet.sized in
+    ap length seats ∙ long_stocks c.empty_all.new.cpus ∙ longer ∙ ap length same ∙ long ∙ c.requires ∙ sized.cpus ∙ sym sized.stock_cpus
 
 pub returns-clause-ends : goal.returns-clause-ends
 returns-clause-ends g c =

@@ -34,8 +34,8 @@ new-requires g c =
     let stock_seat = front_is _ _ _ _ (c.loop-dealt.invariant.stock_seats ∙ stock_seats_left g.N.BootName.stocks.table i c.args.cpus c.loop-dealt-test.true)
     c.remove-stock_seat.ensures.value in
     record {
-      frame_seat = frame_seat_first g.N.BootName.frames _ (i + 1) frame_seat (omega arith) (omega (arith, c.requires.counts.0));
-      stock_seat = stock_seat_first g.N.BootName.stocks _ (i + 1) stock_seat (omega arith) (omega (arith, c.requires.counts.1));
+      frame_seat = frame_seat_first g.N.BootName.frames _ (i + 1) frame_seat (omega arith) (omega (arith, c.requires.cpus));
+      stock_seat = stock_seat_first g.N.BootName.stocks _ (i + 1) stock_seat (omega arith) (omega (arith, c.requires.stock_cpus));
       same = ap (λ s. s.view.number) stock_seat ∙ sym (ap (λ s. number_of s) frame_seat);
     }
 
