@@ -23,7 +23,8 @@ ChargesOne group (Ok done) way = AfterRoom group 1 (FillsStock group 1) way
 ChargesOne group (Err cause) way = IsRefusedFor group 1 cause way
 
 -- the limit of some group has no room for all the pages that the stock takes, which is no event; and this is done then
-pub record AfterBatchRefused (sizes : Config) (group : ℕ) (Does : Course Side → Type 0) (way : Course Side) : Type 0 where
+pub record AfterBatchRefused (sizes : Config) (group : ℕ) (Does : Course Side → Type 0)
+    (way : Course Side) : Type 0 where
   pub over : ℕ
   pub batch : LacksRoom way.before.machine group sizes.stock over
   pub later : Run

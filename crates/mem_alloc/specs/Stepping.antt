@@ -64,7 +64,8 @@ pub record ByStepsOfAny (table : KnownTable) (Does : Course KnownMachine → Typ
 -- the misses that the zone's seat noted of each frame grew by the freezes of it that missed among the steps
 abbrev pub CountsMisses : Course KnownMachine → Type 0
 CountsMisses way =
-    (frame : ℕ) → misses_of way.after.frame_seat frame ≡ misses_of way.before.frame_seat frame + missed_in frame way.steps
+    (frame : ℕ)
+    → misses_of way.after.frame_seat frame ≡ misses_of way.before.frame_seat frame + missed_in frame way.steps
 
 -- nothing of the machine changed, without a step
 pub record MachineStays (way : Course KnownMachine) : Type 0 where

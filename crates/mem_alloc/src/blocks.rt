@@ -11,8 +11,8 @@ ghost use Rattle.mem_alloc.specs.Blocks.{TakesAfterDrain, TakesInRounds};
 ghost use Rattle.mem_machine.specs.Local.{side};
 
 use crate::faults::AllocFault;
+use crate::reclaims::reclaim_anywhere;
 use crate::room::make_room;
-use crate::rounds::reclaim_anywhere;
 use cpu_part::{BootName, Cpu, Tables};
 use frame_word::Frame;
 use group_tree::group::GroupId;
@@ -108,8 +108,10 @@ fn take_after_drain<N: BootName>(
 /// Allocates a block of this order for a group that is there, for the processor that is visited and was settled:
 /// 2^`order` pages are charged to the group, and the block is a kept unit of it at once, which goes by its head.
 ///
-/// `Killed`: the group was killed before, and nothing changed. Else, where a limit has no room for the pages, room is
-/// made as `make_room` of `room` says, and `Over` and `Killed` are its refusals.
+/// `Killed`: the group was killed before, and nothing changed. Else, where a limit has no room for the pages, the
+/// stocks of its subtree are drained, clean units of it are reclaimed in at most 16 rounds, and for up to 8 pages
+/// groups of it are killed, until there is room. `Killed` is also the answer where the group itself was killed so;
+/// else, where there is no room still, `Over` names the group of the limit.
 ///
 /// Where no block of the order or above is free, the processor's own list goes back to the zone, and the block is tried
 /// once more. Where there is none still, as many pages as it has are reclaimed from the units of all groups, and it is

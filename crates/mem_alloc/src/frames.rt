@@ -13,7 +13,7 @@ ghost use Rattle.mem_machine.specs.Local.{side};
 
 use crate::charging::pay_for_frame;
 use crate::faults::AllocFault;
-use crate::rounds::reclaim_anywhere;
+use crate::reclaims::reclaim_anywhere;
 use cpu_part::{BootName, Cpu, Tables};
 use frame_word::Frame;
 use group_tree::group::GroupId;
@@ -86,7 +86,9 @@ fn fill_list<N: BootName>(
 ///
 /// `Killed`: the group was killed before, and nothing changed. Else, where the stock holds no page of the group, it is
 /// drained and filled with `sizes.stock` pages where every limit has room for them, else with one page. Where a limit
-/// has no room for that one, room is made as `make_room` of `room` says, and `Over` and `Killed` are its refusals.
+/// has no room for that one, the stocks of its subtree are drained, clean units of it are reclaimed in at most 16
+/// rounds, and groups of it are killed, until there is room. `Killed` is also the answer where the group itself was
+/// killed so; else, where there is no room still, `Over` names the group of the limit.
 ///
 /// Where the list is empty, up to `sizes.batch` free frames come to it. Where none is free, a page is reclaimed from
 /// the units of all groups, and free frames come to the list then: in at most 16 such rounds, of which one that gave

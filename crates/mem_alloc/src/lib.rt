@@ -10,8 +10,8 @@ mod charging;
 mod faults;
 mod frames;
 mod kills;
+mod reclaims;
 mod room;
-mod rounds;
 
 pub use blocks::alloc_block;
 pub use faults::AllocFault;

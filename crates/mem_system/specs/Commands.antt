@@ -8,7 +8,8 @@ use Rattle.zone_sizes.specs.Config.{IsValidConfig}
 use Rattle.mem_machine.specs.Machines.{Visits}
 use Rattle.mem_machine.specs.Local.{Side}
 -- how a call is said by its steps
-pub use Rattle.mem_alloc.specs.Stepping.{Course, course, of_machine, OfMachine, OfMachineAlone, BySteps, MachineStays, Stays}
+pub use Rattle.mem_alloc.specs.Stepping.{Course, course, of_machine, OfMachine, OfMachineAlone, BySteps}
+pub use Rattle.mem_alloc.specs.Stepping.{MachineStays, Stays}
 pub use Rattle.mem_alloc.specs.Stepping.{CountsMisses, IsSettled}
 use Rattle.mem_system.specs.declared.command.Cmd.{Cmd}
 use Rattle.mem_system.specs.declared.command.Cmd.TheVariants.{Mkdir, Rmdir, Write, Read, Settle, Owner}

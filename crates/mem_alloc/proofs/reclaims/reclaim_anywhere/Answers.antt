@@ -3,7 +3,7 @@ use Rattle.std.proofs.lemmas.Bool.{lt-ltb}
 use Rattle.mem_reclaim.specs.Moves.{Leads}
 use Rattle.mem_reclaim.specs.Passes.{Reclaims}
 use Rattle.mem_reclaim.specs.Staying.{MissedAll}
-use Rattle.mem_alloc.proofs.rounds.reclaim_anywhere.Goals as goal
+use Rattle.mem_alloc.proofs.reclaims.reclaim_anywhere.Goals as goal
 
 pub returns-clause-reclaims : goal.returns-clause-reclaims
 returns-clause-reclaims g c =
