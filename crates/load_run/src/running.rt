@@ -31,7 +31,7 @@ pub fn replay_on_boot<N: BootName>(
     requires lines { All (LineIsThere boot.sizes.frames boot.sizes.cpus) lines.now }
     ensures { IfOk result (λ text. AreAnswers boot.sizes is_explained is_audited lines.now text.items) }
 {
-    let (tables, locked, cpus) = boot.into_parts::<N>(alloc)?;
+    let (locked, tables, cpus) = boot.into_parts::<N>(alloc)?;
     let (answers, ended) = replay_and_end_boot(alloc, locked, tables, cpus, lines, is_explained);
     tell_end(alloc, answers?, ended, is_audited)
 }

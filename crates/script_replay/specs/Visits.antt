@@ -94,9 +94,9 @@ AnswersByVisit tables Show before after said = ⊥
 -- is then
 abbrev pub VisitsWork : BootTables → Work → (before after : KnownCpu) (text : List ℕ) → Type 0
 VisitsWork tables Blocks before after text =
-    TellsOf tables.frames tables.stocks before after (λ machine. text ≡ blocks_text machine.blocks)
+    TellsOf tables.frames tables.stocks (λ machine. text ≡ blocks_text machine.blocks) before after
 VisitsWork tables Show before after text =
-    TellsOf tables.frames tables.stocks before after (λ machine. text ≡ show_text machine)
+    TellsOf tables.frames tables.stocks (λ machine. text ≡ show_text machine) before after
 VisitsWork tables work before after text =
     (said : Answer) × AnswersByVisit tables work before after said × (text ≡ answer_text said)
 

@@ -17,28 +17,28 @@ returns g c =
     let t = g.N.BootName.frames in
     let w = g.N.BootName.stocks in
     let sized = sized_as c.args.boot.sizes _ t _ w c.requires.sized c.requires.names in
-    let first = c.in_ok-tables.ensures.cpus in
+    let first = c.in_ok-locked.ensures.cpus in
     let ended = c.replay_and_end_boot-answers.ensures in
     let replays = at_ok _ _ _ c.in_ok-answers.was ended.so.replayed in
     let told = c.replay_and_end_boot-answers.result.1 in
     weakened c.tell_end.result _ _ (λ text is. record {
       frames = t;
       stocks = w;
-      start = standing c.in_ok-tables.locked c.in_ok-tables.cpus.items;
+      start = standing c.in_ok-locked.locked c.in_ok-locked.cpus.items;
       end = ended.before;
       answers = c.in_ok-answers.field-0.items;
       ending = end_text c.args.is_audited told;
       first = record {
         sized = sized;
-        machine = c.in_ok-tables.ensures.machine;
-        sizes_are = c.in_ok-tables.ensures.sizes;
+        machine = c.in_ok-locked.ensures.machine;
+        sizes_are = c.in_ok-locked.ensures.sizes;
         cpus = first;
       };
       served = replays.served;
-      history = replays.history [] (boot_shown c.args.boot.sizes t w c.in_ok-tables.locked.machine c.in_ok-tables.cpus.items sized
-          c.in_ok-tables.ensures.machine first) (parts_tied c.args.boot.sizes t w c.in_ok-tables.locked.machine c.in_ok-tables.cpus.items sized
-          c.in_ok-tables.ensures.machine first);
-      told = a_boot_tells t w c.in_ok-tables.locked.machine c.in_ok-tables.ensures.machine;
+      history = replays.history [] (boot_shown c.args.boot.sizes t w c.in_ok-locked.locked.machine c.in_ok-locked.cpus.items sized
+          c.in_ok-locked.ensures.machine first) (parts_tied c.args.boot.sizes t w c.in_ok-locked.locked.machine c.in_ok-locked.cpus.items sized
+          c.in_ok-locked.ensures.machine first);
+      told = a_boot_tells t w c.in_ok-locked.locked.machine c.in_ok-locked.ensures.machine;
       ends = record { ended = told; ends = ended.ends; text_is = refl };
       text_is = is;
     }) c.tell_end.ensures
