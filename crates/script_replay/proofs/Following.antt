@@ -1,5 +1,5 @@
 -- A line carries the whole on. Serves `replay`.
-use Rattle.std.proofs.Common.{Bool, true, ◌≡◌, ◌≢◌, ℕ, ◌<◌, ◌==◌, ◌&&◌, ◌++◌, cond, Some, List, [], ◌∷◌, take, refl, sym, ◌∙◌, ap, subst, inl, inr, zero, suc}
+use Rattle.std.proofs.Common.{Bool, true, false, ◌≡◌, ◌≢◌, ℕ, ◌<◌, ◌==◌, ◌&&◌, ◌++◌, cond, Some, List, [], ◌∷◌, take, refl, sym, ◌∙◌, ap, subst, inl, inr, zero, suc}
 use Rattle.std.specs.Prelude.{IfSome, nat_le, slice_set}
 use Rattle.std.specs.List.{slice_get}
 use Rattle.std.specs.Borrow.{Bor}
@@ -60,7 +60,7 @@ use Rattle.reply_texts.specs.Answer as answer
 use Rattle.script_replay.specs.declared.work.Work.{Work}
 use Rattle.script_replay.specs.declared.work.Work.TheVariants as work
 use Rattle.script_replay.specs.Answers.{RepliesServed, GetsPin, PutsPin, CanNotList, AnswersRelease, AnswersFrame, IsServedUnderLock, SettlesUnderLock}
-use Rattle.script_replay.specs.Answers.{Answers, TellsWork, fast_steps, get_steps, put_steps}
+use Rattle.script_replay.specs.Answers.{AnswersWork, WritesWork, fast_steps, get_steps, put_steps}
 use Rattle.script_replay.specs.Ranges.{WorkInRange}
 use Rattle.mem_machine.specs.Following.{FollowsSteps}
 
@@ -282,51 +282,50 @@ module _ (t : KnownTable) (w : Words) (run : Run) (locked : KnownLocked) (cpus :
       locked_follows c (unseen_same t m c c refl) command reply steps after is shut decided
   replied_follows command steps after said is shut decided = absurd is
 
-  frame_follows : (path : Bor (List ℕ)) (steps : Run) (after : Holder) (said : Answer) → AnswersFrame path (course t before steps after) said → AllShut after.locked.machine →
-      Decided steps → Follows steps after
-  frame_follows path steps after (answer.Fast (Got f)) is shut decided =
+  frame_follows : (path : Bor (List ℕ)) (steps : Run) (after : Holder) (said : Answer) (may_kill : Bool) → AnswersFrame path (course t before steps after) said may_kill →
+      AllShut after.locked.machine → Decided steps → Follows steps after
+  frame_follows path steps after (answer.Fast (Got f)) false is shut decided =
       as_made steps (fast_steps p is.gets.group (Got f)) after is.alone.steps_are
       (λ all. got_follows is.gets.group f after is.gets.got is.alone.locked all) decided
-  frame_follows path steps after (answer.Served reply) (inl none) shut decided =
+  frame_follows path steps after (answer.Served reply) false none shut decided =
       as_made steps [] after none.1 (λ all. unseen_follows after none.0.same_locked (unseen_same t m c after.cpu none.0.same_cpu)) decided
-  frame_follows path steps after (answer.Served reply) (inr served) shut decided =
+  frame_follows path steps after (answer.Served reply) true served shut decided =
       let none = served.none in
       locked_follows served.seen (fast_unseen t m c none.group none.fast served.seen none.answers none.none) (cmd.Alloc path 0) reply steps after served.served
       shut decided
-  frame_follows path steps after said is shut decided = absurd is
+  frame_follows path steps after said may_kill is shut decided = absurd is
 
-  release_follows : (f : ℕ) (steps : Run) (after : Holder) (said : Answer) → AnswersRelease f (course t before steps after) said → AllShut after.locked.machine →
-      Decided steps → Follows steps after
-  release_follows f steps after answer.Listed is shut decided =
+  release_follows : (f : ℕ) (steps : Run) (after : Holder) (said : Answer) (may_kill : Bool) → AnswersRelease f (course t before steps after) said may_kill →
+      AllShut after.locked.machine → Decided steps → Follows steps after
+  release_follows f steps after answer.Listed false is shut decided =
       as_made steps (cpu_makes p (step.Credit f) says.Back ∷ []) after is.1.steps_are
       (λ all. step_follows (step.Credit f) says.Back after is.1.locked (ap (λ (x : KnownCpu). x.number) is.0.listed.5) refl
       (fast_calls_lead.listed t w run m cpus k c after.cpu this_part f is.0.fresh is.0.listed all) all) decided
-  release_follows f steps after (answer.Served reply) is shut decided =
+  release_follows f steps after (answer.Served reply) true is shut decided =
       locked_follows is.seen (list_unseen t m c f is.seen is.not_listed) (cmd.Release f) reply steps after is.served shut decided
-  release_follows f steps after said is shut decided = absurd is
+  release_follows f steps after said may_kill is shut decided = absurd is
 
   settle_follows : (steps : Run) (after : Holder) → SettlesUnderLock (course t before steps after) → AllShut after.locked.machine → Decided steps → Follows steps after
   settle_follows steps after is shut decided = locked_follows c (unseen_same t m c c refl) cmd.Settle Done steps after is shut decided
 
-  answer_follows : (asked : Work) (steps : Run) (after : Holder) (said : Answer) → WorkInRange t.frames asked → Answers asked (course t before steps after) said →
-      AllShut after.locked.machine → Decided steps → Follows steps after
-  answer_follows (work.Visit command) steps after said names is shut decided = replied_follows command steps after said is shut decided
-  answer_follows (work.Frame path) steps after said names is shut decided = frame_follows path steps after said is shut decided
-  answer_follows (work.Fast g) steps after (answer.Fast taken) names is shut decided =
+  answer_follows : (asked : Work) (steps : Run) (after : Holder) (said : Answer) (may_kill : Bool) → WorkInRange t.frames asked →
+      AnswersWork asked (course t before steps after) said may_kill → AllShut after.locked.machine → Decided steps → Follows steps after
+  answer_follows (work.Visit command) steps after said true names is shut decided = replied_follows command steps after said is shut decided
+  answer_follows (work.Frame path) steps after said may_kill names is shut decided = frame_follows path steps after said may_kill is shut decided
+  answer_follows (work.Fast g) steps after (answer.Fast taken) false names is shut decided =
       as_made steps (fast_steps p g taken) after is.1.steps_are (λ all. fast_follows g taken after is.0 is.1.locked all) decided
-  answer_follows (work.Fast g) steps after said names is shut decided = absurd is
-  answer_follows (work.Release f) steps after said names is shut decided = release_follows f steps after said is shut decided
-  answer_follows (work.Get f) steps after said names is shut decided =
+  answer_follows (work.Release f) steps after said may_kill names is shut decided = release_follows f steps after said may_kill is shut decided
+  answer_follows (work.Get f) steps after said false names is shut decided =
       as_made steps (get_steps p f said) after is.1.steps_are (λ all. get_follows f after said names is.0 is.1.locked all) decided
-  answer_follows (work.Put f) steps after said names is shut decided =
+  answer_follows (work.Put f) steps after said false names is shut decided =
       as_made steps (put_steps p f said) after is.1.steps_are (λ all. put_follows f after said is.0 is.1.locked all) decided
-  answer_follows work.Settle steps after answer.Settled names is shut decided = settle_follows steps after is shut decided
-  answer_follows work.Settle steps after said names is shut decided = absurd is
-  answer_follows work.Blocks steps after said names is shut decided = absurd is
-  answer_follows work.Show steps after said names is shut decided = absurd is
+  answer_follows work.Settle steps after answer.Settled false names is shut decided = settle_follows steps after is shut decided
+  answer_follows asked steps after said true names is shut decided = absurd is
+  answer_follows asked steps after said false names is shut decided = absurd is
 
   pub work_follows : (is_explained : Bool) (asked : Work) (steps : Run) (after : Holder) (text : List ℕ) → WorkInRange t.frames asked
-      → TellsWork is_explained asked (course t before steps after) text → AllShut after.locked.machine → Decided steps → Follows steps after
-  work_follows is_explained work.Blocks steps after text names is shut decided = settle_follows steps after is.0 shut decided
-  work_follows is_explained work.Show steps after text names is shut decided = settle_follows steps after is.0 shut decided
-  work_follows is_explained asked steps after text names is shut decided = answer_follows asked steps after is.0 names is.1 shut decided
+      → WritesWork is_explained asked (course t before steps after) text → AllShut after.locked.machine → Decided steps → Follows steps after
+  work_follows is_explained work.Blocks steps after text names is shut decided = settle_follows steps after is.settles shut decided
+  work_follows is_explained work.Show steps after text names is shut decided = settle_follows steps after is.settles shut decided
+  work_follows is_explained asked steps after text names is shut decided =
+      answer_follows asked steps after is.said is.may_kill names is.answered shut decided

@@ -1,40 +1,55 @@
 -- What is tried without the lock, and then served under it.
-use Rattle.std.proofs.Common.{◌≡◌, ℕ, Bool, List, inr, refl}
+use Rattle.std.proofs.Common.{ℕ, Bool, true, false, List}
 use Rattle.std.specs.Borrow.{Bor}
-use Rattle.frame_word.specs.Seats.{KnownTable}
 use Rattle.cpu_part.specs.Cpus.{KnownCpu}
 use Rattle.step_rules.specs.After.{Run}
 use Rattle.mem_system.specs.declared.command.Cmd.TheVariants as cmd
 use Rattle.mem_system.specs.Locked.{KnownLocked}
-use Rattle.reply_texts.specs.Answer.{Answer, Served}
-use Rattle.script_replay.specs.Answers.{AnswersFrame, AnswersRelease, CanNotList, GetsNoneFast, RepliesServed}
-use Rattle.script_replay.specs.Answers.{frame_kills, kills_text, release_kills}
 use Rattle.mem_system.specs.Visits.{Holder, course, holder}
+use Rattle.reply_texts.specs.Answer.{Answer, Served}
+use Rattle.script_replay.specs.declared.work.Work.TheVariants.{Frame, Release, Visit}
+use Rattle.script_replay.specs.Answers.{AnswersWork, CanNotList, GetsNoneFast, ServesWork}
+use Rattle.script_replay.specs.Terms.{Terms}
 
-module _ (t : KnownTable) (l : KnownLocked) (c seen : KnownCpu) (after : Holder) where
+module _ (on : Terms) (l : KnownLocked) (c seen : KnownCpu) (after : Holder) where
+  allocated : (path : Bor (List ℕ)) → GetsNoneFast path.now (holder l c) seen → (steps : Run) (said : Answer) (may_kill : Bool)
+      → AnswersWork (Visit (cmd.Alloc path 0)) (course on.frames (holder l seen) steps after) said may_kill
+      → AnswersWork (Frame path) (course on.frames (holder l c) steps after) said may_kill
+  allocated path none steps (Served reply) true is =
+      record { seen = seen; none = none; served = record { served = is.served; steps_are = is.steps_are } }
+  allocated path none steps said true is = absurd is
+  allocated path none steps said false is = absurd is
+
   -- where there is no frame for the group, the command is served
-  pub served_after : (path : Bor (List ℕ)) → GetsNoneFast path.now (holder l c) seen → (steps : Run) (said : Answer)
-      → RepliesServed (cmd.Alloc path 0) (course t (holder l seen) steps after) said → AnswersFrame path (course t (holder l c) steps after) said
-  served_after path none steps (Served reply) served =
-      inr (record { seen = seen; none = none; served = record { served = served.served; steps_are = served.steps_are } })
-  served_after path none steps said served = absurd served
+  pub served_after : (path : Bor (List ℕ)) → GetsNoneFast path.now (holder l c) seen → (text : List ℕ)
+      → ServesWork on (Visit (cmd.Alloc path 0)) (holder l seen) after text → ServesWork on (Frame path) (holder l c) after text
+  served_after path none text is = let writes = is.writes in record {
+    steps = is.steps;
+    writes = record {
+      said = writes.said;
+      may_kill = writes.may_kill;
+      answered = allocated path none is.steps writes.said writes.may_kill writes.answered;
+      text_is = writes.text_is;
+    };
+  }
+
+  released : (f : ℕ) → CanNotList f c seen → (steps : Run) (said : Answer) (may_kill : Bool)
+      → AnswersWork (Visit (cmd.Release f)) (course on.frames (holder l seen) steps after) said may_kill
+      → AnswersWork (Release f) (course on.frames (holder l c) steps after) said may_kill
+  released f can_not steps (Served reply) true is =
+      record { seen = seen; not_listed = can_not; served = record { served = is.served; steps_are = is.steps_are } }
+  released f can_not steps said true is = absurd is
+  released f can_not steps said false is = absurd is
 
   -- where the frame can't be listed again, the command is served
-  pub released_after : (f : ℕ) → CanNotList f c seen → (steps : Run) (said : Answer)
-      → RepliesServed (cmd.Release f) (course t (holder l seen) steps after) said → AnswersRelease f (course t (holder l c) steps after) said
-  released_after f can_not steps (Served reply) served =
-      record { seen = seen; not_listed = can_not; served = record { served = served.served; steps_are = served.steps_are } }
-  released_after f can_not steps said served = absurd served
-
-  -- of its kills the same is told
-  pub served_kills : (is_explained : Bool) (path : Bor (List ℕ)) (none : GetsNoneFast path.now (holder l c) seen) (steps : Run) (said : Answer)
-      (served : RepliesServed (cmd.Alloc path 0) (course t (holder l seen) steps after) said)
-      → kills_text is_explained after.locked.machine ≡ frame_kills is_explained path (course t (holder l c) steps after) said (served_after path none steps said served)
-  unfolding served_after
-  served_kills is_explained path none steps (Served reply) served = refl
-  served_kills is_explained path none steps said served = absurd served
-
-  pub released_kills : (is_explained : Bool) (f : ℕ) (steps : Run) (said : Answer)
-      → RepliesServed (cmd.Release f) (course t (holder l seen) steps after) said → kills_text is_explained after.locked.machine ≡ release_kills is_explained after said
-  released_kills is_explained f steps (Served reply) served = refl
-  released_kills is_explained f steps said served = absurd served
+  pub released_after : (f : ℕ) → CanNotList f c seen → (text : List ℕ)
+      → ServesWork on (Visit (cmd.Release f)) (holder l seen) after text → ServesWork on (Release f) (holder l c) after text
+  released_after f can_not text is = let writes = is.writes in record {
+    steps = is.steps;
+    writes = record {
+      said = writes.said;
+      may_kill = writes.may_kill;
+      answered = released f can_not is.steps writes.said writes.may_kill writes.answered;
+      text_is = writes.text_is;
+    };
+  }

@@ -1,7 +1,8 @@
 -- The lines that were served so far, and the history that they tell. Serves `serve_line`, `replay`.
-use Rattle.std.proofs.Common.{Result, IfOk, ◌≡◌, ℕ, ◌+◌, ◌-◌, ◌<◌, ◌≤◌, Some, None, List, [], ◌∷◌, ◌++◌, length, take, get_or, append-nil, ap, refl, sym, ◌∙◌, subst, arith, inl, inr}
+use Rattle.std.proofs.Common.{Result, ◌≡◌, ℕ, ◌+◌, ◌-◌, ◌<◌, ◌≤◌, Some, None, List, [], ◌∷◌, ◌++◌, length, take, get_or, append-nil, ap, refl, sym, ◌∙◌, subst, arith, inl, inr}
 use Rattle.std.specs.Prelude.{IfSome, Option, slice_set}
 use Rattle.std.specs.List.{slice_get}
+use Rattle.std.specs.declared.string.String.{String}
 use Rattle.std.proofs.lemmas.Bool.{cases_eq}
 use Rattle.std.proofs.lemmas.Option.{slice_get_within, slice_get_read, none-some}
 use Rattle.frame_word.specs.Seats.{KnownTable}
@@ -20,7 +21,7 @@ use Rattle.mem_system.specs.Visits.{course, holder, side_of}
 use Rattle.script_lines.specs.declared.line.Command.{Command}
 use Rattle.script_lines.specs.declared.line.Line.{Line}
 use Rattle.script_lines.specs.declared.line.Line.TheVariants.{Go, At}
-use Rattle.script_replay.specs.Answers.{AnswersText, TellsWork}
+use Rattle.script_replay.specs.Answers.{AddsText, ServesCommand, WritesWork}
 use Rattle.script_replay.specs.Lines.{Standing, standing, AtPart, InOrder, ServesLine, ServesAll, StopsAt}
 use Rattle.script_replay.specs.History.{LineIsDecided, Past, past, past_line, TellsHistory, Replays, ServesAndKeeps, HoldsInvariants}
 use Rattle.script_replay.specs.Ranges.{LineIsThere}
@@ -49,32 +50,35 @@ tied_still t w cpus k c d is_part tied none all j e at = elim (cases_eq j k) [
 
 -- a command that was served at its part
 pub part_keeps : (on : Terms) (before after : KnownLocked) (cpus : List KnownCpu) (line : Line) (processor : ℕ) (command : Command) (c d : KnownCpu)
-    {number : ℕ} {U E : Type 0} (r : Result U E) (old new : List ℕ) → line ≡ At number processor command → LineIsThere on.frames.frames (length cpus) line →
+    {number : ℕ} {Z U E : Type 0} (r : Result U E) (old new : String Z) → line ≡ At number processor command → LineIsThere on.frames.frames (length cpus) line →
     slice_get cpus (processor - 1) ≡ Some c →
-    (said : List ℕ) × AnswersText on command (holder before c) (holder after d) said × IfOk r (λ _. new ≡ old ++ said) →
+    AddsText r old new (ServesCommand on command (holder before c) (holder after d)) →
     HoldsInvariants on.frames on.stocks after → IsTied on.frames on.stocks d → (d.stock_seat.view.last ≡ stock_is.NoGroup → d.fresh ≡ []) →
-    (text : List ℕ) × ServesAndKeeps on line (standing before cpus) (standing after (slice_set cpus (processor - 1) d)) text × IfOk r (λ _. new ≡ old ++ text)
-part_keeps on before after cpus line processor command c d r old new is there is_part answered holds tied none = (
-  answered.0,
-  record {
+    AddsText r old new (ServesAndKeeps on line (standing before cpus) (standing after (slice_set cpus (processor - 1) d)))
+part_keeps on before after cpus line processor command c d r old new is there is_part answered holds tied none = record {
+  text = answered.text;
+  so = record {
     there = there;
-    serves = subst (λ (x : Line). ServesLine on x (standing before cpus) (standing after (slice_set cpus (processor - 1) d)) answered.0) (sym is)
-        (answered.1.0, record { part = c; left = d; is_part = is_part; done = answered.1.1; cpus = refl });
+    serves = subst (λ (x : Line). ServesLine on x (standing before cpus) (standing after (slice_set cpus (processor - 1) d)) answered.text) (sym is)
+        (record {
+          steps = answered.so.steps;
+          writes = record { part = c; left = d; is_part = is_part; done = answered.so.writes; cpus = refl };
+        });
     keeps = record {
       holds = holds;
       tied = λ all. tied_still on.frames on.stocks cpus (processor - 1) c d is_part tied none all;
     };
-  },
-  answered.2,
-)
+  };
+  added = answered.added;
+}
 
 -- the same, of the part that was read
 pub part_read : (on : Terms) (before after : KnownLocked) (cpus : List KnownCpu) (line : Line) (processor : ℕ) (command : Command) (c d : KnownCpu)
-    {number : ℕ} {U E : Type 0} (r : Result U E) (old new : List ℕ) → line ≡ At number processor command → LineIsThere on.frames.frames (length cpus) line →
+    {number : ℕ} {Z U E : Type 0} (r : Result U E) (old new : String Z) → line ≡ At number processor command → LineIsThere on.frames.frames (length cpus) line →
     c ≡ get_or cpus (processor - 1) c →
-    (said : List ℕ) × AnswersText on command (holder before c) (holder after d) said × IfOk r (λ _. new ≡ old ++ said) →
+    AddsText r old new (ServesCommand on command (holder before c) (holder after d)) →
     HoldsInvariants on.frames on.stocks after → IsTied on.frames on.stocks d → (d.stock_seat.view.last ≡ stock_is.NoGroup → d.fresh ≡ []) →
-    (text : List ℕ) × ServesAndKeeps on line (standing before cpus) (standing after (slice_set cpus (processor - 1) d)) text × IfOk r (λ _. new ≡ old ++ text)
+    AddsText r old new (ServesAndKeeps on line (standing before cpus) (standing after (slice_set cpus (processor - 1) d)))
 part_read on before after cpus line processor command c d {number = number} r old new is there read answered holds tied none =
     let named : LineIsThere on.frames.frames (length cpus) (At number processor command) = subst (LineIsThere on.frames.frames (length cpus)) is there in
     let low = named.low in
@@ -108,15 +112,15 @@ abbrev Follows : KnownTable → Run → Standing → Run → Standing → Type 0
 Follows t earlier s run e = ShowsAll t run e.locked.machine e.cpus × (TellsRun t earlier s.locked.machine.ledger → TellsRun t run e.locked.machine.ledger)
 
 line_follows : (on : Terms) (run : Run) (line : Line) (s e : Standing) (text : List ℕ) → ShowsAll on.frames run s.locked.machine s.cpus →
-    AreTied on.frames on.stocks s.cpus → (keeps : ServesAndKeeps on line s e text) → LineIsDecided on.frames line s keeps.serves.0 →
-    Follows on.frames run s (run ++ keeps.serves.0) e
+    AreTied on.frames on.stocks s.cpus → (keeps : ServesAndKeeps on line s e text) → LineIsDecided on.frames line s keeps.serves.steps →
+    Follows on.frames run s (run ++ keeps.serves.steps) e
 line_follows on run Go s e text shows tied keeps decided =
-    subst (λ (r : Run). Follows on.frames run s r e) (sym (ap (λ (r : Run). run ++ r) keeps.serves.1.2 ∙ append-nil run))
-    (subst (λ (x : Standing). Follows on.frames run s run x) (sym keeps.serves.1.1) (shows, λ told. told))
+    subst (λ (r : Run). Follows on.frames run s r e) (sym (ap (λ (r : Run). run ++ r) keeps.serves.writes.2 ∙ append-nil run))
+    (subst (λ (x : Standing). Follows on.frames run s run x) (sym keeps.serves.writes.1) (shows, λ told. told))
 line_follows on run (At number processor command) s e text shows tied keeps decided =
-    let steps = keeps.serves.0 in
-    let is : AtPart processor (λ part left. TellsWork on.is_explained (work_of command)
-    (course on.frames (holder s.locked part) steps (holder e.locked left)) text) s.cpus e.cpus = keeps.serves.1 in
+    let steps = keeps.serves.steps in
+    let is : AtPart processor (λ part left. WritesWork on.is_explained (work_of command)
+    (course on.frames (holder s.locked part) steps (holder e.locked left)) text) s.cpus e.cpus = keeps.serves.writes in
     let its : AreDecided on.frames s.cpus (side_of (holder s.locked is.part)) steps =
     subst (λ (o : Option KnownCpu). IfSome o (λ part. AreDecided on.frames s.cpus (side_of (holder s.locked part)) steps)) is.is_part decided in
     subst (λ (cpus : List KnownCpu). ShowsAll on.frames (run ++ steps) e.locked.machine cpus
@@ -131,7 +135,7 @@ keeps_history on [] before e text shows tied all = all
 keeps_history on (line ∷ lines) before e text shows tied all =
     let one = all.serves_first in
     let mid = all.between in
-    let steps : Run = one.serves.0 in
+    let steps : Run = one.serves.steps in
     let next : Run = before.run ++ steps in
     let follows : before.decided → LineIsDecided on.frames line before.now steps → Follows on.frames before.run before.now next mid =
     λ so_far here. line_follows on before.run line before.now mid all.first (shows so_far) tied one here in
@@ -140,7 +144,7 @@ keeps_history on (line ∷ lines) before e text shows tied all =
       rest = all.rest;
       between = mid;
       steps = steps;
-      tells_first = one.serves.1;
+      writes_first = one.serves.writes;
       kept = λ so_far here. record {
         legal = (follows so_far here).0.legal;
         tells = (follows so_far here).1;
@@ -166,7 +170,7 @@ pub keeps_stop : (on : Terms) (s m e : Standing) (lines : List Line) (i : ℕ) (
 keeps_stop on s m e lines i default text more inside all one =
     let first = take (i + 1) lines in
     let said = text ++ more in
-    let served : ServesAllAndKeeps on first s e said = in_order_line (ServesAndKeeps on) s m e lines i default text said inside all (more, one, refl) in
+    let served : ServesAllAndKeeps on first s e said = in_order_line (ServesAndKeeps on) s m e lines i default text said inside all more one refl in
     record {
       number = i + 1;
       low = omega arith;

@@ -26,11 +26,11 @@ in_order_more serves s m e (l ∷ lines) line text more all one = record {
 -- one line more
 pub in_order_line : {S : Type 0} (serves : Line → S → S → List ℕ → Type 0) (s m e : S) (lines : List Line) (i : ℕ) (default : Line) (text new : List ℕ)
     → i < length lines → InOrder serves (take i lines) s m text
-    → (more : List ℕ) × serves (get_or lines i default) m e more × (new ≡ text ++ more)
+    → (more : List ℕ) → serves (get_or lines i default) m e more → new ≡ text ++ more
     → InOrder serves (take (i + 1) lines) s e new
-in_order_line serves s m e lines i default text new inside all one =
+in_order_line serves s m e lines i default text new inside all more one is =
     let next : take (i + 1) lines ≡ take i lines ++ get_or lines i default ∷ [] = take_more lines i default inside in
-    rw (next, one.2) (in_order_more serves s m e (take i lines) (get_or lines i default) text one.0 all one.1)
+    rw (next, is) (in_order_more serves s m e (take i lines) (get_or lines i default) text more all one)
 
 -- the lines are at their end
 pub in_order_end : {S : Type 0} (serves : Line → S → S → List ℕ → Type 0) (s e : S) (lines : List Line) (i : ℕ) (text items : List ℕ)

@@ -1,7 +1,8 @@
--- What a command is answered at a processor, what it does there and behind the lock, and by which steps.
-use Rattle.std.specs.Prelude.{◌≡◌, ◌≢◌, ◌⊎◌, ℕ, ◌+◌, ◌<◌, ◌≤◌, Bool, true, false, List, [], ◌∷◌, ◌++◌, Some, None}
-use Rattle.std.specs.Prelude.{Result, IfOk, length}
-use Rattle.std.proofs.Common.{inl, inr}
+-- What a command is answered at a processor, what it does there and behind the lock, and by which steps. `Answers..`
+-- relates what is done to an answer, on a course; `Writes..` to a text, on a course; `Serves..` to a text, from what
+-- stands before to what stands after, by some steps.
+use Rattle.std.specs.Prelude.{◌≡◌, ◌≢◌, ◌⊎◌, ℕ, ◌+◌, ◌<◌, ◌≤◌, Bool, true, false, ◌&&◌, List, [], ◌∷◌, ◌++◌, Some}
+use Rattle.std.specs.Prelude.{None, Result, IfOk, length}
 use Rattle.std.specs.declared.string.String.{String}
 use Rattle.std.specs.Borrow.{Bor}
 use Rattle.std.specs.String.{string_bytes}
@@ -39,16 +40,25 @@ use Rattle.script_replay.specs.declared.work.Work.TheVariants.{Blocks, Show}
 use Rattle.script_replay.specs.Terms.{Terms}
 use Rattle.script_replay.specs.Works.{work_of}
 
+-- ---- texts that a call adds
+
 -- A call that adds what is said behind a text: something of which this is so was said, whether or not memory was there
 -- for it; where it was, that stands behind the old text
-abbrev pub AddsText : {Z T E : Type 0} → Result T E → String Z → String Z → (List ℕ → Type 0) → Type 0
-AddsText result old new is_said =
-    (said : List ℕ) × is_said said × IfOk result (λ _. string_bytes new ≡ string_bytes old ++ said)
+pub record AddsText {Z T E : Type 0} (result : Result T E) (old new : String Z) (is_said : List ℕ → Type 0)
+    : Type 0 where
+  pub text : List ℕ
+  pub so : is_said text
+  pub added : IfOk result (λ _. string_bytes new ≡ string_bytes old ++ text)
+
+-- the text of an answer of which this is so
+pub record IsTextOf (is_answered : Answer → Type 0) (text : List ℕ) : Type 0 where
+  pub said : Answer
+  pub answered : is_answered said
+  pub text_is : text ≡ answer_text said
 
 -- a call that adds the text of an answer of which this is so
 abbrev pub AddsAnswer : {Z T E : Type 0} → Result T E → String Z → String Z → (Answer → Type 0) → Type 0
-AddsAnswer result old new is_answered =
-    AddsText result old new (λ said. (answer : Answer) × is_answered answer × (said ≡ answer_text answer))
+AddsAnswer result old new is_answered = AddsText result old new (IsTextOf is_answered)
 
 -- ---- without the lock
 
@@ -147,13 +157,13 @@ pub record ReleasesUnderLock (frame : ℕ) (reply : Reply) (way : Course Holder)
   pub not_listed : CanNotList frame way.before.cpu seen
   pub served : IsServedUnderLock (cmd.Release frame) seen reply way
 
--- what a Release is answered
-abbrev pub AnswersRelease : (frame : ℕ) → Course Holder → Answer → Type 0
-AnswersRelease frame way answer.Listed =
+-- what a Release is answered, and whether groups may have been killed for it
+abbrev pub AnswersRelease : (frame : ℕ) → Course Holder → Answer → (may_kill : Bool) → Type 0
+AnswersRelease frame way answer.Listed false =
     ListsAgain frame way.before.cpu way.after.cpu
     × TakesNoLock (cpu_makes way.before.cpu.number (step.Credit frame) says.Back ∷ []) way
-AnswersRelease frame way (answer.Served reply) = ReleasesUnderLock frame reply way
-AnswersRelease frame way other = ⊥
+AnswersRelease frame way (answer.Served reply) true = ReleasesUnderLock frame reply way
+AnswersRelease frame way other may_kill = ⊥
 
 -- ---- Alloc of a single frame: one of the list without the lock, where it can be; else it is served under the lock
 
@@ -189,68 +199,57 @@ pub record AllocatesUnderLock (path : Bor (List ℕ)) (reply : Reply) (way : Cou
   pub none : GetsNoneFast path.now way.before seen
   pub served : IsServedUnderLock (cmd.Alloc path 0) seen reply way
 
--- what an Alloc of a single frame is answered
-abbrev pub AnswersFrame : (path : Bor (List ℕ)) → Course Holder → Answer → Type 0
-AnswersFrame path way (answer.Fast (Got frame)) = AllocatesFast path.now frame way
-AnswersFrame path way (answer.Served reply) =
-    (FindsNoGroup path.now way.before way.after reply × (way.steps ≡ [])) ⊎ AllocatesUnderLock path reply way
-AnswersFrame path way other = ⊥
+-- what an Alloc of a single frame is answered, and whether groups may have been killed for it
+abbrev pub AnswersFrame : (path : Bor (List ℕ)) → Course Holder → Answer → (may_kill : Bool) → Type 0
+AnswersFrame path way (answer.Fast (Got frame)) false = AllocatesFast path.now frame way
+AnswersFrame path way (answer.Served reply) false =
+    FindsNoGroup path.now way.before way.after reply × (way.steps ≡ [])
+AnswersFrame path way (answer.Served reply) true = AllocatesUnderLock path reply way
+AnswersFrame path way other may_kill = ⊥
 
 -- ---- any command
 
--- What is answered where this is done, but where the answer is a text of any length
-abbrev pub Answers : Work → Course Holder → Answer → Type 0
-Answers (Visit command) way answer = RepliesServed command way answer
-Answers (Frame path) way answer = AnswersFrame path way answer
-Answers (Fast group) way answer = AnswersFast group way answer
-Answers (Release frame) way answer = AnswersRelease frame way answer
-Answers (Get frame) way answer = AnswersGet frame way answer
-Answers (Put frame) way answer = AnswersPut frame way answer
-Answers Settle way answer = AnswersSettle way answer
-Answers Blocks way answer = ⊥
-Answers Show way answer = ⊥
+-- What is answered where this is done, but where the answer is a text of any length; and whether groups may have been
+-- killed for it: they may where the command was served under the lock, but for a Settle, which asks for no memory
+abbrev pub AnswersWork : Work → Course Holder → Answer → (may_kill : Bool) → Type 0
+AnswersWork (Visit command) way said true = RepliesServed command way said
+AnswersWork (Frame path) way said may_kill = AnswersFrame path way said may_kill
+AnswersWork (Fast group) way said false = AnswersFast group way said
+AnswersWork (Release frame) way said may_kill = AnswersRelease frame way said may_kill
+AnswersWork (Get frame) way said false = AnswersGet frame way said
+AnswersWork (Put frame) way said false = AnswersPut frame way said
+AnswersWork Settle way said false = AnswersSettle way said
+AnswersWork work way said may_kill = ⊥
 
--- the explanation of the kills of a command that was served under the lock, where that is asked for: of the groups and
+-- the explanation of the kills of a command that was served under the lock, where it is to be told: of the groups and
 -- the notes as the command left them
-abbrev pub kills_text : Bool → KnownMachine → List ℕ
+abbrev pub kills_text : (is_told : Bool) → KnownMachine → List ℕ
 kills_text true machine = explanation_text machine.ledger.groups machine.notes
 kills_text false machine = []
 
--- what is told of kills behind the answer of an Alloc of a single frame: nothing, unless it was served under the lock
-abbrev pub frame_kills : Bool → (path : Bor (List ℕ)) (way : Course Holder) (said : Answer)
-    → AnswersFrame path way said → List ℕ
-frame_kills is_explained path way (answer.Served reply) (inl none) = []
-frame_kills is_explained path way (answer.Served reply) (inr served) =
-    kills_text is_explained way.after.locked.machine
-frame_kills is_explained path way said answered = []
+-- the text of the answer, and behind it, where groups may have been killed and that is asked for, why they were
+pub record WritesAnswer (is_explained : Bool) (work : Work) (way : Course Holder) (text : List ℕ) : Type 0 where
+  pub said : Answer
+  pub may_kill : Bool
+  pub answered : AnswersWork work way said may_kill
+  pub text_is : text ≡ answer_text said ++ kills_text (may_kill && is_explained) way.after.locked.machine
 
--- what is told of kills behind the answer of a Release: nothing, unless it was served under the lock
-abbrev pub release_kills : Bool → (after : Holder) → Answer → List ℕ
-release_kills is_explained after (answer.Served reply) = kills_text is_explained after.locked.machine
-release_kills is_explained after said = []
+-- the processor is settled, and the text tells of the machine as it is then
+pub record WritesMachine (machine_text : KnownMachine → List ℕ) (way : Course Holder) (text : List ℕ) : Type 0 where
+  pub settles : SettlesUnderLock way
+  pub text_is : text ≡ machine_text way.after.locked.machine
 
--- what is told of kills behind the answer, where this was done and answered so
-abbrev pub work_kills : Bool → (work : Work) (way : Course Holder) (said : Answer) → Answers work way said → List ℕ
-work_kills is_explained (Visit command) way said answered = kills_text is_explained way.after.locked.machine
-work_kills is_explained (Frame path) way said answered = frame_kills is_explained path way said answered
-work_kills is_explained (Release frame) way said answered = release_kills is_explained way.after said
-work_kills is_explained work way said answered = []
+-- what is answered where this is done, as text
+abbrev pub WritesWork : (is_explained : Bool) → Work → Course Holder → (text : List ℕ) → Type 0
+WritesWork is_explained Blocks way text = WritesMachine (λ machine. blocks_text machine.blocks) way text
+WritesWork is_explained Show way text = WritesMachine show_text way text
+WritesWork is_explained work way text = WritesAnswer is_explained work way text
 
--- What is answered where this is done, as text: that of the answer, and behind it what is told of kills. `blocks` and
--- `show` settle the processor, and tell of the machine as it is then
-abbrev pub TellsWork : Bool → Work → Course Holder → (text : List ℕ) → Type 0
-TellsWork is_explained Blocks way text =
-    SettlesUnderLock way × (text ≡ blocks_text way.after.locked.machine.blocks)
-TellsWork is_explained Show way text = SettlesUnderLock way × (text ≡ show_text way.after.locked.machine)
-TellsWork is_explained work way text =
-    (said : Answer) × (answered : Answers work way said)
-    × (text ≡ answer_text said ++ work_kills is_explained work way said answered)
+-- what is answered where this is done, as text, by some steps
+pub record ServesWork (terms : Terms) (work : Work) (before after : Holder) (text : List ℕ) : Type 0 where
+  pub steps : Run
+  pub writes : WritesWork terms.is_explained work (course terms.frames before steps after) text
 
--- what is answered where this is done, by some steps
-abbrev pub AnswersWork : Terms → Work → (before after : Holder) (text : List ℕ) → Type 0
-AnswersWork terms work before after text =
-    (steps : Run) × TellsWork terms.is_explained work (course terms.frames before steps after) text
-
--- what a command is answered, as text
-abbrev pub AnswersText : Terms → Command → (before after : Holder) (text : List ℕ) → Type 0
-AnswersText terms command before after text = AnswersWork terms (work_of command) before after text
+-- what a command is answered, as text, by some steps
+abbrev pub ServesCommand : Terms → Command → (before after : Holder) (text : List ℕ) → Type 0
+ServesCommand terms command before after text = ServesWork terms (work_of command) before after text

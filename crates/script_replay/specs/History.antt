@@ -14,7 +14,7 @@ use Rattle.mem_system.specs.Locked.{IsQuiet, KnownLocked}
 use Rattle.mem_system.specs.Visits.{course, holder, side_of}
 use Rattle.script_lines.specs.declared.line.Line.{Line}
 use Rattle.script_lines.specs.declared.line.Line.TheVariants.{Go, At}
-use Rattle.script_replay.specs.Lines.{Standing, ServesAll, ServesLine, StopsAt, TellsLine}
+use Rattle.script_replay.specs.Lines.{Standing, ServesAll, ServesLine, StopsAt, WritesLine}
 use Rattle.script_replay.specs.Ranges.{LineIsThere}
 use Rattle.script_replay.specs.Terms.{Terms}
 
@@ -63,7 +63,7 @@ pub record TellsFirstAndRest (terms : Terms) (line : Line) (past : Past) (text :
   pub rest : List ℕ
   pub between : Standing
   pub steps : Run
-  pub tells_first : TellsLine terms.is_explained line (course terms.frames past.now steps between) first
+  pub writes_first : WritesLine terms.is_explained line (course terms.frames past.now steps between) first
   pub kept : past.decided → LineIsDecided terms.frames line past.now steps
       → HoldsPromise terms.frames past.run past.now (past.run ++ steps) between
   pub tells : tells_rest (past_line terms.frames line past steps between) rest

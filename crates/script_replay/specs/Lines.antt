@@ -1,4 +1,5 @@
--- What lines are answered, one after the other.
+-- What lines are answered, one after the other. As of commands, `Writes..` says it of a text on a course, and
+-- `Serves..` by some steps.
 use Rattle.std.specs.Prelude.{◌≡◌, ℕ, Bool, ◌-◌, ◌≤◌, List, [], ◌∷◌, ◌++◌, Some, length, slice_get, slice_set, take}
 use Rattle.cpu_part.specs.Cpus.{KnownCpu}
 use Rattle.step_rules.specs.After.{Run}
@@ -7,7 +8,7 @@ use Rattle.mem_system.specs.Visits.{Course, course, holder}
 use Rattle.script_lines.specs.declared.line.Line.{Line}
 use Rattle.script_lines.specs.declared.line.Line.TheVariants.{Go, At}
 use Rattle.script_replay.specs.Terms.{Terms}
-use Rattle.script_replay.specs.Answers.{TellsWork}
+use Rattle.script_replay.specs.Answers.{WritesWork}
 use Rattle.script_replay.specs.Works.{work_of}
 
 -- what lies behind the lock, and the parts of the processors, from that of processor 1
@@ -29,17 +30,17 @@ pub record AtPart (processor : ℕ) (is_done : (before after : KnownCpu) → Typ
   pub cpus : after ≡ slice_set before (processor - 1) left
 
 -- a line is answered this text on this course; `go` is answered nothing, and does nothing
-abbrev pub TellsLine : Bool → Line → Course Standing → (text : List ℕ) → Type 0
-TellsLine is_explained Go way text = (text ≡ []) × (way.after ≡ way.before) × (way.steps ≡ [])
-TellsLine is_explained (At number processor command) way text =
-    AtPart processor (λ part left. TellsWork is_explained (work_of command)
+abbrev pub WritesLine : (is_explained : Bool) → Line → Course Standing → (text : List ℕ) → Type 0
+WritesLine is_explained Go way text = (text ≡ []) × (way.after ≡ way.before) × (way.steps ≡ [])
+WritesLine is_explained (At number processor command) way text =
+    AtPart processor (λ part left. WritesWork is_explained (work_of command)
     (course way.table (holder way.before.locked part) way.steps (holder way.after.locked left)) text)
     way.before.cpus way.after.cpus
 
 -- a line is answered this text, by some steps
-abbrev pub ServesLine : Terms → Line → (before after : Standing) (text : List ℕ) → Type 0
-ServesLine terms line before after text =
-    (steps : Run) × TellsLine terms.is_explained line (course terms.frames before steps after) text
+pub record ServesLine (terms : Terms) (line : Line) (before after : Standing) (text : List ℕ) : Type 0 where
+  pub steps : Run
+  pub writes : WritesLine terms.is_explained line (course terms.frames before steps after) text
 
 -- a first line leads to what stands between, the others go on from there, and the text of the first stands first
 pub record FirstAndRest {S : Type 0} (leads_first leads_rest : (before after : S) (text : List ℕ) → Type 0)

@@ -8,7 +8,7 @@ ghost use Rattle.std.specs.String.{string_bytes};
 ghost use Rattle.mem_system.specs.Visits.{holder};
 ghost use Rattle.mem_system.specs.Commands.{IsOfZone};
 ghost use Rattle.script_replay.specs.declared.work.Work.TheVariants.{Blocks, Frame, Release, Settle, Show, Visit};
-ghost use Rattle.script_replay.specs.Answers.{AddsText, AnswersText, AnswersWork, kills_text};
+ghost use Rattle.script_replay.specs.Answers.{AddsText, ServesCommand, ServesWork, kills_text};
 ghost use Rattle.script_replay.specs.Ranges.{NamesInRange, WorkInRange};
 ghost use Rattle.script_replay.specs.Terms.{terms};
 
@@ -35,8 +35,9 @@ pub(crate) fn answer_text<N: BootName>(
     is_explained: bool,
     text: &mut String,
 ) -> Result<(), AllocError>
-    requires { NamesInRange N.frames.frames command.now }
-    ensures { AddsText result text.old text.new (AnswersText (terms N.frames N.stocks is_explained) command.now
+    requires in_range { NamesInRange N.frames.frames command.now }
+    ensures answered { AddsText result text.old text.new
+        (ServesCommand (terms N.frames N.stocks is_explained) command.now
         (holder locked.old cpu.old) (holder locked.new cpu.new)) }
 {
     let work = work_of(command);
@@ -53,8 +54,9 @@ fn answer_work<N: BootName>(
     is_explained: bool,
     text: &mut String,
 ) -> Result<(), AllocError>
-    requires { WorkInRange N.frames.frames work.now }
-    ensures { AddsText result text.old text.new (AnswersWork (terms N.frames N.stocks is_explained) work.now
+    requires in_range { WorkInRange N.frames.frames work.now }
+    ensures answered { AddsText result text.old text.new
+        (ServesWork (terms N.frames N.stocks is_explained) work.now
         (holder locked.old cpu.old) (holder locked.new cpu.new)) }
 {
     match *work {
@@ -79,8 +81,9 @@ fn serve_command<N: BootName>(
     is_explained: bool,
     text: &mut String,
 ) -> Result<(), AllocError>
-    requires { IsOfZone N.frames cmd.now }
-    ensures { AddsText result text.old text.new (AnswersWork (terms N.frames N.stocks is_explained) (Visit cmd.now)
+    requires of_zone { IsOfZone N.frames cmd.now }
+    ensures answered { AddsText result text.old text.new
+        (ServesWork (terms N.frames N.stocks is_explained) (Visit cmd.now)
         (holder locked.old cpu.old) (holder locked.new cpu.new)) }
 {
     let outcome = carry_out(locked, tables, cpu, cmd);
@@ -99,8 +102,9 @@ fn serve_frame<N: BootName>(
     text: &mut String,
 ) -> Result<(), AllocError>
     requires there { IsTrue (has_group locked.old.machine.ledger.groups group) }
-    ensures { (path : Bor (List ℕ)) → number_at locked.old.machine.ledger.groups path.now ≡ Some group
-        → AddsText result text.old text.new (AnswersWork (terms N.frames N.stocks is_explained) (Visit (Alloc path 0))
+    ensures answered { (path : Bor (List ℕ)) → number_at locked.old.machine.ledger.groups path.now ≡ Some group
+        → AddsText result text.old text.new
+        (ServesWork (terms N.frames N.stocks is_explained) (Visit (Alloc path 0))
         (holder locked.old cpu.old) (holder locked.new cpu.new)) }
 {
     let outcome = carry_out_frame(locked, tables, cpu, group);
@@ -133,7 +137,8 @@ fn answer_frame<N: BootName>(
     is_explained: bool,
     text: &mut String,
 ) -> Result<(), AllocError>
-    ensures { AddsText result text.old text.new (AnswersWork (terms N.frames N.stocks is_explained) (Frame path.entry)
+    ensures { AddsText result text.old text.new
+        (ServesWork (terms N.frames N.stocks is_explained) (Frame path.entry)
         (holder locked.old cpu.old) (holder locked.new cpu.new)) }
 {
     let Some(group) = locked.find(path) else {
@@ -154,8 +159,9 @@ fn answer_release<N: BootName>(
     is_explained: bool,
     text: &mut String,
 ) -> Result<(), AllocError>
-    requires { number < N.frames.frames }
-    ensures { AddsText result text.old text.new (AnswersWork (terms N.frames N.stocks is_explained) (Release number)
+    requires in_zone { number < N.frames.frames }
+    ensures answered { AddsText result text.old text.new
+        (ServesWork (terms N.frames N.stocks is_explained) (Release number)
         (holder locked.old cpu.old) (holder locked.new cpu.new)) }
 {
     if try_list(tables, cpu, number) {
@@ -179,7 +185,7 @@ fn answer_settle<N: BootName>(
     text: &mut String,
 ) -> Result<(), AllocError>
     ensures { (is_explained : Bool) → AddsText result text.old text.new
-        (AnswersWork (terms N.frames N.stocks is_explained) Settle
+        (ServesWork (terms N.frames N.stocks is_explained) Settle
         (holder locked.old cpu.old) (holder locked.new cpu.new)) }
 {
     settle(locked, tables, cpu);
@@ -194,7 +200,7 @@ fn answer_blocks<N: BootName>(
     text: &mut String,
 ) -> Result<(), AllocError>
     ensures { (is_explained : Bool) → AddsText result text.old text.new
-        (AnswersWork (terms N.frames N.stocks is_explained) Blocks
+        (ServesWork (terms N.frames N.stocks is_explained) Blocks
         (holder locked.old cpu.old) (holder locked.new cpu.new)) }
 {
     settle(locked, tables, cpu);
@@ -209,7 +215,7 @@ fn answer_show<N: BootName>(
     text: &mut String,
 ) -> Result<(), AllocError>
     ensures { (is_explained : Bool) → AddsText result text.old text.new
-        (AnswersWork (terms N.frames N.stocks is_explained) Show
+        (ServesWork (terms N.frames N.stocks is_explained) Show
         (holder locked.old cpu.old) (holder locked.new cpu.new)) }
 {
     settle(locked, tables, cpu);

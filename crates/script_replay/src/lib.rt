@@ -14,6 +14,6 @@ mod visit_replay;
 mod work;
 
 pub use value_replay::replay;
-pub use visit_answers::visit_line;
+pub use visit_answers::{Visitor, visit_line};
 pub use visit_replay::{replay_by_visits, visit_command};
 pub use work::Work;

@@ -11,8 +11,8 @@ use std::alloc::AllocError;
 // Lists the frame again without the lock, where it is fresh at the processor and its page can be credited, and tells
 // whether it did.
 pub(crate) fn try_list<N: BootName>(tables: &Tables<N>, cpu: &mut Cpu<N>, number: u32) -> bool
-    requires { number < N.frames.frames }
-    ensures { MatchBool result (ListsAgain number cpu.old cpu.new) (CanNotList number cpu.old cpu.new) }
+    requires in_zone { number < N.frames.frames }
+    ensures listed { MatchBool result (ListsAgain number cpu.old cpu.new) (CanNotList number cpu.old cpu.new) }
 {
     let frame = tables.frames.frame(number).unwrap();
     if !cpu.has_fresh(frame) {
@@ -31,8 +31,8 @@ pub(crate) fn answer_get<N: BootName>(
     number: u32,
     text: &mut String,
 ) -> Result<(), AllocError>
-    requires { number < N.frames.frames }
-    ensures { AddsAnswer result text.old text.new (GetsPin number cpu.old cpu.new) }
+    requires in_zone { number < N.frames.frames }
+    ensures answered { AddsAnswer result text.old text.new (GetsPin number cpu.old cpu.new) }
 {
     let frame = tables.frames.frame(number).unwrap();
     match cpu.get(tables, frame) {
@@ -48,8 +48,8 @@ pub(crate) fn answer_put<N: BootName>(
     number: u32,
     text: &mut String,
 ) -> Result<(), AllocError>
-    requires { number < N.frames.frames }
-    ensures { AddsAnswer result text.old text.new (PutsPin number cpu.old cpu.new) }
+    requires in_zone { number < N.frames.frames }
+    ensures answered { AddsAnswer result text.old text.new (PutsPin number cpu.old cpu.new) }
 {
     let frame = tables.frames.frame(number).unwrap();
     if !cpu.holds(frame) {

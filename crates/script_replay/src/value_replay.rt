@@ -4,7 +4,7 @@ ghost use Rattle.std.specs.Prelude.{◌≡◌, [], All, length};
 ghost use Rattle.stock_word.specs.declared.view.Stock.TheVariants.{NoGroup};
 ghost use Rattle.cpu_part.specs.Cpus.{IsTied};
 ghost use Rattle.mem_system.specs.Visits.{holder};
-ghost use Rattle.script_replay.specs.Answers.{AddsText, AnswersText};
+ghost use Rattle.script_replay.specs.Answers.{AddsText, ServesCommand};
 ghost use Rattle.script_replay.specs.History.{HoldsInvariants, ReplaysOrStops, ServesAndKeeps};
 ghost use Rattle.script_replay.specs.Lines.{standing};
 ghost use Rattle.script_replay.specs.Ranges.{LineIsThere, NamesInRange};
@@ -28,8 +28,8 @@ pub fn replay<N: BootName>(
     lines: &[Line<'_>],
     is_explained: bool,
 ) -> Result<Vec<u8>, AllocError>
-    requires { All (LineIsThere N.frames.frames (length cpus.old)) lines.now }
-    ensures { ReplaysOrStops (terms N.frames N.stocks is_explained) lines.now
+    requires there { All (LineIsThere N.frames.frames (length cpus.old)) lines.now }
+    ensures outcome { ReplaysOrStops (terms N.frames N.stocks is_explained) lines.now
         (standing locked.old cpus.old) (standing locked.new cpus.new) result }
 {
     let mut answers = String::new(alloc);
@@ -48,8 +48,9 @@ fn serve_line<N: BootName>(
     is_explained: bool,
     answers: &mut String,
 ) -> Result<(), AllocError>
-    requires { LineIsThere N.frames.frames (length cpus.old) line.now }
-    ensures { AddsText result answers.old answers.new (ServesAndKeeps (terms N.frames N.stocks is_explained) line.now
+    requires there { LineIsThere N.frames.frames (length cpus.old) line.now }
+    ensures served { AddsText result answers.old answers.new
+        (ServesAndKeeps (terms N.frames N.stocks is_explained) line.now
         (standing locked.old cpus.old) (standing locked.new cpus.new)) }
 {
     match line {
@@ -84,9 +85,9 @@ fn serve_part<N: BootName>(
     is_explained: bool,
     answers: &mut String,
 ) -> Result<(), AllocError>
-    requires { NamesInRange N.frames.frames command.now }
+    requires in_range { NamesInRange N.frames.frames command.now }
     ensures answered { AddsText result answers.old answers.new
-        (AnswersText (terms N.frames N.stocks is_explained) command.now
+        (ServesCommand (terms N.frames N.stocks is_explained) command.now
         (holder locked.old cpu.old) (holder locked.new cpu.new)) }
     ensures invariants { HoldsInvariants N.frames N.stocks locked.new }
     ensures tied { IsTied N.frames N.stocks cpu.new }

@@ -6,8 +6,8 @@ ghost use Rattle.script_replay.specs.Answers.{AddsAnswer, AddsText};
 ghost use Rattle.script_replay.specs.declared.work.Work.TheVariants.{Blocks, Show};
 ghost use Rattle.script_replay.specs.Ranges.{NamesInRange, WorkInRange};
 ghost use Rattle.script_replay.specs.Terms.{boot_tables};
-ghost use Rattle.script_replay.specs.Visits.{RepliesVisited, VisitsFrame, VisitsRelease, VisitsSettle, VisitsText};
-ghost use Rattle.script_replay.specs.Visits.{VisitsWork};
+ghost use Rattle.script_replay.specs.Visits.{AnswersFrameByVisit, AnswersReleaseByVisit, AnswersSettleByVisit};
+ghost use Rattle.script_replay.specs.Visits.{RepliesVisited, VisitsCommand, VisitsWork};
 
 use crate::unlocked_calls::{answer_get, answer_put, try_list};
 use crate::work::{Work, work_of};
@@ -19,43 +19,37 @@ use script_lines::line::Command;
 use std::alloc::{AllocError, Global};
 use std::sync::Wait;
 
-// What a thread makes its visits by: what it waits with, the memory for texts, the system, and the gate that each visit
-// of a command calls.
+/// What a thread makes its visits by.
 #[derive(Drop)]
-pub(crate) struct Visitor<'a, N: BootName, R, G> {
-    pub(crate) rt: &'a R,
-    pub(crate) alloc: Global,
-    pub(crate) system: &'a System<N>,
-    pub(crate) gate: &'a G,
+pub struct Visitor<'a, N: BootName, R, G> {
+    /// What it waits for the lock with.
+    pub rt: &'a R,
+    /// The memory for texts.
+    pub alloc: Global,
+    /// The system that it visits.
+    pub system: &'a System<N>,
+    /// What each visit of a command calls.
+    pub gate: &'a G,
 }
 
-/// Serves the command of a line at this processor, between the gate's `before` and `after`, which are told the line's
-/// number, and adds what it is answered. Where it is served by a visit, the visit calls the gate's
-/// `inside`. `AllocError` comes where memory is wanting: the command was served then, and `after` isn't called.
+/// Serves the command of a line at this processor, between `before` and `after` of the visitor's gate, which are told
+/// the line's number, and adds what it is answered. Where it is served by a visit, the visit calls the gate's `inside`.
+/// `AllocError` comes where memory is wanting: the command was served then, and `after` isn't called.
 pub fn visit_line<N: BootName, R: Wait, G: Gate>(
-    rt: &R,
-    alloc: Global,
-    system: &System<N>,
+    visitor: &Visitor<'_, N, R, G>,
     cpu: &mut Cpu<N>,
     line: usize,
     command: &Command<'_>,
-    gate: &G,
     text: &mut String,
 ) -> Result<(), AllocError>
-    requires { NamesInRange N.frames.frames command.now }
-    ensures { AddsText result text.old text.new
-        (VisitsText (boot_tables N.frames N.stocks) command.now cpu.old cpu.new) }
+    requires in_range { NamesInRange N.frames.frames command.now }
+    ensures answered { AddsText result text.old text.new
+        (VisitsCommand (boot_tables N.frames N.stocks) command.now cpu.old cpu.new) }
 {
     let number = cpu.number();
-    let visitor = Visitor {
-        rt,
-        alloc,
-        system,
-        gate,
-    };
-    gate.before(number, line);
-    visit_text(&visitor, cpu, command, text)?;
-    gate.after(number, line);
+    visitor.gate.before(number, line);
+    visit_text(visitor, cpu, command, text)?;
+    visitor.gate.after(number, line);
     Ok(())
 }
 
@@ -68,9 +62,9 @@ pub(crate) fn visit_text<N: BootName, R: Wait, G: Gate>(
     command: &Command<'_>,
     text: &mut String,
 ) -> Result<(), AllocError>
-    requires { NamesInRange N.frames.frames command.now }
-    ensures { AddsText result text.old text.new
-        (VisitsText (boot_tables N.frames N.stocks) command.now cpu.old cpu.new) }
+    requires in_range { NamesInRange N.frames.frames command.now }
+    ensures answered { AddsText result text.old text.new
+        (VisitsCommand (boot_tables N.frames N.stocks) command.now cpu.old cpu.new) }
 {
     let work = work_of(command);
     visit_work(visitor, cpu, &work, text)
@@ -83,8 +77,8 @@ fn visit_work<N: BootName, R: Wait, G: Gate>(
     work: &Work<'_>,
     text: &mut String,
 ) -> Result<(), AllocError>
-    requires { WorkInRange N.frames.frames work.now }
-    ensures { AddsText result text.old text.new
+    requires in_range { WorkInRange N.frames.frames work.now }
+    ensures answered { AddsText result text.old text.new
         (VisitsWork (boot_tables N.frames N.stocks) work.now cpu.old cpu.new) }
 {
     let tables = visitor.system.tables();
@@ -108,8 +102,8 @@ fn visit_and_reply<N: BootName, R: Wait, G: Gate>(
     cmd: &Cmd<'_>,
     text: &mut String,
 ) -> Result<(), AllocError>
-    requires { IsOfZone N.frames cmd.now }
-    ensures { AddsAnswer result text.old text.new
+    requires of_zone { IsOfZone N.frames cmd.now }
+    ensures answered { AddsAnswer result text.old text.new
         (RepliesVisited (boot_tables N.frames N.stocks) cmd.now cpu.old cpu.new) }
 {
     let mut reply = Reply::Done;
@@ -125,7 +119,8 @@ fn visit_settle<N: BootName, R: Wait, G: Gate>(
     cpu: &mut Cpu<N>,
     text: &mut String,
 ) -> Result<(), AllocError>
-    ensures { AddsAnswer result text.old text.new (VisitsSettle (boot_tables N.frames N.stocks) cpu.old cpu.new) }
+    ensures { AddsAnswer result text.old text.new
+        (AnswersSettleByVisit (boot_tables N.frames N.stocks) cpu.old cpu.new) }
 {
     let _done = visitor
         .system
@@ -141,7 +136,7 @@ fn visit_frame<N: BootName, R: Wait, G: Gate>(
     text: &mut String,
 ) -> Result<(), AllocError>
     ensures { AddsAnswer result text.old text.new
-        (VisitsFrame (boot_tables N.frames N.stocks) path.entry cpu.old cpu.new) }
+        (AnswersFrameByVisit (boot_tables N.frames N.stocks) path.entry cpu.old cpu.new) }
 {
     let Some(group) = visitor.system.find(visitor.rt, path) else {
         return write_refusal(&Fault::NoGroup, text);
@@ -159,9 +154,9 @@ fn visit_release<N: BootName, R: Wait, G: Gate>(
     number: u32,
     text: &mut String,
 ) -> Result<(), AllocError>
-    requires { number < N.frames.frames }
-    ensures { AddsAnswer result text.old text.new
-        (VisitsRelease (boot_tables N.frames N.stocks) number cpu.old cpu.new) }
+    requires in_zone { number < N.frames.frames }
+    ensures answered { AddsAnswer result text.old text.new
+        (AnswersReleaseByVisit (boot_tables N.frames N.stocks) number cpu.old cpu.new) }
 {
     if try_list(visitor.system.tables(), cpu, number) {
         return write_listed(text);

@@ -27,7 +27,7 @@ pub fn replay_by_visits<N: BootName, R: Wait>(
     cpus: &mut [Cpu<N>],
     lines: &[Line<'_>],
 ) -> Result<Vec<u8>, AllocError>
-    requires { All (LineIsThere N.frames.frames (length cpus.old)) lines.now }
+    requires there { All (LineIsThere N.frames.frames (length cpus.old)) lines.now }
     ensures answers { IfOk result (λ answers.
         VisitsAll (boot_tables N.frames N.stocks) lines.now cpus.old cpus.new answers.items) }
     ensures stopped { OnErr result
@@ -49,8 +49,8 @@ fn serve_by_visit<N: BootName, R: Wait>(
     line: &Line<'_>,
     answers: &mut String,
 ) -> Result<(), AllocError>
-    requires { LineIsThere N.frames.frames (length cpus.old) line.now }
-    ensures { AddsText result answers.old answers.new
+    requires there { LineIsThere N.frames.frames (length cpus.old) line.now }
+    ensures served { AddsText result answers.old answers.new
         (VisitsLine (boot_tables N.frames N.stocks) line.now cpus.old cpus.new) }
 {
     match line {
@@ -82,7 +82,7 @@ pub fn visit_command<N: BootName, R: Wait>(
     cmd: &Cmd<'_>,
     text: &mut String,
 ) -> Result<(), AllocError>
-    requires { IsOfZone N.frames cmd.now }
+    requires of_zone { IsOfZone N.frames cmd.now }
 {
     let mut reply = Reply::Done;
     system.visit_into(rt, cpu, cmd, &NoGate, &mut reply);

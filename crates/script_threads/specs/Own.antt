@@ -6,7 +6,7 @@ use Rattle.script_lines.specs.declared.line.Line.TheVariants.{Go, At}
 use Rattle.script_replay.specs.Lines.{InOrder}
 use Rattle.script_replay.specs.Ranges.{NamesInRange}
 use Rattle.script_replay.specs.Terms.{BootTables}
-use Rattle.script_replay.specs.Visits.{VisitsText}
+use Rattle.script_replay.specs.Visits.{VisitsCommand}
 
 -- what a line names is in range, whichever its processor; `go` names nothing
 abbrev pub LineNames : ℕ → Line → Type 0
@@ -17,7 +17,7 @@ LineNames frames (At number processor command) = NamesInRange frames command
 abbrev pub ServesOwnLine : BootTables → (own : ℕ) → Line → (before after : KnownCpu) (text : List ℕ) → Type 0
 ServesOwnLine tables own Go before after text = (text ≡ []) × (after ≡ before)
 ServesOwnLine tables own (At number processor command) before after text =
-    MatchBool (processor == own) (VisitsText tables command before after text) ((text ≡ []) × (after ≡ before))
+    MatchBool (processor == own) (VisitsCommand tables command before after text) ((text ≡ []) × (after ≡ before))
 
 -- a worker: the number of its processor, its part as it was when it began, and the lines among which its own are
 pub record KnownWorker : Type 0 where

@@ -9,7 +9,7 @@ ghost use Rattle.script_threads.specs.Own.{LineNames, ServesOwn, ServesOwnLine, 
 use cpu_part::{BootName, Cpu};
 use mem_system::{Gate, System};
 use script_lines::line::Line;
-use script_replay::visit_line;
+use script_replay::{Visitor, visit_line};
 use std::alloc::{AllocError, Global};
 use std::sync::Wait;
 
@@ -28,22 +28,25 @@ pub(crate) fn serve_own<N: BootName, R: Wait, G: Gate>(
     ensures { IfOk result (λ text.
         ServesOwn (boot_tables N.frames N.stocks) (worker number cpu.old lines.now) cpu.new (string_bytes text)) }
 {
+    let visitor = Visitor {
+        rt,
+        alloc,
+        system,
+        gate,
+    };
     let mut text = String::new(alloc);
     for line in lines {
-        serve_own_line(rt, alloc, system, cpu, number, line, gate, &mut text)?;
+        serve_own_line(&visitor, cpu, number, line, &mut text)?;
     }
     Ok(text)
 }
 
 // Serves the line, where it is one of the processor of this number, and adds its answer.
 fn serve_own_line<N: BootName, R: Wait, G: Gate>(
-    rt: &R,
-    alloc: Global,
-    system: &System<N>,
+    visitor: &Visitor<'_, N, R, G>,
     cpu: &mut Cpu<N>,
     number: u32,
     line: &Line<'_>,
-    gate: &G,
     text: &mut String,
 ) -> Result<(), AllocError>
     requires { LineNames N.frames.frames line.now }
@@ -60,7 +63,7 @@ fn serve_own_line<N: BootName, R: Wait, G: Gate>(
             if *processor != number {
                 return Ok(());
             }
-            visit_line(rt, alloc, system, cpu, *line, command, gate, text)
+            visit_line(visitor, cpu, *line, command, text)
         }
     }
 }

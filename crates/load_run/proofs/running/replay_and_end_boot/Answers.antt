@@ -11,7 +11,7 @@ use Rattle.load_run.proofs.running.replay_and_end_boot.Goals as goal
 pub replay-answers-requires : goal.replay-answers-requires
 replay-answers-requires g c =
     let long : length c.deref_mut.result.now ≡ g.N.BootName.frames.cpus = ap length c.deref_mut.ensures.value ∙ c.requires.count in
-    subst (λ (n : ℕ). All (LineIsThere g.N.BootName.frames.frames n) c.args.lines.now) (sym long) c.requires.lines
+    record { there = subst (λ (n : ℕ). All (LineIsThere g.N.BootName.frames.frames n) c.args.lines.now) (sym long) c.requires.lines }
 
 pub end_boot-ended-requires : goal.end_boot-ended-requires
 end_boot-ended-requires g c =
@@ -30,6 +30,6 @@ returns g c =
     record {
       before = standing c.replay-answers.new.locked c.replay-answers.new.cpus;
       so = subst (λ (cpus : List KnownCpu). ReplaysOrStops (terms t w c.args.is_explained) c.args.lines.now (standing c.args.locked cpus)
-          (standing c.replay-answers.new.locked c.replay-answers.new.cpus) c.replay-answers.result) first c.replay-answers.ensures;
+          (standing c.replay-answers.new.locked c.replay-answers.new.cpus) c.replay-answers.result) first c.replay-answers.ensures.outcome;
       ends = subst (λ (cpus : List KnownCpu). EndsHeld t w (standing c.replay-answers.new.locked cpus) c.end_boot-ended.result) same c.end_boot-ended.ensures;
     }

@@ -25,7 +25,7 @@ replay-first-requires g c =
     let sized = sized_as sizes _ t _ w c.requires.sized c.requires.names in
     let count : length c.deref_mut.result.now ≡ sizes.cpus =
     ap length (c.deref_mut.ensures.value ∙ c.in_ok-tables.ensures.cpus) ∙ first_long t w 1 sizes.cpus in
-    early_there sizes t w c.before_go.result _ c.args.lines.now c.split_at.result.0.now sized count c.split_at.ensures.front c.requires.lines
+    record { there = early_there sizes t w c.before_go.result _ c.args.lines.now c.split_at.result.0.now sized count c.split_at.ensures.front c.requires.lines }
 
 pub serve_and_end-told-requires-clause-count : goal.serve_and_end-told-requires-clause-count
 serve_and_end-told-requires-clause-count g c κs within =
@@ -59,7 +59,7 @@ returns g c =
     let ended = c.serve_and_end-told.result.1 in
     let replays : Replays (terms t w false) c.split_at.result.0.now start at_go early =
     at_ok c.replay-first.result c.in_ok-answers.answers (λ v. Replays (terms t w false) c.split_at.result.0.now start at_go v.items) c.in_ok-answers.was
-    c.replay-first.ensures.replayed in
+    c.replay-first.ensures.outcome.replayed in
     let history = replays.history [] (boot_shown sizes t w c.in_ok-tables.locked.machine c.deref_mut.result.now sized c.in_ok-tables.ensures.machine firsts)
     (parts_tied sizes t w c.in_ok-tables.locked.machine c.deref_mut.result.now sized c.in_ok-tables.ensures.machine firsts) in
     let tells : TellsEach (boot_tables t w) (workers_from 1 at_go.cpus c.split_at.result.1.now) later =

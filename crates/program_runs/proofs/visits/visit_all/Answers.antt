@@ -11,7 +11,7 @@ replay_by_visits-answers-requires g c =
     let sized = sized_as c.args.boot.sizes _ t _ w c.requires.sized c.requires.names in
     let long : length c.deref_mut.result.now ≡ c.args.boot.sizes.cpus =
     ap length (c.deref_mut.ensures.value ∙ c.in_ok-system.ensures.cpus) ∙ first_long t w 1 c.args.boot.sizes.cpus in
-    subst (λ (b : ℕ × ℕ). All (LineIsThere b.0 b.1) c.args.lines.now) (λ i. (sym sized.frames i, sym long i)) c.requires.lines
+    record { there = subst (λ (b : ℕ × ℕ). All (LineIsThere b.0 b.1) c.args.lines.now) (λ i. (sym sized.frames i, sym long i)) c.requires.lines }
 
 pub end_boot-ended-requires : goal.end_boot-ended-requires
 end_boot-ended-requires g c =

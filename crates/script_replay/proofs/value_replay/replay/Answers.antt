@@ -13,15 +13,17 @@ loop-line-preserved g c =
     in_order_line (ServesAndKeeps (terms g.N.BootName.frames g.N.BootName.stocks c.args.is_explained)) (standing c.args.locked.now c.args.cpus.now)
     (standing c.loop-line.locked c.loop-line.cpus) (standing c.serve_line.new.locked c.serve_line.new.cpus)
     c.args.lines.now c.loop-line.line-index _ (string_bytes c.loop-line.answers) (string_bytes c.serve_line.new.answers) c.loop-line-test.true
-    c.loop-line.invariant c.in_ok-serve_line.ensures
+    c.loop-line.invariant c.in_ok-serve_line.ensures.served.text c.in_ok-serve_line.ensures.served.so c.in_ok-serve_line.ensures.served.added
 
 pub returns-in_err-serve_line : goal.returns-in_err-serve_line
-returns-in_err-serve_line g c = record {
-  replayed = search rules;
-  stopped = at_error c.from_residual.result _ (keeps_stop (terms g.N.BootName.frames g.N.BootName.stocks c.args.is_explained) (standing c.args.locked.now c.args.cpus.now)
-      (standing c.loop-line.locked c.loop-line.cpus) (standing c.serve_line.new.locked c.serve_line.new.cpus)
-      c.args.lines.now c.loop-line.line-index _ (string_bytes c.loop-line.answers) c.serve_line.ensures.0 c.loop-line-test.true
-      c.loop-line.invariant c.serve_line.ensures.1);
+returns-in_err-serve_line g c = let served = c.serve_line.ensures.served in record {
+  outcome = record {
+    replayed = search rules;
+    stopped = at_error c.from_residual.result _ (keeps_stop (terms g.N.BootName.frames g.N.BootName.stocks c.args.is_explained) (standing c.args.locked.now c.args.cpus.now)
+        (standing c.loop-line.locked c.loop-line.cpus) (standing c.serve_line.new.locked c.serve_line.new.cpus)
+        c.args.lines.now c.loop-line.line-index _ (string_bytes c.loop-line.answers) served.text c.loop-line-test.true
+        c.loop-line.invariant served.so);
+  };
 }
 
 pub returns : goal.returns
@@ -32,6 +34,8 @@ returns g c =
     let all : ServesAllAndKeeps on c.args.lines.now first last c.into_bytes.result.items =
     in_order_end (ServesAndKeeps on) first last c.args.lines.now c.loop-line.line-index (string_bytes c.loop-line.answers)
     c.into_bytes.result.items c.loop-line-test.false c.loop-line.invariant (ap (λ v. v.items) c.into_bytes.ensures.value) in record {
-      replayed = all_replayed on c.args.lines.now first last c.into_bytes.result.items all;
-      stopped = tt;
+      outcome = record {
+        replayed = all_replayed on c.args.lines.now first last c.into_bytes.result.items all;
+        stopped = tt;
+      };
     }

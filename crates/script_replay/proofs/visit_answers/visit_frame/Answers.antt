@@ -1,5 +1,4 @@
 use Rattle.std.proofs.Common.{ℕ, inl, refl, subst, sym}
-use Rattle.std.specs.String.{string_bytes}
 use Rattle.cpu_part.specs.declared.answers.Fast.TheVariants.{Got}
 use Rattle.cpu_part.specs.Calls.{FastAnswers}
 use Rattle.group_tree.specs.declared.fault.Fault.TheVariants.{NoGroup}
@@ -8,7 +7,7 @@ use Rattle.mem_system.specs.declared.command.Reply.TheVariants.{Refused}
 use Rattle.reply_texts.specs.Answer.{Served}
 use Rattle.reply_texts.specs.Answer as answer
 use Rattle.script_replay.specs.Terms.{boot_tables}
-use Rattle.script_replay.specs.Visits.{RepliesVisited, VisitsFrame}
+use Rattle.script_replay.specs.Visits.{RepliesVisited, AnswersFrameByVisit}
 use Rattle.script_replay.proofs.Telling.{told, told_as}
 use Rattle.script_replay.proofs.Visiting.{visited_after}
 use Rattle.script_replay.proofs.visit_answers.visit_frame.Goals as goal
@@ -16,8 +15,8 @@ use Rattle.script_replay.proofs.visit_answers.visit_frame.Goals as goal
 pub returns-in_default : goal.returns-in_default
 returns-in_default g c =
     let found = c.in_default.ensures in
-    told (VisitsFrame (boot_tables g.N.BootName.frames g.N.BootName.stocks) c.args.path c.args.cpu.now c.args.cpu.now) (Served (Refused NoGroup))
-    (string_bytes c.args.text.now) (string_bytes c.write_refusal.new.text) c.write_refusal.result
+    told (AnswersFrameByVisit (boot_tables g.N.BootName.frames g.N.BootName.stocks) c.args.path c.args.cpu.now c.args.cpu.now) (Served (Refused NoGroup))
+    c.args.text.now c.write_refusal.new.text c.write_refusal.result
     (inl (record {
       locked = found.locked;
       quiet = found.quiet;
@@ -27,8 +26,8 @@ returns-in_default g c =
 pub returns-in-Got : goal.returns-in-Got
 returns-in-Got g c =
     let found = c.in-Some.ensures in
-    told (VisitsFrame (boot_tables g.N.BootName.frames g.N.BootName.stocks) c.args.path c.args.cpu.now c.alloc_fast.new.self)
-    (answer.Fast (Got c.in-Got.frame)) (string_bytes c.args.text.now) (string_bytes c.write_fast.new.text) c.write_fast.result (record {
+    told (AnswersFrameByVisit (boot_tables g.N.BootName.frames g.N.BootName.stocks) c.args.path c.args.cpu.now c.alloc_fast.new.self)
+    (answer.Fast (Got c.in-Got.frame)) c.args.text.now c.write_fast.new.text c.write_fast.result (record {
       locked = found.locked;
       quiet = found.quiet;
       so = record {
@@ -43,12 +42,12 @@ returns-in_default-alloc_fast g c =
     let found = c.in-Some.ensures in
     told_as
     (RepliesVisited (boot_tables g.N.BootName.frames g.N.BootName.stocks) (cmd.Alloc c.args.path 0) c.alloc_fast.new.self c.visit_and_reply.new.cpu)
-    (VisitsFrame (boot_tables g.N.BootName.frames g.N.BootName.stocks) c.args.path c.args.cpu.now c.visit_and_reply.new.cpu)
-    (string_bytes c.args.text.now) (string_bytes c.visit_and_reply.new.text) c.visit_and_reply.result
+    (AnswersFrameByVisit (boot_tables g.N.BootName.frames g.N.BootName.stocks) c.args.path c.args.cpu.now c.visit_and_reply.new.cpu)
+    c.args.text.now c.visit_and_reply.new.text c.visit_and_reply.result
     (λ said so. visited_after (boot_tables g.N.BootName.frames g.N.BootName.stocks) c.args.path found.locked c.args.cpu.now c.alloc_fast.new.self c.visit_and_reply.new.cpu said found.quiet (record {
       group = c.in-Some.group;
       found = sym found.so;
       fast = c.alloc_fast.result;
       answers = subst (λ (g : ℕ). FastAnswers g c.alloc_fast.result c.args.cpu.now c.alloc_fast.new.self) c.number.ensures.value c.alloc_fast.ensures.answer;
       none = c.in_default-alloc_fast.not-Got;
-    }) so) c.visit_and_reply.ensures
+    }) so) c.visit_and_reply.ensures.answered

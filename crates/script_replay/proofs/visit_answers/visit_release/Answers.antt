@@ -1,12 +1,12 @@
 use Rattle.std.proofs.Common.{rules}
-use Rattle.std.specs.String.{string_bytes}
 use Rattle.reply_texts.specs.Answer.{Listed}
 use Rattle.script_replay.specs.Terms.{boot_tables}
-use Rattle.script_replay.specs.Visits.{VisitsRelease}
+use Rattle.script_replay.specs.Visits.{AnswersReleaseByVisit}
 use Rattle.script_replay.proofs.Telling.{told}
 use Rattle.script_replay.proofs.visit_answers.visit_release.Goals as goal
 
 pub returns-then-try_list : goal.returns-then-try_list
-returns-then-try_list g c =
-    told (VisitsRelease (boot_tables g.N.BootName.frames g.N.BootName.stocks) c.args.number c.args.cpu.now c.try_list.new.cpu)
-    Listed (string_bytes c.args.text.now) (string_bytes c.write_listed.new.text) c.write_listed.result (search rules) c.write_listed.ensures
+returns-then-try_list g c = record {
+  answered = told (AnswersReleaseByVisit (boot_tables g.N.BootName.frames g.N.BootName.stocks) c.args.number c.args.cpu.now c.try_list.new.cpu)
+      Listed c.args.text.now c.write_listed.new.text c.write_listed.result (search rules) c.write_listed.ensures;
+}

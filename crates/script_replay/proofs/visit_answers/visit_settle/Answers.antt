@@ -1,14 +1,13 @@
-use Rattle.std.specs.String.{string_bytes}
 use Rattle.reply_texts.specs.Answer.{Settled}
 use Rattle.script_replay.specs.Terms.{boot_tables}
-use Rattle.script_replay.specs.Visits.{VisitsSettle}
+use Rattle.script_replay.specs.Visits.{AnswersSettleByVisit}
 use Rattle.script_replay.proofs.Telling.{told}
 use Rattle.script_replay.proofs.Visiting.{settled_done}
 use Rattle.script_replay.proofs.visit_answers.visit_settle.Goals as goal
 
 pub returns : goal.returns
 returns g c =
-    told (VisitsSettle (boot_tables g.N.BootName.frames g.N.BootName.stocks) c.args.cpu.now c.visit_with-done.new.cpu)
-    Settled (string_bytes c.args.text.now) (string_bytes c.write_settled.new.text) c.write_settled.result
+    told (AnswersSettleByVisit (boot_tables g.N.BootName.frames g.N.BootName.stocks) c.args.cpu.now c.visit_with-done.new.cpu)
+    Settled c.args.text.now c.write_settled.new.text c.write_settled.result
     (settled_done (boot_tables g.N.BootName.frames g.N.BootName.stocks) c.args.cpu.now c.visit_with-done.new.cpu c.visit_with-done.result c.visit_with-done.ensures.served)
     c.write_settled.ensures
