@@ -39,7 +39,7 @@ pub fn run_by_threads<N: BootName + Send + Sync, R: Threads + Wait + Sync>(
     ensures { IfOk result (λ text. AreThreadAnswers boot.sizes is_audited lines.now text.items) }
 {
     let (early, later) = lines.split_at(before_go(lines));
-    let (tables, mut locked, mut cpus) = boot.into_parts::<N>(alloc)?;
+    let (mut locked, tables, mut cpus) = boot.into_parts::<N>(alloc)?;
     let first = replay(alloc, &mut locked, &tables, &mut cpus, early, false);
     let (told, ended) = serve_and_end(rt, alloc, locked, tables, cpus, later, first.is_ok());
     let mut answers = first?;
