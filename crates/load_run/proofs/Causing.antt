@@ -98,7 +98,7 @@ nothing_left asked input (Words fault) output cause = Keeps-refl output
 nothing_left asked input (Script fault) output cause = Keeps-refl output
 nothing_left asked input BadConfig output cause = Keeps-refl output
 nothing_left asked input Input output cause = Keeps-refl output
-nothing_left asked input Output output cause = (cause.0, cause.1, (0, Appends-nil output))
+nothing_left asked input Output output cause = record { text = cause.text; answered = cause.answered; begun = (0, Appends-nil output) }
 nothing_left asked input (NoMemory e) output cause = Keeps-refl output
 
 -- failure that has a cause, before an answer was written
@@ -123,13 +123,7 @@ cut_short asked None output_before output_after before after text given fault an
 cut_short asked (Some bytes) output_before output_after before after text given fault answered same written is told = record {
   fault = Output;
   is_failure = refl;
-  cause = (text, answered);
-  left = (text, answered, subst (λ (l : List ℕ). AppendsBeginning output_before output_after l) same written);
+  cause = record { text = text; answered = answered };
+  left = record { text = text; answered = answered; begun = subst (λ (l : List ℕ). AppendsBeginning output_before output_after l) same written };
   told = subst (λ (f : ProgramFault). AppendsBeginning before after (fault_text f)) is told;
 }
-
--- which is no misuse
-pub no_misuse : (fault : ProgramFault) (status : ℕ) → fault ≡ Output → status ≡ status_of fault → status ≡ 2 → ⊥
-no_misuse fault status is told two =
-    let one : status ≡ 1 = told ∙ ap status_of is in
-    omega (arith, one, two)

@@ -1,5 +1,6 @@
 pub mod Answering
 pub mod Causing
+pub mod Driving
 pub mod Putting
 pub mod Starting
 pub mod Written

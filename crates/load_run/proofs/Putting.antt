@@ -23,8 +23,14 @@ pub put_start : (c : KnownCpu) → PutSoFar c c
 put_start c = record { frames = []; puts = refl }
 
 puts_more : (frames : List ℕ) (f : ℕ) (answer : Put) (c m d : KnownCpu) → PutsEach frames c m → UnpinAnswers f answer m d → PutsEach (frames ++ f ∷ []) c d
-puts_more [] f answer c m d puts one = (answer, d, subst (λ (x : KnownCpu). UnpinAnswers f answer x d) puts one, refl)
-puts_more (e ∷ frames) f answer c m d puts one = (puts.0, puts.1, puts.2, puts_more frames f answer puts.1 m d puts.3 one)
+puts_more [] f answer c m d puts one =
+    record { answer = answer; between = d; first = subst (λ (x : KnownCpu). UnpinAnswers f answer x d) puts one; rest = refl }
+puts_more (e ∷ frames) f answer c m d puts one = record {
+  answer = puts.answer;
+  between = puts.between;
+  first = puts.first;
+  rest = puts_more frames f answer puts.between m d puts.rest one;
+}
 
 pub put_more : (f : ℕ) (answer : Put) (c m d : KnownCpu) → PutSoFar c m → UnpinAnswers f answer m d → PutSoFar c d
 put_more f answer c m d so_far one = record { frames = so_far.frames ++ f ∷ []; puts = puts_more so_far.frames f answer c m d so_far.puts one }

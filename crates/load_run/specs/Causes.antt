@@ -2,16 +2,16 @@
 use Rattle.std.specs.Prelude.{◌≡◌, ℕ, List, Option, Some, Err, IsSome}
 use Rattle.std.specs.Io.KnownBytes.{Keeps}
 use Rattle.zone_sizes.specs.Config.{IsValidConfig}
-use Rattle.script_lines.specs.declared.line.Line.{Line}
 use Rattle.script_lines.specs.declared.fault.ScriptFault.TheVariants as script
+use Rattle.script_lines.specs.declared.line.Line.{Line}
 use Rattle.script_lines.specs.Script.{IsFirstBadLine, IsScript}
 use Rattle.load_options.specs.declared.settings.Settings.{Settings}
+use Rattle.load_options.specs.Settings.{HasSizesInRange}
+use Rattle.load_options.specs.Words.{TellsSettings}
 use Rattle.load_run.specs.declared.fault.ProgramFault.{ProgramFault}
 use Rattle.load_run.specs.declared.fault.ProgramFault.TheVariants.{Words, Script, BadConfig, Input, Output, NoMemory}
 use Rattle.load_run.specs.Answers.{IsAnswered, bytes_read}
 use Rattle.load_run.specs.Fault.{fault_text, status_of}
-use Rattle.load_options.specs.Settings.{HasSizesInRange}
-use Rattle.load_options.specs.Words.{TellsSettings}
 use Rattle.load_run.specs.Writing.{AppendsBeginning}
 
 -- the line of this number of what is read of the input is the first bad one, for the sizes that are asked for
@@ -29,6 +29,11 @@ pub record IsRefused (asked : Option Settings) (input : List ℕ) : Type 0 where
   pub script : IsScript settings.sizes input lines
   pub refused : ¬ IsValidConfig settings.sizes
 
+-- the settings that are asked for have answers to the input
+pub record HasAnswers (asked : Option Settings) (input : List ℕ) : Type 0 where
+  pub text : List ℕ
+  pub answered : IsAnswered asked text input
+
 -- Which fault comes when. The words are judged first, then the script, then the sizes: so whatever comes after the
 -- words comes where they ask for settings, and the sizes are refused only where the input is a script. That memory
 -- ran out or the input failed has no other cause that a clause could name
@@ -38,7 +43,7 @@ HasCause asked (Script (script.BadLine number)) input = IsBadAt asked number inp
 HasCause asked (Script script.NoMemory) input = IsSome asked
 HasCause asked BadConfig input = IsRefused asked input
 HasCause asked Input input = IsSome asked
-HasCause asked Output input = (text : List ℕ) × IsAnswered asked text input
+HasCause asked Output input = HasAnswers asked input
 HasCause asked (NoMemory error) input = IsSome asked
 
 -- what the writers of the answers and of the faults hold, where that is known
@@ -50,10 +55,15 @@ pub record Written : Type 0 where
 abbrev pub written : (output faults : Option (List ℕ)) → Written
 written output faults = record { output = output; faults = faults }
 
+-- the input has answers, and a beginning of them was written
+pub record BeginsAnswers (asked : Option Settings) (before after : Option (List ℕ)) (input : List ℕ) : Type 0 where
+  pub text : List ℕ
+  pub answered : IsAnswered asked text input
+  pub begun : AppendsBeginning before after text
+
 -- what is left of the answers to the input: a beginning where the output failed, else nothing
 abbrev pub LeavesAnswers : Option Settings → ProgramFault → (before after : Option (List ℕ)) (input : List ℕ) → Type 0
-LeavesAnswers asked Output before after input =
-    (text : List ℕ) × IsAnswered asked text input × AppendsBeginning before after text
+LeavesAnswers asked Output before after input = BeginsAnswers asked before after input
 LeavesAnswers asked fault before after input = Keeps before after
 
 -- the words or the input are misused: the words ask for no settings, or the input has a first bad line, or the sizes

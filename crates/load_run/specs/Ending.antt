@@ -12,11 +12,18 @@ use Rattle.mem_system.specs.Ends.{Ends, pins_of}
 use Rattle.script_replay.specs.Lines.{Standing}
 use Rattle.load_run.specs.declared.boot_end.Ended.{Ended}
 
+-- a pin of this frame is put, and then what is to be put after it
+pub record PutsFirstAndRest (frame : ℕ) (puts_rest : (before after : KnownCpu) → Type 0)
+    (before after : KnownCpu) : Type 0 where
+  pub answer : Put
+  pub between : KnownCpu
+  pub first : UnpinAnswers frame answer before between
+  pub rest : puts_rest between after
+
 -- a pin of each of these frames is put, one after the other
-abbrev pub PutsEach : List ℕ → KnownCpu → KnownCpu → Type 0
+abbrev pub PutsEach : List ℕ → (before after : KnownCpu) → Type 0
 PutsEach [] before after = after ≡ before
-PutsEach (frame ∷ frames) before after =
-    (answer : Put) × (between : KnownCpu) × UnpinAnswers frame answer before between × PutsEach frames between after
+PutsEach (frame ∷ frames) before after = PutsFirstAndRest frame (PutsEach frames) before after
 
 -- every pin of the processor is put
 pub record PutsAllPins (before after : KnownCpu) : Type 0 where

@@ -5,11 +5,11 @@ use Rattle.zone_sizes.specs.declared.config.Config.{Config}
 use Rattle.zone_sizes.specs.Config.{IsValidConfig}
 use Rattle.script_lines.specs.declared.fault.ScriptFault.TheVariants as script
 use Rattle.script_lines.specs.Script.{NamesFirstBadLine}
-use Rattle.load_options.specs.declared.settings.Settings.{Settings}
 use Rattle.load_options.specs.declared.fault.WordsFault.TheVariants as words
+use Rattle.load_options.specs.declared.settings.Settings.{Settings}
+use Rattle.load_options.specs.Words.{TellsSettings}
 use Rattle.load_run.specs.declared.fault.ProgramFault.{ProgramFault}
 use Rattle.load_run.specs.declared.fault.ProgramFault.TheVariants.{Words, Script, BadConfig, Input, Output, NoMemory}
-use Rattle.load_options.specs.Words.{TellsSettings}
 
 -- 2 where the program was used wrongly, 1 where it failed at its work
 abbrev pub status_of : ProgramFault → ℕ

@@ -1,11 +1,11 @@
 //! The end of a boot: every pin that is still held is put, the boot ends, and what was counted is told.
 
-ghost use Rattle.std.specs.Prelude.{◌≡◌, ◌++◌, [], OnOk, length};
+ghost use Rattle.std.specs.Prelude.{◌≡◌, ◌++◌, OnOk, length};
 ghost use Rattle.std.specs.List.{AllZip};
 ghost use Rattle.std.specs.String.{string_bytes};
 ghost use Rattle.script_replay.specs.Lines.{standing};
-ghost use Rattle.load_run.specs.Ending.{EndsHeld, PutsAllPins, audit_text, audit_counts_text, held_text};
-ghost use Rattle.load_run.specs.Ending.{audit_places_text};
+ghost use Rattle.load_run.specs.Ending.{EndsHeld, PutsAllPins, audit_counts_text, audit_places_text, audit_text};
+ghost use Rattle.load_run.specs.Ending.{held_text};
 
 use cpu_part::{BootName, Cpu, Tables};
 use mem_system::{Audit, Locked, Pinned, end};
@@ -40,8 +40,8 @@ fn put_all_pins<N: BootName>(tables: &Tables<N>, cpus: &mut [Cpu<N>])
 
 /// Ends a boot. Where pins are still held, they are put first.
 pub fn end_boot<N: BootName>(locked: Locked<N>, tables: Tables<N>, cpus: Vec<Cpu<N>>) -> Ended
-    requires { length cpus.items ≡ N.frames.cpus }
-    ensures { EndsHeld N.frames N.stocks (standing locked cpus.items) result }
+    requires count { length cpus.items ≡ N.frames.cpus }
+    ensures ends { EndsHeld N.frames N.stocks (standing locked cpus.items) result }
 {
     match end(locked, tables, cpus) {
         Ok(audit) => Ended { held: 0, audit },
@@ -64,7 +64,7 @@ pub fn end_boot<N: BootName>(locked: Locked<N>, tables: Tables<N>, cpus: Vec<Cpu
 /// Adds what is told of the end: the pins that were held, where there were any, and what was counted. It fails only
 /// for want of memory.
 pub fn write_end(text: &mut String, ended: &Ended) -> Result<(), AllocError>
-    ensures { OnOk result (string_bytes text.new
+    ensures told { OnOk result (string_bytes text.new
         ≡ string_bytes text.old ++ (held_text ended.now.held ++ audit_text ended.now.audit)) }
 {
     write_held(text, ended.held)?;

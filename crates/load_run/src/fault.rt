@@ -1,4 +1,4 @@
-//! Why a run of the program fails.
+//! Why a run of the program fails, and the status that it ends with then.
 
 ghost use Rattle.std.specs.Prelude.{◌≡◌};
 
@@ -28,7 +28,7 @@ impl ProgramFault {
 
     /// The status that the program ends with: 2 where it was used wrongly, 1 where it failed at its work.
     pub fn status(&self) -> u8
-        ensures { result ≡ status_of self.now }
+        ensures status { result ≡ status_of self.now }
     {
         match self {
             ProgramFault::Words(WordsFault::BadWords(_))

@@ -1,4 +1,4 @@
-//! Each fault is told in a line of its own, or in clap's text of the words.
+//! Each fault is told in a line of its own, or in clap's text of the words, as far as the writer takes it.
 
 ghost use Rattle.std.specs.Prelude.{◌≡◌, OnOk};
 ghost use Rattle.std.specs.Io.KnownBytes.{Appends};

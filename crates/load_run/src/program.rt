@@ -1,16 +1,18 @@
-//! The program over any reader and two writers.
+//! The program over any reader and two writers: what a new boot answers to the script is written to the output, or a
+//! fault is told, and the status says which.
 
-ghost use Rattle.std.specs.Prelude.{◌≡◌, ◌≤◌, All, IfErr, IfOk, IfSome, IsSome, OnOk, Some, map};
+ghost use Rattle.std.specs.Prelude.{◌≡◌, All, IfErr, IfOk, IfSome, OnOk, Some, map};
 ghost use Rattle.std.specs.Io.KnownBytes.{Appends};
-ghost use Rattle.load_run.specs.Causes.{FailsAtWork, HasCause, IsMisused, written};
-ghost use Rattle.load_run.specs.Fault.{IsBootFault, IsReadFault, IsScriptFault, IsWordsFault};
-ghost use Rattle.load_run.specs.Writing.{AppendsBeginning};
+ghost use Rattle.zone_sizes.specs.Config.{IsValidConfig};
 ghost use Rattle.script_lines.specs.Script.{IsScript};
 ghost use Rattle.script_replay.specs.Ranges.{LineIsThere};
 ghost use Rattle.load_options.specs.Settings.{HasSizesInRange};
 ghost use Rattle.load_options.specs.Words.{settings_of};
-ghost use Rattle.load_run.specs.Answers.{AreAnswers, IsAnswered, IsReplayed, bytes_read};
-ghost use Rattle.zone_sizes.specs.Config.{IsValidConfig};
+ghost use Rattle.load_run.specs.Answers.{AreAnswers, bytes_read};
+ghost use Rattle.load_run.specs.Causes.{written};
+ghost use Rattle.load_run.specs.Driving.{AnswersTo, Drives};
+ghost use Rattle.load_run.specs.Fault.{IsBootFault, IsReadFault, IsScriptFault, IsWordsFault};
+ghost use Rattle.load_run.specs.Writing.{AppendsBeginning};
 
 use crate::fault::ProgramFault;
 use crate::fault_lines::tell_fault;
@@ -42,17 +44,9 @@ pub fn drive<S: AsStr, I: Read, O: Write, F: Write>(
     output: &mut O,
     faults: &mut F,
 ) -> u8
-    ensures status { result ≤ 2 }
-    ensures quiet { result ≡ 2 → O.contents output.new ≡ O.contents output.old }
-    ensures silent { result ≡ 0 → F.contents faults.new ≡ F.contents faults.old }
-    ensures asked { result ≡ 0 → IsSome (settings_of (map S.text words.now)) }
-    ensures replayed { result ≡ 0 → IfSome (I.remaining input.old)
-        (IsReplayed (settings_of (map S.text words.now)) (O.contents output.old) (O.contents output.new)) }
-    ensures misused { result ≡ 2 → IfSome (I.remaining input.old)
-        (IsMisused (settings_of (map S.text words.now)) (F.contents faults.old) (F.contents faults.new)) }
-    ensures fails { result ≡ 1 → IfSome (I.remaining input.old) (FailsAtWork (settings_of (map S.text words.now))
+    ensures drives { Drives (settings_of (map S.text words.now)) (I.remaining input.old)
         (written (O.contents output.old) (F.contents faults.old))
-        (written (O.contents output.new) (F.contents faults.new))) }
+        (written (O.contents output.new) (F.contents faults.new)) result }
 {
     match answers_to(alloc, words, input) {
         Ok(answers) => match write_answers(output, &answers) {
@@ -69,11 +63,7 @@ fn answers_to<S: AsStr, I: Read>(
     words: &[S],
     input: &mut I,
 ) -> Result<Vec<u8>, ProgramFault>
-    ensures asked { OnOk result (IsSome (settings_of (map S.text words.now))) }
-    ensures answered { IfOk result (λ answers. IfSome (I.remaining input.old)
-        (IsAnswered (settings_of (map S.text words.now)) answers.items)) }
-    ensures cause { IfErr result (λ fault. IfSome (I.remaining input.old)
-        (HasCause (settings_of (map S.text words.now)) fault)) }
+    ensures { AnswersTo (settings_of (map S.text words.now)) (I.remaining input.old) result }
 {
     let settings = read_words(alloc, words)?;
     let script = read_script(alloc, input)?;
@@ -114,7 +104,7 @@ fn answers_of(
     settings: &Settings,
     lines: &[Line<'_>],
 ) -> Result<Vec<u8>, ProgramFault>
-    requires { All (LineIsThere settings.now.sizes.frames settings.now.sizes.cpus) lines.now }
+    requires lines { All (LineIsThere settings.now.sizes.frames settings.now.sizes.cpus) lines.now }
     ensures answers { IfOk result (λ text.
         AreAnswers settings.now.sizes settings.now.is_explained settings.now.is_audited lines.now text.items) }
     ensures valid { OnOk result (IsValidConfig settings.now.sizes) }

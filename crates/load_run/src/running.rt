@@ -1,7 +1,7 @@
-//! The life of a boot in the program: it replays the lines, and ends.
+//! What a boot answers to lines: it replays them, one after the other, and ends, also where memory is wanting for an
+//! answer.
 
 ghost use Rattle.std.specs.Prelude.{◌≡◌, ◌++◌, All, IfOk, length};
-ghost use Rattle.mem_system.specs.Boots.{IsSizedAs};
 ghost use Rattle.script_replay.specs.History.{ReplaysOrStops};
 ghost use Rattle.script_replay.specs.Lines.{standing};
 ghost use Rattle.script_replay.specs.Ranges.{LineIsThere};
@@ -26,10 +26,10 @@ pub fn replay_on_boot<N: BootName>(
     is_explained: bool,
     is_audited: bool,
 ) -> Result<Vec<u8>, AllocError>
-    requires names { (boot.frames ≡ N.frames) × (boot.stocks ≡ N.stocks) }
-    requires sized { IsSizedAs boot.sizes boot.frames boot.stocks }
+    requires frames { boot.frames ≡ N.frames }
+    requires stocks { boot.stocks ≡ N.stocks }
     requires lines { All (LineIsThere boot.sizes.frames boot.sizes.cpus) lines.now }
-    ensures { IfOk result (λ text. AreAnswers boot.sizes is_explained is_audited lines.now text.items) }
+    ensures answers { IfOk result (λ text. AreAnswers boot.sizes is_explained is_audited lines.now text.items) }
 {
     let (locked, tables, cpus) = boot.into_parts::<N>(alloc)?;
     let (answers, ended) = replay_and_end_boot(alloc, locked, tables, cpus, lines, is_explained);
@@ -47,7 +47,7 @@ fn replay_and_end_boot<N: BootName>(
 ) -> (Result<Vec<u8>, AllocError>, Ended)
     requires count { length cpus.items ≡ N.frames.cpus }
     requires lines { All (LineIsThere N.frames.frames N.frames.cpus) lines.now }
-    ensures { EndsAfter N.frames N.stocks (λ left. ReplaysOrStops (terms N.frames N.stocks is_explained) lines.now
+    ensures ends { EndsAfter N.frames N.stocks (λ left. ReplaysOrStops (terms N.frames N.stocks is_explained) lines.now
         (standing locked cpus.items) left result.0) result.1 }
 {
     let answers = replay(alloc, &mut locked, &tables, &mut cpus, lines, is_explained);
@@ -63,7 +63,7 @@ pub fn tell_end(
     ended: Ended,
     is_audited: bool,
 ) -> Result<Vec<u8>, AllocError>
-    ensures { IfOk result (λ text. text.items ≡ answers.items ++ end_text is_audited ended) }
+    ensures told { IfOk result (λ text. text.items ≡ answers.items ++ end_text is_audited ended) }
 {
     if is_audited {
         let mut told = String::new(alloc);

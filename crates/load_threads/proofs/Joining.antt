@@ -1,10 +1,9 @@
 -- The answers of the early lines and those of the later, joined. Serves `run_by_threads`.
-use Rattle.std.proofs.Common.{◌≡◌, ℕ, Bool, false, List, [], ◌++◌, All, length, take, drop, refl, sym, subst}
+use Rattle.std.proofs.Common.{◌≡◌, ℕ, Bool, false, List, [], ◌++◌, All, take, drop, refl, sym, subst}
 use Rattle.std.proofs.lemmas.List.Elements.{All-take, All-drop}
 use Rattle.frame_word.specs.Seats.{KnownTable}
 use Rattle.stock_word.specs.Stock.{Words}
 use Rattle.zone_sizes.specs.declared.config.Config.{Config}
-use Rattle.mem_system.specs.Locked.{IsQuiet}
 use Rattle.mem_system.specs.Boots.{IsSizedAs}
 use Rattle.script_lines.specs.declared.line.Line.{Line}
 use Rattle.script_replay.specs.History.{TellsHistory, past}
@@ -16,7 +15,7 @@ use Rattle.script_threads.specs.Runs.{lines_before_go}
 use Rattle.load_run.specs.declared.boot_end.Ended.{Ended}
 use Rattle.load_run.specs.Answers.{StandsAtFirst}
 use Rattle.load_run.specs.Ending.{EndsAfter, end_text}
-use Rattle.load_threads.specs.Answers.{AreThreadAnswers}
+use Rattle.load_threads.specs.Answers.{AreThreadAnswers, StandsQuiet}
 
 -- all lines name what is there, also as the tables and the parts say it
 there : (frames cpus known parts : ℕ) (lines : List Line) → frames ≡ known → cpus ≡ parts → All (LineIsThere frames cpus) lines
@@ -43,7 +42,7 @@ pub are_answers : (sizes : Config) (is_audited : Bool) (t : KnownTable) (w : Wor
     → first_lines ≡ take (lines_before_go lines) lines → other_lines ≡ drop (lines_before_go lines) lines
     → ServesAll (terms t w false) first_lines start at_go early → TellsHistory (terms t w false) first_lines (past [] start) at_go early
     → TellsEach (boot_tables t w) (workers_from 1 at_go.cpus other_lines) later
-    → EndsAfter t w (λ end. IsQuiet t w end.locked × (length end.cpus ≡ t.cpus)) told
+    → EndsAfter t w (StandsQuiet t w) told
     → text ≡ (early ++ later) ++ end_text is_audited told → AreThreadAnswers sizes is_audited lines text
 are_answers sizes is_audited t w lines first_lines other_lines start at_go early later text told first is_first is_other served history tells
     ended is = record {
@@ -59,8 +58,7 @@ are_answers sizes is_audited t w lines first_lines other_lines start at_go early
       served = subst (λ (l : List Line). ServesAll (terms t w false) l start at_go early) is_first served;
       history = subst (λ (l : List Line). TellsHistory (terms t w false) l (past [] start) at_go early) is_first history;
       tells = subst (λ (l : List Line). TellsEach (boot_tables t w) (workers_from 1 at_go.cpus l) later) is_other tells;
-      quiet = ended.so.0;
-      count = ended.so.1;
+      quiet = ended.so;
       ends = record { ended = told; ends = ended.ends; text_is = refl };
       text_is = is;
     }

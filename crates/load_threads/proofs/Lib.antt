@@ -1,3 +1,4 @@
 pub mod Answering
 pub mod Causing
+pub mod Driving
 pub mod Joining

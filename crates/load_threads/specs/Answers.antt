@@ -17,6 +17,11 @@ use Rattle.load_options.specs.declared.settings.Settings.{Settings}
 use Rattle.load_run.specs.Answers.{StandsAtFirst}
 use Rattle.load_run.specs.Ending.{TellsEnd}
 
+-- no visit is open behind the lock, and there are as many parts as processors
+pub record StandsQuiet (frames : KnownTable) (stocks : Words) (now : Standing) : Type 0 where
+  pub quiet : IsQuiet frames stocks now.locked
+  pub count : length now.cpus ≡ frames.cpus
+
 -- What a boot with these sizes answers to the lines. Those before `go` are served one after the other from the boot
 -- on, and all their steps together are one run, which tells of each line that the promise is kept after it. Then each
 -- processor is answered its own among the lines from `go` on, from its part as the lines before left it. What stands
@@ -33,10 +38,11 @@ pub record AreThreadAnswers (sizes : Config) (is_audited : Bool) (lines : List L
   pub ending : List ℕ
   pub first : StandsAtFirst sizes frames stocks start
   pub served : ServesAll (terms frames stocks false) (take (lines_before_go lines) lines) start at_go early
-  pub history : TellsHistory (terms frames stocks false) (take (lines_before_go lines) lines) (past [] start) at_go early
-  pub tells : TellsEach (boot_tables frames stocks) (workers_from 1 at_go.cpus (drop (lines_before_go lines) lines)) later
-  pub quiet : IsQuiet frames stocks end.locked
-  pub count : length end.cpus ≡ frames.cpus
+  pub history : TellsHistory (terms frames stocks false) (take (lines_before_go lines) lines) (past [] start) at_go
+      early
+  pub tells : TellsEach (boot_tables frames stocks)
+      (workers_from 1 at_go.cpus (drop (lines_before_go lines) lines)) later
+  pub quiet : StandsQuiet frames stocks end
   pub ends : TellsEnd frames stocks is_audited end ending
   pub text_is : text ≡ (early ++ later) ++ ending
 

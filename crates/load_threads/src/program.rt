@@ -1,14 +1,15 @@
-//! The program's `run` over any reader and two writers.
+//! The program's `run` over any reader and two writers: what a new boot answers to the script, by threads from `go` on,
+//! is written to the output, or a fault is told, and the status says which.
 
-ghost use Rattle.std.specs.Prelude.{◌≡◌, ◌≤◌, All, IfErr, IfOk, IfSome, IsSome, OnOk, Some, map};
+ghost use Rattle.std.specs.Prelude.{◌≡◌, All, IfErr, IfOk, OnOk, Some, map};
 ghost use Rattle.zone_sizes.specs.Config.{IsValidConfig};
 ghost use Rattle.script_replay.specs.Ranges.{LineIsThere};
-ghost use Rattle.load_run.specs.Causes.{IsMisused, written};
-ghost use Rattle.load_run.specs.Fault.{IsBootFault, IsWordsFault};
 ghost use Rattle.load_options.specs.Settings.{HasSizesInRange};
 ghost use Rattle.load_options.specs.Words.{run_settings_of};
-ghost use Rattle.load_threads.specs.Answers.{AreThreadAnswers, IsAnsweredByThreads, IsRun};
-ghost use Rattle.load_threads.specs.Causes.{FailsAtRun, HasRunCause};
+ghost use Rattle.load_run.specs.Causes.{written};
+ghost use Rattle.load_run.specs.Fault.{IsBootFault, IsWordsFault};
+ghost use Rattle.load_threads.specs.Answers.{AreThreadAnswers};
+ghost use Rattle.load_threads.specs.Driving.{AnswersRun, DrivesRun};
 
 use crate::running::run_by_threads;
 use load_options::command_line::parse_run_words;
@@ -39,17 +40,9 @@ pub fn drive_run<R: Threads + Wait + Sync, S: AsStr, I: Read, O: Write, F: Write
     output: &mut O,
     faults: &mut F,
 ) -> u8
-    ensures status { result ≤ 2 }
-    ensures quiet { result ≡ 2 → O.contents output.new ≡ O.contents output.old }
-    ensures silent { result ≡ 0 → F.contents faults.new ≡ F.contents faults.old }
-    ensures asked { result ≡ 0 → IsSome (run_settings_of (map S.text words.now)) }
-    ensures ran { result ≡ 0 → IfSome (I.remaining input.old)
-        (IsRun (run_settings_of (map S.text words.now)) (O.contents output.old) (O.contents output.new)) }
-    ensures misused { result ≡ 2 → IfSome (I.remaining input.old)
-        (IsMisused (run_settings_of (map S.text words.now)) (F.contents faults.old) (F.contents faults.new)) }
-    ensures fails { result ≡ 1 → IfSome (I.remaining input.old) (FailsAtRun (run_settings_of (map S.text words.now))
+    ensures drives { DrivesRun (run_settings_of (map S.text words.now)) (I.remaining input.old)
         (written (O.contents output.old) (F.contents faults.old))
-        (written (O.contents output.new) (F.contents faults.new))) }
+        (written (O.contents output.new) (F.contents faults.new)) result }
 {
     match answers_to(rt, alloc, words, input) {
         Ok(answers) => match write_answers(output, &answers) {
@@ -67,11 +60,7 @@ fn answers_to<R: Threads + Wait + Sync, S: AsStr, I: Read>(
     words: &[S],
     input: &mut I,
 ) -> Result<Vec<u8>, ProgramFault>
-    ensures asked { OnOk result (IsSome (run_settings_of (map S.text words.now))) }
-    ensures answered { IfOk result (λ answers. IfSome (I.remaining input.old)
-        (IsAnsweredByThreads (run_settings_of (map S.text words.now)) answers.items)) }
-    ensures cause { IfErr result (λ fault. IfSome (I.remaining input.old)
-        (HasRunCause (run_settings_of (map S.text words.now)) fault)) }
+    ensures { AnswersRun (run_settings_of (map S.text words.now)) (I.remaining input.old) result }
 {
     let settings = read_words(alloc, words)?;
     let script = read_script(alloc, input)?;
@@ -98,7 +87,7 @@ fn answers_of<R: Threads + Wait + Sync>(
     settings: &Settings,
     lines: &[Line<'_>],
 ) -> Result<Vec<u8>, ProgramFault>
-    requires { All (LineIsThere settings.now.sizes.frames settings.now.sizes.cpus) lines.now }
+    requires lines { All (LineIsThere settings.now.sizes.frames settings.now.sizes.cpus) lines.now }
     ensures answers { IfOk result (λ text.
         AreThreadAnswers settings.now.sizes settings.now.is_audited lines.now text.items) }
     ensures valid { OnOk result (IsValidConfig settings.now.sizes) }

@@ -2,13 +2,11 @@
 //! processor, and the end.
 
 ghost use Rattle.std.specs.Prelude.{◌≡◌, ◌<◌, ◌^◌, All, IfOk, length};
-ghost use Rattle.mem_system.specs.Locked.{IsQuiet};
-ghost use Rattle.mem_system.specs.Boots.{IsSizedAs};
 ghost use Rattle.script_replay.specs.Ranges.{LineIsThere};
 ghost use Rattle.script_replay.specs.Terms.{boot_tables};
 ghost use Rattle.script_threads.specs.Each.{TellsEach, workers_from};
 ghost use Rattle.load_run.specs.Ending.{EndsAfter};
-ghost use Rattle.load_threads.specs.Answers.{AreThreadAnswers};
+ghost use Rattle.load_threads.specs.Answers.{AreThreadAnswers, StandsQuiet};
 
 use cpu_part::{BootName, Cpu, Tables};
 use load_run::boot_end::{Ended, end_boot};
@@ -33,10 +31,10 @@ pub fn run_by_threads<N: BootName + Send + Sync, R: Threads + Wait + Sync>(
     lines: &[Line<'_>],
     is_audited: bool,
 ) -> Result<Vec<u8>, AllocError>
-    requires names { (boot.frames ≡ N.frames) × (boot.stocks ≡ N.stocks) }
-    requires sized { IsSizedAs boot.sizes boot.frames boot.stocks }
+    requires frames { boot.frames ≡ N.frames }
+    requires stocks { boot.stocks ≡ N.stocks }
     requires lines { All (LineIsThere boot.sizes.frames boot.sizes.cpus) lines.now }
-    ensures { IfOk result (λ text. AreThreadAnswers boot.sizes is_audited lines.now text.items) }
+    ensures answers { IfOk result (λ text. AreThreadAnswers boot.sizes is_audited lines.now text.items) }
 {
     let (early, later) = lines.split_at(before_go(lines));
     let (mut locked, tables, mut cpus) = boot.into_parts::<N>(alloc)?;
@@ -61,8 +59,7 @@ fn serve_and_end<N: BootName + Send + Sync, R: Threads + Wait + Sync>(
     requires lines { All (LineIsThere N.frames.frames N.frames.cpus) lines.now }
     ensures told { IfOk result.0 (λ text.
         TellsEach (boot_tables N.frames N.stocks) (workers_from 1 cpus.items lines.now) text.items) }
-    ensures ends { EndsAfter N.frames N.stocks (λ end.
-        IsQuiet N.frames N.stocks end.locked × (length end.cpus ≡ N.frames.cpus)) result.1 }
+    ensures ends { EndsAfter N.frames N.stocks (StandsQuiet N.frames N.stocks) result.1 }
 {
     locked.see_quiet(); // For the clauses: there are fewer than 2^31 processors, as `run_each` asks.
     let system = System::of(locked, tables);
@@ -83,7 +80,7 @@ fn serve_later<N: BootName + Send + Sync, R: Threads + Wait + Sync>(
 ) -> Result<Vec<u8>, AllocError>
     requires count { length cpus.old < 2 ^ 31 }
     requires lines { All (LineIsThere N.frames.frames (length cpus.old)) lines.now }
-    ensures { IfOk result (λ text.
+    ensures told { IfOk result (λ text.
         TellsEach (boot_tables N.frames N.stocks) (workers_from 1 cpus.old lines.now) text.items) }
 {
     if has_memory {

@@ -18,7 +18,7 @@ end_boot-ended-requires g c =
     let first = c.deref_mut.ensures.value in
     let long : length c.replay-answers.new.cpus ≡ length c.args.cpus.items = c.replay-answers.auto.cpus ∙ ap length first in
     let same = written_back c.args.cpus.len c.replay-answers.new.cpus c.args.cpus.items long (sym c.deref_mut.ensures.len ∙ ap length first) in
-    ap length same ∙ long ∙ c.requires.count
+    record { count = ap length same ∙ long ∙ c.requires.count }
 
 pub returns : goal.returns
 returns g c =
@@ -28,8 +28,10 @@ returns g c =
     let long : length c.replay-answers.new.cpus ≡ length c.args.cpus.items = c.replay-answers.auto.cpus ∙ ap length first in
     let same = written_back c.args.cpus.len c.replay-answers.new.cpus c.args.cpus.items long (sym c.deref_mut.ensures.len ∙ ap length first) in
     record {
-      before = standing c.replay-answers.new.locked c.replay-answers.new.cpus;
-      so = subst (λ (cpus : List KnownCpu). ReplaysOrStops (terms t w c.args.is_explained) c.args.lines.now (standing c.args.locked cpus)
-          (standing c.replay-answers.new.locked c.replay-answers.new.cpus) c.replay-answers.result) first c.replay-answers.ensures.outcome;
-      ends = subst (λ (cpus : List KnownCpu). EndsHeld t w (standing c.replay-answers.new.locked cpus) c.end_boot-ended.result) same c.end_boot-ended.ensures;
+      ends = record {
+        before = standing c.replay-answers.new.locked c.replay-answers.new.cpus;
+        so = subst (λ (cpus : List KnownCpu). ReplaysOrStops (terms t w c.args.is_explained) c.args.lines.now (standing c.args.locked cpus)
+            (standing c.replay-answers.new.locked c.replay-answers.new.cpus) c.replay-answers.result) first c.replay-answers.ensures.outcome;
+        ends = subst (λ (cpus : List KnownCpu). EndsHeld t w (standing c.replay-answers.new.locked cpus) c.end_boot-ended.result) same c.end_boot-ended.ensures.ends;
+      };
     }

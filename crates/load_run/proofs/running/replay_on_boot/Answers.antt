@@ -3,42 +3,44 @@ use Rattle.script_replay.specs.Lines.{standing}
 use Rattle.script_replay.specs.Ranges.{LineIsThere}
 use Rattle.mem_history.proofs.Told.{a_boot_tells}
 use Rattle.load_run.specs.Ending.{end_text}
-use Rattle.load_run.proofs.Answering.{at_ok, sized_as, weakened}
+use Rattle.load_run.proofs.Answering.{at_ok, weakened}
 use Rattle.load_run.proofs.Starting.{boot_shown, parts_tied}
 use Rattle.load_run.proofs.running.replay_on_boot.Goals as goal
 
 pub replay_and_end_boot-answers-requires-clause-lines : goal.replay_and_end_boot-answers-requires-clause-lines
 replay_and_end_boot-answers-requires-clause-lines g c =
-    let sized = sized_as c.args.boot.sizes _ g.N.BootName.frames _ g.N.BootName.stocks c.requires.sized c.requires.names in
+    let sized = c.in_ok-locked.ensures.sized in
     subst (λ (b : ℕ × ℕ). All (LineIsThere b.0 b.1) c.args.lines.now) (λ i. (sym sized.frames i, sym sized.cpus i)) c.requires.lines
 
 pub returns : goal.returns
 returns g c =
     let t = g.N.BootName.frames in
     let w = g.N.BootName.stocks in
-    let sized = sized_as c.args.boot.sizes _ t _ w c.requires.sized c.requires.names in
+    let sized = c.in_ok-locked.ensures.sized in
     let first = c.in_ok-locked.ensures.cpus in
-    let ended = c.replay_and_end_boot-answers.ensures in
+    let ended = c.replay_and_end_boot-answers.ensures.ends in
     let replays = at_ok _ _ _ c.in_ok-answers.was ended.so.replayed in
     let told = c.replay_and_end_boot-answers.result.1 in
-    weakened c.tell_end.result _ _ (λ text is. record {
-      frames = t;
-      stocks = w;
-      start = standing c.in_ok-locked.locked c.in_ok-locked.cpus.items;
-      end = ended.before;
-      answers = c.in_ok-answers.field-0.items;
-      ending = end_text c.args.is_audited told;
-      first = record {
-        sized = sized;
-        machine = c.in_ok-locked.ensures.machine;
-        sizes_are = c.in_ok-locked.ensures.sizes;
-        cpus = first;
-      };
-      served = replays.served;
-      history = replays.history [] (boot_shown c.args.boot.sizes t w c.in_ok-locked.locked.machine c.in_ok-locked.cpus.items sized
-          c.in_ok-locked.ensures.machine first) (parts_tied c.args.boot.sizes t w c.in_ok-locked.locked.machine c.in_ok-locked.cpus.items sized
-          c.in_ok-locked.ensures.machine first);
-      told = a_boot_tells t w c.in_ok-locked.locked.machine c.in_ok-locked.ensures.machine;
-      ends = record { ended = told; ends = ended.ends; text_is = refl };
-      text_is = is;
-    }) c.tell_end.ensures
+    record {
+      answers = weakened c.tell_end.result _ _ (λ text is. record {
+        frames = t;
+        stocks = w;
+        start = standing c.in_ok-locked.locked c.in_ok-locked.cpus.items;
+        end = ended.before;
+        answers = c.in_ok-answers.field-0.items;
+        ending = end_text c.args.is_audited told;
+        first = record {
+          sized = sized;
+          machine = c.in_ok-locked.ensures.machine;
+          sizes_are = c.in_ok-locked.ensures.sizes;
+          cpus = first;
+        };
+        served = replays.served;
+        history = replays.history [] (boot_shown c.args.boot.sizes t w c.in_ok-locked.locked.machine c.in_ok-locked.cpus.items sized
+            c.in_ok-locked.ensures.machine first) (parts_tied c.args.boot.sizes t w c.in_ok-locked.locked.machine c.in_ok-locked.cpus.items sized
+            c.in_ok-locked.ensures.machine first);
+        told = a_boot_tells t w c.in_ok-locked.locked.machine c.in_ok-locked.ensures.machine;
+        ends = record { ended = told; ends = ended.ends; text_is = refl };
+        text_is = is;
+      }) c.tell_end.ensures.told;
+    }

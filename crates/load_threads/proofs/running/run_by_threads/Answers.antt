@@ -9,7 +9,7 @@ use Rattle.script_replay.specs.Terms.{boot_tables, terms}
 use Rattle.script_threads.specs.Each.{TellsEach, workers_from}
 use Rattle.script_threads.proofs.Going.{go_least}
 use Rattle.load_run.specs.Ending.{end_text}
-use Rattle.load_run.proofs.Answering.{at_ok, first_long, sized_as, weakened}
+use Rattle.load_run.proofs.Answering.{at_ok, first_long, weakened}
 use Rattle.load_run.proofs.Starting.{boot_shown, parts_tied}
 use Rattle.load_threads.proofs.Joining.{are_answers, early_there, later_there}
 use Rattle.load_threads.proofs.running.run_by_threads.Goals as goal
@@ -22,7 +22,7 @@ replay-first-requires g c =
     let t = g.N.BootName.frames in
     let w = g.N.BootName.stocks in
     let sizes = c.args.boot.sizes in
-    let sized = sized_as sizes _ t _ w c.requires.sized c.requires.names in
+    let sized = c.in_ok-locked.ensures.sized in
     let count : length c.deref_mut.result.now ≡ sizes.cpus =
     ap length (c.deref_mut.ensures.value ∙ c.in_ok-locked.ensures.cpus) ∙ first_long t w 1 sizes.cpus in
     record { there = early_there sizes t w c.before_go.result _ c.args.lines.now c.split_at.result.0.now sized count c.split_at.ensures.front c.requires.lines }
@@ -38,7 +38,7 @@ pub serve_and_end-told-requires-clause-lines : goal.serve_and_end-told-requires-
 serve_and_end-told-requires-clause-lines g c κs within =
     let t = g.N.BootName.frames in
     let w = g.N.BootName.stocks in
-    let sized = sized_as c.args.boot.sizes _ t _ w c.requires.sized c.requires.names in
+    let sized = c.in_ok-locked.ensures.sized in
     later_there c.args.boot.sizes t w c.before_go.result c.args.lines.now c.split_at.result.1.now sized c.split_at.ensures.back c.requires.lines
 
 pub returns : goal.returns
@@ -47,7 +47,7 @@ returns g c =
     let w = g.N.BootName.stocks in
     let sizes = c.args.boot.sizes in
     let lines = c.args.lines.now in
-    let sized = sized_as sizes _ t _ w c.requires.sized c.requires.names in
+    let sized = c.in_ok-locked.ensures.sized in
     let first = c.deref_mut.ensures.value in
     let firsts = first ∙ c.in_ok-locked.ensures.cpus in
     let long : length c.replay-first.new.cpus ≡ length c.in_ok-locked.cpus.items = c.replay-first.auto.cpus ∙ ap length first in
@@ -67,12 +67,14 @@ returns g c =
     (at_ok c.serve_and_end-told.result.0 c.in_ok-told.field-0 _ c.in_ok-told.was c.serve_and_end-told.ensures.told) in
     let joined : c.extend_from_slice.new.self.items ≡ early ++ later =
     c.in_ok-extend_from_slice.ensures.items ∙ ap (λ (l : List ℕ). early ++ l) c.deref.ensures.value in
-    weakened c.tell_end.result _ _ (λ text is.
-    are_answers sizes c.args.is_audited t w lines c.split_at.result.0.now c.split_at.result.1.now start at_go early later text.items ended (record {
-      sized = sized;
-      machine = c.in_ok-locked.ensures.machine;
-      sizes_are = c.in_ok-locked.ensures.sizes;
-      cpus = firsts;
-    }) (c.split_at.ensures.front ∙ ap (λ (n : ℕ). take n lines) c.before_go.ensures)
-    (c.split_at.ensures.back ∙ ap (λ (n : ℕ). drop n lines) c.before_go.ensures) replays.served history tells c.serve_and_end-told.ensures.ends
-    (is ∙ ap (λ (l : List ℕ). l ++ end_text c.args.is_audited ended) joined)) c.tell_end.ensures
+    record {
+      answers = weakened c.tell_end.result _ _ (λ text is.
+          are_answers sizes c.args.is_audited t w lines c.split_at.result.0.now c.split_at.result.1.now start at_go early later text.items ended (record {
+            sized = sized;
+            machine = c.in_ok-locked.ensures.machine;
+            sizes_are = c.in_ok-locked.ensures.sizes;
+            cpus = firsts;
+          }) (c.split_at.ensures.front ∙ ap (λ (n : ℕ). take n lines) c.before_go.ensures)
+          (c.split_at.ensures.back ∙ ap (λ (n : ℕ). drop n lines) c.before_go.ensures) replays.served history tells c.serve_and_end-told.ensures.ends
+          (is ∙ ap (λ (l : List ℕ). l ++ end_text c.args.is_audited ended) joined)) c.tell_end.ensures.told;
+    }

@@ -26,14 +26,14 @@ end_boot-ended-requires g c =
     let first = c.deref_mut.ensures.value in
     let long : length c.serve_later-told.new.cpus ≡ length c.args.cpus.items = c.serve_later-told.auto.cpus ∙ ap length first in
     let same = written_back c.args.cpus.len c.serve_later-told.new.cpus c.args.cpus.items long (sym c.deref_mut.ensures.len ∙ ap length first) in
-    ap length same ∙ long ∙ c.requires.count
+    record { count = ap length same ∙ long ∙ c.requires.count }
 
 pub returns-clause-told : goal.returns-clause-told
 returns-clause-told g c =
     let t = g.N.BootName.frames in
     let w = g.N.BootName.stocks in
     subst (λ (cpus : List KnownCpu). IfOk c.serve_later-told.result (λ text. TellsEach (boot_tables t w) (workers_from 1 cpus c.args.lines.now) text.items))
-    c.deref_mut.ensures.value c.serve_later-told.ensures
+    c.deref_mut.ensures.value c.serve_later-told.ensures.told
 
 pub returns-clause-ends : goal.returns-clause-ends
 returns-clause-ends g c =
@@ -44,7 +44,7 @@ returns-clause-ends g c =
     let same = written_back c.args.cpus.len c.serve_later-told.new.cpus c.args.cpus.items long (sym c.deref_mut.ensures.len ∙ ap length first) in
     record {
       before = standing c.into_parts-locked.result.0 c.serve_later-told.new.cpus;
-      so = (c.into_parts-locked.ensures.quiet, long ∙ c.requires.count);
+      so = record { quiet = c.into_parts-locked.ensures.quiet; count = long ∙ c.requires.count };
       ends = subst (λ (cpus : List KnownCpu). EndsHeld t w (standing c.into_parts-locked.result.0 cpus) c.end_boot-ended.result) same
-          c.end_boot-ended.ensures;
+          c.end_boot-ended.ensures.ends;
     }

@@ -22,4 +22,4 @@ end_boot-ended-requires g c =
     let long : length c.replay_by_visits-answers.new.cpus ≡ length c.in_ok-system.cpus.items = c.replay_by_visits-answers.auto.cpus ∙ ap length first in
     let size = sym c.deref_mut.ensures.len ∙ ap length first in
     let same = written_back c.in_ok-system.cpus.len c.replay_by_visits-answers.new.cpus c.in_ok-system.cpus.items long size in
-    ap length same ∙ long ∙ ap length c.in_ok-system.ensures.cpus ∙ first_long t w 1 c.args.boot.sizes.cpus ∙ sym sized.cpus
+    record { count = ap length same ∙ long ∙ ap length c.in_ok-system.ensures.cpus ∙ first_long t w 1 c.args.boot.sizes.cpus ∙ sym sized.cpus }

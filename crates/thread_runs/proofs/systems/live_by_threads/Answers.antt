@@ -19,4 +19,4 @@ end_boot-ended-requires g c =
     let long : length c.run_and_replay-told.new.cpus ≡ length c.in_ok-system.cpus.items = c.run_and_replay-told.auto.cpus ∙ ap length first in
     let size = sym c.deref_mut.ensures.len ∙ ap length first in
     let same = written_back c.in_ok-system.cpus.len c.run_and_replay-told.new.cpus c.in_ok-system.cpus.items long size in
-    ap length same ∙ long ∙ c.in_ok-system.ensures.count
+    record { count = ap length same ∙ long ∙ c.in_ok-system.ensures.count }
