@@ -63,16 +63,16 @@ pub fn end_boot<N: BootName>(locked: Locked<N>, tables: Tables<N>, cpus: Vec<Cpu
 
 /// Adds what is told of the end: the pins that were held, where there were any, and what was counted. It fails only
 /// for want of memory.
-pub fn write_end(text: &mut String, ended: &Ended) -> Result<(), AllocError>
+pub fn write_end(ended: &Ended, text: &mut String) -> Result<(), AllocError>
     ensures told { OnOk result (string_bytes text.new
         ≡ string_bytes text.old ++ (held_text ended.now.held ++ audit_text ended.now.audit)) }
 {
-    write_held(text, ended.held)?;
-    write_audit(text, &ended.audit)
+    write_held(ended.held, text)?;
+    write_audit(&ended.audit, text)
 }
 
 // A line with the pins that were held, where there were any.
-fn write_held(text: &mut String, held: u64) -> Result<(), AllocError>
+fn write_held(held: u64, text: &mut String) -> Result<(), AllocError>
     ensures { OnOk result (string_bytes text.new ≡ string_bytes text.old ++ held_text held) }
 {
     if held == 0 {
@@ -83,15 +83,15 @@ fn write_held(text: &mut String, held: u64) -> Result<(), AllocError>
 }
 
 // The two lines of what was counted.
-fn write_audit(text: &mut String, audit: &Audit) -> Result<(), AllocError>
+fn write_audit(audit: &Audit, text: &mut String) -> Result<(), AllocError>
     ensures { OnOk result (string_bytes text.new ≡ string_bytes text.old ++ audit_text audit.now) }
 {
-    write_places(text, audit)?;
-    write_counts(text, audit)
+    write_places(audit, text)?;
+    write_counts(audit, text)
 }
 
 // The line of the frames, and where they are.
-fn write_places(text: &mut String, audit: &Audit) -> Result<(), AllocError>
+fn write_places(audit: &Audit, text: &mut String) -> Result<(), AllocError>
     ensures { OnOk result (string_bytes text.new ≡ string_bytes text.old ++ audit_places_text audit.now) }
 {
     let frames = audit.frames;
@@ -101,7 +101,7 @@ fn write_places(text: &mut String, audit: &Audit) -> Result<(), AllocError>
 }
 
 // The line of the units that ended, and that came back.
-fn write_counts(text: &mut String, audit: &Audit) -> Result<(), AllocError>
+fn write_counts(audit: &Audit, text: &mut String) -> Result<(), AllocError>
     ensures { OnOk result (string_bytes text.new ≡ string_bytes text.old ++ audit_counts_text audit.now) }
 {
     let puts = audit.last_puts;

@@ -67,7 +67,7 @@ pub fn tell_end(
 {
     if is_audited {
         let mut told = String::new(alloc);
-        write_end(&mut told, &ended)?;
+        write_end(&ended, &mut told)?;
         answers.extend_from_slice(told.as_bytes())?;
     }
     Ok(answers)
