@@ -1,5 +1,5 @@
 -- A text for an answer.
-use Rattle.std.proofs.Common.{◌≡◌, ◌∙◌, ◌++◌, Bool, true, false, List, ℕ, Result, Ok, Err, IfOk, IfErr, ap, append_assoc, append-nil, refl, sym}
+use Rattle.std.proofs.Common.{◌≡◌, ◌∙◌, ◌++◌, ◌&&◌, Bool, true, false, List, ℕ, Result, Ok, Err, IfOk, IfErr, ap, append_assoc, append-nil, refl, sym}
 use Rattle.std.specs.declared.string.String.{String}
 use Rattle.std.specs.String.{string_bytes}
 use Rattle.mem_history.specs.Whole.{under_lock}
@@ -12,7 +12,7 @@ use Rattle.reply_texts.specs.Answers.{answer_text}
 use Rattle.reply_texts.specs.Replies.{reply_text}
 use Rattle.cpu_part.specs.Cpus.{KnownCpu}
 use Rattle.script_replay.specs.declared.work.Work.{Work}
-use Rattle.script_replay.specs.declared.work.Work.TheVariants.{Visit}
+use Rattle.script_replay.specs.declared.work.Work.TheVariants.{Visit, Settle}
 use Rattle.script_replay.specs.Answers.{AddsAnswer, AddsText, AnswersWork, ServesWork, WritesAnswer, kills_text}
 use Rattle.script_replay.specs.Terms.{Terms}
 
@@ -52,6 +52,15 @@ told_as is as_well before after r turn adds = record {
 pub alone : (is_explained : Bool) (work : Work) (way : Course Holder) (said : Answer) → AnswersWork work way said false
     → WritesAnswer is_explained work way (answer_text said)
 alone is_explained work way said so = record { said = said; may_kill = false; answered = so; text_is = sym (append-nil (answer_text said)) }
+
+-- behind the answer to a Settle nothing is told of kills, whether or not that is asked for
+pub settle_alone : (is_explained : Bool) (way : Course Holder) (text : List ℕ) → WritesAnswer false Settle way text → WritesAnswer is_explained Settle way text
+settle_alone is_explained way text writes = tells writes.said writes.may_kill writes.answered writes.text_is
+  where
+    tells : (said : Answer) (may_kill : Bool) → AnswersWork Settle way said may_kill
+        → text ≡ answer_text said ++ kills_text (may_kill && false) way.after.locked.machine → WritesAnswer is_explained Settle way text
+    tells said false answered is = record { said = said; may_kill = false; answered = answered; text_is = is }
+    tells said true answered is = absurd answered
 
 -- a command that was served under the lock: its reply, and behind it what is told of its kills
 pub served : (on : Terms) (command : Cmd) (l : KnownLocked) (c : KnownCpu) (after : Holder) (reply : Reply) → IsServed on.frames command reply (holder l c) after

@@ -1,7 +1,7 @@
 //! One command, answered at a processor by value of what lies behind the lock.
 
 ghost use Rattle.std.specs.Borrow.{Bor};
-ghost use Rattle.std.specs.Prelude.{◌≡◌, ◌<◌, ◌++◌, Bool, IsTrue, List, OnOk, Some, ℕ};
+ghost use Rattle.std.specs.Prelude.{◌≡◌, ◌<◌, ◌++◌, false, IsTrue, List, OnOk, Some, ℕ};
 ghost use Rattle.group_tree.specs.Groups.{has_group, number_at};
 ghost use Rattle.mem_system.specs.declared.command.Cmd.TheVariants.{Alloc};
 ghost use Rattle.std.specs.String.{string_bytes};
@@ -177,15 +177,14 @@ fn answer_release<N: BootName>(
     )
 }
 
-// Settles the processor, and adds what is answered.
+// Settles the processor, and adds what is answered. A Settle kills nobody, so nothing is explained behind it.
 fn answer_settle<N: BootName>(
     locked: &mut Locked<N>,
     tables: &Tables<N>,
     cpu: &mut Cpu<N>,
     text: &mut String,
 ) -> Result<(), AllocError>
-    ensures { (is_explained : Bool) → AddsText result text.old text.new
-        (ServesWork (terms N.frames N.stocks is_explained) Settle
+    ensures answered { AddsText result text.old text.new (ServesWork (terms N.frames N.stocks false) Settle
         (holder locked.old cpu.old) (holder locked.new cpu.new)) }
 {
     settle(locked, tables, cpu);
@@ -199,8 +198,7 @@ fn answer_blocks<N: BootName>(
     cpu: &mut Cpu<N>,
     text: &mut String,
 ) -> Result<(), AllocError>
-    ensures { (is_explained : Bool) → AddsText result text.old text.new
-        (ServesWork (terms N.frames N.stocks is_explained) Blocks
+    ensures answered { AddsText result text.old text.new (ServesWork (terms N.frames N.stocks false) Blocks
         (holder locked.old cpu.old) (holder locked.new cpu.new)) }
 {
     settle(locked, tables, cpu);
@@ -214,8 +212,7 @@ fn answer_show<N: BootName>(
     cpu: &mut Cpu<N>,
     text: &mut String,
 ) -> Result<(), AllocError>
-    ensures { (is_explained : Bool) → AddsText result text.old text.new
-        (ServesWork (terms N.frames N.stocks is_explained) Show
+    ensures answered { AddsText result text.old text.new (ServesWork (terms N.frames N.stocks false) Show
         (holder locked.old cpu.old) (holder locked.new cpu.new)) }
 {
     settle(locked, tables, cpu);

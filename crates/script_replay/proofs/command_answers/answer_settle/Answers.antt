@@ -6,11 +6,13 @@ use Rattle.script_replay.proofs.Telling.{alone}
 use Rattle.script_replay.proofs.command_answers.answer_settle.Goals as goal
 
 pub returns : goal.returns
-returns g c is_explained = record {
-  text = answer_text Settled;
-  so = record {
-    steps = under_lock c.args.cpu.now.number c.settle.ensures.served.steps;
-    writes = alone _ _ _ Settled (record { served = c.settle.ensures.served; steps_are = refl });
+returns g c = record {
+  answered = record {
+    text = answer_text Settled;
+    so = record {
+      steps = under_lock c.args.cpu.now.number c.settle.ensures.served.steps;
+      writes = alone _ _ _ Settled (record { served = c.settle.ensures.served; steps_are = refl });
+    };
+    added = c.write_settled.ensures;
   };
-  added = c.write_settled.ensures;
 }

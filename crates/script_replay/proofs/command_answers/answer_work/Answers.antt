@@ -4,7 +4,7 @@ use Rattle.reply_texts.specs.Answers.{answer_text}
 use Rattle.script_replay.specs.declared.work.Work.{Work}
 use Rattle.script_replay.specs.Answers.{AddsText, ServesWork, fast_steps, get_steps, put_steps}
 use Rattle.script_replay.specs.Terms.{terms}
-use Rattle.script_replay.proofs.Telling.{alone}
+use Rattle.script_replay.proofs.Telling.{added_as, alone, settle_alone}
 use Rattle.mem_system.specs.Visits.{holder}
 use Rattle.script_replay.proofs.command_answers.answer_work.Goals as goal
 
@@ -54,19 +54,28 @@ pub returns-in-Settle : goal.returns-in-Settle
 returns-in-Settle g c = record {
   answered = subst (λ (work : Work). AddsText c.answer_settle.result c.args.text.now c.answer_settle.new.text
       (ServesWork (terms g.N.BootName.frames g.N.BootName.stocks c.args.is_explained) work (holder c.args.locked.now c.args.cpu.now) (holder c.answer_settle.new.locked c.answer_settle.new.cpu)))
-      (sym c.in-Settle.is) (c.answer_settle.ensures c.args.is_explained);
+      (sym c.in-Settle.is) (added_as _ _ _ _ _ (λ text is. record { steps = is.steps; writes = settle_alone c.args.is_explained _ text is.writes })
+      c.answer_settle.ensures.answered);
 }
 
 pub returns-in-Blocks : goal.returns-in-Blocks
 returns-in-Blocks g c = record {
   answered = subst (λ (work : Work). AddsText c.answer_blocks.result c.args.text.now c.answer_blocks.new.text
       (ServesWork (terms g.N.BootName.frames g.N.BootName.stocks c.args.is_explained) work (holder c.args.locked.now c.args.cpu.now) (holder c.answer_blocks.new.locked c.answer_blocks.new.cpu)))
-      (sym c.in-Blocks.is) (c.answer_blocks.ensures c.args.is_explained);
+      (sym c.in-Blocks.is) (let told = c.answer_blocks.ensures.answered in record {
+        text = told.text;
+        so = record { steps = told.so.steps; writes = told.so.writes };
+        added = told.added;
+      });
 }
 
 pub returns-in-Show : goal.returns-in-Show
 returns-in-Show g c = record {
   answered = subst (λ (work : Work). AddsText c.answer_show.result c.args.text.now c.answer_show.new.text
       (ServesWork (terms g.N.BootName.frames g.N.BootName.stocks c.args.is_explained) work (holder c.args.locked.now c.args.cpu.now) (holder c.answer_show.new.locked c.answer_show.new.cpu)))
-      (sym c.in-Show.is) (c.answer_show.ensures c.args.is_explained);
+      (sym c.in-Show.is) (let told = c.answer_show.ensures.answered in record {
+        text = told.text;
+        so = record { steps = told.so.steps; writes = told.so.writes };
+        added = told.added;
+      });
 }
