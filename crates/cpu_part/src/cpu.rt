@@ -72,7 +72,11 @@ impl<N: BootName> Cpu<N> {
 
     /// The part of the processor whose seats these are, which did nothing yet. All room that its
     /// calls need is reserved. `AllocError` comes where memory is wanting.
-    pub fn new(alloc: Global, frame_seat: FrameSeat, stock_seat: StockSeat) -> Result<Cpu<N>, AllocError>
+    pub fn new(
+        alloc: Global,
+        frame_seat: FrameSeat,
+        stock_seat: StockSeat,
+    ) -> Result<Cpu<N>, AllocError>
         requires frame_seat { IsCpuSeat N.frames frame_seat × (frame_seat.view ≡ first_cpu_view (number_of frame_seat)) }
         requires stock_seat { (stock_seat.table ≡ N.stocks.table) × IsProcessor N.stocks stock_seat.view × (stock_seat.view.fresh ≡ 0) }
         requires same { stock_seat.view.number ≡ number_of frame_seat }

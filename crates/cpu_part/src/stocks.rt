@@ -25,7 +25,9 @@ impl<N: BootName> Cpu<N> {
         ensures machine { machine.new ≡ with_view machine.old (filling machine.old.view self.old.number group pages) }
         ensures cpu { self.new ≡ record self.old { stock_seat = with_view self.old.stock_seat (after_fill self.old.stock_seat.view group pages) } }
     {
-        tables.stocks.fill(machine, &mut self.stock_seat, group, pages);
+        tables
+            .stocks
+            .fill(machine, &mut self.stock_seat, group, pages);
     }
 
     /// The processor's stock by its word, and so by the books: one look, which counts at the machine's
@@ -56,7 +58,9 @@ impl<N: BootName> Cpu<N> {
         ensures cpu { TakesFront group (stocked machine.old.view self.old.stock_seat.view - 1) result self.old self.new }
         ensures frame { result < N.frames.frames }
     {
-        tables.stocks.consume_held(machine, &mut self.stock_seat, group);
+        tables
+            .stocks
+            .consume_held(machine, &mut self.stock_seat, group);
         freshen(&mut self.list, &mut self.fresh)
     }
 }

@@ -99,7 +99,13 @@ impl<N: BootName> Cpu<N> {
         }
         let frame = self.fresh.remove(0);
         tables.frames.pass_back(zone, &mut self.frame_seat, frame);
-        report_passed(&tables.stocks, machine, &mut self.stock_seat, &self.frame_seat, frame);
+        report_passed(
+            &tables.stocks,
+            machine,
+            &mut self.stock_seat,
+            &self.frame_seat,
+            frame,
+        );
         Some(frame)
     }
 
