@@ -14,39 +14,39 @@ use std::io;
 use std::io::Write;
 
 /// Tells a fault in its words, as far as the writer takes them, and gives the status to end with.
-pub fn tell_fault<F: Write>(faults: &mut F, fault: &ProgramFault) -> u8
+pub fn tell_fault<F: Write>(fault: &ProgramFault, faults: &mut F) -> u8
     ensures status { result ≡ status_of fault.now }
     ensures told { AppendsBeginning (F.contents faults.old) (F.contents faults.new) (fault_text fault.now) }
 {
-    let _ = write_fault(faults, fault);
+    let _ = write_fault(fault, faults);
     let _ = faults.flush();
     fault.status()
 }
 
 // Writes the text of a fault.
-fn write_fault<F: Write>(faults: &mut F, fault: &ProgramFault) -> io::Result<()>
+fn write_fault<F: Write>(fault: &ProgramFault, faults: &mut F) -> io::Result<()>
     ensures whole { OnOk result (Appends (F.contents faults.old) (F.contents faults.new) (fault_text fault.now)) }
     ensures beginning { AppendsBeginning (F.contents faults.old) (F.contents faults.new) (fault_text fault.now) }
 {
     match fault {
-        ProgramFault::Words(WordsFault::BadWords(text)) => write_whole(faults, text.as_bytes()),
-        ProgramFault::Script(ScriptFault::BadLine(number)) => write_bad_line(faults, *number),
-        ProgramFault::BadConfig => write_whole(faults, "refused 14 BadConfig\n".as_bytes()),
-        ProgramFault::Input => write_whole(faults, "input failed\n".as_bytes()),
-        ProgramFault::Output => write_whole(faults, "output failed\n".as_bytes()),
+        ProgramFault::Words(WordsFault::BadWords(text)) => write_whole(text.as_bytes(), faults),
+        ProgramFault::Script(ScriptFault::BadLine(number)) => write_bad_line(*number, faults),
+        ProgramFault::BadConfig => write_whole("refused 14 BadConfig\n".as_bytes(), faults),
+        ProgramFault::Input => write_whole("input failed\n".as_bytes(), faults),
+        ProgramFault::Output => write_whole("output failed\n".as_bytes(), faults),
         ProgramFault::Words(WordsFault::NoMemory(_))
         | ProgramFault::Script(ScriptFault::NoMemory)
-        | ProgramFault::NoMemory(_) => write_whole(faults, "no memory\n".as_bytes()),
+        | ProgramFault::NoMemory(_) => write_whole("no memory\n".as_bytes(), faults),
     }
 }
 
 // Writes the text of the bad line with this number.
-fn write_bad_line<F: Write>(faults: &mut F, number: usize) -> io::Result<()>
+fn write_bad_line<F: Write>(number: usize, faults: &mut F) -> io::Result<()>
     ensures whole { OnOk result (Appends (F.contents faults.old) (F.contents faults.new) (bad_line_text number)) }
     ensures beginning { AppendsBeginning (F.contents faults.old) (F.contents faults.new) (bad_line_text number) }
 {
     let mut digits = Buffer::new();
-    write_whole(faults, "bad line ".as_bytes())?;
-    write_whole(faults, digits.format(number).as_bytes())?;
-    write_whole(faults, "\n".as_bytes())
+    write_whole("bad line ".as_bytes(), faults)?;
+    write_whole(digits.format(number).as_bytes(), faults)?;
+    write_whole("\n".as_bytes(), faults)
 }

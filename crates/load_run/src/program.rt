@@ -49,11 +49,11 @@ pub fn drive<S: AsStr, I: Read, O: Write, F: Write>(
         (written (O.contents output.new) (F.contents faults.new)) result }
 {
     match answers_to(alloc, words, input) {
-        Ok(answers) => match write_answers(output, &answers) {
+        Ok(answers) => match write_answers(&answers, output) {
             Ok(()) => 0,
-            Err(unwritten) => tell_fault(faults, &unwritten),
+            Err(unwritten) => tell_fault(&unwritten, faults),
         },
-        Err(fault) => tell_fault(faults, &fault),
+        Err(fault) => tell_fault(&fault, faults),
     }
 }
 
@@ -141,12 +141,12 @@ pub fn read_script<I: Read>(alloc: Global, input: &mut I) -> Result<Vec<u8>, Pro
 }
 
 /// Writes all of the answers, or a beginning of them where the writer fails.
-pub fn write_answers<O: Write>(output: &mut O, answers: &[u8]) -> Result<(), ProgramFault>
+pub fn write_answers<O: Write>(answers: &[u8], output: &mut O) -> Result<(), ProgramFault>
     ensures fault { IfErr result (λ fault. fault ≡ ProgramFault.Output) }
     ensures written { OnOk result (Appends (O.contents output.old) (O.contents output.new) answers.now) }
     ensures beginning { AppendsBeginning (O.contents output.old) (O.contents output.new) answers.now }
 {
-    if write_whole(output, answers).is_ok() && output.flush().is_ok() {
+    if write_whole(answers, output).is_ok() && output.flush().is_ok() {
         Ok(())
     } else {
         Err(ProgramFault::Output)

@@ -17,8 +17,8 @@ use script_replay::replay;
 use std::alloc::{AllocError, Global};
 
 /// Replays the lines on a boot under a name of its tables, and ends it; what they are answered, and what is told of
-/// kills and of the end where that is asked for. `AllocError` comes where memory is wanting: the boot has ended then
-/// too.
+/// kills and of the end where that is asked for. `AllocError` comes where memory is wanting: a boot that began has
+/// ended then too.
 pub fn replay_on_boot<N: BootName>(
     alloc: Global,
     boot: Boot,

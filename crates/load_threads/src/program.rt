@@ -45,11 +45,11 @@ pub fn drive_run<R: Threads + Wait + Sync, S: AsStr, I: Read, O: Write, F: Write
         (written (O.contents output.new) (F.contents faults.new)) result }
 {
     match answers_to(rt, alloc, words, input) {
-        Ok(answers) => match write_answers(output, &answers) {
+        Ok(answers) => match write_answers(&answers, output) {
             Ok(()) => 0,
-            Err(unwritten) => tell_fault(faults, &unwritten),
+            Err(unwritten) => tell_fault(&unwritten, faults),
         },
-        Err(fault) => tell_fault(faults, &fault),
+        Err(fault) => tell_fault(&fault, faults),
     }
 }
 

@@ -1,5 +1,6 @@
 //! Allocations that a processor makes under the zone's lock: pages are charged to a group, and frames are taken for it.
-//! One that is refused gives no frame and charges no page; what was noted, drained and reclaimed for it stands.
+//! One that is refused gives no frame and charges no page; what was noted, drained, reclaimed and killed for it
+//! stands.
 //!
 //! A line that ends in 'For the clauses' calls a reader for what its contract tells, and changes nothing: what always
 //! holds of a type's values is known only where one of its calls says it.

@@ -27,7 +27,7 @@ fn main(rt: HostRuntime) -> ExitCode {
                 drive(rt.alloc(), &words, &mut input, &mut output, &mut faults)
             }
         }
-        Err(fault) => tell_fault(&mut faults, &ProgramFault::Words(fault)),
+        Err(fault) => tell_fault(&ProgramFault::Words(fault), &mut faults),
     };
     ExitCode::from(status)
 }

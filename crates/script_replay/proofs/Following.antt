@@ -120,8 +120,8 @@ module _ (t : KnownTable) (m : KnownMachine) (c : KnownCpu) where
   drop_unseen f d is = unseen_stock d (with_view c.stock_seat is.0) is.2 (ap (λ v. group_of v.last) is.1.2 ∙ drained_group c.stock_seat.view.last)
 
   pub list_unseen : (f : ℕ) (d : KnownCpu) → CanNotList f c d → IsUnseen t m c d
-  list_unseen f d (inl is) = unseen_same d is.1
-  list_unseen f d (inr is) = drop_unseen f d is.1
+  list_unseen f d (inl is) = unseen_same d is.stays
+  list_unseen f d (inr is) = drop_unseen f d is.drained
 
 -- ---- one part of the whole
 

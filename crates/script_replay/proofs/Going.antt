@@ -115,8 +115,8 @@ line_follows : (on : Terms) (run : Run) (line : Line) (s e : Standing) (text : L
     AreTied on.frames on.stocks s.cpus → (keeps : ServesAndKeeps on line s e text) → LineIsDecided on.frames line s keeps.serves.steps →
     Follows on.frames run s (run ++ keeps.serves.steps) e
 line_follows on run Go s e text shows tied keeps decided =
-    subst (λ (r : Run). Follows on.frames run s r e) (sym (ap (λ (r : Run). run ++ r) keeps.serves.writes.2 ∙ append-nil run))
-    (subst (λ (x : Standing). Follows on.frames run s run x) (sym keeps.serves.writes.1) (shows, λ told. told))
+    subst (λ (r : Run). Follows on.frames run s r e) (sym (ap (λ (r : Run). run ++ r) keeps.serves.writes.steps_are ∙ append-nil run))
+    (subst (λ (x : Standing). Follows on.frames run s run x) (sym keeps.serves.writes.stays) (shows, λ told. told))
 line_follows on run (At number processor command) s e text shows tied keeps decided =
     let steps = keeps.serves.steps in
     let is : AtPart processor (λ part left. WritesWork on.is_explained (work_of command)

@@ -144,12 +144,20 @@ pub record ListsAgain (frame : ℕ) (before after : KnownCpu) : Type 0 where
   pub fresh : 1 ≤ times frame before.fresh
   pub listed : DropAnswers frame dropped.Listed before after
 
+-- the frame isn't fresh at the processor, and nothing changed
+pub record IsNotFresh (frame : ℕ) (before seen : KnownCpu) : Type 0 where
+  pub none_fresh : times frame before.fresh ≡ 0
+  pub stays : seen ≡ before
+
+-- the frame is fresh at the processor, but its page can't be credited: its stock was drained
+pub record FindsDrained (frame : ℕ) (before seen : KnownCpu) : Type 0 where
+  pub fresh : 1 ≤ times frame before.fresh
+  pub drained : DropAnswers frame dropped.NeedVisit before seen
+
 -- the frame can't be listed again without the lock: it isn't fresh at the processor, or its stock was drained. `seen`
 -- is the part as that call left it
 abbrev pub CanNotList : (frame : ℕ) (before seen : KnownCpu) → Type 0
-CanNotList frame before seen =
-    ((times frame before.fresh ≡ 0) × (seen ≡ before))
-    ⊎ ((1 ≤ times frame before.fresh) × DropAnswers frame dropped.NeedVisit before seen)
+CanNotList frame before seen = IsNotFresh frame before seen ⊎ FindsDrained frame before seen
 
 -- the frame couldn't be listed again without the lock, and its Release was served under it
 pub record ReleasesUnderLock (frame : ℕ) (reply : Reply) (way : Course Holder) : Type 0 where

@@ -29,9 +29,15 @@ pub record AtPart (processor : ℕ) (is_done : (before after : KnownCpu) → Typ
   pub done : is_done part left
   pub cpus : after ≡ slice_set before (processor - 1) left
 
+-- nothing is answered, and nothing is done
+pub record WritesNothing (way : Course Standing) (text : List ℕ) : Type 0 where
+  pub text_is : text ≡ []
+  pub stays : way.after ≡ way.before
+  pub steps_are : way.steps ≡ []
+
 -- a line is answered this text on this course; `go` is answered nothing, and does nothing
 abbrev pub WritesLine : (is_explained : Bool) → Line → Course Standing → (text : List ℕ) → Type 0
-WritesLine is_explained Go way text = (text ≡ []) × (way.after ≡ way.before) × (way.steps ≡ [])
+WritesLine is_explained Go way text = WritesNothing way text
 WritesLine is_explained (At number processor command) way text =
     AtPart processor (λ part left. WritesWork is_explained (work_of command)
     (course way.table (holder way.before.locked part) way.steps (holder way.after.locked left)) text)
