@@ -44,8 +44,8 @@ impl<N: BootName> Machine<N> {
     /// Charges 2^`order` pages to a group that isn't killed, and gives it a block of that order, in use: its head,
     /// which is returned, has one reference of the zone and stands at the newest end of the group's inactive list.
     /// Where a limit has no room, the error names the lowest such group, and nothing is charged. Where no block is
-    /// there, the pages go back, and the peaks alone may be higher. In all, at most 2^32 - 1 pages can be charged, as `see_room`
-    /// tells. The processor has no back frame, as once it was settled.
+    /// there, the pages go back, and the peaks alone may be higher. In all, at most 2^32 - 1 pages can be charged, as
+    /// `see_room` tells. The processor has no back frame, as once it was settled.
     pub fn take_block(
         &mut self,
         tables: &Tables<N>,
