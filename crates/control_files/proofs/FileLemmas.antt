@@ -23,7 +23,12 @@ found_passes p (x ∷ xs) y found = passes_by p x xs y (p x) refl (found_passes 
 
 -- each file is found by its name
 found_by_name : (file : File) → find (λ f. bytes_eq (name_of f) (name_of file)) all_files ≡ Some file
-found_by_name _ = refl
+found_by_name Current = refl
+found_by_name Max = refl
+found_by_name Peak = refl
+found_by_name Events = refl
+found_by_name EventsLocal = refl
+found_by_name OomGroup = refl
 
 pub found-name_of : (name : List ℕ) (file : File) → (find (λ f. bytes_eq (name_of f) name) all_files ≡ Some file) ↔ (name ≡ name_of file)
 found-name_of name file = (

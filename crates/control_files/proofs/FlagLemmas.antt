@@ -1,5 +1,5 @@
 -- Flags, read and written. Serves `read_flag` and `write_flag`.
-use Rattle.std.proofs.Common.{◌≡◌, ◌≢◌, ℕ, Bool, true, false, true≢false, List, [], refl, sym, ◌∙◌, ap}
+use Rattle.std.proofs.Common.{◌≡◌, ◌≢◌, ℕ, Bool, true, false, true≢false, List, [], refl, ap}
 use Rattle.std.specs.Prelude.{Option, Some, None, Result, Ok, Err, codes, ◌↔◌, IfErr, ok_or, option_copied}
 use Rattle.std.specs.Borrow.{Bor}
 use Rattle.std.specs.Str.{bytes_eq}

@@ -8,3 +8,4 @@ pub mod TextLemmas
 pub mod FileLemmas
 pub mod WritingLemmas
 pub mod FlagLemmas
+pub mod EventLines

@@ -2,7 +2,7 @@
 use Rattle.std.specs.Prelude.{ℕ, ◌*◌, Bool, true, false, Option, Some, None, List, ◌++◌, codes}
 use Rattle.std.specs.Fmt.{decimal}
 use Rattle.std.specs.List.{flat_map}
-use Rattle.group_tree.specs.Events.{EventCounts, EventKey, all_keys, count_of, key_name}
+use Rattle.group_tree.specs.Events.{EventCounts, all_keys, count_of, key_name}
 use Rattle.group_tree.specs.Groups.{is_oom_group, limit_of}
 use Rattle.group_charge.specs.Charges.{Ledger, current_of, peak_of, events_of, events_local_of}
 use Rattle.control_files.specs.Flag.{flag_word}

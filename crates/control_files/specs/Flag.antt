@@ -1,5 +1,5 @@
 -- The text of a flag (cgroup-v2.rst, memory.oom.group): `0` or `1`, with white space before and after.
-use Rattle.std.specs.Prelude.{◌≡◌, Bool, true, false, ℕ, List, ◌++◌, codes, ⊤, Result, Ok, Err}
+use Rattle.std.specs.Prelude.{◌≡◌, Bool, true, false, ℕ, List, ◌++◌, codes, Result, Ok, Err}
 use Rattle.group_tree.specs.declared.fault.Fault.{Fault}
 use Rattle.group_tree.specs.declared.fault.Fault.TheVariants.{BadLimit}
 use Rattle.control_files.specs.Limit.{AreSpaces}

@@ -1,4 +1,3 @@
-use Rattle.std.proofs.Common.{◌≡◌}
 use Rattle.std.proofs.lemmas.Result.{err_from_is_err_and}
 use Rattle.control_files.specs.Flag.{IsFlagReading}
 use Rattle.control_files.specs.Reading.{HasOnlyWord}
