@@ -1,5 +1,5 @@
 -- What the state has is what a run says, folded apart. Serves `groups_are_told`, `the_lock_is_told`, `parts_are_told`.
-use Rattle.std.proofs.Common.{◌≡◌, ℕ, ◌==◌, Bool, true, false, Option, Some, None, List, [], ◌∷◌, refl, sym, ◌∙◌, ap, subst, arith, inl, inr}
+use Rattle.std.proofs.Common.{◌≡◌, ℕ, ◌==◌, Bool, true, false, Option, Some, None, [], ◌∷◌, refl, sym, ◌∙◌, ap, subst, arith, inl, inr}
 use Rattle.std.proofs.Common.{cond, if◌then◌else◌, eq-eqb}
 use Rattle.std.specs.Prelude.{is_some}
 use Rattle.std.proofs.lemmas.Bool.{cases_eq, ne_eqb, false≢true, true≢false, cond-false}
@@ -10,6 +10,7 @@ use Rattle.group_tree.specs.Groups.{has_group, limit_of, is_oom_group, with_grou
 use Rattle.group_tree.specs.Groups.{group_at, initial_groups, the_root}
 use Rattle.group_tree.proofs.CallerLemmas.{has_group-with, has_group-limited, has_group-flagged, has_group-without, limit_of-with, limit_of-with_new}
 use Rattle.group_tree.proofs.CallerLemmas.{limit_of-without, limit_of-limited, limit_of-limited_other, limit_of-flagged}
+use Rattle.group_tree.proofs.CallerLemmas.{is_oom_group-with_new}
 use Rattle.group_tree.proofs.GroupLemmas.{is_oom_group-with, is_oom_group-without, is_oom_group-limited, is_oom_group-flagged}
 use Rattle.group_tree.proofs.GroupLemmas.{is_oom_group-flagged_other}
 use Rattle.step_rules.specs.declared.step.Step.{Step}
@@ -86,15 +87,6 @@ flag_still : (g : ℕ) (x : Bool) (seat : ℕ) (action : Action) → flag_after 
 flag_still g x seat Lock = refl
 flag_still g x seat action = refl
 
--- a group that isn't there has no flag
-no_flag : (groups : List Group) (g : ℕ) → has_group groups g ≡ false → is_oom_group groups g ≡ false
-unfolding is_oom_group has_group
-no_flag groups g none = by_row (group_at groups g) none
-  where
-    by_row : (row : Option Group) → is_some row ≡ false → option_map_or (λ (x : Group). x.oom_group) row false ≡ false
-    by_row None e = refl
-    by_row (Some x) e = absurd (true≢false e)
-
 flag_made : (g : ℕ) (s : State) (x : Bool) (seat : ℕ) (action : Action) (answer : Answer) → HasFlag g s x → IsMade s seat action answer →
     HasFlag g (after s seat action answer) (flag_after g x action answer)
 flag_made g s x seat action Illegal holds made = absurd (no_illegal s seat action made.answered)
@@ -106,7 +98,7 @@ flag_made g s x seat (SetFlag h flag) Done holds made = λ there. elim (cases_eq
   | inr ne ↦ rw (ne_eqb g h ne) (is_oom_group-flagged_other s.groups h g flag ne ∙ holds (sym (has_group-flagged s.groups h g flag) ∙ there))
 ]
 flag_made g s x seat (Make path) (Number n) holds made = λ there. elim (cases_eq g n) [
-  | inl e ↦ rw (eq-eqb g n e) (is_oom_group-with s.groups n g path ∙ ap (is_oom_group s.groups) e ∙ no_flag s.groups n made.answered.free)
+  | inl e ↦ rw (eq-eqb g n e) (ap (is_oom_group (with_group s.groups n path)) e ∙ is_oom_group-with_new s.groups n path made.answered.free)
   | inr ne ↦ rw (ne_eqb g n ne) (is_oom_group-with s.groups n g path ∙ holds (sym (has_group-with s.groups n g path ne) ∙ there))
 ]
 flag_made g s x seat (Remove h) Done holds made = λ there.
