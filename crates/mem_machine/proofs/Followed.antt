@@ -19,9 +19,10 @@ use Rattle.step_rules.specs.declared.step.Answer.TheVariants.{Illegal, Done, Gra
 use Rattle.step_rules.specs.State.{State}
 use Rattle.step_rules.specs.After.{Run, after}
 use Rattle.step_rules.specs.Peaks.{peak_follows}
-use Rattle.step_rules.specs.Events.{note_of, group_noted, noted_at, is_noted_at, is_noted_below, makes_group}
+use Rattle.step_rules.specs.Events.{note_of, noted_at, is_noted_at, is_noted_below, makes_group}
 use Rattle.step_rules.specs.Usage.{is_below}
 use Rattle.step_rules.specs.Legal.{is_of_group}
+use Rattle.step_rules.proofs.CallerLemmas.{noted_nowhere}
 use Rattle.step_rules.proofs.Moving.{gone_itself}
 use Rattle.mem_machine.specs.Following.{Moves, moved_over, moves_peak, moves_count, FollowsSteps}
 use Rattle.mem_machine.specs.Machines.{KnownMachine}
@@ -142,7 +143,7 @@ no_note (Some note) e = absurd (false≢true e)
 pub still_note : (key : EventKey) (action : Action) (answer : Answer) → is_still action answer ≡ true → noted_at key action answer ≡ None
 still_note key (Grant g n) Granted still = refl
 still_note key (Make path) (Number n) still = refl
-still_note key action answer still = ap (group_noted key) (no_note (note_of action answer) still)
+still_note key action answer still = noted_nowhere key action answer (no_note (note_of action answer) still)
 
 still_make : (m : ℕ) (action : Action) (answer : Answer) → is_still action answer ≡ true → makes_group m action answer ≡ false
 still_make m (Make path) (Number n) still = absurd (false≢true still)

@@ -1,12 +1,13 @@
 -- Each step that moves a peak or a count of the ledger, and what comes with it. Serves the `steps` clauses of the calls that charge,
 -- note, kill, make, limit and remove.
-use Rattle.std.proofs.Common.{◌≡◌, ◌≢◌, ℕ, ◌+◌, ◌<◌, ◌==◌, Bool, true, false, Option, Some, None, List, [], ◌∷◌, ◌++◌, cond, refl, sym, ap, ◌∙◌}
+use Rattle.std.proofs.Common.{◌≡◌, ◌≢◌, ℕ, ◌+◌, ◌<◌, ◌==◌, ◌&&◌, Bool, true, false, Option, Some, None, List, [], ◌∷◌, ◌++◌, cond, refl, sym, ap, ◌∙◌}
 use Rattle.std.proofs.Common.{inl, inr, arith, eq-eqb, get_or}
 use Rattle.std.specs.Prelude.{max, not, is_some, filter}
 use Rattle.std.specs.List.{find}
 use Rattle.std.specs.Option.{option_map_or, option_or}
 use Rattle.std.proofs.lemmas.Bool.{cases_eq, ne_eqb, eqb-true, not_from_false, true≢false}
 use Rattle.std.proofs.lemmas.List.Folds.{find-append}
+use Rattle.group_tree.specs.declared.group.Group.{Group}
 use Rattle.group_tree.specs.Events.{EventKey, EventCounts, is_same_key, no_events, count_of, with_one_more}
 use Rattle.group_tree.specs.Groups.{has_group, in_subtree, without_group, IsLeastFreeNumber}
 use Rattle.group_tree.specs.Room.{one_more}
@@ -24,16 +25,16 @@ use Rattle.step_rules.specs.declared.step.Answer.TheVariants.{Done, Granted, Num
 use Rattle.step_rules.specs.State.{State}
 use Rattle.step_rules.specs.After.{Run, after}
 use Rattle.step_rules.specs.Peaks.{peak_follows}
-use Rattle.step_rules.specs.Usage.{usage_of, is_below, frames_kept, pages_prepaid, pages_pending}
-use Rattle.step_rules.specs.Events.{note_of, group_noted, noted_at, makes_group}
-use Rattle.step_rules.specs.Legal.{is_of_group}
+use Rattle.step_rules.specs.Usage.{usage_of, frames_kept, pages_prepaid, pages_pending}
+use Rattle.step_rules.specs.Events.{note_of, count_after, is_noted_below, is_noted_at, makes_group}
+use Rattle.step_rules.proofs.CallerLemmas.{noted_below_so, noted_at_so}
 use Rattle.step_rules.proofs.Homes.{number_low}
 use Rattle.step_rules.proofs.Moving.{gone_itself, pending_moves, pends_split}
 use Rattle.mem_machine.specs.Following.{FollowsSteps}
 use Rattle.mem_machine.specs.Machines.{KnownMachine}
 use Rattle.mem_machine.specs.Local.{local_of}
 use Rattle.mem_machine.specs.Steps.{zone_makes, make_steps, remove_steps, set_max_steps, set_oom_group_steps}
-use Rattle.mem_machine.proofs.Followed.{are_still, peak_still, below_still, at_still, follows_still}
+use Rattle.mem_machine.proofs.Followed.{Test, are_still, peak_still, below_still, at_still, follows_still}
 
 -- ---- a grant
 
@@ -74,21 +75,18 @@ follows_grant t m c g n facts there usage rest still k peaks events =
 
 -- ---- an event
 
--- One more event of the kind, if it counts where the test says, is what the step that notes it makes of the count of the
--- key. All kinds and keys at once, so that a new one needs no line here
-event_counted : (test : Option ℕ → Bool) → test None ≡ false → (kind key : EventKey) (g : ℕ) (x : EventCounts)
-    → count_of (cond (test (Some g)) (with_one_more kind x) x) key
-    ≡ cond (test (group_noted key (Some (kind, g)))) (one_more (count_of x key)) (count_of x key)
-event_counted test none kind key g x = by_cases (is_same_key key kind) (test (Some g)) refl (counted kind key x)
+-- what one more event of the kind makes of the count of the key, if it counts here: all kinds and keys at once, so that a
+-- new one needs no line
+event_counted : (kind key : EventKey) (here : Bool) (x : EventCounts)
+    → count_of (cond here (with_one_more kind x) x) key ≡ cond (is_same_key key kind && here) (one_more (count_of x key)) (count_of x key)
+event_counted kind key here x = by_cases (is_same_key key kind) here (counted kind key x)
   where
-    n : ℕ
-    n = count_of x key
-    by_cases : (same here : Bool) → test (Some g) ≡ here → count_of (with_one_more kind x) key ≡ cond same (one_more n) n
-        → count_of (cond here (with_one_more kind x) x) key ≡ cond (test (cond same (Some g) None)) (one_more n) n
-    by_cases true true is counts = counts ∙ sym (ap (λ (b : Bool). cond b (one_more n) n) is)
-    by_cases true false is counts = sym (ap (λ (b : Bool). cond b (one_more n) n) is)
-    by_cases false true is counts = counts ∙ sym (ap (λ (b : Bool). cond b (one_more n) n) none)
-    by_cases false false is counts = sym (ap (λ (b : Bool). cond b (one_more n) n) none)
+    by_cases : (same here : Bool) → count_of (with_one_more kind x) key ≡ cond same (one_more (count_of x key)) (count_of x key)
+        → count_of (cond here (with_one_more kind x) x) key ≡ cond (same && here) (one_more (count_of x key)) (count_of x key)
+    by_cases true true counts = counts
+    by_cases true false counts = refl
+    by_cases false true counts = counts
+    by_cases false false counts = refl
 
 -- a step that is answered Done makes no group and moves no peak
 done_makes_none : (m : ℕ) (action : Action) → makes_group m action Done ≡ false
@@ -99,12 +97,12 @@ done_peak : (t : State) (m : ℕ) (action : Action) (x : ℕ) → peak_follows t
 done_peak t m (Grant g n) x = refl
 done_peak t m action x = refl
 
--- what a step that notes this makes of a count
-noting_counted : (test : Option ℕ → Bool) (key : EventKey) (action : Action) (note : Option (EventKey × ℕ)) → note_of action Done ≡ note → (m n : ℕ)
-    → cond (makes_group m action Done) 0 (cond (test (noted_at key action Done)) (one_more n) n) ≡ cond (test (group_noted key note)) (one_more n) n
-noting_counted test key action note notes m n =
-    ap (λ (b : Bool). cond b 0 (cond (test (noted_at key action Done)) (one_more n) n)) (done_makes_none m action)
-    ∙ ap (λ (o : Option (EventKey × ℕ)). cond (test (group_noted key o)) (one_more n) n) notes
+-- what a step makes of a count that it passes the test of
+done_count : (test : Test) (groups : List Group) (action : Action) (m n : ℕ) (b : Bool) → test groups action Done ≡ b
+    → count_after test m groups action Done n ≡ cond b (one_more n) n
+done_count test groups action m n b is =
+    ap (λ (made : Bool). cond made 0 (cond (test groups action Done) (one_more n) n)) (done_makes_none m action)
+    ∙ ap (λ (passed : Bool). cond passed (one_more n) n) is
 
 turned : (a b : ℕ) → (a == b) ≡ (b == a)
 turned a b = elim (cases_eq a b) [
@@ -115,19 +113,21 @@ turned a b = elim (cases_eq a b) [
 -- a step notes an event at a group
 pub follows_note : (kind : EventKey) (action : Action) (g : ℕ) → note_of action Done ≡ Some (kind, g) → (t : KnownTable) (m : KnownMachine) (c : KnownCpu) (k : Ledger)
     → CountsEvent kind m.ledger k g → SamePeaks m.ledger k → FollowsSteps (local_of t m c) m.ledger (zone_makes action Done ∷ []) k
-follows_note kind action g notes t m c k counts peaks = record {
-  peak = λ h is. peaks h ∙ sym (done_peak _ h action (peak_of m.ledger h));
-  events = λ key h is.
-      let old = events_of m.ledger h in
-      ap (λ (x : EventCounts). count_of x key) (counts.events h)
-      ∙ event_counted (is_below m.ledger.groups h) refl kind key g old
-      ∙ sym (noting_counted (is_below m.ledger.groups h) key action (Some (kind, g)) notes h (count_of old key));
-  events_local = λ key h is.
-      let old = events_local_of m.ledger h in
-      ap (λ (x : EventCounts). count_of x key) (counts.events_local h ∙ ap (λ (b : Bool). cond b (with_one_more kind old) old) (turned h g))
-      ∙ event_counted (λ (o : Option ℕ). is_of_group o h) refl kind key g old
-      ∙ sym (noting_counted (λ (o : Option ℕ). is_of_group o h) key action (Some (kind, g)) notes h (count_of old key));
-}
+follows_note kind action g notes t m c k counts peaks =
+    let groups = m.ledger.groups in
+    record {
+      peak = λ h is. peaks h ∙ sym (done_peak _ h action (peak_of m.ledger h));
+      events = λ key h is.
+          let old = events_of m.ledger h in
+          ap (λ (x : EventCounts). count_of x key) (counts.events h)
+          ∙ event_counted kind key (in_subtree groups h g) old
+          ∙ sym (done_count (is_noted_below key h) groups action h (count_of old key) _ (noted_below_so kind key g h groups action Done notes));
+      events_local = λ key h is.
+          let old = events_local_of m.ledger h in
+          ap (λ (x : EventCounts). count_of x key) (counts.events_local h ∙ ap (λ (b : Bool). cond b (with_one_more kind old) old) (turned h g))
+          ∙ event_counted kind key (g == h) old
+          ∙ sym (done_count (is_noted_at key h) groups action h (count_of old key) _ (noted_at_so kind key g h groups action Done notes));
+    }
 
 -- ---- a limit and a flag
 
