@@ -7,8 +7,9 @@ use Rattle.std.specs.List.{find}
 use Rattle.std.specs.Option.{option_map_or, option_or}
 use Rattle.std.proofs.lemmas.Bool.{cases_eq, ne_eqb, eqb-true, not_from_false, true≢false}
 use Rattle.std.proofs.lemmas.List.Folds.{find-append}
+use Rattle.group_tree.specs.declared.event.EventKey.{EventKey}
 use Rattle.group_tree.specs.declared.group.Group.{Group}
-use Rattle.group_tree.specs.Events.{EventKey, EventCounts, is_same_key, no_events, count_of, with_one_more}
+use Rattle.group_tree.specs.Events.{EventCounts, is_same_key, no_events, count_of, with_one_more}
 use Rattle.group_tree.specs.Groups.{has_group, in_subtree, without_group, IsLeastFreeNumber}
 use Rattle.group_tree.specs.Room.{one_more}
 use Rattle.group_tree.proofs.EventLemmas.{counted, none_counted}
