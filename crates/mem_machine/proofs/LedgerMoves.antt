@@ -117,7 +117,7 @@ pub follows_note : (kind : EventKey) (action : Action) (g : ℕ) → note_of act
 follows_note kind action g notes t m c k counts peaks =
     let groups = m.ledger.groups in
     record {
-      peak = λ h is. peaks h ∙ sym (done_peak _ h action (peak_of m.ledger h));
+      peak = λ h is. peaks h ∙ sym (done_peak (after (local_of t m c) 0 action Done) h action (peak_of m.ledger h));
       events = λ key h is.
           let old = events_of m.ledger h in
           ap (λ (x : EventCounts). count_of x key) (counts.events h)
