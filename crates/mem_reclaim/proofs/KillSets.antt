@@ -3,7 +3,7 @@
 use Rattle.std.proofs.Common.{◌≡◌, ℕ, ◌+◌, ◌≤◌, Bool, true, false, Option, List, [], ◌∷◌, ◌++◌, map, cond, refl, sym, ap, ◌∙◌, subst, arith, inl, inr}
 use Rattle.std.proofs.Common.{All, ◌&&◌, ◌×◌}
 use Rattle.std.specs.Prelude.{not, slice_set}
-use Rattle.std.proofs.lemmas.Bool.{or_parts, true≢false}
+use Rattle.std.proofs.lemmas.Bool.{and_parts, or_parts, true≢false}
 use Rattle.std.proofs.lemmas.List.{append_assoc, append-nil, get_or-set_other}
 use Rattle.std.proofs.lemmas.List.Elements.{All-append, All-cons, All-nil}
 use Rattle.std.proofs.lemmas.List.Sums.{fold-append, sum_by-append}
@@ -29,9 +29,10 @@ use Rattle.mem_reclaim.specs.Killing.{HasNoKeptUnit, IsKilledBy, KillsAll, Kills
 use Rattle.mem_reclaim.specs.Killing.{OnlyDrains, OnlyLetsGo, having_of, killed_note, with_all_killed}
 use Rattle.mem_reclaim.specs.KillNotes.{NotesVictim}
 use Rattle.mem_reclaim.specs.Moves.{Rises, has_kill, is_kill, is_miss, killed_by, kills_in, missed_in, returned_in}
-use Rattle.mem_reclaim.specs.Sets.{IsHead, alive_below, group_kill_note, kill_set}
+use Rattle.mem_reclaim.specs.Sets.{HasNoFlagged, IsHead, IsHighestFlagged, alive_below, group_kill_note, kill_set}
 use Rattle.mem_reclaim.specs.Staying.{OnlyLeave}
 use Rattle.mem_reclaim.specs.Victim.{may_be_killed, victim_note}
+use Rattle.mem_reclaim.proofs.Heads.{on_path_is, victim_unflagged}
 use Rattle.mem_reclaim.proofs.Alive.{alive_more, alive_same, alive_to}
 use Rattle.mem_reclaim.proofs.LettingGo.{only_lets_both, only_lets_none, only_lets_same}
 use Rattle.mem_reclaim.proofs.Rising.{returned_both, rises_both, rises_none}
@@ -119,15 +120,33 @@ lets_after_note t m n first k = record {
   misses = k.misses;
 }
 
+-- a group was killed, and that was noted
+pub record OneKilled (t : KnownTable) (limited g : ℕ) (m n : KnownMachine) : Type 0 where
+  pub kills : KillsSoBySteps t (g ∷ []) (KillsNoted t limited g) m n
+  pub marked : n.killed ≡ slice_set m.killed g true
+  pub drained : AreOwnDrained g t.cpus n
+  pub stocks : OnlyDrains m n
+  pub none_kept : HasNoKeptUnit g n
+  pub keeps : OnlyLetsGo t m n
+
+pub one_so : (t : KnownTable) (limited g : ℕ) (m n : KnownMachine) → OneKilled t limited g m n → KilledSo t (g ∷ []) (KillsNoted t limited g) m n
+one_so t limited g m n one = record {
+  kills = one.kills;
+  marked = one.marked;
+  drained = all_one (λ (x : ℕ). AreOwnDrained x t.cpus n) g one.drained;
+  stocks = one.stocks;
+  none_kept = all_one (λ (x : ℕ). HasNoKeptUnit x n) g one.none_kept;
+  keeps = one.keeps;
+}
+
 pub one_killed : (t : KnownTable) (limited g : ℕ) (m b n : KnownMachine) (had : Having) → had ≡ having_of m g → KillsBySteps t g m b
     → b.killed ≡ slice_set m.killed g true → AreOwnDrained g t.cpus b → OnlyDrains m b → HasNoKeptUnit g b → OnlyLetsGo t m b
-    → n ≡ with_note b (killed_note limited g had b) → KilledSo t (g ∷ []) (KillsNoted t limited g) m n
+    → n ≡ with_note b (killed_note limited g had b) → OneKilled t limited g m n
 one_killed t limited g m b n had had_is kills marked drained stocks none_kept keeps noted_had =
     let last : Note = killed_note limited g (having_of m g) b in
     let noted : n ≡ with_note b last = noted_had ∙ ap (λ (h : Having). with_note b (killed_note limited g h b)) had_is in
     let once = kills.once in
-    let one = missed_both in
-    subst (λ (x : KnownMachine). KilledSo t (g ∷ []) (KillsNoted t limited g) m x) (sym noted) (record {
+    subst (λ (x : KnownMachine). OneKilled t limited g m x) (sym noted) (record {
       kills = record {
         steps = kills.steps;
         kills = record { killed = b; kills = kills.kills; noted = refl };
@@ -149,9 +168,9 @@ one_killed t limited g m b n had had_is kills marked drained stocks none_kept ke
         };
       };
       marked = marked;
-      drained = all_one (λ (x : ℕ). AreOwnDrained x t.cpus (with_note b last)) g drained;
+      drained = drained;
       stocks = record { of = stocks.of; drained = stocks.drained };
-      none_kept = all_one (λ (x : ℕ). HasNoKeptUnit x (with_note b last)) g none_kept;
+      none_kept = none_kept;
       keeps = lets_before_note t m b last keeps;
     })
 
@@ -236,12 +255,12 @@ below_same t limited head m k now s dead =
 
 -- group k is killed
 pub below_more : (t : KnownTable) (limited head : ℕ) (m : KnownMachine) (k : ℕ) (now : KnownMachine) → KilledSoFar t limited head m k now
-    → may_be_killed now head k ≡ true → (n : KnownMachine) → KilledSo t (k ∷ []) (KillsNoted t limited k) now n → KilledSoFar t limited head m (k + 1) n
+    → may_be_killed now head k ≡ true → (n : KnownMachine) → OneKilled t limited k now n → KilledSoFar t limited head m (k + 1) n
 below_more t limited head m k now s may n one =
     let more = alive_more m head k (may_still t limited head m k now s ∙ may) in
     record {
       so = subst (λ (l : List ℕ). KilledSo t l (KillsAll t limited l) m n) (sym more)
-          (set_more t limited (alive_to m head k) k m now n s.so one);
+          (set_more t limited (alive_to m head k) k m now n s.so (one_so t limited k now n one));
       alive = λ j le.
           ap (λ (l : List Bool). is_killed l j) one.marked
           ∙ get_or-set_other now.killed k j true false (λ e. absurd (omega (arith, le, e)))
@@ -337,3 +356,18 @@ victim_killed t limited killed m a n told head_a flag flag_a so_flag =
       none_kept = so.none_kept;
       keeps = lets_after_note t m n note so.keeps;
     }
+
+-- without a flag the victim is killed alone
+pub alone_killed : (t : KnownTable) (limited v : ℕ) (m a n : KnownMachine) → may_be_killed m limited v ≡ true → NotesVictim limited v m a
+    → HasNoFlagged a.ledger.groups limited v → OneKilled t limited v a n → VictimKilled t limited (record { victim = v; head = v }) m n
+alone_killed t limited v m a n may told none one =
+    let below : in_subtree a.ledger.groups limited v ≡ true =
+    ap (λ (x : KnownMachine). in_subtree x.ledger.groups limited v) told.machine ∙ (and_parts (in_subtree m.ledger.groups limited v) _ may).0 in
+    victim_killed t limited (record { victim = v; head = v }) m a n told (inr (none, refl)) false (victim_unflagged a.ledger.groups limited v below none)
+    (one_so t limited v a n one)
+
+-- with one the highest flagged group dies with its subtree
+pub head_killed : (t : KnownTable) (limited v h : ℕ) (m a n : KnownMachine) → NotesVictim limited v m a → IsHighestFlagged a.ledger.groups limited v h
+    → KilledSo t (alive_below a h) (KillsSubtree t limited h) a n → VictimKilled t limited (record { victim = v; head = h }) m n
+head_killed t limited v h m a n told high so =
+    victim_killed t limited (record { victim = v; head = h }) m a n told (inl high) true (on_path_is a.ledger.groups limited v h high.between).flag so
