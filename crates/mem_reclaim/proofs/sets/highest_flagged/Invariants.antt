@@ -1,5 +1,5 @@
-use Rattle.mem_reclaim.proofs.Heads.{HighestBelow}
+use Rattle.mem_reclaim.proofs.Heads.{HeadSoFar}
 use Rattle.mem_reclaim.proofs.sets.highest_flagged.Given as goal
 
-abbrev pub invariant-loop-number : goal.invariant-loop-number
-invariant-loop-number g l = HighestBelow l.machine.ledger.groups l.limited l.victim l.number l.head
+abbrev pub invariant-loop-above : goal.invariant-loop-above
+invariant-loop-above l = HeadSoFar l.tree l.limited l.fn.victim l.head l.above-iterator
