@@ -13,7 +13,7 @@ use Rattle.mem_reclaim.specs.Victim.{may_be_killed}
 abbrev pub alive_to : KnownMachine → ℕ → ℕ → List ℕ
 alive_to m head k = filter (may_be_killed m head) (range_with_len 0 k)
 
-alive_next : (m : KnownMachine) (head k : ℕ) → alive_to m head (k + 1) ≡ alive_to m head k ++ cond (may_be_killed m head k) (k ∷ []) []
+pub alive_next : (m : KnownMachine) (head k : ℕ) → alive_to m head (k + 1) ≡ alive_to m head k ++ cond (may_be_killed m head k) (k ∷ []) []
 alive_next m head k =
     let p = may_be_killed m head in
     sym (ap (filter p) (map-id (range_with_len 0 (k + 1))))

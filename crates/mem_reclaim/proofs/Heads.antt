@@ -1,45 +1,16 @@
 -- The highest flagged group on a path, as far as the walk up has come. Serves `highest_flagged` and `kill`.
-use Rattle.std.proofs.Common.{◌≡◌, ◌≢◌, ℕ, ◌+◌, ◌<◌, ◌≤◌, ◌==◌, ◌⊎◌, ◌&&◌, Bool, true, false, Option, Some, None, IsTrue, List, [], ◌∷◌, ◌++◌, length}
-use Rattle.std.proofs.Common.{refl, sym, ap, ◌∙◌, subst, inl, inr, arith}
+use Rattle.std.proofs.Common.{◌≡◌, ◌≢◌, ℕ, ◌==◌, ◌&&◌, Bool, true, false, Option, Some, None, IsTrue, List, [], ◌∷◌, refl, sym, ap, ◌∙◌, subst, inl, inr}
 use Rattle.std.specs.Prelude.{IfSome, not}
-use Rattle.std.proofs.lemmas.Bool.{and_parts, and_cases, and_from, cases_Bool, cases_eq, cases_lt, eq-eqb, false_from_ne_true, ne_eqb, not-true, not_from_false}
+use Rattle.std.proofs.lemmas.Bool.{and_parts, and_cases, and_from, cases_Bool, cases_eq, eq-eqb, false_from_ne_true, ne_eqb, not-true, not_from_false}
 use Rattle.std.proofs.lemmas.Bool.{true≢false}
-use Rattle.std.proofs.lemmas.Option.{same_Some}
 use Rattle.group_tree.specs.declared.group.Group.{Group}
 use Rattle.group_tree.specs.Ancestors.{ancestors_of, is_passed}
 use Rattle.group_tree.specs.Groups.{AreGroups, has_group, in_subtree, is_oom_group, parent_of}
-use Rattle.group_tree.specs.Path.{names_of}
-use Rattle.group_tree.proofs.CallerLemmas.{in_subtree-antisym, in_subtree-below, in_subtree-from, in_subtree-is, in_subtree-refl}
+use Rattle.group_tree.proofs.CallerLemmas.{either_above, in_subtree-antisym, in_subtree-below, in_subtree-refl}
 use Rattle.group_tree.proofs.Walks.{TurnAt, WalkAt, at_end_passed, at_next, at_on, at_start, at_turn, passed_here, passed_none, passed_on, passed_other}
 use Rattle.mem_reclaim.specs.Sets.{HasNoFlagged, IsFlaggedAbove, is_flagged_between}
 
--- ---- two groups on one path
-
-front_front : (a b x y : List (List ℕ)) → a ++ x ≡ b ++ y → length a ≤ length b → (m : List (List ℕ)) × (b ≡ a ++ m)
-front_front [] b x y e h = (b, refl)
-front_front (n ∷ ns) [] x y e h = absurd (omega (arith, h))
-front_front (n ∷ ns) (k ∷ ks) x y e h =
-    let head : n ≡ k = cc in
-    let tail : ns ++ x ≡ ks ++ y = cc in
-    let w = front_front ns ks x y tail (omega (arith, h)) in
-    (w.0, ap (λ z. z ∷ ks) (sym head) ∙ ap (λ z. n ∷ z) w.1)
-
--- of two groups above a third, the one is above the other
-either_above : (groups : List Group) (g h v : ℕ) → in_subtree groups g v ≡ true → in_subtree groups h v ≡ true
-    → (in_subtree groups g h ≡ true) ⊎ (in_subtree groups h g ≡ true)
-either_above groups g h v first second =
-    let s = in_subtree-is groups g v first in
-    let t = in_subtree-is groups h v second in
-    let same : s.below ≡ t.below = same_Some s.below t.below (sym s.path_below ∙ t.path_below) in
-    let names : names_of s.above ++ s.more ≡ names_of t.above ++ t.more = sym s.names ∙ ap names_of same ∙ t.names in
-    elim (cases_lt (length (names_of t.above)) (length (names_of s.above))) [
-      | inl lt ↦
-          let f = front_front (names_of t.above) (names_of s.above) t.more s.more (sym names) (omega (arith, lt)) in
-          inr (in_subtree-from groups h g (record { above = t.above; below = s.above; more = f.0; path_above = t.path_above; path_below = s.path_above; names = f.1 }))
-      | inr le ↦
-          let f = front_front (names_of s.above) (names_of t.above) s.more t.more names le in
-          inl (in_subtree-from groups g h (record { above = s.above; below = t.above; more = f.0; path_above = s.path_above; path_below = t.path_above; names = f.1 }))
-    ]
+-- ---- a flagged group on the path
 
 -- what is true of a flagged group on the path
 pub record OnPath (groups : List Group) (limited victim group : ℕ) : Type 0 where

@@ -81,7 +81,7 @@ none_still g b n none leaves = λ f h home. none f h (leaves f h home)
 drains_both : (a b c : KnownMachine) → OnlyDrains a b → OnlyDrains b c → OnlyDrains a c
 drains_both a b c p q = record { of = λ x. q.of x ∙ p.of x; drained = λ x is. q.drained x (p.drained x is) }
 
-all_one : (P : ℕ → Type 0) (g : ℕ) → P g → All P (g ∷ [])
+pub all_one : (P : ℕ → Type 0) (g : ℕ) → P g → All P (g ∷ [])
 all_one P g here = All-cons P g [] here (All-nil P)
 
 -- ---- groups that are killed

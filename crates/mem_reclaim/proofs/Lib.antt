@@ -11,4 +11,5 @@ pub mod LettingGo
 pub mod Heads
 pub mod Alive
 pub mod KillSets
+pub mod Dying
 pub mod Rising
