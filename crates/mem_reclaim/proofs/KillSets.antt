@@ -1,7 +1,7 @@
 -- Several groups that are killed, one after the other, and the notes around their kills. Serves `kill_noted`, `kill_below`,
 -- `kill_subtree` and `kill`.
 use Rattle.std.proofs.Common.{◌≡◌, ℕ, ◌+◌, ◌≤◌, Bool, true, false, Option, List, [], ◌∷◌, ◌++◌, map, cond, refl, sym, ap, ◌∙◌, subst, arith, inl, inr}
-use Rattle.std.proofs.Common.{All, ◌&&◌, ◌×◌}
+use Rattle.std.proofs.Common.{All, ◌&&◌}
 use Rattle.std.specs.Prelude.{not, slice_set}
 use Rattle.std.proofs.lemmas.Bool.{and_parts, or_parts, true≢false}
 use Rattle.std.proofs.lemmas.List.{append_assoc, append-nil, get_or-set_other}

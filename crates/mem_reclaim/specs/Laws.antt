@@ -1,5 +1,5 @@
 -- What memory.oom.group promises of every kill (cgroup-v2.rst): a flagged group is killed as a whole, or no group of it is.
-use Rattle.std.specs.Prelude.{◌≡◌, ℕ, ◌⊎◌, ¬◌, true, Some, List, Contains}
+use Rattle.std.specs.Prelude.{◌≡◌, ℕ, ◌⊎◌, true, Some, List, Contains}
 use Rattle.group_tree.specs.Groups.{AreGroups, in_subtree, is_oom_group}
 use Rattle.mem_machine.specs.Machines.{KnownMachine}
 use Rattle.mem_reclaim.specs.declared.sets.Killed.{Killed}
