@@ -4,6 +4,9 @@ pub mod NumberLemmas
 pub mod WordLemmas
 pub mod AmountLemmas
 pub mod ReadingLemmas
+pub mod PagesLemmas
 pub mod TextLemmas
 pub mod FileLemmas
 pub mod WritingLemmas
+pub mod FlagLemmas
+pub mod EventLines
