@@ -260,8 +260,7 @@ the greatest machine has 1,024 blocks of order ten
 replay --frames 1048576 --cpus 64
 64 mkdir /a | group 1
 64 alloc /a 0 | frame 0
-64 owner 3 | cpu 64
-64 owner 4 | free
+64 show | 0 /a; 1-3 cpu 64; 4-1048575 free; current /a 16384
 64 alloc /a 10 | frame 1024
 64 read /a memory.current | 4210688";
 
