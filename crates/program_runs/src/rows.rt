@@ -2,9 +2,13 @@
 //!
 //! A row has a name, the words of the command line, and then each line of the script, with what it is answered behind ` | `,
 //! where `; ` stands between two lines of an answer. A line that begins with `# ` is told with `--explain` alone. The last
-//! line can be `end`, with what is told of the end.
+//! line can be `end`, with what is told of the end. The answer `events A B C D` is the text of an events file with these
+//! counts.
 
 use std::alloc::{AllocError, Global};
+
+// What an events file counts here, in the order of its lines behind `low` and `high`.
+const EVENT_KEYS: [&str; 4] = ["max", "oom", "oom_kill", "oom_group_kill"];
 
 /// Groups, files and refusals, and blocks of each order.
 pub const GROUP_ROWS: &str = "\
@@ -134,8 +138,8 @@ replay
 1 write /a memory.max 4096 | ok
 1 alloc /a/b 0 | frame 0
 1 alloc /a/b 0 | frame 1
-1 read /a memory.events | low 0; high 0; max 1; oom 0; oom_kill 0
-1 read /a/b memory.events | low 0; high 0; max 0; oom 0; oom_kill 0
+1 read /a memory.events | events 1 0 0 0
+1 read /a/b memory.events | events 0 0 0 0
 1 blocks | 0:0 2:4 3:8
 
 a limit that is written needs no reclaim where the stock is enough
@@ -146,7 +150,7 @@ replay
 1 read /a memory.current | 4096
 1 fast 1 | drained
 1 alloc /a 0 | frame 1
-1 read /a memory.events | low 0; high 0; max 1; oom 0; oom_kill 0
+1 read /a memory.events | events 1 0 0 0
 
 a unit that was touched has a second chance
 replay --batch 1 --high 1 --stock 1
@@ -202,7 +206,63 @@ replay --audit
 2 put 0 | left 1
 1 alloc /a 1 | frame 0
 1 blocks | 1:2 2:4 3:8
-end | audit frames 16 free 14 charged 2; audit puts 0 freezes 1 drops 0 returns 1";
+end | audit frames 16 free 14 charged 2; audit puts 0 freezes 1 drops 0 returns 1
+
+an amount is reclaimed as far as that can be
+replay --cpus 1 --batch 1 --high 1 --stock 1
+1 mkdir /a | group 1
+1 alloc /a 0 | frame 0
+1 alloc /a 0 | frame 1
+1 alloc /a 0 | frame 2
+1 settle | settled
+1 write /a memory.reclaim 8192 | ok
+1 read /a memory.current | 4096
+1 write /a memory.reclaim 1M | refused 17 Again
+1 read /a memory.current | 0
+1 write /a memory.reclaim 0 | ok
+1 write /a memory.reclaim max | refused 12 BadLimit
+1 write /a memory.reclaim 18446744073709551616 | refused 13 BadNumber
+1 read /a memory.reclaim | refused 22 WriteOnly
+1 read / memory.reclaim | refused 10 NoFile
+1 write / memory.reclaim 4096 | refused 10 NoFile
+1 write /b memory.reclaim max | refused 6 NoGroup
+1 read /b memory.reclaim | refused 6 NoGroup
+1 read /a memory.events | events 0 0 0 0
+
+an amount that is reclaimed leaves the stock
+replay
+1 mkdir /a | group 1
+1 alloc /a 0 | frame 0
+1 write /a memory.reclaim 4096 | ok
+1 read /a memory.current | 12288
+
+an amount is rounded up and dirty and pinned units stay
+replay --audit
+1 mkdir /a | group 1
+1 alloc /a 1 | frame 0
+1 alloc /a 0 | frame 2
+1 alloc /a 0 | frame 3
+1 settle | settled
+1 dirty 2 | ok
+2 get 3 | held
+1 write /a memory.reclaim 4097 | ok
+1 owner 0 | free
+1 write /a memory.reclaim 1 | refused 17 Again
+1 owner 2 | /a
+1 owner 3 | /a
+2 put 3 | left 1
+1 write /a memory.reclaim 15E | refused 17 Again
+1 owner 3 | free
+1 write /a memory.reclaim  0  | ok
+end | audit frames 16 free 15 charged 1; audit puts 0 freezes 2 drops 0 returns 2
+
+the greatest machine has 1,024 blocks of order ten
+replay --frames 1048576 --cpus 64
+64 mkdir /a | group 1
+64 alloc /a 0 | frame 0
+64 show | 0 /a; 1-3 cpu 64; 4-1048575 free; current /a 16384
+64 alloc /a 10 | frame 1024
+64 read /a memory.current | 4210688";
 
 /// Kills: before a limit, where reclaim makes no room, and why they came.
 pub const KILL_ROWS: &str = "\
@@ -221,8 +281,8 @@ replay
 # oom /a
 # victim /a/b frames 1 of 1 candidates
 # killed /a/b returned 0 bytes 0 pinned 1 bytes 4096 usage 4096
-1 read /a memory.events | low 0; high 0; max 1; oom 1; oom_kill 1
-1 read /a/b memory.events | low 0; high 0; max 0; oom 0; oom_kill 1
+1 read /a memory.events | events 1 1 1 0
+1 read /a/b memory.events | events 0 0 1 0
 1 read /a memory.current | 4096
 
 a pinned unit of a killed group comes back after its last put
@@ -262,7 +322,7 @@ replay --batch 1 --high 1 --stock 1
 # victim /a frames 2 of 1 candidates
 # killed /a returned 2 bytes 8192 pinned 0 bytes 0 usage 0
 1 read /a memory.current | 0
-1 read /a memory.events | low 0; high 0; max 0; oom 1; oom_kill 1
+1 read /a memory.events | low 0; high 0; max 0; oom 1; oom_kill 1; oom_group_kill 0
 1 alloc /a 0 | refused 18 Killed
 
 victims are killed until the usage is at most the limit
@@ -286,10 +346,10 @@ replay --cpus 1 --batch 1 --high 1 --stock 1
 # killed /a/b returned 2 bytes 8192 pinned 0 bytes 0 usage 4096
 # victim /a/c frames 1 of 1 candidates
 # killed /a/c returned 1 bytes 4096 pinned 0 bytes 0 usage 0
-1 read /a memory.events | low 0; high 0; max 0; oom 1; oom_kill 2
+1 read /a memory.events | events 0 1 2 0
 1 read /a memory.current | 0
 1 alloc /a 0 | refused 15 OverLimit /a
-1 read /a memory.events | low 0; high 0; max 1; oom 2; oom_kill 2
+1 read /a memory.events | events 1 2 2 0
 
 a fresh frame of a killed group is dropped
 replay --batch 1 --high 1 --stock 1 --audit
@@ -332,6 +392,167 @@ replay
 # victim /a/b frames 1 of 1 candidates
 # killed /a/b returned 1 bytes 4096 pinned 0 bytes 0 usage 0";
 
+/// Groups that are killed as a whole (memory.oom.group).
+pub const GROUP_KILL_ROWS: &str = "\
+a flag kills all groups below it
+replay --cpus 1 --batch 1 --high 1 --stock 1
+1 mkdir /a | group 1
+1 mkdir /a/b | group 2
+1 mkdir /a/c | group 3
+1 write /a memory.oom.group 1 | ok
+1 alloc /a/b 0 | frame 0
+1 alloc /a/c 0 | frame 1
+1 settle | settled
+1 dirty 0 | ok
+1 dirty 1 | ok
+1 write /a memory.max 4096 | ok
+# limit /a 4096 usage 8192 need 0
+# stock 1 bytes 0 usage 8192
+# round 1 tried 0 missed 0 returned 0 bytes 0 usage 8192
+# oom /a
+# victim /a/b frames 1 of 2 candidates, next /a/c frames 1
+# group /a groups 3
+# killed /a returned 0 bytes 0 pinned 0 bytes 0 usage 8192
+# killed /a/b returned 1 bytes 4096 pinned 0 bytes 0 usage 4096
+# killed /a/c returned 1 bytes 4096 pinned 0 bytes 0 usage 0
+1 read /a memory.events | low 0; high 0; max 0; oom 1; oom_kill 3; oom_group_kill 1
+1 read /a memory.events.local | events 0 1 1 1
+1 read /a/b memory.events | events 0 0 1 0
+1 read /a memory.current | 0
+1 blocks | 4:0
+1 alloc /a/c 0 | refused 18 Killed
+
+without a flag the victim dies alone
+replay --cpus 1 --batch 1 --high 1 --stock 1
+1 mkdir /a | group 1
+1 mkdir /a/b | group 2
+1 mkdir /a/c | group 3
+1 alloc /a/b 0 | frame 0
+1 alloc /a/c 0 | frame 1
+1 settle | settled
+1 dirty 0 | ok
+1 dirty 1 | ok
+1 write /a memory.max 4096 | ok
+# limit /a 4096 usage 8192 need 0
+# stock 1 bytes 0 usage 8192
+# round 1 tried 0 missed 0 returned 0 bytes 0 usage 8192
+# oom /a
+# victim /a/b frames 1 of 2 candidates, next /a/c frames 1
+# killed /a/b returned 1 bytes 4096 pinned 0 bytes 0 usage 4096
+1 read /a memory.events | events 0 1 1 0
+1 read /a memory.current | 4096
+
+a flag of the victim alone kills the victim alone
+replay --cpus 1 --batch 1 --high 1 --stock 1
+1 mkdir /a | group 1
+1 mkdir /a/b | group 2
+1 mkdir /a/c | group 3
+1 write /a/b memory.oom.group 1 | ok
+1 alloc /a/b 0 | frame 0
+1 alloc /a/c 0 | frame 1
+1 settle | settled
+1 dirty 0 | ok
+1 dirty 1 | ok
+1 write /a memory.max 4096 | ok
+# limit /a 4096 usage 8192 need 0
+# stock 1 bytes 0 usage 8192
+# round 1 tried 0 missed 0 returned 0 bytes 0 usage 8192
+# oom /a
+# victim /a/b frames 1 of 2 candidates, next /a/c frames 1
+# group /a/b groups 1
+# killed /a/b returned 1 bytes 4096 pinned 0 bytes 0 usage 4096
+1 read /a memory.events | events 0 1 1 1
+1 read /a memory.current | 4096
+
+a flag is read and written
+replay --cpus 1 --batch 1 --high 1 --stock 1
+1 mkdir /a | group 1
+1 read /a memory.oom.group | 0
+1 write /a memory.oom.group 2 | refused 12 BadLimit
+1 write /a memory.oom.group 18446744073709551616 | refused 12 BadLimit
+1 write /a memory.oom.group  | refused 12 BadLimit
+1 read / memory.oom.group | refused 10 NoFile
+1 write / memory.oom.group 1 | refused 10 NoFile
+1 write /b memory.oom.group 2 | refused 6 NoGroup
+1 write /a memory.oom.group  1  | ok
+1 read /a memory.oom.group | 1
+1 rmdir /a | ok
+1 mkdir /a | group 1
+1 read /a memory.oom.group | 0
+
+the higher of two flags counts and a killed group isn't killed again
+replay --cpus 1 --batch 1 --high 1 --stock 1
+1 mkdir /a | group 1
+1 mkdir /a/b | group 2
+1 mkdir /a/b/c | group 3
+1 mkdir /a/b/d | group 4
+1 write /a/b/d memory.oom.group 1 | ok
+1 write /a/b memory.oom.group 1 | ok
+1 alloc /a/b/c 0 | frame 0
+1 alloc /a/b/d 0 | frame 1
+1 settle | settled
+1 dirty 0 | ok
+1 dirty 1 | ok
+1 write /a/b/c memory.max 0 | ok
+# limit /a/b/c 0 usage 4096 need 0
+# stock 1 bytes 0 usage 4096
+# round 1 tried 0 missed 0 returned 0 bytes 0 usage 4096
+# oom /a/b/c
+# victim /a/b/c frames 1 of 1 candidates
+# killed /a/b/c returned 1 bytes 4096 pinned 0 bytes 0 usage 0
+1 write /a memory.max 0 | ok
+# limit /a 0 usage 4096 need 0
+# stock 1 bytes 0 usage 4096
+# round 1 tried 0 missed 0 returned 0 bytes 0 usage 4096
+# oom /a
+# victim /a/b/d frames 1 of 1 candidates
+# group /a/b groups 2
+# killed /a/b returned 0 bytes 0 pinned 0 bytes 0 usage 4096
+# killed /a/b/d returned 1 bytes 4096 pinned 0 bytes 0 usage 0
+1 read /a/b memory.events | events 0 1 3 1
+1 read /a memory.events.local | events 0 1 0 0
+
+a flag above the limit doesn't count
+replay --cpus 1 --batch 1 --high 1 --stock 1
+1 mkdir /a | group 1
+1 mkdir /a/b | group 2
+1 mkdir /a/b/c | group 3
+1 write /a memory.oom.group 1 | ok
+1 alloc /a/b/c 0 | frame 0
+1 alloc /a/b/c 0 | frame 1
+1 settle | settled
+1 dirty 0 | ok
+1 dirty 1 | ok
+1 write /a/b memory.max 4096 | ok
+# limit /a/b 4096 usage 8192 need 0
+# stock 1 bytes 0 usage 8192
+# round 1 tried 0 missed 0 returned 0 bytes 0 usage 8192
+# oom /a/b
+# victim /a/b/c frames 2 of 1 candidates
+# killed /a/b/c returned 2 bytes 8192 pinned 0 bytes 0 usage 0
+1 read /a memory.events | events 0 1 1 0
+
+a group that asks dies with the others
+replay --cpus 1 --batch 1 --high 1 --stock 1
+1 mkdir /a | group 1
+1 mkdir /a/b | group 2
+1 mkdir /a/c | group 3
+1 write /a memory.oom.group 1 | ok
+1 alloc /a/b 1 | frame 0
+1 dirty 0 | ok
+1 write /a memory.max 8K | ok
+1 alloc /a/c 0 | refused 18 Killed
+# limit /a 8192 usage 8192 need 4096
+# round 1 tried 0 missed 0 returned 0 bytes 0 usage 8192
+# oom /a
+# victim /a/b frames 2 of 1 candidates
+# group /a groups 3
+# killed /a returned 0 bytes 0 pinned 0 bytes 0 usage 8192
+# killed /a/b returned 1 bytes 8192 pinned 0 bytes 0 usage 0
+# killed /a/c returned 0 bytes 0 pinned 0 bytes 0 usage 0
+1 read /a memory.events | events 1 1 3 1
+1 read /a memory.current | 0";
+
 /// Processors: their lists, their stocks and their references.
 pub const PROCESSOR_ROWS: &str = "\
 a stock of pages and a list of frames are had at once
@@ -352,14 +573,14 @@ replay
 1 write /a memory.max 8K | ok
 1 alloc /a 0 | frame 0
 1 read /a memory.current | 4096
-1 read /a memory.events | low 0; high 0; max 0; oom 0; oom_kill 0
+1 read /a memory.events | events 0 0 0 0
 
 a great block goes over the limit
 replay
 1 mkdir /a | group 1
 1 write /a memory.max 32K | ok
 1 alloc /a 4 | refused 15 OverLimit /a
-1 read /a memory.events | low 0; high 0; max 1; oom 0; oom_kill 0
+1 read /a memory.events | events 1 0 0 0
 
 a charge without a frame is taken back
 replay
@@ -489,8 +710,22 @@ fn add_line(text: &mut String, line: &str) -> Result<(), AllocError> {
     text.push('\n')
 }
 
+// Adds the lines of an events file with these counts.
+fn add_events(answers: &mut String, counts: &str) -> Result<(), AllocError> {
+    answers.push_str("low 0\nhigh 0\n")?;
+    let mut counts = counts.split(' ');
+    for key in EVENT_KEYS {
+        let count = counts.next().unwrap_or("0");
+        writeln!(answers, "{key} {count}")?;
+    }
+    Ok(())
+}
+
 // Adds the lines of an answer.
 fn add_answer(answers: &mut String, told: &str) -> Result<(), AllocError> {
+    if let Some(counts) = told.strip_prefix("events ") {
+        return add_events(answers, counts);
+    }
     if !told.is_empty() {
         for line in told.split("; ") {
             add_line(answers, line)?;

@@ -1,6 +1,8 @@
 //! Scripts over readers and writers in memory.
 
-use crate::rows::{GROUP_ROWS, KILL_ROWS, PROCESSOR_ROWS, RECLAIM_ROWS, Row, row_of};
+use crate::rows::{
+    GROUP_KILL_ROWS, GROUP_ROWS, KILL_ROWS, PROCESSOR_ROWS, RECLAIM_ROWS, Row, row_of,
+};
 use crate::streams::{
     PLAIN, broken_reader, is_refused, reader_in_steps, row_holds, run_program, script_reader,
     words_of,
@@ -65,7 +67,13 @@ fn row_is_answered<R: AllocGlobal + Abort + Wait>(rt: &R, row: &Row<'_>) {
 
 #[test]
 fn each_row_is_answered_and_explained(rt: HostRuntime) {
-    for rows in [GROUP_ROWS, RECLAIM_ROWS, KILL_ROWS, PROCESSOR_ROWS] {
+    for rows in [
+        GROUP_ROWS,
+        RECLAIM_ROWS,
+        KILL_ROWS,
+        GROUP_KILL_ROWS,
+        PROCESSOR_ROWS,
+    ] {
         for row in rows.split("\n\n") {
             row_is_answered(&rt, &row_of(row));
         }

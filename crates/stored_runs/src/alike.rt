@@ -2,8 +2,8 @@
 
 use anyhow::{Context, Result, ensure};
 use cpu_part::{BootName, Cpu, Tables};
+use group_tree::event::{EventCounts, EventKey};
 use group_tree::group::GroupId;
-use mem_core::account::Events;
 use mem_core::zone::Core;
 use std::alloc::{AllocError, Global};
 use step_rules::step::FramePlace;
@@ -12,8 +12,9 @@ use zone_sizes::config::Config;
 // The groups whose files are looked at.
 const PATHS: [&str; 6] = ["/a", "/b", "/a/c", "/a/d", "/a/c/e", "/b/f"];
 
-// What is told of the five files of a group that isn't there.
+// What is told of the six files of a group that isn't there.
 const NO_FILES: &str = "refused 6 NoGroup
+refused 6 NoGroup
 refused 6 NoGroup
 refused 6 NoGroup
 refused 6 NoGroup
@@ -40,7 +41,8 @@ fn look_at_files(text: &mut String) -> Result<(), AllocError> {
 1 read {path} memory.max
 1 read {path} memory.peak
 1 read {path} memory.events
-1 read {path} memory.events.local"
+1 read {path} memory.events.local
+1 read {path} memory.oom.group"
         )?;
     }
     Ok(())
@@ -106,14 +108,14 @@ fn tell_limit(limit: Option<u32>, text: &mut String) -> Result<()> {
     Ok(())
 }
 
-fn tell_events(events: &Events, text: &mut String) -> Result<(), AllocError> {
-    let max = events.max;
-    let oom = events.oom;
-    let kills = events.oom_kill;
-    writeln!(
-        text,
-        "low 0\nhigh 0\nmax {max}\noom {oom}\noom_kill {kills}"
-    )
+fn tell_events(events: &EventCounts, text: &mut String) -> Result<(), AllocError> {
+    text.push_str("low 0\nhigh 0\n")?;
+    for key in EventKey::ALL {
+        let name = key.name();
+        let count = events.count(key);
+        writeln!(text, "{name} {count}")?;
+    }
+    Ok(())
 }
 
 // The files of a group.
@@ -124,6 +126,7 @@ fn tell_files(core: &Core, group: GroupId, text: &mut String) -> Result<()> {
     tell_pages(core.peak(group), text)?;
     tell_events(&core.events(group), text)?;
     tell_events(&core.events_local(group), text)?;
+    text.push_str(if core.oom_group(group) { "1\n" } else { "0\n" })?;
     Ok(())
 }
 

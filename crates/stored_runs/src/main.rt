@@ -14,7 +14,7 @@ use anyhow::{Context, Result};
 use runs::replay_run;
 use std::fs;
 
-const RUNS: [&str; 11] = [
+const RUNS: [&str; 12] = [
     "frames-64.txt",
     "frames-8.txt",
     "frames-43.txt",
@@ -25,6 +25,7 @@ const RUNS: [&str; 11] = [
     "reclaim-rounds.txt",
     "kills.txt",
     "kills-by-one.txt",
+    "kills-together.txt",
     "frames-65536.txt",
 ];
 

@@ -60,6 +60,11 @@ fn group_action_of(word: &str, a: u32, b: u32, c: u32) -> Option<(u32, Action)> 
         "note" => Action::NoteMax { group },
         "oom" => Action::NoteOom { group },
         "kill" => Action::Kill { group },
+        "groupkill" => Action::NoteGroupKill { group },
+        "flag" => Action::SetFlag {
+            group,
+            oom_group: b == 1,
+        },
         "limit" => Action::SetMax {
             group,
             limit: Some(b),

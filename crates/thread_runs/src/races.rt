@@ -2,7 +2,7 @@
 //! drained and the units of `/a` are tried, while processor 2 makes 500 rounds of its own.
 
 use crate::gates::BothThreads;
-use crate::systems::{TWO_PROCESSORS, ThreadAnswers, add, holds, run_script};
+use crate::systems::{TWO_PROCESSORS, ThreadAnswers, add, events_text, holds, run_script};
 use std::process::Abort;
 use std::str;
 use std::sync::Wait;
@@ -92,8 +92,8 @@ fn is_refused_and_free(rt: &impl Abort, raced: &ThreadAnswers, last: &str) {
 fn a_stock_is_consumed_while_it_is_drained(rt: HostRuntime) {
     let first = "1 mkdir /a\n1 write /a memory.max 32K\n";
     let raced = race(&rt, first, FOUR_TAKES, "1 read /a memory.events\n");
-    let events = "low 0\nhigh 0\nmax 500\noom 0\noom_kill 0\n";
-    is_refused_and_free(&rt, &raced, events);
+    let events = events_text(&rt, [500, 0, 0, 0]);
+    is_refused_and_free(&rt, &raced, events.as_str());
     holds(&rt, answers_with(&rt, &raced, "refused") == 500);
     holds(&rt, answers_with(&rt, &raced, "frame ") == 500);
     holds(&rt, raced.audit.freezes == 0 && raced.audit.returns == 500);
@@ -110,8 +110,11 @@ fn a_unit_is_referred_to_while_it_is_reclaimed(rt: HostRuntime) {
     let first = "1 mkdir /a\n1 write /a memory.max 32K\n1 alloc /a 0\n1 settle\n";
     let last = "1 alloc /a 4\n1 owner 0\n1 read /a memory.events\n";
     let raced = race(&rt, first, FOUR_REFERENCES, last);
-    let answers = "refused 15 OverLimit /a\nfree\nlow 0\nhigh 0\nmax 501\noom 0\noom_kill 0\n";
-    is_refused_and_free(&rt, &raced, answers);
+    let mut answers = String::new(rt.alloc());
+    let events = events_text(&rt, [501, 0, 0, 0]);
+    let place = "refused 15 OverLimit /a\nfree\n";
+    add(&rt, &mut answers, &[place, events.as_str()]);
+    is_refused_and_free(&rt, &raced, answers.as_str());
     let held = answers_with(&rt, &raced, "held");
     holds(&rt, answers_with(&rt, &raced, "left 1") == held);
     let unheld = answers_with(&rt, &raced, "refused 21 NotPinned");

@@ -1,7 +1,7 @@
 //! Scripts whose lines run in a thread for each processor.
 
 use crate::gates::{HeldVisit, LineTurns};
-use crate::systems::{TWO_PROCESSORS, holds, run_script, threads_tell};
+use crate::systems::{TWO_PROCESSORS, add, events_text, holds, run_script, threads_tell};
 use mem_system::{Audit, NoGate};
 
 // Processor 1 is inside the visit of its line while processor 2 is answered all of its own.
@@ -60,9 +60,12 @@ fn a_pin_of_another_thread_outlives_a_kill(rt: HostRuntime) {
     let told = run_script(&rt, TWO_PROCESSORS, KILL_BESIDE_A_PIN, "1 blocks\n", &gate);
     let told = told.expect(&rt, "a run");
     holds(&rt, !gate.thread_was_late());
-    let answers = "group 1\ngroup 2\nok\nframe 0\nsettled\ncpu 1\nrefused 18 Killed\n4096\n\
-        low 0\nhigh 0\nmax 1\noom 1\noom_kill 1\n0\ncpu 2\nheld\nlast\nsettled\n";
-    threads_tell(&rt, &told, answers, "0:0 2:4 3:8\n");
+    let first = "group 1\ngroup 2\nok\nframe 0\nsettled\ncpu 1\nrefused 18 Killed\n4096\n";
+    let events = events_text(&rt, [1, 1, 1, 0]);
+    let last = "0\ncpu 2\nheld\nlast\nsettled\n";
+    let mut answers = String::new(rt.alloc());
+    add(&rt, &mut answers, &[first, events.as_str(), last]);
+    threads_tell(&rt, &told, answers.as_str(), "0:0 2:4 3:8\n");
 }
 
 // A script without `go`, one with a processor that has no lines, and what each is answered by threads.

@@ -125,6 +125,15 @@ pub fn add(rt: &impl Abort, text: &mut String, parts: &[&str]) {
     }
 }
 
+/// The text of an events file with these counts, in the order of its lines behind `low` and `high`.
+pub fn events_text(rt: &(impl Abort + AllocGlobal), counts: [u32; 4]) -> String {
+    let [max, oom, kills, group_kills] = counts;
+    let text = format!(in rt.alloc();
+        "low 0\nhigh 0\nmax {max}\noom {oom}\noom_kill {kills}\noom_group_kill {group_kills}\n"
+    );
+    text.expect(rt, "memory")
+}
+
 /// The lines in threads were answered so, and those after them so.
 pub fn threads_tell(rt: &impl Abort, told: &ThreadAnswers, by_threads: &str, after_threads: &str) {
     holds(rt, told.by_threads.as_slice() == by_threads.as_bytes());
