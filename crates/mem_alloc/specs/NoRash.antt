@@ -1,6 +1,6 @@
 -- No group is killed for a limit before everything else was tried. It is read from the steps of a call, and from the
 -- machine to which they lead.
-use Rattle.std.specs.Prelude.{◌≡◌, ℕ, ◌≤◌, ◌==◌, Bool, true, false, Some, List, ◌∷◌, ◌++◌}
+use Rattle.std.specs.Prelude.{◌≡◌, ℕ, ◌≤◌, ◌==◌, ◌⊎◌, Bool, true, false, Some, List, [], ◌∷◌, ◌++◌}
 use Rattle.std.specs.List.{list_any}
 use Rattle.frame_word.specs.Seats.{KnownTable}
 use Rattle.stock_word.specs.Stock.{Words}
@@ -19,7 +19,7 @@ use Rattle.mem_machine.specs.Machines.{HeadsKeptUnit, IsConsistent, KnownMachine
 use Rattle.mem_machine.specs.Local.{IsLocalRun, local_of}
 use Rattle.mem_machine.specs.Stocks.{AreDrained}
 use Rattle.mem_reclaim.specs.declared.sets.Killed.{Killed}
-use Rattle.mem_reclaim.specs.Moves.{kills_in}
+use Rattle.mem_reclaim.specs.Moves.{is_kill, kills_in}
 use Rattle.mem_reclaim.specs.Sets.{IsHead, kill_set}
 use Rattle.mem_reclaim.specs.Staying.{MissedAll}
 use Rattle.mem_reclaim.specs.Victim.{IsVictim}
@@ -72,10 +72,16 @@ pub record MayKill (MayAsk : List Group → ℕ → ℕ → Type 0) (way : Cours
   pub charges : AreCharges way.after.ledger
   pub tied : IsLeftBySteps way
 
--- The group may be killed between these steps of a call and those that come after. The first of them, `tried`, led to a
--- machine in which a victim might be killed, with all that is killed with it. Of these groups, in their order, just those
--- before this one were killed since; and the steps after kill all others of them, `left`, before any other group
-pub record MayKillBetween (table : KnownTable) (MayAsk : List Group → ℕ → ℕ → Type 0) (start : KnownMachine)
+-- the first step kills a group
+abbrev pub begins_with_kill : Run → Bool
+begins_with_kill [] = false
+begins_with_kill (entry ∷ later) = is_kill entry.0.action
+
+-- After these steps of a call, and before the others, the group may be killed. The first steps, `tried`, led to a machine
+-- in which a victim might be killed, with all that is killed with it. The kill of the first of these groups comes right
+-- after them. Of these groups, in their order, just those before this one were killed since; and the others, `left`, are
+-- killed next, before any other group
+pub record MayKillAfter (table : KnownTable) (MayAsk : List Group → ℕ → ℕ → Type 0) (start : KnownMachine)
     (cpu : KnownCpu) (before : Run) (group : ℕ) (rest : Run) : Type 0 where
   pub tried : Run
   pub since : Run
@@ -86,12 +92,13 @@ pub record MayKillBetween (table : KnownTable) (MayAsk : List Group → ℕ → 
   pub steps_are : before ≡ tried ++ since
   pub leads : IsLocalRun cpu.number (local_of table start cpu) tried (local_of table now cpu)
   pub may : MayKill MayAsk (course table start tried now) killed
+  pub at_once : (since ≡ []) ⊎ (begins_with_kill since ≡ true)
   pub set_is : kill_set now killed ≡ kills_in since ++ group ∷ left
   pub others_die : kills_in rest ≡ left ++ later
 
--- Each kill among the steps of a call is one of a set that may be killed: for each split of the list at a step that
--- kills a group, the group may be killed between the steps before and those after
+-- Each kill among the steps of a call comes where its group may be killed: for each split of the list at a step that
+-- kills a group, that may be killed after the steps before it, and before those after it
 abbrev pub NoRashKill : KnownTable → (List Group → ℕ → ℕ → Type 0) → KnownMachine → KnownCpu → Run → Type 0
 NoRashKill table MayAsk start cpu steps =
     (before rest : Run) (made : Step × Answer) (group : ℕ)
-    → steps ≡ before ++ made ∷ rest → made.0.action ≡ Kill group → MayKillBetween table MayAsk start cpu before group rest
+    → steps ≡ before ++ made ∷ rest → made.0.action ≡ Kill group → MayKillAfter table MayAsk start cpu before group rest
