@@ -5,7 +5,6 @@ use Rattle.group_tree.specs.declared.fault.Fault.TheVariants.{BadLimit, BadNumbe
 use Rattle.group_tree.specs.declared.group.Group.{Group}
 use Rattle.group_tree.specs.Groups.{has_group, number_at, limited, with_limit}
 use Rattle.group_tree.proofs.GroupLemmas.{has_group-any, has_group-contains, limited-number, list_any-map, number_at-contains}
-use Rattle.control_files.specs.declared.file.File.{File}
 use Rattle.control_files.specs.declared.file.File.TheVariants.{Max}
 use Rattle.control_files.specs.Limit.{IsNoLimitText, IsTooGreat}
 use Rattle.mem_system.specs.Files.{RefusesValue}
@@ -26,8 +25,7 @@ has_group-limited groups g n limit =
     ∙ sym (has_group-any groups n)
 
 -- a limit that isn't taken
-pub refused_value : (value : List ℕ) (file : File) (fault : Fault) → file ≡ Max
-    → (fault ≡ BadNumber) ⊎ (fault ≡ BadLimit) → (fault ≡ BadNumber → IsTooGreat value)
-    → (fault ≡ BadLimit → IsNoLimitText value) → RefusesValue file value fault
-refused_value value file fault is (inl number) great none = subst (λ (f : Fault). RefusesValue file value f) (sym number) (is, great number)
-refused_value value file fault is (inr limit) great none = subst (λ (f : Fault). RefusesValue file value f) (sym limit) (is, none limit)
+pub refused_limit : (value : List ℕ) (fault : Fault) → (fault ≡ BadNumber) ⊎ (fault ≡ BadLimit) → (fault ≡ BadNumber → IsTooGreat value)
+    → (fault ≡ BadLimit → IsNoLimitText value) → RefusesValue Max value fault
+refused_limit value fault (inl number) great none = subst (λ (f : Fault). RefusesValue Max value f) (sym number) (great number)
+refused_limit value fault (inr limit) great none = subst (λ (f : Fault). RefusesValue Max value f) (sym limit) (none limit)

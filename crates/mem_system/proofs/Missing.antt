@@ -6,6 +6,8 @@ use Rattle.frame_word.specs.Seats.{misses_of}
 use Rattle.frame_word.specs.Views.{let_go, let_go_last, passed_out_to}
 use Rattle.group_tree.specs.declared.fault.Fault.TheVariants as fault
 use Rattle.group_charge.specs.Charges.{current_of}
+use Rattle.control_files.specs.declared.file.File.{File}
+use Rattle.control_files.specs.declared.file.File.TheVariants.{Max}
 use Rattle.zone_sizes.specs.declared.config.Config.{Config}
 use Rattle.mem_machine.specs.declared.releasing.Released.TheVariants as released
 use Rattle.mem_machine.specs.Machines.{KnownMachine}
@@ -27,7 +29,7 @@ use Rattle.mem_system.specs.Allocations.{Allocates, AllocatesFor}
 use Rattle.mem_system.specs.Units.{HeadsNoUnit, NotesDirt, TouchesFrame}
 use Rattle.mem_system.specs.Releases.{ListsFrame, ReleasesFrame, ReturnsFrames}
 use Rattle.mem_system.specs.Groups.{MakesGroup, Removes}
-use Rattle.mem_system.specs.Files.{SetsLimit, Writes, with_limit_of}
+use Rattle.mem_system.specs.Files.{SetsFile, SetsLimit, Writes, with_limit_of}
 use Rattle.mem_system.specs.Commands.{Obeys}
 
 makes_counts : (path : List ℕ) (said : Reply) (way : Course KnownMachine) → MakesGroup path said way → CountsMisses way
@@ -80,8 +82,12 @@ sets_counts g of way h =
     (counts_same t way.before x (set_max_steps g of) (record { quiet = refl; no_miss = λ f. refl }) refl)
     (keeps_counts g of (course t x h.lowering way.after) h.keeps))
 
+set_counts : (file : File) (value : List ℕ) (g : ℕ) (way : Course KnownMachine) → SetsFile file value g way → CountsMisses way
+set_counts Max value g way h = sets_counts g h.limit way h.sets
+set_counts file value g way h = absurd h
+
 writes_counts : (path name value : List ℕ) (said : Reply) (way : Course KnownMachine) → Writes path name value said way → CountsMisses way
-writes_counts path name value reply.Done way h = sets_counts h.group h.limit way h.sets
+writes_counts path name value reply.Done way h = set_counts h.file value h.group way h.sets
 writes_counts path name value (reply.Refused fault) way h = counts_rest way.table way.before way.after way.steps h.1.machine h.1.steps_are
 writes_counts path name value other way h = absurd h
 
