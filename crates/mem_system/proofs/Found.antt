@@ -1,11 +1,13 @@
 -- Serves the commands that name a group: the group of a path is there.
-use Rattle.std.proofs.Common.{◌≡◌, ◌⊎◌, ℕ, true, Some, List, sym, ap, ◌∙◌, ◌==◌, map, Option, subst, inl, inr}
+use Rattle.std.proofs.Common.{◌≡◌, ◌⊎◌, ℕ, true, Some, List, sym, ap, ◌∙◌, ◌==◌, map, Option, Err, ◌≢◌, refl, subst, inl, inr}
 use Rattle.group_tree.specs.declared.fault.Fault.{Fault}
-use Rattle.group_tree.specs.declared.fault.Fault.TheVariants.{BadLimit, BadNumber}
+use Rattle.group_tree.specs.declared.fault.Fault.TheVariants.{BadLimit, BadNumber, ReadOnly}
 use Rattle.group_tree.specs.declared.group.Group.{Group}
 use Rattle.group_tree.specs.Groups.{has_group, number_at, limited, with_limit}
 use Rattle.group_tree.proofs.GroupLemmas.{has_group-any, has_group-contains, limited-number, list_any-map, number_at-contains}
-use Rattle.control_files.specs.declared.file.File.TheVariants.{Max}
+use Rattle.control_files.specs.declared.file.File.{File}
+use Rattle.control_files.specs.declared.file.File.TheVariants.{Max, OomGroup}
+use Rattle.control_files.specs.Flag.{IsFlagReading}
 use Rattle.control_files.specs.Limit.{IsNoLimitText, IsTooGreat}
 use Rattle.mem_system.specs.Files.{RefusesValue}
 
@@ -29,3 +31,14 @@ pub refused_limit : (value : List ℕ) (fault : Fault) → (fault ≡ BadNumber)
     → (fault ≡ BadLimit → IsNoLimitText value) → RefusesValue Max value fault
 refused_limit value fault (inl number) great none = subst (λ (f : Fault). RefusesValue Max value f) (sym number) (great number)
 refused_limit value fault (inr limit) great none = subst (λ (f : Fault). RefusesValue Max value f) (sym limit) (none limit)
+
+-- a flag that isn't taken
+pub refused_flag : (value : List ℕ) (fault : Fault) → IsFlagReading value (Err fault) → RefusesValue OomGroup value fault
+refused_flag value BadLimit none = none
+refused_flag value other none = absurd none
+
+-- a file that isn't written
+pub refused_file : (value : List ℕ) (file : File) → file ≢ Max → file ≢ OomGroup → RefusesValue file value ReadOnly
+refused_file value Max limit flag = absurd (limit refl)
+refused_file value OomGroup limit flag = absurd (flag refl)
+refused_file value file limit flag = tt

@@ -12,7 +12,7 @@ use Rattle.group_tree.proofs.CallerLemmas.{limit_of-limited}
 use Rattle.group_charge.specs.Charges.{current_of}
 use Rattle.zone_sizes.specs.declared.config.Config.{Config}
 use Rattle.control_files.specs.declared.file.File.{File}
-use Rattle.control_files.specs.declared.file.File.TheVariants.{Max}
+use Rattle.control_files.specs.declared.file.File.TheVariants.{Max, OomGroup}
 use Rattle.cpu_part.specs.Cpus.{KnownCpu}
 use Rattle.step_rules.specs.State.{State}
 use Rattle.step_rules.specs.After.{Run}
@@ -25,7 +25,7 @@ use Rattle.mem_machine.specs.Steps.{drain_stocks_steps, lend_steps, open_steps, 
 use Rattle.mem_reclaim.specs.Moves.{has_kill}
 use Rattle.mem_reclaim.proofs.LettingGo.{quiet_drains}
 use Rattle.mem_alloc.specs.declared.faults.AllocFault.{AllocFault}
-use Rattle.mem_alloc.specs.declared.faults.AllocFault.TheVariants.{Over, NoFrames, Killed}
+use Rattle.mem_alloc.specs.declared.faults.AllocFault.TheVariants.{Over, NoFrames, RequesterKilled}
 use Rattle.mem_alloc.specs.Kills.{has_room_at}
 use Rattle.mem_alloc.specs.Stepping.{Course, course}
 use Rattle.mem_alloc.specs.NoRash.{NoRashKill}
@@ -171,6 +171,8 @@ set_no_rash : (t : KnownTable) (cmd : Cmd) (path name value : List ℕ) (g : ℕ
 set_no_rash t cmd path name value g Max s c steps n z is asks whole h =
     sets_rash t (MayAskFor cmd s.ledger.groups) s c g h.limit steps n z (found_there s.ledger.groups path g is.number)
     (asks g h.limit (record { file = is; reads = h.reads })) whole h.sets
+set_no_rash t cmd path name value g OomGroup s c steps n z is asks whole h =
+    rash_quiet t (MayAskFor cmd s.ledger.groups) s c [] steps (ap has_kill h.sets.steps_are)
 set_no_rash t cmd path name value g file s c steps n z is asks whole h = absurd h
 
 writes_no_rash : (t : KnownTable) (cmd : Cmd) (path name value : List ℕ) (said : Reply) (s : KnownMachine) (c : KnownCpu) (steps : Run) (n : KnownMachine)
@@ -218,7 +220,7 @@ allocates_no_rash t cmd sizes path order (reply.Refused fault.BadOrder) s c step
 allocates_no_rash t cmd sizes path order (reply.Refused fault.NoFrames) s c steps n z asks whole h =
     allocates_for t cmd sizes path order (Err NoFrames) s c steps n z asks whole h
 allocates_no_rash t cmd sizes path order (reply.Refused fault.Killed) s c steps n z asks whole h =
-    allocates_for t cmd sizes path order (Err Killed) s c steps n z asks whole h
+    allocates_for t cmd sizes path order (Err RequesterKilled) s c steps n z asks whole h
 allocates_no_rash t cmd sizes path order other s c steps n z asks whole h = absurd h
 
 pub obeys_no_rash : (t : KnownTable) (sizes : Config) (cmd : Cmd) (said : Reply) (s : KnownMachine) (c : KnownCpu) (steps : Run) (n : Side) (z : State)

@@ -1,20 +1,21 @@
 -- The files of the groups: which is meant, what is read, and what a write does.
-use Rattle.std.specs.Prelude.{◌≡◌, ◌≢◌, ◌⊎◌, ℕ, Option, Some, None, List, ◌++◌}
+use Rattle.std.specs.Prelude.{◌≡◌, ◌≢◌, ◌⊎◌, ℕ, Bool, Option, Some, None, List, ◌++◌}
 use Rattle.group_tree.specs.declared.group.Group.{Group}
 use Rattle.group_tree.specs.Groups.{number_at}
 use Rattle.group_tree.specs.declared.fault.Fault.{Fault}
 use Rattle.group_tree.specs.declared.fault.Fault.TheVariants.{NoGroup, NoFile, ReadOnly, BadLimit, BadNumber}
-use Rattle.group_charge.specs.Charges.{Ledger, with_group_limit}
+use Rattle.group_charge.specs.Charges.{Ledger, with_group_limit, with_oom_flag}
 use Rattle.frame_word.specs.Seats.{KnownTable}
 use Rattle.cpu_part.specs.Cpus.{KnownCpu}
 use Rattle.control_files.specs.declared.file.File.{File}
-use Rattle.control_files.specs.declared.file.File.TheVariants.{Max}
+use Rattle.control_files.specs.declared.file.File.TheVariants.{Max, OomGroup}
 use Rattle.control_files.specs.Files.{name_of, file_text}
+use Rattle.control_files.specs.Flag.{IsFlagText, IsNoFlagText}
 use Rattle.control_files.specs.Limit.{ReadsAs, IsTooGreat, IsNoLimitText}
 use Rattle.step_rules.specs.After.{Run}
 use Rattle.mem_machine.specs.Machines.{KnownMachine, KeepsVisit, Visits}
 use Rattle.mem_machine.specs.Local.{side}
-use Rattle.mem_machine.specs.Steps.{set_max_steps}
+use Rattle.mem_machine.specs.Steps.{set_max_steps, set_oom_group_steps}
 use Rattle.mem_alloc.specs.Stepping.{Course, MachineStays, course}
 use Rattle.mem_system.specs.declared.command.Reply.{Reply}
 use Rattle.mem_system.specs.declared.command.Reply.TheVariants.{Text, Done, Refused}
@@ -72,9 +73,25 @@ pub record WritesLimit (value : List ℕ) (group : ℕ) (way : Course KnownMachi
   pub reads : ReadsAs value limit
   pub sets : SetsLimit group limit way
 
+-- the machine with another flag of the group: whether it is to be killed as a whole
+abbrev pub with_flag_of : KnownMachine → (group : ℕ) → Bool → KnownMachine
+with_flag_of machine group flag = record machine { ledger = with_oom_flag machine.ledger group flag }
+
+-- the group gets the flag, by one step, and nothing else changes: nobody is killed, and nothing is noted
+pub record SetsFlag (group : ℕ) (flag : Bool) (way : Course KnownMachine) : Type 0 where
+  pub machine : way.after ≡ with_flag_of way.before group flag
+  pub steps_are : way.steps ≡ set_oom_group_steps group flag
+
+-- the value writes a flag, and the group gets it
+pub record WritesFlag (value : List ℕ) (group : ℕ) (way : Course KnownMachine) : Type 0 where
+  pub flag : Bool
+  pub reads : IsFlagText value flag
+  pub sets : SetsFlag group flag way
+
 -- what a value sets that is written to a file of the group, and what is done then
 abbrev pub SetsFile : File → (value : List ℕ) → (group : ℕ) → Course KnownMachine → Type 0
 SetsFile Max value group way = WritesLimit value group way
+SetsFile OomGroup value group way = WritesFlag value group way
 SetsFile read_only value group way = ⊥
 
 -- why a file that is there doesn't take a value
@@ -82,6 +99,8 @@ abbrev pub RefusesValue : File → (value : List ℕ) → Fault → Type 0
 RefusesValue Max value BadLimit = IsNoLimitText value
 RefusesValue Max value BadNumber = IsTooGreat value
 RefusesValue Max value other = ⊥
+RefusesValue OomGroup value BadLimit = IsNoFlagText value
+RefusesValue OomGroup value other = ⊥
 RefusesValue read_only value ReadOnly = Unit {0}
 RefusesValue read_only value other = ⊥
 

@@ -11,6 +11,7 @@ ghost use Rattle.control_files.specs.declared.file.File.{File};
 use crate::outcome::Outcome;
 use crate::usage::lower_above;
 use control_files::file::{File, file_named};
+use control_files::flag::read_flag;
 use control_files::limit::{Limit, read_limit};
 use cpu_part::{BootName, Tables};
 use group_charge::charges::Charges;
@@ -83,6 +84,23 @@ fn write_limit<N: BootName>(
     }
 }
 
+// Says that the group is to be killed as a whole, or not, as the value says. The value is refused if it writes no flag.
+fn write_flag<N: BootName>(machine: &mut Machine<N>, group: GroupId, value: &[u8]) -> Outcome
+    requires there { IsTrue (has_group machine.old.ledger.groups group) }
+    requires below_root { group ≢ 0 }
+    ensures written { ComesToForAny N.frames result (WritesTo File.OomGroup value.now group) machine.old machine.new }
+    ensures groups { HasItsGroups machine.new.ledger result }
+    ensures stays { KeepsAnyVisit N.frames machine.old machine.new }
+{
+    match read_flag(value) {
+        Ok(flag) => {
+            machine.set_oom_group(group, flag);
+            Outcome::Done
+        }
+        Err(fault) => Outcome::Refused(fault),
+    }
+}
+
 // Writes the value to the file.
 pub(crate) fn write_file<N: BootName>(
     machine: &mut Machine<N>,
@@ -101,6 +119,7 @@ pub(crate) fn write_file<N: BootName>(
     };
     match file {
         File::Max => write_limit(machine, tables, group, value),
+        File::OomGroup => write_flag(machine, group, value),
         _ => Outcome::Refused(Fault::ReadOnly),
     }
 }
