@@ -1,5 +1,6 @@
 pub mod AncestorLemmas
 pub mod CallerLemmas
+pub mod EventLemmas
 pub mod GroupLemmas
 pub mod LinkLemmas
 pub mod PathLemmas

@@ -2,19 +2,22 @@
 use Rattle.std.specs.Prelude.{◌≡◌, ◌≢◌, ℕ, ◌<◌, ◌≤◌, ◌==◌, ◌&&◌, ◌||◌, Bool, false, not, nat_le, nat_lt, IsTrue, IsSomeAnd, Option, Some, None, is_some}
 use Rattle.std.specs.Prelude.{is_none, List, [], ◌∷◌, ◌++◌, length, slice_get, map, filter, if◌then◌else◌, All, AllPairs}
 use Rattle.std.specs.List.{find, list_any, starts_with}
-use Rattle.std.specs.Option.{option_map, option_and_then}
+use Rattle.std.specs.Option.{option_map, option_and_then, option_map_or}
 use Rattle.std.specs.Str.{bytes_eq}
 use Rattle.group_tree.specs.Path.{root_path, is_root, names_of, depth_of, parent_path, is_well_formed, IsWellFormed}
-use Rattle.group_tree.specs.declared.group.TheConstants.{MAX_GROUPS}
 use Rattle.group_tree.specs.declared.path.TheConstants.{MAX_DEPTH}
 use Rattle.group_tree.specs.declared.fault.Fault.{Fault}
 use Rattle.group_tree.specs.declared.fault.Fault.TheVariants.{NoParent, Exists, BadName, TreeFull, TooDeep}
--- a group has a number, a path and a limit in pages
+-- a group has a number, a path, a limit in pages, and a flag: whether it is killed as a whole
 pub use Rattle.group_tree.specs.declared.group.Group.{Group}
+
+-- a group as it is at first: with no limit, and its flag off
+abbrev pub new_row : ℕ → List ℕ → Group
+new_row n path = record { number = n; path = path; limit = None; oom_group = false }
 
 -- the root, as it is before a limit is set
 abbrev pub the_root : Group
-the_root = record { number = 0; path = root_path; limit = None }
+the_root = new_row 0 root_path
 
 -- the tree begins with the root alone
 abbrev pub initial_groups : List Group
@@ -39,6 +42,10 @@ path_of groups n = option_map (λ g. g.path) (group_at groups n)
 -- the limit of the group of this number, in pages
 unfoldable pub limit_of : List Group → ℕ → Option ℕ
 limit_of groups n = option_and_then (λ g. g.limit) (group_at groups n)
+
+-- memory.oom.group: the group of this number is killed as a whole
+unfoldable pub is_oom_group : List Group → ℕ → Bool
+is_oom_group groups n = option_map_or (λ g. g.oom_group) (group_at groups n) false
 
 -- both are there, and the names of the first path begin the names of the second
 abbrev pub begins : Option (List ℕ) → Option (List ℕ) → Bool
@@ -70,12 +77,12 @@ make_fault groups path =
     else (if nat_lt MAX_DEPTH (depth_of path) then Some TooDeep
     else (if is_some (number_at groups path) then Some Exists
     else (if is_none (number_at groups (parent_path path)) then Some NoParent
-    else (if nat_le MAX_GROUPS (length groups) then Some TreeFull
+    else (if nat_le 64 (length groups) then Some TreeFull
     else None))))
 
--- one more group, with no limit
+-- one more group, with no limit and its flag off
 abbrev pub with_group : List Group → ℕ → List ℕ → List Group
-with_group groups n path = groups ++ record { number = n; path = path; limit = None } ∷ []
+with_group groups n path = groups ++ new_row n path ∷ []
 
 -- the others stay in their order
 unfoldable pub without_group : List Group → ℕ → List Group
@@ -89,12 +96,21 @@ limited n limit g = if g.number == n then record g { limit = limit } else g
 unfoldable pub with_limit : List Group → ℕ → Option ℕ → List Group
 with_limit groups n limit = map (limited n limit) groups
 
--- what holds of the groups of every tree: at most 64 of them, each with a number below 64 and a path of at
--- most 8 names, no two with one number or one path; the root is the first, and each one's parent is there
+-- the group with another flag, if it has this number
+abbrev pub flagged : ℕ → Bool → Group → Group
+flagged n flag g = if g.number == n then record g { oom_group = flag } else g
+
+-- one group has another flag, and all else stays
+unfoldable pub with_oom_group : List Group → ℕ → Bool → List Group
+with_oom_group groups n flag = map (flagged n flag) groups
+
+-- what holds of the groups of every tree: at most 64 of them, each with a number below 64 and a path of at most 8 names,
+-- no two with one number or one path; the root is the first, and its flag is off; each one's parent is there
 pub record AreGroups (groups : List Group) : Type 0 where
-  pub few : length groups ≤ MAX_GROUPS
+  pub few : length groups ≤ 64
   pub root : IsSomeAnd (slice_get groups 0) (λ g. (g.number ≡ 0) × (g.path ≡ root_path))
-  pub numbers : All (λ g. g.number < MAX_GROUPS) groups
+  pub root_flag : is_oom_group groups 0 ≡ false
+  pub numbers : All (λ g. g.number < 64) groups
   pub paths : All (λ g. IsWellFormed g.path) groups
   pub depths : All (λ g. depth_of g.path ≤ MAX_DEPTH) groups
   pub numbers_distinct : AllPairs (λ g h. g.number ≢ h.number) groups

@@ -65,4 +65,6 @@ pub struct Group {
     pub path: PathText,
     /// The limit of the group's usage (memory.max), in pages; None for no limit.
     pub limit: Option<u32>,
+    /// memory.oom.group: whether the group is killed as a whole.
+    pub oom_group: bool,
 }

@@ -6,8 +6,9 @@ ghost use Rattle.std.specs.Result.{result_err};
 ghost use Rattle.group_tree.specs.Ancestors.{depth_at};
 ghost use Rattle.group_tree.specs.Links.{no_link};
 ghost use Rattle.group_tree.specs.Path.{IsWellFormed};
-ghost use Rattle.group_tree.specs.Groups.{AreGroups, IsLeastFreeNumber, group_at, has_child, has_group, in_subtree, initial_groups, limit_of, limited};
-ghost use Rattle.group_tree.specs.Groups.{make_fault, number_at, parent_of, path_of, the_root, with_group, with_limit, without_group};
+ghost use Rattle.group_tree.specs.Groups.{AreGroups, IsLeastFreeNumber, flagged, group_at, has_child, has_group, in_subtree, initial_groups};
+ghost use Rattle.group_tree.specs.Groups.{is_oom_group, limit_of, limited, make_fault, number_at, parent_of, path_of, the_root, with_group};
+ghost use Rattle.group_tree.specs.Groups.{with_limit, with_oom_group, without_group};
 
 use crate::fault::Fault;
 use crate::group::{Group, GroupId, MAX_GROUPS};
@@ -122,6 +123,16 @@ impl Tree {
         link.limit
     }
 
+    /// Whether a group that is there is killed as a whole (memory.oom.group); the root never is.
+    #[tactic(auto, unfolding(crate::specs::Groups::has_group, crate::specs::Groups::is_oom_group))]
+    pub fn oom_group(&self, g: GroupId) -> bool
+        requires { IsTrue (has_group self.now g) }
+        ensures { result ≡ is_oom_group self.now g }
+    {
+        let _ = &self.rows;
+        self.row(g).unwrap().oom_group
+    }
+
     /// The group just above one that is there; None exactly for the root.
     #[inline]
     pub fn parent(&self, g: GroupId) -> Option<GroupId>
@@ -220,8 +231,8 @@ impl Tree {
         GroupId::of(number).unwrap()
     }
 
-    /// Makes a group with the least free number and no limit. It is refused as `make_fault` says, and
-    /// the tree is then as before.
+    /// Makes a group with the least free number and no limit, whose flag is off. It is refused as
+    /// `make_fault` says, and the tree is then as before.
     pub fn make(&mut self, path: &[u8]) -> Result<GroupId, Fault>
         ensures made { IfOk result (λ n. self.new ≡ with_group self.old n path.now) }
         ensures least { IfOk result (λ n. IsLeastFreeNumber self.old n) }
@@ -241,6 +252,7 @@ impl Tree {
             number,
             path,
             limit: None,
+            oom_group: false,
         };
         self.rows.push(row).unwrap();
         self.links[number.number() as usize] = Link {
@@ -259,6 +271,15 @@ impl Tree {
     {
         set_limit(self.rows.as_mut_slice(), g, limit);
         self.links[g.number() as usize].limit = limit;
+    }
+
+    /// Says whether a group that is there, other than the root, is killed as a whole.
+    pub fn set_oom_group(&mut self, g: GroupId, oom_group: bool)
+        requires there { IsTrue (has_group self.old g) }
+        requires below_root { g ≢ 0 }
+        ensures { self.new ≡ with_oom_group self.old g oom_group }
+    {
+        set_flag(self.rows.as_mut_slice(), g, oom_group);
     }
 
     /// Takes out a group that is there, other than the root, with no group below it. Its number is
@@ -283,6 +304,7 @@ fn root_group() -> Group
         number: GroupId::root(),
         path: PathText::of(b"/").unwrap(),
         limit: None,
+        oom_group: false,
     }
 }
 
@@ -313,5 +335,23 @@ fn set_limit_of_row(row: &mut Group, g: GroupId, limit: Option<u32>)
 {
     if row.number == g {
         row.limit = limit;
+    }
+}
+
+// Writes the flag into the group's row.
+fn set_flag(rows: &mut [Group], g: GroupId, oom_group: bool)
+    ensures { rows.new ≡ with_oom_group rows.old g oom_group }
+{
+    for row in rows.iter_mut() {
+        set_flag_of_row(row, g, oom_group);
+    }
+}
+
+// Writes the flag into the row, if it is the group's.
+fn set_flag_of_row(row: &mut Group, g: GroupId, oom_group: bool)
+    ensures { row.new ≡ flagged g oom_group row.old }
+{
+    if row.number == g {
+        row.oom_group = oom_group;
     }
 }

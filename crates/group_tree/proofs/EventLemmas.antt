@@ -1,0 +1,36 @@
+-- Counts of events by key. Serves `EventCounts`, and crates above.
+use Rattle.std.proofs.Common.{◌≡◌, ℕ, Bool, true, refl, if◌then◌else◌, ap, sym, ◌∙◌, get_or}
+use Rattle.std.proofs.lemmas.Bool.{eq-eqb, eqb-true}
+use Rattle.group_tree.specs.declared.event.EventKey.TheVariants.{Max, Oom, OomKill, OomGroupKill}
+use Rattle.group_tree.specs.Events.{EventKey, EventCounts, all_keys, key_index, is_same_key, no_events, count_of, with_one_more}
+use Rattle.group_tree.specs.Room.{one_more}
+
+-- one more event of a kind: its count is one more, and each other count stays
+pub counted : (kind key : EventKey) (counts : EventCounts) →
+    count_of (with_one_more kind counts) key ≡ (if is_same_key key kind then one_more (count_of counts key) else count_of counts key)
+unfolding count_of with_one_more
+counted kind Max counts = refl
+counted kind Oom counts = refl
+counted kind OomKill counts = refl
+counted kind OomGroupKill counts = refl
+
+-- at first each count is 0
+pub none_counted : (key : EventKey) → count_of no_events key ≡ 0
+unfolding count_of
+none_counted Max = refl
+none_counted Oom = refl
+none_counted OomKill = refl
+none_counted OomGroupKill = refl
+
+-- ---- the test of keys
+key_at : (key : EventKey) → get_or all_keys (key_index key) Max ≡ key
+key_at Max = refl
+key_at Oom = refl
+key_at OomKill = refl
+key_at OomGroupKill = refl
+
+pub is_same_key-refl : (key : EventKey) → is_same_key key key ≡ true
+is_same_key-refl key = eq-eqb (key_index key) (key_index key) refl
+
+pub same_key : (j k : EventKey) → is_same_key j k ≡ true → j ≡ k
+same_key j k e = sym (key_at j) ∙ ap (λ n. get_or all_keys n Max) (eqb-true (key_index j) (key_index k) e) ∙ key_at k

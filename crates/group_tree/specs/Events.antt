@@ -1,0 +1,47 @@
+-- The kinds of event that are counted (the keys of memory.events, cgroup-v2.rst), and counts by kind.
+use Rattle.std.specs.Prelude.{ℕ, ◌==◌, Bool, List, [], ◌∷◌, map, if◌then◌else◌, codes}
+use Rattle.std.specs.List.{slice_index_or}
+use Rattle.group_tree.specs.declared.event.EventKey.TheVariants.{Max, Oom, OomKill, OomGroupKill}
+use Rattle.group_tree.specs.Room.{one_more}
+-- usage was about to go over the limit, the limit could not be kept by reclaim, a group was killed, and a group was
+-- killed as a whole
+pub use Rattle.group_tree.specs.declared.event.EventKey.{EventKey}
+
+-- all keys, in the order of the lines of memory.events
+abbrev pub all_keys : List EventKey
+all_keys = Max ∷ Oom ∷ OomKill ∷ OomGroupKill ∷ []
+
+-- where a key stands among all
+abbrev pub key_index : EventKey → ℕ
+key_index Max = 0
+key_index Oom = 1
+key_index OomKill = 2
+key_index OomGroupKill = 3
+
+-- the key, as memory.events writes it
+abbrev pub key_name : EventKey → List ℕ
+key_name Max = codes "max"
+key_name Oom = codes "oom"
+key_name OomKill = codes "oom_kill"
+key_name OomGroupKill = codes "oom_group_kill"
+
+-- both are one key
+abbrev pub is_same_key : EventKey → EventKey → Bool
+is_same_key j k = key_index j == key_index k
+
+-- counts of events: one for each key, in the order of the keys
+abbrev pub EventCounts : Type 0
+EventCounts = List ℕ
+
+-- nothing has happened
+abbrev pub no_events : EventCounts
+no_events = map (λ key. 0) all_keys
+
+-- how often events of this kind happened
+unfoldable pub count_of : EventCounts → EventKey → ℕ
+count_of counts key = slice_index_or counts (key_index key) 0
+
+-- one more event of this kind; the other counts stay
+unfoldable pub with_one_more : EventKey → EventCounts → EventCounts
+with_one_more kind counts =
+    map (λ key. if is_same_key key kind then one_more (count_of counts key) else count_of counts key) all_keys

@@ -1,0 +1,103 @@
+//! The events that are counted for a group, and their counts.
+
+ghost use Rattle.std.specs.Prelude.{◌≡◌, ◌<◌};
+ghost use Rattle.group_tree.specs.Events.{count_of, key_index, key_name, no_events, with_one_more};
+
+use std::marker::Model;
+
+// How many kinds of event there are.
+const KEYS: usize = 4;
+
+/// The kinds of event that are counted, by the keys of memory.events. There is no memory.low and no
+/// memory.high, so nothing is counted for them.
+#[derive(Clone, Copy, Debug, PartialEq, Eq)]
+pub enum EventKey {
+    /// Usage was about to go over the limit.
+    Max,
+    /// An allocation was about to fail at the limit, and killing was an option.
+    Oom,
+    /// A group was killed.
+    OomKill,
+    /// A group was killed as a whole.
+    OomGroupKill,
+}
+
+impl EventKey {
+    /// All keys, in the order of the lines of memory.events.
+    pub const ALL: [EventKey; 4] = [
+        EventKey::Max,
+        EventKey::Oom,
+        EventKey::OomKill,
+        EventKey::OomGroupKill,
+    ];
+
+    /// The key, as memory.events writes it.
+    pub fn name(self) -> &'static str
+        ensures { result.now ≡ key_name self }
+    {
+        match self {
+            EventKey::Max => "max",
+            EventKey::Oom => "oom",
+            EventKey::OomKill => "oom_kill",
+            EventKey::OomGroupKill => "oom_group_kill",
+        }
+    }
+
+    // Where the count of the key stands.
+    fn index(self) -> usize
+        ensures value { result ≡ key_index self }
+        ensures below { result < 4 }
+    {
+        match self {
+            EventKey::Max => 0,
+            EventKey::Oom => 1,
+            EventKey::OomKill => 2,
+            EventKey::OomGroupKill => 3,
+        }
+    }
+}
+
+/// How often each kind of event happened. A count stays at 2^64 - 1.
+#[derive(Clone, Copy, Debug, PartialEq, Eq)]
+pub struct EventCounts {
+    // In the order of the keys.
+    counts: [u64; KEYS],
+}
+
+impl Model for EventCounts {
+    ghost use Rattle.std.specs.Prelude.{◌≡◌, ℕ, List, length};
+
+    ghost Value = { List ℕ };
+
+    ghost view = { λ c. c.counts };
+
+    ghost invariant = { λ c. length c.counts ≡ 4 };
+
+    ghost inverse = { λ counts. record { counts = counts } };
+}
+
+impl EventCounts {
+    /// Nothing has happened.
+    pub fn none() -> EventCounts
+        ensures { result ≡ no_events }
+    {
+        EventCounts { counts: [0; KEYS] }
+    }
+
+    /// How often events of this kind happened.
+    pub fn count(&self, key: EventKey) -> u64
+        ensures { result ≡ count_of self.now key }
+    {
+        self.counts[key.index()]
+    }
+
+    /// The counts after one more event of this kind.
+    pub fn with_one_more(self, key: EventKey) -> EventCounts
+        ensures { result ≡ with_one_more key self }
+    {
+        let mut counts = self.counts;
+        let index = key.index();
+        counts[index] = counts[index].saturating_add(1);
+        EventCounts { counts }
+    }
+}
