@@ -13,9 +13,11 @@ mod passes;
 mod reclaiming;
 mod rounds;
 mod scan;
+mod sets;
 mod victims;
 
 pub use kills::kill;
 pub use reclaiming::{Reclaimed, reclaim};
 pub use rounds::{MAX_ROUNDS, make_rounds};
+pub use sets::Killed;
 pub use victims::victim;
