@@ -15,7 +15,7 @@ use Rattle.mem_machine.specs.Steps.{Drain, unlist_steps, drain_list_steps, drain
 use Rattle.mem_reclaim.specs.Moves.{missed_in}
 use Rattle.mem_reclaim.proofs.LettingGo.{AreQuiet, misses_put, quiet_both, quiet_drain, quiet_drains}
 use Rattle.mem_alloc.specs.declared.faults.AllocFault.{AllocFault}
-use Rattle.mem_alloc.specs.declared.faults.AllocFault.TheVariants.{Over, NoFrames, Killed}
+use Rattle.mem_alloc.specs.declared.faults.AllocFault.TheVariants.{Over, NoFrames, RequesterKilled}
 use Rattle.mem_alloc.specs.Stepping.{CountsMisses, Course, InTurn, OfMachineAlone, Stays, Where, course, of_machine}
 use Rattle.mem_alloc.specs.Kills.{KillsEach, KillsFor, KillsOne, has_room_at, with_oom_noted_at}
 use Rattle.mem_alloc.specs.Room.{AfterRoom, ClearsBelow, IsRefusedAt, IsRefusedFor, IsRefusedAtSome, KillsForFew, MakesRoom, RelievesLimit, with_max_noted_at}
@@ -255,7 +255,7 @@ fills_count sizes (Err NoFrames) way h =
     counts_turns (RefillsInRounds sizes.batch false) (Where HasNoFreeFrame DrainsStock) (refills_count sizes.batch false)
     (λ last drains. drains_count last drains.does) way h.does.does
 fills_count sizes (Err (Over over)) way h = absurd h
-fills_count sizes (Err Killed) way h = absurd h
+fills_count sizes (Err RequesterKilled) way h = absurd h
 
 stock_counts : (g pages : ℕ) → AllCounted (FillsStock g pages)
 stock_counts g pages way h =
@@ -307,8 +307,8 @@ frame_counts sizes g (Err (Over over)) way h = pays_count sizes g (Err (Over ove
 frame_counts sizes g (Err NoFrames) way h =
     counts_turns (PaysForFrame sizes g (Ok tt)) (FillsList sizes (Err NoFrames)) (pays_count sizes g (Ok tt))
     (fills_count sizes (Err NoFrames)) way h.does
-frame_counts sizes g (Err Killed) way (inl h) = counts_stay way h.does
-frame_counts sizes g (Err Killed) way (inr h) = pays_count sizes g (Err Killed) way h.does
+frame_counts sizes g (Err RequesterKilled) way (inl h) = counts_stay way h.does
+frame_counts sizes g (Err RequesterKilled) way (inr h) = pays_count sizes g (Err RequesterKilled) way h.does
 
 -- ---- a block
 
@@ -335,7 +335,7 @@ rounds_count g k (Ok head) way h =
     succeeds_count (2 ^ k) (FindsNoBlock g k) (finds_none_counts g k) 16 (TakesFreeBlock g k head) (takes_count g k head) way h
 rounds_count g k (Err NoFrames) way h = fails_count (2 ^ k) (FindsNoBlock g k) (finds_none_counts g k) 16 way h
 rounds_count g k (Err (Over over)) way h = absurd h
-rounds_count g k (Err Killed) way h = absurd h
+rounds_count g k (Err RequesterKilled) way h = absurd h
 
 or_reclaims_count : (g k : ℕ) (answer : Result ℕ AllocFault) → AllCounted (TakesOrReclaims g k answer)
 or_reclaims_count g k (Ok head) way (inl h) = takes_count g k head way h
@@ -356,7 +356,7 @@ charged_counts : (g k : ℕ) (answer : Result ℕ AllocFault) → AllCounted (Ch
 charged_counts g k (Ok head) way h = after_room_counts g (2 ^ k) (TakesFreeBlock g k head) (takes_count g k head) way h
 charged_counts g k (Err (Over over)) way h = refusal_counts g (2 ^ k) (Over over) way h
 charged_counts g k (Err NoFrames) way h = after_room_counts g (2 ^ k) (FindsNoBlock g k) (finds_none_counts g k) way h
-charged_counts g k (Err Killed) way h = refusal_counts g (2 ^ k) Killed way h
+charged_counts g k (Err RequesterKilled) way h = refusal_counts g (2 ^ k) RequesterKilled way h
 
 retries_count : (g k : ℕ) (answer : Result ℕ AllocFault) → AllCounted (RetriesBlock g k answer)
 retries_count g k answer way h =
@@ -368,5 +368,5 @@ block_counts g k (Ok head) way (inl h) = charged_counts g k (Ok head) way h.does
 block_counts g k (Ok head) way (inr h) = retries_count g k (Ok head) way h.does
 block_counts g k (Err (Over over)) way h = charged_counts g k (Err (Over over)) way h.does
 block_counts g k (Err NoFrames) way h = retries_count g k (Err NoFrames) way h.does
-block_counts g k (Err Killed) way (inl h) = counts_stay way h.does
-block_counts g k (Err Killed) way (inr h) = charged_counts g k (Err Killed) way h.does
+block_counts g k (Err RequesterKilled) way (inl h) = counts_stay way h.does
+block_counts g k (Err RequesterKilled) way (inr h) = charged_counts g k (Err RequesterKilled) way h.does
