@@ -1,13 +1,14 @@
 -- Serves the commands that name a group: the group of a path is there.
-use Rattle.std.proofs.Common.{◌≡◌, ◌⊎◌, ℕ, true, Some, List, sym, ap, ◌∙◌, ◌==◌, map, Option, Err, ◌≢◌, refl, subst, inl, inr}
+use Rattle.std.proofs.Common.{◌≡◌, ◌⊎◌, ℕ, true, Some, List, sym, ap, ◌∙◌, ◌==◌, map, Option, ◌≢◌, false, refl, subst, inl, inr}
 use Rattle.group_tree.specs.declared.fault.Fault.{Fault}
-use Rattle.group_tree.specs.declared.fault.Fault.TheVariants.{BadLimit, BadNumber, ReadOnly}
+use Rattle.group_tree.specs.declared.fault.Fault.TheVariants.{BadLimit, BadNumber}
 use Rattle.group_tree.specs.declared.group.Group.{Group}
 use Rattle.group_tree.specs.Groups.{has_group, number_at, limited, with_limit}
 use Rattle.group_tree.proofs.GroupLemmas.{has_group-any, has_group-contains, limited-number, list_any-map, number_at-contains}
 use Rattle.control_files.specs.declared.file.File.{File}
-use Rattle.control_files.specs.declared.file.File.TheVariants.{Max, OomGroup}
-use Rattle.control_files.specs.Flag.{IsFlagReading}
+use Rattle.control_files.specs.declared.file.File.TheVariants.{Current, Max, Peak, Events, EventsLocal, OomGroup}
+use Rattle.control_files.specs.Files.{is_writable}
+use Rattle.control_files.specs.Flag.{IsNoFlagText}
 use Rattle.control_files.specs.Limit.{IsNoLimitText, IsTooGreat}
 use Rattle.mem_system.specs.Files.{RefusesValue}
 
@@ -33,12 +34,14 @@ refused_limit value fault (inl number) great none = subst (λ (f : Fault). Refus
 refused_limit value fault (inr limit) great none = subst (λ (f : Fault). RefusesValue Max value f) (sym limit) (none limit)
 
 -- a flag that isn't taken
-pub refused_flag : (value : List ℕ) (fault : Fault) → IsFlagReading value (Err fault) → RefusesValue OomGroup value fault
-refused_flag value BadLimit none = none
-refused_flag value other none = absurd none
+pub refused_flag : (value : List ℕ) (fault : Fault) → fault ≡ BadLimit → (fault ≡ BadLimit → IsNoFlagText value) → RefusesValue OomGroup value fault
+refused_flag value fault limit none = subst (λ (f : Fault). RefusesValue OomGroup value f) (sym limit) (none limit)
 
--- a file that isn't written
-pub refused_file : (value : List ℕ) (file : File) → file ≢ Max → file ≢ OomGroup → RefusesValue file value ReadOnly
-refused_file value Max limit flag = absurd (limit refl)
-refused_file value OomGroup limit flag = absurd (flag refl)
-refused_file value file limit flag = tt
+-- every other file is only read
+pub only_read : (file : File) → file ≢ Max → file ≢ OomGroup → is_writable file ≡ false
+only_read Max limit flag = absurd (limit refl)
+only_read OomGroup limit flag = absurd (flag refl)
+only_read Current limit flag = refl
+only_read Peak limit flag = refl
+only_read Events limit flag = refl
+only_read EventsLocal limit flag = refl

@@ -1,5 +1,5 @@
 -- The files of the groups: which is meant, what is read, and what a write does.
-use Rattle.std.specs.Prelude.{◌≡◌, ◌≢◌, ◌⊎◌, ℕ, Bool, Option, Some, None, List, ◌++◌}
+use Rattle.std.specs.Prelude.{◌≡◌, ◌≢◌, ◌⊎◌, ℕ, Bool, false, Option, Some, None, List, ◌++◌}
 use Rattle.group_tree.specs.declared.group.Group.{Group}
 use Rattle.group_tree.specs.Groups.{number_at}
 use Rattle.group_tree.specs.declared.fault.Fault.{Fault}
@@ -9,7 +9,7 @@ use Rattle.frame_word.specs.Seats.{KnownTable}
 use Rattle.cpu_part.specs.Cpus.{KnownCpu}
 use Rattle.control_files.specs.declared.file.File.{File}
 use Rattle.control_files.specs.declared.file.File.TheVariants.{Max, OomGroup}
-use Rattle.control_files.specs.Files.{name_of, file_text}
+use Rattle.control_files.specs.Files.{name_of, file_text, is_writable}
 use Rattle.control_files.specs.Flag.{IsFlagText, IsNoFlagText}
 use Rattle.control_files.specs.Limit.{ReadsAs, IsTooGreat, IsNoLimitText}
 use Rattle.step_rules.specs.After.{Run}
@@ -94,15 +94,13 @@ SetsFile Max value group way = WritesLimit value group way
 SetsFile OomGroup value group way = WritesFlag value group way
 SetsFile read_only value group way = ⊥
 
--- why a file that is there doesn't take a value
+-- why a file that is there doesn't take a value: it isn't written at all, or this is no value of it
 abbrev pub RefusesValue : File → (value : List ℕ) → Fault → Type 0
+RefusesValue file value ReadOnly = is_writable file ≡ false
 RefusesValue Max value BadLimit = IsNoLimitText value
 RefusesValue Max value BadNumber = IsTooGreat value
-RefusesValue Max value other = ⊥
 RefusesValue OomGroup value BadLimit = IsNoFlagText value
-RefusesValue OomGroup value other = ⊥
-RefusesValue read_only value ReadOnly = Unit {0}
-RefusesValue read_only value other = ⊥
+RefusesValue file value fault = ⊥
 
 -- a value is written to a file that is there: it is set, or it is refused, and nothing changed
 abbrev pub WritesTo : File → (value : List ℕ) → (group : ℕ) → Reply → Course KnownMachine → Type 0

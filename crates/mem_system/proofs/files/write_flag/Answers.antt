@@ -1,4 +1,4 @@
-use Rattle.std.proofs.Common.{ap, refl}
+use Rattle.std.proofs.Common.{ap, refl, Err}
 use Rattle.control_files.specs.declared.file.File.TheVariants.{OomGroup}
 use Rattle.cpu_part.specs.Cpus.{KnownCpu}
 use Rattle.mem_machine.specs.Machines.{KnownMachine}
@@ -14,7 +14,7 @@ returns-in-Ok-clause-written g c =
       steps = set_oom_group_steps c.args.group c.in-Ok.flag;
       does = record {
         flag = c.in-Ok.flag;
-        reads = c.in-Ok.ensures;
+        reads = (c.in-Ok.ensures.ok c.in-Ok.flag).0 refl;
         sets = record { machine = set.machine; steps_are = refl };
       };
       makes = set.steps;
@@ -28,5 +28,6 @@ returns-in-Ok-clause-stays g c =
 
 pub returns-in-Err-clause-written : goal.returns-in-Err-clause-written
 returns-in-Err-clause-written g c =
+    let told = c.in-Err.ensures in
     refused_by g.N.BootName.frames OomGroup c.args.value.now c.args.group c.in-Err.fault c.args.machine.now
-    (refused_flag c.args.value.now c.in-Err.fault c.in-Err.ensures)
+    (refused_flag c.args.value.now c.in-Err.fault told.err (λ e. told.bad_limit.0 (ap Err e)))
