@@ -159,10 +159,10 @@ AreCharges-limited l g limit facts =
     (numbers-kept (limited g limit) (limited-number g limit) l.groups) (λ k h. in_subtree-limited l.groups g k h limit) facts
 
 -- and after a flag
-pub AreCharges-flagged : (l : Ledger) (g : ℕ) (flag : Bool) → g ≢ 0 → AreCharges l → AreCharges (with_oom_flag l g flag)
+pub AreCharges-flagged : (l : Ledger) (g : ℕ) (flag : Bool) → AreCharges l → g ≢ 0 → AreCharges (with_oom_flag l g flag)
 unfolding with_oom_group
-AreCharges-flagged l g flag below facts =
-    AreCharges-as l (with_oom_group l.groups g flag) (AreGroups-flagged l.groups g flag below facts.groups)
+AreCharges-flagged l g flag facts below =
+    AreCharges-as l (with_oom_group l.groups g flag) (AreGroups-flagged l.groups g flag facts.groups below)
     (numbers-kept (flagged g flag) (flagged-number g flag) l.groups) (λ k h. in_subtree-flagged l.groups g k h flag) facts
 
 -- and after a note

@@ -11,8 +11,8 @@ use Rattle.group_tree.specs.declared.group.Group.{Group}
 use Rattle.group_tree.specs.Events.{EventKey, no_events, with_one_more}
 use Rattle.group_tree.specs.Groups.{group_at, has_group, in_subtree, without_group}
 use Rattle.group_tree.specs.Room.{at_group, on_path, peak_after}
-use Rattle.group_tree.proofs.GroupLemmas.{find-filter, found_in, found_passes, is_some-find}
-use Rattle.group_tree.proofs.CallerLemmas.{find-map, in_subtree-above, in_subtree-refl}
+use Rattle.group_tree.proofs.GroupLemmas.{find-filter, find-map, found_in, found_passes, is_some-find}
+use Rattle.group_tree.proofs.CallerLemmas.{in_subtree-above, in_subtree-refl}
 use Rattle.group_charge.specs.Charges.{Account, Ledger, AreCharges, CountsEvent, PagesRise, PeaksRise, SameEvents, SamePages, SamePeaks, account_at}
 use Rattle.group_charge.specs.Charges.{pages_of, peak_of, events_of, events_local_of, current_of, usage_of, added, taken, peaked, with_event_at, charged}
 use Rattle.group_charge.specs.Charges.{empty_account, with_charge, with_uncharge, with_noted, with_new_group}
