@@ -3,7 +3,7 @@ use Rattle.std.proofs.Common.{◌≡◌, ◌≢◌, ℕ, zero, suc, ◌+◌, ◌
 use Rattle.std.proofs.Common.{[], ◌∷◌, ◌++◌, length, map, drop, slice_get, IsSomeAnd, Contains, refl, sym, ap, ◌∙◌, subst, arith, inl, inr, ⊎_elim}
 use Rattle.std.proofs.Common.{◌⊎◌, length-append}
 use Rattle.std.specs.List.{find, starts_with}
-use Rattle.std.specs.Option.{option_map, option_and_then, option_or}
+use Rattle.std.specs.Option.{option_map, option_map_or, option_and_then, option_or}
 use Rattle.std.specs.Str.{bytes_eq}
 use Rattle.std.proofs.lemmas.Bool.{eq-eqb, ne_eqb, both_ways, cases_Bool, cases_eq, cases_lt, true≢false, false≢true, false_from_ne_true}
 use Rattle.std.proofs.lemmas.Bool.{cond-true, cond-false}
@@ -13,12 +13,13 @@ use Rattle.std.proofs.lemmas.List.Folds.{find-append}
 use Rattle.std.proofs.lemmas.Option.{none-some, same_Some}
 use Rattle.group_tree.specs.Path.{root_path, is_root, names_of, depth_of, parent_path, IsWellFormed}
 use Rattle.group_tree.specs.Groups.{Group, group_at, number_at, has_group, path_of, limit_of, begins, in_subtree, parent_of, with_group}
-use Rattle.group_tree.specs.Groups.{without_group, with_limit, limited, AreGroups}
+use Rattle.group_tree.specs.Groups.{new_row, without_group, with_limit, limited, with_oom_group, flagged, is_oom_group, AreGroups}
 use Rattle.group_tree.proofs.PathLemmas.{begins_names, begins_from_names, begins_from_well_formed, slashed, slashed-names, has_name, names-root}
 use Rattle.group_tree.proofs.PathLemmas.{root-from_test, names_parent, begins_parent, begins_root}
 use Rattle.group_tree.proofs.GroupLemmas.{CanMake, some_is, is_some-map, has_group-is, group_at-contains, group_at-there}
 use Rattle.group_tree.proofs.GroupLemmas.{number_at-contains, number_at-there, path_of-at, path_of-is, path_of-formed, in_subtree-paths}
-use Rattle.group_tree.proofs.GroupLemmas.{parent_of-below, parent_of-root, group_at-without, limited-number, limited-path}
+use Rattle.group_tree.proofs.GroupLemmas.{parent_of-below, parent_of-root, group_at-without, KeepsNames, group_at-changed, limited-keeps}
+use Rattle.group_tree.proofs.GroupLemmas.{flagged-keeps, flagged-limit, is_oom_group-with}
 
 -- ---- who is in a subtree
 -- the two groups of a pair in the relation, with the names that the lower one has more
@@ -154,7 +155,7 @@ in_subtree-antisym groups g h facts a b =
 le_or_lt : (a b : ℕ) → (a ≤ b) ⊎ (b < a)
 le_or_lt a b = ⊎_elim (λ lt. inr lt) (λ le. inl le) (cases_lt b a)
 
--- two groups above one are above one another
+-- two lists that begin one list begin one another
 front_front : (a b x y : List (List ℕ)) → a ++ x ≡ b ++ y → length a ≤ length b → (m : List (List ℕ)) × (b ≡ a ++ m)
 front_front [] b x y e h = (b, refl)
 front_front (n ∷ ns) [] x y e h = absurd (omega arith)
@@ -164,6 +165,25 @@ front_front (n ∷ ns) (k ∷ ks) x y e h =
     let w = front_front ns ks x y tail (omega arith) in
     (w.0, ap (λ z. z ∷ ks) (sym head) ∙ ap (λ z. n ∷ z) w.1)
 
+-- two groups above one: the first is above the second, or the second above the first
+pub either_above : (groups : List Group) (f g h : ℕ) → in_subtree groups f h ≡ true → in_subtree groups g h ≡ true →
+    (in_subtree groups f g ≡ true) ⊎ (in_subtree groups g f ≡ true)
+either_above groups f g h a b =
+    let s = in_subtree-is groups f h a in
+    let t = in_subtree-is groups g h b in
+    let same : s.below ≡ t.below = same_Some s.below t.below (sym s.path_below ∙ t.path_below) in
+    let fronts : names_of s.above ++ s.more ≡ names_of t.above ++ t.more = sym s.names ∙ ap names_of same ∙ t.names in
+    ⊎_elim
+    (λ le.
+    let m = front_front (names_of s.above) (names_of t.above) s.more t.more fronts le in
+    inl (in_subtree-from groups f g
+    (record { above = s.above; below = t.above; more = m.0; path_above = s.path_above; path_below = t.path_above; names = m.1 })))
+    (λ lt.
+    let m = front_front (names_of t.above) (names_of s.above) t.more s.more (sym fronts) (omega arith) in
+    inr (in_subtree-from groups g f
+    (record { above = t.above; below = s.above; more = m.0; path_above = t.path_above; path_below = s.path_above; names = m.1 })))
+    (le_or_lt (length (names_of s.above)) (length (names_of t.above)))
+
 -- ---- what a change leaves
 or-none : {X : Type 0} (o : Option X) → option_or o None ≡ o
 or-none None = refl
@@ -172,20 +192,6 @@ or-none (Some x) = refl
 no_some : {X : Type 0} (o : Option X) → is_some o ≡ false → o ≡ None
 no_some None e = refl
 no_some (Some x) e = absurd (true≢false e)
-
-pub find-map : {X : Type 0} (p : X → Bool) (f : X → X) → ((x : X) → p (f x) ≡ p x) → (xs : List X) → find p (map f xs) ≡ option_map f (find p xs)
-find-map p f same [] = refl
-find-map p f same (x ∷ xs) =
-    ⊎_elim
-    (λ t. cond-true (p (f x)) (Some (f x)) (find p (map f xs)) (same x ∙ t) ∙ ap (option_map f) (sym (cond-true (p x) (Some x) (find p xs) t)))
-    (λ n. cond-false (p (f x)) (Some (f x)) (find p (map f xs)) (same x ∙ n) ∙ find-map p f same xs
-    ∙ ap (option_map f) (sym (cond-false (p x) (Some x) (find p xs) n)))
-    (cases_Bool (p x))
-
-map-same_path : (n : ℕ) (limit : Option ℕ) (o : Option Group) →
-    option_map (λ (g : Group). g.path) (option_map (limited n limit) o) ≡ option_map (λ (g : Group). g.path) o
-map-same_path n limit None = refl
-map-same_path n limit (Some g) = ap Some (limited-path n limit g)
 
 other_limit : (groups : List Group) (n k : ℕ) (limit : Option ℕ) (o : Option Group) → group_at groups k ≡ o → k ≢ n →
     option_and_then (λ (g : Group). g.limit) (option_map (limited n limit) o) ≡ option_and_then (λ (g : Group). g.limit) o
@@ -197,24 +203,19 @@ other_limit groups n k limit (Some g) e other =
 pub group_at-with : (groups : List Group) (n k : ℕ) (path : List ℕ) → k ≢ n → group_at (with_group groups n path) k ≡ group_at groups k
 unfolding group_at
 group_at-with groups n k path other =
-    let new : Group = record { number = n; path = path; limit = None } in
+    let new : Group = new_row n path in
     let none : find (λ (g : Group). g.number == k) (new ∷ []) ≡ None = cond-false (n == k) (Some new) None (ne_eqb n k (λ e. other (sym e))) in
     find-append (λ (g : Group). g.number == k) groups (new ∷ []) ∙ ap (option_or (find (λ (g : Group). g.number == k) groups)) none
     ∙ or-none (find (λ (g : Group). g.number == k) groups)
 
 pub group_at-with_new : (groups : List Group) (n : ℕ) (path : List ℕ) → has_group groups n ≡ false →
-    group_at (with_group groups n path) n ≡ Some (record { number = n; path = path; limit = None })
+    group_at (with_group groups n path) n ≡ Some (new_row n path)
 unfolding group_at has_group
 group_at-with_new groups n path free =
-    let new : Group = record { number = n; path = path; limit = None } in
+    let new : Group = new_row n path in
     let here : find (λ (g : Group). g.number == n) (new ∷ []) ≡ Some new = cond-true (n == n) (Some new) None (eq-eqb n n refl) in
     find-append (λ (g : Group). g.number == n) groups (new ∷ [])
     ∙ ap (λ o. option_or o (find (λ (g : Group). g.number == n) (new ∷ []))) (no_some (find (λ (g : Group). g.number == n) groups) free) ∙ here
-
-pub group_at-limited : (groups : List Group) (n k : ℕ) (limit : Option ℕ) →
-    group_at (with_limit groups n limit) k ≡ option_map (limited n limit) (group_at groups k)
-unfolding group_at with_limit
-group_at-limited groups n k limit = find-map (λ (g : Group). g.number == k) (limited n limit) (λ g. ap (λ m. m == k) (limited-number n limit g)) groups
 
 path_of-as : (groups others : List Group) (k : ℕ) → group_at groups k ≡ group_at others k → path_of groups k ≡ path_of others k
 unfolding path_of
@@ -233,7 +234,7 @@ in_subtree-as : (groups others : List Group) (g h : ℕ) → path_of groups g �
 unfolding in_subtree
 in_subtree-as groups others g h a b = ap (λ o. begins o (path_of groups h)) a ∙ ap (begins (path_of others g)) b
 
--- making a group changes nothing of the others
+-- making a group changes nothing of the others; `is_oom_group-with` of GroupLemmas says so of the flags
 pub has_group-with : (groups : List Group) (n k : ℕ) (path : List ℕ) → k ≢ n → has_group (with_group groups n path) k ≡ has_group groups k
 has_group-with groups n k path other = has_group-as (with_group groups n path) groups k (group_at-with groups n k path other)
 
@@ -259,19 +260,52 @@ pub limit_of-with_new : (groups : List Group) (n : ℕ) (path : List ℕ) → ha
 unfolding limit_of
 limit_of-with_new groups n path free = ap (option_and_then (λ (g : Group). g.limit)) (group_at-with_new groups n path free)
 
+-- ---- a change of rows that keeps numbers and paths
+map-same_path : (f : Group → Group) → KeepsNames f → (o : Option Group) →
+    option_map (λ (g : Group). g.path) (option_map f o) ≡ option_map (λ (g : Group). g.path) o
+map-same_path f keeps None = refl
+map-same_path f keeps (Some g) = ap Some (keeps.path g)
+
+map-same_limit : (f : Group → Group) → ((g : Group) → (f g).limit ≡ g.limit) → (o : Option Group) →
+    option_and_then (λ (g : Group). g.limit) (option_map f o) ≡ option_and_then (λ (g : Group). g.limit) o
+map-same_limit f same None = refl
+map-same_limit f same (Some g) = same g
+
+module _ (f : Group → Group) (keeps : KeepsNames f) where
+  pub has_group-changed : (groups : List Group) (k : ℕ) → has_group (map f groups) k ≡ has_group groups k
+  unfolding has_group
+  has_group-changed groups k = ap is_some (group_at-changed f keeps groups k) ∙ is_some-map f (group_at groups k)
+
+  pub path_of-changed : (groups : List Group) (k : ℕ) → path_of (map f groups) k ≡ path_of groups k
+  unfolding path_of
+  path_of-changed groups k =
+      ap (option_map (λ (g : Group). g.path)) (group_at-changed f keeps groups k) ∙ map-same_path f keeps (group_at groups k)
+
+  pub in_subtree-changed : (groups : List Group) (g h : ℕ) → in_subtree (map f groups) g h ≡ in_subtree groups g h
+  in_subtree-changed groups g h = in_subtree-as (map f groups) groups g h (path_of-changed groups g) (path_of-changed groups h)
+
+  pub limit_of-changed : (groups : List Group) (k : ℕ) → ((g : Group) → (f g).limit ≡ g.limit) → limit_of (map f groups) k ≡ limit_of groups k
+  unfolding limit_of
+  limit_of-changed groups k same =
+      ap (option_and_then (λ (g : Group). g.limit)) (group_at-changed f keeps groups k) ∙ map-same_limit f same (group_at groups k)
+
 -- a limit changes no path and no other group's limit
+pub group_at-limited : (groups : List Group) (n k : ℕ) (limit : Option ℕ) →
+    group_at (with_limit groups n limit) k ≡ option_map (limited n limit) (group_at groups k)
+unfolding with_limit
+group_at-limited groups n k limit = group_at-changed (limited n limit) (limited-keeps n limit) groups k
+
 pub has_group-limited : (groups : List Group) (n k : ℕ) (limit : Option ℕ) → has_group (with_limit groups n limit) k ≡ has_group groups k
-unfolding has_group
-has_group-limited groups n k limit = ap is_some (group_at-limited groups n k limit) ∙ is_some-map (limited n limit) (group_at groups k)
+unfolding with_limit
+has_group-limited groups n k limit = has_group-changed (limited n limit) (limited-keeps n limit) groups k
 
 pub path_of-limited : (groups : List Group) (n k : ℕ) (limit : Option ℕ) → path_of (with_limit groups n limit) k ≡ path_of groups k
-unfolding path_of
-path_of-limited groups n k limit =
-    ap (option_map (λ (g : Group). g.path)) (group_at-limited groups n k limit) ∙ map-same_path n limit (group_at groups k)
+unfolding with_limit
+path_of-limited groups n k limit = path_of-changed (limited n limit) (limited-keeps n limit) groups k
 
 pub in_subtree-limited : (groups : List Group) (n g h : ℕ) (limit : Option ℕ) → in_subtree (with_limit groups n limit) g h ≡ in_subtree groups g h
-in_subtree-limited groups n g h limit = in_subtree-as (with_limit groups n limit) groups g h (path_of-limited groups n g limit)
-    (path_of-limited groups n h limit)
+unfolding with_limit
+in_subtree-limited groups n g h limit = in_subtree-changed (limited n limit) (limited-keeps n limit) groups g h
 
 pub limit_of-limited_other : (groups : List Group) (n k : ℕ) (limit : Option ℕ) → k ≢ n → limit_of (with_limit groups n limit) k ≡ limit_of groups k
 unfolding limit_of
@@ -286,6 +320,23 @@ limit_of-limited groups n limit there =
     ap (option_and_then (λ (g : Group). g.limit)) (group_at-limited groups n n limit ∙ ap (option_map (limited n limit)) w.1)
     ∙ ap (λ (g : Group). g.limit) (cond-true (w.0.number == n) (record w.0 { limit = limit }) w.0 (eq-eqb w.0.number n number))
 
+-- a flag changes no path and no limit
+pub has_group-flagged : (groups : List Group) (n k : ℕ) (flag : Bool) → has_group (with_oom_group groups n flag) k ≡ has_group groups k
+unfolding with_oom_group
+has_group-flagged groups n k flag = has_group-changed (flagged n flag) (flagged-keeps n flag) groups k
+
+pub path_of-flagged : (groups : List Group) (n k : ℕ) (flag : Bool) → path_of (with_oom_group groups n flag) k ≡ path_of groups k
+unfolding with_oom_group
+path_of-flagged groups n k flag = path_of-changed (flagged n flag) (flagged-keeps n flag) groups k
+
+pub in_subtree-flagged : (groups : List Group) (n g h : ℕ) (flag : Bool) → in_subtree (with_oom_group groups n flag) g h ≡ in_subtree groups g h
+unfolding with_oom_group
+in_subtree-flagged groups n g h flag = in_subtree-changed (flagged n flag) (flagged-keeps n flag) groups g h
+
+pub limit_of-flagged : (groups : List Group) (n k : ℕ) (flag : Bool) → limit_of (with_oom_group groups n flag) k ≡ limit_of groups k
+unfolding with_oom_group
+limit_of-flagged groups n k flag = limit_of-changed (flagged n flag) (flagged-keeps n flag) groups k (flagged-limit n flag)
+
 -- taking out a group changes nothing of the others
 pub has_group-without : (groups : List Group) (n k : ℕ) → k ≢ n → has_group (without_group groups n) k ≡ has_group groups k
 has_group-without groups n k other = has_group-as (without_group groups n) groups k (group_at-without groups n k other)
@@ -298,6 +349,29 @@ limit_of-without groups n k other = limit_of-as (without_group groups n) groups 
 
 pub in_subtree-without : (groups : List Group) (n g h : ℕ) → g ≢ n → h ≢ n → in_subtree (without_group groups n) g h ≡ in_subtree groups g h
 in_subtree-without groups n g h a b = in_subtree-as (without_group groups n) groups g h (path_of-without groups n g a) (path_of-without groups n h b)
+
+-- ---- flags
+no_flag : (o : Option Group) → is_some o ≡ false → option_map_or (λ (g : Group). g.oom_group) o false ≡ false
+no_flag None none = refl
+no_flag (Some g) none = absurd (true≢false none)
+
+-- who isn't there has its flag off, and so has a group that is made
+pub is_oom_group-none : (groups : List Group) (n : ℕ) → has_group groups n ≡ false → is_oom_group groups n ≡ false
+unfolding is_oom_group has_group
+is_oom_group-none groups n none = no_flag (group_at groups n) none
+
+pub is_oom_group-with_new : (groups : List Group) (n : ℕ) (path : List ℕ) → has_group groups n ≡ false → is_oom_group (with_group groups n path) n ≡ false
+is_oom_group-with_new groups n path free = is_oom_group-with groups n n path ∙ is_oom_group-none groups n free
+
+-- whose flag is on is there, and isn't the root
+pub is_oom_group-there : (groups : List Group) (n : ℕ) → is_oom_group groups n ≡ true → IsTrue (has_group groups n)
+is_oom_group-there groups n on =
+    ⊎_elim (λ there. there)
+    (λ none. absurd (both_ways (is_oom_group groups n) (is_oom_group-none groups n none) on))
+    (cases_Bool (has_group groups n))
+
+pub is_oom_group-below_root : (groups : List Group) (n : ℕ) → AreGroups groups → is_oom_group groups n ≡ true → n ≢ 0
+is_oom_group-below_root groups n facts on = λ root. both_ways (is_oom_group groups 0) facts.root_flag (ap (is_oom_group groups) (sym root) ∙ on)
 
 -- ---- the parent, and where a new group lies
 above_last : (a b more front : List (List ℕ)) (name : List ℕ) → b ≡ a ++ more → b ≡ front ++ name ∷ [] →

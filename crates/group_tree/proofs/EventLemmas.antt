@@ -1,5 +1,5 @@
 -- Counts of events by key. Serves `EventCounts`, and crates above.
-use Rattle.std.proofs.Common.{◌≡◌, ℕ, Bool, true, refl, if◌then◌else◌, ap, sym, ◌∙◌, get_or}
+use Rattle.std.proofs.Common.{◌≡◌, ℕ, true, refl, if◌then◌else◌, ap, sym, ◌∙◌, get_or, set, List, [], ◌∷◌, length, arith}
 use Rattle.std.proofs.lemmas.Bool.{eq-eqb, eqb-true}
 use Rattle.group_tree.specs.declared.event.EventKey.TheVariants.{Max, Oom, OomKill, OomGroupKill}
 use Rattle.group_tree.specs.Events.{EventKey, EventCounts, all_keys, key_index, is_same_key, no_events, count_of, with_one_more}
@@ -21,6 +21,25 @@ none_counted Max = refl
 none_counted Oom = refl
 none_counted OomKill = refl
 none_counted OomGroupKill = refl
+
+-- what one more event writes
+four_cells : (kind : EventKey) (a b x y d more : ℕ) → more ≡ one_more (get_or (a ∷ b ∷ x ∷ y ∷ []) (key_index kind) d) →
+    set (a ∷ b ∷ x ∷ y ∷ []) (key_index kind) more ≡ with_one_more kind (a ∷ b ∷ x ∷ y ∷ [])
+unfolding count_of with_one_more
+four_cells Max a b x y d more e = ap (λ m. m ∷ b ∷ x ∷ y ∷ []) e
+four_cells Oom a b x y d more e = ap (λ m. a ∷ m ∷ x ∷ y ∷ []) e
+four_cells OomKill a b x y d more e = ap (λ m. a ∷ b ∷ m ∷ y ∷ []) e
+four_cells OomGroupKill a b x y d more e = ap (λ m. a ∷ b ∷ x ∷ m ∷ []) e
+
+pub set_count : (kind : EventKey) (counts : List ℕ) (index d more : ℕ) → length counts ≡ 4 → index ≡ key_index kind →
+    more ≡ one_more (get_or counts index d) → set counts index more ≡ with_one_more kind counts
+set_count kind [] index d more size at e = absurd (omega arith)
+set_count kind (a ∷ []) index d more size at e = absurd (omega arith)
+set_count kind (a ∷ b ∷ []) index d more size at e = absurd (omega arith)
+set_count kind (a ∷ b ∷ x ∷ []) index d more size at e = absurd (omega arith)
+set_count kind (a ∷ b ∷ x ∷ y ∷ []) index d more size at e =
+    ap (λ i. set (a ∷ b ∷ x ∷ y ∷ []) i more) at ∙ four_cells kind a b x y d more (e ∙ ap (λ i. one_more (get_or (a ∷ b ∷ x ∷ y ∷ []) i d)) at)
+set_count kind (a ∷ b ∷ x ∷ y ∷ z ∷ rest) index d more size at e = absurd (omega arith)
 
 -- ---- the test of keys
 key_at : (key : EventKey) → get_or all_keys (key_index key) Max ≡ key

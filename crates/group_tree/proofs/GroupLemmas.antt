@@ -3,7 +3,7 @@ use Rattle.std.proofs.Common.{◌≡◌, ◌≢◌, ℕ, zero, suc, ◌+◌, ◌
 use Rattle.std.proofs.Common.{IsTrue, IsSomeAnd, Option, Some, None, is_some, is_none, List, [], ◌∷◌, ◌++◌, length, take, drop, get_or}
 use Rattle.std.proofs.Common.{slice_get, map, filter, All, AllPairs, Contains, refl, sym, ap, ◌∙◌, subst, arith, ⊎_elim, lit≤, lit<}
 use Rattle.std.specs.List.{find, list_all, list_any, starts_with}
-use Rattle.std.specs.Option.{option_map, option_and_then, option_or}
+use Rattle.std.specs.Option.{option_map, option_and_then, option_or, option_map_or}
 use Rattle.std.specs.Str.{bytes_eq}
 use Rattle.std.proofs.lemmas.Bool.{eqb-true, eqb-false, eq-eqb, ne_eqb, leb-false, leb-true, ltb-false, and_from, and_parts, or_parts, cases_Bool}
 use Rattle.std.proofs.lemmas.Bool.{false≢true, true≢false, false_from_ne_true, not-false, not_from_false, both_ways, cond-true, cond-false, cond_both}
@@ -21,7 +21,7 @@ use Rattle.std.proofs.lemmas.Option.{none-some, same_Some}
 use Rattle.std.proofs.lemmas.Slice.Eq.{bytes_eq-Decides}
 use Rattle.group_tree.specs.Path.{root_path, is_root, is_name, names_of, depth_of, parent_path, is_well_formed, IsWellFormed}
 use Rattle.group_tree.specs.Groups.{Group, the_root, group_at, number_at, has_group, path_of, begins, in_subtree, has_child, parent_of, make_fault}
-use Rattle.group_tree.specs.Groups.{with_group, without_group, with_limit, limited, AreGroups}
+use Rattle.group_tree.specs.Groups.{new_row, is_oom_group, with_group, without_group, with_limit, limited, with_oom_group, flagged, AreGroups}
 
 -- ---- finding
 module _ {X : Type 0} (p : X → Bool) where
@@ -177,6 +177,10 @@ group_at-without groups n k other =
     (λ i d lt t. not_from_false ((get_or groups i d).number == n)
     (ne_eqb (get_or groups i d).number n (λ e. other (sym (eqb-true (get_or groups i d).number k t) ∙ e))))
 
+pub is_oom_group-without : (groups : List Group) (n k : ℕ) → k ≢ n → is_oom_group (without_group groups n) k ≡ is_oom_group groups k
+unfolding is_oom_group
+is_oom_group-without groups n k other = ap (λ o. option_map_or (λ (g : Group). g.oom_group) o false) (group_at-without groups n k other)
+
 -- ---- there are as many groups as numbers below n, where each of these is taken
 without-shorter : (groups : List Group) (n : ℕ) → IsTrue (has_group groups n) → length (without_group groups n) + 1 ≤ length groups
 unfolding without_group
@@ -216,10 +220,15 @@ root-parent : IsTrue (is_some (number_at (the_root ∷ []) (parent_path root_pat
 unfolding number_at parent_path
 root-parent = refl
 
+root-flag : is_oom_group (the_root ∷ []) 0 ≡ false
+unfolding is_oom_group group_at
+root-flag = refl
+
 pub AreGroups-initial : AreGroups (the_root ∷ [])
 AreGroups-initial = record {
   few = lit≤ tt;
   root = (refl, refl);
+  root_flag = root-flag;
   numbers = All-one (λ (g : Group). g.number < 64) the_root (lit< tt);
   paths = All-one (λ (g : Group). IsWellFormed g.path) the_root root-formed;
   depths = All-one (λ (g : Group). depth_of g.path ≤ 8) the_root root-depth;
@@ -290,14 +299,31 @@ root-with : (groups : List Group) (g : Group) → IsSomeAnd (slice_get groups 0)
 root-with [] g h = absurd h
 root-with (x ∷ xs) g h = h
 
+-- a new group's flag is off, as that of a group that isn't there
+flag_or : (o more : Option Group) → option_map_or (λ (g : Group). g.oom_group) more false ≡ false →
+    option_map_or (λ (g : Group). g.oom_group) (option_or o more) false ≡ option_map_or (λ (g : Group). g.oom_group) o false
+flag_or None more off = off
+flag_or (Some g) more off = refl
+
+pub is_oom_group-with : (groups : List Group) (n k : ℕ) (path : List ℕ) → is_oom_group (with_group groups n path) k ≡ is_oom_group groups k
+unfolding is_oom_group group_at
+is_oom_group-with groups n k path =
+    let test : Group → Bool = λ g. g.number == k in
+    let new : Group = new_row n path in
+    let off : option_map_or (λ (g : Group). g.oom_group) (find test (new ∷ [])) false ≡ false =
+    cond_both (n == k) (Some new) None (λ o. option_map_or (λ (g : Group). g.oom_group) o false ≡ false) (λ _. refl) (λ _. refl) in
+    ap (λ o. option_map_or (λ (g : Group). g.oom_group) o false) (find-append test groups (new ∷ []))
+    ∙ flag_or (find test groups) (find test (new ∷ [])) off
+
 pub AreGroups-with : (groups : List Group) (n : ℕ) (path : List ℕ) → AreGroups groups → CanMake groups path → n < 64 → has_group groups n ≡ false →
     AreGroups (with_group groups n path)
 AreGroups-with groups n path facts can below free =
-    let g : Group = record { number = n; path = path; limit = None } in
+    let g : Group = new_row n path in
     let more : length (groups ++ g ∷ []) ≡ length groups + 1 = length_push groups g in
     record {
       few = omega (arith, can.room);
       root = root-with groups g facts.root;
+      root_flag = is_oom_group-with groups n 0 path ∙ facts.root_flag;
       numbers = All-push (λ x. x.number < 64) groups g facts.numbers below;
       paths = All-push (λ x. IsWellFormed x.path) groups g facts.paths can.formed;
       depths = All-push (λ x. depth_of x.path ≤ 8) groups g facts.depths can.shallow;
@@ -371,6 +397,7 @@ AreGroups-without groups n facts leaf below =
     record {
       few = omega (arith, facts.few, length-filter test groups, count_by-le-length test groups);
       root = root-without groups n below facts.root;
+      root_flag = is_oom_group-without groups n 0 (λ e. below (sym e)) ∙ facts.root_flag;
       numbers = All-filter test (λ x. x.number < 64) groups facts.numbers;
       paths = All-filter test (λ x. IsWellFormed x.path) groups facts.paths;
       depths = All-filter test (λ x. depth_of x.path ≤ 8) groups facts.depths;
@@ -397,30 +424,24 @@ parent-there groups n path facts e =
     subst (λ p. is_some (number_at groups (parent_path p)) ≡ true) h.2
     (All-contains (λ x. IsTrue (is_some (number_at groups (parent_path x.path)))) groups h.0 facts.parents (group_at-contains groups n h.0 h.1).0)
 
--- ---- another limit
-pub limited-number : (n : ℕ) (limit : Option ℕ) (g : Group) → (limited n limit g).number ≡ g.number
-limited-number n limit g = cond_both (g.number == n) (record g { limit = limit }) g (λ (x : Group). x.number ≡ g.number) (λ _. refl) (λ _. refl)
-
-pub limited-path : (n : ℕ) (limit : Option ℕ) (g : Group) → (limited n limit g).path ≡ g.path
-limited-path n limit g = cond_both (g.number == n) (record g { limit = limit }) g (λ (x : Group). x.path ≡ g.path) (λ _. refl) (λ _. refl)
+-- ---- a change of rows
+-- the change keeps each row's number and path
+pub record KeepsNames (f : Group → Group) : Type 0 where
+  pub number : (g : Group) → (f g).number ≡ g.number
+  pub path : (g : Group) → (f g).path ≡ g.path
 
 pub list_any-map : {X : Type 0} (p : X → Bool) (f : X → X) → ((x : X) → p (f x) ≡ p x) → (xs : List X) → list_any p (map f xs) ≡ list_any p xs
 list_any-map p f same [] = refl
 list_any-map p f same (x ∷ xs) = ap (λ b. b || list_any p (map f xs)) (same x) ∙ ap (λ b. p x || b) (list_any-map p f same xs)
 
-root-limited : (groups : List Group) (n : ℕ) (limit : Option ℕ) → IsSomeAnd (slice_get groups 0) (λ x. (x.number ≡ 0) × (x.path ≡ root_path)) →
-    IsSomeAnd (slice_get (with_limit groups n limit) 0) (λ x. (x.number ≡ 0) × (x.path ≡ root_path))
-unfolding with_limit
-root-limited [] n limit h = absurd h
-root-limited (x ∷ xs) n limit h = (limited-number n limit x ∙ h.0, limited-path n limit x ∙ h.1)
-
-has_path-limited : (groups : List Group) (n : ℕ) (limit : Option ℕ) (path : List ℕ) →
-    is_some (number_at (with_limit groups n limit) path) ≡ is_some (number_at groups path)
-unfolding with_limit
-has_path-limited groups n limit path =
-    has_path-any (map (limited n limit) groups) path
-    ∙ list_any-map (λ (x : Group). bytes_eq x.path path) (limited n limit) (λ x. ap (λ p. bytes_eq p path) (limited-path n limit x)) groups
-    ∙ sym (has_path-any groups path)
+pub find-map : {X : Type 0} (p : X → Bool) (f : X → X) → ((x : X) → p (f x) ≡ p x) → (xs : List X) → find p (map f xs) ≡ option_map f (find p xs)
+find-map p f same [] = refl
+find-map p f same (x ∷ xs) =
+    ⊎_elim
+    (λ t. cond-true (p (f x)) (Some (f x)) (find p (map f xs)) (same x ∙ t) ∙ ap (option_map f) (sym (cond-true (p x) (Some x) (find p xs) t)))
+    (λ n. cond-false (p (f x)) (Some (f x)) (find p (map f xs)) (same x ∙ n) ∙ find-map p f same xs
+    ∙ ap (option_map f) (sym (cond-false (p x) (Some x) (find p xs) n)))
+    (cases_Bool (p x))
 
 all_pairs_map : {X : Type 0} (R : X → X → Type 0) (f : X → X) (xs : List X) → ((x y : X) → R x y → R (f x) (f y)) → AllPairs R xs → AllPairs R (map f xs)
 all_pairs_map R f xs keeps h = λ i j d below lt.
@@ -429,33 +450,122 @@ all_pairs_map R f xs keeps h = λ i j d below lt.
     let second : get_or (map f xs) j d ≡ f (get_or xs j d) = get_or-map f xs j d d long in
     rw (first, second) (keeps (get_or xs i d) (get_or xs j d) (h i j d below long))
 
+module _ (f : Group → Group) (keeps : KeepsNames f) where
+  pub group_at-changed : (groups : List Group) (k : ℕ) → group_at (map f groups) k ≡ option_map f (group_at groups k)
+  unfolding group_at
+  group_at-changed groups k = find-map (λ (g : Group). g.number == k) f (λ g. ap (λ m. m == k) (keeps.number g)) groups
+
+  has_path-changed : (groups : List Group) (path : List ℕ) → is_some (number_at (map f groups) path) ≡ is_some (number_at groups path)
+  has_path-changed groups path =
+      has_path-any (map f groups) path
+      ∙ list_any-map (λ (x : Group). bytes_eq x.path path) f (λ x. ap (λ p. bytes_eq p path) (keeps.path x)) groups
+      ∙ sym (has_path-any groups path)
+
+  root-changed : (groups : List Group) → IsSomeAnd (slice_get groups 0) (λ x. (x.number ≡ 0) × (x.path ≡ root_path)) →
+      IsSomeAnd (slice_get (map f groups) 0) (λ x. (x.number ≡ 0) × (x.path ≡ root_path))
+  root-changed [] h = absurd h
+  root-changed (x ∷ xs) h = (keeps.number x ∙ h.0, keeps.path x ∙ h.1)
+
+  -- the root's flag has to stay off besides
+  pub AreGroups-changed : (groups : List Group) → AreGroups groups → is_oom_group (map f groups) 0 ≡ false → AreGroups (map f groups)
+  AreGroups-changed groups facts off = record {
+    few = omega (arith, facts.few, length-map groups f);
+    root = root-changed groups facts.root;
+    root_flag = off;
+    numbers = All-map (λ (x : Group). x.number < 64) f groups
+        (λ k d lt. subst (λ m. m < 64) (sym (keeps.number (get_or groups k d))) (facts.numbers k d lt));
+    paths = All-map (λ (x : Group). IsWellFormed x.path) f groups
+        (λ k d lt. subst IsWellFormed (sym (keeps.path (get_or groups k d))) (facts.paths k d lt));
+    depths = All-map (λ (x : Group). depth_of x.path ≤ 8) f groups
+        (λ k d lt. subst (λ p. depth_of p ≤ 8) (sym (keeps.path (get_or groups k d))) (facts.depths k d lt));
+    numbers_distinct = all_pairs_map (λ x y. x.number ≢ y.number) f groups
+        (λ x y h e. h (sym (keeps.number x) ∙ e ∙ keeps.number y)) facts.numbers_distinct;
+    paths_distinct = all_pairs_map (λ x y. x.path ≢ y.path) f groups
+        (λ x y h e. h (sym (keeps.path x) ∙ e ∙ keeps.path y)) facts.paths_distinct;
+    parents = All-map (λ (x : Group). IsTrue (is_some (number_at (map f groups) (parent_path x.path)))) f groups
+        (λ k d lt.
+        ap (λ p. is_some (number_at (map f groups) (parent_path p))) (keeps.path (get_or groups k d))
+        ∙ has_path-changed groups (parent_path (get_or groups k d).path)
+        ∙ facts.parents k d lt);
+  }
+
+-- where the group's row keeps its flag, so does the group
+pub same_flag : (f : Group → Group) (groups : List Group) (k : ℕ) → KeepsNames f → ((g : Group) → group_at groups k ≡ Some g →
+    (f g).oom_group ≡ g.oom_group) → is_oom_group (map f groups) k ≡ is_oom_group groups k
+unfolding is_oom_group
+same_flag f groups k keeps same =
+    ap (λ o. option_map_or (λ (g : Group). g.oom_group) o false) (group_at-changed f keeps groups k) ∙ at (group_at groups k) refl
+  where
+    at : (o : Option Group) → group_at groups k ≡ o →
+        option_map_or (λ (g : Group). g.oom_group) (option_map f o) false ≡ option_map_or (λ (g : Group). g.oom_group) o false
+    at None e = refl
+    at (Some g) e = same g e
+
+-- ---- another limit
+pub limited-number : (n : ℕ) (limit : Option ℕ) (g : Group) → (limited n limit g).number ≡ g.number
+limited-number n limit g = cond_both (g.number == n) (record g { limit = limit }) g (λ (x : Group). x.number ≡ g.number) (λ _. refl) (λ _. refl)
+
+pub limited-path : (n : ℕ) (limit : Option ℕ) (g : Group) → (limited n limit g).path ≡ g.path
+limited-path n limit g = cond_both (g.number == n) (record g { limit = limit }) g (λ (x : Group). x.path ≡ g.path) (λ _. refl) (λ _. refl)
+
+limited-flag : (n : ℕ) (limit : Option ℕ) (g : Group) → (limited n limit g).oom_group ≡ g.oom_group
+limited-flag n limit g =
+    cond_both (g.number == n) (record g { limit = limit }) g (λ (x : Group). x.oom_group ≡ g.oom_group) (λ _. refl) (λ _. refl)
+
+pub limited-keeps : (n : ℕ) (limit : Option ℕ) → KeepsNames (limited n limit)
+limited-keeps n limit = record { number = limited-number n limit; path = limited-path n limit }
+
+pub is_oom_group-limited : (groups : List Group) (n k : ℕ) (limit : Option ℕ) → is_oom_group (with_limit groups n limit) k ≡ is_oom_group groups k
+unfolding with_limit
+is_oom_group-limited groups n k limit = same_flag (limited n limit) groups k (limited-keeps n limit) (λ g e. limited-flag n limit g)
+
 pub AreGroups-limited : (groups : List Group) (n : ℕ) (limit : Option ℕ) → AreGroups groups → AreGroups (with_limit groups n limit)
 unfolding with_limit
 AreGroups-limited groups n limit facts =
-    let f : Group → Group = limited n limit in
-    record {
-      few = omega (arith, facts.few, length-map groups f);
-      root = root-limited groups n limit facts.root;
-      numbers = All-map (λ (x : Group). x.number < 64) f groups
-          (λ k d lt. subst (λ m. m < 64) (sym (limited-number n limit (get_or groups k d))) (facts.numbers k d lt));
-      paths = All-map (λ (x : Group). IsWellFormed x.path) f groups
-          (λ k d lt. subst IsWellFormed (sym (limited-path n limit (get_or groups k d))) (facts.paths k d lt));
-      depths = All-map (λ (x : Group). depth_of x.path ≤ 8) f groups
-          (λ k d lt. subst (λ p. depth_of p ≤ 8) (sym (limited-path n limit (get_or groups k d))) (facts.depths k d lt));
-      numbers_distinct = all_pairs_map (λ x y. x.number ≢ y.number) f groups
-          (λ x y h e. h (sym (limited-number n limit x) ∙ e ∙ limited-number n limit y)) facts.numbers_distinct;
-      paths_distinct = all_pairs_map (λ x y. x.path ≢ y.path) f groups
-          (λ x y h e. h (sym (limited-path n limit x) ∙ e ∙ limited-path n limit y)) facts.paths_distinct;
-      parents = All-map (λ (x : Group). IsTrue (is_some (number_at (map f groups) (parent_path x.path)))) f groups
-          (λ k d lt.
-          ap (λ p. is_some (number_at (map f groups) (parent_path p))) (limited-path n limit (get_or groups k d))
-          ∙ has_path-limited groups n limit (parent_path (get_or groups k d).path)
-          ∙ facts.parents k d lt);
-    }
+    AreGroups-changed (limited n limit) (limited-keeps n limit) groups facts (is_oom_group-limited groups n 0 limit ∙ facts.root_flag)
 
 pub length-limited : (groups : List Group) (n : ℕ) (limit : Option ℕ) → length (with_limit groups n limit) ≡ length groups
 unfolding with_limit
 length-limited groups n limit = length-map groups (limited n limit)
+
+-- ---- another flag
+pub flagged-number : (n : ℕ) (flag : Bool) (g : Group) → (flagged n flag g).number ≡ g.number
+flagged-number n flag g = cond_both (g.number == n) (record g { oom_group = flag }) g (λ (x : Group). x.number ≡ g.number) (λ _. refl) (λ _. refl)
+
+pub flagged-path : (n : ℕ) (flag : Bool) (g : Group) → (flagged n flag g).path ≡ g.path
+flagged-path n flag g = cond_both (g.number == n) (record g { oom_group = flag }) g (λ (x : Group). x.path ≡ g.path) (λ _. refl) (λ _. refl)
+
+pub flagged-limit : (n : ℕ) (flag : Bool) (g : Group) → (flagged n flag g).limit ≡ g.limit
+flagged-limit n flag g = cond_both (g.number == n) (record g { oom_group = flag }) g (λ (x : Group). x.limit ≡ g.limit) (λ _. refl) (λ _. refl)
+
+pub flagged-keeps : (n : ℕ) (flag : Bool) → KeepsNames (flagged n flag)
+flagged-keeps n flag = record { number = flagged-number n flag; path = flagged-path n flag }
+
+pub is_oom_group-flagged_other : (groups : List Group) (n k : ℕ) (flag : Bool) → k ≢ n →
+    is_oom_group (with_oom_group groups n flag) k ≡ is_oom_group groups k
+unfolding with_oom_group
+is_oom_group-flagged_other groups n k flag other = same_flag (flagged n flag) groups k (flagged-keeps n flag)
+    (λ g e. ap (λ (x : Group). x.oom_group) (cond-false (g.number == n) (record g { oom_group = flag }) g
+    (ne_eqb g.number n (λ same. other (sym (group_at-contains groups k g e).1 ∙ same)))))
+
+pub is_oom_group-flagged : (groups : List Group) (n : ℕ) (flag : Bool) → IsTrue (has_group groups n) → is_oom_group (with_oom_group groups n flag) n ≡ flag
+unfolding is_oom_group with_oom_group
+is_oom_group-flagged groups n flag there =
+    let w = has_group-is groups n there in
+    let number = (group_at-contains groups n w.0 w.1).1 in
+    ap (λ o. option_map_or (λ (g : Group). g.oom_group) o false)
+    (group_at-changed (flagged n flag) (flagged-keeps n flag) groups n ∙ ap (option_map (flagged n flag)) w.1)
+    ∙ ap (λ (g : Group). g.oom_group) (cond-true (w.0.number == n) (record w.0 { oom_group = flag }) w.0 (eq-eqb w.0.number n number))
+
+pub AreGroups-flagged : (groups : List Group) (n : ℕ) (flag : Bool) → AreGroups groups → n ≢ 0 → AreGroups (with_oom_group groups n flag)
+unfolding with_oom_group
+AreGroups-flagged groups n flag facts other =
+    AreGroups-changed (flagged n flag) (flagged-keeps n flag) groups facts
+    (is_oom_group-flagged_other groups n 0 flag (λ e. other (sym e)) ∙ facts.root_flag)
+
+pub length-flagged : (groups : List Group) (n : ℕ) (flag : Bool) → length (with_oom_group groups n flag) ≡ length groups
+unfolding with_oom_group
+length-flagged groups n flag = length-map groups (flagged n flag)
 
 -- a list that is written over all of another
 pub take_new : {X : Type 0} (n : ℕ) (xs ys : List X) → length ys ≡ length xs → n ≡ length xs → take n (ys ++ drop (length ys) xs) ≡ ys

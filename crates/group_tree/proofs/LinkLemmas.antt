@@ -1,5 +1,5 @@
 -- What a tree keeps by number beside its rows, and how a change keeps it. Serves the contracts of `Tree::new`, `make`,
--- `set_max`, `remove`, `parent` and `depth`.
+-- `set_max`, `set_oom_group`, `remove`, `parent` and `depth`.
 use Rattle.std.proofs.Common.{◌≡◌, ◌≢◌, ℕ, ◌+◌, ◌<◌, false, not, cond, ◌==◌, IsTrue, Option, Some, None, List, [], ◌∷◌, length, map}
 use Rattle.std.proofs.Common.{filter, get_or, set, replicate, Contains, is_some, refl, sym, ap, ◌∙◌, subst, arith, ⊎_elim, length-append}
 use Rattle.std.proofs.Common.{Bool, true, ◌||◌}
@@ -13,13 +13,14 @@ use Rattle.group_tree.specs.declared.group.Group.{Group}
 use Rattle.group_tree.specs.declared.tree.Link.{Link}
 use Rattle.group_tree.specs.Path.{depth_of, names_of, parent_path}
 use Rattle.group_tree.specs.Groups.{the_root, initial_groups, group_at, has_group, limit_of, number_at, parent_of, path_of, with_group, with_limit}
-use Rattle.group_tree.specs.Groups.{without_group, limited, AreGroups}
+use Rattle.group_tree.specs.Groups.{new_row, without_group, limited, with_oom_group, flagged, AreGroups}
 use Rattle.group_tree.specs.Links.{AreLinks, link_at, no_link}
 use Rattle.group_tree.specs.Ancestors.{depth_at}
 use Rattle.group_tree.proofs.PathLemmas.{names_parent}
 use Rattle.group_tree.proofs.GroupLemmas.{has_group-any, CanMake, All-one, some_is, has_group-contains, has_group-is, group_at-contains, number_at-contains}
 use Rattle.group_tree.proofs.GroupLemmas.{number_at-there, path_of-at, parent_of-below, parent-there, limited-number, limited-path}
-use Rattle.group_tree.proofs.CallerLemmas.{has_group-with, has_group-with_new, has_group-limited, has_group-without}
+use Rattle.group_tree.proofs.GroupLemmas.{flagged-number, flagged-path, flagged-limit}
+use Rattle.group_tree.proofs.CallerLemmas.{has_group-with, has_group-with_new, has_group-limited, has_group-flagged, has_group-without}
 
 -- ---- at first
 one_number : (x : Group) → Contains initial_groups x → x.number ≡ 0
@@ -96,7 +97,7 @@ pub AreLinks-with : (groups : List Group) (links : List Link) (n p : ℕ) (path 
     CanMake groups path → n < 64 → has_group groups n ≡ false → number_at groups (parent_path path) ≡ Some p →
     AreLinks (with_group groups n path) (set links n (record { is_there = true; parent = p; depth = depth_of path; limit = None }))
 AreLinks-with groups links n p path facts are can below free up =
-    let row : Group = record { number = n; path = path; limit = None } in
+    let row : Group = new_row n path in
     let link : Link = record { is_there = true; parent = p; depth = depth_of path; limit = None } in
     let new : List Link = set links n link in
     let within : n < length links = omega (arith, are.size) in
@@ -230,6 +231,47 @@ AreLinks-limited groups links n limit below are =
           ∙ sym (u.limit_is ∙ cond-false (u.row.number == n) limit u.row.limit (ne_eqb u.row.number n other)))
           (cases_eq u.row.number n);
     }
+
+-- ---- another flag
+-- a row that has another flag was there before, with the same limit
+pub record WasFlagged (groups : List Group) (x : Group) : Type 0 where
+  pub row : Group
+  pub here : Contains groups row
+  pub number : row.number ≡ x.number
+  pub path : row.path ≡ x.path
+  pub limit : row.limit ≡ x.limit
+
+was_flagged : (groups : List Group) (n : ℕ) (flag : Bool) (x : Group) → Contains (with_oom_group groups n flag) x → WasFlagged groups x
+unfolding with_oom_group
+was_flagged groups n flag x h =
+    All-contains (λ (z : Group). WasFlagged groups z) (map (flagged n flag) groups) x
+    (All-map (λ (z : Group). WasFlagged groups z) (flagged n flag) groups
+    (λ k d lt.
+    let y = get_or groups k d in
+    record {
+      row = y;
+      here = Contains-get_or groups k d lt;
+      number = sym (flagged-number n flag y);
+      path = sym (flagged-path n flag y);
+      limit = sym (flagged-limit n flag y);
+    }))
+    h
+
+pub AreLinks-flagged : (groups : List Group) (links : List Link) (n : ℕ) (flag : Bool) → AreLinks groups links → AreLinks (with_oom_group groups n flag) links
+AreLinks-flagged groups links n flag are = record {
+  size = are.size;
+  there = λ k. are.there k ∙ sym (has_group-flagged groups n k flag);
+  parents = λ x y hx hy e.
+      let u = was_flagged groups n flag x hx in
+      let v = was_flagged groups n flag y hy in
+      ap (λ k. (link_at links k).parent) (sym u.number) ∙ are.parents u.row v.row u.here v.here (v.path ∙ e ∙ ap parent_path (sym u.path)) ∙ v.number;
+  depths = λ x hx.
+      let u = was_flagged groups n flag x hx in
+      ap (λ k. (link_at links k).depth) (sym u.number) ∙ are.depths u.row u.here ∙ ap (λ q. depth_of q) u.path;
+  limits = λ x hx.
+      let u = was_flagged groups n flag x hx in
+      ap (λ k. (link_at links k).limit) (sym u.number) ∙ are.limits u.row u.here ∙ u.limit;
+}
 
 -- ---- one group less
 still_row : (groups : List Group) (n : ℕ) (x : Group) → Contains (without_group groups n) x → Contains groups x

@@ -85,6 +85,7 @@ impl EventCounts {
     }
 
     /// How often events of this kind happened.
+    #[tactic(auto, unfolding(crate::specs::Events::count_of))]
     pub fn count(&self, key: EventKey) -> u64
         ensures { result ≡ count_of self.now key }
     {

@@ -1,7 +1,7 @@
 use Rattle.std.proofs.Common.{◌≡◌, ◌∷◌, [], sym, ap, ◌∙◌, subst, rules, true, None, is_some, set, IsTrue}
 use Rattle.std.proofs.lemmas.Slice.{pushed}
 use Rattle.group_tree.specs.Path.{depth_of}
-use Rattle.group_tree.specs.Groups.{AreGroups, has_group, number_at, with_group}
+use Rattle.group_tree.specs.Groups.{AreGroups, has_group, new_row, number_at, with_group}
 use Rattle.group_tree.specs.Links.{AreLinks}
 use Rattle.group_tree.proofs.LinkLemmas.{AreLinks-with}
 use Rattle.group_tree.proofs.GroupLemmas.{AreGroups-with, can_make}
@@ -27,7 +27,7 @@ invariant_of-self c =
     let can = can_make c.args.self.now c.args.path.now (sym c.make_fault.ensures ∙ c.in_default.is) in
     let path : c.unwrap-path.result ≡ c.args.path.now = search rules in
     let rows : c.push.new.self.items ≡ with_group c.args.self.now c.least_free-number.result c.unwrap-path.result =
-    pushed (record { number = c.least_free-number.result; path = c.unwrap-path.result; limit = None } ∷ []) c.self.view_is c.unwrap.ensures
+    pushed (new_row c.least_free-number.result c.unwrap-path.result ∷ []) c.self.view_is c.unwrap.ensures
     c.push.ensures.items in
     let new = AreGroups-with c.args.self.now c.least_free-number.result c.args.path.now old can c.least_free-number.ensures.below
     c.least_free-number.ensures.number.free in (
@@ -57,7 +57,7 @@ pub returns-clause-made : goal.returns-clause-made
 returns-clause-made c =
     let path : c.unwrap-path.result ≡ c.args.path.now = search rules in
     let rows : c.push.new.self.items ≡ with_group c.args.self.now c.least_free-number.result c.unwrap-path.result =
-    pushed (record { number = c.least_free-number.result; path = c.unwrap-path.result; limit = None } ∷ []) c.self.view_is c.unwrap.ensures
+    pushed (new_row c.least_free-number.result c.unwrap-path.result ∷ []) c.self.view_is c.unwrap.ensures
     c.push.ensures.items in
     rows ∙ ap (with_group c.args.self.now c.least_free-number.result) path
 

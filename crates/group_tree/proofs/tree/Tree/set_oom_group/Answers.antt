@@ -1,0 +1,19 @@
+use Rattle.std.proofs.Common.{◌≡◌, ◌++◌, take, drop, length, sym, ap, ◌∙◌, subst, rules}
+use Rattle.group_tree.specs.Groups.{AreGroups, with_oom_group}
+use Rattle.group_tree.proofs.GroupLemmas.{AreGroups-flagged, length-flagged, take_new}
+use Rattle.group_tree.specs.Links.{AreLinks}
+use Rattle.group_tree.proofs.LinkLemmas.{AreLinks-flagged}
+use Rattle.group_tree.proofs.tree.Tree.set_oom_group.Goals as goal
+
+pub invariant_of-self : goal.invariant_of-self
+invariant_of-self c =
+    let old = c.self.inside.rows.items in
+    let new : c.set_flag.new.rows ≡ with_oom_group old c.args.g c.args.oom_group = c.set_flag.ensures
+    ∙ ap (λ rows. with_oom_group rows c.args.g c.args.oom_group) c.as_mut_slice.ensures.value in
+    let size : length c.set_flag.new.rows ≡ length old = ap length new ∙ length-flagged old c.args.g c.args.oom_group in
+    let whole : take c.self.inside.rows.len (c.set_flag.new.rows ++ drop (length c.set_flag.new.rows) old) ≡ c.set_flag.new.rows =
+    take_new c.self.inside.rows.len old c.set_flag.new.rows size (search rules) in (
+      subst AreGroups (sym (whole ∙ new)) (AreGroups-flagged old c.args.g c.args.oom_group c.self.invariant.0 c.requires.below_root),
+      c.self.invariant.1,
+      subst (λ rows. AreLinks rows c.self.inside.links) (sym (whole ∙ new)) (AreLinks-flagged old c.self.inside.links c.args.g c.args.oom_group c.self.invariant.2),
+    )
