@@ -1,13 +1,14 @@
 -- What is kept by number, and the ledger that it stands for. Serves the invariant of `Charges` and the clauses that name the
 -- whole ledger.
-use Rattle.std.proofs.Common.{◌≡◌, ◌≢◌, ℕ, ◌+◌, ◌-◌, ◌<◌, Bool, false, not, cond, max, ◌==◌, IsTrue, All, Contains, Option, Some, None, List, [], ◌∷◌, ◌++◌}
+use Rattle.std.proofs.Common.{◌≡◌, ◌≢◌, ℕ, ◌+◌, ◌-◌, ◌<◌, Bool, false, not, cond, max, ◌==◌, IsTrue, All, Contains, Option, Some, List, [], ◌∷◌, ◌++◌}
 use Rattle.std.proofs.Common.{length, map, filter, get_or, set, refl, sym, ap, ◌∙◌, subst, arith, ⊎_elim}
 use Rattle.std.specs.Option.{option_map_or}
 use Rattle.std.proofs.lemmas.Bool.{both_ways, cases_Bool, cases_eq, cond-true, cond-false, eq-eqb, ne_eqb}
 use Rattle.std.proofs.lemmas.List.{get_or_default, get_or-map, get_or-set_other, get_or-set_same, length-map, map-append}
 use Rattle.std.proofs.lemmas.List.Elements.{All-cons, All-contains, All-head, All-nil, All-tail, Contains-get_or}
 use Rattle.group_tree.specs.declared.group.Group.{Group}
-use Rattle.group_tree.specs.Events.{EventKey, with_one_more}
+use Rattle.group_tree.specs.declared.event.EventKey.{EventKey}
+use Rattle.group_tree.specs.Events.{with_one_more}
 use Rattle.group_tree.specs.Groups.{AreGroups, has_group, in_subtree, new_row, with_group, with_limit, with_oom_group, without_group, limited, flagged}
 use Rattle.group_tree.specs.Room.{on_path}
 use Rattle.group_tree.proofs.GroupLemmas.{has_group-contains, has_group-is, group_at-contains, limited-number, flagged-number}

@@ -4,7 +4,8 @@ use Rattle.std.specs.List.{find}
 use Rattle.std.specs.Option.{option_map_or}
 use Rattle.group_tree.specs.declared.group.Group.{Group}
 use Rattle.group_tree.specs.declared.event.EventKey.TheVariants.{Max, Oom, OomKill, OomGroupKill}
-use Rattle.group_tree.specs.Events.{EventCounts, EventKey, no_events, with_one_more}
+use Rattle.group_tree.specs.declared.event.EventKey.{EventKey}
+use Rattle.group_tree.specs.Events.{EventCounts, no_events, with_one_more}
 use Rattle.group_tree.specs.Groups.{initial_groups, in_subtree, with_group, without_group, with_limit, with_oom_group, AreGroups}
 use Rattle.group_tree.specs.Room.{at_group, on_path, peak_after}
 -- an account has a group's number, its own pages, its peak and its event counts

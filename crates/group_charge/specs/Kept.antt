@@ -4,7 +4,8 @@ use Rattle.std.specs.List.{slice_index_or}
 use Rattle.group_tree.specs.declared.group.Group.{Group}
 use Rattle.group_tree.specs.declared.group.TheConstants.{MAX_GROUPS}
 use Rattle.group_tree.specs.Ancestors.{is_passed}
-use Rattle.group_tree.specs.Events.{EventKey, with_one_more}
+use Rattle.group_tree.specs.declared.event.EventKey.{EventKey}
+use Rattle.group_tree.specs.Events.{with_one_more}
 use Rattle.group_tree.specs.Room.{on_path}
 use Rattle.group_charge.specs.Charges.{Account, AreCharges, Ledger, current_of, empty_account}
 

@@ -1,7 +1,9 @@
 //! The lines that the README of `group_charge` shows, the flag of a group that is killed as a whole, and how each kind of event
 //! is counted.
 
-use crate::calls::{charge_pages, group_stands, groups_tell, note_event, oom_group, remove_group, set_oom_group};
+use crate::calls::{
+    charge_pages, group_stands, groups_tell, note_event, oom_group, remove_group, set_oom_group,
+};
 use group_charge::charges::{Charges, Over};
 use group_tree::event::EventKey;
 use group_tree::group::GroupId;

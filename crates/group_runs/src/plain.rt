@@ -284,7 +284,10 @@ fn group_agrees(rt: &impl Abort, charges: &Charges, g: GroupId, row: PlainGroup,
     groups_tell(rt, charges.peak(g) == row.peak);
     groups_tell(rt, charges.max(g) == row.limit);
     groups_tell(rt, charges.events(g).count(EventKey::Max) == row.all_notes);
-    groups_tell(rt, charges.events_local(g).count(EventKey::Max) == row.own_notes);
+    groups_tell(
+        rt,
+        charges.events_local(g).count(EventKey::Max) == row.own_notes,
+    );
 }
 
 // Compares usage, own pages, peak, limit and counts of all groups.
