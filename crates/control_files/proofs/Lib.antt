@@ -7,3 +7,5 @@ pub mod ReadingLemmas
 pub mod TextLemmas
 pub mod FileLemmas
 pub mod WritingLemmas
+pub mod FlagLemmas
+pub mod EventLines

@@ -1,39 +1,62 @@
 -- The files of a group: their names and their texts (cgroup-v2.rst, "Memory Interface Files").
-use Rattle.std.specs.Prelude.{ℕ, ◌*◌, Option, Some, None, List, ◌++◌, codes}
+use Rattle.std.specs.Prelude.{ℕ, ◌*◌, Bool, true, false, Option, Some, None, List, ◌++◌, codes}
 use Rattle.std.specs.Fmt.{decimal}
-use Rattle.group_tree.specs.Groups.{limit_of}
-use Rattle.group_charge.specs.declared.account.Counts.{Counts}
+use Rattle.std.specs.List.{flat_map}
+use Rattle.group_tree.specs.Events.{EventCounts, all_keys, count_of, key_name}
+use Rattle.group_tree.specs.Groups.{is_oom_group, limit_of}
 use Rattle.group_charge.specs.Charges.{Ledger, current_of, peak_of, events_of, events_local_of}
+use Rattle.control_files.specs.Flag.{flag_word}
 use Rattle.control_files.specs.declared.text.TheConstants.{PAGE_BYTES}
 use Rattle.control_files.specs.declared.file.File.{File}
-use Rattle.control_files.specs.declared.file.File.TheVariants.{Current, Max, Peak, Events, EventsLocal}
+use Rattle.control_files.specs.declared.file.File.TheVariants.{Current, Max, Peak, Events, EventsLocal, OomGroup}
+
+-- the bytes of a file's name, and whether it can be read and written
+pub record Row : Type 0 where
+  pub name : List ℕ
+  pub is_readable : Bool
+  pub is_writable : Bool
+
+-- the table of files
+abbrev pub row_of : File → Row
+row_of Current = record { name = codes "memory.current"; is_readable = true; is_writable = false }
+row_of Max = record { name = codes "memory.max"; is_readable = true; is_writable = true }
+row_of Peak = record { name = codes "memory.peak"; is_readable = true; is_writable = false }
+row_of Events = record { name = codes "memory.events"; is_readable = true; is_writable = false }
+row_of EventsLocal = record { name = codes "memory.events.local"; is_readable = true; is_writable = false }
+row_of OomGroup = record { name = codes "memory.oom.group"; is_readable = true; is_writable = true }
 
 -- the bytes of a file's name
 abbrev pub name_of : File → List ℕ
-name_of Current = codes "memory.current"
-name_of Max = codes "memory.max"
-name_of Peak = codes "memory.peak"
-name_of Events = codes "memory.events"
-name_of EventsLocal = codes "memory.events.local"
+name_of file = (row_of file).name
+
+-- the file can be read
+abbrev pub is_readable : File → Bool
+is_readable file = (row_of file).is_readable
+
+-- the file can be written
+abbrev pub is_writable : File → Bool
+is_writable file = (row_of file).is_writable
 
 -- so many pages of PAGE_BYTES, 4,096, told in bytes, on a line of their own
 abbrev pub pages_text : ℕ → List ℕ
 pages_text pages = decimal (pages * PAGE_BYTES) ++ codes "\n"
 
--- a limit in pages, where None is no limit
+-- a limit in pages, or `max` for none
 abbrev pub limit_text : Option ℕ → List ℕ
 limit_text None = codes "max\n"
 limit_text (Some pages) = pages_text pages
+
+-- a flag, on a line of its own
+abbrev pub flag_text : Bool → List ℕ
+flag_text flag = flag_word flag ++ codes "\n"
 
 -- a line of a key and its count
 abbrev pub count_line : List ℕ → ℕ → List ℕ
 count_line key count = key ++ (codes " " ++ (decimal count ++ codes "\n"))
 
--- a line for each key: `low` and `high` never happen here and stay 0, and then come the counts
-unfoldable pub events_text : Counts → List ℕ
-events_text counts =
-    codes "low 0\nhigh 0\n" ++ count_line (codes "max") counts.max ++ count_line (codes "oom") counts.oom
-    ++ count_line (codes "oom_kill") counts.oom_kill
+-- a line for each key: `low` and `high` never happen here and stay 0, and then come those that are counted
+unfoldable pub events_text : EventCounts → List ℕ
+events_text counts = codes "low 0\nhigh 0\n" ++ flat_map (λ key. count_line (key_name key) (count_of counts key)) all_keys
 
 -- the text of a file of a group
 abbrev pub file_text : Ledger → ℕ → File → List ℕ
@@ -42,3 +65,4 @@ file_text ledger g Max = limit_text (limit_of ledger.groups g)
 file_text ledger g Peak = pages_text (peak_of ledger g)
 file_text ledger g Events = events_text (events_of ledger g)
 file_text ledger g EventsLocal = events_text (events_local_of ledger g)
+file_text ledger g OomGroup = flag_text (is_oom_group ledger.groups g)

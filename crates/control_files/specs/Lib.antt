@@ -1,4 +1,5 @@
 pub mod Files
+pub mod Flag
 pub mod Limit
 pub mod Reading
 pub mod Text

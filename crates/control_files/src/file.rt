@@ -4,13 +4,14 @@ ghost use Rattle.std.specs.Prelude.{◌≡◌, ◌≢◌, ◌+◌, ◌≤◌, �
 ghost use Rattle.std.specs.List.{find};
 ghost use Rattle.std.specs.Str.{bytes_eq};
 ghost use Rattle.control_files.specs.declared.file.File.{File};
-ghost use Rattle.control_files.specs.Files.{name_of, count_line, events_text, file_text};
+ghost use Rattle.control_files.specs.Files.{count_line, events_text, file_text, is_readable, is_writable, name_of};
 ghost use Rattle.group_tree.specs.Groups.{has_group};
 
+use crate::flag::write_flag;
 use crate::limit::write_limit;
 use crate::text::{ArrayText, pages_text, text_of};
-use group_charge::account::Counts;
 use group_charge::charges::Charges;
+use group_tree::event::{EventCounts, EventKey};
 use group_tree::fault::Fault;
 use group_tree::group::GroupId;
 
@@ -27,36 +28,56 @@ pub enum File {
     Events,
     /// memory.events.local: how often the group's own limit was met.
     EventsLocal,
+    /// memory.oom.group: whether the group is killed as a whole.
+    OomGroup,
 }
 
 // All files.
-const FILES: [File; 5] = [
+const FILES: [File; 6] = [
     File::Current,
     File::Max,
     File::Peak,
     File::Events,
     File::EventsLocal,
+    File::OomGroup,
 ];
 
 impl File {
+    // The table of files: the name of each, whether it can be read, and whether it can be written.
+    fn row(self) -> (&'static str, bool, bool)
+        ensures name { result.0.now ≡ name_of self }
+        ensures readable { result.1 ≡ is_readable self }
+        ensures writable { result.2 ≡ is_writable self }
+    {
+        match self {
+            File::Current => ("memory.current", true, false),
+            File::Max => ("memory.max", true, true),
+            File::Peak => ("memory.peak", true, false),
+            File::Events => ("memory.events", true, false),
+            File::EventsLocal => ("memory.events.local", true, false),
+            File::OomGroup => ("memory.oom.group", true, true),
+        }
+    }
+
     /// The name, as the file stands in a group's folder.
     pub fn name(self) -> &'static str
         ensures { result.now ≡ name_of self }
     {
-        match self {
-            File::Current => "memory.current",
-            File::Max => "memory.max",
-            File::Peak => "memory.peak",
-            File::Events => "memory.events",
-            File::EventsLocal => "memory.events.local",
-        }
+        self.row().0
     }
 
-    /// Whether the file can be written: memory.max alone.
-    pub fn is_writable(self) -> bool
-        ensures { IsTrue result ↔ (self ≡ File.Max) }
+    /// Whether the file can be read.
+    pub fn is_readable(self) -> bool
+        ensures { result ≡ is_readable self }
     {
-        self == File::Max
+        self.row().1
+    }
+
+    /// Whether the file can be written.
+    pub fn is_writable(self) -> bool
+        ensures { result ≡ is_writable self }
+    {
+        self.row().2
     }
 }
 
@@ -75,18 +96,19 @@ pub fn file_text(charges: &Charges, g: GroupId, file: File) -> Result<ArrayText,
         File::Peak => pages_text(charges.peak(g)),
         File::Events => events_text(charges.events(g)),
         File::EventsLocal => events_text(charges.events_local(g)),
+        File::OomGroup => write_flag(charges.oom_group(g)),
     })
 }
 
 // The text of counts. Nothing is protected here and nothing is throttled, so `low` and `high` stay 0.
 #[tactic(auto, unfolding(crate::specs::Files::events_text))]
-fn events_text(counts: Counts) -> ArrayText
+fn events_text(counts: EventCounts) -> ArrayText
     ensures { result ≡ events_text counts }
 {
     let mut text = text_of(b"low 0\nhigh 0\n");
-    push_count(&mut text, b"max", counts.max);
-    push_count(&mut text, b"oom", counts.oom);
-    push_count(&mut text, b"oom_kill", counts.oom_kill);
+    for key in EventKey::ALL {
+        push_count(&mut text, key.name().as_bytes(), counts.count(key));
+    }
     text
 }
 

@@ -1,6 +1,8 @@
-//! The files of a group: their names, the text of a limit read and written, and the text of each file.
+//! The files of a group: their names, the texts of a limit and of a flag read and written, and the text of each file.
 #![tactic(auto)]
 
 pub mod file;
+pub mod flag;
 pub mod limit;
 pub mod text;
+mod word;

@@ -1,14 +1,15 @@
 //! The limit of a group, as memory.max writes it.
 
-ghost use Rattle.std.specs.Prelude.{◌≡◌, ℕ, ◌^◌, ◌<◌, not, Option, SomeIff, IfSome, IfNone, IfErr, List, ◌↔◌, ◌⊎◌, option_copied};
+ghost use Rattle.std.specs.Prelude.{◌≡◌, ℕ, ◌^◌, ◌<◌, not, Option, SomeIff, IfSome, IfNone, IfErr, List, ◌↔◌, ◌⊎◌};
 ghost use Rattle.std.specs.Char.{is_ascii_digit, to_ascii_uppercase};
-ghost use Rattle.std.specs.List.{position, list_all};
+ghost use Rattle.std.specs.List.{position};
 ghost use Rattle.std.specs.Str.Parse.{AllDigits, digits_value};
 ghost use Rattle.control_files.specs.Files.{limit_text};
-ghost use Rattle.control_files.specs.Limit.{is_space, factor_of, IsSuffix, pages_of, IsLimitText, ReadsAs, IsTooGreat, IsNoLimitText};
-ghost use Rattle.control_files.specs.Reading.{IsOnlyWord, IsAmountReading, SplitsDigits};
+ghost use Rattle.control_files.specs.Limit.{factor_of, IsSuffix, pages_of, IsLimitText, ReadsAs, IsTooGreat, IsNoLimitText};
+ghost use Rattle.control_files.specs.Reading.{IsAmountReading, SplitsDigits};
 
 use crate::text::{ArrayText, PAGE_BYTES, pages_text, text_of};
+use crate::word::only_word;
 use group_tree::fault::Fault;
 
 /// A limit in pages of 4,096 bytes; None for no limit.
@@ -56,12 +57,6 @@ fn limit_of(amount: u64) -> Limit
     u32::try_from(amount.div_ceil(PAGE_BYTES)).ok()
 }
 
-fn is_space(byte: u8) -> bool
-    ensures { result ≡ is_space byte }
-{
-    matches!(byte, b' ' | b'\t'..=b'\r')
-}
-
 // What a suffix multiplies by.
 #[tactic(auto, unfolding(crate::specs::Limit::factor_of))]
 fn factor_of(letter: u8) -> Option<u64>
@@ -76,35 +71,6 @@ fn factor_of(letter: u8) -> Option<u64>
         b'E' => Some(1 << 60),
         _ => None,
     }
-}
-
-// The one word of a text between white space; None where there is none, or more than one.
-fn only_word(text: &[u8]) -> Option<&[u8]>
-    ensures { IsOnlyWord text.now (option_copied result) }
-{
-    let start = first_non_space(text)?;
-    let text = &text[start..];
-    let (word, after) = text.split_at(first_space(text).unwrap_or(text.len()));
-    are_spaces(after).then_some(word)
-}
-
-// The first byte that is no white space.
-fn first_non_space(text: &[u8]) -> Option<usize>
-    ensures { result ≡ position (λ byte. not (is_space byte)) text.now }
-{
-    text.iter().position(|byte| !is_space(*byte))
-}
-
-fn first_space(text: &[u8]) -> Option<usize>
-    ensures { result ≡ position is_space text.now }
-{
-    text.iter().position(|byte| is_space(*byte))
-}
-
-fn are_spaces(text: &[u8]) -> bool
-    ensures { result ≡ list_all is_space text.now }
-{
-    text.iter().all(|byte| is_space(*byte))
 }
 
 // Reads an amount of bytes.

@@ -23,7 +23,7 @@ pub enum Note {
         usage: u32,
         need: u32,
     },
-    /// The stock of this processor, 1 to 16, was drained: so many pages were in it, which came off the charge of their
+    /// The stock of this processor, 1 to 64, was drained: so many pages were in it, which came off the charge of their
     /// group.
     Stock {
         cpu: u32,

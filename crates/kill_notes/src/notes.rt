@@ -7,9 +7,10 @@ use crate::note::Note;
 use std::alloc::{AllocError, Global};
 use std::marker::Model;
 
-/// How many notes are kept at most. One command makes fewer, at most 477: for each of 8 limits on a path 34, which are
-/// the limit, a stock and a round of each of 16, and an `oom`; a `Kill` for each of 63 groups; a victim and a `GroupKill`
-/// for each time that the killer chooses, at most 63 times; and the 16 stocks that are drained as their groups die.
+/// How many notes are kept at most. One command makes fewer, at most 909: for each of 8 limits on a path the limit, a
+/// stock of each of 64 processors, 16 rounds and an `oom`; a `Kill` for each of 63 groups, and a victim and a `GroupKill`
+/// for each time that the killer chooses, which is at most 63 times; and the 64 stocks that are drained as their groups
+/// die.
 pub const MOST_NOTES: usize = 2_048;
 
 /// The notes of a visit, the first 2,048 of them, the oldest first.

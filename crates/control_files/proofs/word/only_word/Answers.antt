@@ -1,6 +1,6 @@
 use Rattle.std.proofs.Common.{refl, sym}
 use Rattle.control_files.proofs.WordLemmas.{no_word, word_answer}
-use Rattle.control_files.proofs.limit.only_word.Goals as goal
+use Rattle.control_files.proofs.word.only_word.Goals as goal
 
 pub returns-in_err-start : goal.returns-in_err-start
 returns-in_err-start c = rw c.from_residual.ensures (no_word c.args.text.now (sym (c.in_err-start.ensures)))
