@@ -384,7 +384,7 @@ homes_step s seat (SetMax g limit) Done sound h legal ok counted =
 homes_step s seat (SetFlag g flag) Done sound h legal ok counted =
     let inner : not (g == 0) ≡ true = (set_flag_tests s seat g flag legal).2 in
     more_keeps s.groups (with_oom_group s.groups g flag) h
-    (AreGroups-flagged s.groups g flag (λ e. true≢false (sym inner ∙ ap not (eq-eqb g 0 e))) h.tree)
+    (AreGroups-flagged s.groups g flag h.tree (λ e. true≢false (sym inner ∙ ap not (eq-eqb g 0 e))))
     (λ k there. has_group-flagged s.groups g k flag ∙ there)
 homes_step s seat (Make path) (Number n) sound h legal ok counted =
     let none : is_none (make_fault s.groups path) ≡ true = (make_tests s seat path legal).1 in

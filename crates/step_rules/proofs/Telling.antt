@@ -10,8 +10,9 @@ use Rattle.group_tree.specs.Groups.{has_group, limit_of, is_oom_group, with_grou
 use Rattle.group_tree.specs.Groups.{group_at, initial_groups, the_root}
 use Rattle.group_tree.proofs.CallerLemmas.{has_group-with, has_group-limited, has_group-flagged, has_group-without, limit_of-with, limit_of-with_new}
 use Rattle.group_tree.proofs.CallerLemmas.{limit_of-without, limit_of-limited, limit_of-limited_other, limit_of-flagged}
-use Rattle.group_tree.proofs.CallerLemmas.{is_oom_group-with, is_oom_group-with_new, is_oom_group-without, is_oom_group-limited}
-use Rattle.group_tree.proofs.CallerLemmas.{is_oom_group-flagged, is_oom_group-flagged_other}
+use Rattle.group_tree.proofs.CallerLemmas.{is_oom_group-with_new}
+use Rattle.group_tree.proofs.GroupLemmas.{is_oom_group-with, is_oom_group-without, is_oom_group-limited, is_oom_group-flagged}
+use Rattle.group_tree.proofs.GroupLemmas.{is_oom_group-flagged_other}
 use Rattle.step_rules.specs.declared.step.Step.{Step}
 use Rattle.step_rules.specs.declared.step.Action.{Action}
 use Rattle.step_rules.specs.declared.step.Action.TheVariants.{Lock, Unlock, OpenVisit, ShutVisit, Put, TakeIn, PassBack, Consume, Credit}
@@ -98,7 +99,7 @@ flag_made g s x seat (SetFlag h flag) Done holds made = λ there. elim (cases_eq
 ]
 flag_made g s x seat (Make path) (Number n) holds made = λ there. elim (cases_eq g n) [
   | inl e ↦ rw (eq-eqb g n e) (ap (is_oom_group (with_group s.groups n path)) e ∙ is_oom_group-with_new s.groups n path made.answered.free)
-  | inr ne ↦ rw (ne_eqb g n ne) (is_oom_group-with s.groups n g path ne ∙ holds (sym (has_group-with s.groups n g path ne) ∙ there))
+  | inr ne ↦ rw (ne_eqb g n ne) (is_oom_group-with s.groups n g path ∙ holds (sym (has_group-with s.groups n g path ne) ∙ there))
 ]
 flag_made g s x seat (Remove h) Done holds made = λ there.
     let ne : g ≡ h → ⊥ = λ e. true≢false (sym there ∙ ap (has_group (without_group s.groups h)) e ∙ gone_itself s.groups h) in

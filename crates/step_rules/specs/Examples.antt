@@ -1,7 +1,7 @@
 -- Small runs, to be read beside the table: one of the life of a frame, three whose last step is refused, one of a drop, two at
--- borders (of references, limits and kills, and of the order of a list), one of notes, two of a group, its limit and its kill, and
--- one of a stock that doesn't pay.
-use Rattle.std.specs.Prelude.{ℕ, ◌==◌, Some, [], ◌∷◌, ◌++◌, codes, replicate, if◌then◌else◌}
+-- borders (of references, limits and kills, and of the order of a list), one of notes, two of a group, its limit and its kill,
+-- one of a group that is killed as a whole, and one of a stock that doesn't pay.
+use Rattle.std.specs.Prelude.{ℕ, ◌==◌, true, Some, [], ◌∷◌, ◌++◌, codes, replicate, if◌then◌else◌}
 use Rattle.step_rules.specs.declared.step.Step.{Step}
 use Rattle.step_rules.specs.declared.step.Action.{Action}
 use Rattle.step_rules.specs.declared.step.Action.TheVariants.{Lock, Unlock, OpenVisit, ShutVisit, Get, Put, Freeze, Unfreeze, PassOut, TakeIn, PassBack}
