@@ -6,9 +6,9 @@ use Rattle.std.proofs.lemmas.Bool.{and_from, ne_eqb, eq-eqb}
 use Rattle.std.proofs.lemmas.List.{get_or-set_same, get_or-set_other}
 use Rattle.frame_word.specs.Seats.{KnownTable}
 use Rattle.group_tree.specs.Groups.{has_group, has_child, with_group, make_fault, IsLeastFreeNumber}
+use Rattle.group_tree.specs.declared.event.EventKey.{EventKey}
 use Rattle.group_tree.specs.declared.event.EventKey.TheVariants.{Max, Oom, OomKill, OomGroupKill}
 use Rattle.group_tree.specs.declared.fault.Fault.{Fault}
-use Rattle.group_tree.specs.Events.{EventKey}
 use Rattle.group_charge.specs.Charges.{AreCharges, CountsEvent, CountsMax, CountsOom, CountsKill, CountsGroupKill, SamePeaks}
 use Rattle.group_charge.specs.Charges.{Ledger, current_of, with_noted, with_kill_noted, with_max_noted, with_oom_noted, with_group_kill_noted}
 use Rattle.group_charge.specs.Charges.{with_group_limit, with_oom_flag, with_new_group, with_group_removed}

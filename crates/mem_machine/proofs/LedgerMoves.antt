@@ -7,8 +7,9 @@ use Rattle.std.specs.List.{find}
 use Rattle.std.specs.Option.{option_map_or, option_or}
 use Rattle.std.proofs.lemmas.Bool.{cases_eq, ne_eqb, eqb-true, not_from_false, true≢false}
 use Rattle.std.proofs.lemmas.List.Folds.{find-append}
+use Rattle.group_tree.specs.declared.event.EventKey.{EventKey}
 use Rattle.group_tree.specs.declared.group.Group.{Group}
-use Rattle.group_tree.specs.Events.{EventKey, EventCounts, is_same_key, no_events, count_of, with_one_more}
+use Rattle.group_tree.specs.Events.{EventCounts, is_same_key, no_events, count_of, with_one_more}
 use Rattle.group_tree.specs.Groups.{has_group, in_subtree, without_group, IsLeastFreeNumber}
 use Rattle.group_tree.specs.Room.{one_more}
 use Rattle.group_tree.proofs.EventLemmas.{counted, none_counted}
@@ -21,7 +22,7 @@ use Rattle.frame_word.specs.Seats.{KnownTable}
 use Rattle.cpu_part.specs.Cpus.{KnownCpu}
 use Rattle.step_rules.specs.declared.step.Action.{Action}
 use Rattle.step_rules.specs.declared.step.Action.TheVariants.{Grant, Make}
-use Rattle.step_rules.specs.declared.step.Answer.TheVariants.{Done, Granted, Number}
+use Rattle.step_rules.specs.declared.step.Answer.TheVariants.{Done, Granted}
 use Rattle.step_rules.specs.State.{State}
 use Rattle.step_rules.specs.After.{Run, after}
 use Rattle.step_rules.specs.Peaks.{peak_follows}
@@ -116,7 +117,7 @@ pub follows_note : (kind : EventKey) (action : Action) (g : ℕ) → note_of act
 follows_note kind action g notes t m c k counts peaks =
     let groups = m.ledger.groups in
     record {
-      peak = λ h is. peaks h ∙ sym (done_peak _ h action (peak_of m.ledger h));
+      peak = λ h is. peaks h ∙ sym (done_peak (after (local_of t m c) 0 action Done) h action (peak_of m.ledger h));
       events = λ key h is.
           let old = events_of m.ledger h in
           ap (λ (x : EventCounts). count_of x key) (counts.events h)

@@ -1,8 +1,9 @@
 -- What a list of steps makes of the peaks and the event counts that the ledger keeps (memory.peak, memory.events and
 -- memory.events.local of cgroup-v2.rst).
 use Rattle.std.specs.Prelude.{◌≡◌, ℕ, Bool, true, List, [], ◌∷◌}
+use Rattle.group_tree.specs.declared.event.EventKey.{EventKey}
 use Rattle.group_tree.specs.declared.group.Group.{Group}
-use Rattle.group_tree.specs.Events.{EventKey, count_of}
+use Rattle.group_tree.specs.Events.{count_of}
 use Rattle.group_tree.specs.Groups.{has_group}
 use Rattle.group_charge.specs.Charges.{Ledger, peak_of, events_of, events_local_of}
 use Rattle.step_rules.specs.declared.step.Step.{Step}

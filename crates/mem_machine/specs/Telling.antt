@@ -1,7 +1,8 @@
 -- What the peaks and the event counts of the ledger tell of a run, and that each call keeps it so.
 use Rattle.std.specs.Prelude.{◌≡◌, ℕ, ◌++◌, true}
 use Rattle.frame_word.specs.Seats.{KnownTable}
-use Rattle.group_tree.specs.Events.{EventKey, count_of}
+use Rattle.group_tree.specs.declared.event.EventKey.{EventKey}
+use Rattle.group_tree.specs.Events.{count_of}
 use Rattle.group_tree.specs.Groups.{has_group}
 use Rattle.group_charge.specs.Charges.{Ledger, peak_of, events_of, events_local_of}
 use Rattle.step_rules.specs.After.{Run}
