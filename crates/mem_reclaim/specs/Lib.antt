@@ -8,3 +8,4 @@ pub mod Victim
 pub mod Sets
 pub mod Killing
 pub mod KillNotes
+pub mod Laws

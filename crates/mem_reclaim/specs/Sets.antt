@@ -1,5 +1,5 @@
 -- Which groups are killed with a victim: a whole subtree, or the victim alone (memory.oom.group of cgroup-v2.rst).
-use Rattle.std.specs.Prelude.{◌≡◌, ℕ, ◌&&◌, ◌⊎◌, not, Bool, true, false, Option, Some, None, List, [], ◌∷◌, length, filter, if◌then◌else◌}
+use Rattle.std.specs.Prelude.{◌≡◌, ℕ, ◌&&◌, ◌⊎◌, Bool, true, false, Option, Some, None, List, [], ◌∷◌, length, filter, if◌then◌else◌}
 use Rattle.std.specs.List.{range_with_len}
 use Rattle.group_tree.specs.declared.group.Group.{Group}
 use Rattle.group_tree.specs.Groups.{in_subtree, is_oom_group}
@@ -28,11 +28,6 @@ HasNoFlagged groups limited victim = (other : ℕ) → is_flagged_between groups
 abbrev pub IsFlaggedAbove : List Group → (limited victim : ℕ) → Option ℕ → Type 0
 IsFlaggedAbove groups limited victim (Some head) = IsHighestFlagged groups limited victim head
 IsFlaggedAbove groups limited victim None = HasNoFlagged groups limited victim
-
--- the group isn't in the subtree of this one, if there is one
-abbrev pub is_outside : List Group → Option ℕ → ℕ → Bool
-is_outside groups None group = true
-is_outside groups (Some head) group = not (in_subtree groups head group)
 
 -- the head of what is killed with the victim: the highest of these groups; the victim itself if there is none
 abbrev pub IsHead : List Group → (limited : ℕ) → Killed → Type 0

@@ -164,7 +164,8 @@ pub fn kill<N: BootName>(
 {
     let victim = victim(machine, group)?;
     note_victim(machine, group, victim);
-    match highest_flagged(machine, group, victim) {
+    let tree = machine.charges().tree();
+    match highest_flagged(tree, group, victim) {
         Some(head) => {
             kill_subtree(machine, tables, group, head);
             Some(Killed { victim, head })

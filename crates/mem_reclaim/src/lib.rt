@@ -7,6 +7,7 @@
 #![tactic(auto)]
 
 mod kills;
+pub mod laws;
 mod meet;
 mod noting;
 mod passes;
