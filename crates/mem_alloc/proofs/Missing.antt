@@ -11,7 +11,8 @@ use Rattle.mem_machine.specs.Local.{Side, side}
 use Rattle.mem_machine.specs.Blocks.{taken_steps, unplaced_steps}
 use Rattle.mem_machine.specs.Lending.{LendsMany, TakesManyBack}
 use Rattle.mem_machine.specs.Stocks.{Drains, DrainsAllBelow, stock_group}
-use Rattle.mem_machine.specs.Steps.{Drain, unlist_steps, drain_list_steps, drain_steps, drain_stocks_steps, fill_steps, kill_steps, lend_steps, note_max_steps, note_oom_steps, over_steps, refill_steps, take_front_steps}
+use Rattle.mem_machine.specs.Steps.{Drain, unlist_steps, drain_list_steps, drain_steps, drain_stocks_steps, fill_steps, lend_steps, note_max_steps, note_oom_steps, over_steps, refill_steps, take_front_steps}
+use Rattle.mem_reclaim.specs.declared.sets.Killed.{Killed}
 use Rattle.mem_reclaim.specs.Moves.{missed_in}
 use Rattle.mem_reclaim.proofs.LettingGo.{AreQuiet, misses_put, quiet_both, quiet_drain, quiet_drains}
 use Rattle.mem_alloc.specs.declared.faults.AllocFault.{AllocFault}
@@ -68,26 +69,20 @@ pub counts_drains : (t : KnownTable) (g k : ℕ) (m n : KnownMachine) (drains : 
     → CountsMisses (course t m (drain_stocks_steps drains) n)
 counts_drains t g k m n drains all = counts_same t m n (drain_stocks_steps drains) (quiet_drains drains) (all_same g k m n drains all).frame_seat
 
-counts_one : (r : Option ℕ) (t : KnownTable) (g pages v : ℕ) (m n : KnownMachine) (steps : Run) → KillsOne r g pages v (course t m steps n)
-    → CountsMisses (course t m steps n)
-counts_one r t g pages v m n steps h =
-    let told = kill_steps v ++ h.kills.once.later in
-    let quiet : (f : ℕ) → missed_in f told ≡ 0 = λ f.
-    let a = missed_both f (kill_steps v) h.kills.once.later in
-    let b = h.kills.once.no_miss f in
-    let z : missed_in f (kill_steps v) ≡ 0 = refl in
-    omega (arith, a, b, z) in
-    counts_as t m n steps told (h.steps_are ∙ h.kills.once.front) (λ f.
-    let p = quiet f in
+counts_one : (r : Option ℕ) (t : KnownTable) (g pages : ℕ) (killed : Killed) (m n : KnownMachine) (steps : Run)
+    → KillsOne r g pages killed (course t m steps n) → CountsMisses (course t m steps n)
+counts_one r t g pages killed m n steps h =
+    counts_as t m n steps h.kills.steps h.steps_are (λ f.
+    let p = h.kills.these.no_miss f in
     let q = h.keeps.misses f in
     omega (arith, p, q))
 
-counts_each : (r : Option ℕ) (t : KnownTable) (g pages : ℕ) (victims : List ℕ) (m n : KnownMachine) (steps : Run)
+counts_each : (r : Option ℕ) (t : KnownTable) (g pages : ℕ) (victims : List Killed) (m n : KnownMachine) (steps : Run)
     → KillsEach r g pages victims (course t m steps n) → CountsMisses (course t m steps n)
 counts_each r t g pages [] m n steps h = counts_rest t m n steps h.machine h.steps_are
-counts_each r t g pages (v ∷ later) m n steps h =
+counts_each r t g pages (killed ∷ later) m n steps h =
     counts_as t m n steps (h.earlier ++ h.later) h.steps_are (counts_both t m h.between n h.earlier h.later
-    (counts_one r t g pages v m h.between h.earlier h.first) (counts_each r t g pages later h.between n h.later h.second))
+    (counts_one r t g pages killed m h.between h.earlier h.first) (counts_each r t g pages later h.between n h.later h.second))
 
 pub counts_kills : (r : Option ℕ) (t : KnownTable) (g pages : ℕ) (m n : KnownMachine) (steps : Run) → KillsFor r g pages (course t m steps n)
     → CountsMisses (course t m steps n)
