@@ -1,7 +1,7 @@
 -- Who is in the set of those that die with a victim. Serves the laws.
-use Rattle.std.proofs.Common.{◌≡◌, ◌≢◌, ℕ, zero, suc, ◌+◌, ◌<◌, ◌⊎◌, ◌&&◌, Bool, true, false, List, [], ◌∷◌, ◌++◌, cond, refl, sym, ap, ◌∙◌, subst, inl, inr, arith}
+use Rattle.std.proofs.Common.{◌≡◌, ℕ, zero, suc, ◌+◌, ◌<◌, ◌&&◌, true, false, List, [], ◌∷◌, cond, refl, sym, ap, ◌∙◌, subst, inl, inr, arith}
 use Rattle.std.proofs.Common.{Contains}
-use Rattle.std.specs.Prelude.{filter, not}
+use Rattle.std.specs.Prelude.{not}
 use Rattle.std.specs.List.{range_with_len}
 use Rattle.std.proofs.lemmas.Bool.{and_from, and_parts, cases_Bool, cases_eq, cond-false, cond-true, true≢false}
 use Rattle.std.proofs.lemmas.List.Elements.{All-contains, Contains-append_left, Contains-push, filter_passes}
@@ -11,7 +11,7 @@ use Rattle.group_charge.proofs.KeptLemmas.{number_below}
 use Rattle.mem_machine.specs.Machines.{KnownMachine, is_killed}
 use Rattle.mem_reclaim.specs.declared.sets.Killed.{Killed}
 use Rattle.mem_reclaim.specs.Laws.{FlaggedGroupsDieWhole, IsChosen, IsWhole, OnlyTheLivingDie, VictimsDie}
-use Rattle.mem_reclaim.specs.Sets.{HasNoFlagged, IsHead, IsHighestFlagged, alive_below, is_flagged_between, kill_set}
+use Rattle.mem_reclaim.specs.Sets.{HasNoFlagged, IsHead, IsHighestFlagged, alive_below, kill_set}
 use Rattle.mem_reclaim.specs.Victim.{may_be_killed}
 use Rattle.mem_reclaim.proofs.Alive.{alive_more, alive_next, alive_to}
 use Rattle.mem_reclaim.proofs.Heads.{on_path_is, victim_unflagged}

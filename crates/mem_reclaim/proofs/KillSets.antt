@@ -1,6 +1,6 @@
 -- Several groups that are killed, one after the other, and the notes around their kills. Serves `kill_noted`, `kill_below`,
 -- `kill_subtree` and `kill`.
-use Rattle.std.proofs.Common.{◌≡◌, ℕ, ◌+◌, ◌≤◌, Bool, true, false, Option, List, [], ◌∷◌, ◌++◌, map, cond, refl, sym, ap, ◌∙◌, subst, arith, inl, inr}
+use Rattle.std.proofs.Common.{◌≡◌, ℕ, ◌+◌, ◌≤◌, Bool, true, false, Option, List, [], ◌∷◌, ◌++◌, cond, refl, sym, ap, ◌∙◌, subst, arith, inl, inr}
 use Rattle.std.proofs.Common.{All, ◌&&◌}
 use Rattle.std.specs.Prelude.{not, slice_set}
 use Rattle.std.proofs.lemmas.Bool.{and_parts, or_parts, true≢false}
@@ -8,9 +8,8 @@ use Rattle.std.proofs.lemmas.List.{append_assoc, append-nil, get_or-set_other}
 use Rattle.std.proofs.lemmas.List.Elements.{All-append, All-cons, All-nil}
 use Rattle.std.proofs.lemmas.List.Sums.{fold-append, sum_by-append}
 use Rattle.frame_word.specs.Seats.{KnownTable}
-use Rattle.group_tree.specs.declared.group.Group.{Group}
-use Rattle.group_tree.specs.Groups.{has_group, in_subtree, is_oom_group}
-use Rattle.group_charge.specs.Charges.{Ledger, current_of, with_group_kill_noted}
+use Rattle.group_tree.specs.Groups.{in_subtree, is_oom_group}
+use Rattle.group_charge.specs.Charges.{current_of, with_group_kill_noted}
 use Rattle.step_rules.specs.declared.step.Action.{Action}
 use Rattle.step_rules.specs.declared.step.Action.TheVariants as action
 use Rattle.step_rules.specs.declared.step.Answer.{Answer}

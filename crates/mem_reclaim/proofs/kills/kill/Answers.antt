@@ -1,7 +1,9 @@
-use Rattle.std.proofs.Common.{ap, ◌∙◌}
+use Rattle.std.proofs.Common.{◌≡◌, List, ap, ◌∙◌, subst}
+use Rattle.group_tree.specs.declared.group.Group.{Group}
 use Rattle.group_tree.specs.Groups.{has_group}
+use Rattle.group_charge.specs.Charges.{Ledger}
 use Rattle.mem_machine.specs.Machines.{KnownMachine}
-use Rattle.mem_reclaim.specs.Sets.{alive_below}
+use Rattle.mem_reclaim.specs.Sets.{HasNoFlagged, IsHighestFlagged, alive_below}
 use Rattle.mem_reclaim.specs.Killing.{KillsSubtree}
 use Rattle.mem_reclaim.proofs.Choosing.{chosen_there}
 use Rattle.mem_reclaim.proofs.Heads.{on_path_there}
@@ -10,7 +12,9 @@ use Rattle.mem_reclaim.proofs.kills.kill.Goals as goal
 
 pub kill_subtree-requires-clause-head : goal.kill_subtree-requires-clause-head
 kill_subtree-requires-clause-head g c =
-    on_path_there c.note_victim.new.machine.ledger.groups c.args.group c.in_ok-victim.victim c.in-Some.head (c.in-Some.ensures.highest).between
+    let groups : c.tree-tree.result.now ≡ c.note_victim.new.machine.ledger.groups = c.tree-tree.ensures.tree ∙ ap (λ (l : Ledger). l.groups) c.charges.ensures in
+    on_path_there c.note_victim.new.machine.ledger.groups c.args.group c.in_ok-victim.victim c.in-Some.head
+    (subst (λ (l : List Group). IsHighestFlagged l c.args.group c.in_ok-victim.victim c.in-Some.head) groups c.in-Some.ensures.highest).between
 
 pub kill_noted-requires-clause-there : goal.kill_noted-requires-clause-there
 kill_noted-requires-clause-there g c =
@@ -27,7 +31,9 @@ returns-in-Some g c =
     let e = c.kill_subtree.ensures in
     let so : KilledSo t (alive_below a h) (KillsSubtree t c.args.group h) a n =
     record { kills = e.kills; marked = e.marked; drained = e.drained; stocks = e.stocks; none_kept = e.none_kept; keeps = e.keeps } in
-    let all = head_killed t c.args.group v h c.args.machine.now a n c.note_victim.ensures c.in-Some.ensures.highest so in
+    let groups : c.tree-tree.result.now ≡ a.ledger.groups = c.tree-tree.ensures.tree ∙ ap (λ (l : Ledger). l.groups) c.charges.ensures in
+    let high = subst (λ (l : List Group). IsHighestFlagged l c.args.group v h) groups c.in-Some.ensures.highest in
+    let all = head_killed t c.args.group v h c.args.machine.now a n c.note_victim.ensures high so in
     record {
       victim = c.in_ok-victim.ensures {u = tt};
       kills = all.kills;
@@ -47,8 +53,9 @@ returns-in-None g c =
     let e = c.kill_noted.ensures in
     let one : OneKilled t c.args.group v a n =
     record { kills = e.kills; marked = e.marked; drained = e.drained; stocks = e.stocks; none_kept = e.none_kept; keeps = e.keeps } in
-    let all = alone_killed t c.args.group v c.args.machine.now a n (c.in_ok-victim.ensures {u = tt}).chosen c.note_victim.ensures
-    c.in-None.ensures.highest one in
+    let groups : c.tree-tree.result.now ≡ a.ledger.groups = c.tree-tree.ensures.tree ∙ ap (λ (l : Ledger). l.groups) c.charges.ensures in
+    let none = subst (λ (l : List Group). HasNoFlagged l c.args.group v) groups c.in-None.ensures.highest in
+    let all = alone_killed t c.args.group v c.args.machine.now a n (c.in_ok-victim.ensures {u = tt}).chosen c.note_victim.ensures none one in
     record {
       victim = c.in_ok-victim.ensures {u = tt};
       kills = all.kills;

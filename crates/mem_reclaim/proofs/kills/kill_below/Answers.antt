@@ -1,14 +1,17 @@
-use Rattle.std.proofs.Common.{◌≡◌, ◌+◌, ℕ, true, false, IsTrue, Bool, sym, ap, ◌∙◌, subst, rules}
-use Rattle.group_tree.specs.declared.group.Group.{Group}
-use Rattle.group_tree.specs.Groups.{has_group}
+use Rattle.std.proofs.Common.{◌≡◌, ◌+◌, ℕ, sym, ap, ◌∙◌, subst, rules}
 use Rattle.mem_machine.specs.Machines.{KnownMachine}
 use Rattle.mem_reclaim.specs.Victim.{may_be_killed}
+use Rattle.mem_reclaim.proofs.Choosing.{chosen_there}
 use Rattle.mem_reclaim.proofs.KillSets.{KilledSoFar, OneKilled, below_all, below_first, below_more, below_same}
 use Rattle.mem_reclaim.proofs.kills.kill_below.Goals as goal
 use Rattle.mem_reclaim.proofs.kills.kill_below.Goals.{then-may_be_killed, else-may_be_killed}
 
 pub loop-number-init : goal.loop-number-init
 loop-number-init g c = below_first g.N.BootName.frames c.args.limited c.args.head c.args.machine.now
+
+pub kill_noted-requires-clause-there : goal.kill_noted-requires-clause-there
+kill_noted-requires-clause-there g c =
+    chosen_there c.loop-number.machine c.args.head c.in-Some.turn (sym c.may_be_killed.ensures ∙ c.if-may_be_killed.true)
 
 pub loop-number-preserved : goal.loop-number-preserved
 loop-number-preserved g c =

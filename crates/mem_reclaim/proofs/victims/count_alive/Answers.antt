@@ -1,4 +1,4 @@
-use Rattle.std.proofs.Common.{◌≡◌, ◌+◌, ℕ, Bool, sym, ap, ◌∙◌, subst, rules}
+use Rattle.std.proofs.Common.{◌≡◌, ◌+◌, ℕ, sym, ap, ◌∙◌, subst, rules}
 use Rattle.mem_reclaim.specs.Victim.{may_be_killed}
 use Rattle.mem_reclaim.proofs.Alive.{AliveTo, alive_all, alive_counted, alive_none, alive_skipped}
 use Rattle.mem_reclaim.proofs.victims.count_alive.Goals as goal
