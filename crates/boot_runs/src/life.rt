@@ -238,6 +238,6 @@ fn a_group_is_made_and_read(rt: HostRuntime) {
 
 #[test]
 fn bad_sizes_are_refused(rt: HostRuntime) {
-    let sizes = Config { cpus: 17, ..SIZES };
+    let sizes = Config { cpus: 65, ..SIZES };
     holds(&rt, Boot::new(rt.alloc(), sizes).is_err());
 }

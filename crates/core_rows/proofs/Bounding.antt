@@ -10,7 +10,7 @@ use Rattle.step_rules.specs.declared.phase.Phase.{Phase}
 use Rattle.step_rules.specs.declared.step.Action.{Action}
 use Rattle.step_rules.specs.declared.step.Action.TheVariants.{Lock, Unlock, OpenVisit, ShutVisit, Get, Put, Freeze, Unfreeze, PassOut}
 use Rattle.step_rules.specs.declared.step.Action.TheVariants.{TakeIn, PassBack, Collect, Consume, Credit, Report, Absorb, Fill, DrainStock}
-use Rattle.step_rules.specs.declared.step.Action.TheVariants.{Grant, Ungrant, PlaceBlock, Return, SetMax, Make, Remove, Kill}
+use Rattle.step_rules.specs.declared.step.Action.TheVariants.{Grant, Ungrant, PlaceBlock, Return, SetMax, SetFlag, Make, Remove, Kill}
 use Rattle.step_rules.specs.declared.step.Answer.{Answer}
 use Rattle.step_rules.specs.declared.step.Answer.TheVariants.{Done, Held, Left, Last, Took, Back, Pages, Granted, Placed, Number}
 use Rattle.step_rules.specs.Phases.{Kind, ListFrame, FreshFrame, has_as, is_live, is_head_in_hand}
@@ -292,6 +292,8 @@ bounded_step n s seat (PlaceBlock g k) (Placed x) sound b legal ok counted small
 bounded_step n s seat (Return f) Done sound b legal ok counted small =
     record { references = b.references; pages = wide n (pages_out s) b.pages; holder = b.holder }
 bounded_step n s seat (SetMax g limit) Done sound b legal ok counted small =
+    record { references = b.references; pages = wide n (pages_out s) b.pages; holder = b.holder }
+bounded_step n s seat (SetFlag g flag) Done sound b legal ok counted small =
     record { references = b.references; pages = wide n (pages_out s) b.pages; holder = b.holder }
 bounded_step n s seat (Make path) (Number k) sound b legal ok counted small =
     record { references = b.references; pages = wide n (pages_out s) b.pages; holder = b.holder }

@@ -25,8 +25,8 @@ pub record HasRoom (frames : ℕ) (s : Seat) : Type 0 where
 
 -- the rows are of the zone's size: a phase for each frame, a seat for the zone and each processor, and 64 group numbers
 pub record FitsZone (r : Rows) : Type 0 where
-  pub frames : r.frames ≤ 65536
-  pub cpus : r.cpus ≤ 16
+  pub frames : r.frames ≤ 1048576
+  pub cpus : r.cpus ≤ 64
   pub phases : vec_len r.phases ≡ r.frames
   pub seats : vec_len r.seats ≡ r.cpus + 1
   pub killed : vec_len r.killed ≡ 64

@@ -16,7 +16,7 @@ use step_rules::phase::{Hold, Phase};
 
 /// Seats that have nothing, the zone's own and one for each processor.
 fn new_seats(alloc: Global, frames: u32, cpus: u32) -> Result<Vec<Seat>, AllocError>
-    requires { cpus ≤ 16 }
+    requires { cpus ≤ 64 }
     ensures number { IfOk result (λ seats. vec_len seats ≡ cpus + 1) }
     ensures rooms { IfOk result (λ seats. All (HasRoom frames) seats.items) }
     ensures none { IfOk result (λ seats. All (IsNewSeat frames) seats.items) }
@@ -58,8 +58,8 @@ impl Rows {
     /// Rows of so many frames and processors: all frames are free, the root is alone, and the lock is free. All room
     /// that a step needs is reserved here.
     pub fn new(alloc: Global, frames: u32, cpus: u32) -> Result<Rows, AllocError>
-        requires frames { frames ≤ 65536 }
-        requires cpus { cpus ≤ 16 }
+        requires frames { frames ≤ 1048576 }
+        requires cpus { cpus ≤ 64 }
         ensures fits { IfOk result FitsZone }
         ensures state { IfOk result (λ r. state_in r ≡ at_boot (record { frames = frames; cpus = cpus })) }
     {

@@ -45,7 +45,7 @@ impl Rows {
         requires fits { FitsZone self.now }
         requires few { IsFew (state_in self.now) }
         ensures pins { result ≡ pins_of (state_in self.now) seat }
-        ensures bound { result ≤ 255 * 65536 }
+        ensures bound { result ≤ 255 * 1048576 }
     {
         let mut sum = 0u32;
         for frame in 0..self.frames {
@@ -127,7 +127,7 @@ impl Rows {
     fn frames_kept(&self, group: GroupId) -> u128
         requires fits { FitsZone self.now }
         ensures kept { result ≡ frames_kept self.now.tree (state_in self.now).phases self.now.frames group }
-        ensures few { result ≤ 65536 }
+        ensures few { result ≤ 1048576 }
     {
         let mut sum = 0u128;
         for frame in 0..self.frames {
@@ -157,7 +157,7 @@ impl Rows {
         requires fits { FitsZone self.now }
         requires few { IsFew (state_in self.now) }
         ensures pages { result ≡ pages_prepaid self.now.tree (state_in self.now).parts self.now.cpus group }
-        ensures few { result ≤ 17 * 2 ^ 96 }
+        ensures few { result ≤ 65 * 2 ^ 96 }
     {
         let mut sum = 0u128;
         for cpu in 0..self.cpus + 1 {

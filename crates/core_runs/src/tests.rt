@@ -4,6 +4,7 @@ mod plays;
 mod random;
 mod recount;
 
+use group_tree::event::EventKey;
 use group_tree::group::GroupId;
 use group_tree::path::PathText;
 use mem_core::zone::Core;
@@ -295,10 +296,72 @@ fn a_refused_grant_is_noted(rt: HostRuntime) -> Result<(), Fail> {
         CoreFact::Current(group, 0),
         CoreFact::Peak(group, 2),
         CoreFact::Max(group, limit),
-        CoreFact::Events(group, 1, 0),
-        CoreFact::LocalOom(group, 1),
+        CoreFact::Events(group, EventKey::Max, 1),
+        CoreFact::Events(group, EventKey::OomKill, 0),
+        CoreFact::LocalEvents(group, EventKey::Oom, 1),
     ];
     works_on_core(&rt, rt.alloc(), &with_group(), &rows, &facts)
+}
+
+// /a is to be killed as a whole, is killed, and that is noted. Neither can be said of the root or of a group that isn't
+// there, nor by a processor.
+fn with_group_kill() -> [CoreRow; 10] {
+    let (root, group, gone) = (GroupId::root(), group_of(1), group_of(2));
+    let oom_group = true;
+    let set_root = Action::SetFlag {
+        group: root,
+        oom_group,
+    };
+    let set_gone = Action::SetFlag {
+        group: gone,
+        oom_group,
+    };
+    let set = Action::SetFlag { group, oom_group };
+    let [lock, make] = with_group();
+    [
+        lock,
+        make,
+        (0, set_root, Answer::Illegal),
+        (0, set_gone, Answer::Illegal),
+        (1, set, Answer::Illegal),
+        (0, set, Answer::Done),
+        (0, Action::Kill { group }, Answer::Done),
+        (0, Action::NoteGroupKill { group: root }, Answer::Illegal),
+        (0, Action::NoteGroupKill { group: gone }, Answer::Illegal),
+        (0, Action::NoteGroupKill { group }, Answer::Done),
+    ]
+}
+
+// That a group was killed as a whole is counted once, at that group and above it.
+#[test]
+fn a_group_kill_is_counted(rt: HostRuntime) -> Result<(), Fail> {
+    let (root, group) = (GroupId::root(), group_of(1));
+    let facts = [
+        CoreFact::Flag(group, true),
+        CoreFact::Flag(root, false),
+        CoreFact::Events(root, EventKey::OomGroupKill, 1),
+        CoreFact::Events(root, EventKey::OomKill, 1),
+        CoreFact::LocalEvents(root, EventKey::OomGroupKill, 0),
+        CoreFact::LocalEvents(group, EventKey::OomGroupKill, 1),
+    ];
+    works_on_core(&rt, rt.alloc(), &with_group_kill(), &[], &facts)
+}
+
+// A new group of that number has neither the flag nor the count.
+#[test]
+fn a_new_group_has_no_flag(rt: HostRuntime) -> Result<(), Fail> {
+    let group = group_of(1);
+    let path = PathText::of(b"/a").unwrap();
+    let rows = [
+        (0, Action::Remove { group }, Answer::Done),
+        (0, Action::Make { path }, Answer::Number(group)),
+    ];
+    let facts = [
+        CoreFact::Flag(group, false),
+        CoreFact::Events(group, EventKey::OomGroupKill, 0),
+        CoreFact::Events(group_of(0), EventKey::OomGroupKill, 1),
+    ];
+    works_on_core(&rt, rt.alloc(), &with_group_kill(), &rows, &facts)
 }
 
 // After /a is made four pages of it are placed on a block of four frames, which is kept.

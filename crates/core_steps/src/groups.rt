@@ -1,5 +1,5 @@
 //! Of the reading core, on which the program doesn't run.
-//! Groups, their limits and their pages.
+//! Groups, their limits, their flags and their pages.
 
 ghost use Rattle.std.specs.Prelude.{◌≡◌, ◌≢◌, ◌+◌, ◌-◌, ◌<◌, ◌≤◌, ◌^◌, true, false, Some, length};
 ghost use Rattle.step_rules.specs.Legal.{is_legal};
@@ -65,6 +65,18 @@ pub(crate) fn note_oom(rows: &mut Rows, seat: u32, group: GroupId) -> Answer
     Answer::Done
 }
 
+/// A note that a group was killed as a whole changes nothing here.
+pub(crate) fn note_group_kill(rows: &mut Rows, seat: u32, group: GroupId) -> Answer
+    requires fits { FitsZone rows.old }
+    requires few { IsFew (state_in rows.old) }
+    requires legal { is_legal (state_in rows.old) seat (Action.NoteGroupKill group) ≡ true }
+    ensures made { Makes rows.old seat (Action.NoteGroupKill group) result rows.new }
+{
+    let _ = seat;
+    let _ = group;
+    Answer::Done
+}
+
 /// A group is given another limit.
 pub(crate) fn set_max(rows: &mut Rows, seat: u32, group: GroupId, limit: Option<u32>) -> Answer
     requires fits { FitsZone rows.old }
@@ -74,6 +86,18 @@ pub(crate) fn set_max(rows: &mut Rows, seat: u32, group: GroupId, limit: Option<
 {
     let _ = seat;
     rows.tree.set_max(group, limit);
+    Answer::Done
+}
+
+/// A group is told whether it is to be killed as a whole.
+pub(crate) fn set_flag(rows: &mut Rows, seat: u32, group: GroupId, oom_group: bool) -> Answer
+    requires fits { FitsZone rows.old }
+    requires few { IsFew (state_in rows.old) }
+    requires legal { is_legal (state_in rows.old) seat (Action.SetFlag group oom_group) ≡ true }
+    ensures made { Makes rows.old seat (Action.SetFlag group oom_group) result rows.new }
+{
+    let _ = seat;
+    rows.tree.set_oom_group(group, oom_group);
     Answer::Done
 }
 

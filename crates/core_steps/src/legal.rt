@@ -211,10 +211,23 @@ fn may_note_oom(rows: &Rows, seat: u32, group: GroupId) -> bool
     may_note_max(rows, seat, group)
 }
 
+fn may_note_group_kill(rows: &Rows, seat: u32, group: GroupId) -> bool
+    ensures { result ≡ is_legal (state_in rows.now) seat (Action.NoteGroupKill group) }
+{
+    may_set_flag(rows, seat, group, true)
+}
+
 fn may_set_max(rows: &Rows, seat: u32, group: GroupId, limit: Option<u32>) -> bool
     ensures { result ≡ is_legal (state_in rows.now) seat (Action.SetMax group limit) }
 {
     may_zone_act(rows.hold, seat) && has_group(rows, group) && group.number() != 0
+}
+
+fn may_set_flag(rows: &Rows, seat: u32, group: GroupId, oom_group: bool) -> bool
+    ensures { result ≡ is_legal (state_in rows.now) seat (Action.SetFlag group oom_group) }
+{
+    let _ = oom_group;
+    may_set_max(rows, seat, group, None)
 }
 
 fn may_make(rows: &Rows, seat: u32, path: &PathText) -> bool
@@ -317,7 +330,9 @@ pub fn is_legal(rows: &Rows, step: &Step) -> bool
         Action::Return { frame } => may_return(rows, seat, *frame),
         Action::NoteMax { group } => may_note_max(rows, seat, *group),
         Action::NoteOom { group } => may_note_oom(rows, seat, *group),
+        Action::NoteGroupKill { group } => may_note_group_kill(rows, seat, *group),
         Action::SetMax { group, limit } => may_set_max(rows, seat, *group, *limit),
+        Action::SetFlag { group, oom_group } => may_set_flag(rows, seat, *group, *oom_group),
         Action::Make { path } => may_make(rows, seat, path),
         Action::Remove { group } => may_remove(rows, seat, *group),
         Action::Kill { group } => may_kill(rows, seat, *group),

@@ -11,7 +11,7 @@ ghost use Rattle.core_rows.specs.Shown.{state_in};
 ghost use Rattle.core_rows.specs.Rooms.{FitsZone, IsFew, Makes, PlacesFront, pages_asked};
 
 use crate::blocks::{place_block, return_unit};
-use crate::groups::{grant, kill, make, note_max, note_oom, remove, set_max, ungrant};
+use crate::groups::{grant, kill, make, note_group_kill, note_max, note_oom, remove, set_flag, set_max, ungrant};
 use crate::hand_over::{collect, pass_back, pass_out, take_in};
 use crate::legal::is_legal;
 use crate::references::{freeze, get, publish, put, unfreeze};
@@ -74,7 +74,9 @@ fn make_step(rows: &mut Rows, areas: &FreeAreas, step: &Step) -> Answer
         Action::Return { frame } => return_unit(rows, seat, *frame),
         Action::NoteMax { group } => note_max(rows, seat, *group),
         Action::NoteOom { group } => note_oom(rows, seat, *group),
+        Action::NoteGroupKill { group } => note_group_kill(rows, seat, *group),
         Action::SetMax { group, limit } => set_max(rows, seat, *group, *limit),
+        Action::SetFlag { group, oom_group } => set_flag(rows, seat, *group, *oom_group),
         Action::Make { path } => make(rows, seat, path),
         Action::Remove { group } => remove(rows, seat, *group),
         Action::Kill { group } => kill(rows, seat, *group),

@@ -5,9 +5,9 @@ use Rattle.zone_sizes.specs.declared.config.Config.{Config}
 -- each size is in the range of its own option
 pub record HasSizesInRange (sizes : Config) : Type 0 where
   pub frames_low : 1 ≤ sizes.frames
-  pub frames_high : sizes.frames ≤ 65536
+  pub frames_high : sizes.frames ≤ 1048576
   pub cpus_low : 1 ≤ sizes.cpus
-  pub cpus_high : sizes.cpus ≤ 16
+  pub cpus_high : sizes.cpus ≤ 64
   pub batch_low : 1 ≤ sizes.batch
   pub batch_high : sizes.batch ≤ 64
   pub high_low : 1 ≤ sizes.high

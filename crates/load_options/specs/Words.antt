@@ -34,8 +34,8 @@ flag_rule name = record (new_rule name) {
 -- the options that both subcommands have
 abbrev pub task_rules : List Rule
 task_rules =
-    size_rule (codes "frames") 65536 (codes "16")
-    ∷ size_rule (codes "cpus") 16 (codes "2")
+    size_rule (codes "frames") 1048576 (codes "16")
+    ∷ size_rule (codes "cpus") 64 (codes "2")
     ∷ size_rule (codes "batch") 64 (codes "4")
     ∷ size_rule (codes "high") 256 (codes "8")
     ∷ size_rule (codes "stock") 64 (codes "4")
@@ -85,8 +85,8 @@ o >>= f = option_and_then f o
 -- each size is the value of its own option
 abbrev pub sizes_in : List Row → Option Config
 sizes_in found = do
-  frames ← size_in (codes "frames") 65536 found
-  cpus ← size_in (codes "cpus") 16 found
+  frames ← size_in (codes "frames") 1048576 found
+  cpus ← size_in (codes "cpus") 64 found
   batch ← size_in (codes "batch") 64 found
   high ← size_in (codes "high") 256 found
   stock ← size_in (codes "stock") 64 found

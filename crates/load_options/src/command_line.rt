@@ -29,9 +29,9 @@ const REPLAY_HELP: &str = "Runs the lines of a script, one after the other";
 const RUN_HELP: &str =
     "Runs the lines before `go` so, and those behind it by a thread for each processor";
 
-const FRAMES_HELP: &str = "Frames of the zone, 1 to 65536";
+const FRAMES_HELP: &str = "Frames of the zone, 1 to 1048576";
 
-const CPUS_HELP: &str = "Processors, 1 to 16";
+const CPUS_HELP: &str = "Processors, 1 to 64";
 
 const BATCH_HELP: &str = "Frames by which a processor's list is refilled, 1 to 64";
 
@@ -59,8 +59,8 @@ pub fn words<R: Env + AllocGlobal>(rt: &R) -> Result<Vec<String>, WordsFault> {
 }
 
 /// Reads the words that follow the program's name: `replay`, and then any of `--frames`, `--cpus`, `--batch`,
-/// `--high` and `--stock`, each at most once, with a whole number in its own range: frames 1 to 65,536,
-/// processors 1 to 16, batch 1 to 64, high 1 to 256, stock 1 to 64; and `--audit` and `--explain`, at most once.
+/// `--high` and `--stock`, each at most once, with a whole number in its own range: frames 1 to 1,048,576,
+/// processors 1 to 64, batch 1 to 64, high 1 to 256, stock 1 to 64; and `--audit` and `--explain`, at most once.
 /// `Config::is_valid` asks more: high is at least batch. A size that is left out is 16, 2, 4, 8, 4 in turn.
 /// Anything else is a fault of the words, a request for help too.
 pub fn parse_words<S: AsStr>(alloc: Global, words: &[S]) -> Result<Settings, WordsFault>

@@ -9,9 +9,9 @@ use clap::ArgMatches;
 use zone_sizes::config::Config;
 
 // The greatest value that the option of each size takes.
-pub(crate) const MOST_FRAMES: u32 = 65_536;
+pub(crate) const MOST_FRAMES: u32 = 1_048_576;
 
-pub(crate) const MOST_CPUS: u32 = 16;
+pub(crate) const MOST_CPUS: u32 = 64;
 
 pub(crate) const MOST_BATCH: u32 = 64;
 

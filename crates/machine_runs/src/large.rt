@@ -1,4 +1,4 @@
-//! A machine of the greatest sizes, 65,536 frames and 16 processors, of which the last is lent frames and gives them back.
+//! A machine of the greatest sizes, 1,048,576 frames and 64 processors, of which the last is lent frames and gives them back.
 ghost use Rattle.std.specs.Prelude.{◌≡◌, ◌≤◌};
 ghost use Rattle.frame_word.specs.Seats.{IsShut, first_zone_view, first_cpu_view};
 ghost use Rattle.stock_word.specs.Stock.{first_zone_stock, first_processor};
@@ -13,7 +13,7 @@ use std::marker::Brand;
 use std::process::Abort;
 use stock_word::{StockSeat, StockWords};
 
-/// The tables of F frames and 16 processors, and the seats of the machine and of processor 16, as they are at first.
+/// The tables of F frames and 64 processors, and the seats of the machine and of processor 64, as they are at first.
 #[derive(Drop)]
 struct LargeParts<const F: u32> {
     frames: FrameWords,
@@ -21,19 +21,19 @@ struct LargeParts<const F: u32> {
     zone: FrameSeat,
     machine: StockSeat,
     last: ProcessorSeats,
-    ghost sizes: { (frames.frames ≡ F) × (frames.cpus ≡ 16) × (stocks.cpus ≡ 16) },
+    ghost sizes: { (frames.frames ≡ F) × (frames.cpus ≡ 64) × (stocks.cpus ≡ 64) },
     ghost zone_is: { (zone.table ≡ frames.table) × (zone.view ≡ first_zone_view F) },
     ghost machine_is: { (machine.table ≡ stocks.table) × (machine.view ≡ first_zone_stock) },
-    ghost last_is: { (last.frames.table ≡ frames.table) × (last.frames.view ≡ first_cpu_view 16) },
-    ghost last_pays: { (last.stock.table ≡ stocks.table) × (last.stock.view ≡ first_processor 16) },
+    ghost last_is: { (last.frames.table ≡ frames.table) × (last.frames.view ≡ first_cpu_view 64) },
+    ghost last_pays: { (last.stock.table ≡ stocks.table) × (last.stock.view ≡ first_processor 64) },
 }
 
 // The parts of a new boot.
 fn make_large_parts<const F: u32>(rt: &impl Abort, alloc: Global) -> LargeParts<F>
     requires { 1 ≤ F }
 {
-    let (frames, zone, mut seats) = FrameWords::new(alloc, F, 16).expect(rt, "memory");
-    let (stocks, machine, mut payers) = StockWords::new(alloc, 16).expect(rt, "memory");
+    let (frames, zone, mut seats) = FrameWords::new(alloc, F, 64).expect(rt, "memory");
+    let (stocks, machine, mut payers) = StockWords::new(alloc, 64).expect(rt, "memory");
     let last = ProcessorSeats {
         frames: seats.pop().expect(rt, "a seat"),
         stock: payers.pop().expect(rt, "a stock seat"),
@@ -70,7 +70,7 @@ fn lends_and_takes_back<N: BootName>(
     machine.shut(tables, cpu);
 }
 
-// In a visit of processor 16 of a machine of F frames, 64 come to its list and go back.
+// In a visit of processor 64 of a machine of F frames, 64 come to its list and go back.
 fn lends<const F: u32, N: BootName>(rt: &impl Abort, alloc: Global, parts: LargeParts<F>)
     requires { (parts.frames ≡ N.frames) × (parts.stocks ≡ N.stocks) }
 {
@@ -84,22 +84,22 @@ fn lends<const F: u32, N: BootName>(rt: &impl Abort, alloc: Global, parts: Large
     let tables = Tables::<N>::new(frames, stocks);
     let mut cpu = new_processor::<N>(rt, alloc, last);
     let mut machine = Machine::<N>::new(alloc, &tables, zone, machine).expect(rt, "memory");
-    machine_agrees(rt, cpu.number() == 16, "the last processor");
+    machine_agrees(rt, cpu.number() == 64, "the last processor");
     lends_and_takes_back(rt, &tables, &mut machine, &mut cpu, 64);
     close_processor(rt, cpu);
     let _ = machine.into_seats();
     let _ = tables.into_tables();
 }
 
-// In a visit of processor 16 of a machine of 65,536 frames, 64 come to its list and go back.
-fn lends_of_many<N: BootName>(rt: &impl Abort, alloc: Global, parts: LargeParts<65536>)
+// In a visit of processor 64 of a machine of 1,048,576 frames, 64 come to its list and go back.
+fn lends_of_many<N: BootName>(rt: &impl Abort, alloc: Global, parts: LargeParts<1048576>)
     requires { (parts.frames ≡ N.frames) × (parts.stocks ≡ N.stocks) }
 {
-    lends::<65536, N>(rt, alloc, parts);
+    lends::<1048576, N>(rt, alloc, parts);
 }
 
 #[test]
 fn frames_are_lent_and_taken_back(rt: HostRuntime) {
-    let parts = make_large_parts::<65536>(&rt, rt.alloc());
+    let parts = make_large_parts::<1048576>(&rt, rt.alloc());
     lends_of_many::<Brand>(&rt, rt.alloc(), parts);
 }

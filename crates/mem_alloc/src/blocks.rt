@@ -116,7 +116,7 @@ fn take_after_drain<N: BootName>(
 /// Where no block of the order or above is free, the processor's own list goes back to the zone, and the block is tried
 /// once more. Where there is none still, as many pages as it has are reclaimed from the units of all groups, and it is
 /// tried again: in at most 16 such rounds, of which one that gave no page is the last. `NoFrames`: there is none then;
-/// the pages went back, and the peaks and what was reclaimed stand. The zone has at most 65,536 frames and 64
+/// the pages went back, and the peaks and what was reclaimed stand. The zone has at most 1,048,576 frames and 64
 /// processors.
 pub fn alloc_block<N: BootName>(
     machine: &mut Machine<N>,

@@ -93,7 +93,7 @@ fn fill_list<N: BootName>(
 /// Where the list is empty, up to `sizes.batch` free frames come to it. Where none is free, a page is reclaimed from
 /// the units of all groups, and free frames come to the list then: in at most 16 such rounds, of which one that gave
 /// no page is the last. `NoFrames`: none is free still, and the stock is drained again. The peaks, the notes, the
-/// drained stocks, the kills and what was reclaimed stand after a refusal. The zone has at most 65,536 frames and 64
+/// drained stocks, the kills and what was reclaimed stand after a refusal. The zone has at most 1,048,576 frames and 64
 /// processors.
 pub fn alloc_frame<N: BootName>(
     machine: &mut Machine<N>,

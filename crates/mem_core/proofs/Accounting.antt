@@ -1,63 +1,43 @@
 -- Of the reading core, on which the program doesn't run.
 -- The accounts follow a step, and with them what a run says of peaks and events (for `Core::step`).
-use Rattle.std.proofs.Common.{◌≡◌, ℕ, ◌==◌, ◌||◌, Bool, true, false, List, [], refl, sym, ◌∙◌, ap, subst, inl, inr, cond, eq-eqb}
+use Rattle.std.proofs.Common.{◌≡◌, ℕ, ◌==◌, ◌||◌, Bool, true, false, Option, Some, None, List, [], refl, sym, ◌∙◌, ap, subst, inl, inr, cond, eq-eqb}
 use Rattle.std.specs.Prelude.{◌⊎◌}
 use Rattle.std.proofs.lemmas.Bool.{cases_eq, cond-true, eqb-true, true≢false}
+use Rattle.group_tree.specs.declared.event.EventKey.{EventKey}
 use Rattle.group_tree.specs.declared.group.Group.{Group}
+use Rattle.group_tree.specs.Events.{EventCounts, is_same_key, no_events, count_of, with_one_more}
 use Rattle.group_tree.specs.Room.{one_more}
-use Rattle.group_tree.specs.Groups.{has_group, initial_groups, without_group}
+use Rattle.group_tree.specs.Groups.{has_group, in_subtree, initial_groups, without_group}
+use Rattle.group_tree.proofs.EventLemmas.{counted, none_counted}
 use Rattle.group_tree.proofs.GroupLemmas.{has_group-any}
-use Rattle.group_tree.proofs.CallerLemmas.{has_group-with, has_group-limited, has_group-without}
+use Rattle.group_tree.proofs.CallerLemmas.{has_group-with, has_group-limited, has_group-flagged, has_group-without}
 use Rattle.step_rules.specs.declared.step.Step.{Step}
 use Rattle.step_rules.specs.declared.step.Action.{Action}
-use Rattle.step_rules.specs.declared.step.Action.TheVariants.{Lock, Unlock, OpenVisit, ShutVisit, Get, Put, Freeze, Unfreeze, PassOut}
-use Rattle.step_rules.specs.declared.step.Action.TheVariants.{TakeIn, PassBack, Collect, Consume, Credit, Report, Absorb, Fill, DrainStock}
-use Rattle.step_rules.specs.declared.step.Action.TheVariants.{Grant, Ungrant, PlaceBlock, Return, SetMax, Make, Remove, Kill, NoteMax}
-use Rattle.step_rules.specs.declared.step.Action.TheVariants.{NoteOom}
+use Rattle.step_rules.specs.declared.step.Action.TheVariants.{Lock, SetMax, SetFlag, Make, Remove}
 use Rattle.step_rules.specs.declared.step.Answer.{Answer}
-use Rattle.step_rules.specs.declared.step.Answer.TheVariants.{Done, Held, Left, Last, Took, Back, Pages, Granted, Placed, Number}
+use Rattle.step_rules.specs.declared.step.Answer.TheVariants.{Illegal, Done, Number}
 use Rattle.step_rules.specs.State.{Zone, State}
 use Rattle.step_rules.specs.Usage.{is_below}
-use Rattle.step_rules.specs.Legal.{Allows}
+use Rattle.step_rules.specs.Legal.{Allows, is_of_group}
 use Rattle.step_rules.specs.After.{Run, after, state_of, IsLegalRun}
 use Rattle.step_rules.specs.Laws.{pushed}
 use Rattle.step_rules.specs.Peaks.{IsPeak, peak_follows}
-use Rattle.step_rules.specs.Events.{EventKey, Max, Oom, OomKill, noted_at, is_noted_below, is_noted_at, makes_group, count_after, events_of, events_local_of}
+use Rattle.step_rules.specs.Events.{note_of, group_noted, noted_at, is_noted_below, is_noted_at, makes_group, count_after, events_of, events_local_of}
 use Rattle.step_rules.proofs.Moving.{gone_itself}
 use Rattle.step_rules.proofs.Peaking.{peaks_are_kept}
 use Rattle.step_rules.proofs.Noting.{events_are_counted}
-use Rattle.step_rules.proofs.Runs.{state_more}
-use Rattle.mem_core.specs.Accounts.{Account, new_account, count_in, account_of, account_after, AccountsFollow}
+use Rattle.step_rules.proofs.Runs.{after_illegal, state_more}
+use Rattle.mem_core.specs.Accounts.{Account, new_account, account_of, with_note, events_after, account_after, AccountsFollow}
 use Rattle.mem_core.specs.Shown.{AccountsTell}
 
 -- a group that is there after a step was there before, or the step made it
 there_or_made : (s : State) (seat : ℕ) (action : Action) (answer : Answer) (m : ℕ)
     → has_group (after s seat action answer).groups m ≡ true
     → (has_group s.groups m ≡ true) ⊎ (makes_group m action answer ≡ true)
-there_or_made s seat Lock Done m there = inl there
-there_or_made s seat Unlock Done m there = inl there
-there_or_made s seat (OpenVisit p) Done m there = inl there
-there_or_made s seat (ShutVisit p) Done m there = inl there
-there_or_made s seat (Get f) Held m there = inl there
-there_or_made s seat (Put f) (Left n) m there = inl there
-there_or_made s seat (Put f) Last m there = inl there
-there_or_made s seat (Freeze f n) Done m there = inl there
-there_or_made s seat (Unfreeze f n) Done m there = inl there
-there_or_made s seat (PassOut f p) Done m there = inl there
-there_or_made s seat (TakeIn f) Done m there = inl there
-there_or_made s seat (PassBack f) Done m there = inl there
-there_or_made s seat (Collect f p) Done m there = inl there
-there_or_made s seat (Consume h) Took m there = inl there
-there_or_made s seat (Credit f) Back m there = inl there
-there_or_made s seat (Report n) Done m there = inl there
-there_or_made s seat (Absorb p) (Pages n) m there = inl there
-there_or_made s seat (Fill p h n) Done m there = inl there
-there_or_made s seat (DrainStock p) (Pages n) m there = inl there
-there_or_made s seat (Grant h n) Granted m there = inl there
-there_or_made s seat (Ungrant h n) Done m there = inl there
-there_or_made s seat (PlaceBlock h k) (Placed b) m there = inl there
-there_or_made s seat (Return f) Done m there = inl there
+there_or_made s seat action Illegal m there =
+    inl (subst (λ (t : State). has_group t.groups m ≡ true) (after_illegal s seat action) there)
 there_or_made s seat (SetMax h limit) Done m there = inl (sym (has_group-limited s.groups h m limit) ∙ there)
+there_or_made s seat (SetFlag h flag) Done m there = inl (sym (has_group-flagged s.groups h m flag) ∙ there)
 there_or_made s seat (Make path) (Number n) m there =
     elim (cases_eq m n) [ inl e ↦ inr (eq-eqb m n e) | inr ne ↦ inl (sym (has_group-with s.groups n m path ne) ∙ there) ]
 there_or_made s seat (Remove h) Done m there =
@@ -67,128 +47,83 @@ there_or_made s seat (Remove h) Done m there =
       | inr ne ↦ inl
           (sym (has_group-without s.groups h m ne) ∙ there)
     ]
-there_or_made s seat (Kill h) Done m there = inl there
-there_or_made s seat (NoteMax h) Done m there = inl there
-there_or_made s seat (NoteOom h) Done m there = inl there
+there_or_made s seat Lock answer m there = inl there
 there_or_made s seat action answer m there = inl there
 
--- a note leaves the groups as they are
+-- a step that notes an event leaves the groups as they are
+notes_nothing_or_stays : (s : State) (seat : ℕ) (action : Action) (answer : Answer)
+    → (note_of action answer ≡ None) ⊎ ((after s seat action answer).groups ≡ s.groups)
+notes_nothing_or_stays s seat action Illegal = inr (ap (λ (t : State). t.groups) (after_illegal s seat action))
+notes_nothing_or_stays s seat (SetMax h limit) Done = inl refl
+notes_nothing_or_stays s seat (SetFlag h flag) Done = inl refl
+notes_nothing_or_stays s seat (Make path) (Number n) = inl refl
+notes_nothing_or_stays s seat (Remove h) Done = inl refl
+notes_nothing_or_stays s seat Lock answer = inr refl
+notes_nothing_or_stays s seat action answer = inr refl
+
 noted_same : (key : EventKey) (s : State) (seat : ℕ) (action : Action) (answer : Answer) (g : ℕ)
     → is_below (after s seat action answer).groups g (noted_at key action answer) ≡ is_below s.groups g (noted_at key action answer)
-noted_same Max s seat Lock Done g = refl
-noted_same Max s seat Unlock Done g = refl
-noted_same Max s seat (OpenVisit p) Done g = refl
-noted_same Max s seat (ShutVisit p) Done g = refl
-noted_same Max s seat (Get f) Held g = refl
-noted_same Max s seat (Put f) (Left n) g = refl
-noted_same Max s seat (Put f) Last g = refl
-noted_same Max s seat (Freeze f n) Done g = refl
-noted_same Max s seat (Unfreeze f n) Done g = refl
-noted_same Max s seat (PassOut f p) Done g = refl
-noted_same Max s seat (TakeIn f) Done g = refl
-noted_same Max s seat (PassBack f) Done g = refl
-noted_same Max s seat (Collect f p) Done g = refl
-noted_same Max s seat (Consume h) Took g = refl
-noted_same Max s seat (Credit f) Back g = refl
-noted_same Max s seat (Report n) Done g = refl
-noted_same Max s seat (Absorb p) (Pages n) g = refl
-noted_same Max s seat (Fill p h n) Done g = refl
-noted_same Max s seat (DrainStock p) (Pages n) g = refl
-noted_same Max s seat (Grant h n) Granted g = refl
-noted_same Max s seat (Ungrant h n) Done g = refl
-noted_same Max s seat (PlaceBlock h k) (Placed b) g = refl
-noted_same Max s seat (Return f) Done g = refl
-noted_same Max s seat (SetMax h limit) Done g = refl
-noted_same Max s seat (Make path) (Number n) g = refl
-noted_same Max s seat (Remove h) Done g = refl
-noted_same Max s seat (Kill h) Done g = refl
-noted_same Max s seat (NoteMax h) Done g = refl
-noted_same Max s seat (NoteOom h) Done g = refl
-noted_same Max s seat action answer g = refl
-noted_same Oom s seat Lock Done g = refl
-noted_same Oom s seat Unlock Done g = refl
-noted_same Oom s seat (OpenVisit p) Done g = refl
-noted_same Oom s seat (ShutVisit p) Done g = refl
-noted_same Oom s seat (Get f) Held g = refl
-noted_same Oom s seat (Put f) (Left n) g = refl
-noted_same Oom s seat (Put f) Last g = refl
-noted_same Oom s seat (Freeze f n) Done g = refl
-noted_same Oom s seat (Unfreeze f n) Done g = refl
-noted_same Oom s seat (PassOut f p) Done g = refl
-noted_same Oom s seat (TakeIn f) Done g = refl
-noted_same Oom s seat (PassBack f) Done g = refl
-noted_same Oom s seat (Collect f p) Done g = refl
-noted_same Oom s seat (Consume h) Took g = refl
-noted_same Oom s seat (Credit f) Back g = refl
-noted_same Oom s seat (Report n) Done g = refl
-noted_same Oom s seat (Absorb p) (Pages n) g = refl
-noted_same Oom s seat (Fill p h n) Done g = refl
-noted_same Oom s seat (DrainStock p) (Pages n) g = refl
-noted_same Oom s seat (Grant h n) Granted g = refl
-noted_same Oom s seat (Ungrant h n) Done g = refl
-noted_same Oom s seat (PlaceBlock h k) (Placed b) g = refl
-noted_same Oom s seat (Return f) Done g = refl
-noted_same Oom s seat (SetMax h limit) Done g = refl
-noted_same Oom s seat (Make path) (Number n) g = refl
-noted_same Oom s seat (Remove h) Done g = refl
-noted_same Oom s seat (Kill h) Done g = refl
-noted_same Oom s seat (NoteMax h) Done g = refl
-noted_same Oom s seat (NoteOom h) Done g = refl
-noted_same Oom s seat action answer g = refl
-noted_same OomKill s seat Lock Done g = refl
-noted_same OomKill s seat Unlock Done g = refl
-noted_same OomKill s seat (OpenVisit p) Done g = refl
-noted_same OomKill s seat (ShutVisit p) Done g = refl
-noted_same OomKill s seat (Get f) Held g = refl
-noted_same OomKill s seat (Put f) (Left n) g = refl
-noted_same OomKill s seat (Put f) Last g = refl
-noted_same OomKill s seat (Freeze f n) Done g = refl
-noted_same OomKill s seat (Unfreeze f n) Done g = refl
-noted_same OomKill s seat (PassOut f p) Done g = refl
-noted_same OomKill s seat (TakeIn f) Done g = refl
-noted_same OomKill s seat (PassBack f) Done g = refl
-noted_same OomKill s seat (Collect f p) Done g = refl
-noted_same OomKill s seat (Consume h) Took g = refl
-noted_same OomKill s seat (Credit f) Back g = refl
-noted_same OomKill s seat (Report n) Done g = refl
-noted_same OomKill s seat (Absorb p) (Pages n) g = refl
-noted_same OomKill s seat (Fill p h n) Done g = refl
-noted_same OomKill s seat (DrainStock p) (Pages n) g = refl
-noted_same OomKill s seat (Grant h n) Granted g = refl
-noted_same OomKill s seat (Ungrant h n) Done g = refl
-noted_same OomKill s seat (PlaceBlock h k) (Placed b) g = refl
-noted_same OomKill s seat (Return f) Done g = refl
-noted_same OomKill s seat (SetMax h limit) Done g = refl
-noted_same OomKill s seat (Make path) (Number n) g = refl
-noted_same OomKill s seat (Remove h) Done g = refl
-noted_same OomKill s seat (Kill h) Done g = refl
-noted_same OomKill s seat (NoteMax h) Done g = refl
-noted_same OomKill s seat (NoteOom h) Done g = refl
-noted_same OomKill s seat action answer g = refl
+noted_same key s seat action answer g =
+    let at : List Group → Option (EventKey × ℕ) → Bool = λ groups note. is_below groups g (group_noted key note) in
+    elim (notes_nothing_or_stays s seat action answer) [
+      | inl none ↦ ap (at (after s seat action answer).groups) none ∙ sym (ap (at s.groups) none)
+      | inr same ↦ ap (λ (groups : List Group). at groups (note_of action answer)) same
+    ]
 
-count_kept : (made : Bool) (n : ℕ) (b c : Bool) → b ≡ c → cond made 0 (cond b (one_more n) n) ≡ cond made 0 (cond c (one_more n) n)
-count_kept made n b c e = ap (λ x. cond made 0 (cond x (one_more n) n)) e
+-- one more note counts one more of its key, at the groups that pass the test
+note_counted : (test : ℕ → Bool) (passes : Option ℕ → Bool) (note : Option (EventKey × ℕ)) (key : EventKey) (counts : EventCounts)
+    → passes None ≡ false → ((h : ℕ) → passes (Some h) ≡ test h)
+    → count_of (with_note test note counts) key ≡ cond (passes (group_noted key note)) (one_more (count_of counts key)) (count_of counts key)
+note_counted test passes None key counts none some =
+    ap (λ b. cond b (one_more (count_of counts key)) (count_of counts key)) (sym none)
+note_counted test passes (Some note) key counts none some = by_test (test note.1) refl
+  where
+    count : ℕ
+    count = count_of counts key
+
+    same : Bool
+    same = is_same_key key note.0
+
+    by_key : (b c : Bool) → test note.1 ≡ c → cond b (cond c (one_more count) count) count
+        ≡ cond (passes (cond b (Some note.1) None)) (one_more count) count
+    by_key true c e = ap (λ x. cond x (one_more count) count) (sym e ∙ sym (some note.1))
+    by_key false c e = ap (λ x. cond x (one_more count) count) (sym none)
+
+    unchanged : (b : Bool) → count ≡ cond b (cond false (one_more count) count) count
+    unchanged true = refl
+    unchanged false = refl
+
+    by_test : (c : Bool) → test note.1 ≡ c → count_of (cond c (with_one_more note.0 counts) counts) key
+        ≡ cond (passes (cond same (Some note.1) None)) (one_more count) count
+    by_test true e = counted note.0 key counts ∙ by_key same true e
+    by_test false e = unchanged same ∙ by_key same false e
+
+-- so the counts of each key follow a step as the run counts it
+key_counted : (test : ℕ → Bool) (passes : Option ℕ → Bool) (key : EventKey) (g : ℕ) (action : Action) (answer : Answer) (counts : EventCounts)
+    → passes None ≡ false → ((h : ℕ) → passes (Some h) ≡ test h)
+    → count_of (events_after test g action answer counts) key
+    ≡ cond (makes_group g action answer) 0 (cond (passes (noted_at key action answer)) (one_more (count_of counts key)) (count_of counts key))
+key_counted test passes key g action answer counts none some = by_made (makes_group g action answer)
+  where
+    by_made : (made : Bool) → count_of (cond made no_events (with_note test (note_of action answer) counts)) key
+        ≡ cond made 0 (cond (passes (noted_at key action answer)) (one_more (count_of counts key)) (count_of counts key))
+    by_made true = none_counted key
+    by_made false = note_counted test passes (note_of action answer) key counts none some
 
 below_counted : (key : EventKey) (s : State) (seat : ℕ) (action : Action) (answer : Answer) (g : ℕ) (a : Account) →
-    count_in key (account_after (after s seat action answer) action answer g a).events
-    ≡ count_after (is_noted_below key g) g s.groups action answer (count_in key a.events)
-below_counted Max s seat action answer g a =
-    count_kept (makes_group g action answer) a.events.max (is_noted_below Max g (after s seat action answer).groups action answer)
-    (is_noted_below Max g s.groups action answer) (noted_same Max s seat action answer g)
-below_counted Oom s seat action answer g a =
-    count_kept (makes_group g action answer) a.events.oom (is_noted_below Oom g (after s seat action answer).groups action answer)
-    (is_noted_below Oom g s.groups action answer) (noted_same Oom s seat action answer g)
-below_counted OomKill s seat action answer g a =
-    count_kept (makes_group g action answer) a.events.oom_kill
-    (is_noted_below OomKill g (after s seat action answer).groups action answer)
-    (is_noted_below OomKill g s.groups action answer) (noted_same OomKill s seat action answer g)
+    count_of (account_after (after s seat action answer) action answer g a).events key
+    ≡ count_after (is_noted_below key g) g s.groups action answer (count_of a.events key)
+below_counted key s seat action answer g a =
+    let groups : List Group = (after s seat action answer).groups in
+    key_counted (in_subtree groups g) (is_below groups g) key g action answer a.events refl (λ h. refl)
+    ∙ ap (λ x. cond (makes_group g action answer) 0 (cond x (one_more (count_of a.events key)) (count_of a.events key)))
+    (noted_same key s seat action answer g)
 
 local_counted : (key : EventKey) (s : State) (seat : ℕ) (action : Action) (answer : Answer) (g : ℕ) (a : Account) →
-    count_in key (account_after (after s seat action answer) action answer g a).events_local
-    ≡ count_after (is_noted_at key g) g s.groups action answer (count_in key a.events_local)
-local_counted Max s seat action answer g a = refl
-local_counted Oom s seat action answer g a = refl
-local_counted OomKill s seat action answer g a = refl
+    count_of (account_after (after s seat action answer) action answer g a).events_local key
+    ≡ count_after (is_noted_at key g) g s.groups action answer (count_of a.events_local key)
+local_counted key s seat action answer g a =
+    key_counted (λ h. h == g) (λ (o : Option ℕ). is_of_group o g) key g action answer a.events_local refl (λ h. refl)
 
 -- two counts that follow one step are one, where they were or the group is made
 follow_alike : (test : List Group → Action → Answer → Bool) (g : ℕ) (groups : List Group) (action : Action) (answer : Answer) (x y : ℕ) →
@@ -218,15 +153,15 @@ tell_more zone run step answer old new legal ok told follow =
       events = λ key m there.
           let now = follow m (before m there) in
           let law = (events_are_counted.step zone run step answer key m).below in
-          ap (λ (a : Account). count_in key a.events) now ∙ below_counted key s step.seat step.action answer m (account_of old m)
-          ∙ follow_alike (is_noted_below key m) m s.groups step.action answer (count_in key (account_of old m).events) (events_of key zone run m)
+          ap (λ (a : Account). count_of a.events key) now ∙ below_counted key s step.seat step.action answer m (account_of old m)
+          ∙ follow_alike (is_noted_below key m) m s.groups step.action answer (count_of (account_of old m).events key) (events_of key zone run m)
           (elim (there_or_made s step.seat step.action answer m (before m there)) [ inl was ↦ inl (λ has e. told.events key m was) | inr made ↦ inr made ])
           ∙ sym law;
       events_local = λ key m there.
           let now = follow m (before m there) in
           let law = (events_are_counted.step zone run step answer key m).local in
-          ap (λ (a : Account). count_in key a.events_local) now ∙ local_counted key s step.seat step.action answer m (account_of old m)
-          ∙ follow_alike (is_noted_at key m) m s.groups step.action answer (count_in key (account_of old m).events_local) (events_local_of key zone run m)
+          ap (λ (a : Account). count_of a.events_local key) now ∙ local_counted key s step.seat step.action answer m (account_of old m)
+          ∙ follow_alike (is_noted_at key m) m s.groups step.action answer (count_of (account_of old m).events_local key) (events_local_of key zone run m)
           (elim (there_or_made s step.seat step.action answer m (before m there))
           [ inl was ↦ inl (λ has e. told.events_local key m was) | inr made ↦ inr made ])
           ∙ sym law;
@@ -243,16 +178,6 @@ pub tell_start : (zone : Zone) (accounts : List Account) → ((m : ℕ) → acco
 tell_start zone accounts new = record {
   peaks = λ m there. subst (λ (k : ℕ). IsPeak zone [] k (account_of accounts m).peak) (root_alone m there)
       (subst (IsPeak zone [] 0) (sym (ap (λ (a : Account). a.peak) (new m))) (peaks_are_kept.boot zone));
-  events = λ key m there. ap (λ (a : Account). count_in key a.events) (new m) ∙ none_in key ∙ sym (events_are_counted.boot zone key m).0;
-  events_local = λ key m there. ap (λ (a : Account). count_in key a.events_local) (new m) ∙ none_here key ∙ sym (events_are_counted.boot zone key m).1;
+  events = λ key m there. ap (λ (a : Account). count_of a.events key) (new m) ∙ none_counted key ∙ sym (events_are_counted.boot zone key m).0;
+  events_local = λ key m there. ap (λ (a : Account). count_of a.events_local key) (new m) ∙ none_counted key ∙ sym (events_are_counted.boot zone key m).1;
 }
-  where
-    none_in : (key : EventKey) → count_in key new_account.events ≡ 0
-    none_in Max = refl
-    none_in Oom = refl
-    none_in OomKill = refl
-
-    none_here : (key : EventKey) → count_in key new_account.events_local ≡ 0
-    none_here Max = refl
-    none_here Oom = refl
-    none_here OomKill = refl

@@ -1,53 +1,43 @@
 -- Of the reading core, on which the program doesn't run.
 -- What is counted of each group: its peak (memory.peak) and its events (memory.events, memory.events.local).
-use Rattle.std.specs.Prelude.{◌≡◌, ◌^◌, ◌<◌, ℕ, Bool, true, List, All, Option, Some, None}
+use Rattle.std.specs.Prelude.{◌≡◌, ◌^◌, ◌<◌, ◌==◌, ℕ, Bool, true, List, All, Option, Some, None, if◌then◌else◌}
 use Rattle.std.specs.List.{slice_index_or}
-use Rattle.group_tree.specs.declared.group.Group.{Group}
-use Rattle.group_tree.specs.Groups.{has_group}
+use Rattle.group_tree.specs.declared.event.EventKey.{EventKey}
+use Rattle.group_tree.specs.Events.{EventCounts, no_events, with_one_more}
+use Rattle.group_tree.specs.Groups.{has_group, in_subtree}
 use Rattle.step_rules.specs.declared.step.Action.{Action}
 use Rattle.step_rules.specs.declared.step.Answer.{Answer}
 use Rattle.step_rules.specs.declared.step.Action.TheVariants.{Grant}
 use Rattle.step_rules.specs.declared.step.Answer.TheVariants.{Granted}
 use Rattle.step_rules.specs.State.{State}
 use Rattle.step_rules.specs.Peaks.{peak_follows}
-use Rattle.step_rules.specs.Events.{EventKey, Max, Oom, OomKill, count_after, is_noted_below, is_noted_at}
--- how often each kind of event was counted
-pub use Rattle.mem_core.specs.declared.account.Events.{Events}
+use Rattle.step_rules.specs.Events.{note_of, makes_group}
 -- a group's peak, its events with those of all below it, and its own
 pub use Rattle.mem_core.specs.declared.account.Account.{Account}
-
--- nothing was counted
-abbrev pub no_events : Events
-no_events = record { max = 0; oom = 0; oom_kill = 0 }
 
 -- the account of a new group
 abbrev pub new_account : Account
 new_account = record { peak = 0; events = no_events; events_local = no_events }
 
--- the count of events of this kind
-abbrev pub count_in : EventKey → Events → ℕ
-count_in Max events = events.max
-count_in Oom events = events.oom
-count_in OomKill events = events.oom_kill
-
 -- the account that a list has for the group; beyond its end a new one
 abbrev pub account_of : List Account → ℕ → Account
 account_of accounts g = slice_index_or accounts g new_account
 
--- the events of group g after one more step, for each kind by its own test
-abbrev pub events_after : (EventKey → List Group → Action → Answer → Bool) → ℕ → List Group → Action → Answer → Events → Events
-events_after test g groups step answer events = record {
-  max = count_after (test Max) g groups step answer events.max;
-  oom = count_after (test Oom) g groups step answer events.oom;
-  oom_kill = count_after (test OomKill) g groups step answer events.oom_kill;
-}
+-- the events after a note, if there is one: one more of its kind, if its group passes the test
+abbrev pub with_note : (ℕ → Bool) → Option (EventKey × ℕ) → EventCounts → EventCounts
+with_note test None events = events
+with_note test (Some note) events = if test note.1 then with_one_more note.0 events else events
+
+-- the events of group g after one more step, noted at the groups that pass the test; a group that is made has none
+abbrev pub events_after : (ℕ → Bool) → ℕ → Action → Answer → EventCounts → EventCounts
+events_after test g step answer events = if makes_group g step answer then no_events else with_note test (note_of step answer) events
 
 -- the account of group g after one more step, which leads to state t
 abbrev pub account_after : State → Action → Answer → ℕ → Account → Account
 account_after t step answer g account = record {
   peak = peak_follows t step answer g account.peak;
-  events = events_after (λ key. is_noted_below key g) g t.groups step answer account.events;
-  events_local = events_after (λ key. is_noted_at key g) g t.groups step answer account.events_local;
+  events = events_after (in_subtree t.groups g) g step answer account.events;
+  events_local = events_after (λ h. h == g) g step answer account.events_local;
 }
 
 -- the account of each group that is there follows the step

@@ -4,7 +4,9 @@ use Rattle.std.specs.Prelude.{◌≡◌, ℕ, Bool, true, false, Option, Some, N
 use Rattle.std.specs.List.{slice_get, slice_index_or}
 use Rattle.zone_blocks.specs.declared.block.Block.{Block}
 use Rattle.zone_blocks.specs.Areas.{AreMaximalBlocks}
+use Rattle.group_tree.specs.declared.event.EventKey.{EventKey}
 use Rattle.group_tree.specs.declared.group.Group.{Group}
+use Rattle.group_tree.specs.Events.{count_of}
 use Rattle.group_tree.specs.Groups.{has_group}
 use Rattle.step_rules.specs.declared.phase.Hold.{Hold}
 use Rattle.step_rules.specs.declared.phase.Phase.{Phase}
@@ -12,8 +14,8 @@ use Rattle.step_rules.specs.declared.phase.Phase.TheVariants.{InZone}
 use Rattle.step_rules.specs.State.{Zone, Part, State, no_part, free_in}
 use Rattle.step_rules.specs.After.{Run, state_of, IsLegalRun}
 use Rattle.step_rules.specs.Peaks.{IsPeak}
-use Rattle.step_rules.specs.Events.{EventKey, events_of, events_local_of}
-use Rattle.mem_core.specs.Accounts.{Account, account_of, count_in}
+use Rattle.step_rules.specs.Events.{events_of, events_local_of}
+use Rattle.mem_core.specs.Accounts.{Account, account_of}
 
 -- what a core shows of a seat: its references on each frame, and its part
 pub record SeatState : Type 0 where
@@ -61,9 +63,9 @@ state_in s = record {
 -- the accounts tell what the run defines of each group that is there: its peak, and its events
 pub record AccountsTell (zone : Zone) (run : Run) (accounts : List Account) : Type 0 where
   pub peaks : (g : ℕ) → has_group (state_of zone run).groups g ≡ true → IsPeak zone run g (account_of accounts g).peak
-  pub events : (key : EventKey) (g : ℕ) → has_group (state_of zone run).groups g ≡ true → count_in key (account_of accounts g).events ≡ events_of key zone run g
+  pub events : (key : EventKey) (g : ℕ) → has_group (state_of zone run).groups g ≡ true → count_of (account_of accounts g).events key ≡ events_of key zone run g
   pub events_local : (key : EventKey) (g : ℕ) → has_group (state_of zone run).groups g ≡ true
-      → count_in key (account_of accounts g).events_local ≡ events_local_of key zone run g
+      → count_of (account_of accounts g).events_local key ≡ events_local_of key zone run g
 
 -- the core is what the run leads to
 pub record Shows (s : CoreState) (run : Run) : Type 0 where

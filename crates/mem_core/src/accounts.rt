@@ -1,17 +1,17 @@
 //! Of the reading core, on which the program doesn't run.
 //! How the accounts of the groups follow a step.
 
-ghost use Rattle.std.specs.Prelude.{◌≡◌, ◌^◌, ◌<◌, IfOk, true, false, vec_len, replicate};
+ghost use Rattle.std.specs.Prelude.{◌≡◌, ◌^◌, ◌<◌, ◌==◌, IfOk, vec_len, replicate};
 ghost use Rattle.step_rules.specs.Peaks.{peak_follows};
-ghost use Rattle.step_rules.specs.Events.{Max, Oom, OomKill, count_after, is_noted_below, is_noted_at, makes_group, noted_at};
+ghost use Rattle.step_rules.specs.Events.{makes_group, note_of};
 ghost use Rattle.core_rows.specs.Shown.{state_in};
 ghost use Rattle.core_rows.specs.Rooms.{FitsZone, IsFew};
 ghost use Rattle.mem_core.specs.Accounts.{new_account, account_after, events_after, AccountsFollow, HaveSmallPeaks, granted_to};
-ghost use Rattle.group_tree.specs.Room.{one_more};
+ghost use Rattle.group_tree.specs.Groups.{in_subtree};
 
-use crate::account::{Account, Events};
+use crate::account::Account;
 use core_rows::rows::Rows;
-use core_rows::sums::is_of_group;
+use group_tree::event::{EventCounts, EventKey};
 use group_tree::group::GroupId;
 use std::alloc::{AllocError, Global};
 use step_rules::step::{Action, Answer};
@@ -21,11 +21,7 @@ pub(crate) fn new_accounts(alloc: Global) -> Result<Vec<Account>, AllocError>
     ensures items { IfOk result (λ accounts. accounts.items ≡ replicate 64 new_account) }
     ensures number { IfOk result (λ accounts. vec_len accounts ≡ 64) }
 {
-    let none = Events {
-        max: 0,
-        oom: 0,
-        oom_kill: 0,
-    };
+    let none = EventCounts::none();
     let account = Account {
         peak: 0,
         events: none,
@@ -34,39 +30,16 @@ pub(crate) fn new_accounts(alloc: Global) -> Result<Vec<Account>, AllocError>
     vec![in alloc; account; 64]
 }
 
-// The group at which a step notes a `max`.
-fn max_noted(action: &Action, answer: &Answer) -> Option<GroupId>
-    ensures { result ≡ noted_at Max action.now answer.now }
+// The event that a step notes, and the group at which it notes it.
+fn note_of(action: &Action, answer: &Answer) -> Option<(EventKey, GroupId)>
+    ensures { result ≡ note_of action.now answer.now }
 {
     match answer {
         Answer::Done => match action {
-            Action::NoteMax { group } => Some(*group),
-            _ => None,
-        },
-        _ => None,
-    }
-}
-
-// The group at which a step notes an `oom`.
-fn oom_noted(action: &Action, answer: &Answer) -> Option<GroupId>
-    ensures { result ≡ noted_at Oom action.now answer.now }
-{
-    match answer {
-        Answer::Done => match action {
-            Action::NoteOom { group } => Some(*group),
-            _ => None,
-        },
-        _ => None,
-    }
-}
-
-// The group that a step kills.
-fn kill_noted(action: &Action, answer: &Answer) -> Option<GroupId>
-    ensures { result ≡ noted_at OomKill action.now answer.now }
-{
-    match answer {
-        Answer::Done => match action {
-            Action::Kill { group } => Some(*group),
+            Action::NoteMax { group } => Some((EventKey::Max, *group)),
+            Action::NoteOom { group } => Some((EventKey::Oom, *group)),
+            Action::Kill { group } => Some((EventKey::OomKill, *group)),
+            Action::NoteGroupKill { group } => Some((EventKey::OomGroupKill, *group)),
             _ => None,
         },
         _ => None,
@@ -86,78 +59,52 @@ fn makes_group(group: GroupId, action: &Action, answer: &Answer) -> bool
     }
 }
 
-// A count of a group that is made or not, where an event was noted or not.
-fn counted(is_made: bool, is_noted: bool, count: u64) -> u64
-    ensures made { is_made ≡ true → result ≡ 0 }
-    ensures noted { is_made ≡ false → is_noted ≡ true → result ≡ one_more count }
-    ensures kept { is_made ≡ false → is_noted ≡ false → result ≡ count }
-{
-    if is_made {
-        0
-    } else if is_noted {
-        count.saturating_add(1)
-    } else {
-        count
-    }
-}
-
 // The events of a group and of those below it after a step.
 fn events_below(
     rows: &Rows,
     action: &Action,
     answer: &Answer,
     group: GroupId,
-    events: Events,
-) -> Events
-    ensures { result ≡ events_after (λ key. is_noted_below key group) group rows.now.tree action.now answer.now events }
+    events: EventCounts,
+) -> EventCounts
+    ensures { result ≡ events_after (in_subtree rows.now.tree group) group action.now answer.now events }
 {
-    let is_made = makes_group(group, action, answer);
-    Events {
-        max: counted(
-            is_made,
-            rows.is_below(group, max_noted(action, answer)),
-            events.max,
-        ),
-        oom: counted(
-            is_made,
-            rows.is_below(group, oom_noted(action, answer)),
-            events.oom,
-        ),
-        oom_kill: counted(
-            is_made,
-            rows.is_below(group, kill_noted(action, answer)),
-            events.oom_kill,
-        ),
+    if makes_group(group, action, answer) {
+        return EventCounts::none();
+    }
+    match note_of(action, answer) {
+        None => events,
+        Some((key, at)) => {
+            if rows.in_subtree(group, at) {
+                events.with_one_more(key)
+            } else {
+                events
+            }
+        }
     }
 }
 
 // The events of a group alone after a step.
 fn events_here(
-    rows: &Rows,
     action: &Action,
     answer: &Answer,
     group: GroupId,
-    events: Events,
-) -> Events
-    ensures { result ≡ events_after (λ key. is_noted_at key group) group rows.now.tree action.now answer.now events }
+    events: EventCounts,
+) -> EventCounts
+    ensures { result ≡ events_after (λ h. h == group) group action.now answer.now events }
 {
-    let is_made = makes_group(group, action, answer);
-    Events {
-        max: counted(
-            is_made,
-            is_of_group(max_noted(action, answer), group),
-            events.max,
-        ),
-        oom: counted(
-            is_made,
-            is_of_group(oom_noted(action, answer), group),
-            events.oom,
-        ),
-        oom_kill: counted(
-            is_made,
-            is_of_group(kill_noted(action, answer), group),
-            events.oom_kill,
-        ),
+    if makes_group(group, action, answer) {
+        return EventCounts::none();
+    }
+    match note_of(action, answer) {
+        None => events,
+        Some((key, at)) => {
+            if at.number() == group.number() {
+                events.with_one_more(key)
+            } else {
+                events
+            }
+        }
     }
 }
 
@@ -208,7 +155,7 @@ fn account_after(
     Account {
         peak: peak_after(rows, action, answer, group, account.peak),
         events: events_below(rows, action, answer, group, account.events),
-        events_local: events_here(rows, action, answer, group, account.events_local),
+        events_local: events_here(action, answer, group, account.events_local),
     }
 }
 

@@ -27,8 +27,8 @@ pub struct Played {
 /// else follows for any legal run is said in `step_rules::laws`. By reading, it fails for want of memory alone: no clause
 /// says so.
 pub fn play(alloc: Global, frames: u32, cpus: u32, steps: &[Step]) -> Result<Played, AllocError>
-    requires frames { frames ≤ 65536 }
-    requires cpus { cpus ≤ 16 }
+    requires frames { frames ≤ 1048576 }
+    requires cpus { cpus ≤ 64 }
     ensures one_each { IfOk result (λ p. length p.answers.items ≡ length steps.now) }
     ensures zone { IfOk result (λ p. p.core.zone ≡ record { frames = frames; cpus = cpus }) }
     ensures shows { IfOk result (λ p. Shows p.core (zip steps.now p.answers.items)) }
@@ -50,8 +50,8 @@ pub fn play(alloc: Global, frames: u32, cpus: u32, steps: &[Step]) -> Result<Pla
 /// legality leaves open. By reading, it fails for want of memory alone: no clause
 /// says so.
 pub fn run(alloc: Global, frames: u32, cpus: u32, steps: &[Step]) -> Result<Vec<Answer>, AllocError>
-    requires frames { frames ≤ 65536 }
-    requires cpus { cpus ≤ 16 }
+    requires frames { frames ≤ 1048576 }
+    requires cpus { cpus ≤ 64 }
     ensures one_each { IfOk result (λ answers. length answers.items ≡ length steps.now) }
     ensures legal { IfOk result (λ answers. IsLegalRun (record { frames = frames; cpus = cpus }) (zip steps.now answers.items)) }
     ensures promise { IfOk result (λ answers. AlwaysKeepsPromise (record { frames = frames; cpus = cpus }) (zip steps.now answers.items)) }

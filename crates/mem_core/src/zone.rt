@@ -49,8 +49,8 @@ impl Core {
     /// A core with all frames free, the root alone, the lock free and no step made. All room that its steps need is
     /// reserved here.
     pub fn new(alloc: Global, frames: u32, cpus: u32) -> Result<Core, AllocError>
-        requires frames { frames ≤ 65536 }
-        requires cpus { cpus ≤ 16 }
+        requires frames { frames ≤ 1048576 }
+        requires cpus { cpus ≤ 64 }
         ensures zone { IfOk result (λ core. core.zone ≡ record { frames = frames; cpus = cpus }) }
         ensures empty { IfOk result (λ core. Shows core []) }
         ensures areas { IfOk result HasMaximalAreas }

@@ -6,7 +6,7 @@ use Rattle.std.proofs.lemmas.List.{append_assoc, append-nil}
 use Rattle.step_rules.specs.declared.step.Action.{Action}
 use Rattle.step_rules.specs.declared.step.Action.TheVariants.{Lock, Unlock, OpenVisit, ShutVisit, Get, Put, Freeze, Unfreeze, PassOut}
 use Rattle.step_rules.specs.declared.step.Action.TheVariants.{TakeIn, PassBack, Collect, Consume, Credit, Report, Absorb, Fill, DrainStock}
-use Rattle.step_rules.specs.declared.step.Action.TheVariants.{Grant, Ungrant, PlaceBlock, Return, SetMax, Make, Remove, Kill}
+use Rattle.step_rules.specs.declared.step.Action.TheVariants.{Grant, Ungrant, PlaceBlock, Return, SetMax, SetFlag, Make, Remove, Kill}
 use Rattle.step_rules.specs.declared.step.Answer.{Answer}
 use Rattle.step_rules.specs.declared.step.Answer.TheVariants.{Done, Held, Left, Last, Took, Back, Pages, Granted, Placed, Number}
 use Rattle.step_rules.specs.State.{Zone, State, Part, with_at, visits}
@@ -82,6 +82,7 @@ stays_made s p seat (Ungrant g n) Done own holds legal = record { references = �
 stays_made s p seat (PlaceBlock g k) (Placed b) own holds legal = record { references = λ q ne other f. refl; parts = λ q ne other. refl }
 stays_made s p seat (Return f) Done own holds legal = record { references = λ q ne other f. refl; parts = λ q ne other. refl }
 stays_made s p seat (SetMax g limit) Done own holds legal = record { references = λ q ne other f. refl; parts = λ q ne other. refl }
+stays_made s p seat (SetFlag g flag) Done own holds legal = record { references = λ q ne other f. refl; parts = λ q ne other. refl }
 stays_made s p seat (Make path) (Number n) own holds legal = record { references = λ q ne other f. refl; parts = λ q ne other. refl }
 stays_made s p seat (Remove g) Done own holds legal = record { references = λ q ne other f. refl; parts = λ q ne other. refl }
 stays_made s p seat (Kill g) Done own holds legal = record { references = λ q ne other f. refl; parts = λ q ne other. refl }

@@ -6,10 +6,13 @@ use Rattle.std.specs.Option.{option_map_or}
 use Rattle.std.proofs.lemmas.Bool.{cases_eq, ne_eqb, or_left, or_right, true≢false, false≢true}
 use Rattle.std.proofs.lemmas.List.{append_assoc, append-nil}
 use Rattle.std.proofs.Math.Seq.{take-append_seam}
+use Rattle.group_tree.specs.declared.event.EventKey.{EventKey}
+use Rattle.group_tree.specs.Events.{count_of, no_events}
 use Rattle.group_tree.specs.Groups.{has_group, initial_groups}
+use Rattle.group_tree.proofs.EventLemmas.{none_counted}
 use Rattle.group_tree.proofs.GroupLemmas.{has_group-any}
 use Rattle.group_charge.specs.declared.account.Account.{Account}
-use Rattle.group_charge.specs.Charges.{Ledger, initial_ledger, empty_account, no_events, account_at, peak_of, events_of, events_local_of}
+use Rattle.group_charge.specs.Charges.{Ledger, initial_ledger, empty_account, account_at, peak_of, events_of, events_local_of}
 use Rattle.frame_word.specs.Seats.{KnownTable}
 use Rattle.step_rules.specs.declared.step.Step.{Step}
 use Rattle.step_rules.specs.declared.step.Action.{Action}
@@ -23,7 +26,6 @@ use Rattle.step_rules.specs.Cover.{hide}
 use Rattle.step_rules.specs.Laws.{ShowsLocal, pushed}
 use Rattle.step_rules.specs.Reaches.{IsLocalRun, is_own, own_steps, MayFollow, IsInterleaved}
 use Rattle.step_rules.specs.Peaks.{IsPeak}
-use Rattle.step_rules.specs.Events.{EventKey, Max, Oom, OomKill}
 use Rattle.step_rules.proofs.Own.{IsOwn}
 use Rattle.step_rules.proofs.Runs.{state_more}
 use Rattle.step_rules.proofs.Freeing.{zone_of_run}
@@ -32,7 +34,6 @@ use Rattle.step_rules.proofs.LocalLaws.{own_step_is_legal}
 use Rattle.step_rules.proofs.Interleaving.{local_runs_interleave}
 use Rattle.step_rules.proofs.Peaking.{peaks_are_kept}
 use Rattle.step_rules.proofs.Noting.{events_are_counted}
-use Rattle.mem_machine.specs.Following.{count_by}
 use Rattle.mem_machine.specs.Local.{local_of}
 use Rattle.mem_machine.specs.Interleaving.{zone_of}
 use Rattle.mem_machine.specs.Steps.{cpu_makes}
@@ -200,27 +201,19 @@ fast_lines_tell t run cpus k before action answer after_side shows serves told =
 abbrev found : Bool → Option Account
 found b = cond b (Some (empty_account 0)) None
 
-none_below : (key : EventKey) (b : Bool) → count_by key (option_map_or (λ (a : Account). a.events) (found b) no_events) ≡ 0
-none_below Max true = refl
-none_below Max false = refl
-none_below Oom true = refl
-none_below Oom false = refl
-none_below OomKill true = refl
-none_below OomKill false = refl
+none_below : (key : EventKey) (b : Bool) → count_of (option_map_or (λ (a : Account). a.events) (found b) no_events) key ≡ 0
+none_below key true = none_counted key
+none_below key false = none_counted key
 
-none_at : (key : EventKey) (b : Bool) → count_by key (option_map_or (λ (a : Account). a.events_local) (found b) no_events) ≡ 0
-none_at Max true = refl
-none_at Max false = refl
-none_at Oom true = refl
-none_at Oom false = refl
-none_at OomKill true = refl
-none_at OomKill false = refl
+none_at : (key : EventKey) (b : Bool) → count_of (option_map_or (λ (a : Account). a.events_local) (found b) no_events) key ≡ 0
+none_at key true = none_counted key
+none_at key false = none_counted key
 
-first_events : (key : EventKey) (m : ℕ) → count_by key (events_of initial_ledger m) ≡ 0
+first_events : (key : EventKey) (m : ℕ) → count_of (events_of initial_ledger m) key ≡ 0
 unfolding events_of account_at
 first_events key m = none_below key (0 == m)
 
-first_events_local : (key : EventKey) (m : ℕ) → count_by key (events_local_of initial_ledger m) ≡ 0
+first_events_local : (key : EventKey) (m : ℕ) → count_of (events_local_of initial_ledger m) key ≡ 0
 unfolding events_local_of account_at
 first_events_local key m = none_at key (0 == m)
 

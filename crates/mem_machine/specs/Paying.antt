@@ -28,9 +28,9 @@ pub record PaysForFront (group frame : ℕ) (before after : Side) : Type 0 where
   pub takes : TakesFront group (pages_held before - 1) frame before.cpu after.cpu
   pub machine : after.machine ≡ before.machine
 
--- the zone of the table has at most 65,536 frames and 64 processors
+-- the zone of the table has at most 1,048,576 frames and 64 processors
 pub record IsOfSize (table : KnownTable) : Type 0 where
-  pub frames : table.frames ≤ 65536
+  pub frames : table.frames ≤ 1048576
   pub cpus : table.cpus ≤ 64
 
 -- with so many pages more, fewer than 2^32 pages are charged in all

@@ -8,7 +8,7 @@ use mem_machine::Machine;
 /// What was counted where a system ended. A count of units stays at 2^64 - 1.
 #[derive(Clone, Copy, Debug, PartialEq, Eq)]
 pub struct Audit {
-    /// The frames of the zone, 1 to 65,536.
+    /// The frames of the zone, 1 to 1,048,576.
     pub frames: u32,
     /// The frames that are free.
     pub free: u32,

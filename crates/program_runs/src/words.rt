@@ -15,8 +15,8 @@ const GOOD_WORDS: [(&str, [u32; 5], bool, bool); 9] = [
     ("replay --high=9", [16, 2, 4, 9, 4], false, false),
     ("replay --stock=9", [16, 2, 4, 8, 9], false, false),
     (
-        "replay --frames=65536 --cpus 16 --batch 64 --high 256 --stock 64 --audit --explain",
-        [65_536, 16, 64, 256, 64],
+        "replay --frames=1048576 --cpus 64 --batch 64 --high 256 --stock 64 --audit --explain",
+        [1_048_576, 64, 64, 256, 64],
         true,
         true,
     ),
@@ -57,15 +57,15 @@ fn asks_for_what_the_words_say(rt: HostRuntime) {
 const BAD_WORDS: [(&str, &str); 23] = [
     (
         "replay --frames 0",
-        "error: invalid value '0' for '--frames <N>': 0 is not in 1..=65536\n",
+        "error: invalid value '0' for '--frames <N>': 0 is not in 1..=1048576\n",
     ),
     ("play", "error: unrecognized subcommand 'play'\n"),
     (
         "replay --help",
         "Runs the lines of a script, one after the other\n\nUsage: memcg replay [OPTIONS]\n",
     ),
-    ("replay --frames=65537", "error: "),
-    ("replay --cpus=17", "error: "),
+    ("replay --frames=1048577", "error: "),
+    ("replay --cpus=65", "error: "),
     ("replay --cpus=0", "error: "),
     ("replay --batch=65", "error: "),
     ("replay --batch=0", "error: "),

@@ -16,7 +16,7 @@ use Rattle.group_tree.proofs.Walks.{WalkedTo, walked_up, walked_all, walked_lowe
 use Rattle.step_rules.specs.declared.step.Action.{Action}
 use Rattle.step_rules.specs.declared.step.Action.TheVariants.{Lock, Unlock, OpenVisit, ShutVisit, Get, Put, Freeze, Unfreeze, PassOut, TakeIn, PassBack}
 use Rattle.step_rules.specs.declared.step.Action.TheVariants.{Collect, Consume, Credit, Report, Absorb, Fill, DrainStock, Grant, Ungrant, PlaceBlock}
-use Rattle.step_rules.specs.declared.step.Action.TheVariants.{Publish, Return, NoteMax, NoteOom, SetMax, Make, Remove, Kill}
+use Rattle.step_rules.specs.declared.step.Action.TheVariants.{Publish, Return, NoteMax, NoteOom, NoteGroupKill, SetMax, SetFlag, Make, Remove, Kill}
 use Rattle.step_rules.specs.declared.step.Answer.{Answer}
 use Rattle.step_rules.specs.declared.step.Answer.TheVariants.{Illegal, Done, Held, Zero, Full, Left, Last, Missed, Took, Empty, OtherGroup, Drained, Back}
 use Rattle.step_rules.specs.declared.step.Answer.TheVariants.{Pages, Granted, Over, Placed, NoFreeBlock, Number}
@@ -205,7 +205,9 @@ answered s seat (Publish f) sound tree few legal = (Done, tt, tt)
 answered s seat (Return f) sound tree few legal = (Done, tt, tt)
 answered s seat (NoteMax g) sound tree few legal = (Done, tt, tt)
 answered s seat (NoteOom g) sound tree few legal = (Done, tt, tt)
+answered s seat (NoteGroupKill g) sound tree few legal = (Done, tt, tt)
 answered s seat (SetMax g limit) sound tree few legal = (Done, tt, tt)
+answered s seat (SetFlag g flag) sound tree few legal = (Done, tt, tt)
 answered s seat (Remove g) sound tree few legal = (Done, tt, tt)
 answered s seat (Kill g) sound tree few legal = (Done, tt, tt)
 

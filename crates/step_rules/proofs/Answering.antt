@@ -8,7 +8,7 @@ use Rattle.group_tree.proofs.CallerLemmas.{in_subtree-antisym}
 use Rattle.step_rules.specs.declared.step.Action.{Action}
 use Rattle.step_rules.specs.declared.step.Action.TheVariants.{Lock, Unlock, OpenVisit, ShutVisit, Get, Put, Freeze, Unfreeze, PassOut, TakeIn, PassBack}
 use Rattle.step_rules.specs.declared.step.Action.TheVariants.{Collect, Consume, Credit, Report, Absorb, Fill, DrainStock, Grant, Ungrant, PlaceBlock}
-use Rattle.step_rules.specs.declared.step.Action.TheVariants.{Publish, Return, NoteMax, NoteOom, SetMax, Make, Remove, Kill}
+use Rattle.step_rules.specs.declared.step.Action.TheVariants.{Publish, Return, NoteMax, NoteOom, NoteGroupKill, SetMax, SetFlag, Make, Remove, Kill}
 use Rattle.step_rules.specs.declared.step.Answer.{Answer}
 use Rattle.step_rules.specs.declared.step.Answer.TheVariants.{Illegal, Done, Left, Last, Missed, Took, Empty, OtherGroup, Drained, Back}
 use Rattle.step_rules.specs.declared.step.Answer.TheVariants.{Pages, Granted, Over, Placed, NoFreeBlock, Number}
@@ -70,8 +70,12 @@ plain_done s seat (NoteMax g) Done plain ok = refl
 plain_done s seat (NoteMax g) answer plain ok = absurd ok
 plain_done s seat (NoteOom g) Done plain ok = refl
 plain_done s seat (NoteOom g) answer plain ok = absurd ok
+plain_done s seat (NoteGroupKill g) Done plain ok = refl
+plain_done s seat (NoteGroupKill g) answer plain ok = absurd ok
 plain_done s seat (SetMax g limit) Done plain ok = refl
 plain_done s seat (SetMax g limit) answer plain ok = absurd ok
+plain_done s seat (SetFlag g flag) Done plain ok = refl
+plain_done s seat (SetFlag g flag) answer plain ok = absurd ok
 plain_done s seat (Remove g) Done plain ok = refl
 plain_done s seat (Remove g) answer plain ok = absurd ok
 plain_done s seat (Kill g) Done plain ok = refl

@@ -1,10 +1,17 @@
--- For a caller whose contracts say `Reaches`: nothing, one step, and one list after another.
-use Rattle.std.proofs.Common.{◌≡◌, ℕ, ◌++◌, [], ◌∷◌, refl, subst}
+-- For callers: what contracts that say `Reaches` want (nothing, one step, and one list after another); and what a note notes.
+use Rattle.std.proofs.Common.{◌≡◌, ℕ, Bool, true, false, ◌==◌, ◌&&◌, Option, Some, None, List, ◌++◌, [], ◌∷◌, refl, ◌∙◌, ap, subst, if◌then◌else◌, cond}
+use Rattle.group_tree.specs.declared.event.EventKey.{EventKey}
+use Rattle.group_tree.specs.declared.group.Group.{Group}
+use Rattle.group_tree.specs.Events.{is_same_key}
+use Rattle.group_tree.specs.Groups.{in_subtree}
 use Rattle.step_rules.specs.declared.step.Action.{Action}
 use Rattle.step_rules.specs.declared.step.Answer.{Answer}
 use Rattle.step_rules.specs.State.{State}
+use Rattle.step_rules.specs.Usage.{is_below}
+use Rattle.step_rules.specs.Legal.{is_of_group}
 use Rattle.step_rules.specs.After.{after}
 use Rattle.step_rules.specs.Laws.{IsLocalStep}
+use Rattle.step_rules.specs.Events.{note_of, group_noted, noted_at, is_noted_below, is_noted_at}
 use Rattle.step_rules.specs.Reaches.{Reaches}
 use Rattle.step_rules.proofs.Interleaving.{local_runs_compose}
 
@@ -26,3 +33,29 @@ pub reaches_more : (p : ℕ) (a b c : State) (seat : ℕ) (action : Action) (ans
     after b seat action answer ≡ c → Reaches p a c
 reaches_more p a b c seat action answer first is_step is =
     reaches_both p a b c first (subst (Reaches p b) is (reaches_one p b seat action answer is_step))
+
+-- ---- what a step notes, by any key, from the one note that it makes or doesn't make
+pub noted_so : (kind key : EventKey) (g : ℕ) (action : Action) (answer : Answer) → note_of action answer ≡ Some (kind, g) →
+    noted_at key action answer ≡ (if is_same_key key kind then Some g else None)
+noted_so kind key g action answer e = ap (group_noted key) e
+
+pub noted_nowhere : (key : EventKey) (action : Action) (answer : Answer) → note_of action answer ≡ None → noted_at key action answer ≡ None
+noted_nowhere key action answer e = ap (group_noted key) e
+
+pub noted_below_so : (kind key : EventKey) (g m : ℕ) (groups : List Group) (action : Action) (answer : Answer) →
+    note_of action answer ≡ Some (kind, g) → is_noted_below key m groups action answer ≡ (is_same_key key kind && in_subtree groups m g)
+noted_below_so kind key g m groups action answer e =
+    ap (is_below groups m) (noted_so kind key g action answer e) ∙ by_key (is_same_key key kind)
+  where
+    by_key : (same : Bool) → is_below groups m (cond same (Some g) None) ≡ (same && in_subtree groups m g)
+    by_key true = refl
+    by_key false = refl
+
+pub noted_at_so : (kind key : EventKey) (g m : ℕ) (groups : List Group) (action : Action) (answer : Answer) →
+    note_of action answer ≡ Some (kind, g) → is_noted_at key m groups action answer ≡ (is_same_key key kind && g == m)
+noted_at_so kind key g m groups action answer e =
+    ap (λ (o : Option ℕ). is_of_group o m) (noted_so kind key g action answer e) ∙ by_key (is_same_key key kind)
+  where
+    by_key : (same : Bool) → is_of_group (cond same (Some g) None) m ≡ (same && g == m)
+    by_key true = refl
+    by_key false = refl

@@ -15,7 +15,7 @@ use Rattle.step_rules.specs.declared.phase.Phase.TheVariants.{InZone, Lent, Head
 use Rattle.step_rules.specs.declared.step.Action.{Action}
 use Rattle.step_rules.specs.declared.step.Action.TheVariants.{Lock, Put, Freeze, Unfreeze, PassOut, TakeIn, PassBack, Collect, Consume}
 use Rattle.step_rules.specs.declared.step.Action.TheVariants.{Credit, Report, Absorb, Fill, DrainStock, Grant, Ungrant, PlaceBlock, Return}
-use Rattle.step_rules.specs.declared.step.Action.TheVariants.{SetMax, Make, Remove}
+use Rattle.step_rules.specs.declared.step.Action.TheVariants.{SetMax, SetFlag, Make, Remove}
 use Rattle.step_rules.specs.declared.step.Answer.{Answer}
 use Rattle.step_rules.specs.declared.step.Answer.TheVariants.{Illegal, Done, Last, Took, Back, Pages, Granted, Placed, Number}
 use Rattle.step_rules.specs.Phases.{FreshFrame, keeper_of, unit_of, has_as, is_free, passes_out, at_stage, passed_back, collected, stage_after_last, may_return}
@@ -50,6 +50,7 @@ groups_made : (s : State) (x : List Group) (seat : ℕ) (action : Action) (answe
 groups_made s x seat action Illegal e made = absurd (no_illegal s seat action made.answered)
 groups_made s x seat (Make path) (Number n) e made = λ i. groups_after (e i) (Make path) (Number n)
 groups_made s x seat (SetMax g limit) Done e made = λ i. groups_after (e i) (SetMax g limit) Done
+groups_made s x seat (SetFlag g flag) Done e made = λ i. groups_after (e i) (SetFlag g flag) Done
 groups_made s x seat (Remove g) Done e made = λ i. groups_after (e i) (Remove g) Done
 groups_made s x seat Lock answer e made = e
 groups_made s x seat action answer e made = e

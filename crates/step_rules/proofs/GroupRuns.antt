@@ -6,21 +6,23 @@ use Rattle.std.proofs.lemmas.Bool.{cases_eq, ne_eqb, true≢false, false≢true}
 use Rattle.std.proofs.lemmas.Nat.{pow_pos}
 use Rattle.zone_blocks.specs.declared.block.Block.{Block}
 use Rattle.zone_blocks.specs.Areas.{IsFreeBlock}
+use Rattle.group_tree.specs.declared.event.EventKey.TheVariants.{Max, Oom, OomKill, OomGroupKill}
 use Rattle.group_tree.specs.declared.group.Group.{Group}
 use Rattle.group_tree.specs.Path.{names_of, parent_path, is_name, is_well_formed}
-use Rattle.group_tree.specs.Groups.{the_root, has_group, group_at, path_of, in_subtree, limit_of, initial_groups, number_at, has_child, make_fault}
-use Rattle.group_tree.specs.Groups.{with_limit, without_group, IsLeastFreeNumber}
+use Rattle.group_tree.specs.Groups.{the_root, new_row, has_group, group_at, path_of, in_subtree, limit_of, initial_groups, number_at, has_child, make_fault}
+use Rattle.group_tree.specs.Groups.{with_limit, with_oom_group, without_group, IsLeastFreeNumber}
 use Rattle.group_tree.specs.Room.{PathHasRoom, IsLowestOver, has_room, fits_limit}
 use Rattle.step_rules.specs.State.{at_boot, sum_to, all_to}
 use Rattle.step_rules.specs.Legal.{is_of_group}
 use Rattle.step_rules.specs.After.{IsLegalRun}
-use Rattle.step_rules.specs.Examples.{small_zone, group_comes_and_goes, killed_group_ends, stock_without_a_page}
-use Rattle.step_rules.specs.Events.{Max, Oom, OomKill, events_of, events_local_of}
+use Rattle.step_rules.specs.Examples.{small_zone, group_comes_and_goes, killed_group_ends, group_killed_whole, group_dies_whole, stock_without_a_page}
+use Rattle.step_rules.specs.Events.{events_of, events_local_of}
+use Rattle.step_rules.specs.Folds.{flag_given}
 use Rattle.step_rules.proofs.SmallRuns.{legal_each, root_has_room, front_block}
 
 -- the root, a group with a limit, and one below it
 abbrev three : Option ℕ → List Group
-three limit = the_root ∷ record { number = 1; path = codes "/a"; limit = limit } ∷ record { number = 2; path = codes "/a/b"; limit = None } ∷ []
+three limit = the_root ∷ record (new_row 1 (codes "/a")) { limit = limit } ∷ new_row 2 (codes "/a/b") ∷ []
 
 -- who is above the lower one
 data Above (m : ℕ) : Type 0 where
@@ -72,7 +74,7 @@ first_number = record { free = refl; least = λ k few. by_number k few }
     by_number (suc k) few = absurd (omega (arith, few))
 
 abbrev two : Option ℕ → List Group
-two limit = the_root ∷ record { number = 1; path = codes "/a"; limit = limit } ∷ []
+two limit = the_root ∷ record (new_row 1 (codes "/a")) { limit = limit } ∷ []
 
 second_number : (limit : Option ℕ) → IsLeastFreeNumber (two limit) 2
 unfolding has_group group_at
@@ -129,3 +131,20 @@ two_have_room usage n m below = elim (cases_eq 0 m) [
 pub killed_run_is_legal : IsLegalRun small_zone killed_group_ends
 unfolding has_group group_at sum_to all_to in_subtree path_of names_of number_at parent_path is_name is_well_formed make_fault has_child with_limit without_group limit_of
 killed_run_is_legal = legal_each (at_boot small_zone) killed_group_ends (record { legal = refl; answered = tt; counted = tt }, (record { legal = refl; answered = first_number; counted = tt }, (record { legal = refl; answered = two_have_room _ 2; counted = tt }, (record { legal = refl; answered = tt; counted = tt }, (refl, (record { legal = refl; answered = tt; counted = tt }, (record { legal = refl; answered = tt; counted = tt }, (record { legal = refl; answered = tt; counted = tt }, (record { legal = refl; answered = (refl, front_block _ refl refl); counted = tt }, (record { legal = refl; answered = tt; counted = tt }, (record { legal = refl; answered = tt; counted = tt }, (record { legal = refl; answered = tt; counted = tt }, (record { legal = refl; answered = tt; counted = refl }, (record { legal = refl; answered = tt; counted = tt }, (record { legal = refl; answered = second_number (Some 0); counted = tt }, (record { legal = refl; answered = tt; counted = tt }, (record { legal = refl; answered = tt; counted = tt }, (record { legal = refl; answered = tt; counted = tt }, tt))))))))))))))))))
+
+pub whole_run_is_legal : IsLegalRun small_zone group_dies_whole
+unfolding has_group group_at sum_to all_to in_subtree path_of names_of number_at parent_path is_name is_well_formed make_fault has_child with_oom_group without_group limit_of
+whole_run_is_legal = legal_each (at_boot small_zone) group_dies_whole (record { legal = refl; answered = tt; counted = tt }, (record { legal = refl; answered = first_number; counted = tt }, (record { legal = refl; answered = second_number None; counted = tt }, (refl, (refl, (record { legal = refl; answered = tt; counted = tt }, (record { legal = refl; answered = tt; counted = tt }, (record { legal = refl; answered = tt; counted = tt }, (refl, (refl, (record { legal = refl; answered = tt; counted = tt }, (record { legal = refl; answered = tt; counted = tt }, (record { legal = refl; answered = tt; counted = tt }, (record { legal = refl; answered = first_number; counted = tt }, (record { legal = refl; answered = tt; counted = tt }, tt)))))))))))))))
+
+pub flags_given : (flag_given group_killed_whole 1 ≡ true) × (flag_given group_killed_whole 2 ≡ false)
+flags_given = (refl, refl)
+
+pub counted_whole : (events_local_of OomGroupKill small_zone group_killed_whole 1 ≡ 1) × (events_local_of OomGroupKill small_zone group_killed_whole 2 ≡ 0)
+counted_whole = (refl, refl)
+
+pub counted_above : (events_of OomGroupKill small_zone group_killed_whole 0 ≡ 1) × (events_of OomKill small_zone group_killed_whole 0 ≡ 2)
+unfolding in_subtree path_of group_at names_of with_oom_group
+counted_above = (refl, refl)
+
+pub whole_anew : (flag_given group_dies_whole 1 ≡ false) × (events_local_of OomGroupKill small_zone group_dies_whole 1 ≡ 0)
+whole_anew = (refl, refl)

@@ -6,9 +6,9 @@ use Rattle.std.proofs.lemmas.Bool.{cases_eq, cases_Bool, cases_lt, ne_eqb, false
 use Rattle.std.proofs.lemmas.List.Elements.{All-contains}
 use Rattle.group_tree.specs.declared.group.Group.{Group}
 use Rattle.group_tree.specs.declared.fault.Fault.{Fault}
-use Rattle.group_tree.specs.Groups.{has_group, has_child, in_subtree, make_fault, with_group, with_limit, without_group, IsLeastFreeNumber, AreGroups}
-use Rattle.group_tree.proofs.GroupLemmas.{AreGroups-with, AreGroups-limited, AreGroups-without, CanMake, can_make, length-full, has_group-is, group_at-contains}
-use Rattle.group_tree.proofs.CallerLemmas.{has_group-with_kept, has_group-limited, has_group-without, in_subtree-refl}
+use Rattle.group_tree.specs.Groups.{has_group, has_child, in_subtree, make_fault, with_group, with_limit, with_oom_group, without_group, IsLeastFreeNumber, AreGroups}
+use Rattle.group_tree.proofs.GroupLemmas.{AreGroups-with, AreGroups-limited, AreGroups-flagged, AreGroups-without, CanMake, can_make, length-full, has_group-is, group_at-contains}
+use Rattle.group_tree.proofs.CallerLemmas.{has_group-with_kept, has_group-limited, has_group-flagged, has_group-without, in_subtree-refl}
 use Rattle.step_rules.specs.declared.phase.Hold.{Hold}
 use Rattle.step_rules.specs.declared.phase.Hold.TheVariants.{Unheld, HeldBy, Visiting}
 use Rattle.step_rules.specs.declared.phase.Stage.{Stage}
@@ -18,7 +18,7 @@ use Rattle.step_rules.specs.declared.phase.Phase.TheVariants.{InZone, Lent, Head
 use Rattle.step_rules.specs.declared.step.Action.{Action}
 use Rattle.step_rules.specs.declared.step.Action.TheVariants.{Lock, Unlock, OpenVisit, ShutVisit, Put, Freeze, Unfreeze, PassOut, TakeIn}
 use Rattle.step_rules.specs.declared.step.Action.TheVariants.{PassBack, Collect, Consume, Credit, Report, Absorb, Fill, DrainStock, Grant}
-use Rattle.step_rules.specs.declared.step.Action.TheVariants.{Ungrant, PlaceBlock, Return, SetMax, Make, Remove}
+use Rattle.step_rules.specs.declared.step.Action.TheVariants.{Ungrant, PlaceBlock, Return, SetMax, SetFlag, Make, Remove}
 use Rattle.step_rules.specs.declared.step.Answer.{Answer}
 use Rattle.step_rules.specs.declared.step.Answer.TheVariants.{Illegal, Done, Last, Took, Back, Pages, Granted, Placed, Number}
 use Rattle.step_rules.specs.Phases.{FreshFrame, keeper_of, has_as, at_stage, passed_back, collected, stage_after_last, unit_of}
@@ -29,7 +29,7 @@ use Rattle.step_rules.specs.After.{after, is_within, unit_size, with_more, with_
 use Rattle.step_rules.specs.Cover.{holds_lock}
 use Rattle.step_rules.proofs.LegalTests.{absorb_tests, credit_tests, fill_tests, grant_tests, lock_tests, make_tests}
 use Rattle.step_rules.proofs.LegalTests.{open_visit_tests, pass_back_tests, place_block_tests, removable_tests, remove_tests, report_tests}
-use Rattle.step_rules.proofs.LegalTests.{shut_visit_tests, ungrant_tests, unlock_tests}
+use Rattle.step_rules.proofs.LegalTests.{set_flag_tests, shut_visit_tests, ungrant_tests, unlock_tests}
 use Rattle.step_rules.proofs.Basics.{at_each}
 use Rattle.step_rules.proofs.Sums.{sum_part}
 use Rattle.step_rules.proofs.Sound.{IsSound, PhasePaid, groups_in}
@@ -381,6 +381,11 @@ homes_step s seat (Return f) Done sound h legal ok counted = homes_phases h _ (�
     back_home x false = h.frames x
 homes_step s seat (SetMax g limit) Done sound h legal ok counted =
     more_keeps s.groups (with_limit s.groups g limit) h (AreGroups-limited s.groups g limit h.tree) (λ k there. has_group-limited s.groups g k limit ∙ there)
+homes_step s seat (SetFlag g flag) Done sound h legal ok counted =
+    let inner : not (g == 0) ≡ true = (set_flag_tests s seat g flag legal).2 in
+    more_keeps s.groups (with_oom_group s.groups g flag) h
+    (AreGroups-flagged s.groups g flag h.tree (λ e. true≢false (sym inner ∙ ap not (eq-eqb g 0 e))))
+    (λ k there. has_group-flagged s.groups g k flag ∙ there)
 homes_step s seat (Make path) (Number n) sound h legal ok counted =
     let none : is_none (make_fault s.groups path) ≡ true = (make_tests s seat path legal).1 in
     let can = making s path h none in

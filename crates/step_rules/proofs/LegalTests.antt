@@ -5,7 +5,7 @@ use Rattle.std.proofs.lemmas.Bool.{and_parts}
 use Rattle.group_tree.specs.Groups.{has_group, has_child, make_fault}
 use Rattle.step_rules.specs.declared.step.Action.TheVariants.{Lock, Unlock, OpenVisit, ShutVisit, Get, Put, Freeze, Unfreeze, PassOut, TakeIn, PassBack}
 use Rattle.step_rules.specs.declared.step.Action.TheVariants.{Collect, Consume, Credit, Report, Absorb, Fill, DrainStock, Grant, Ungrant, PlaceBlock}
-use Rattle.step_rules.specs.declared.step.Action.TheVariants.{Publish, Return, SetMax, Make, Remove, Kill}
+use Rattle.step_rules.specs.declared.step.Action.TheVariants.{Publish, Return, SetMax, SetFlag, Make, Remove, Kill}
 use Rattle.step_rules.specs.Phases.{FreshFrame, is_free, is_head, has_as, passes_out, passes_back, is_head_in_hand, may_return}
 use Rattle.step_rules.specs.State.{State, is_cpu, is_frame, is_unheld, is_held_by, visits, may_zone_act, pins_of}
 use Rattle.step_rules.specs.Usage.{usage_of}
@@ -127,6 +127,10 @@ return_tests s seat f e = and_three (may_zone_act s.hold seat) (is_frame s.zone 
 pub set_max_tests : (s : State) (seat g : ℕ) (limit : Option ℕ) → is_legal s seat (SetMax g limit) ≡ true →
     (may_zone_act s.hold seat ≡ true) × (has_group s.groups g ≡ true) × ((not (g == 0)) ≡ true)
 set_max_tests s seat g limit e = and_three (may_zone_act s.hold seat) (has_group s.groups g) (not (g == 0)) e
+
+pub set_flag_tests : (s : State) (seat g : ℕ) (flag : Bool) → is_legal s seat (SetFlag g flag) ≡ true →
+    (may_zone_act s.hold seat ≡ true) × (has_group s.groups g ≡ true) × ((not (g == 0)) ≡ true)
+set_flag_tests s seat g flag e = and_three (may_zone_act s.hold seat) (has_group s.groups g) (not (g == 0)) e
 
 pub make_tests : (s : State) (seat : ℕ) (path : List ℕ) → is_legal s seat (Make path) ≡ true →
     (may_zone_act s.hold seat ≡ true) × (is_none (make_fault s.groups path) ≡ true)

@@ -5,9 +5,9 @@ use Rattle.std.specs.Prelude.{nat_le, is_none, not, filter}
 use Rattle.std.specs.List.{list_any}
 use Rattle.std.proofs.lemmas.Bool.{cases_eq, cases_Bool, cases_lt, false≢true, true≢false, leb-true, or_right}
 use Rattle.group_tree.specs.declared.group.Group.{Group}
-use Rattle.group_tree.specs.Groups.{has_group, in_subtree, with_group, with_limit, without_group, make_fault, AreGroups}
+use Rattle.group_tree.specs.Groups.{has_group, in_subtree, with_group, with_limit, with_oom_group, without_group, make_fault, AreGroups}
 use Rattle.group_tree.proofs.GroupLemmas.{CanMake, has_group-any}
-use Rattle.group_tree.proofs.CallerLemmas.{in_subtree-with, in_subtree-limited, in_subtree-without, in_subtree-with_new, in_subtree-above, in_subtree-below}
+use Rattle.group_tree.proofs.CallerLemmas.{in_subtree-with, in_subtree-limited, in_subtree-flagged, in_subtree-without, in_subtree-with_new, in_subtree-above, in_subtree-below}
 use Rattle.zone_blocks.specs.declared.block.Block.{Block}
 use Rattle.step_rules.specs.declared.phase.Hold.{Hold}
 use Rattle.step_rules.specs.declared.phase.Stage.TheVariants.{FreshAt, Bare, Live, Ended}
@@ -19,7 +19,7 @@ use Rattle.step_rules.specs.declared.phase.Way.TheVariants.{PassingOut, OnList}
 use Rattle.step_rules.specs.declared.step.Action.{Action}
 use Rattle.step_rules.specs.declared.step.Action.TheVariants.{Lock, Put, Freeze, Unfreeze, PassOut, TakeIn, PassBack, Collect, Consume}
 use Rattle.step_rules.specs.declared.step.Action.TheVariants.{Credit, Report, Absorb, Fill, DrainStock, Grant, Ungrant, PlaceBlock, Return}
-use Rattle.step_rules.specs.declared.step.Action.TheVariants.{SetMax, Make, Remove}
+use Rattle.step_rules.specs.declared.step.Action.TheVariants.{SetMax, SetFlag, Make, Remove}
 use Rattle.step_rules.specs.declared.step.Answer.{Answer}
 use Rattle.step_rules.specs.declared.step.Answer.TheVariants.{Illegal, Done, Last, Took, Back, Pages, Granted, Placed, Number}
 use Rattle.step_rules.specs.Phases.{FreshFrame, keeper_of, unit_of, has_as, is_free, passes_out, at_stage, passed_back, collected, stage_after_last}
@@ -437,6 +437,9 @@ usage_step s seat (Return f) Done sound h legal ok counted = λ m. let a = unit_
 usage_step s seat (SetMax g limit) Done sound h legal ok counted = λ m.
     usage_falls s.zone s.hold s.groups (with_limit s.groups g limit) s.phases s.parts s.pending m h
     (λ k there is. sym (in_subtree-limited s.groups g m k limit) ∙ is)
+usage_step s seat (SetFlag g flag) Done sound h legal ok counted = λ m.
+    usage_falls s.zone s.hold s.groups (with_oom_group s.groups g flag) s.phases s.parts s.pending m h
+    (λ k there is. sym (in_subtree-flagged s.groups g m k flag) ∙ is)
 usage_step s seat (Make path) (Number n) sound h legal ok counted = λ m.
     let none : is_none (make_fault s.groups path) ≡ true = (make_tests s seat path legal).1 in
     usage_falls s.zone s.hold s.groups (with_group s.groups n path) s.phases s.parts s.pending m h

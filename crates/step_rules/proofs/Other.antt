@@ -11,7 +11,7 @@ use Rattle.step_rules.specs.declared.phase.Phase.TheVariants.{Lent}
 use Rattle.step_rules.specs.declared.step.Action.{Action}
 use Rattle.step_rules.specs.declared.step.Action.TheVariants.{Lock, Unlock, OpenVisit, ShutVisit, Get, Put, Freeze, Unfreeze, PassOut}
 use Rattle.step_rules.specs.declared.step.Action.TheVariants.{TakeIn, PassBack, Collect, Consume, Credit, Report, Absorb, Fill, DrainStock}
-use Rattle.step_rules.specs.declared.step.Action.TheVariants.{Grant, Ungrant, PlaceBlock, Return, SetMax, Make, Remove, Kill}
+use Rattle.step_rules.specs.declared.step.Action.TheVariants.{Grant, Ungrant, PlaceBlock, Return, SetMax, SetFlag, Make, Remove, Kill}
 use Rattle.step_rules.specs.declared.step.Answer.{Answer}
 use Rattle.step_rules.specs.declared.step.Answer.TheVariants.{Done, Held, Left, Last, Took, Back, Pages, Granted, Placed, Number}
 use Rattle.step_rules.specs.Phases.{FreshFrame, has_as, passes_out, at_stage, stage_after_last}
@@ -22,7 +22,7 @@ use Rattle.step_rules.specs.Cover.{hide, hide_phase, hide_part, hide_parts, hold
 use Rattle.step_rules.proofs.LegalTests.{absorb_tests, collect_tests, consume_tests, credit_tests, drain_stock_tests, fill_tests}
 use Rattle.step_rules.proofs.LegalTests.{freeze_tests, grant_tests, kill_tests, lock_tests, make_tests, open_visit_tests}
 use Rattle.step_rules.proofs.LegalTests.{pass_back_tests, pass_out_tests, place_block_tests, put_tests, remove_tests, report_tests}
-use Rattle.step_rules.proofs.LegalTests.{return_tests, set_max_tests, shut_visit_tests, take_in_tests, unfreeze_tests, ungrant_tests}
+use Rattle.step_rules.proofs.LegalTests.{return_tests, set_flag_tests, set_max_tests, shut_visit_tests, take_in_tests, unfreeze_tests, ungrant_tests}
 use Rattle.step_rules.proofs.LegalTests.{unlock_tests}
 use Rattle.step_rules.proofs.Basics.{at_each, same_state}
 use Rattle.step_rules.proofs.Lists.{times, length_last, length_without}
@@ -148,6 +148,8 @@ other_after s p q (PlaceBlock g k) (Placed b) sound ne other holds legal ok =
 other_after s p q (Return f) Done sound ne other holds legal ok = absurd (let may : may_zone_act s.hold q ≡ true = (return_tests s q f legal).0 in not_zone s.hold q true ne may)
 other_after s p q (SetMax g limit) Done sound ne other holds legal ok =
     absurd (let may : may_zone_act s.hold q ≡ true = (set_max_tests s q g limit legal).0 in not_zone s.hold q true ne may)
+other_after s p q (SetFlag g flag) Done sound ne other holds legal ok =
+    absurd (let may : may_zone_act s.hold q ≡ true = (set_flag_tests s q g flag legal).0 in not_zone s.hold q true ne may)
 other_after s p q (Make path) (Number n) sound ne other holds legal ok =
     absurd (let may : may_zone_act s.hold q ≡ true = (make_tests s q path legal).0 in not_zone s.hold q true ne may)
 other_after s p q (Remove g) Done sound ne other holds legal ok = absurd (let may : may_zone_act s.hold q ≡ true = (remove_tests s q g legal).0 in not_zone s.hold q true ne may)

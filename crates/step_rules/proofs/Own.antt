@@ -15,8 +15,8 @@ use Rattle.step_rules.specs.declared.phase.Phase.TheVariants.{Lent}
 use Rattle.step_rules.specs.declared.step.Action.{Action}
 use Rattle.step_rules.specs.declared.step.Action.TheVariants.{Lock, Unlock, OpenVisit, ShutVisit, Get, Put, Freeze, Unfreeze, PassOut}
 use Rattle.step_rules.specs.declared.step.Action.TheVariants.{TakeIn, PassBack, Collect, Consume, Credit, Report, Absorb, Fill, DrainStock}
-use Rattle.step_rules.specs.declared.step.Action.TheVariants.{Grant, Ungrant, PlaceBlock, Publish, Return, NoteMax, NoteOom, SetMax, Make}
-use Rattle.step_rules.specs.declared.step.Action.TheVariants.{Remove, Kill}
+use Rattle.step_rules.specs.declared.step.Action.TheVariants.{Grant, Ungrant, PlaceBlock, Publish, Return, NoteMax, NoteOom, NoteGroupKill}
+use Rattle.step_rules.specs.declared.step.Action.TheVariants.{SetMax, SetFlag, Make, Remove, Kill}
 use Rattle.step_rules.specs.declared.step.Answer.{Answer}
 use Rattle.step_rules.specs.declared.step.Answer.TheVariants.{Done, Held, Left, Last, Took, Empty, Drained, OtherGroup, Back, Pages}
 use Rattle.step_rules.specs.declared.step.Answer.TheVariants.{Granted, Over, Placed, NoFreeBlock, Number}
@@ -167,7 +167,9 @@ own_legal s p seat (Publish f) sound own inside holds = head_seen s p f sound (m
 own_legal s p seat (Return f) sound own inside holds = (λ i. may_zone_act s.hold seat && is_frame s.zone f && return_seen p s.killed (s.phases f) i)
 own_legal s p seat (NoteMax g) sound own inside holds = refl
 own_legal s p seat (NoteOom g) sound own inside holds = refl
+own_legal s p seat (NoteGroupKill g) sound own inside holds = refl
 own_legal s p seat (SetMax g limit) sound own inside holds = refl
+own_legal s p seat (SetFlag g flag) sound own inside holds = refl
 own_legal s p seat (Make path) sound own inside holds = refl
 own_legal s p seat (Remove g) sound own inside holds =
     (λ i. may_zone_act s.hold seat && (has_group s.groups g && not (g == 0) && not (has_child s.groups g) && usage_seen s p sound g i == 0))
@@ -341,6 +343,7 @@ own_after s p seat (Return f) Done sound own inside holds legal ok counted =
     let may : may_return s.killed (s.phases f) ≡ true = (return_tests s seat f legal).2 in
     same_state s (unit_seen p s.killed s.phases f (returning_is s.killed (s.phases f) may)) refl refl
 own_after s p seat (SetMax g limit) Done sound own inside holds legal ok counted = refl
+own_after s p seat (SetFlag g flag) Done sound own inside holds legal ok counted = refl
 own_after s p seat (Make path) (Number n) sound own inside holds legal ok counted = refl
 own_after s p seat (Remove g) Done sound own inside holds legal ok counted = refl
 own_after s p seat (Kill g) Done sound own inside holds legal ok counted = refl

@@ -5,11 +5,11 @@ use Rattle.std.specs.Prelude.{◌⊎◌, max}
 use Rattle.std.proofs.lemmas.Bool.{cases_eq, cases_lt, cases_Bool, ne_eqb, true≢false}
 use Rattle.std.proofs.lemmas.List.{take-append-le, take_all}
 use Rattle.group_tree.specs.Groups.{has_group, in_subtree, with_group, without_group}
-use Rattle.group_tree.proofs.CallerLemmas.{has_group-with, has_group-limited, has_group-without, in_subtree-above, root_there}
+use Rattle.group_tree.proofs.CallerLemmas.{has_group-with, has_group-limited, has_group-flagged, has_group-without, in_subtree-above, root_there}
 use Rattle.group_tree.proofs.GroupLemmas.{AreGroups-initial}
 use Rattle.step_rules.specs.declared.step.Step.{Step}
 use Rattle.step_rules.specs.declared.step.Action.{Action}
-use Rattle.step_rules.specs.declared.step.Action.TheVariants.{Lock, Grant, SetMax, Make, Remove}
+use Rattle.step_rules.specs.declared.step.Action.TheVariants.{Lock, Grant, SetMax, SetFlag, Make, Remove}
 use Rattle.step_rules.specs.declared.step.Answer.{Answer}
 use Rattle.step_rules.specs.declared.step.Answer.TheVariants.{Illegal, Done, Granted, Number}
 use Rattle.step_rules.specs.State.{Zone, State, at_boot, no_part}
@@ -72,6 +72,8 @@ peak_made s seat (Grant g n) Granted m peak ok moves there known =
     raised s (after s seat (Grant g n) Granted) m n peak (in_subtree s.groups m g) there known (moves m)
 peak_made s seat (SetMax g limit) Done m peak ok moves there known =
     stays s (after s seat (SetMax g limit) Done) m peak (sym (has_group-limited s.groups g m limit) ∙ there) known (moves m)
+peak_made s seat (SetFlag g flag) Done m peak ok moves there known =
+    stays s (after s seat (SetFlag g flag) Done) m peak (sym (has_group-flagged s.groups g m flag) ∙ there) known (moves m)
 peak_made s seat (Make path) (Number n) m peak ok moves there known =
     made_moves s (after s seat (Make path) (Number n)) path n m peak ok.free there known (moves m)
 peak_made s seat (Remove g) Done m peak ok moves there known =

@@ -10,7 +10,8 @@ use Rattle.group_tree.specs.Room.{PathHasRoom, has_room}
 use Rattle.step_rules.specs.Legal.{Allows}
 use Rattle.step_rules.specs.After.{Run, IsLegalRun}
 use Rattle.step_rules.specs.Examples.{small_zone, life_of_a_frame, credited_twice, returned_twice, unlocked_too_soon, returned_when_killed, at_the_borders, in_line, noted}
-use Rattle.step_rules.specs.Events.{Max, Oom, OomKill, events_of, events_local_of}
+use Rattle.group_tree.specs.declared.event.EventKey.TheVariants.{Max, Oom, OomKill}
+use Rattle.step_rules.specs.Events.{events_of, events_local_of}
 use Rattle.step_rules.proofs.Runs.{next, IsLegalFrom}
 
 -- each step is allowed after those before it

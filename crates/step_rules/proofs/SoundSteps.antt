@@ -6,7 +6,7 @@ use Rattle.step_rules.specs.declared.phase.Hold.TheVariants.{Unheld, HeldBy, Vis
 use Rattle.step_rules.specs.declared.step.Action.{Action}
 use Rattle.step_rules.specs.declared.step.Action.TheVariants.{Lock, Unlock, OpenVisit, ShutVisit, Get, Put, Freeze, Unfreeze, PassOut}
 use Rattle.step_rules.specs.declared.step.Action.TheVariants.{TakeIn, PassBack, Collect, Consume, Credit, Report, Absorb, Fill, DrainStock}
-use Rattle.step_rules.specs.declared.step.Action.TheVariants.{Grant, Ungrant, PlaceBlock, Return, SetMax, Make, Remove, Kill}
+use Rattle.step_rules.specs.declared.step.Action.TheVariants.{Grant, Ungrant, PlaceBlock, Return, SetMax, SetFlag, Make, Remove, Kill}
 use Rattle.step_rules.specs.declared.step.Answer.{Answer}
 use Rattle.step_rules.specs.declared.step.Answer.TheVariants.{Done, Held, Left, Last, Took, Back, Pages, Granted, Placed, Number}
 use Rattle.step_rules.specs.Phases.{Kind, ListFrame, FreshFrame, has_as, passes_out, passes_back, is_free, is_head_in_hand, may_return}
@@ -124,6 +124,7 @@ sound_step s seat (Return f) Done sound legal ok counted =
     let may : may_return s.killed (s.phases f) ≡ true = (return_tests s seat f legal).2 in
     returned s f sound (returning_is s.killed (s.phases f) may)
 sound_step s seat (SetMax g limit) Done sound legal ok counted = sound
+sound_step s seat (SetFlag g flag) Done sound legal ok counted = sound
 sound_step s seat (Make path) (Number n) sound legal ok counted = sound
 sound_step s seat (Remove g) Done sound legal ok counted = sound
 sound_step s seat (Kill g) Done sound legal ok counted = sound

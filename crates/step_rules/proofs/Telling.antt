@@ -4,21 +4,25 @@ use Rattle.std.proofs.Common.{cond, if◌then◌else◌, eq-eqb}
 use Rattle.std.specs.Prelude.{is_some}
 use Rattle.std.proofs.lemmas.Bool.{cases_eq, ne_eqb, false≢true, true≢false, cond-false}
 use Rattle.std.specs.List.{fold}
-use Rattle.std.specs.Option.{option_and_then}
+use Rattle.std.specs.Option.{option_and_then, option_map_or}
 use Rattle.group_tree.specs.declared.group.Group.{Group}
-use Rattle.group_tree.specs.Groups.{has_group, limit_of, with_group, with_limit, without_group, group_at, initial_groups, the_root}
-use Rattle.group_tree.proofs.CallerLemmas.{has_group-with, has_group-limited, has_group-without, limit_of-with, limit_of-with_new}
-use Rattle.group_tree.proofs.CallerLemmas.{limit_of-without, limit_of-limited, limit_of-limited_other}
+use Rattle.group_tree.specs.Groups.{has_group, limit_of, is_oom_group, with_group, with_limit, with_oom_group, without_group}
+use Rattle.group_tree.specs.Groups.{group_at, initial_groups, the_root}
+use Rattle.group_tree.proofs.CallerLemmas.{has_group-with, has_group-limited, has_group-flagged, has_group-without, limit_of-with, limit_of-with_new}
+use Rattle.group_tree.proofs.CallerLemmas.{limit_of-without, limit_of-limited, limit_of-limited_other, limit_of-flagged}
+use Rattle.group_tree.proofs.CallerLemmas.{is_oom_group-with_new}
+use Rattle.group_tree.proofs.GroupLemmas.{is_oom_group-with, is_oom_group-without, is_oom_group-limited, is_oom_group-flagged}
+use Rattle.group_tree.proofs.GroupLemmas.{is_oom_group-flagged_other}
 use Rattle.step_rules.specs.declared.step.Step.{Step}
 use Rattle.step_rules.specs.declared.step.Action.{Action}
 use Rattle.step_rules.specs.declared.step.Action.TheVariants.{Lock, Unlock, OpenVisit, ShutVisit, Put, TakeIn, PassBack, Consume, Credit}
-use Rattle.step_rules.specs.declared.step.Action.TheVariants.{Report, Absorb, Fill, DrainStock, SetMax, Make, Remove, Kill}
+use Rattle.step_rules.specs.declared.step.Action.TheVariants.{Report, Absorb, Fill, DrainStock, SetMax, SetFlag, Make, Remove, Kill}
 use Rattle.step_rules.specs.declared.step.Answer.{Answer}
 use Rattle.step_rules.specs.declared.step.Answer.TheVariants.{Illegal, Done, Last, Took, Back, Pages, Number}
 use Rattle.step_rules.specs.State.{Zone, Part, State, at_boot, with_at, without, with_last, front_of, is_unheld, is_held_by, visits}
 use Rattle.step_rules.specs.Legal.{IsMade, Allows}
 use Rattle.step_rules.specs.After.{Run, after, state_of, with_back, without_frame, paid, credited, filled, drained, IsLegalRun}
-use Rattle.step_rules.specs.Folds.{limit_after, killed_after, AllGroupsAreTold, holder_after, open_after, hold_of, TheLockIsTold, InHand}
+use Rattle.step_rules.specs.Folds.{limit_after, flag_after, killed_after, AllGroupsAreTold, holder_after, open_after, hold_of, TheLockIsTold, InHand}
 use Rattle.step_rules.specs.Folds.{hand_after, LastFill, fill_after, last_fill, AllPartsAreTold}
 use Rattle.step_rules.proofs.LegalTests.{lock_tests, open_visit_tests, shut_visit_tests, unlock_tests}
 use Rattle.step_rules.proofs.Sound.{IsSound}
@@ -64,6 +68,8 @@ limit_made g s x seat (SetMax h limit) Done holds made = λ there. elim (cases_e
       ∙ limit_of-limited s.groups h limit (sym (has_group-limited s.groups h h limit) ∙ sym (ap (has_group (with_limit s.groups h limit)) e) ∙ there))
   | inr ne ↦ rw (ne_eqb g h ne) (limit_of-limited_other s.groups h g limit ne ∙ holds (sym (has_group-limited s.groups h g limit) ∙ there))
 ]
+limit_made g s x seat (SetFlag h flag) Done holds made = λ there.
+    limit_of-flagged s.groups h g flag ∙ holds (sym (has_group-flagged s.groups h g flag) ∙ there)
 limit_made g s x seat (Make path) (Number n) holds made = λ there. elim (cases_eq g n) [
   | inl e ↦ rw (eq-eqb g n e) (ap (limit_of (with_group s.groups n path)) e ∙ limit_of-with_new s.groups n path made.answered.free)
   | inr ne ↦ rw (ne_eqb g n ne) (limit_of-with s.groups n g path ne ∙ holds (sym (has_group-with s.groups n g path ne) ∙ there))
@@ -73,6 +79,42 @@ limit_made g s x seat (Remove h) Done holds made = λ there.
     limit_of-without s.groups h g ne ∙ holds (sym (has_group-without s.groups h g ne) ∙ there)
 limit_made g s x seat Lock answer holds made = holds
 limit_made g s x seat action answer holds made = holds
+
+abbrev HasFlag : ℕ → State → Bool → Type 0
+HasFlag g s x = has_group s.groups g ≡ true → is_oom_group s.groups g ≡ x
+
+flag_still : (g : ℕ) (x : Bool) (seat : ℕ) (action : Action) → flag_after g x action Illegal ≡ x
+flag_still g x seat Lock = refl
+flag_still g x seat action = refl
+
+flag_made : (g : ℕ) (s : State) (x : Bool) (seat : ℕ) (action : Action) (answer : Answer) → HasFlag g s x → IsMade s seat action answer →
+    HasFlag g (after s seat action answer) (flag_after g x action answer)
+flag_made g s x seat action Illegal holds made = absurd (no_illegal s seat action made.answered)
+flag_made g s x seat (SetMax h limit) Done holds made = λ there.
+    is_oom_group-limited s.groups h g limit ∙ holds (sym (has_group-limited s.groups h g limit) ∙ there)
+flag_made g s x seat (SetFlag h flag) Done holds made = λ there. elim (cases_eq g h) [
+  | inl e ↦ rw (eq-eqb g h e) (ap (is_oom_group (with_oom_group s.groups h flag)) e
+      ∙ is_oom_group-flagged s.groups h flag (sym (has_group-flagged s.groups h h flag) ∙ sym (ap (has_group (with_oom_group s.groups h flag)) e) ∙ there))
+  | inr ne ↦ rw (ne_eqb g h ne) (is_oom_group-flagged_other s.groups h g flag ne ∙ holds (sym (has_group-flagged s.groups h g flag) ∙ there))
+]
+flag_made g s x seat (Make path) (Number n) holds made = λ there. elim (cases_eq g n) [
+  | inl e ↦ rw (eq-eqb g n e) (ap (is_oom_group (with_group s.groups n path)) e ∙ is_oom_group-with_new s.groups n path made.answered.free)
+  | inr ne ↦ rw (ne_eqb g n ne) (is_oom_group-with s.groups n g path ∙ holds (sym (has_group-with s.groups n g path ne) ∙ there))
+]
+flag_made g s x seat (Remove h) Done holds made = λ there.
+    let ne : g ≡ h → ⊥ = λ e. true≢false (sym there ∙ ap (has_group (without_group s.groups h)) e ∙ gone_itself s.groups h) in
+    is_oom_group-without s.groups h g ne ∙ holds (sym (has_group-without s.groups h g ne) ∙ there)
+flag_made g s x seat Lock answer holds made = holds
+flag_made g s x seat action answer holds made = holds
+
+-- the root's flag is off at first
+flag_boot : (g : ℕ) → is_oom_group initial_groups g ≡ false
+unfolding is_oom_group group_at
+flag_boot g = by_number (0 == g)
+  where
+    by_number : (b : Bool) → option_map_or (λ (x : Group). x.oom_group) (cond b (Some the_root) None) false ≡ false
+    by_number true = refl
+    by_number false = refl
 
 abbrev IsKilled : ℕ → State → Bool → Type 0
 IsKilled g s x = s.killed g ≡ x
@@ -102,6 +144,8 @@ pub groups_are_told : AllGroupsAreTold
 groups_are_told zone run legal g = record {
   limit = told_run (λ x seat action answer. limit_after g x action answer) (HasLimit g) (limit_still g)
       (λ s x seat action answer sound. limit_made g s x seat action answer) zone None (λ there. limit_boot g) run legal;
+  flag = told_run (λ x seat action answer. flag_after g x action answer) (HasFlag g) (flag_still g)
+      (λ s x seat action answer sound. flag_made g s x seat action answer) zone false (λ there. flag_boot g) run legal;
   killed = told_run (λ x seat action answer. killed_after g x action answer) (IsKilled g) (killed_still g)
       (λ s x seat action answer sound. killed_made g s x seat action answer) zone false refl run legal;
 }

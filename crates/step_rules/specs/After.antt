@@ -2,7 +2,7 @@
 use Rattle.std.specs.Prelude.{ℕ, ◌+◌, ◌-◌, ◌^◌, ◌==◌, ◌&&◌, nat_le, nat_lt, Bool, true, false, Option, Some, None, is_some, List, take, slice_get, IfSome}
 use Rattle.std.specs.Prelude.{fold, if◌then◌else◌}
 use Rattle.zone_blocks.specs.declared.block.Block.{Block}
-use Rattle.group_tree.specs.Groups.{with_group, with_limit, without_group}
+use Rattle.group_tree.specs.Groups.{with_group, with_limit, with_oom_group, without_group}
 use Rattle.step_rules.specs.declared.phase.ChargedUnit.{ChargedUnit}
 use Rattle.step_rules.specs.declared.phase.Hold.TheVariants.{Unheld, HeldBy, Visiting}
 use Rattle.step_rules.specs.declared.phase.Way.TheVariants.{PassingOut, OnList}
@@ -13,7 +13,7 @@ use Rattle.step_rules.specs.declared.step.Step.{Step}
 use Rattle.step_rules.specs.declared.step.Action.{Action}
 use Rattle.step_rules.specs.declared.step.Action.TheVariants.{Lock, Unlock, OpenVisit, ShutVisit, Get, Put, Freeze, Unfreeze, PassOut, TakeIn, PassBack}
 use Rattle.step_rules.specs.declared.step.Action.TheVariants.{Collect, Consume, Credit, Report, Absorb, Fill, DrainStock, Grant, Ungrant, PlaceBlock}
-use Rattle.step_rules.specs.declared.step.Action.TheVariants.{Return, SetMax, Make, Remove, Kill}
+use Rattle.step_rules.specs.declared.step.Action.TheVariants.{Return, SetMax, SetFlag, Make, Remove, Kill}
 use Rattle.step_rules.specs.declared.step.Answer.{Answer}
 use Rattle.step_rules.specs.declared.step.Answer.TheVariants.{Done, Held, Left, Last, Took, Back, Pages, Granted, Placed, Number}
 use Rattle.step_rules.specs.Phases.{FreshFrame, has_as, unit_of, at_stage, stage_after_last, passed_back, collected}
@@ -153,6 +153,7 @@ after s seat (Ungrant g n) Done = with_pending s g (s.pending g - n)
 after s seat (PlaceBlock g k) (Placed b) = record (with_pending s g (s.pending g - 2 ^ k)) { phases = with_block s.phases g b }
 after s seat (Return f) Done = record s { phases = without_unit s.phases f }
 after s seat (SetMax g limit) Done = record s { groups = with_limit s.groups g limit }
+after s seat (SetFlag g flag) Done = record s { groups = with_oom_group s.groups g flag }
 after s seat (Make path) (Number n) = record s { groups = with_group s.groups n path; killed = with_at s.killed n false }
 after s seat (Remove g) Done = record s { groups = without_group s.groups g }
 after s seat (Kill g) Done = record s { killed = with_at s.killed g true }

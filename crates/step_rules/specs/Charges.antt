@@ -1,10 +1,10 @@
 -- The groups that a run made, and the pages charged to them (memory.current of cgroup-v2.rst), over the run's pairs alone.
 use Rattle.std.specs.Prelude.{ℕ, ◌-◌, ◌^◌, Bool, Option, Some, None, List, fold, if◌then◌else◌}
 use Rattle.group_tree.specs.declared.group.Group.{Group}
-use Rattle.group_tree.specs.Groups.{in_subtree, initial_groups, with_group, with_limit, without_group}
+use Rattle.group_tree.specs.Groups.{in_subtree, initial_groups, with_group, with_limit, with_oom_group, without_group}
 use Rattle.step_rules.specs.declared.phase.ChargedUnit.{ChargedUnit}
 use Rattle.step_rules.specs.declared.step.Action.{Action}
-use Rattle.step_rules.specs.declared.step.Action.TheVariants.{Grant, Ungrant, Return, SetMax, Make, Remove}
+use Rattle.step_rules.specs.declared.step.Action.TheVariants.{Grant, Ungrant, Return, SetMax, SetFlag, Make, Remove}
 use Rattle.step_rules.specs.declared.step.Answer.{Answer}
 use Rattle.step_rules.specs.declared.step.Answer.TheVariants.{Done, Granted, Number}
 use Rattle.step_rules.specs.After.{Run}
@@ -15,6 +15,7 @@ use Rattle.step_rules.specs.Returns.{counted_along}
 abbrev pub groups_after : List Group → Action → Answer → List Group
 groups_after groups (Make path) (Number n) = with_group groups n path
 groups_after groups (SetMax g limit) Done = with_limit groups g limit
+groups_after groups (SetFlag g flag) Done = with_oom_group groups g flag
 groups_after groups (Remove g) Done = without_group groups g
 groups_after groups action answer = groups
 

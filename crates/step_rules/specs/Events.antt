@@ -1,6 +1,9 @@
 -- Event counts over a run (memory.events and memory.events.local of cgroup-v2.rst).
 use Rattle.std.specs.Prelude.{◌≡◌, ℕ, ◌+◌, ◌==◌, min, Bool, false, Option, Some, None, List, [], fold, if◌then◌else◌}
+use Rattle.group_tree.specs.declared.event.EventKey.{EventKey}
+use Rattle.group_tree.specs.declared.event.EventKey.TheVariants.{Max, Oom, OomKill, OomGroupKill}
 use Rattle.group_tree.specs.declared.group.Group.{Group}
+use Rattle.group_tree.specs.Events.{is_same_key}
 use Rattle.group_tree.specs.Room.{max_count, one_more}
 use Rattle.step_rules.specs.declared.step.Step.{Step}
 use Rattle.step_rules.specs.declared.step.Action.{Action}
@@ -13,19 +16,22 @@ use Rattle.step_rules.specs.Legal.{is_of_group}
 use Rattle.step_rules.specs.After.{Run, after, state_of}
 use Rattle.step_rules.specs.Laws.{pushed}
 
--- the kinds of event that are counted, named as the keys of memory.events: usage was about to go over the limit, the limit
--- could not be kept by reclaim, and a group was killed
-pub data EventKey : Type 0 where
-  Max : EventKey
-  Oom : EventKey
-  OomKill : EventKey
+-- the event that a step notes, and the group at which it notes it
+abbrev pub note_of : Action → Answer → Option (EventKey × ℕ)
+note_of (action.NoteMax g) Done = Some (Max, g)
+note_of (action.NoteOom g) Done = Some (Oom, g)
+note_of (action.Kill g) Done = Some (OomKill, g)
+note_of (action.NoteGroupKill g) Done = Some (OomGroupKill, g)
+note_of step answer = None
+
+-- the group of a note, if there is one and it is of this kind
+abbrev pub group_noted : EventKey → Option (EventKey × ℕ) → Option ℕ
+group_noted key None = None
+group_noted key (Some note) = if is_same_key key note.0 then Some note.1 else None
 
 -- the group at which a step notes an event of this kind
 abbrev pub noted_at : EventKey → Action → Answer → Option ℕ
-noted_at Max (action.NoteMax g) Done = Some g
-noted_at Oom (action.NoteOom g) Done = Some g
-noted_at OomKill (action.Kill g) Done = Some g
-noted_at key step answer = None
+noted_at key step answer = group_noted key (note_of step answer)
 
 -- a step notes an event of this kind at a group of g's subtree
 abbrev pub is_noted_below : EventKey → ℕ → List Group → Action → Answer → Bool

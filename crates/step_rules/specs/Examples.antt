@@ -1,12 +1,12 @@
 -- Small runs, to be read beside the table: one of the life of a frame, three whose last step is refused, one of a drop, two at
--- borders (of references, limits and kills, and of the order of a list), one of notes, two of a group, its limit and its kill, and
--- one of a stock that doesn't pay.
-use Rattle.std.specs.Prelude.{ℕ, ◌==◌, Some, [], ◌∷◌, ◌++◌, codes, replicate, if◌then◌else◌}
+-- borders (of references, limits and kills, and of the order of a list), one of notes, two of a group, its limit and its kill,
+-- one of a group that is killed as a whole, and one of a stock that doesn't pay.
+use Rattle.std.specs.Prelude.{ℕ, ◌==◌, true, Some, [], ◌∷◌, ◌++◌, codes, replicate, if◌then◌else◌}
 use Rattle.step_rules.specs.declared.step.Step.{Step}
 use Rattle.step_rules.specs.declared.step.Action.{Action}
 use Rattle.step_rules.specs.declared.step.Action.TheVariants.{Lock, Unlock, OpenVisit, ShutVisit, Get, Put, Freeze, Unfreeze, PassOut, TakeIn, PassBack}
 use Rattle.step_rules.specs.declared.step.Action.TheVariants.{Collect, Consume, Credit, Report, Absorb, Fill, DrainStock, Grant, Ungrant, PlaceBlock}
-use Rattle.step_rules.specs.declared.step.Action.TheVariants.{Publish, Return, NoteMax, NoteOom, SetMax, Make, Remove, Kill}
+use Rattle.step_rules.specs.declared.step.Action.TheVariants.{Publish, Return, NoteMax, NoteOom, NoteGroupKill, SetMax, SetFlag, Make, Remove, Kill}
 use Rattle.step_rules.specs.declared.step.Answer.{Answer}
 use Rattle.step_rules.specs.declared.step.Answer.TheVariants.{Illegal, Done, Held, Zero, Full, Left, Last, Missed, Took, Empty, OtherGroup, Drained, Back}
 use Rattle.step_rules.specs.declared.step.Answer.TheVariants.{Pages, Granted, Over, Placed, NoFreeBlock, Number}
@@ -120,6 +120,24 @@ killed_group_ends =
     made 0 (NoteMax 1) Done ∷ made 0 (NoteOom 1) Done ∷ made 0 (SetMax 1 (Some 0)) Done ∷ made 0 (PlaceBlock 1 0) (Placed (record { at = 0; order = 0 })) ∷
     made 0 (Ungrant 1 1) Done ∷ made 0 (Unfreeze 0 1) Done ∷ made 0 (Publish 0) Done ∷ made 0 (Freeze 0 1) Done ∷ made 0 (Return 0) Done ∷
     made 0 (Make (codes "/a/b")) (Number 2) ∷ made 0 (Remove 2) Done ∷ made 0 (Remove 1) Done ∷ made 1 Unlock Done ∷ []
+
+-- two groups are made, one below the other, and the upper one is to be killed as a whole. The root isn't, nor is a group that
+-- isn't there
+abbrev pub group_with_flag : Run
+group_with_flag =
+    made 1 Lock Done ∷ made 0 (Make (codes "/a")) (Number 1) ∷ made 0 (Make (codes "/a/b")) (Number 2) ∷ made 0 (SetFlag 0 true) Illegal ∷
+    made 0 (SetFlag 3 true) Illegal ∷ made 0 (SetFlag 1 true) Done ∷ []
+
+-- both are killed, and it is noted once, at the upper one; it can't be noted at the root, or at a group that isn't there
+abbrev pub group_killed_whole : Run
+group_killed_whole =
+    group_with_flag ++ made 0 (Kill 1) Done ∷ made 0 (Kill 2) Done ∷ made 0 (NoteGroupKill 0) Illegal ∷ made 0 (NoteGroupKill 3) Illegal ∷
+    made 0 (NoteGroupKill 1) Done ∷ []
+
+-- both are removed, and a new group gets the number of the upper one
+abbrev pub group_dies_whole : Run
+group_dies_whole =
+    group_killed_whole ++ made 0 (Remove 2) Done ∷ made 0 (Remove 1) Done ∷ made 0 (Make (codes "/a")) (Number 1) ∷ made 1 Unlock Done ∷ []
 
 -- a processor's stock has one page, and its list both frames, so that none is free. Its stock pays for its group alone, and for
 -- one frame; and once it is drained it pays for none, and takes no page back

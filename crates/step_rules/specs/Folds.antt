@@ -1,11 +1,11 @@
--- What a run says of limits, killed groups, the lock, lists and stocks, each folded over its pairs apart from the state.
+-- What a run says of limits, flags, killed groups, the lock, lists and stocks, each folded over its pairs apart from the state.
 use Rattle.std.specs.Prelude.{◌≡◌, ℕ, ◌==◌, Bool, true, false, Option, Some, None, is_some, List, [], fold, if◌then◌else◌}
-use Rattle.group_tree.specs.Groups.{has_group, limit_of}
+use Rattle.group_tree.specs.Groups.{has_group, limit_of, is_oom_group}
 use Rattle.step_rules.specs.declared.phase.Hold.{Hold}
 use Rattle.step_rules.specs.declared.phase.Hold.TheVariants.{Unheld, HeldBy, Visiting}
 use Rattle.step_rules.specs.declared.step.Action.{Action}
 use Rattle.step_rules.specs.declared.step.Action.TheVariants.{Lock, Unlock, OpenVisit, ShutVisit, Put, TakeIn, PassBack, Consume, Credit}
-use Rattle.step_rules.specs.declared.step.Action.TheVariants.{Fill, DrainStock, SetMax, Make, Kill}
+use Rattle.step_rules.specs.declared.step.Action.TheVariants.{Fill, DrainStock, SetMax, SetFlag, Make, Kill}
 use Rattle.step_rules.specs.declared.step.Answer.{Answer}
 use Rattle.step_rules.specs.declared.step.Answer.TheVariants.{Done, Last, Took, Back, Pages, Number}
 use Rattle.step_rules.specs.State.{Zone, without, with_last, front_of, is_cpu}
@@ -22,6 +22,16 @@ limit_after g old action answer = old
 abbrev pub limit_given : Run → ℕ → Option ℕ
 limit_given run g = fold (λ old e. limit_after g old e.0.action e.1) None run
 
+-- whether group g is to be killed as a whole after one more step
+abbrev pub flag_after : ℕ → Bool → Action → Answer → Bool
+flag_after g old (SetFlag h flag) Done = if g == h then flag else old
+flag_after g old (Make path) (Number n) = if g == n then false else old
+flag_after g old action answer = old
+
+-- memory.oom.group: the flag that the group was given last since it was made; it is off at first
+abbrev pub flag_given : Run → ℕ → Bool
+flag_given run g = fold (λ old e. flag_after g old e.0.action e.1) false run
+
 -- whether group g is killed after one more step
 abbrev pub killed_after : ℕ → Bool → Action → Answer → Bool
 killed_after g old (Kill h) Done = if g == h then true else old
@@ -32,9 +42,10 @@ killed_after g old action answer = old
 abbrev pub was_killed : Run → ℕ → Bool
 was_killed run g = fold (λ old e. killed_after g old e.0.action e.1) false run
 
--- the state has the limit and the kill of each group that the run says
+-- the state has the limit, the flag and the kill of each group that the run says
 pub record GroupsAreTold (zone : Zone) (run : Run) (g : ℕ) : Type 0 where
   pub limit : has_group (state_of zone run).groups g ≡ true → limit_of (state_of zone run).groups g ≡ limit_given run g
+  pub flag : has_group (state_of zone run).groups g ≡ true → is_oom_group (state_of zone run).groups g ≡ flag_given run g
   pub killed : (state_of zone run).killed g ≡ was_killed run g
 
 -- so it is after every legal run

@@ -8,7 +8,7 @@ use Rattle.group_tree.specs.Room.{PathHasRoom, IsLowestOver}
 use Rattle.step_rules.specs.declared.step.Action.{Action}
 use Rattle.step_rules.specs.declared.step.Action.TheVariants.{Lock, Unlock, OpenVisit, ShutVisit, Get, Put, Freeze, Unfreeze, PassOut, TakeIn, PassBack}
 use Rattle.step_rules.specs.declared.step.Action.TheVariants.{Collect, Consume, Credit, Report, Absorb, Fill, DrainStock, Grant, Ungrant, PlaceBlock}
-use Rattle.step_rules.specs.declared.step.Action.TheVariants.{Publish, Return, NoteMax, NoteOom, SetMax, Make, Remove, Kill}
+use Rattle.step_rules.specs.declared.step.Action.TheVariants.{Publish, Return, NoteMax, NoteOom, NoteGroupKill, SetMax, SetFlag, Make, Remove, Kill}
 use Rattle.step_rules.specs.declared.step.Answer.{Answer}
 use Rattle.step_rules.specs.declared.step.Answer.TheVariants.{Illegal, Done, Held, Zero, Full, Left, Last, Missed, Took, Empty, OtherGroup, Drained, Back}
 use Rattle.step_rules.specs.declared.step.Answer.TheVariants.{Pages, Granted, Over, Placed, NoFreeBlock, Number}
@@ -79,7 +79,9 @@ is_legal s seat (Publish f) = may_zone_act s.hold seat && is_frame s.zone f && i
 is_legal s seat (Return f) = may_zone_act s.hold seat && is_frame s.zone f && may_return s.killed (s.phases f)
 is_legal s seat (NoteMax g) = may_zone_act s.hold seat && has_group s.groups g
 is_legal s seat (NoteOom g) = may_zone_act s.hold seat && has_group s.groups g
+is_legal s seat (NoteGroupKill g) = may_zone_act s.hold seat && has_group s.groups g && not (g == 0)
 is_legal s seat (SetMax g limit) = may_zone_act s.hold seat && has_group s.groups g && not (g == 0)
+is_legal s seat (SetFlag g flag) = may_zone_act s.hold seat && has_group s.groups g && not (g == 0)
 is_legal s seat (Make path) = may_zone_act s.hold seat && is_none (make_fault s.groups path)
 is_legal s seat (Remove g) = may_zone_act s.hold seat && is_removable s g
 is_legal s seat (Kill g) = may_zone_act s.hold seat && has_group s.groups g && not (s.killed g)
@@ -123,7 +125,9 @@ IsAnswer s seat (Publish f) Done = Unit {0}
 IsAnswer s seat (Return f) Done = Unit {0}
 IsAnswer s seat (NoteMax g) Done = Unit {0}
 IsAnswer s seat (NoteOom g) Done = Unit {0}
+IsAnswer s seat (NoteGroupKill g) Done = Unit {0}
 IsAnswer s seat (SetMax g limit) Done = Unit {0}
+IsAnswer s seat (SetFlag g flag) Done = Unit {0}
 IsAnswer s seat (Make path) (Number n) = IsLeastFreeNumber s.groups n
 IsAnswer s seat (Remove g) Done = Unit {0}
 IsAnswer s seat (Kill g) Done = Unit {0}

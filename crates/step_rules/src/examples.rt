@@ -3,18 +3,19 @@
 
 ghost use Rattle.std.specs.Prelude.{◌≡◌, ◌++◌, true, false, Some};
 ghost use Rattle.step_rules.specs.After.{IsLegalRun, state_of};
-ghost use Rattle.step_rules.specs.Examples.{small_zone, life_of_a_frame, credited_twice, returned_twice, unlocked_too_soon, returned_when_killed, at_the_borders, in_line, noted, group_comes_and_goes, killed_group_ends, stock_without_a_page};
+ghost use Rattle.step_rules.specs.Examples.{small_zone, life_of_a_frame, credited_twice, returned_twice, unlocked_too_soon, returned_when_killed, at_the_borders, in_line, noted, group_comes_and_goes, killed_group_ends, group_killed_whole, group_dies_whole, stock_without_a_page};
 ghost use Rattle.step_rules.specs.Examples.{first_visit, hand_over, last_put, lock_taken, vain_visit, with_pins, with_back_frames, with_fresh_frames};
 ghost use Rattle.step_rules.specs.Legal.{is_legal};
 ghost use Rattle.step_rules.specs.Cover.{hide};
 ghost use Rattle.step_rules.specs.Laws.{ShowsLocal};
 ghost use Rattle.step_rules.specs.Reaches.{IsLocalRun, own_steps, IsInterleaved};
-ghost use Rattle.step_rules.specs.Folds.{was_killed};
+ghost use Rattle.step_rules.specs.Folds.{flag_given, was_killed};
 ghost use Rattle.step_rules.specs.Returns.{is_gone};
 ghost use Rattle.step_rules.specs.Kept.{is_published};
 ghost use Rattle.step_rules.specs.Lent.{lent_to};
 ghost use Rattle.step_rules.specs.declared.step.Action.TheVariants.{Get, Consume};
-ghost use Rattle.step_rules.specs.Events.{Max, Oom, OomKill, events_of, events_local_of};
+ghost use Rattle.group_tree.specs.declared.event.EventKey.TheVariants.{Max, Oom, OomKill, OomGroupKill};
+ghost use Rattle.step_rules.specs.Events.{events_of, events_local_of};
 ghost use Rattle.step_rules.specs.declared.phase.Phase.TheVariants.{InZone};
 ghost use Rattle.step_rules.specs.declared.phase.Hold.TheVariants.{Unheld};
 
@@ -83,6 +84,16 @@ pub fn a_group_comes_and_goes()
 /// limit is set, and it is removed once nothing of it is left.
 pub fn a_killed_group_ends()
     ensures { IsLegalRun small_zone killed_group_ends }
+{}
+
+/// A group is to be killed as a whole, which the root can't be. It is counted once that it was killed so, at that group and
+/// above it, and each kill by itself. A new group of its number has neither the flag nor the count.
+pub fn a_group_dies_whole()
+    ensures legal { IsLegalRun small_zone group_dies_whole }
+    ensures flag { (flag_given group_killed_whole 1 ≡ true) × (flag_given group_killed_whole 2 ≡ false) }
+    ensures at_group { (events_local_of OomGroupKill small_zone group_killed_whole 1 ≡ 1) × (events_local_of OomGroupKill small_zone group_killed_whole 2 ≡ 0) }
+    ensures above { (events_of OomGroupKill small_zone group_killed_whole 0 ≡ 1) × (events_of OomKill small_zone group_killed_whole 0 ≡ 2) }
+    ensures anew { (flag_given group_dies_whole 1 ≡ false) × (events_local_of OomGroupKill small_zone group_dies_whole 1 ≡ 0) }
 {}
 
 /// A stock pays for its own group, as many frames as it has pages, and once it is drained nothing; and where no frame is

@@ -139,10 +139,19 @@ pub enum Action {
     NoteOom {
         group: GroupId,
     },
+    /// It is noted that a group other than the root was killed as a whole, with all groups below it.
+    NoteGroupKill {
+        group: GroupId,
+    },
     /// A group other than the root is given another limit, in pages; None for no limit. It binds later grants alone.
     SetMax {
         group: GroupId,
         limit: Option<u32>,
+    },
+    /// A group other than the root is told whether it is to be killed as a whole. Only later kills ask for that.
+    SetFlag {
+        group: GroupId,
+        oom_group: bool,
     },
     /// A group is made, which the tree doesn't refuse (`Tree::make_fault`).
     Make {

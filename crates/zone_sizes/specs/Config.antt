@@ -5,9 +5,9 @@ use Rattle.zone_sizes.specs.declared.config.Config.{Config}
 -- every size is in its range, and a processor's list holds a batch at least
 pub record IsValidConfig (c : Config) : Type 0 where
   pub frames_low : 1 ≤ c.frames
-  pub frames_high : c.frames ≤ 65536
+  pub frames_high : c.frames ≤ 1048576
   pub cpus_low : 1 ≤ c.cpus
-  pub cpus_high : c.cpus ≤ 16
+  pub cpus_high : c.cpus ≤ 64
   pub batch_low : 1 ≤ c.batch
   pub batch_high : c.batch ≤ 64
   pub high_low : c.batch ≤ c.high

@@ -5,9 +5,9 @@ ghost use Rattle.std.specs.Prelude.{◌↔◌, IsTrue};
 /// The sizes that a zone is booted with. A value may be out of range until `is_valid` was asked.
 #[derive(Clone, Copy, Debug, PartialEq, Eq)]
 pub struct Config {
-    /// Frames of the zone, numbered from 0: 1 to 65,536.
+    /// Frames of the zone, numbered from 0: 1 to 1,048,576.
     pub frames: u32,
-    /// Processors, numbered from 1: 1 to 16.
+    /// Processors, numbered from 1: 1 to 64.
     pub cpus: u32,
     /// Frames by which a processor's list is refilled or cut: 1 to 64.
     pub batch: u32,
@@ -24,8 +24,8 @@ impl Config {
     pub fn is_valid(&self) -> bool
         ensures { IsTrue result ↔ IsValidConfig self.now }
     {
-        let frames = 1 <= self.frames && self.frames <= 65_536;
-        let cpus = 1 <= self.cpus && self.cpus <= 16;
+        let frames = 1 <= self.frames && self.frames <= 1_048_576;
+        let cpus = 1 <= self.cpus && self.cpus <= 64;
         let batch = 1 <= self.batch && self.batch <= 64;
         let high = self.batch <= self.high && self.high <= 256;
         let stock = 1 <= self.stock && self.stock <= 64;

@@ -1,5 +1,6 @@
 //! A run as data: rows of steps with the answers that they have to get, and facts that have to be so after them.
 
+use group_tree::event::EventKey;
 use group_tree::group::GroupId;
 use mem_core::zone::Core;
 use std::alloc::Global;
@@ -22,10 +23,12 @@ pub enum CoreFact {
     Pending(GroupId, u128),
     /// The limit of a group that is there.
     Max(GroupId, Option<u32>),
-    /// How often the limit of a group that is there, or of one below it, was about to be passed, and how many were killed.
-    Events(GroupId, u64, u64),
-    /// How often reclaim could not keep the limit of a group that is there.
-    LocalOom(GroupId, u64),
+    /// Whether a group that is there is to be killed as a whole.
+    Flag(GroupId, bool),
+    /// How often an event was noted at a group that is there, or at one below it.
+    Events(GroupId, EventKey, u64),
+    /// How often an event was noted at a group that is there.
+    LocalEvents(GroupId, EventKey, u64),
     /// The group is there.
     IsThere(GroupId),
     /// The group is killed.
@@ -83,11 +86,9 @@ fn is_so_of_group(core: &Core, fact: &CoreFact, group: GroupId) -> bool {
     match *fact {
         CoreFact::Peak(_, peak) => core.peak(group) == peak,
         CoreFact::Max(_, limit) => core.max(group) == limit,
-        CoreFact::Events(_, max, oom_kill) => {
-            let events = core.events(group);
-            events.max == max && events.oom_kill == oom_kill
-        }
-        CoreFact::LocalOom(_, oom) => core.events_local(group).oom == oom,
+        CoreFact::Flag(_, flag) => core.oom_group(group) == flag,
+        CoreFact::Events(_, key, count) => core.events(group).count(key) == count,
+        CoreFact::LocalEvents(_, key, count) => core.events_local(group).count(key) == count,
         _ => true,
     }
 }
@@ -100,8 +101,9 @@ fn is_so(core: &Core, fact: &CoreFact) -> bool {
         CoreFact::IsKilled(group) => core.is_killed(group),
         CoreFact::Peak(group, _)
         | CoreFact::Max(group, _)
+        | CoreFact::Flag(group, _)
         | CoreFact::Events(group, ..)
-        | CoreFact::LocalOom(group, _)
+        | CoreFact::LocalEvents(group, ..)
         | CoreFact::IsThere(group) => is_so_of_group(core, fact, group),
         CoreFact::Pins(cpu, pins) => core.pins(cpu) == pins,
         CoreFact::Book(cpu, pages) => core.book(cpu) == pages,

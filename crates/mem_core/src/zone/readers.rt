@@ -3,21 +3,23 @@
 
 ghost use Rattle.std.specs.Prelude.{◌≡◌, ℕ, ◌<◌, ◌^◌, Some, IsTrue, length, slice_get};
 ghost use Rattle.zone_blocks.specs.Areas.{AreMaximalBlocks};
-ghost use Rattle.group_tree.specs.Groups.{has_group, limit_of};
+ghost use Rattle.group_tree.specs.declared.event.EventKey.{EventKey};
+ghost use Rattle.group_tree.specs.Events.{count_of};
+ghost use Rattle.group_tree.specs.Groups.{has_group, is_oom_group, limit_of};
 ghost use Rattle.step_rules.specs.declared.step.FramePlace.{FramePlace};
 ghost use Rattle.step_rules.specs.State.{State, free_in, front_of, pins_of};
 ghost use Rattle.step_rules.specs.Usage.{usage_of};
 ghost use Rattle.step_rules.specs.Places.{places_of, place_in, is_same_frame_place};
-ghost use Rattle.step_rules.specs.Folds.{limit_given, was_killed};
+ghost use Rattle.step_rules.specs.Folds.{flag_given, limit_given, was_killed};
 ghost use Rattle.step_rules.specs.After.{Run, state_of};
 ghost use Rattle.step_rules.specs.Peaks.{IsPeak};
-ghost use Rattle.step_rules.specs.Events.{EventKey, events_of, events_local_of};
-ghost use Rattle.mem_core.specs.Accounts.{account_of, count_in};
+ghost use Rattle.step_rules.specs.Events.{events_of, events_local_of};
+ghost use Rattle.mem_core.specs.Accounts.{account_of};
 ghost use Rattle.mem_core.specs.Shown.{CoreState, Shows, state_in};
 ghost use Rattle.mem_core.specs.Promise.{shown_of};
 
 use super::Core;
-use crate::account::Events;
+use group_tree::event::EventCounts;
 use group_tree::group::GroupId;
 use group_tree::tree::Tree;
 use step_rules::phase::{Hold, Phase};
@@ -57,6 +59,15 @@ impl Core {
         ensures run { (run : Run) → Shows self.now run → result ≡ limit_given run group }
     {
         self.rows.tree.limit(group)
+    }
+
+    /// Whether a group that is there is to be killed as a whole (memory.oom.group); it isn't at first.
+    pub fn oom_group(&self, group: GroupId) -> bool
+        requires { IsTrue (has_group self.now.groups group) }
+        ensures now { result ≡ is_oom_group self.now.groups group }
+        ensures run { (run : Run) → Shows self.now run → result ≡ flag_given run group }
+    {
+        self.rows.tree.oom_group(group)
     }
 
     /// Where a frame of the zone is.
@@ -201,20 +212,20 @@ impl Core {
     }
 
     /// What was counted for a group that is there and all below it since it was made (memory.events).
-    pub fn events(&self, group: GroupId) -> Events
+    pub fn events(&self, group: GroupId) -> EventCounts
         requires { IsTrue (has_group self.now.groups group) }
         ensures now { result ≡ (account_of self.now.accounts group).events }
-        ensures run { (run : Run) → Shows self.now run → (key : EventKey) → count_in key result ≡ events_of key self.now.zone run group }
+        ensures run { (run : Run) → Shows self.now run → (key : EventKey) → count_of result key ≡ events_of key self.now.zone run group }
     {
         let account = self.accounts[group.number() as usize];
         account.events
     }
 
     /// What was counted for a group that is there alone since it was made (memory.events.local).
-    pub fn events_local(&self, group: GroupId) -> Events
+    pub fn events_local(&self, group: GroupId) -> EventCounts
         requires { IsTrue (has_group self.now.groups group) }
         ensures now { result ≡ (account_of self.now.accounts group).events_local }
-        ensures run { (run : Run) → Shows self.now run → (key : EventKey) → count_in key result ≡ events_local_of key self.now.zone run group }
+        ensures run { (run : Run) → Shows self.now run → (key : EventKey) → count_of result key ≡ events_local_of key self.now.zone run group }
     {
         self.accounts[group.number() as usize].events_local
     }
