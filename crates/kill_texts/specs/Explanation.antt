@@ -4,17 +4,18 @@ use Rattle.std.specs.List.{list_any}
 use Rattle.std.specs.Option.{option_map}
 use Rattle.group_tree.specs.declared.group.Group.{Group}
 use Rattle.kill_notes.specs.declared.note.Note.{Note}
-use Rattle.kill_notes.specs.declared.note.Note.TheVariants.{Limit, Stock, Round, Oom, Victim, Killed}
+use Rattle.kill_notes.specs.declared.note.Note.TheVariants.{Limit, Stock, Round, Oom, Victim, GroupKill, Kill}
 use Rattle.kill_texts.specs.Lines.{line_text}
 
 -- a group was killed
 abbrev pub is_kill : Note → Bool
-is_kill (Killed g returned pages pinned left usage) = true
+is_kill (Kill g returned pages pinned left usage) = true
 is_kill (Limit g max usage need) = false
 is_kill (Stock cpu pages) = false
 is_kill (Round number returned missed pages usage) = false
 is_kill (Oom g) = false
 is_kill (Victim victim candidates next) = false
+is_kill (GroupKill g number) = false
 
 -- the usage under the limit whose stocks are drained, once this is noted: that of the limit, and less what each of its
 -- stocks had; none once anything else is noted
@@ -24,7 +25,8 @@ usage_after before (Stock cpu pages) = option_map (λ usage. usage - pages) befo
 usage_after before (Round number returned missed pages usage) = None
 usage_after before (Oom g) = None
 usage_after before (Victim victim candidates next) = None
-usage_after before (Killed g returned pages pinned left usage) = None
+usage_after before (GroupKill g number) = None
+usage_after before (Kill g returned pages pinned left usage) = None
 
 -- the line of each note, where this is the usage under the limit whose stocks are drained
 abbrev pub lines_text : List Group → Option ℕ → List Note → List ℕ

@@ -6,7 +6,7 @@ use Rattle.group_tree.specs.declared.group.Group.{Group}
 use Rattle.group_tree.specs.Groups.{path_of}
 use Rattle.kill_notes.specs.declared.note.Candidate.{Candidate}
 use Rattle.kill_notes.specs.declared.note.Note.{Note}
-use Rattle.kill_notes.specs.declared.note.Note.TheVariants.{Limit, Stock, Round, Oom, Victim, Killed}
+use Rattle.kill_notes.specs.declared.note.Note.TheVariants.{Limit, Stock, Round, Oom, Victim, GroupKill, Kill}
 use Rattle.machine_texts.specs.Characters.{characters}
 
 -- so many pages, in bytes
@@ -58,6 +58,10 @@ abbrev pub victim_text : List Group → Candidate → ℕ → Candidate → List
 victim_text groups victim candidates next =
     codes "# victim " ++ candidate_text groups victim ++ others_text groups candidates next ++ codes "\n"
 
+-- the group that is killed as a whole, and how many groups of its subtree die
+abbrev pub group_kill_text : List Group → ℕ → ℕ → List ℕ
+group_kill_text groups g number = codes "# group " ++ group_text groups g ++ codes " groups " ++ decimal number ++ codes "\n"
+
 -- a group that was killed: what came back, how many of its units are pinned, what stays charged to the group itself, and the
 -- usage under the limit
 abbrev pub killed_text : List Group → ℕ → ℕ → ℕ → ℕ → ℕ → ℕ → List ℕ
@@ -71,4 +75,5 @@ line_text groups usage (Stock cpu pages) = stock_text usage cpu pages
 line_text groups _ (Round number returned missed pages usage) = round_text number returned missed pages usage
 line_text groups _ (Oom g) = oom_text groups g
 line_text groups _ (Victim victim candidates next) = victim_text groups victim candidates next
-line_text groups _ (Killed g returned pages pinned left usage) = killed_text groups g returned pages pinned left usage
+line_text groups _ (GroupKill g number) = group_kill_text groups g number
+line_text groups _ (Kill g returned pages pinned left usage) = killed_text groups g returned pages pinned left usage

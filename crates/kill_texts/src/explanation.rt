@@ -32,7 +32,7 @@ fn has_kill(notes: &[Note]) -> bool
 fn is_kill(note: &Note) -> bool
     ensures { result ≡ is_kill note.now }
 {
-    matches!(note, Note::Killed { .. })
+    matches!(note, Note::Kill { .. })
 }
 
 // The line of each note.

@@ -2,7 +2,7 @@
 
 ghost use Rattle.std.specs.Prelude.{◌≡◌, ◌++◌, IfOk};
 ghost use Rattle.std.specs.String.{string_bytes};
-ghost use Rattle.kill_texts.specs.Lines.{killed_text, limit_text, line_text, oom_text, round_text, stock_text, victim_text};
+ghost use Rattle.kill_texts.specs.Lines.{group_kill_text, killed_text, limit_text, line_text, oom_text, round_text, stock_text, victim_text};
 
 use crate::parts::{push_bytes, push_candidate, push_count, push_ending, push_group, push_others};
 use group_tree::group::GroupId;
@@ -40,7 +40,8 @@ pub(crate) fn write_line(
             candidates,
             next,
         } => write_victim(tree, victim, candidates, next, text),
-        Note::Killed {
+        Note::GroupKill { group, groups } => write_group_kill(tree, group, groups, text),
+        Note::Kill {
             group,
             returned,
             pages,
@@ -123,6 +124,20 @@ fn write_victim(
 {
     push_candidate("# victim ", tree, victim, text)?;
     push_others(tree, candidates, next, text)?;
+    text.push_str("\n")
+}
+
+// The group that is killed as a whole, and how many groups of its subtree die.
+fn write_group_kill(
+    tree: &Tree,
+    group: GroupId,
+    groups: u32,
+    text: &mut String,
+) -> Result<(), AllocError>
+    ensures { IfOk result (λ _. string_bytes text.new ≡ string_bytes text.old ++ group_kill_text tree.now group groups) }
+{
+    push_group("# group ", tree, group, text)?;
+    push_count(" groups ", u128::from(groups), text)?;
     text.push_str("\n")
 }
 

@@ -1,0 +1,5 @@
+use Rattle.std.proofs.Common.{rules}
+use Rattle.control_files.proofs.file.File.name.Goals as goal
+
+pub returns : goal.returns
+returns c = search rules
