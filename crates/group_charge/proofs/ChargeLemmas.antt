@@ -6,20 +6,20 @@ use Rattle.std.specs.List.{find, list_any}
 use Rattle.std.specs.Option.{option_map_or}
 use Rattle.std.proofs.lemmas.Bool.{eq-eqb, ne_eqb, cond-true, cond_both, cases_Bool}
 use Rattle.std.proofs.lemmas.List.{get_or-map, length-map, map-append}
-use Rattle.group_charge.proofs.UsageLemmas.{PeaksCover, cover_charged, cover_limited, cover_new, cover_noted, cover_removed, cover_taken, part-is}
+use Rattle.group_charge.proofs.UsageLemmas.{PeaksCover, cover_as, cover_charged, cover_new, cover_noted, cover_removed, cover_taken, part-is}
 use Rattle.group_charge.proofs.UsageLemmas.{sum-same, usage-charged, usage-taken}
 use Rattle.std.proofs.lemmas.List.Elements.{All-cons, All-nil, Contains-get_or}
 use Rattle.std.proofs.lemmas.List.Recursion.{found_at}
 use Rattle.std.proofs.lemmas.List.Sums.{sum_by-cons, sum_by_push}
 use Rattle.group_tree.specs.declared.group.Group.{Group}
-use Rattle.group_tree.specs.Groups.{the_root, IsLeastFreeNumber, has_group, in_subtree, has_child, without_group, with_limit, limited}
+use Rattle.group_tree.specs.declared.event.EventKey.{EventKey}
+use Rattle.group_tree.specs.Groups.{the_root, new_row, IsLeastFreeNumber, has_group, in_subtree, has_child, without_group, with_limit, with_oom_group, limited, flagged, AreGroups}
 use Rattle.group_tree.proofs.GroupLemmas.{CanMake, has_group-any, has_group-contains, length-full, AreGroups-initial, AreGroups-with}
-use Rattle.group_tree.proofs.GroupLemmas.{AreGroups-without, AreGroups-limited, limited-number}
-use Rattle.group_tree.proofs.CallerLemmas.{in_subtree-root}
-use Rattle.group_charge.specs.declared.account.Counts.{Counts}
+use Rattle.group_tree.proofs.GroupLemmas.{AreGroups-without, AreGroups-limited, AreGroups-flagged, limited-number, flagged-number}
+use Rattle.group_tree.proofs.CallerLemmas.{in_subtree-flagged, in_subtree-limited, in_subtree-root}
 use Rattle.group_charge.specs.Charges.{Account, Ledger, AreCharges, UsageRises, account_at, pages_of, current_of, usage_of, total_pages, added, taken}
 use Rattle.group_charge.specs.Charges.{peaked, with_event_at, charged, empty_account, initial_ledger, with_charge, with_uncharge, with_new_group}
-use Rattle.group_charge.specs.Charges.{with_group_removed, with_group_limit}
+use Rattle.group_charge.specs.Charges.{with_group_removed, with_group_limit, with_oom_flag}
 use Rattle.group_charge.proofs.SumLemmas.{AreDistinct, share, total-added, total-taken, usage-le-total, added-group, taken-group, peaked-group}
 use Rattle.group_charge.proofs.SumLemmas.{peaked-pages, sum-map_same}
 
@@ -102,11 +102,12 @@ pub same_groups : (f : Account → Account) → ((a : Account) → (f a).group �
 same_groups f same [] = refl
 same_groups f same (x ∷ xs) = ap (λ n. n ∷ map (λ (a : Account). a.group) (map f xs)) (same x) ∙ ap (λ ns. x.group ∷ ns) (same_groups f same xs)
 
--- another limit changes no number
-numbers-limited : (n : ℕ) (limit : Option ℕ) (xs : List Group) → map (λ (x : Group). x.number) (map (limited n limit) xs) ≡ map (λ (x : Group). x.number) xs
-numbers-limited n limit [] = refl
-numbers-limited n limit (x ∷ xs) =
-    ap (λ k. k ∷ map (λ (y : Group). y.number) (map (limited n limit) xs)) (limited-number n limit x) ∙ ap (λ ns. x.number ∷ ns) (numbers-limited n limit xs)
+-- a change of the rows that keeps their numbers
+numbers-kept : (f : Group → Group) → ((x : Group) → (f x).number ≡ x.number) → (xs : List Group) →
+    map (λ (x : Group). x.number) (map f xs) ≡ map (λ (x : Group). x.number) xs
+numbers-kept f keeps [] = refl
+numbers-kept f keeps (x ∷ xs) =
+    ap (λ k. k ∷ map (λ (y : Group). y.number) (map f xs)) (keeps x) ∙ ap (λ ns. x.number ∷ ns) (numbers-kept f keeps xs)
 
 -- mapping after filtering is filtering after mapping
 map-filter : {X Y : Type 0} (f : X → Y) (p : Y → Bool) (xs : List X) → map f (filter (λ x. p (f x)) xs) ≡ filter p (map f xs)
@@ -140,23 +141,37 @@ initial_peaks =
 pub AreCharges-initial : AreCharges initial_ledger
 AreCharges-initial = record { groups = AreGroups-initial; numbers = refl; fits = lit< tt; peaks = initial_peaks }
 
+-- and over other rows with the same numbers, each of which lies in the same subtrees
+AreCharges-as : (l : Ledger) (groups : List Group) → AreGroups groups → map (λ (x : Group). x.number) groups ≡ map (λ (x : Group). x.number) l.groups →
+    ((g h : ℕ) → in_subtree groups g h ≡ in_subtree l.groups g h) → AreCharges l → AreCharges (record l { groups = groups })
+AreCharges-as l groups are numbers same facts = record {
+  groups = are;
+  numbers = facts.numbers ∙ sym numbers;
+  fits = facts.fits;
+  peaks = cover_as groups l.groups l.accounts same facts.peaks;
+}
+
 -- and after another limit
 pub AreCharges-limited : (l : Ledger) (g : ℕ) (limit : Option ℕ) → AreCharges l → AreCharges (with_group_limit l g limit)
 unfolding with_limit
-AreCharges-limited l g limit facts = record {
-  groups = AreGroups-limited l.groups g limit facts.groups;
-  numbers = facts.numbers ∙ sym (numbers-limited g limit l.groups);
-  fits = facts.fits;
-  peaks = cover_limited l.groups l.accounts g limit facts.peaks;
-}
+AreCharges-limited l g limit facts =
+    AreCharges-as l (with_limit l.groups g limit) (AreGroups-limited l.groups g limit facts.groups)
+    (numbers-kept (limited g limit) (limited-number g limit) l.groups) (λ k h. in_subtree-limited l.groups g k h limit) facts
+
+-- and after a flag
+pub AreCharges-flagged : (l : Ledger) (g : ℕ) (flag : Bool) → AreCharges l → g ≢ 0 → AreCharges (with_oom_flag l g flag)
+unfolding with_oom_group
+AreCharges-flagged l g flag facts below =
+    AreCharges-as l (with_oom_group l.groups g flag) (AreGroups-flagged l.groups g flag facts.groups below)
+    (numbers-kept (flagged g flag) (flagged-number g flag) l.groups) (λ k h. in_subtree-flagged l.groups g k h flag) facts
 
 -- and after a note
-pub AreCharges-noted : (more : Counts → Counts) (l : Ledger) (g : ℕ) → AreCharges l → AreCharges (record { groups = l.groups; accounts = map (with_event_at more l.groups g) l.accounts })
-AreCharges-noted more l g facts = record {
+pub AreCharges-noted : (key : EventKey) (l : Ledger) (g : ℕ) → AreCharges l → AreCharges (record { groups = l.groups; accounts = map (with_event_at key l.groups g) l.accounts })
+AreCharges-noted key l g facts = record {
   groups = facts.groups;
-  numbers = same_groups (with_event_at more l.groups g) (λ a. refl) l.accounts ∙ facts.numbers;
-  fits = omega (arith, sum-map_same (λ (a : Account). a.pages) (with_event_at more l.groups g) (λ a. refl) l.accounts, facts.fits);
-  peaks = cover_noted more l.groups l.accounts g facts.peaks;
+  numbers = same_groups (with_event_at key l.groups g) (λ a. refl) l.accounts ∙ facts.numbers;
+  fits = omega (arith, sum-map_same (λ (a : Account). a.pages) (with_event_at key l.groups g) (λ a. refl) l.accounts, facts.fits);
+  peaks = cover_noted key l.groups l.accounts g facts.peaks;
 }
 
 -- and after pages were taken
@@ -202,7 +217,7 @@ AreCharges-new l n path facts can least =
     record {
       groups = AreGroups-with l.groups n path facts.groups can (omega (arith, few, can.room)) least.free;
       numbers = map-append (λ (a : Account). a.group) l.accounts (empty_account n ∷ []) ∙ ap (λ ns. ns ++ n ∷ []) facts.numbers
-          ∙ sym (map-append (λ (x : Group). x.number) l.groups (record { number = n; path = path; limit = None } ∷ []));
+          ∙ sym (map-append (λ (x : Group). x.number) l.groups (new_row n path ∷ []));
       fits = omega (arith, sum_by_push (λ (a : Account). a.pages) l.accounts (empty_account n), facts.fits);
       peaks = cover_new l.groups l.accounts n path facts.groups can least.free (all_known l facts) facts.peaks;
     }

@@ -1,16 +1,17 @@
 -- What is kept by number, and the ledger that it stands for. Serves the invariant of `Charges` and the clauses that name the
 -- whole ledger.
-use Rattle.std.proofs.Common.{◌≡◌, ◌≢◌, ℕ, ◌+◌, ◌-◌, ◌<◌, false, not, cond, max, ◌==◌, IsTrue, All, Contains, Option, Some, None, List, [], ◌∷◌, ◌++◌}
+use Rattle.std.proofs.Common.{◌≡◌, ◌≢◌, ℕ, ◌+◌, ◌-◌, ◌<◌, Bool, false, not, cond, max, ◌==◌, IsTrue, All, Contains, Option, Some, List, [], ◌∷◌, ◌++◌}
 use Rattle.std.proofs.Common.{length, map, filter, get_or, set, refl, sym, ap, ◌∙◌, subst, arith, ⊎_elim}
 use Rattle.std.specs.Option.{option_map_or}
 use Rattle.std.proofs.lemmas.Bool.{both_ways, cases_Bool, cases_eq, cond-true, cond-false, eq-eqb, ne_eqb}
 use Rattle.std.proofs.lemmas.List.{get_or_default, get_or-map, get_or-set_other, get_or-set_same, length-map, map-append}
 use Rattle.std.proofs.lemmas.List.Elements.{All-cons, All-contains, All-head, All-nil, All-tail, Contains-get_or}
 use Rattle.group_tree.specs.declared.group.Group.{Group}
-use Rattle.group_tree.specs.Groups.{AreGroups, has_group, in_subtree, with_group, with_limit, without_group, limited}
+use Rattle.group_tree.specs.declared.event.EventKey.{EventKey}
+use Rattle.group_tree.specs.Events.{with_one_more}
+use Rattle.group_tree.specs.Groups.{AreGroups, has_group, in_subtree, new_row, with_group, with_limit, with_oom_group, without_group, limited, flagged}
 use Rattle.group_tree.specs.Room.{on_path}
-use Rattle.group_tree.proofs.GroupLemmas.{has_group-contains, has_group-is, group_at-contains, limited-number}
-use Rattle.group_charge.specs.declared.account.Counts.{Counts}
+use Rattle.group_tree.proofs.GroupLemmas.{has_group-contains, has_group-is, group_at-contains, limited-number, flagged-number}
 use Rattle.group_charge.specs.Charges.{Account, AreCharges, account_at, added, charged, empty_account, pages_of, peaked, taken, usage_of}
 use Rattle.group_charge.specs.Charges.{with_charge, with_event_at}
 use Rattle.group_charge.specs.Kept.{AccountsOnPath, AreUsages, account_by, accounts_of, ledger_of, usage_by, with_event, with_local_event, with_usage_peak}
@@ -105,42 +106,42 @@ kept_peaked groups old new usages g bear walked sums =
     (cases_Bool (in_subtree groups k g)))
 
 -- one more event along the path and at the group itself
-abbrev events_noted : (Counts → Counts) → List Group → ℕ → Account → Account
-events_noted more groups g a = record a { events = on_path groups g more a.group a.events }
+abbrev events_noted : EventKey → List Group → ℕ → Account → Account
+events_noted key groups g a = record a { events = on_path groups g (with_one_more key) a.group a.events }
 
-events_walked : (more : Counts → Counts) (groups : List Group) (g k : ℕ) (a : Account) → a.group ≡ k → on_path groups g (with_event more k) k a ≡ events_noted more groups g a
-events_walked more groups g k a own =
+events_walked : (key : EventKey) (groups : List Group) (g k : ℕ) (a : Account) → a.group ≡ k → on_path groups g (with_event key k) k a ≡ events_noted key groups g a
+events_walked key groups g k a own =
     let side : in_subtree groups k g ≡ in_subtree groups a.group g = ap (λ j. in_subtree groups j g) (sym own) in
     ⊎_elim
     (λ t.
-    cond-true (in_subtree groups k g) (with_event more k a) a t
-    ∙ ap (λ e. record a { events = e }) (sym (cond-true (in_subtree groups a.group g) (more a.events) a.events (sym side ∙ t))))
+    cond-true (in_subtree groups k g) (with_event key k a) a t
+    ∙ ap (λ e. record a { events = e }) (sym (cond-true (in_subtree groups a.group g) (with_one_more key a.events) a.events (sym side ∙ t))))
     (λ f.
-    cond-false (in_subtree groups k g) (with_event more k a) a f
-    ∙ ap (λ e. record a { events = e }) (sym (cond-false (in_subtree groups a.group g) (more a.events) a.events (sym side ∙ f))))
+    cond-false (in_subtree groups k g) (with_event key k a) a f
+    ∙ ap (λ e. record a { events = e }) (sym (cond-false (in_subtree groups a.group g) (with_one_more key a.events) a.events (sym side ∙ f))))
     (cases_Bool (in_subtree groups k g))
 
-pub kept_noted : (more : Counts → Counts) (groups : List Group) (old new : List Account) (g : ℕ) → BearNumbers groups old → g < length new →
-    AccountsOnPath groups g (with_event more) old new → accounts_of groups (with_local_event more g new) ≡ map (with_event_at more groups g) (accounts_of groups old)
-kept_noted more groups old new g bear within walked =
-    kept_mapped groups old (with_local_event more g new) (with_event_at more groups g)
+pub kept_noted : (key : EventKey) (groups : List Group) (old new : List Account) (g : ℕ) → BearNumbers groups old → g < length new →
+    AccountsOnPath groups g (with_event key) old new → accounts_of groups (with_local_event key g new) ≡ map (with_event_at key groups g) (accounts_of groups old)
+kept_noted key groups old new g bear within walked =
+    kept_mapped groups old (with_local_event key g new) (with_event_at key groups g)
     (λ k there.
     let own = own_number groups old k bear there in
     let a = account_by old k in
-    let half : account_by new k ≡ events_noted more groups g a = walked k ∙ events_walked more groups g k a own in
+    let half : account_by new k ≡ events_noted key groups g a = walked k ∙ events_walked key groups g k a own in
     ⊎_elim
     (λ same.
-    let item : Account = record (account_by new g) { events_local = more (account_by new g).events_local } in
-    ap (account_by (with_local_event more g new)) same ∙ get_or-set_same new g item (empty_account 0) within
-    ∙ ap (λ j. record (account_by new j) { events_local = more (account_by new j).events_local }) (sym same)
-    ∙ ap (λ (x : Account). record x { events_local = more x.events_local }) half
-    ∙ ap (λ e. record (events_noted more groups g a) { events_local = e })
-    (sym (cond-true (a.group == g) (more a.events_local) a.events_local (eq-eqb a.group g (own ∙ same)))))
+    let item : Account = record (account_by new g) { events_local = with_one_more key (account_by new g).events_local } in
+    ap (account_by (with_local_event key g new)) same ∙ get_or-set_same new g item (empty_account 0) within
+    ∙ ap (λ j. record (account_by new j) { events_local = with_one_more key (account_by new j).events_local }) (sym same)
+    ∙ ap (λ (x : Account). record x { events_local = with_one_more key x.events_local }) half
+    ∙ ap (λ e. record (events_noted key groups g a) { events_local = e })
+    (sym (cond-true (a.group == g) (with_one_more key a.events_local) a.events_local (eq-eqb a.group g (own ∙ same)))))
     (λ other.
-    let item : Account = record (account_by new g) { events_local = more (account_by new g).events_local } in
+    let item : Account = record (account_by new g) { events_local = with_one_more key (account_by new g).events_local } in
     get_or-set_other new g k item (empty_account 0) other ∙ half
-    ∙ ap (λ e. record (events_noted more groups g a) { events_local = e })
-    (sym (cond-false (a.group == g) (more a.events_local) a.events_local (ne_eqb a.group g (λ e. other (sym own ∙ e))))))
+    ∙ ap (λ e. record (events_noted key groups g a) { events_local = e })
+    (sym (cond-false (a.group == g) (with_one_more key a.events_local) a.events_local (ne_eqb a.group g (λ e. other (sym own ∙ e))))))
     (cases_eq k g))
 
 -- ---- other trees
@@ -155,7 +156,7 @@ old_same groups (x ∷ xs) kept n item h =
 pub kept_new : (groups : List Group) (kept : List Account) (n : ℕ) (path : List ℕ) → has_group groups n ≡ false → n < length kept →
     accounts_of (with_group groups n path) (set kept n (empty_account n)) ≡ accounts_of groups kept ++ empty_account n ∷ []
 kept_new groups kept n path free within =
-    map-append (λ (x : Group). account_by (set kept n (empty_account n)) x.number) groups (record { number = n; path = path; limit = None } ∷ [])
+    map-append (λ (x : Group). account_by (set kept n (empty_account n)) x.number) groups (new_row n path ∷ [])
     ∙ ap (λ others. others ++ account_by (set kept n (empty_account n)) n ∷ [])
     (old_same groups groups kept n (empty_account n)
     (λ i d lt same. both_ways (has_group groups n) free
@@ -183,17 +184,21 @@ pub kept_removed : (groups : List Group) (kept : List Account) (g : ℕ) → Bea
 unfolding without_group
 kept_removed groups kept g bear = removed groups kept g (own_all groups kept bear)
 
--- another limit
-same_limited : (xs : List Group) (kept : List Account) (g : ℕ) (limit : Option ℕ) → accounts_of (map (limited g limit) xs) kept ≡ accounts_of xs kept
-same_limited [] kept g limit = refl
-same_limited (x ∷ xs) kept g limit =
-    ap (λ n. account_by kept n ∷ accounts_of (map (limited g limit) xs) kept) (limited-number g limit x)
-    ∙ ap (λ others. account_by kept x.number ∷ others) (same_limited xs kept g limit)
+-- the same groups with other rows
+same_numbers : (f : Group → Group) → ((x : Group) → (f x).number ≡ x.number) → (xs : List Group) (kept : List Account) →
+    accounts_of (map f xs) kept ≡ accounts_of xs kept
+same_numbers f keeps [] kept = refl
+same_numbers f keeps (x ∷ xs) kept =
+    ap (λ n. account_by kept n ∷ accounts_of (map f xs) kept) (keeps x) ∙ ap (λ others. account_by kept x.number ∷ others) (same_numbers f keeps xs kept)
 
 pub kept_limited : (groups : List Group) (kept : List Account) (g : ℕ) (limit : Option ℕ) →
     accounts_of (with_limit groups g limit) kept ≡ accounts_of groups kept
 unfolding with_limit
-kept_limited groups kept g limit = same_limited groups kept g limit
+kept_limited groups kept g limit = same_numbers (limited g limit) (limited-number g limit) groups kept
+
+pub kept_flagged : (groups : List Group) (kept : List Account) (g : ℕ) (flag : Bool) → accounts_of (with_oom_group groups g flag) kept ≡ accounts_of groups kept
+unfolding with_oom_group
+kept_flagged groups kept g flag = same_numbers (flagged g flag) (flagged-number g flag) groups kept
 
 -- ---- reading what is kept
 -- a list is read at the group's number

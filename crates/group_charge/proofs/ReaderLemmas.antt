@@ -1,5 +1,5 @@
 -- What the readers of a ledger tell after a change. Serves the clauses pages, peaks, events and counts of `Charges`.
-use Rattle.std.proofs.Common.{◌≡◌, ℕ, ◌+◌, ◌-◌, ◌<◌, ◌≤◌, true, false, not, cond, max, ◌==◌, IsTrue, Option, Some, None, is_some, List, [], ◌∷◌}
+use Rattle.std.proofs.Common.{◌≡◌, ℕ, ◌+◌, ◌-◌, ◌<◌, ◌≤◌, Bool, true, false, not, cond, max, ◌==◌, IsTrue, Option, Some, None, is_some, List, [], ◌∷◌}
 use Rattle.std.proofs.Common.{length, map, filter, get_or, refl, sym, ap, ◌∙◌, subst, arith, ⊎_elim}
 use Rattle.std.specs.List.{find}
 use Rattle.std.specs.Option.{option_map, option_map_or, option_or}
@@ -8,15 +8,16 @@ use Rattle.std.proofs.lemmas.List.Folds.{find-append}
 use Rattle.std.proofs.lemmas.List.Sums.{sum_by_more_le_part}
 use Rattle.std.proofs.lemmas.List.Elements.{Contains-get_or}
 use Rattle.group_tree.specs.declared.group.Group.{Group}
+use Rattle.group_tree.specs.declared.event.EventKey.{EventKey}
+use Rattle.group_tree.specs.Events.{no_events, with_one_more}
 use Rattle.group_tree.specs.Groups.{group_at, has_group, in_subtree, without_group}
 use Rattle.group_tree.specs.Room.{at_group, on_path, peak_after}
-use Rattle.group_tree.proofs.GroupLemmas.{find-filter, found_in, found_passes, is_some-find}
-use Rattle.group_tree.proofs.CallerLemmas.{find-map, in_subtree-above, in_subtree-refl}
-use Rattle.group_charge.specs.declared.account.Counts.{Counts}
+use Rattle.group_tree.proofs.GroupLemmas.{find-filter, find-map, found_in, found_passes, is_some-find}
+use Rattle.group_tree.proofs.CallerLemmas.{in_subtree-above, in_subtree-refl}
 use Rattle.group_charge.specs.Charges.{Account, Ledger, AreCharges, CountsEvent, PagesRise, PeaksRise, SameEvents, SamePages, SamePeaks, account_at}
 use Rattle.group_charge.specs.Charges.{pages_of, peak_of, events_of, events_local_of, current_of, usage_of, added, taken, peaked, with_event_at, charged}
-use Rattle.group_charge.specs.Charges.{empty_account, no_events, with_charge, with_uncharge, with_noted, with_new_group}
-use Rattle.group_charge.specs.Charges.{with_group_limit, with_group_removed}
+use Rattle.group_charge.specs.Charges.{empty_account, with_charge, with_uncharge, with_noted, with_new_group}
+use Rattle.group_charge.specs.Charges.{with_group_limit, with_group_removed, with_oom_flag}
 use Rattle.group_charge.proofs.SumLemmas.{share, added-group, taken-group}
 use Rattle.group_charge.proofs.UsageLemmas.{usage-absent, usage-peaked, usage-removed_other}
 use Rattle.group_charge.proofs.ChargeLemmas.{account_at-there, has_account}
@@ -179,29 +180,33 @@ uncharge_events l g n = record {
 }
 
 -- ---- a note
-pub note_counts : (more : Counts → Counts) (l : Ledger) (g : ℕ) → AreCharges l → IsTrue (has_group l.groups g) → CountsEvent more l (with_noted more l g) g
+pub note_counts : (key : EventKey) (l : Ledger) (g : ℕ) → AreCharges l → IsTrue (has_group l.groups g) → CountsEvent key l (with_noted key l g) g
 unfolding events_of events_local_of
-note_counts more l g facts there = record {
-  events = λ m. read_mapped (λ (a : Account). a.events) no_events l (with_event_at more l.groups g) (on_path l.groups g more m) m (λ a. refl)
-      (λ a own. ap (λ k. on_path l.groups g more k a.events) own)
-      (λ e. sym (cond-false (in_subtree l.groups m g) (more no_events) no_events (not_on_path l m g (no_account l m facts e))));
-  events_local = λ m. read_mapped (λ (a : Account). a.events_local) no_events l (with_event_at more l.groups g) (at_group g more m) m (λ a. refl)
-      (λ a own. ap (λ k. at_group g more k a.events_local) own)
-      (λ e. sym (cond-false (m == g) (more no_events) no_events (not_same l m g (no_account l m facts e) there)));
+note_counts key l g facts there = record {
+  events = λ m. read_mapped (λ (a : Account). a.events) no_events l (with_event_at key l.groups g) (on_path l.groups g (with_one_more key) m) m (λ a. refl)
+      (λ a own. ap (λ k. on_path l.groups g (with_one_more key) k a.events) own)
+      (λ e. sym (cond-false (in_subtree l.groups m g) (with_one_more key no_events) no_events (not_on_path l m g (no_account l m facts e))));
+  events_local = λ m. read_mapped (λ (a : Account). a.events_local) no_events l (with_event_at key l.groups g) (at_group g (with_one_more key) m) m (λ a. refl)
+      (λ a own. ap (λ k. at_group g (with_one_more key) k a.events_local) own)
+      (λ e. sym (cond-false (m == g) (with_one_more key no_events) no_events (not_same l m g (no_account l m facts e) there)));
 }
 
-pub note_pages : (more : Counts → Counts) (l : Ledger) (g : ℕ) → SamePages l (with_noted more l g)
+pub note_pages : (key : EventKey) (l : Ledger) (g : ℕ) → SamePages l (with_noted key l g)
 unfolding pages_of
-note_pages more l g = λ m. read_mapped (λ (a : Account). a.pages) 0 l (with_event_at more l.groups g) (λ x. x) m (λ a. refl) (λ a own. refl) (λ e. refl)
+note_pages key l g = λ m. read_mapped (λ (a : Account). a.pages) 0 l (with_event_at key l.groups g) (λ x. x) m (λ a. refl) (λ a own. refl) (λ e. refl)
 
-pub note_peaks : (more : Counts → Counts) (l : Ledger) (g : ℕ) → SamePeaks l (with_noted more l g)
+pub note_peaks : (key : EventKey) (l : Ledger) (g : ℕ) → SamePeaks l (with_noted key l g)
 unfolding peak_of
-note_peaks more l g = λ m. read_mapped (λ (a : Account). a.peak) 0 l (with_event_at more l.groups g) (λ x. x) m (λ a. refl) (λ a own. refl) (λ e. refl)
+note_peaks key l g = λ m. read_mapped (λ (a : Account). a.peak) 0 l (with_event_at key l.groups g) (λ x. x) m (λ a. refl) (λ a own. refl) (λ e. refl)
 
 -- ---- another tree
 pub limit_pages : (l : Ledger) (g : ℕ) (limit : Option ℕ) → SamePages l (with_group_limit l g limit)
 unfolding pages_of account_at
 limit_pages l g limit = λ m. refl
+
+pub flag_pages : (l : Ledger) (g : ℕ) (flag : Bool) → SamePages l (with_oom_flag l g flag)
+unfolding pages_of account_at
+flag_pages l g flag = λ m. refl
 
 new_from : (n m : ℕ) (o : Option Account) →
     option_map_or (λ (a : Account). a.pages) (option_or o (cond (n == m) (Some (empty_account n)) None)) 0 ≡ option_map_or (λ (a : Account). a.pages) o 0

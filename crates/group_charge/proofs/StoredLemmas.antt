@@ -1,19 +1,19 @@
 -- The stored usages stay the sums of the own pages. Serves the invariant of `Charges` and the clauses of `try_charge` that
 -- speak of room.
-use Rattle.std.proofs.Common.{◌≡◌, ℕ, ◌+◌, ◌-◌, ◌≤◌, true, false, cond, IsTrue, Option, None, List, length, replicate, sym, ap, ◌∙◌, subst, arith, ⊎_elim}
+use Rattle.std.proofs.Common.{◌≡◌, ℕ, ◌+◌, ◌-◌, ◌≤◌, Bool, true, false, cond, IsTrue, Option, None, List, length, replicate, sym, ap, ◌∙◌, subst, arith, ⊎_elim}
 use Rattle.std.proofs.lemmas.Bool.{cases_Bool, cases_eq, cases_lt, cond-true, cond-false}
 use Rattle.std.proofs.lemmas.List.{get_or-replicate, get_or_past, length-replicate}
 use Rattle.group_tree.specs.declared.group.Group.{Group}
 use Rattle.group_tree.specs.Ancestors.{is_passed}
+use Rattle.group_tree.specs.declared.event.EventKey.{EventKey}
 use Rattle.group_tree.specs.Groups.{has_group, in_subtree}
 use Rattle.group_tree.proofs.GroupLemmas.{CanMake}
 use Rattle.group_tree.proofs.Walks.{passed_all}
-use Rattle.group_charge.specs.declared.account.Counts.{Counts}
 use Rattle.group_charge.specs.Charges.{Account, AreCharges, Ledger, current_of, initial_ledger, pages_of, with_charge, with_group_limit}
-use Rattle.group_charge.specs.Charges.{with_group_removed, with_noted, with_new_group, with_uncharge}
+use Rattle.group_charge.specs.Charges.{with_group_removed, with_noted, with_new_group, with_oom_flag, with_uncharge}
 use Rattle.group_charge.specs.Kept.{AreKept, AreUsages, UsagesPassed, ledger_of, usage_by}
 use Rattle.group_charge.proofs.SumLemmas.{usage-le-total}
-use Rattle.group_charge.proofs.UsageLemmas.{usage-absent, usage-limited, usage-new, usage-new_other, usage-noted}
+use Rattle.group_charge.proofs.UsageLemmas.{usage-absent, usage-flagged, usage-limited, usage-new, usage-new_other, usage-noted}
 use Rattle.group_charge.proofs.ChargeLemmas.{all_known, charge_rises, uncharge_falls}
 use Rattle.group_charge.proofs.ReaderLemmas.{removed_usage}
 
@@ -82,11 +82,14 @@ enough_stored l usages g n m facts there enough are passed =
     omega arith
 
 -- ---- after what changes no usage
-pub stored_noted : (more : Counts → Counts) (l : Ledger) (usages : List ℕ) (g : ℕ) → AreUsages l usages → AreUsages (with_noted more l g) usages
-stored_noted more l usages g are = record { size = are.size; sums = λ m. are.sums m ∙ sym (usage-noted more l.groups l.accounts g m) }
+pub stored_noted : (key : EventKey) (l : Ledger) (usages : List ℕ) (g : ℕ) → AreUsages l usages → AreUsages (with_noted key l g) usages
+stored_noted key l usages g are = record { size = are.size; sums = λ m. are.sums m ∙ sym (usage-noted key l.groups l.accounts g m) }
 
 pub stored_limited : (l : Ledger) (usages : List ℕ) (g : ℕ) (limit : Option ℕ) → AreUsages l usages → AreUsages (with_group_limit l g limit) usages
 stored_limited l usages g limit are = record { size = are.size; sums = λ m. are.sums m ∙ sym (usage-limited l.groups l.accounts g m limit) }
+
+pub stored_flagged : (l : Ledger) (usages : List ℕ) (g : ℕ) (flag : Bool) → AreUsages l usages → AreUsages (with_oom_flag l g flag) usages
+stored_flagged l usages g flag are = record { size = are.size; sums = λ m. are.sums m ∙ sym (usage-flagged l.groups l.accounts g m flag) }
 
 pub stored_new : (l : Ledger) (usages : List ℕ) (n : ℕ) (path : List ℕ) → AreCharges l → CanMake l.groups path → has_group l.groups n ≡ false →
     AreUsages l usages → AreUsages (with_new_group l n path) usages

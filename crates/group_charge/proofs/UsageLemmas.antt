@@ -7,10 +7,10 @@ use Rattle.std.proofs.lemmas.Bool.{cond-true, cond-false, cases_Bool, cond_both,
 use Rattle.std.proofs.lemmas.List.Elements.{All-map, All-head, All-tail, All-filter, All-push, filter_passes}
 use Rattle.std.proofs.lemmas.List.Sums.{sum_by-cons, sum_by_push}
 use Rattle.group_tree.specs.declared.group.Group.{Group}
-use Rattle.group_tree.specs.Groups.{AreGroups, has_group, in_subtree, with_group, with_limit, without_group}
+use Rattle.group_tree.specs.declared.event.EventKey.{EventKey}
+use Rattle.group_tree.specs.Groups.{AreGroups, has_group, in_subtree, with_group, with_limit, with_oom_group, without_group}
 use Rattle.group_tree.proofs.GroupLemmas.{CanMake}
-use Rattle.group_tree.proofs.CallerLemmas.{in_subtree-above, in_subtree-limited, in_subtree-with, in_subtree-with_new, in_subtree-without}
-use Rattle.group_charge.specs.declared.account.Counts.{Counts}
+use Rattle.group_tree.proofs.CallerLemmas.{in_subtree-above, in_subtree-flagged, in_subtree-limited, in_subtree-with, in_subtree-with_new, in_subtree-without}
 use Rattle.group_charge.specs.Charges.{Account, usage_of, added, taken, peaked, with_event_at, charged, empty_account}
 use Rattle.group_charge.proofs.SumLemmas.{share, extra, extra_once, AreDistinct, sum-plus, sum-map_same, peaked-group, peaked-share, added-group, taken-group}
 
@@ -220,32 +220,36 @@ usage_groups : (groups others : List Group) (xs : List Account) (m : ℕ) → Al
 unfolding usage_of
 usage_groups groups others xs m h = sum-same (share groups m) (share others m) xs (λ k d lt. ap (λ b. cond b (get_or xs k d).pages 0) (h k d lt))
 
+-- if each group lies in the same subtrees of both trees, usage is the same, and peaks cover it
+pub usage-as : (groups others : List Group) (xs : List Account) (m : ℕ) → ((g h : ℕ) → in_subtree groups g h ≡ in_subtree others g h) →
+    usage_of groups xs m ≡ usage_of others xs m
+usage-as groups others xs m same = usage_groups groups others xs m (λ j e h. same m (get_or xs j e).group)
+
+pub cover_as : (groups others : List Group) (xs : List Account) → ((g h : ℕ) → in_subtree groups g h ≡ in_subtree others g h) → PeaksCover others xs →
+    PeaksCover groups xs
+cover_as groups others xs same cover = λ k d lt.
+    let a = get_or xs k d in
+    omega (arith, cover k d lt, usage-as groups others xs a.group same)
+
 -- another limit changes no usage
 pub usage-limited : (groups : List Group) (xs : List Account) (g m : ℕ) (limit : Option ℕ) → usage_of (with_limit groups g limit) xs m ≡ usage_of groups xs m
-usage-limited groups xs g m limit = usage_groups (with_limit groups g limit) groups xs m (λ j e h. in_subtree-limited groups g m (get_or xs j e).group limit)
+usage-limited groups xs g m limit = usage-as (with_limit groups g limit) groups xs m (λ k h. in_subtree-limited groups g k h limit)
+
+-- nor does a flag
+pub usage-flagged : (groups : List Group) (xs : List Account) (g m : ℕ) (flag : Bool) → usage_of (with_oom_group groups g flag) xs m ≡ usage_of groups xs m
+usage-flagged groups xs g m flag = usage-as (with_oom_group groups g flag) groups xs m (λ k h. in_subtree-flagged groups g k h flag)
 
 -- nor does a note
-pub usage-noted : (more : Counts → Counts) (groups : List Group) (xs : List Account) (g m : ℕ) → usage_of groups (map (with_event_at more groups g) xs) m ≡ usage_of groups xs m
+pub usage-noted : (key : EventKey) (groups : List Group) (xs : List Account) (g m : ℕ) → usage_of groups (map (with_event_at key groups g) xs) m ≡ usage_of groups xs m
 unfolding usage_of
-usage-noted more groups xs g m = sum-map_same (share groups m) (with_event_at more groups g) (λ x. refl) xs
-
--- peaks cover usage under another limit
-pub cover_limited : (groups : List Group) (xs : List Account) (g : ℕ) (limit : Option ℕ) → PeaksCover groups xs → PeaksCover (with_limit groups g limit) xs
-cover_limited groups xs g limit cover = λ k d lt.
-    let a = get_or xs k d in
-    omega (
-      arith,
-      cover k d lt,
-      usage_groups (with_limit groups g limit) groups xs a.group
-          (λ j e h. in_subtree-limited groups g a.group (get_or xs j e).group limit),
-    )
+usage-noted key groups xs g m = sum-map_same (share groups m) (with_event_at key groups g) (λ x. refl) xs
 
 -- peaks cover usage after a note
-pub cover_noted : (more : Counts → Counts) (groups : List Group) (xs : List Account) (g : ℕ) → PeaksCover groups xs → PeaksCover groups (map (with_event_at more groups g) xs)
+pub cover_noted : (key : EventKey) (groups : List Group) (xs : List Account) (g : ℕ) → PeaksCover groups xs → PeaksCover groups (map (with_event_at key groups g) xs)
 unfolding usage_of
-cover_noted more groups xs g cover =
-    All-map (λ x. usage_of groups (map (with_event_at more groups g) xs) x.group ≤ x.peak) (with_event_at more groups g) xs
-    (λ k d lt. let a = get_or xs k d in omega (arith, cover k d lt, sum-map_same (share groups a.group) (with_event_at more groups g) (λ x. refl) xs))
+cover_noted key groups xs g cover =
+    All-map (λ x. usage_of groups (map (with_event_at key groups g) xs) x.group ≤ x.peak) (with_event_at key groups g) xs
+    (λ k d lt. let a = get_or xs k d in omega (arith, cover k d lt, sum-map_same (share groups a.group) (with_event_at key groups g) (λ x. refl) xs))
 
 -- what is left of a list sums to no more
 sum-filter_le : (F G : Account → ℕ) (p : Account → Bool) (xs : List Account) → All (λ x. p x ≡ true → F x ≤ G x) xs → sum_by F (filter p xs) ≤ sum_by G xs

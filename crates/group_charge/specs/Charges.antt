@@ -1,11 +1,13 @@
 -- The charges of a tree of groups: for each group its own pages, its peak and its event counts.
-use Rattle.std.specs.Prelude.{All, ◌≡◌, ℕ, ◌+◌, ◌-◌, ◌^◌, ◌<◌, ◌≤◌, ◌==◌, not, Option, List, [], ◌∷◌, ◌++◌, map, filter, sum_by, if◌then◌else◌}
+use Rattle.std.specs.Prelude.{All, ◌≡◌, ℕ, ◌+◌, ◌-◌, ◌^◌, ◌<◌, ◌≤◌, ◌==◌, Bool, not, Option, List, [], ◌∷◌, ◌++◌, map, filter, sum_by, if◌then◌else◌}
 use Rattle.std.specs.List.{find}
 use Rattle.std.specs.Option.{option_map_or}
 use Rattle.group_tree.specs.declared.group.Group.{Group}
-use Rattle.group_tree.specs.Groups.{initial_groups, in_subtree, with_group, without_group, with_limit, AreGroups}
-use Rattle.group_tree.specs.Room.{at_group, on_path, one_more, peak_after}
-use Rattle.group_charge.specs.declared.account.Counts.{Counts}
+use Rattle.group_tree.specs.declared.event.EventKey.TheVariants.{Max, Oom, OomKill, OomGroupKill}
+use Rattle.group_tree.specs.declared.event.EventKey.{EventKey}
+use Rattle.group_tree.specs.Events.{EventCounts, no_events, with_one_more}
+use Rattle.group_tree.specs.Groups.{initial_groups, in_subtree, with_group, without_group, with_limit, with_oom_group, AreGroups}
+use Rattle.group_tree.specs.Room.{at_group, on_path, peak_after}
 -- an account has a group's number, its own pages, its peak and its event counts
 pub use Rattle.group_charge.specs.declared.account.Account.{Account}
 
@@ -13,10 +15,6 @@ pub use Rattle.group_charge.specs.declared.account.Account.{Account}
 pub record Ledger : Type 0 where
   pub groups : List Group
   pub accounts : List Account
-
--- nothing has happened
-abbrev pub no_events : Counts
-no_events = record { max = 0; oom = 0; oom_kill = 0 }
 
 -- a new group has no page, peak 0 and all counts 0
 abbrev pub empty_account : ℕ → Account
@@ -39,11 +37,11 @@ unfoldable pub peak_of : Ledger → ℕ → ℕ
 peak_of l g = option_map_or (λ a. a.peak) (account_at l g) 0
 
 -- memory.events: counts over the group and all below it
-unfoldable pub events_of : Ledger → ℕ → Counts
+unfoldable pub events_of : Ledger → ℕ → EventCounts
 events_of l g = option_map_or (λ a. a.events) (account_at l g) no_events
 
 -- memory.events.local: counts of the group alone
-unfoldable pub events_local_of : Ledger → ℕ → Counts
+unfoldable pub events_local_of : Ledger → ℕ → EventCounts
 events_local_of l g = option_map_or (λ a. a.events_local) (account_at l g) no_events
 
 -- all pages that are charged
@@ -70,28 +68,16 @@ taken g n a = if a.group == g then record a { pages = a.pages - n } else a
 abbrev pub peaked : List Group → List Account → ℕ → Account → Account
 peaked groups accounts g a = record a { peak = peak_after groups (usage_of groups accounts) g a.group a.peak }
 
--- one more `max`
-abbrev pub with_max : Counts → Counts
-with_max c = record c { max = one_more c.max }
-
--- one more `oom`
-abbrev pub with_oom : Counts → Counts
-with_oom c = record c { oom = one_more c.oom }
-
--- one more `oom_kill`
-abbrev pub with_oom_kill : Counts → Counts
-with_oom_kill c = record c { oom_kill = one_more c.oom_kill }
-
--- an event, counted by `more`, at the group itself, and at each group above it for all below that
-abbrev pub with_event_at : (Counts → Counts) → List Group → ℕ → Account → Account
-with_event_at more groups g a = record a {
-  events = on_path groups g more a.group a.events;
-  events_local = at_group g more a.group a.events_local;
+-- one more event of this key at the group itself, and at each group above it for all below that
+abbrev pub with_event_at : EventKey → List Group → ℕ → Account → Account
+with_event_at key groups g a = record a {
+  events = on_path groups g (with_one_more key) a.group a.events;
+  events_local = at_group g (with_one_more key) a.group a.events_local;
 }
 
 -- one more `max` at the group itself, and at each group above it for all below that
 abbrev pub noted : List Group → ℕ → Account → Account
-noted groups g a = with_event_at with_max groups g a
+noted groups g a = with_event_at Max groups g a
 
 -- the accounts with n pages more for the group, where the peaks of it and of its ancestors follow
 unfoldable pub charged : List Group → List Account → ℕ → ℕ → List Account
@@ -105,21 +91,25 @@ with_charge l g n = record l { accounts = charged l.groups l.accounts g n }
 abbrev pub with_uncharge : Ledger → ℕ → ℕ → Ledger
 with_uncharge l g n = record l { accounts = map (taken g n) l.accounts }
 
--- the ledger after an event, counted by `more`, was noted at the group
-abbrev pub with_noted : (Counts → Counts) → Ledger → ℕ → Ledger
-with_noted more l g = record l { accounts = map (with_event_at more l.groups g) l.accounts }
+-- the ledger after an event of this key was noted at the group
+abbrev pub with_noted : EventKey → Ledger → ℕ → Ledger
+with_noted key l g = record l { accounts = map (with_event_at key l.groups g) l.accounts }
 
 -- the ledger after one more note that usage was about to go over the group's limit
 abbrev pub with_max_noted : Ledger → ℕ → Ledger
-with_max_noted l g = with_noted with_max l g
+with_max_noted l g = with_noted Max l g
 
 -- the ledger after one more note that the group's limit couldn't be kept by reclaim
 abbrev pub with_oom_noted : Ledger → ℕ → Ledger
-with_oom_noted l g = with_noted with_oom l g
+with_oom_noted l g = with_noted Oom l g
 
 -- the ledger after one more note that the group was killed
 abbrev pub with_kill_noted : Ledger → ℕ → Ledger
-with_kill_noted l g = with_noted with_oom_kill l g
+with_kill_noted l g = with_noted OomKill l g
+
+-- the ledger after one more note that the group was killed as a whole
+abbrev pub with_group_kill_noted : Ledger → ℕ → Ledger
+with_group_kill_noted l g = with_noted OomGroupKill l g
 
 -- the ledger with a new group, which has an empty account
 abbrev pub with_new_group : Ledger → ℕ → List ℕ → Ledger
@@ -132,6 +122,10 @@ with_group_removed l g = record { groups = without_group l.groups g; accounts = 
 -- the ledger with another limit of the group
 abbrev pub with_group_limit : Ledger → ℕ → Option ℕ → Ledger
 with_group_limit l g limit = record l { groups = with_limit l.groups g limit }
+
+-- the ledger in which the group is killed as a whole, or not
+abbrev pub with_oom_flag : Ledger → ℕ → Bool → Ledger
+with_oom_flag l g flag = record l { groups = with_oom_group l.groups g flag }
 
 -- the second ledger has n pages more in the usage of g and of each of its ancestors, and the same in all others
 abbrev pub UsageRises : Ledger → Ledger → ℕ → ℕ → Type 0
@@ -162,22 +156,26 @@ pub record SameEvents (l k : Ledger) : Type 0 where
   pub events : (m : ℕ) → events_of k m ≡ events_of l m
   pub events_local : (m : ℕ) → events_local_of k m ≡ events_local_of l m
 
--- one event more, counted by `more`, in the events of g and of each of its ancestors, and in the local events of g alone
-pub record CountsEvent (more : Counts → Counts) (l k : Ledger) (g : ℕ) : Type 0 where
-  pub events : (m : ℕ) → events_of k m ≡ on_path l.groups g more m (events_of l m)
-  pub events_local : (m : ℕ) → events_local_of k m ≡ at_group g more m (events_local_of l m)
+-- one event of this key more in the events of g and of each of its ancestors, and in the local events of g alone
+pub record CountsEvent (key : EventKey) (l k : Ledger) (g : ℕ) : Type 0 where
+  pub events : (m : ℕ) → events_of k m ≡ on_path l.groups g (with_one_more key) m (events_of l m)
+  pub events_local : (m : ℕ) → events_local_of k m ≡ at_group g (with_one_more key) m (events_local_of l m)
 
 -- one `max` more
 abbrev pub CountsMax : Ledger → Ledger → ℕ → Type 0
-CountsMax l k g = CountsEvent with_max l k g
+CountsMax l k g = CountsEvent Max l k g
 
 -- one `oom` more
 abbrev pub CountsOom : Ledger → Ledger → ℕ → Type 0
-CountsOom l k g = CountsEvent with_oom l k g
+CountsOom l k g = CountsEvent Oom l k g
 
 -- one `oom_kill` more
 abbrev pub CountsKill : Ledger → Ledger → ℕ → Type 0
-CountsKill l k g = CountsEvent with_oom_kill l k g
+CountsKill l k g = CountsEvent OomKill l k g
+
+-- one `oom_group_kill` more
+abbrev pub CountsGroupKill : Ledger → Ledger → ℕ → Type 0
+CountsGroupKill l k g = CountsEvent OomGroupKill l k g
 
 -- what holds of every ledger: the groups are a tree's, each has an account, all pages fit 32 bits, and no
 -- peak is below the usage

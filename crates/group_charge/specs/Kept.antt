@@ -4,11 +4,10 @@ use Rattle.std.specs.List.{slice_index_or}
 use Rattle.group_tree.specs.declared.group.Group.{Group}
 use Rattle.group_tree.specs.declared.group.TheConstants.{MAX_GROUPS}
 use Rattle.group_tree.specs.Ancestors.{is_passed}
+use Rattle.group_tree.specs.declared.event.EventKey.{EventKey}
+use Rattle.group_tree.specs.Events.{with_one_more}
 use Rattle.group_tree.specs.Room.{on_path}
-use Rattle.group_charge.specs.declared.account.Counts.{Counts}
-use Rattle.group_charge.specs.declared.account.Event.{Event}
-use Rattle.group_charge.specs.declared.account.Event.TheVariants.{Max, Oom, OomKill}
-use Rattle.group_charge.specs.Charges.{Account, AreCharges, Ledger, current_of, empty_account, with_max, with_oom, with_oom_kill}
+use Rattle.group_charge.specs.Charges.{Account, AreCharges, Ledger, current_of, empty_account}
 
 -- the account kept under this number
 abbrev pub account_by : List Account → ℕ → Account
@@ -52,17 +51,11 @@ AccountsOnPath groups g f old new = (m : ℕ) → account_by new m ≡ on_path g
 abbrev pub with_usage_peak : List ℕ → ℕ → Account → Account
 with_usage_peak usages m a = record a { peak = max a.peak (usage_by usages m) }
 
--- one more event of this kind
-abbrev pub one_more_of : Event → Counts → Counts
-one_more_of Max c = with_max c
-one_more_of Oom c = with_oom c
-one_more_of OomKill c = with_oom_kill c
+-- the account with one more event of this key, of the group and all below it
+abbrev pub with_event : EventKey → ℕ → Account → Account
+with_event key m a = record a { events = with_one_more key a.events }
 
--- the account with one more event of the group and all below it, counted by `more`
-abbrev pub with_event : (Counts → Counts) → ℕ → Account → Account
-with_event more m a = record a { events = more a.events }
-
--- the accounts with one more event of group g itself, counted by `more`
-abbrev pub with_local_event : (Counts → Counts) → ℕ → List Account → List Account
-with_local_event more g accounts =
-    let a = account_by accounts g in set accounts g (record a { events_local = more a.events_local })
+-- the accounts with one more event of this key, of group g itself
+abbrev pub with_local_event : EventKey → ℕ → List Account → List Account
+with_local_event key g accounts =
+    let a = account_by accounts g in set accounts g (record a { events_local = with_one_more key a.events_local })

@@ -3,17 +3,17 @@
 ghost use Rattle.std.specs.Prelude.{◌≡◌, ◌≢◌, ℕ, ◌↔◌, ◌+◌, ◌^◌, ◌<◌, ◌≤◌, false, IfErr, IfOk, IsOk, IsTrue, MatchOption, OnErr, OnOk, Some};
 ghost use Rattle.std.specs.Option.{option_copied};
 ghost use Rattle.std.specs.Result.{result_err};
-ghost use Rattle.group_tree.specs.Groups.{IsLeastFreeNumber, has_child, has_group, limit_of, make_fault};
+ghost use Rattle.group_tree.specs.Groups.{IsLeastFreeNumber, has_child, has_group, is_oom_group, limit_of, make_fault};
 ghost use Rattle.group_tree.specs.Room.{IsLowestOver, PathHasRoom};
-ghost use Rattle.group_charge.specs.Charges.{AreCharges, CountsEvent, CountsKill, CountsMax, CountsOom, PagesRise, PeaksRise};
+ghost use Rattle.group_charge.specs.Charges.{AreCharges, CountsEvent, CountsGroupKill, CountsKill, CountsMax, CountsOom, PagesRise, PeaksRise};
 ghost use Rattle.group_charge.specs.Charges.{SameEvents, SamePages, SamePeaks, SameUsage, UsageRises, account_at};
 ghost use Rattle.group_charge.specs.Charges.{current_of, empty_account, events_local_of, events_of, initial_ledger, pages_of, peak_of, total_pages};
-ghost use Rattle.group_charge.specs.Charges.{with_charge, with_group_limit, with_group_removed, with_kill_noted, with_max_noted, with_new_group, with_noted};
-ghost use Rattle.group_charge.specs.Charges.{with_oom_noted, with_uncharge};
-ghost use Rattle.group_charge.specs.Kept.{one_more_of};
+ghost use Rattle.group_charge.specs.Charges.{with_charge, with_group_kill_noted, with_group_limit, with_group_removed, with_kill_noted, with_max_noted};
+ghost use Rattle.group_charge.specs.Charges.{with_new_group, with_noted, with_oom_flag, with_oom_noted, with_uncharge};
 
-use crate::account::{Account, Counts, Event};
+use crate::account::Account;
 use crate::walks;
+use group_tree::event::{EventCounts, EventKey};
 use group_tree::fault::Fault;
 use group_tree::group::{GroupId, MAX_GROUPS};
 use group_tree::tree::Tree;
@@ -118,6 +118,17 @@ impl Charges {
         self.tree.set_max(g, limit);
     }
 
+    /// Says whether a group that is there, other than the root, is killed as a whole.
+    pub fn set_oom_group(&mut self, g: GroupId, oom_group: bool)
+        requires there { IsTrue (has_group self.old.groups g) }
+        requires below_root { g ≢ 0 }
+        ensures flagged { self.new ≡ with_oom_flag self.old g oom_group }
+        ensures there { (m : ℕ) → has_group self.new.groups m ≡ has_group self.old.groups m }
+        ensures pages { SamePages self.old self.new }
+    {
+        self.tree.set_oom_group(g, oom_group);
+    }
+
     /// Takes out a group that is there, other than the root, with no group below it and nothing charged.
     pub fn remove(&mut self, g: GroupId)
         requires there { IsTrue (has_group self.old.groups g) }
@@ -165,9 +176,17 @@ impl Charges {
         self.tree.limit(g)
     }
 
+    /// Whether the group is killed as a whole (memory.oom.group).
+    pub fn oom_group(&self, g: GroupId) -> bool
+        requires { IsTrue (has_group self.now.groups g) }
+        ensures { result ≡ is_oom_group self.now.groups g }
+    {
+        self.tree.oom_group(g)
+    }
+
     /// What happened to the group and to all below it (memory.events).
     #[tactic(auto, unfolding(crate::specs::Charges::events_of))]
-    pub fn events(&self, g: GroupId) -> Counts
+    pub fn events(&self, g: GroupId) -> EventCounts
         requires { IsTrue (has_group self.now.groups g) }
         ensures { result ≡ events_of self.now g }
     {
@@ -176,7 +195,7 @@ impl Charges {
 
     /// What happened to the group itself (memory.events.local).
     #[tactic(auto, unfolding(crate::specs::Charges::events_local_of))]
-    pub fn events_local(&self, g: GroupId) -> Counts
+    pub fn events_local(&self, g: GroupId) -> EventCounts
         requires { IsTrue (has_group self.now.groups g) }
         ensures { result ≡ events_local_of self.now g }
     {
@@ -223,18 +242,18 @@ impl Charges {
         walks::take_off(&self.tree, &mut self.usages, g, None, n);
     }
 
-    // Notes an event of a group: one more of its kind for the group itself, and for it and each of its ancestors.
-    fn note(&mut self, event: Event, g: GroupId)
+    // Notes an event of a group: one more of its key for the group itself, and for it and each of its ancestors.
+    fn note(&mut self, key: EventKey, g: GroupId)
         requires { IsTrue (has_group self.old.groups g) }
-        ensures noted { self.new ≡ with_noted (one_more_of event) self.old g }
+        ensures noted { self.new ≡ with_noted key self.old g }
         ensures groups { self.new.groups ≡ self.old.groups }
-        ensures counts { CountsEvent (one_more_of event) self.old self.new g }
+        ensures counts { CountsEvent key self.old self.new g }
         ensures usage { SameUsage self.old self.new }
         ensures pages { SamePages self.old self.new }
         ensures peaks { SamePeaks self.old self.new }
     {
-        walks::count_event(&self.tree, &mut self.accounts, event, g);
-        walks::count_local_event(&mut self.accounts, event, g);
+        walks::count_event(&self.tree, &mut self.accounts, key, g);
+        walks::count_local_event(&mut self.accounts, key, g);
     }
 
     /// Notes that usage was about to go over the group's limit: one more `max` for the group itself, and
@@ -248,7 +267,7 @@ impl Charges {
         ensures pages { SamePages self.old self.new }
         ensures peaks { SamePeaks self.old self.new }
     {
-        self.note(Event::Max, g);
+        self.note(EventKey::Max, g);
     }
 
     /// Notes that an allocation was about to fail at the group's limit, and that killing was an option: one more `oom`,
@@ -262,7 +281,7 @@ impl Charges {
         ensures pages { SamePages self.old self.new }
         ensures peaks { SamePeaks self.old self.new }
     {
-        self.note(Event::Oom, g);
+        self.note(EventKey::Oom, g);
     }
 
     /// Notes that the group was killed: one more `oom_kill`, counted as `note_max` counts.
@@ -275,7 +294,22 @@ impl Charges {
         ensures pages { SamePages self.old self.new }
         ensures peaks { SamePeaks self.old self.new }
     {
-        self.note(Event::OomKill, g);
+        self.note(EventKey::OomKill, g);
+    }
+
+    /// Notes that the group, which isn't the root, was killed as a whole: one more `oom_group_kill`, counted as `note_max`
+    /// counts.
+    pub fn note_group_kill(&mut self, g: GroupId)
+        requires there { IsTrue (has_group self.old.groups g) }
+        requires below_root { g ≢ 0 }
+        ensures noted { self.new ≡ with_group_kill_noted self.old g }
+        ensures groups { self.new.groups ≡ self.old.groups }
+        ensures counts { CountsGroupKill self.old self.new g }
+        ensures usage { SameUsage self.old self.new }
+        ensures pages { SamePages self.old self.new }
+        ensures peaks { SamePeaks self.old self.new }
+    {
+        self.note(EventKey::OomGroupKill, g);
     }
 }
 
@@ -283,16 +317,11 @@ impl Charges {
 fn new_account(group: GroupId) -> Account
     ensures { result ≡ empty_account group }
 {
-    let nothing = Counts {
-        max: 0,
-        oom: 0,
-        oom_kill: 0,
-    };
     Account {
         group,
         pages: 0,
         peak: 0,
-        events: nothing,
-        events_local: nothing,
+        events: EventCounts::none(),
+        events_local: EventCounts::none(),
     }
 }

@@ -6,9 +6,10 @@ ghost use Rattle.group_tree.specs.Ancestors.{is_passed};
 ghost use Rattle.group_tree.specs.Groups.{AreGroups, has_group, in_subtree};
 ghost use Rattle.group_tree.specs.Room.{IsLowestOver, PathHasRoom, fits_limit};
 ghost use Rattle.group_tree.specs.declared.group.TheConstants.{MAX_GROUPS};
-ghost use Rattle.group_charge.specs.Kept.{AccountsOnPath, UsagesPassed, account_by, one_more_of, usage_by, with_event, with_local_event, with_usage_peak};
+ghost use Rattle.group_charge.specs.Kept.{AccountsOnPath, UsagesPassed, account_by, usage_by, with_event, with_local_event, with_usage_peak};
 
-use crate::account::{Account, Counts, Event};
+use crate::account::Account;
+use group_tree::event::EventKey;
 use group_tree::group::GroupId;
 use group_tree::tree::Tree;
 
@@ -79,45 +80,25 @@ pub fn raise_peaks(tree: &Tree, accounts: &mut [Account], usages: &[u32], g: Gro
     }
 }
 
-// One more event of this kind, and 2^64 - 1 at most.
-fn one_more(counts: Counts, event: Event) -> Counts
-    ensures { result ≡ one_more_of event counts }
-{
-    match event {
-        Event::Max => Counts {
-            max: counts.max.saturating_add(1),
-            ..counts
-        },
-        Event::Oom => Counts {
-            oom: counts.oom.saturating_add(1),
-            ..counts
-        },
-        Event::OomKill => Counts {
-            oom_kill: counts.oom_kill.saturating_add(1),
-            ..counts
-        },
-    }
-}
-
-/// Counts one more event at the group and at each group above it, for all below that.
-pub fn count_event(tree: &Tree, accounts: &mut [Account], event: Event, g: GroupId)
+/// Counts one more event of this key at the group and at each group above it, for all below that.
+pub fn count_event(tree: &Tree, accounts: &mut [Account], key: EventKey, g: GroupId)
     requires legal { AreGroups tree.now }
     requires there { IsTrue (has_group tree.now g) }
     requires size { length accounts.old ≡ MAX_GROUPS }
-    ensures counted { AccountsOnPath tree.now g (with_event (one_more_of event)) accounts.old accounts.new }
+    ensures counted { AccountsOnPath tree.now g (with_event key) accounts.old accounts.new }
     ensures size { length accounts.new ≡ MAX_GROUPS }
 {
     for m in tree.ancestors(g) {
         let at = m.number() as usize;
-        accounts[at].events = one_more(accounts[at].events, event);
+        accounts[at].events = accounts[at].events.with_one_more(key);
     }
 }
 
-/// Counts one more event at the group itself.
-pub fn count_local_event(accounts: &mut [Account], event: Event, g: GroupId)
+/// Counts one more event of this key at the group itself.
+pub fn count_local_event(accounts: &mut [Account], key: EventKey, g: GroupId)
     requires size { length accounts.old ≡ MAX_GROUPS }
-    ensures counted { accounts.new ≡ with_local_event (one_more_of event) g accounts.old }
+    ensures counted { accounts.new ≡ with_local_event key g accounts.old }
 {
     let number = g.number() as usize;
-    accounts[number].events_local = one_more(accounts[number].events_local, event);
+    accounts[number].events_local = accounts[number].events_local.with_one_more(key);
 }

@@ -2,6 +2,7 @@
 
 use crate::calls::{self, group_stands, groups_tell};
 use group_charge::charges::{Charges, Over};
+use group_tree::event::EventKey;
 use group_tree::fault::Fault;
 use group_tree::group::{GroupId, MAX_GROUPS};
 use rand_core::{Rng, SeedableRng};
@@ -282,8 +283,11 @@ fn group_agrees(rt: &impl Abort, charges: &Charges, g: GroupId, row: PlainGroup,
     groups_tell(rt, charges.pages(g) == row.pages);
     groups_tell(rt, charges.peak(g) == row.peak);
     groups_tell(rt, charges.max(g) == row.limit);
-    groups_tell(rt, charges.events(g).max == row.all_notes);
-    groups_tell(rt, charges.events_local(g).max == row.own_notes);
+    groups_tell(rt, charges.events(g).count(EventKey::Max) == row.all_notes);
+    groups_tell(
+        rt,
+        charges.events_local(g).count(EventKey::Max) == row.own_notes,
+    );
 }
 
 // Compares usage, own pages, peak, limit and counts of all groups.

@@ -16,7 +16,7 @@ pub struct Candidate {
 #[derive(Clone, Copy, Debug, PartialEq, Eq)]
 pub enum Note {
     /// The limit of the group, `max` pages, had no room: `usage` pages were charged in its subtree, and `need` more were
-    /// asked for. `need` is 0 where the limit was written.
+    /// asked for. `need` is 0 if the limit was written.
     Limit {
         group: GroupId,
         max: u32,
@@ -29,7 +29,7 @@ pub enum Note {
         cpu: u32,
         pages: u32,
     },
-    /// A round of reclaim ended, the first of a limit being 1: `returned` units came back, of `pages` pages in all,
+    /// A round of reclaim ended, the first of a limit being 1: `returned` units were freed, of `pages` pages in all,
     /// `missed` more were tried, and `usage` pages are charged in the subtree then.
     Round {
         number: u32,
@@ -43,16 +43,22 @@ pub enum Note {
         group: GroupId,
     },
     /// Among so many groups that may be killed for the limit and have a frame of their own, this one has the most;
-    /// `next` has the most of the others, and is the victim once more where there is no other.
+    /// `next` has the most of the others, and is the victim once more if there is no other.
     Victim {
         victim: Candidate,
         candidates: u32,
         next: Candidate,
     },
-    /// The group was killed: `returned` of its kept units came back, of `pages` pages in all; the other `pinned` units
+    /// The group is killed as a whole, since its memory.oom.group is 1: `groups` groups of its subtree die, and a `Kill`
+    /// follows for each of them. One more `oom_group_kill` in its events.
+    GroupKill {
+        group: GroupId,
+        groups: u32,
+    },
+    /// The group was killed: `returned` of its kept units were freed, of `pages` pages in all; the other `pinned` units
     /// stay charged, since processors have pins on them. `left` frames stay charged to the group itself, and `usage`
     /// pages in the subtree of the group whose limit had no room.
-    Killed {
+    Kill {
         group: GroupId,
         returned: u64,
         pages: u64,

@@ -7,8 +7,9 @@ use crate::note::Note;
 use std::alloc::{AllocError, Global};
 use std::marker::Model;
 
-/// How many notes are kept at most. One command makes fewer: for each of 8 limits one, a stock and a round of each of 16
-/// and an `oom`, and for each of 63 groups that are killed two, and the 16 stocks that are drained then.
+/// How many notes are kept at most. One command makes fewer, at most 477: for each of 8 limits on a path 34, which are
+/// the limit, a stock and a round of each of 16, and an `oom`; a `Kill` for each of 63 groups; a victim and a `GroupKill`
+/// for each time that the killer chooses, at most 63 times; and the 16 stocks that are drained as their groups die.
 pub const MOST_NOTES: usize = 2_048;
 
 /// The notes of a visit, the first 2,048 of them, the oldest first.

@@ -35,12 +35,21 @@ pub struct KnownStock {
     pub pages: u32,
 }
 
-/// What is known of a group number: the path of the group that has it, if one has, and its highest usage.
+/// What is known of a group number: the path of the group that has it, if one has, its highest usage, and whether it is to
+/// be killed as a whole.
 #[derive(Clone, Copy)]
 pub struct KnownGroup {
     pub path: Option<u32>,
     pub peak: u64,
+    pub oom_group: bool,
 }
+
+/// No group has this number.
+pub const NO_GROUP: KnownGroup = KnownGroup {
+    path: None,
+    peak: 0,
+    oom_group: false,
+};
 
 /// What the answers of the calls tell, and the steps of these calls, each with the answer that it has to get.
 #[derive(Drop)]
@@ -69,10 +78,6 @@ impl MachineAccount {
             group: None,
             pages: 0,
         };
-        let no_group = KnownGroup {
-            path: None,
-            peak: 0,
-        };
         let counts = Counts {
             last_puts: 0,
             freezes: 0,
@@ -84,7 +89,7 @@ impl MachineAccount {
             size: frames,
             frames: vec![in alloc; FREE; frames as usize].expect(rt, "memory"),
             stocks: [no_stock; 5],
-            groups: [no_group; 8],
+            groups: [NO_GROUP; 8],
             counts,
             rows: Vec::new(alloc),
             now: 1,
@@ -194,9 +199,9 @@ impl MachineAccount {
         self.groups[(group.number() % 8) as usize]
     }
 
-    /// From now on the group has this path, if it is there, and this peak.
-    pub fn name(&mut self, group: GroupId, path: Option<u32>, peak: u64) {
-        self.groups[(group.number() % 8) as usize] = KnownGroup { path, peak };
+    /// From now on this is known of a group number.
+    pub fn name(&mut self, group: GroupId, known: &KnownGroup) {
+        self.groups[(group.number() % 8) as usize] = *known;
     }
 
     // Whether so many frames, from this one on, are there and free.
@@ -291,8 +296,9 @@ impl MachineAccount {
             let group = GroupId::of(number).unwrap_or(GroupId::root());
             if self.is_below(charged, group) {
                 let used = self.usage(group).saturating_add(u64::from(pages));
-                let KnownGroup { path, peak } = self.named(group);
-                self.name(group, path, used.max(peak));
+                let mut known = self.named(group);
+                known.peak = used.max(known.peak);
+                self.name(group, &known);
             }
         }
     }

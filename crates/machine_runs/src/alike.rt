@@ -36,7 +36,7 @@ pub fn frames_alike<N: BootName>(
     }
 }
 
-// A group is used as much, with its subtree, and was at most, if it is there.
+// A group is used as much, with its subtree, and was at most, and has the same flag, if it is there.
 fn group_alike<N: BootName>(
     rt: &impl Abort,
     machine: &Machine<N>,
@@ -54,6 +54,8 @@ fn group_alike<N: BootName>(
     let (used, peak) = (machine.current(group), charges.peak(group));
     machine_agrees(rt, u64::from(used) == account.usage(group), "usage");
     machine_agrees(rt, u64::from(peak) == named.peak, "peaks");
+    let oom_group = charges.oom_group(group);
+    machine_agrees(rt, oom_group == named.oom_group, "flags");
 }
 
 /// The same groups are there, used as much, and what was counted is the same.
@@ -142,7 +144,7 @@ pub fn core_alike(rt: &impl Abort, core: &Core, account: &MachineAccount) {
     }
 }
 
-// A group has the same usage, peak, limit and counts of events in the core, if it is there.
+// A group has the same usage, peak, limit, flag and counts of events in the core, if it is there.
 fn group_in_core<N: BootName>(rt: &impl Abort, machine: &Machine<N>, core: &Core, group: GroupId) {
     let charges = machine.charges();
     let is_there = charges.tree().contains(group);
@@ -153,13 +155,15 @@ fn group_in_core<N: BootName>(rt: &impl Abort, machine: &Machine<N>, core: &Core
     let used = u128::from(machine.current(group)) == core.current(group);
     let peak = u128::from(charges.peak(group)) == core.peak(group);
     let limit = charges.max(group) == core.max(group);
-    let events = charges.events(group).max == core.events(group).max;
-    let own = charges.events_local(group).max == core.events_local(group).max;
+    let oom_group = charges.oom_group(group) == core.oom_group(group);
+    let events = charges.events(group) == core.events(group);
+    let own = charges.events_local(group) == core.events_local(group);
     core_agrees(rt, used && peak && limit, "usage, peak and limit");
+    core_agrees(rt, oom_group, "flags");
     core_agrees(rt, events && own, "events");
 }
 
-/// Each group has the same usage, peak, limit and counts of events in the core.
+/// Each group has the same usage, peak, limit, flag and counts of events in the core.
 pub fn groups_in_core<N: BootName>(rt: &impl Abort, machine: &Machine<N>, core: &Core) {
     for number in 0..8 {
         let group = GroupId::of(number).unwrap_or(GroupId::root());

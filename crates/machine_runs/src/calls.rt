@@ -129,6 +129,33 @@ fn note_max<N: BootName>(machine: &mut Machine<N>, cpu: &Cpu<N>, word: u32) -> M
     MachineCall::Noted(group)
 }
 
+// A group is to be killed as a whole, or not.
+fn set_oom_group<N: BootName>(machine: &mut Machine<N>, cpu: &Cpu<N>, word: u32) -> MachineCall
+    requires { Visits N.frames (side machine.old cpu.now) }
+    ensures { Stays N.frames machine.old cpu.now machine.new cpu.now }
+{
+    let group = some_group(word);
+    if group == GroupId::root() || !machine.charges().tree().contains(group) {
+        return MachineCall::Nothing;
+    }
+    let oom_group = word & 64 == 0;
+    machine.set_oom_group(group, oom_group);
+    MachineCall::Flagged { group, oom_group }
+}
+
+// It is noted of a group that it was killed as a whole.
+fn note_group_kill<N: BootName>(machine: &mut Machine<N>, cpu: &Cpu<N>, word: u32) -> MachineCall
+    requires { Visits N.frames (side machine.old cpu.now) }
+    ensures { Stays N.frames machine.old cpu.now machine.new cpu.now }
+{
+    let group = some_group(word);
+    if group == GroupId::root() || !machine.charges().tree().contains(group) {
+        return MachineCall::Nothing;
+    }
+    machine.note_group_kill(group);
+    MachineCall::NotedGroupKill(group)
+}
+
 // Pages are prepaid.
 fn prepay<N: BootName>(
     tables: &Tables<N>,
@@ -297,6 +324,8 @@ fn make_call<N: BootName>(
         10 => drain_stocks(tables, machine, cpu, word),
         11 => settle(tables, machine, cpu),
         12 => take_block(tables, machine, cpu, word),
+        13 if word & 32 == 0 => set_oom_group(machine, cpu, word),
+        13 => note_group_kill(machine, cpu, word),
         _ => release(tables, machine, cpu, word),
     }
 }

@@ -31,8 +31,15 @@ pub enum MachineCall {
         group: GroupId,
         limit: Option<u32>,
     },
+    /// The group is to be killed as a whole, or not.
+    Flagged {
+        group: GroupId,
+        oom_group: bool,
+    },
     /// It was noted that the group's usage was about to go over its limit.
     Noted(GroupId),
+    /// It was noted that the group was killed as a whole.
+    NotedGroupKill(GroupId),
     /// Pages were prepaid, or the limit of group `over` has no room for them.
     Prepaid {
         group: GroupId,

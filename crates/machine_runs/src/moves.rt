@@ -1,6 +1,6 @@
 //! What the answers of a call change in the account, what they have to be there, and the steps of the call.
 
-use crate::account::{FREE, MachineAccount};
+use crate::account::{FREE, KnownGroup, MachineAccount, NO_GROUP};
 use crate::agrees::machine_agrees;
 use crate::made::{MachineCall, path};
 use cpu_part::{Dropped, Fast};
@@ -57,7 +57,12 @@ fn made_group(rt: &impl Abort, account: &mut MachineAccount, number: u32, group:
         Some(group) => {
             account.step(rt, 0, make, Answer::Number(group));
             machine_agrees(rt, group.number() < 8, "few groups");
-            account.name(group, Some(number), 0);
+            let known = KnownGroup {
+                path: Some(number),
+                peak: 0,
+                oom_group: false,
+            };
+            account.name(group, &known);
         }
         None => account.step(rt, 0, make, Answer::Illegal),
     }
@@ -67,7 +72,15 @@ fn made_group(rt: &impl Abort, account: &mut MachineAccount, number: u32, group:
 fn removed(rt: &impl Abort, account: &mut MachineAccount, group: GroupId) {
     machine_agrees(rt, account.usage(group) == 0, "an unused group goes");
     account.done(rt, 0, Action::Remove { group });
-    account.name(group, None, 0);
+    account.name(group, &NO_GROUP);
+}
+
+// The group is to be killed as a whole, or not.
+fn flagged(rt: &impl Abort, account: &mut MachineAccount, group: GroupId, oom_group: bool) {
+    account.done(rt, 0, Action::SetFlag { group, oom_group });
+    let mut known = account.named(group);
+    known.oom_group = oom_group;
+    account.name(group, &known);
 }
 
 // The stock of a processor is drained, and its pages go back.
@@ -280,7 +293,9 @@ pub fn recount(rt: &impl Abort, account: &mut MachineAccount, cpu: u32, made: &M
             0,
             Action::SetMax { group, limit },
         ),
+        MachineCall::Flagged { group, oom_group } => flagged(rt, account, group, oom_group),
         MachineCall::Noted(group) => account.done(rt, 0, Action::NoteMax { group }),
+        MachineCall::NotedGroupKill(group) => account.done(rt, 0, Action::NoteGroupKill { group }),
         MachineCall::Prepaid { group, pages, over } => prepaid(
             rt, account, cpu, group, pages, over,
         ),

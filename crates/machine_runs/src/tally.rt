@@ -13,7 +13,9 @@ enum Kind {
     MadeGroup,
     Removed,
     Limited,
+    Flagged,
     Noted,
+    NotedGroupKill,
     Prepaid,
     DrainedStock,
     DrainedBelow,
@@ -33,7 +35,9 @@ fn kind_of(made: &MachineCall) -> Option<Kind> {
         MachineCall::MadeGroup { group: Some(_), .. } => Some(Kind::MadeGroup),
         MachineCall::Removed(_) => Some(Kind::Removed),
         MachineCall::Limited { .. } => Some(Kind::Limited),
+        MachineCall::Flagged { .. } => Some(Kind::Flagged),
         MachineCall::Noted(_) => Some(Kind::Noted),
+        MachineCall::NotedGroupKill(_) => Some(Kind::NotedGroupKill),
         MachineCall::Prepaid { over: None, .. } => Some(Kind::Prepaid),
         MachineCall::Prepaid { .. } | MachineCall::TookBlock { over: Some(_), .. } => Some(
             Kind::Over,
@@ -58,13 +62,13 @@ fn kind_of(made: &MachineCall) -> Option<Kind> {
 /// How often each kind of call did something, and how often one was refused by a limit.
 #[derive(Clone, Copy)]
 pub struct CallTally {
-    counts: [u32; 15],
+    counts: [u32; 17],
 }
 
 impl CallTally {
     /// Nothing was called yet.
     pub fn new() -> CallTally {
-        CallTally { counts: [0; 15] }
+        CallTally { counts: [0; 17] }
     }
 
     /// Counts a call.

@@ -1,27 +1,31 @@
 -- The peaks and the event counts of the ledger follow lists of steps. Serves the `steps` clauses of all calls.
-use Rattle.std.proofs.Common.{◌≡◌, ℕ, ◌&&◌, ◌++◌, Bool, true, false, Option, None, List, [], ◌∷◌, cond, refl, sym, ap, ◌∙◌, subst}
+use Rattle.std.proofs.Common.{◌≡◌, ℕ, ◌&&◌, ◌++◌, Bool, true, false, Option, Some, None, List, [], ◌∷◌, cond, refl, sym, ap, ◌∙◌, subst}
 use Rattle.std.proofs.Common.{inl, inr, eq-eqb}
+use Rattle.std.specs.Prelude.{is_none}
 use Rattle.std.proofs.lemmas.Bool.{cases_eq, cases_Bool, and_parts, true≢false, false≢true}
+use Rattle.group_tree.specs.declared.event.EventKey.{EventKey}
 use Rattle.group_tree.specs.declared.group.Group.{Group}
+use Rattle.group_tree.specs.Events.{EventCounts, count_of}
 use Rattle.group_tree.specs.Groups.{has_group, without_group}
 use Rattle.group_tree.specs.Room.{one_more}
-use Rattle.group_tree.proofs.CallerLemmas.{has_group-with, has_group-limited, has_group-without}
+use Rattle.group_tree.proofs.CallerLemmas.{has_group-with, has_group-limited, has_group-flagged, has_group-without}
 use Rattle.group_charge.specs.Charges.{Ledger, SamePeaks, SameEvents}
 use Rattle.frame_word.specs.Seats.{KnownTable}
 use Rattle.cpu_part.specs.Cpus.{KnownCpu}
 use Rattle.step_rules.specs.declared.step.Step.{Step}
 use Rattle.step_rules.specs.declared.step.Action.{Action}
-use Rattle.step_rules.specs.declared.step.Action.TheVariants.{Lock, Grant, NoteMax, NoteOom, Kill, SetMax, Make, Remove}
+use Rattle.step_rules.specs.declared.step.Action.TheVariants.{Lock, Grant, SetMax, SetFlag, Make, Remove}
 use Rattle.step_rules.specs.declared.step.Answer.{Answer}
 use Rattle.step_rules.specs.declared.step.Answer.TheVariants.{Illegal, Done, Granted, Number}
 use Rattle.step_rules.specs.State.{State}
 use Rattle.step_rules.specs.After.{Run, after}
 use Rattle.step_rules.specs.Peaks.{peak_follows}
-use Rattle.step_rules.specs.Events.{EventKey, Max, Oom, OomKill, noted_at, is_noted_at, is_noted_below, makes_group}
+use Rattle.step_rules.specs.Events.{note_of, noted_at, is_noted_at, is_noted_below, makes_group}
 use Rattle.step_rules.specs.Usage.{is_below}
 use Rattle.step_rules.specs.Legal.{is_of_group}
+use Rattle.step_rules.proofs.CallerLemmas.{noted_nowhere}
 use Rattle.step_rules.proofs.Moving.{gone_itself}
-use Rattle.mem_machine.specs.Following.{Moves, moved_over, moves_peak, moves_count, count_by, FollowsSteps}
+use Rattle.mem_machine.specs.Following.{Moves, moved_over, moves_peak, moves_count, FollowsSteps}
 use Rattle.mem_machine.specs.Machines.{KnownMachine}
 use Rattle.mem_machine.specs.Local.{Side, side, local_of, IsLocalRun, MakesAs}
 use Rattle.mem_machine.proofs.Reaching.{run_both}
@@ -37,6 +41,7 @@ pub only_made : (s : State) (seat : ℕ) (action : Action) (answer : Answer) (m 
     → has_group (after s seat action answer).groups m ≡ true → makes_group m action answer ≡ true
 only_made s seat action Illegal m absent there = absurd (true≢false (sym there ∙ illegal_groups s seat action m ∙ absent))
 only_made s seat (SetMax g limit) Done m absent there = absurd (true≢false (sym there ∙ has_group-limited s.groups g m limit ∙ absent))
+only_made s seat (SetFlag g flag) Done m absent there = absurd (true≢false (sym there ∙ has_group-flagged s.groups g m flag ∙ absent))
 only_made s seat (Make path) (Number n) m absent there = elim (cases_eq m n) [
   | inl e ↦ eq-eqb m n e
   | inr ne ↦ absurd (true≢false (sym there ∙ has_group-with s.groups n m path ne ∙ absent))
@@ -119,11 +124,8 @@ makes_both t p one two a b c first second =
 -- the step moves no peak and no count
 abbrev pub is_still : Action → Answer → Bool
 is_still (Grant g n) Granted = false
-is_still (NoteMax g) Done = false
-is_still (NoteOom g) Done = false
-is_still (Kill g) Done = false
 is_still (Make path) (Number n) = false
-is_still action answer = true
+is_still action answer = is_none (note_of action answer)
 
 -- no step of the list does
 abbrev pub are_still : Run → Bool
@@ -135,13 +137,14 @@ still_peak t (Grant g n) Granted m x still = absurd (false≢true still)
 still_peak t (Make path) (Number n) m x still = absurd (false≢true still)
 still_peak t action answer m x still = refl
 
+no_note : (o : Option (EventKey × ℕ)) → is_none o ≡ true → o ≡ None
+no_note None e = refl
+no_note (Some note) e = absurd (false≢true e)
+
 pub still_note : (key : EventKey) (action : Action) (answer : Answer) → is_still action answer ≡ true → noted_at key action answer ≡ None
-still_note Max (NoteMax g) Done still = absurd (false≢true still)
-still_note Max action answer still = refl
-still_note Oom (NoteOom g) Done still = absurd (false≢true still)
-still_note Oom action answer still = refl
-still_note OomKill (Kill g) Done still = absurd (false≢true still)
-still_note OomKill action answer still = refl
+still_note key (Grant g n) Granted still = refl
+still_note key (Make path) (Number n) still = refl
+still_note key action answer still = noted_nowhere key action answer (no_note (note_of action answer) still)
 
 still_make : (m : ℕ) (action : Action) (answer : Answer) → is_still action answer ≡ true → makes_group m action answer ≡ false
 still_make m (Make path) (Number n) still = absurd (false≢true still)
@@ -183,8 +186,8 @@ at_still key m = over_still (moves_count (is_noted_at key m) m) (at_stays key m)
 pub follows_still : (s : State) (l : Ledger) (steps : Run) (k : Ledger) → are_still steps ≡ true → SamePeaks l k → SameEvents l k → FollowsSteps s l steps k
 follows_still s l steps k still peaks events = record {
   peak = λ m there. peaks m ∙ sym (peak_still m s steps _ still);
-  events = λ key m there. ap (count_by key) (events.events m) ∙ sym (below_still key m s steps _ still);
-  events_local = λ key m there. ap (count_by key) (events.events_local m) ∙ sym (at_still key m s steps _ still);
+  events = λ key m there. ap (λ (x : EventCounts). count_of x key) (events.events m) ∙ sym (below_still key m s steps _ still);
+  events_local = λ key m there. ap (λ (x : EventCounts). count_of x key) (events.events_local m) ∙ sym (at_still key m s steps _ still);
 }
 
 -- the ledger stays

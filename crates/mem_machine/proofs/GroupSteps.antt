@@ -1,54 +1,45 @@
--- Steps on the groups alone. Serves `note_max`, `note_oom`, `mark_killed`, `set_max`, `remove`.
-use Rattle.std.proofs.Common.{◌≡◌, ◌≢◌, ℕ, ◌<◌, Bool, true, false, Option, List, [], length, get_or, refl, sym, ap, ◌∙◌, subst}
+-- Steps on the groups alone. Serves `note_max`, `note_oom`, `note_group_kill`, `mark_killed`, `set_max`, `set_oom_group`, `remove`.
+use Rattle.std.proofs.Common.{◌≡◌, ◌≢◌, ℕ, ◌<◌, Bool, true, false, Option, Some, List, [], ◌∷◌, length, get_or, refl, sym, ap, ◌∙◌, subst}
 use Rattle.std.specs.Prelude.{not, None, is_none}
 use Rattle.std.specs.Prelude.{slice_set}
 use Rattle.std.proofs.lemmas.Bool.{and_from, ne_eqb, eq-eqb}
 use Rattle.std.proofs.lemmas.List.{get_or-set_same, get_or-set_other}
 use Rattle.frame_word.specs.Seats.{KnownTable}
 use Rattle.group_tree.specs.Groups.{has_group, has_child, with_group, make_fault, IsLeastFreeNumber}
+use Rattle.group_tree.specs.declared.event.EventKey.{EventKey}
+use Rattle.group_tree.specs.declared.event.EventKey.TheVariants.{Max, Oom, OomKill, OomGroupKill}
 use Rattle.group_tree.specs.declared.fault.Fault.{Fault}
-use Rattle.group_charge.specs.Charges.{AreCharges, CountsEvent, SamePeaks, with_max, with_oom, with_oom_kill}
-use Rattle.group_charge.specs.Charges.{Ledger, current_of, with_kill_noted, with_max_noted, with_oom_noted, with_group_limit, with_new_group, with_group_removed}
+use Rattle.group_charge.specs.Charges.{AreCharges, CountsEvent, CountsMax, CountsOom, CountsKill, CountsGroupKill, SamePeaks}
+use Rattle.group_charge.specs.Charges.{Ledger, current_of, with_noted, with_kill_noted, with_max_noted, with_oom_noted, with_group_kill_noted}
+use Rattle.group_charge.specs.Charges.{with_group_limit, with_oom_flag, with_new_group, with_group_removed}
 use Rattle.cpu_part.specs.Cpus.{KnownCpu}
-use Rattle.step_rules.specs.declared.step.Action.TheVariants.{Kill, NoteMax, NoteOom, SetMax, Make, Remove}
+use Rattle.step_rules.specs.declared.step.Action.{Action}
+use Rattle.step_rules.specs.declared.step.Action.TheVariants.{Kill, NoteMax, NoteOom, NoteGroupKill, SetMax, SetFlag, Make, Remove}
 use Rattle.step_rules.specs.declared.step.Answer.TheVariants.{Done, Number}
 use Rattle.step_rules.specs.Usage.{usage_of}
-use Rattle.step_rules.specs.Events.{Max, Oom, OomKill}
+use Rattle.step_rules.specs.Events.{note_of}
 use Rattle.step_rules.specs.Legal.{is_removable}
 use Rattle.step_rules.specs.State.{with_at}
 use Rattle.step_rules.proofs.Basics.{at_each}
 use Rattle.mem_machine.specs.Machines.{KnownMachine, is_killed, AddsGroup}
 use Rattle.mem_machine.specs.Local.{local_of, side, IsLocalRun, MakesAs}
-use Rattle.mem_machine.specs.Steps.{kill_steps, note_max_steps, note_oom_steps, set_max_steps, make_steps, remove_steps}
+use Rattle.mem_machine.specs.Steps.{zone_makes, kill_steps, note_max_steps, note_oom_steps, note_group_kill_steps, set_max_steps, set_oom_group_steps, make_steps, remove_steps}
 use Rattle.mem_machine.proofs.Reaching.{zone_step, run_one}
 use Rattle.mem_machine.proofs.Holds.{zone_may_act}
 use Rattle.mem_machine.proofs.Followed.{makes_none}
-use Rattle.mem_machine.proofs.LedgerMoves.{follows_note, follows_limit, follows_make, follows_remove}
+use Rattle.mem_machine.proofs.LedgerMoves.{follows_note, follows_limit, follows_flag, follows_make, follows_remove}
+
+-- a step notes an event of this kind at the group, and changes nothing that is seen
+note_runs : (kind : EventKey) (action : Action) (g : ℕ) → note_of action Done ≡ Some (kind, g) → (t : KnownTable) (m n : KnownMachine)
+    → n ≡ record m { ledger = with_noted kind m.ledger g } → CountsEvent kind m.ledger n.ledger g → SamePeaks m.ledger n.ledger → (c : KnownCpu)
+    → IsLocalRun c.number (local_of t m c) (zone_makes action Done ∷ []) (local_of t m c) → MakesAs t c.number (side m c) (zone_makes action Done ∷ []) (side n c)
+note_runs kind action g notes t m n is counts peaks c run = record {
+  leads = subst (λ (k : KnownMachine). IsLocalRun c.number (local_of t m c) (zone_makes action Done ∷ []) (local_of t k c)) (sym is) run;
+  follows = follows_note kind action g notes t m c n.ledger counts peaks;
+}
 
 module _ (t : KnownTable) (m n : KnownMachine) (g : ℕ) (there : has_group m.ledger.groups g ≡ true) where
-  pub note_max_runs : n ≡ record m { ledger = with_max_noted m.ledger g } → CountsEvent with_max m.ledger n.ledger g → SamePeaks m.ledger n.ledger
-      → (c : KnownCpu) → MakesAs t c.number (side m c) (note_max_steps g) (side n c)
-  note_max_runs is counts peaks c =
-      let s = local_of t m c in
-      record {
-        leads = subst (λ (k : KnownMachine). IsLocalRun c.number s (note_max_steps g) (local_of t k c)) (sym is)
-            (run_one c.number s _ 0 (NoteMax g) Done
-            (zone_step s c.number (NoteMax g) Done refl (and_from _ _ (zone_may_act m.frame_seat c.number) there) tt) refl);
-        follows = follows_note Max t m c g n.ledger counts peaks;
-      }
-
-  pub note_oom_runs : n ≡ record m { ledger = with_oom_noted m.ledger g } → CountsEvent with_oom m.ledger n.ledger g → SamePeaks m.ledger n.ledger
-      → (c : KnownCpu) → MakesAs t c.number (side m c) (note_oom_steps g) (side n c)
-  note_oom_runs is counts peaks c =
-      let s = local_of t m c in
-      record {
-        leads = subst (λ (k : KnownMachine). IsLocalRun c.number s (note_oom_steps g) (local_of t k c)) (sym is)
-            (run_one c.number s _ 0 (NoteOom g) Done
-            (zone_step s c.number (NoteOom g) Done refl (and_from _ _ (zone_may_act m.frame_seat c.number) there) tt) refl);
-        follows = follows_note Oom t m c g n.ledger counts peaks;
-      }
-
-  pub set_max_runs : (limit : Option ℕ) → g ≢ 0 → n ≡ record m { ledger = with_group_limit m.ledger g limit } → (c : KnownCpu)
+  set_max_runs : (limit : Option ℕ) → g ≢ 0 → n ≡ record m { ledger = with_group_limit m.ledger g limit } → (c : KnownCpu)
       → MakesAs t c.number (side m c) (set_max_steps g limit) (side n c)
   set_max_runs limit below is c =
       let s = local_of t m c in
@@ -58,24 +49,57 @@ module _ (t : KnownTable) (m n : KnownMachine) (g : ℕ) (there : has_group m.le
         follows = follows_limit s m.ledger g limit;
       })
 
+  set_oom_group_runs : (flag : Bool) → g ≢ 0 → n ≡ record m { ledger = with_oom_flag m.ledger g flag } → (c : KnownCpu)
+      → MakesAs t c.number (side m c) (set_oom_group_steps g flag) (side n c)
+  set_oom_group_runs flag below is c =
+      let s = local_of t m c in
+      subst (λ (k : KnownMachine). MakesAs t c.number (side m c) (set_oom_group_steps g flag) (side k c)) (sym is) (record {
+        leads = run_one c.number s _ 0 (SetFlag g flag) Done (zone_step s c.number (SetFlag g flag) Done refl
+            (and_from _ _ (and_from _ _ (zone_may_act m.frame_seat c.number) there) (ap not (ne_eqb g 0 below))) tt) refl;
+        follows = follows_flag s m.ledger g flag;
+      })
+
 -- the same, of the machine as it was seen before
 module _ (t : KnownTable) (m now : KnownMachine) (same : m ≡ now) (g : ℕ) (there : has_group now.ledger.groups g ≡ true) where
-  pub notes_max : (l : Ledger) → l ≡ with_max_noted m.ledger g → CountsEvent with_max m.ledger l g → SamePeaks m.ledger l → (c : KnownCpu)
-      → MakesAs t c.number (side now c) (note_max_steps g) (side (record m { ledger = l }) c)
-  notes_max l is counts peaks c = note_max_runs t now (record m { ledger = l }) g there
-      ((λ i. record m { ledger = is i }) ∙ ap (λ (k : KnownMachine). record k { ledger = with_max_noted k.ledger g }) same)
-      (subst (λ (k : KnownMachine). CountsEvent with_max k.ledger l g) same counts) (subst (λ (k : KnownMachine). SamePeaks k.ledger l) same peaks) c
+  notes : (kind : EventKey) (action : Action) → note_of action Done ≡ Some (kind, g) → (l : Ledger) → l ≡ with_noted kind m.ledger g
+      → CountsEvent kind m.ledger l g → SamePeaks m.ledger l → (c : KnownCpu)
+      → IsLocalRun c.number (local_of t now c) (zone_makes action Done ∷ []) (local_of t now c)
+      → MakesAs t c.number (side now c) (zone_makes action Done ∷ []) (side (record m { ledger = l }) c)
+  notes kind action noted l is counts peaks c run = note_runs kind action g noted t now (record m { ledger = l })
+      ((λ i. record m { ledger = is i }) ∙ ap (λ (k : KnownMachine). record k { ledger = with_noted kind k.ledger g }) same)
+      (subst (λ (k : KnownMachine). CountsEvent kind k.ledger l g) same counts) (subst (λ (k : KnownMachine). SamePeaks k.ledger l) same peaks) c run
 
-  pub notes_oom : (l : Ledger) → l ≡ with_oom_noted m.ledger g → CountsEvent with_oom m.ledger l g → SamePeaks m.ledger l → (c : KnownCpu)
+  pub notes_max : (l : Ledger) → l ≡ with_max_noted m.ledger g → CountsMax m.ledger l g → SamePeaks m.ledger l → (c : KnownCpu)
+      → MakesAs t c.number (side now c) (note_max_steps g) (side (record m { ledger = l }) c)
+  notes_max l is counts peaks c =
+      let s = local_of t now c in
+      notes Max (NoteMax g) refl l is counts peaks c (run_one c.number s s 0 (NoteMax g) Done
+      (zone_step s c.number (NoteMax g) Done refl (and_from _ _ (zone_may_act now.frame_seat c.number) there) tt) refl)
+
+  pub notes_oom : (l : Ledger) → l ≡ with_oom_noted m.ledger g → CountsOom m.ledger l g → SamePeaks m.ledger l → (c : KnownCpu)
       → MakesAs t c.number (side now c) (note_oom_steps g) (side (record m { ledger = l }) c)
-  notes_oom l is counts peaks c = note_oom_runs t now (record m { ledger = l }) g there
-      ((λ i. record m { ledger = is i }) ∙ ap (λ (k : KnownMachine). record k { ledger = with_oom_noted k.ledger g }) same)
-      (subst (λ (k : KnownMachine). CountsEvent with_oom k.ledger l g) same counts) (subst (λ (k : KnownMachine). SamePeaks k.ledger l) same peaks) c
+  notes_oom l is counts peaks c =
+      let s = local_of t now c in
+      notes Oom (NoteOom g) refl l is counts peaks c (run_one c.number s s 0 (NoteOom g) Done
+      (zone_step s c.number (NoteOom g) Done refl (and_from _ _ (zone_may_act now.frame_seat c.number) there) tt) refl)
+
+  pub notes_group_kill : g ≢ 0 → (l : Ledger) → l ≡ with_group_kill_noted m.ledger g → CountsGroupKill m.ledger l g → SamePeaks m.ledger l → (c : KnownCpu)
+      → MakesAs t c.number (side now c) (note_group_kill_steps g) (side (record m { ledger = l }) c)
+  notes_group_kill below l is counts peaks c =
+      let s = local_of t now c in
+      notes OomGroupKill (NoteGroupKill g) refl l is counts peaks c (run_one c.number s s 0 (NoteGroupKill g) Done
+      (zone_step s c.number (NoteGroupKill g) Done refl
+      (and_from _ _ (and_from _ _ (zone_may_act now.frame_seat c.number) there) (ap not (ne_eqb g 0 below))) tt) refl)
 
   pub sets_max : (l : Ledger) (limit : Option ℕ) → g ≢ 0 → l ≡ with_group_limit m.ledger g limit → (c : KnownCpu)
       → MakesAs t c.number (side now c) (set_max_steps g limit) (side (record m { ledger = l }) c)
   sets_max l limit below is c = set_max_runs t now (record m { ledger = l }) g there limit below
       ((λ i. record m { ledger = is i }) ∙ ap (λ (k : KnownMachine). record k { ledger = with_group_limit k.ledger g limit }) same) c
+
+  pub sets_oom_group : (l : Ledger) (flag : Bool) → g ≢ 0 → l ≡ with_oom_flag m.ledger g flag → (c : KnownCpu)
+      → MakesAs t c.number (side now c) (set_oom_group_steps g flag) (side (record m { ledger = l }) c)
+  sets_oom_group l flag below is c = set_oom_group_runs t now (record m { ledger = l }) g there flag below
+      ((λ i. record m { ledger = is i }) ∙ ap (λ (k : KnownMachine). record k { ledger = with_oom_flag k.ledger g flag }) same) c
 
 -- the marks after one was set or cleared
 marks_set : (marks : List Bool) (g : ℕ) (b : Bool) → g < length marks → is_killed (slice_set marks g b) ≡ with_at (is_killed marks) g b
@@ -84,7 +108,7 @@ marks_set marks g b inside = λ i. λ k. (at_each (is_killed marks) g b (λ (h :
 
 -- a group is killed
 pub kill_runs : (t : KnownTable) (m n : KnownMachine) (g : ℕ) → g < length m.killed → has_group m.ledger.groups g ≡ true → is_killed m.killed g ≡ false
-    → n ≡ record m { ledger = with_kill_noted m.ledger g; killed = slice_set m.killed g true } → CountsEvent with_oom_kill m.ledger n.ledger g
+    → n ≡ record m { ledger = with_kill_noted m.ledger g; killed = slice_set m.killed g true } → CountsKill m.ledger n.ledger g
     → SamePeaks m.ledger n.ledger → (c : KnownCpu) → MakesAs t c.number (side m c) (kill_steps g) (side n c)
 kill_runs t m n g inside there alive is counts peaks c =
     let s = local_of t m c in
@@ -93,19 +117,19 @@ kill_runs t m n g inside there alive is counts peaks c =
           (run_one c.number s _ 0 (Kill g) Done
           (zone_step s c.number (Kill g) Done refl (and_from _ _ (and_from _ _ (zone_may_act m.frame_seat c.number) there) (ap not alive)) tt)
           (λ i. record s { killed = marks_set m.killed g true inside i }));
-      follows = follows_note OomKill t m c g n.ledger counts peaks;
+      follows = follows_note OomKill (Kill g) g refl t m c n.ledger counts peaks;
     }
 
 -- the same, of the machine as it was seen before
 pub kills : (t : KnownTable) (m now : KnownMachine) → m ≡ now → (g : ℕ) → g < length m.killed → has_group now.ledger.groups g ≡ true
-    → is_killed now.killed g ≡ false → (l : Ledger) → l ≡ with_kill_noted m.ledger g → CountsEvent with_oom_kill m.ledger l g
+    → is_killed now.killed g ≡ false → (l : Ledger) → l ≡ with_kill_noted m.ledger g → CountsKill m.ledger l g
     → SamePeaks m.ledger l → (marks : List Bool) → marks ≡ slice_set m.killed g true
     → (c : KnownCpu) → MakesAs t c.number (side now c) (kill_steps g) (side (record m { ledger = l; killed = marks }) c)
 kills t m now same g inside there alive l is counts peaks marks set =
     kill_runs t now (record m { ledger = l; killed = marks }) g (subst (λ (k : KnownMachine). g < length k.killed) same inside) there alive
     ((λ i. record m { ledger = is i; killed = set i })
     ∙ ap (λ (k : KnownMachine). record k { ledger = with_kill_noted k.ledger g; killed = slice_set k.killed g true }) same)
-    (subst (λ (k : KnownMachine). CountsEvent with_oom_kill k.ledger l g) same counts) (subst (λ (k : KnownMachine). SamePeaks k.ledger l) same peaks)
+    (subst (λ (k : KnownMachine). CountsKill k.ledger l g) same counts) (subst (λ (k : KnownMachine). SamePeaks k.ledger l) same peaks)
 
 make_runs : (t : KnownTable) (m n : KnownMachine) (g : ℕ) (path : List ℕ) → g < length m.killed → is_none (make_fault m.ledger.groups path) ≡ true
     → AreCharges m.ledger → AddsGroup g path m n → (c : KnownCpu) → MakesAs t c.number (side m c) (make_steps path g) (side n c)

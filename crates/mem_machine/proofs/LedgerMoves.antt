@@ -1,38 +1,41 @@
 -- Each step that moves a peak or a count of the ledger, and what comes with it. Serves the `steps` clauses of the calls that charge,
 -- note, kill, make, limit and remove.
-use Rattle.std.proofs.Common.{◌≡◌, ◌≢◌, ℕ, ◌+◌, ◌<◌, ◌==◌, Bool, true, false, Option, Some, None, List, [], ◌∷◌, ◌++◌, cond, refl, sym, ap, ◌∙◌}
+use Rattle.std.proofs.Common.{◌≡◌, ◌≢◌, ℕ, ◌+◌, ◌<◌, ◌==◌, ◌&&◌, Bool, true, false, Option, Some, None, List, [], ◌∷◌, ◌++◌, cond, refl, sym, ap, ◌∙◌}
 use Rattle.std.proofs.Common.{inl, inr, arith, eq-eqb, get_or}
 use Rattle.std.specs.Prelude.{max, not, is_some, filter}
 use Rattle.std.specs.List.{find}
 use Rattle.std.specs.Option.{option_map_or, option_or}
 use Rattle.std.proofs.lemmas.Bool.{cases_eq, ne_eqb, eqb-true, not_from_false, true≢false}
 use Rattle.std.proofs.lemmas.List.Folds.{find-append}
+use Rattle.group_tree.specs.declared.event.EventKey.{EventKey}
 use Rattle.group_tree.specs.declared.group.Group.{Group}
+use Rattle.group_tree.specs.Events.{EventCounts, is_same_key, no_events, count_of, with_one_more}
 use Rattle.group_tree.specs.Groups.{has_group, in_subtree, without_group, IsLeastFreeNumber}
 use Rattle.group_tree.specs.Room.{one_more}
+use Rattle.group_tree.proofs.EventLemmas.{counted, none_counted}
 use Rattle.group_tree.proofs.GroupLemmas.{find-filter, is_some-find}
 use Rattle.group_charge.specs.declared.account.Account.{Account}
-use Rattle.group_charge.specs.declared.account.Counts.{Counts}
 use Rattle.group_charge.specs.Charges.{Ledger, AreCharges, SamePeaks, SameEvents, CountsEvent, current_of, peak_of, events_of, events_local_of, account_at}
-use Rattle.group_charge.specs.Charges.{no_events, empty_account, with_charge, with_max, with_oom, with_oom_kill, with_new_group, with_group_removed, with_group_limit}
+use Rattle.group_charge.specs.Charges.{empty_account, with_charge, with_new_group, with_group_removed, with_group_limit, with_oom_flag}
 use Rattle.group_charge.proofs.CallerLemmas.{charge_rises, charge_peaks, charge_events, has_account}
 use Rattle.frame_word.specs.Seats.{KnownTable}
 use Rattle.cpu_part.specs.Cpus.{KnownCpu}
 use Rattle.step_rules.specs.declared.step.Action.{Action}
-use Rattle.step_rules.specs.declared.step.Action.TheVariants.{Grant, NoteMax, NoteOom, Kill, Make}
-use Rattle.step_rules.specs.declared.step.Answer.TheVariants.{Done, Granted, Number}
+use Rattle.step_rules.specs.declared.step.Action.TheVariants.{Grant, Make}
+use Rattle.step_rules.specs.declared.step.Answer.TheVariants.{Done, Granted}
 use Rattle.step_rules.specs.State.{State}
 use Rattle.step_rules.specs.After.{Run, after}
-use Rattle.step_rules.specs.Usage.{usage_of, is_below, frames_kept, pages_prepaid, pages_pending}
-use Rattle.step_rules.specs.Events.{EventKey, Max, Oom, OomKill, noted_at, count_after, is_noted_at, is_noted_below}
-use Rattle.step_rules.specs.Legal.{is_of_group}
+use Rattle.step_rules.specs.Peaks.{peak_follows}
+use Rattle.step_rules.specs.Usage.{usage_of, frames_kept, pages_prepaid, pages_pending}
+use Rattle.step_rules.specs.Events.{note_of, count_after, is_noted_below, is_noted_at, makes_group}
+use Rattle.step_rules.proofs.CallerLemmas.{noted_below_so, noted_at_so}
 use Rattle.step_rules.proofs.Homes.{number_low}
 use Rattle.step_rules.proofs.Moving.{gone_itself, pending_moves, pends_split}
-use Rattle.mem_machine.specs.Following.{moves_peak, count_by, FollowsSteps}
+use Rattle.mem_machine.specs.Following.{FollowsSteps}
 use Rattle.mem_machine.specs.Machines.{KnownMachine}
 use Rattle.mem_machine.specs.Local.{local_of}
-use Rattle.mem_machine.specs.Steps.{zone_makes, make_steps, remove_steps, set_max_steps}
-use Rattle.mem_machine.proofs.Followed.{are_still, peak_still, below_still, at_still, follows_still}
+use Rattle.mem_machine.specs.Steps.{zone_makes, make_steps, remove_steps, set_max_steps, set_oom_group_steps}
+use Rattle.mem_machine.proofs.Followed.{Test, are_still, peak_still, below_still, at_still, follows_still}
 
 -- ---- a grant
 
@@ -53,11 +56,6 @@ granted_usage t m c g n facts there usage h =
     granted true x y z e = omega (arith, e)
     granted false x y z e = omega (arith, e)
 
-grant_noted : (key : EventKey) (g n : ℕ) → noted_at key (Grant g n) Granted ≡ None
-grant_noted Max g n = refl
-grant_noted Oom g n = refl
-grant_noted OomKill g n = refl
-
 -- pages are granted, and then nothing moves but usage
 pub follows_grant : (t : KnownTable) (m : KnownMachine) (c : KnownCpu) (g n : ℕ) → AreCharges m.ledger → has_group m.ledger.groups g ≡ true
     → ((h : ℕ) → usage_of (local_of t m c) h ≡ current_of m.ledger h) → (rest : Run) → are_still rest ≡ true → (k : Ledger)
@@ -71,59 +69,41 @@ follows_grant t m c g n facts there usage rest still k peaks events =
       peak = λ h is. peaks h ∙ charge_peaks m.ledger g n facts h
           ∙ ap (λ (v : ℕ). cond (in_subtree m.ledger.groups h g) (max (peak_of m.ledger h) v) (peak_of m.ledger h)) (granted_usage t m c g n facts there usage h)
           ∙ sym (peak_still h now rest _ still);
-      events = λ key h is. ap (count_by key) (events.events h ∙ own.events h) ∙ sym (below_still key h now rest _ still
-          ∙ ap (λ (o : Option ℕ). cond (is_below m.ledger.groups h o) (one_more (count_by key (events_of m.ledger h))) (count_by key (events_of m.ledger h)))
-          (grant_noted key g n));
-      events_local = λ key h is. ap (count_by key) (events.events_local h ∙ own.events_local h) ∙ sym (at_still key h now rest _ still
-          ∙ ap (λ (o : Option ℕ). cond (is_of_group o h) (one_more (count_by key (events_local_of m.ledger h))) (count_by key (events_local_of m.ledger h)))
-          (grant_noted key g n));
+      events = λ key h is. ap (λ (x : EventCounts). count_of x key) (events.events h ∙ own.events h) ∙ sym (below_still key h now rest _ still);
+      events_local = λ key h is. ap (λ (x : EventCounts). count_of x key) (events.events_local h ∙ own.events_local h)
+          ∙ sym (at_still key h now rest _ still);
     }
 
 -- ---- an event
 
--- what one more event makes of a count
-one_counted : (f : Counts → ℕ) (more : Counts → Counts) (b : Bool) (x : Counts) → f (more x) ≡ one_more (f x) → f (cond b (more x) x) ≡ cond b (one_more (f x)) (f x)
-one_counted f more true x counts = counts
-one_counted f more false x counts = refl
+-- what one more event of the kind makes of the count of the key, if it counts here: all kinds and keys at once, so that a
+-- new one needs no line
+event_counted : (kind key : EventKey) (here : Bool) (x : EventCounts)
+    → count_of (cond here (with_one_more kind x) x) key ≡ cond (is_same_key key kind && here) (one_more (count_of x key)) (count_of x key)
+event_counted kind key here x = by_cases (is_same_key key kind) here (counted kind key x)
+  where
+    by_cases : (same here : Bool) → count_of (with_one_more kind x) key ≡ cond same (one_more (count_of x key)) (count_of x key)
+        → count_of (cond here (with_one_more kind x) x) key ≡ cond (same && here) (one_more (count_of x key)) (count_of x key)
+    by_cases true true counts = counts
+    by_cases true false counts = refl
+    by_cases false true counts = counts
+    by_cases false false counts = refl
 
-none_counted : (f : Counts → ℕ) (more : Counts → Counts) (b : Bool) (x : Counts) → f (more x) ≡ f x → f (cond b (more x) x) ≡ f x
-none_counted f more true x keeps = keeps
-none_counted f more false x keeps = refl
+-- a step that is answered Done makes no group and moves no peak
+done_makes_none : (m : ℕ) (action : Action) → makes_group m action Done ≡ false
+done_makes_none m (Make path) = refl
+done_makes_none m action = refl
 
--- the step that notes an event of the kind at group g, and what it makes of counts
-abbrev pub noting : EventKey → ℕ → Action
-noting Max g = NoteMax g
-noting Oom g = NoteOom g
-noting OomKill g = Kill g
+done_peak : (t : State) (m : ℕ) (action : Action) (x : ℕ) → peak_follows t action Done m x ≡ x
+done_peak t m (Grant g n) x = refl
+done_peak t m action x = refl
 
-abbrev pub one_of : EventKey → Counts → Counts
-one_of Max = with_max
-one_of Oom = with_oom
-one_of OomKill = with_oom_kill
-
-below_counted : (kind key : EventKey) (groups : List Group) (g m : ℕ) (x : Counts)
-    → count_by key (cond (in_subtree groups m g) (one_of kind x) x) ≡ count_after (is_noted_below key m) m groups (noting kind g) Done (count_by key x)
-below_counted Max Max groups g m x = one_counted (count_by Max) with_max (in_subtree groups m g) x refl
-below_counted Max Oom groups g m x = none_counted (count_by Oom) with_max (in_subtree groups m g) x refl
-below_counted Max OomKill groups g m x = none_counted (count_by OomKill) with_max (in_subtree groups m g) x refl
-below_counted Oom Max groups g m x = none_counted (count_by Max) with_oom (in_subtree groups m g) x refl
-below_counted Oom Oom groups g m x = one_counted (count_by Oom) with_oom (in_subtree groups m g) x refl
-below_counted Oom OomKill groups g m x = none_counted (count_by OomKill) with_oom (in_subtree groups m g) x refl
-below_counted OomKill Max groups g m x = none_counted (count_by Max) with_oom_kill (in_subtree groups m g) x refl
-below_counted OomKill Oom groups g m x = none_counted (count_by Oom) with_oom_kill (in_subtree groups m g) x refl
-below_counted OomKill OomKill groups g m x = one_counted (count_by OomKill) with_oom_kill (in_subtree groups m g) x refl
-
-at_counted : (kind key : EventKey) (groups : List Group) (g m : ℕ) (x : Counts)
-    → count_by key (cond (g == m) (one_of kind x) x) ≡ count_after (is_noted_at key m) m groups (noting kind g) Done (count_by key x)
-at_counted Max Max groups g m x = one_counted (count_by Max) with_max (g == m) x refl
-at_counted Max Oom groups g m x = none_counted (count_by Oom) with_max (g == m) x refl
-at_counted Max OomKill groups g m x = none_counted (count_by OomKill) with_max (g == m) x refl
-at_counted Oom Max groups g m x = none_counted (count_by Max) with_oom (g == m) x refl
-at_counted Oom Oom groups g m x = one_counted (count_by Oom) with_oom (g == m) x refl
-at_counted Oom OomKill groups g m x = none_counted (count_by OomKill) with_oom (g == m) x refl
-at_counted OomKill Max groups g m x = none_counted (count_by Max) with_oom_kill (g == m) x refl
-at_counted OomKill Oom groups g m x = none_counted (count_by Oom) with_oom_kill (g == m) x refl
-at_counted OomKill OomKill groups g m x = one_counted (count_by OomKill) with_oom_kill (g == m) x refl
+-- what a step makes of a count that it passes the test of
+done_count : (test : Test) (groups : List Group) (action : Action) (m n : ℕ) (b : Bool) → test groups action Done ≡ b
+    → count_after test m groups action Done n ≡ cond b (one_more n) n
+done_count test groups action m n b is =
+    ap (λ (made : Bool). cond made 0 (cond (test groups action Done) (one_more n) n)) (done_makes_none m action)
+    ∙ ap (λ (passed : Bool). cond passed (one_more n) n) is
 
 turned : (a b : ℕ) → (a == b) ≡ (b == a)
 turned a b = elim (cases_eq a b) [
@@ -131,27 +111,35 @@ turned a b = elim (cases_eq a b) [
   | inr ne ↦ ne_eqb a b ne ∙ sym (ne_eqb b a (λ e. ne (sym e)))
 ]
 
-noting_peak : (kind : EventKey) (m g : ℕ) (s : State) (x : ℕ) → moves_peak m s (zone_makes (noting kind g) Done) x ≡ x
-noting_peak Max m g s x = refl
-noting_peak Oom m g s x = refl
-noting_peak OomKill m g s x = refl
+-- a step notes an event at a group
+pub follows_note : (kind : EventKey) (action : Action) (g : ℕ) → note_of action Done ≡ Some (kind, g) → (t : KnownTable) (m : KnownMachine) (c : KnownCpu) (k : Ledger)
+    → CountsEvent kind m.ledger k g → SamePeaks m.ledger k → FollowsSteps (local_of t m c) m.ledger (zone_makes action Done ∷ []) k
+follows_note kind action g notes t m c k counts peaks =
+    let groups = m.ledger.groups in
+    record {
+      peak = λ h is. peaks h ∙ sym (done_peak (after (local_of t m c) 0 action Done) h action (peak_of m.ledger h));
+      events = λ key h is.
+          let old = events_of m.ledger h in
+          ap (λ (x : EventCounts). count_of x key) (counts.events h)
+          ∙ event_counted kind key (in_subtree groups h g) old
+          ∙ sym (done_count (is_noted_below key h) groups action h (count_of old key) _ (noted_below_so kind key g h groups action Done notes));
+      events_local = λ key h is.
+          let old = events_local_of m.ledger h in
+          ap (λ (x : EventCounts). count_of x key) (counts.events_local h ∙ ap (λ (b : Bool). cond b (with_one_more kind old) old) (turned h g))
+          ∙ event_counted kind key (g == h) old
+          ∙ sym (done_count (is_noted_at key h) groups action h (count_of old key) _ (noted_at_so kind key g h groups action Done notes));
+    }
 
--- an event is noted at a group
-pub follows_note : (kind : EventKey) (t : KnownTable) (m : KnownMachine) (c : KnownCpu) (g : ℕ) (k : Ledger) → CountsEvent (one_of kind) m.ledger k g
-    → SamePeaks m.ledger k → FollowsSteps (local_of t m c) m.ledger (zone_makes (noting kind g) Done ∷ []) k
-follows_note kind t m c g k counts peaks = record {
-  peak = λ h is. peaks h ∙ sym (noting_peak kind h g (local_of t m c) (peak_of m.ledger h));
-  events = λ key h is. ap (count_by key) (counts.events h) ∙ below_counted kind key m.ledger.groups g h (events_of m.ledger h);
-  events_local = λ key h is. ap (count_by key) (counts.events_local h
-      ∙ ap (λ (b : Bool). cond b (one_of kind (events_local_of m.ledger h)) (events_local_of m.ledger h)) (turned h g))
-      ∙ at_counted kind key m.ledger.groups g h (events_local_of m.ledger h);
-}
-
--- ---- a limit
+-- ---- a limit and a flag
 
 pub follows_limit : (s : State) (l : Ledger) (g : ℕ) (limit : Option ℕ) → FollowsSteps s l (set_max_steps g limit) (with_group_limit l g limit)
 unfolding peak_of events_of events_local_of account_at
 follows_limit s l g limit = follows_still s l (set_max_steps g limit) (with_group_limit l g limit) refl (λ m. refl)
+    (record { events = λ m. refl; events_local = λ m. refl })
+
+pub follows_flag : (s : State) (l : Ledger) (g : ℕ) (flag : Bool) → FollowsSteps s l (set_oom_group_steps g flag) (with_oom_flag l g flag)
+unfolding peak_of events_of events_local_of account_at
+follows_flag s l g flag = follows_still s l (set_oom_group_steps g flag) (with_oom_flag l g flag) refl (λ m. refl)
     (record { events = λ m. refl; events_local = λ m. refl })
 
 -- ---- a group that is made
@@ -186,16 +174,9 @@ made_read r x l n m facts free empty =
     or_none None = refl
     or_none (Some a) = refl
 
-made_count : (key : EventKey) (b : Bool) (x : Counts) → count_by key (cond b no_events x) ≡ cond b 0 (count_by key x)
-made_count Max true x = refl
-made_count Oom true x = refl
-made_count OomKill true x = refl
+made_count : (key : EventKey) (b : Bool) (x : EventCounts) → count_of (cond b no_events x) key ≡ cond b 0 (count_of x key)
+made_count key true x = none_counted key
 made_count key false x = refl
-
-make_noted : (key : EventKey) (path : List ℕ) (n : ℕ) → noted_at key (Make path) (Number n) ≡ None
-make_noted Max path n = refl
-make_noted Oom path n = refl
-make_noted OomKill path n = refl
 
 -- a group is made
 pub follows_make : (s : State) (l : Ledger) (path : List ℕ) (n : ℕ) → AreCharges l → IsLeastFreeNumber l.groups n
@@ -203,14 +184,10 @@ pub follows_make : (s : State) (l : Ledger) (path : List ℕ) (n : ℕ) → AreC
 unfolding peak_of events_of events_local_of account_at
 follows_make s l path n facts least = record {
   peak = λ m is. made_read (λ (a : Account). a.peak) 0 l n m facts least.free refl;
-  events = λ key m is. ap (count_by key) (made_read (λ (a : Account). a.events) no_events l n m facts least.free refl)
-      ∙ made_count key (m == n) (read (λ (a : Account). a.events) no_events l.accounts m)
-      ∙ sym (ap (λ (o : Option ℕ). cond (m == n) 0 (cond (is_below s.groups m o) (one_more (count_by key (read (λ (a : Account). a.events) no_events l.accounts m)))
-      (count_by key (read (λ (a : Account). a.events) no_events l.accounts m)))) (make_noted key path n));
-  events_local = λ key m is. ap (count_by key) (made_read (λ (a : Account). a.events_local) no_events l n m facts least.free refl)
-      ∙ made_count key (m == n) (read (λ (a : Account). a.events_local) no_events l.accounts m)
-      ∙ sym (ap (λ (o : Option ℕ). cond (m == n) 0 (cond (is_of_group o m) (one_more (count_by key (read (λ (a : Account). a.events_local) no_events l.accounts m)))
-      (count_by key (read (λ (a : Account). a.events_local) no_events l.accounts m)))) (make_noted key path n));
+  events = λ key m is. ap (λ (x : EventCounts). count_of x key) (made_read (λ (a : Account). a.events) no_events l n m facts least.free refl)
+      ∙ made_count key (m == n) (read (λ (a : Account). a.events) no_events l.accounts m);
+  events_local = λ key m is. ap (λ (x : EventCounts). count_of x key) (made_read (λ (a : Account). a.events_local) no_events l n m facts least.free refl)
+      ∙ made_count key (m == n) (read (λ (a : Account). a.events_local) no_events l.accounts m);
 }
 
 -- ---- a group that is removed
@@ -228,9 +205,9 @@ pub follows_remove : (s : State) (l : Ledger) (g : ℕ) → FollowsSteps s l (re
 unfolding peak_of events_of events_local_of account_at
 follows_remove s l g = record {
   peak = λ m is. removed_read (λ (a : Account). a.peak) 0 l.accounts g m (other m is);
-  events = λ key m is. ap (count_by key) (removed_read (λ (a : Account). a.events) no_events l.accounts g m (other m is))
+  events = λ key m is. ap (λ (x : EventCounts). count_of x key) (removed_read (λ (a : Account). a.events) no_events l.accounts g m (other m is))
       ∙ sym (below_still key m s (remove_steps g) _ refl);
-  events_local = λ key m is. ap (count_by key) (removed_read (λ (a : Account). a.events_local) no_events l.accounts g m (other m is))
+  events_local = λ key m is. ap (λ (x : EventCounts). count_of x key) (removed_read (λ (a : Account). a.events_local) no_events l.accounts g m (other m is))
       ∙ sym (at_still key m s (remove_steps g) _ refl);
 }
   where

@@ -5,11 +5,12 @@ use Rattle.std.specs.List.{slice_get}
 use Rattle.std.proofs.lemmas.Bool.{cases_Bool, and_parts, eqb-true, or_left, or_right, true≢false}
 use Rattle.std.proofs.lemmas.List.{append_assoc, append-nil}
 use Rattle.std.proofs.Math.Seq.{take-append_seam}
+use Rattle.group_tree.specs.Events.{count_of}
 use Rattle.group_tree.specs.Groups.{has_group, in_subtree}
 use Rattle.group_charge.specs.Charges.{peak_of, events_of, events_local_of}
 use Rattle.step_rules.specs.declared.step.Step.{Step}
 use Rattle.step_rules.specs.declared.step.Action.{Action}
-use Rattle.step_rules.specs.declared.step.Action.TheVariants.{Grant, NoteMax, NoteOom, Kill, Make}
+use Rattle.step_rules.specs.declared.step.Action.TheVariants.{Grant, NoteMax, NoteOom, NoteGroupKill, Kill, Make}
 use Rattle.step_rules.specs.declared.step.Answer.{Answer}
 use Rattle.step_rules.specs.declared.step.Answer.TheVariants.{Illegal, Done, Granted, Number}
 use Rattle.step_rules.specs.State.{Zone, State}
@@ -26,7 +27,7 @@ use Rattle.step_rules.proofs.CoverUsage.{usage_seen}
 use Rattle.step_rules.proofs.LocalLaws.{own_step_is_legal, other_step_is_hidden}
 use Rattle.step_rules.proofs.Peaking.{peaks_are_kept}
 use Rattle.step_rules.proofs.Noting.{events_are_counted}
-use Rattle.mem_machine.specs.Following.{Moves, moved_over, moves_peak, moves_count, count_by}
+use Rattle.mem_machine.specs.Following.{Moves, moved_over, moves_peak, moves_count}
 use Rattle.mem_machine.specs.Local.{local_of, IsLocalRun}
 use Rattle.mem_machine.specs.Interleaving.{zone_of}
 use Rattle.mem_machine.specs.Telling.{LedgersTell}
@@ -52,6 +53,7 @@ cpu_still : (s : State) (seat : ℕ) (action : Action) (answer : Answer) → sea
 cpu_still s seat (Grant g n) Granted ne legal = absurd (not_zone seat _ ne (grant_tests s seat g n legal).0)
 cpu_still s seat (NoteMax g) Done ne legal = absurd (not_zone seat _ ne (and_parts _ _ legal).0)
 cpu_still s seat (NoteOom g) Done ne legal = absurd (not_zone seat _ ne (and_parts _ _ legal).0)
+cpu_still s seat (NoteGroupKill g) Done ne legal = absurd (not_zone seat _ ne (and_parts _ _ (and_parts _ _ legal).0).0)
 cpu_still s seat (Kill g) Done ne legal = absurd (not_zone seat _ ne (kill_tests s seat g legal).0)
 cpu_still s seat (Make path) (Number n) ne legal = absurd (not_zone seat _ ne (make_tests s seat path legal).0)
 cpu_still s seat action answer ne legal = refl
@@ -194,16 +196,16 @@ ledgers_tell t run steps mixed before after shows told makes mixes =
           let test = is_noted_below key m in
           let law = λ (r : Run) (e : Step × Answer). (events_are_counted.step zone r e.0 e.1 key m).below in
           makes.follows.events key m there
-          ∙ ap (λ (r : Run). moved_over (moves_count test m) a r (count_by key (events_of before.machine.ledger m))) (sym mixes.own)
+          ∙ ap (λ (r : Run). moved_over (moves_count test m) a r (count_of (events_of before.machine.ledger m) key)) (sym mixes.own)
           ∙ tells_on zone p m (λ r x. x ≡ events_in key zone r m) (moves_count test m)
           (count_own zone p m test (λ r. events_in key zone r m) law (below_stays key m)) (count_other zone p m test (λ r. events_in key zone r m) law (below_stays key m))
-          run a mixed b (count_by key (events_of before.machine.ledger m)) shows own mixes.follows there (told.events key m);
+          run a mixed b (count_of (events_of before.machine.ledger m) key) shows own mixes.follows there (told.events key m);
       events_local = λ key m there.
           let test = is_noted_at key m in
           let law = λ (r : Run) (e : Step × Answer). (events_are_counted.step zone r e.0 e.1 key m).local in
           makes.follows.events_local key m there
-          ∙ ap (λ (r : Run). moved_over (moves_count test m) a r (count_by key (events_local_of before.machine.ledger m))) (sym mixes.own)
+          ∙ ap (λ (r : Run). moved_over (moves_count test m) a r (count_of (events_local_of before.machine.ledger m) key)) (sym mixes.own)
           ∙ tells_on zone p m (λ r x. x ≡ events_local_in key zone r m) (moves_count test m)
           (count_own zone p m test (λ r. events_local_in key zone r m) law (at_stays key m)) (count_other zone p m test (λ r. events_local_in key zone r m) law (at_stays key m))
-          run a mixed b (count_by key (events_local_of before.machine.ledger m)) shows own mixes.follows there (told.events_local key m);
+          run a mixed b (count_of (events_local_of before.machine.ledger m) key) shows own mixes.follows there (told.events_local key m);
     }

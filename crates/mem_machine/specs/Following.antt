@@ -1,9 +1,10 @@
 -- What a list of steps makes of the peaks and the event counts that the ledger keeps (memory.peak, memory.events and
 -- memory.events.local of cgroup-v2.rst).
 use Rattle.std.specs.Prelude.{◌≡◌, ℕ, Bool, true, List, [], ◌∷◌}
+use Rattle.group_tree.specs.declared.event.EventKey.{EventKey}
 use Rattle.group_tree.specs.declared.group.Group.{Group}
+use Rattle.group_tree.specs.Events.{count_of}
 use Rattle.group_tree.specs.Groups.{has_group}
-use Rattle.group_charge.specs.declared.account.Counts.{Counts}
 use Rattle.group_charge.specs.Charges.{Ledger, peak_of, events_of, events_local_of}
 use Rattle.step_rules.specs.declared.step.Step.{Step}
 use Rattle.step_rules.specs.declared.step.Action.{Action}
@@ -11,7 +12,7 @@ use Rattle.step_rules.specs.declared.step.Answer.{Answer}
 use Rattle.step_rules.specs.State.{State}
 use Rattle.step_rules.specs.After.{Run, after}
 use Rattle.step_rules.specs.Peaks.{peak_follows}
-use Rattle.step_rules.specs.Events.{EventKey, Max, Oom, OomKill, count_after, is_noted_at, is_noted_below}
+use Rattle.step_rules.specs.Events.{count_after, is_noted_at, is_noted_below}
 
 -- how a step, with its answer, moves a number, by the state before it
 abbrev pub Moves : Type 0
@@ -40,20 +41,14 @@ peak_over group state steps peak = moved_over (moves_peak group) state steps pea
 abbrev pub count_over : (List Group → Action → Answer → Bool) → ℕ → State → Run → ℕ → ℕ
 count_over test group state steps count = moved_over (moves_count test group) state steps count
 
--- the count of the events of this kind
-abbrev pub count_by : EventKey → Counts → ℕ
-count_by Max counts = counts.max
-count_by Oom counts = counts.oom
-count_by OomKill counts = counts.oom_kill
-
 -- Of each group that is there after the steps, the peak and the counts are what the steps make of those before. A group
 -- that the steps make begins with 0, whatever its number had before
 pub record FollowsSteps (state : State) (before : Ledger) (steps : Run) (after : Ledger) : Type 0 where
   pub peak : (group : ℕ) → has_group after.groups group ≡ true
       → peak_of after group ≡ peak_over group state steps (peak_of before group)
   pub events : (key : EventKey) (group : ℕ) → has_group after.groups group ≡ true
-      → count_by key (events_of after group)
-      ≡ count_over (is_noted_below key group) group state steps (count_by key (events_of before group))
+      → count_of (events_of after group) key
+      ≡ count_over (is_noted_below key group) group state steps (count_of (events_of before group) key)
   pub events_local : (key : EventKey) (group : ℕ) → has_group after.groups group ≡ true
-      → count_by key (events_local_of after group)
-      ≡ count_over (is_noted_at key group) group state steps (count_by key (events_local_of before group))
+      → count_of (events_local_of after group) key
+      ≡ count_over (is_noted_at key group) group state steps (count_of (events_local_of before group) key)

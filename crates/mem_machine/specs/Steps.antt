@@ -1,11 +1,11 @@
 -- The list of core steps that each call makes, with the answer of each step.
-use Rattle.std.specs.Prelude.{ℕ, zero, suc, Option, Some, None, List, [], ◌∷◌, sum_by}
+use Rattle.std.specs.Prelude.{ℕ, zero, suc, Bool, Option, Some, None, List, [], ◌∷◌, sum_by}
 use Rattle.std.specs.List.{flat_map}
 use Rattle.step_rules.specs.declared.step.Step.{Step}
 use Rattle.step_rules.specs.declared.step.Action.{Action}
 use Rattle.step_rules.specs.declared.step.Action.TheVariants.{OpenVisit, ShutVisit, PassOut, TakeIn, PassBack}
 use Rattle.step_rules.specs.declared.step.Action.TheVariants.{Collect, Fill, DrainStock, Grant, Ungrant}
-use Rattle.step_rules.specs.declared.step.Action.TheVariants.{Consume, NoteMax, NoteOom, SetMax, Make, Remove, Kill}
+use Rattle.step_rules.specs.declared.step.Action.TheVariants.{Consume, NoteMax, NoteOom, NoteGroupKill, SetMax, SetFlag, Make, Remove, Kill}
 use Rattle.step_rules.specs.declared.step.Answer.{Answer}
 use Rattle.step_rules.specs.declared.step.Answer.TheVariants.{Done, Took, Pages, Granted, Over, Number}
 use Rattle.step_rules.specs.After.{Run}
@@ -92,6 +92,10 @@ note_oom_steps group = zone_makes (NoteOom group) Done ∷ []
 abbrev pub kill_steps : ℕ → Run
 kill_steps group = zone_makes (Kill group) Done ∷ []
 
+-- it is noted that the group was killed as a whole
+abbrev pub note_group_kill_steps : ℕ → Run
+note_group_kill_steps group = zone_makes (NoteGroupKill group) Done ∷ []
+
 -- a group of this path is made, and gets this number
 abbrev pub make_steps : List ℕ → ℕ → Run
 make_steps path number = zone_makes (Make path) (Number number) ∷ []
@@ -103,3 +107,7 @@ remove_steps group = zone_makes (Remove group) Done ∷ []
 -- the group gets this limit
 abbrev pub set_max_steps : ℕ → Option ℕ → Run
 set_max_steps group limit = zone_makes (SetMax group limit) Done ∷ []
+
+-- the group is to be killed as a whole, or not
+abbrev pub set_oom_group_steps : ℕ → Bool → Run
+set_oom_group_steps group flag = zone_makes (SetFlag group flag) Done ∷ []

@@ -3,13 +3,13 @@
 ghost use Rattle.std.specs.Prelude.{◌≡◌, ◌≢◌, ℕ, IsTrue, IfOk, OnErr, false, true, slice_set};
 ghost use Rattle.std.specs.Result.{result_err};
 ghost use Rattle.group_tree.specs.Groups.{has_group, has_child, make_fault};
-ghost use Rattle.group_charge.specs.Charges.{current_of, SameUsage, with_group_limit, with_group_removed};
-ghost use Rattle.group_charge.specs.Charges.{with_kill_noted, with_max_noted, with_oom_noted};
+ghost use Rattle.group_charge.specs.Charges.{current_of, SameUsage, with_group_limit, with_group_removed, with_oom_flag};
+ghost use Rattle.group_charge.specs.Charges.{with_group_kill_noted, with_kill_noted, with_max_noted, with_oom_noted};
 ghost use Rattle.step_rules.specs.Usage.{usage_of};
 ghost use Rattle.mem_machine.specs.Machines.{is_killed, AddsGroup, Visits};
 ghost use Rattle.mem_machine.specs.Local.{Makes, MakesForAny, side, local_of};
-ghost use Rattle.mem_machine.specs.Steps.{kill_steps, note_max_steps, note_oom_steps};
-ghost use Rattle.mem_machine.specs.Steps.{make_steps, remove_steps, set_max_steps};
+ghost use Rattle.mem_machine.specs.Steps.{kill_steps, note_group_kill_steps, note_max_steps, note_oom_steps};
+ghost use Rattle.mem_machine.specs.Steps.{make_steps, remove_steps, set_max_steps, set_oom_group_steps};
 
 use crate::machine::Machine;
 use cpu_part::{BootName, Cpu, Tables};
@@ -53,6 +53,18 @@ impl<N: BootName> Machine<N> {
     {
         self.charges.note_kill(group);
         self.killed[group.number() as usize] = true;
+    }
+
+    /// Notes that a group other than the root was killed as a whole, with all groups below it: one more `oom_group_kill` in
+    /// its events and in those of each of its ancestors, and in its local events.
+    pub fn note_group_kill(&mut self, group: GroupId)
+        requires there { IsTrue (has_group self.old.ledger.groups group) }
+        requires below_root { group ≢ 0 }
+        ensures machine { self.new ≡ record self.old { ledger = with_group_kill_noted self.old.ledger group } }
+        ensures usage { SameUsage self.old.ledger self.new.ledger }
+        ensures steps { MakesForAny N.frames self.old (note_group_kill_steps group) self.new }
+    {
+        self.charges.note_group_kill(group);
     }
 
     /// Makes a group, as `Tree::make` does. It has no page, peak 0 and all counts 0, and isn't killed.
@@ -108,5 +120,16 @@ impl<N: BootName> Machine<N> {
         ensures steps { MakesForAny N.frames self.old (set_max_steps group limit) self.new }
     {
         self.charges.set_max(group, limit);
+    }
+
+    /// Says of a group other than the root whether it is to be killed as a whole (memory.oom.group). Only later kills read
+    /// it.
+    pub fn set_oom_group(&mut self, group: GroupId, oom_group: bool)
+        requires there { IsTrue (has_group self.old.ledger.groups group) }
+        requires below_root { group ≢ 0 }
+        ensures machine { self.new ≡ record self.old { ledger = with_oom_flag self.old.ledger group oom_group } }
+        ensures steps { MakesForAny N.frames self.old (set_oom_group_steps group oom_group) self.new }
+    {
+        self.charges.set_oom_group(group, oom_group);
     }
 }
