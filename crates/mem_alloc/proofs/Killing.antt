@@ -1,15 +1,13 @@
 -- What kills keep, and kills one after the other. Serves `kill_for`, `make_room`, and those who call them.
 use Rattle.std.proofs.Common.{◌≡◌, ℕ, zero, suc, ◌<◌, ◌≤◌, Bool, true, false, Option, Some, None, List, [], ◌∷◌, ◌++◌, map, refl, sym, ap, ◌∙◌}
-use Rattle.std.proofs.Common.{subst, inl, inr, arith, cond, eq-eqb, length, ◌==◌, ◌&&◌, ◌||◌, ◌+◌, if◌then◌else◌}
-use Rattle.std.specs.Prelude.{filter, not, set, slice_set}
-use Rattle.std.specs.List.{list_any, range_with_len}
-use Rattle.std.proofs.lemmas.Bool.{and_from, and_parts, cases_Bool, cases_eq, cases_lt, cond-true, false≢true, ne_eqb, not-true, or_left, or_right}
+use Rattle.std.proofs.Common.{subst, inl, inr, arith, cond, length}
+use Rattle.std.specs.Prelude.{set, slice_index_or, slice_set}
+use Rattle.std.proofs.lemmas.Bool.{and_parts, cases_Bool, cases_lt, false≢true, not-true}
 use Rattle.std.proofs.lemmas.List.{append_assoc, append-nil, get_or-set_same, length-set}
 use Rattle.frame_word.specs.Seats.{KnownTable}
 use Rattle.group_tree.specs.declared.group.Group.{Group}
-use Rattle.group_tree.specs.Groups.{has_group, in_subtree, is_oom_group}
+use Rattle.group_tree.specs.Groups.{has_group, in_subtree}
 use Rattle.group_tree.specs.declared.event.EventKey.TheVariants.{Oom}
-use Rattle.group_tree.proofs.CallerLemmas.{in_subtree-refl}
 use Rattle.group_charge.specs.declared.account.Account as charge
 use Rattle.group_charge.specs.Charges.{AreCharges, current_of, usage_of, with_event_at, with_oom_noted}
 use Rattle.group_charge.proofs.CallerLemmas.{sum-map_same}
@@ -23,9 +21,10 @@ use Rattle.mem_machine.specs.Local.{MakesForAny, side}
 use Rattle.mem_machine.specs.Steps.{note_oom_steps}
 use Rattle.mem_reclaim.specs.declared.sets.Killed.{Killed}
 use Rattle.mem_reclaim.specs.Killing.{IsKilledBy, OnlyDrains, OnlyLetsGo, with_all_killed}
-use Rattle.mem_reclaim.specs.Sets.{IsHead, alive_below, kill_set}
-use Rattle.mem_reclaim.specs.Victim.{IsVictim, may_be_killed}
+use Rattle.mem_reclaim.specs.Sets.{IsHead, kill_set}
+use Rattle.mem_reclaim.specs.Victim.{IsVictim}
 use Rattle.mem_reclaim.proofs.Choosing.{chosen_there}
+use Rattle.mem_reclaim.proofs.Dying.{victims_die}
 use Rattle.mem_alloc.specs.Stepping.{ByStepsOfAny, MachineStays, course}
 use Rattle.mem_alloc.specs.Kills.{IsWanting, KillsEach, KillsFor, KillsOne, has_room_at, with_oom_noted_at}
 use Rattle.mem_alloc.specs.Room.{KillsForFew, RelievesLimit}
@@ -132,61 +131,16 @@ alive_falls true true stays = omega arith
 pub victim_below : (m : KnownMachine) → AreCharges m.ledger → (g v : ℕ) → IsVictim m g (Some v) → v < 64
 victim_below m charges g v most = number_below m.ledger.groups v charges.groups (chosen_there m g v most.chosen)
 
--- the number is in the list
-abbrev has_number : ℕ → List ℕ → Bool
-has_number v groups = list_any (λ (x : ℕ). x == v) groups
-
-in_rest : (b : Bool) (a v : ℕ) (groups : List ℕ) → has_number v groups ≡ true → has_number v (cond b (a ∷ groups) groups) ≡ true
-in_rest true a v groups is = or_right (a == v) (has_number v groups) is
-in_rest false a v groups is = is
-
--- a number of the range that passes the test is among those of it that pass
-filtered_in : (test : ℕ → Bool) (v a n : ℕ) → test v ≡ true → a ≤ v → v < a + n → has_number v (filter test (range_with_len a n)) ≡ true
-filtered_in test v a zero passes low high = absurd (omega (arith, low, high))
-filtered_in test v a (suc n) passes low high =
-    let later = filter test (range_with_len (a + 1) n) in
-    elim (cases_eq a v) [
-      | inl e ↦ ap (has_number v) (cond-true (test a) (a ∷ later) later (ap test e ∙ passes)) ∙ or_left (a == v) (has_number v later) (eq-eqb a v e)
-      | inr ne ↦ in_rest (test a) a v later (filtered_in test v (a + 1) n passes (omega (arith, low, ne)) (omega (arith, high)))
-    ]
-
--- the victim is one of those who are killed with it
-victim_dies : (m : KnownMachine) (g : ℕ) (killed : Killed) → AreCharges m.ledger → IsVictim m g (Some killed.victim) → IsHead m.ledger.groups g killed
-    → has_number killed.victim (kill_set m killed) ≡ true
-victim_dies m g killed charges most head = by_flag (is_oom_group groups killed.head)
-  where
-    groups : List Group
-    groups = m.ledger.groups
-
-    v : ℕ
-    v = killed.victim
-
-    below : in_subtree groups killed.head v ≡ true
-    below = elim head [
-      | inl flagged ↦
-          let path = (and_parts (in_subtree groups g killed.head && in_subtree groups killed.head v) (is_oom_group groups killed.head) flagged.between).0 in
-          (and_parts (in_subtree groups g killed.head) (in_subtree groups killed.head v) path).1
-      | inr alone ↦ subst (λ (h : ℕ). in_subtree groups h v ≡ true) (sym alone.1) (in_subtree-refl groups v (chosen_there m g v most.chosen))
-    ]
-
-    may : may_be_killed m killed.head v ≡ true
-    may = and_from (in_subtree groups killed.head v) (not (is_killed m.killed v)) below (and_parts (in_subtree groups g v) (not (is_killed m.killed v)) most.chosen).1
-
-    by_flag : (flag : Bool) → has_number v (if flag then alive_below m killed.head else v ∷ []) ≡ true
-    by_flag true = filtered_in (may_be_killed m killed.head) v 0 64 may (omega arith) (victim_below m charges g v most)
-    by_flag false = or_left (v == v) false (eq-eqb v v refl)
-
 -- each of these is marked
-all_marked : (groups : List ℕ) (marks : List Bool) (v : ℕ) → v < length marks → has_number v groups ≡ true
+all_marked : (groups : List ℕ) (marks : List Bool) (v k : ℕ) → v < length marks → k < length groups → slice_index_or groups k v ≡ v
     → is_killed (with_all_killed marks groups) v ≡ true
-all_marked [] marks v inside is = absurd (false≢true is)
-all_marked (x ∷ groups) marks v inside is =
-    let later = slice_set marks x true in
+all_marked [] marks v k inside low is = absurd (omega (arith, low))
+all_marked (x ∷ groups) marks v zero inside low is =
+    all_stay_marked groups (slice_set marks x true) v
+    (subst (λ (y : ℕ). is_killed (slice_set marks y true) v ≡ true) (sym is) (get_or-set_same marks v true false inside))
+all_marked (x ∷ groups) marks v (suc k) inside low is =
     let long = length-set marks x true in
-    elim (cases_eq x v) [
-      | inl e ↦ all_stay_marked groups later v (subst (λ (y : ℕ). is_killed (slice_set marks y true) v ≡ true) (sym e) (get_or-set_same marks v true false inside))
-      | inr ne ↦ all_marked groups later v (omega (arith, inside, long)) (ap (λ (b : Bool). b || has_number v groups) (sym (ne_eqb x v ne)) ∙ is)
-    ]
+    all_marked groups (slice_set marks x true) v k (omega (arith, inside, long)) (omega (arith, low)) is
 
 pub fewer_alive : (t : KnownTable) (w : Words) (m n : KnownMachine) (g : ℕ) (killed : Killed) → IsConsistent t w m → AreCharges m.ledger
     → IsVictim m g (Some killed.victim) → IsHead m.ledger.groups g killed → n.killed ≡ with_all_killed m.killed (kill_set m killed)
@@ -199,7 +153,8 @@ fewer_alive t w m n g killed whole charges most head marked =
     let many = whole.sizes.killed in
     let inside : v < length m.killed = omega (arith, low, many) in
     let alive : is_killed m.killed v ≡ false = not-true (is_killed m.killed v) (and_parts (in_subtree m.ledger.groups g v) _ most.chosen).1 in
-    let dead : is_killed now v ≡ true = all_marked groups m.killed v inside (victim_dies m g killed charges most head) in
+    let dies = victims_die m g killed (record { groups = charges.groups; chosen = most; head_is = head }) in
+    let dead : is_killed now v ≡ true = all_marked groups m.killed v dies.0 inside dies.1 dies.2 in
     subst (λ (k : List Bool). sum_to 64 (alive_at k) < count_alive m) (sym marked)
     (sum_less 64 (alive_at now) (alive_at m.killed) v low
     (λ j. alive_falls (is_killed m.killed j) (is_killed now j) (all_stay_marked groups m.killed j)) (alive_less m.killed now v dead alive))

@@ -1,12 +1,11 @@
 -- No kill comes before everything else was tried. Serves whoever tells the steps of a command.
 use Rattle.std.proofs.Common.{◌≡◌, ◌≢◌, ℕ, zero, suc, ◌+◌, ◌≤◌, Bool, true, false, Option, Some, None, List, [], ◌∷◌, ◌++◌, refl, sym, ap, ◌∙◌}
-use Rattle.std.proofs.Common.{subst, inl, inr, arith, cond, eq-eqb, ◌==◌, ◌||◌, ◌⊎◌}
+use Rattle.std.proofs.Common.{subst, inl, inr, arith, eq-eqb, ◌==◌, ◌||◌, ◌⊎◌}
 use Rattle.std.specs.Prelude.{Result, Ok, Err}
 use Rattle.std.proofs.lemmas.Option.{none-some}
 use Rattle.std.proofs.lemmas.Bool.{cases_Bool, cases_lt, false≢true}
 use Rattle.std.proofs.lemmas.List.{append_assoc, append-nil}
 use Rattle.std.proofs.lemmas.List.Folds.{list_any-append}
-use Rattle.std.proofs.lemmas.List.Sums.{sum_by-append}
 use Rattle.frame_word.specs.Seats.{KnownTable, misses_of}
 use Rattle.stock_word.specs.Stock.{Seated, account_of}
 use Rattle.group_tree.specs.declared.group.Group.{Group}
@@ -29,11 +28,12 @@ use Rattle.mem_machine.specs.Stocks.{AreDrained, Drains, DrainsBelow, DrainsAllB
 use Rattle.mem_machine.proofs.Draining.{groups_stay}
 use Rattle.mem_machine.proofs.Reaching.{run_both}
 use Rattle.mem_reclaim.specs.declared.sets.Killed.{Killed}
-use Rattle.mem_reclaim.specs.Moves.{has_kill, is_kill, is_miss, killed_by, kills_in, missed_in}
+use Rattle.mem_reclaim.specs.Moves.{has_kill, is_kill, killed_by, kills_in, missed_in}
 use Rattle.mem_reclaim.specs.Staying.{Keeps, MissedAll}
 use Rattle.mem_reclaim.specs.Killing.{IsKilledBy, KillsAll, KillsAs, OnlyDrains, OnlyLetsGo}
 use Rattle.mem_reclaim.specs.Sets.{alive_below, group_kill_note, kill_set}
 use Rattle.mem_reclaim.specs.Victim.{victim_note}
+use Rattle.mem_reclaim.proofs.KillSets.{kills_both, missed_both}
 use Rattle.mem_reclaim.proofs.LettingGo.{AreQuiet, quiet_both, quiet_drains}
 use Rattle.mem_alloc.specs.Stepping.{Course, OfMachineAlone, MachineStays, course}
 use Rattle.mem_alloc.specs.Kills.{KillsEach, KillsFor, KillsOne, KillsUntilRoom, has_room_at, with_oom_noted_at}
@@ -99,13 +99,7 @@ kills_there before rest e v kill =
     list_any-append (λ (x : Step × Answer). is_kill x.0.action) before (e ∷ rest)
     ∙ or_mid (has_kill before) (is_kill e.0.action) (has_kill rest) (ap is_kill kill)
 
--- ---- whom steps kill
-
-pub kills_in_both : (one two : Run) → kills_in (one ++ two) ≡ kills_in one ++ kills_in two
-kills_in_both [] two = refl
-kills_in_both (e ∷ one) two =
-    ap (λ (more : List ℕ). killed_by e.0.action ++ more) (kills_in_both one two)
-    ∙ sym (append_assoc (killed_by e.0.action) (kills_in one) (kills_in two))
+-- ---- where kills come first
 
 -- the first step kills a group, or none does
 abbrev KillsFirst : Run → Type 0
@@ -162,9 +156,6 @@ passes_none t c m = record {
   runs = refl;
   tied = record { misses = λ f. omega arith; owners = λ f is. refl; dirt = λ f is. refl };
 }
-
-pub missed_both : (f : ℕ) (one two : Run) → missed_in f (one ++ two) ≡ missed_in f one + missed_in f two
-missed_both f one two = sum_by-append (λ (e : Step × Answer). cond (is_miss f e.0.action e.1) 1 0) one two
 
 owned : (o was : Option Home) → o ≢ None → owner_of o ≡ owner_of was → was ≢ None
 owned None was kept same none = kept refl
@@ -287,7 +278,7 @@ module _ (t : KnownTable) (MayAsk : List Group → ℕ → ℕ → Type 0) (s : 
     at_once = may.at_once;
     set_is = may.set_is;
     others_die =
-        kills_in_both rest two ∙ ap (λ (k : List ℕ). k ++ kills_in two) may.others_die ∙ append_assoc may.left may.later (kills_in two);
+        kills_both rest two ∙ ap (λ (k : List ℕ). k ++ kills_in two) may.others_die ∙ append_assoc may.left may.later (kills_in two);
   }
 
   pub rash_both : (made one two : Run) → RashFree t MayAsk s c made one → RashFree t MayAsk s c (made ++ one) two
@@ -316,7 +307,7 @@ module _ (t : KnownTable) (MayAsk : List Group → ℕ → ℕ → Type 0) (s : 
     leads = runs;
     may = may;
     at_once = comes_at_once steps before rest e v first is kill;
-    set_is = sym these ∙ ap kills_in is ∙ kills_in_both before (e ∷ rest)
+    set_is = sym these ∙ ap kills_in is ∙ kills_both before (e ∷ rest)
         ∙ ap (λ (one : List ℕ). kills_in before ++ (one ++ kills_in rest)) (ap killed_by kill);
     others_die = sym (append-nil (kills_in rest));
   }
