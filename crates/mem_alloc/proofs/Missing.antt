@@ -13,7 +13,6 @@ use Rattle.mem_machine.specs.Lending.{LendsMany, TakesManyBack}
 use Rattle.mem_machine.specs.Stocks.{Drains, DrainsAllBelow, stock_group}
 use Rattle.mem_machine.specs.Steps.{Drain, unlist_steps, drain_list_steps, drain_steps, drain_stocks_steps, fill_steps, lend_steps, note_max_steps, note_oom_steps, over_steps, refill_steps, take_front_steps}
 use Rattle.mem_reclaim.specs.declared.sets.Killed.{Killed}
-use Rattle.mem_reclaim.specs.Moves.{missed_in}
 use Rattle.mem_reclaim.proofs.KillSets.{missed_both}
 use Rattle.mem_reclaim.proofs.LettingGo.{AreQuiet, misses_put, quiet_both, quiet_drain, quiet_drains}
 use Rattle.mem_alloc.specs.declared.faults.AllocFault.{AllocFault}

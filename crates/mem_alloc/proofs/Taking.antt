@@ -26,7 +26,7 @@ use Rattle.mem_alloc.specs.Stepping.{BySteps, Course, course}
 use Rattle.mem_alloc.specs.Room.{AfterRoom, IsRefusedFor, TellsRoom}
 use Rattle.mem_alloc.specs.Blocks.{AllocatesBlock, ChargesBlock, FindsNoBlock, MayHaveBlock, RetriesBlock}
 use Rattle.mem_alloc.specs.Blocks.{TakesAfterDrain, TakesFreeBlock, TakesInRounds, TakesOrReclaims}
-use Rattle.mem_alloc.proofs.Lowering.{Lowers, same_visit, lowered_fits, usage_back, room_back}
+use Rattle.mem_alloc.proofs.Lowering.{same_visit, lowered_fits, usage_back, room_back}
 use Rattle.mem_alloc.proofs.Making.{RoomSoFar, so_far_does, so_far_none}
 use Rattle.mem_alloc.proofs.Rounding.{FailureSpares, fails_spare, in_the_end}
 use Rattle.mem_machine.proofs.Followed.{makes_both}
