@@ -3,9 +3,8 @@ use Rattle.control_files.specs.declared.file.File.TheVariants.{OomGroup}
 use Rattle.cpu_part.specs.Cpus.{KnownCpu}
 use Rattle.mem_machine.specs.Machines.{KnownMachine}
 use Rattle.mem_machine.specs.Steps.{set_oom_group_steps}
-use Rattle.mem_system.proofs.Found.{refused_flag}
 use Rattle.mem_system.proofs.Keeping.{visit_keeps}
-use Rattle.mem_system.proofs.Writing.{refused_by}
+use Rattle.mem_system.proofs.Writing.{refused_by, refused_flag}
 use Rattle.mem_system.proofs.files.write_flag.Goals as goal
 
 pub returns-in-Ok-clause-written : goal.returns-in-Ok-clause-written

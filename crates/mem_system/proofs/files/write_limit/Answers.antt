@@ -1,7 +1,6 @@
 use Rattle.std.proofs.Common.{ap, refl, Err}
 use Rattle.control_files.specs.declared.file.File.TheVariants.{Max}
-use Rattle.mem_system.proofs.Found.{refused_limit}
-use Rattle.mem_system.proofs.Writing.{refused_by}
+use Rattle.mem_system.proofs.Writing.{refused_by, refused_limit}
 use Rattle.mem_system.proofs.files.write_limit.Goals as goal
 
 pub returns-in-Ok-clause-written : goal.returns-in-Ok-clause-written
