@@ -12,7 +12,7 @@ use Rattle.group_tree.proofs.CallerLemmas.{limit_of-limited}
 use Rattle.group_charge.specs.Charges.{current_of}
 use Rattle.zone_sizes.specs.declared.config.Config.{Config}
 use Rattle.control_files.specs.declared.file.File.{File}
-use Rattle.control_files.specs.declared.file.File.TheVariants.{Max, OomGroup}
+use Rattle.control_files.specs.declared.file.File.TheVariants.{Max, OomGroup, Reclaim}
 use Rattle.cpu_part.specs.Cpus.{KnownCpu}
 use Rattle.step_rules.specs.State.{State}
 use Rattle.step_rules.specs.After.{Run}
@@ -173,6 +173,8 @@ set_no_rash t cmd path name value g Max s c steps n z is asks whole h =
     (asks g h.limit (record { file = is; reads = h.reads })) whole h.sets
 set_no_rash t cmd path name value g OomGroup s c steps n z is asks whole h =
     rash_quiet t (MayAskFor cmd s.ledger.groups) s c [] steps (ap has_kill h.sets.steps_are)
+set_no_rash t cmd path name value g Reclaim s c steps n z is asks whole h =
+    rash_quiet t (MayAskFor cmd s.ledger.groups) s c [] steps (ap has_kill h.steps_are ∙ h.reclaims.moves.quiet)
 set_no_rash t cmd path name value g file s c steps n z is asks whole h = absurd h
 
 writes_no_rash : (t : KnownTable) (cmd : Cmd) (path name value : List ℕ) (said : Reply) (s : KnownMachine) (c : KnownCpu) (steps : Run) (n : KnownMachine)
@@ -182,8 +184,12 @@ writes_no_rash : (t : KnownTable) (cmd : Cmd) (path name value : List ℕ) (said
     → NoRashKill t (MayAskFor cmd s.ledger.groups) s c steps
 writes_no_rash t cmd path name value reply.Done s c steps n z asks whole h =
     set_no_rash t cmd path name value h.group h.file s c steps n z h.is_file asks whole h.sets
-writes_no_rash t cmd path name value (reply.Refused fault) s c steps n z asks whole h =
-    rash_quiet t (MayAskFor cmd s.ledger.groups) s c [] steps (ap has_kill h.1.steps_are)
+writes_no_rash t cmd path name value (reply.Refused fault) s c steps n z asks whole h = elim h [
+  | inl r ↦ rash_quiet t (MayAskFor cmd s.ledger.groups) s c [] steps (ap has_kill r.1.steps_are)
+  | inr short ↦
+      let frees = short.falls.frees in
+      rash_quiet t (MayAskFor cmd s.ledger.groups) s c [] steps (ap has_kill frees.steps_are ∙ frees.reclaims.moves.quiet)
+]
 writes_no_rash t cmd path name value other s c steps n z asks whole h = absurd h
 
 allocates_for : (t : KnownTable) (cmd : Cmd) (sizes : Config) (path : List ℕ) (order : ℕ) (answer : Result ℕ AllocFault) (s : KnownMachine) (c : KnownCpu)

@@ -7,7 +7,7 @@ use Rattle.frame_word.specs.Views.{let_go, let_go_last, passed_out_to}
 use Rattle.group_tree.specs.declared.fault.Fault.TheVariants as fault
 use Rattle.group_charge.specs.Charges.{current_of}
 use Rattle.control_files.specs.declared.file.File.{File}
-use Rattle.control_files.specs.declared.file.File.TheVariants.{Max, OomGroup}
+use Rattle.control_files.specs.declared.file.File.TheVariants.{Max, OomGroup, Reclaim}
 use Rattle.zone_sizes.specs.declared.config.Config.{Config}
 use Rattle.mem_machine.specs.declared.releasing.Released.TheVariants as released
 use Rattle.mem_machine.specs.Machines.{KnownMachine}
@@ -89,11 +89,18 @@ set_counts OomGroup value g way h =
     counts_as way.table way.before way.after way.steps steps h.sets.steps_are
     (counts_same way.table way.before way.after steps (record { quiet = refl; no_miss = λ f. refl })
     (ap (λ (x : KnownMachine). x.frame_seat) h.sets.machine))
+set_counts Reclaim value g way h =
+    counts_as way.table way.before way.after way.steps h.reclaims.steps h.steps_are h.reclaims.moves.misses
 set_counts file value g way h = absurd h
 
 writes_counts : (path name value : List ℕ) (said : Reply) (way : Course KnownMachine) → Writes path name value said way → CountsMisses way
 writes_counts path name value reply.Done way h = set_counts h.file value h.group way h.sets
-writes_counts path name value (reply.Refused fault) way h = counts_rest way.table way.before way.after way.steps h.1.machine h.1.steps_are
+writes_counts path name value (reply.Refused fault) way h = elim h [
+  | inl r ↦ counts_rest way.table way.before way.after way.steps r.1.machine r.1.steps_are
+  | inr short ↦
+      let frees = short.falls.frees in
+      counts_as way.table way.before way.after way.steps frees.reclaims.steps frees.steps_are frees.reclaims.moves.misses
+]
 writes_counts path name value other way h = absurd h
 
 heads_none : (f : ℕ) (way : Course KnownMachine) → HeadsNoUnit f way → CountsMisses way

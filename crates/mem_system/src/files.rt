@@ -1,23 +1,25 @@
 //! The files of the groups: read and written.
 
-ghost use Rattle.std.specs.Prelude.{◌≢◌, IsTrue, IfOk, IfErr};
+ghost use Rattle.std.specs.Prelude.{◌≢◌, ℕ, IsTrue, IfOk, IfErr, List};
 ghost use Rattle.group_tree.specs.Groups.{has_group};
 ghost use Rattle.mem_system.specs.Outcomes.{ComesToForAny, HasItsGroups, reply_of};
 ghost use Rattle.mem_alloc.specs.Stepping.{ByStepsOfAny};
 ghost use Rattle.mem_system.specs.Files.{IsFileOf, HasNoFile, Reads, Writes, WritesTo};
 ghost use Rattle.mem_system.specs.Files.{KeepsAnyVisit, SetsLimit};
 ghost use Rattle.control_files.specs.declared.file.File.{File};
+ghost use Rattle.control_files.specs.Limit.{ReadsAmount};
 
 use crate::outcome::Outcome;
 use crate::usage::lower_above;
 use control_files::file::{File, file_named};
 use control_files::flag::read_flag;
-use control_files::limit::{Limit, read_limit};
+use control_files::limit::{Limit, read_amount, read_limit};
 use cpu_part::{BootName, Tables};
 use group_charge::charges::Charges;
 use group_tree::fault::Fault;
 use group_tree::group::GroupId;
 use mem_machine::Machine;
+use mem_reclaim::reclaim_pages;
 
 // The group of the path and its file of this name.
 fn find_file(charges: &Charges, path: &[u8], name: &[u8]) -> Result<(GroupId, File), Fault>
@@ -101,6 +103,44 @@ fn write_flag<N: BootName>(machine: &mut Machine<N>, group: GroupId, value: &[u8
     }
 }
 
+// Reclaims so many pages from the group's subtree. It is refused if fewer were freed: these stay freed.
+fn reclaim_amount<N: BootName>(
+    machine: &mut Machine<N>,
+    tables: &Tables<N>,
+    group: GroupId,
+    asked: u64,
+) -> Outcome
+    requires { IsTrue (has_group machine.old.ledger.groups group) }
+    ensures written { (value : List ℕ) → ReadsAmount value asked
+        → ComesToForAny N.frames result (WritesTo File.Reclaim value group) machine.old machine.new }
+    ensures groups { HasItsGroups machine.new.ledger result }
+    ensures stays { KeepsAnyVisit N.frames machine.old machine.new }
+{
+    if reclaim_pages(machine, tables, group, asked) < asked {
+        Outcome::Refused(Fault::Again)
+    } else {
+        Outcome::Done
+    }
+}
+
+// Reclaims the amount that the value writes. The value is refused if it writes none.
+fn write_reclaim<N: BootName>(
+    machine: &mut Machine<N>,
+    tables: &Tables<N>,
+    group: GroupId,
+    value: &[u8],
+) -> Outcome
+    requires { IsTrue (has_group machine.old.ledger.groups group) }
+    ensures written { ComesToForAny N.frames result (WritesTo File.Reclaim value.now group) machine.old machine.new }
+    ensures groups { HasItsGroups machine.new.ledger result }
+    ensures stays { KeepsAnyVisit N.frames machine.old machine.new }
+{
+    match read_amount(value) {
+        Ok(asked) => reclaim_amount(machine, tables, group, asked),
+        Err(fault) => Outcome::Refused(fault),
+    }
+}
+
 // Writes the value to the file.
 pub(crate) fn write_file<N: BootName>(
     machine: &mut Machine<N>,
@@ -120,6 +160,7 @@ pub(crate) fn write_file<N: BootName>(
     match file {
         File::Max => write_limit(machine, tables, group, value),
         File::OomGroup => write_flag(machine, group, value),
+        File::Reclaim => write_reclaim(machine, tables, group, value),
         _ => Outcome::Refused(Fault::ReadOnly),
     }
 }
