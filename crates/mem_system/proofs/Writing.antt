@@ -1,9 +1,10 @@
 -- Serves the writes of files: a value that isn't taken, and an amount that is reclaimed.
-use Rattle.std.proofs.Common.{◌≡◌, ◌⊎◌, ℕ, ◌+◌, ◌<◌, ◌≤◌, List, [], refl, sym, subst, inl, inr}
+use Rattle.std.proofs.Common.{◌≡◌, ◌≢◌, ◌⊎◌, ℕ, false, ◌+◌, ◌<◌, ◌≤◌, List, [], refl, sym, subst, inl, inr}
 use Rattle.group_tree.specs.declared.fault.Fault.{Fault}
 use Rattle.group_tree.specs.declared.fault.Fault.TheVariants.{Again, BadLimit, BadNumber}
 use Rattle.control_files.specs.declared.file.File.{File}
-use Rattle.control_files.specs.declared.file.File.TheVariants.{Max, OomGroup, Reclaim}
+use Rattle.control_files.specs.declared.file.File.TheVariants.{Current, Max, Peak, Events, EventsLocal, OomGroup, Reclaim}
+use Rattle.control_files.specs.Files.{is_writable}
 use Rattle.control_files.specs.Flag.{IsNoFlagText}
 use Rattle.control_files.specs.Limit.{ReadsAmount, IsNoAmountText, IsNoLimitText, IsTooGreat}
 use Rattle.frame_word.specs.Seats.{KnownTable}
@@ -40,6 +41,26 @@ refused_by t file value g fault m why = record {
   does = inl (why, record { machine = refl; steps_are = refl });
   makes = λ c. makes_none t c.number (side m c);
 }
+
+-- so it is by the path and the name of the file
+pub refused_at : (t : KnownTable) (path name value : List ℕ) (g : ℕ) (file : File) (fault : Fault) (m : KnownMachine)
+    → IsFileOf m.ledger.groups path name g file → RefusesValue file value fault
+    → ByStepsOfAny t (Writes path name value (Refused fault)) m m
+refused_at t path name value g file fault m is why = record {
+  steps = [];
+  does = inl (inr (record { group = g; file = file; is_file = is; refuses = why }), record { machine = refl; steps_are = refl });
+  makes = λ c. makes_none t c.number (side m c);
+}
+
+-- what isn't one of these three files isn't written
+pub read_only : (file : File) → file ≢ Max → file ≢ OomGroup → file ≢ Reclaim → is_writable file ≡ false
+read_only Current a b c = refl
+read_only Max a b c = absurd (a refl)
+read_only Peak a b c = refl
+read_only Events a b c = refl
+read_only EventsLocal a b c = refl
+read_only OomGroup a b c = absurd (b refl)
+read_only Reclaim a b c = absurd (c refl)
 
 module _ (t : KnownTable) (value : List ℕ) (g asked freed : ℕ) (m n : KnownMachine) (reads : ReadsAmount value asked)
     (leads : Leads t freed m n (ReclaimsAmount g asked)) (missed : freed < asked → MissedAll g m n)
