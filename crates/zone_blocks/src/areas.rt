@@ -127,13 +127,13 @@ impl FreeAreas {
         ensures frames { self.new.frames ≡ self.old.frames }
     {
         let size = order.frames();
-        let count = self.frames() / size;
+        let fitting = self.frames() / size;
         let first = if order.exponent() < Order::GREATEST {
-            count - count % 2
+            fitting - fitting % 2
         } else {
             0
         };
-        for index in first..count {
+        for index in first..fitting {
             self.insert(Block {
                 at: index * size,
                 order,
