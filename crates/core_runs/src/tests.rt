@@ -303,14 +303,14 @@ fn a_refused_grant_is_noted(rt: HostRuntime) -> Result<(), Fail> {
     works_on_core(&rt, rt.alloc(), &with_group(), &rows, &facts)
 }
 
-// A seat says that a group is to be killed as a whole, and is answered so.
+// A seat sets the flag of a group, and is answered so.
 fn flagging(seat: u32, group: GroupId, answer: Answer) -> CoreRow {
     let oom_group = true;
     (seat, Action::SetFlag { group, oom_group }, answer)
 }
 
-// /a is to be killed as a whole, is killed, and that is noted. Neither can be said of the root or of a group that isn't
-// there, nor by a processor.
+// The flag of /a is set, /a is killed, and that is noted. Both steps are illegal for the root and for a group that isn't
+// there, and a processor can't set the flag.
 fn with_group_kill() -> [CoreRow; 10] {
     let (root, group, gone) = (GroupId::root(), group_of(1), group_of(2));
     let [lock, make] = with_group();

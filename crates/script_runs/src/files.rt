@@ -166,6 +166,7 @@ fn files_tell_what_is_charged(rt: HostRuntime) -> Result<(), Fail> {
     let mut charges = Charges::new(rt.alloc())?;
     let group = charges.make(b"/a")?;
     charges.set_max(group, Some(2));
+    assert!(rt; group != GroupId::root());
     charges.set_oom_group(group, true);
     assert!(rt; charges.fits(1));
     charges.try_charge(group, 1)?;
@@ -198,6 +199,7 @@ fn files_tell_each_event_on_its_line(rt: HostRuntime) -> Result<(), Fail> {
     charges.note_oom(above);
     charges.note_kill(above);
     charges.note_kill(below);
+    assert!(rt; above != GroupId::root());
     charges.note_group_kill(above);
     charges.note_group_kill(above);
     let in_subtree = [
