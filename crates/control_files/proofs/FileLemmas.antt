@@ -5,11 +5,11 @@ use Rattle.std.specs.List.{find}
 use Rattle.std.specs.Str.{bytes_eq}
 use Rattle.std.proofs.lemmas.Slice.Eq.{bytes_eq-Decides}
 use Rattle.control_files.specs.declared.file.File.{File}
-use Rattle.control_files.specs.declared.file.File.TheVariants.{Current, Max, Peak, Events, EventsLocal, OomGroup}
+use Rattle.control_files.specs.declared.file.File.TheVariants.{Current, Max, Peak, Events, EventsLocal, OomGroup, Reclaim}
 use Rattle.control_files.specs.Files.{name_of}
 
 abbrev all_files : List File
-all_files = Current ∷ Max ∷ Peak ∷ Events ∷ EventsLocal ∷ OomGroup ∷ []
+all_files = Current ∷ Max ∷ Peak ∷ Events ∷ EventsLocal ∷ OomGroup ∷ Reclaim ∷ []
 
 passes_by : (p : File → Bool) (x : File) (xs : List File) (y : File) (b : Bool) → b ≡ p x → (find p xs ≡ Some y → p y ≡ true) →
     cond b (Some x) (find p xs) ≡ Some y → p y ≡ true
@@ -29,6 +29,7 @@ found_by_name Peak = refl
 found_by_name Events = refl
 found_by_name EventsLocal = refl
 found_by_name OomGroup = refl
+found_by_name Reclaim = refl
 
 pub found-name_of : (name : List ℕ) (file : File) → (find (λ f. bytes_eq (name_of f) name) all_files ≡ Some file) ↔ (name ≡ name_of file)
 found-name_of name file = (

@@ -4,6 +4,7 @@ pub mod NumberLemmas
 pub mod WordLemmas
 pub mod AmountLemmas
 pub mod ReadingLemmas
+pub mod PagesLemmas
 pub mod TextLemmas
 pub mod FileLemmas
 pub mod WritingLemmas

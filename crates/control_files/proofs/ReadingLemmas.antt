@@ -1,4 +1,4 @@
--- What is read from a text, and that it is nothing else. Serves `read_limit`.
+-- What is read from a text, and that it is nothing else. Serves `read_limit` and `read_amount`.
 use Rattle.std.proofs.Common.{◌≡◌, ◌≢◌, ℕ, ◌^◌, ◌<◌, List, refl, sym, ◌∙◌, ap, subst, arith, inl, inr}
 use Rattle.std.specs.Prelude.{Option, Some, None, Result, Ok, Err, codes, ◌↔◌, ◌⊎◌, IfErr, ok_or, option_copied}
 use Rattle.std.specs.Borrow.{Bor}
@@ -8,7 +8,7 @@ use Rattle.control_files.proofs.GrammarLemmas.{has_only_word, same_only_word, sa
 use Rattle.control_files.specs.Limit.{IsAmount, IsLimitWord, IsLimitText, pages_of, ReadsAs, IsTooGreat, IsNoLimitText}
 use Rattle.control_files.specs.Reading.{HasOnlyWord, IsOnlyWord, IsAmountReading, IsReading}
 
-limit_text : (text word : List ℕ) (value : Option ℕ) → HasOnlyWord text word → IsLimitWord word value → IsLimitText text value
+pub limit_text : (text word : List ℕ) (value : Option ℕ) → HasOnlyWord text word → IsLimitWord word value → IsLimitText text value
 limit_text text word value h word_is = record {
   before = h.before;
   word = word;
@@ -20,7 +20,7 @@ limit_text text word value h word_is = record {
   word_is = word_is;
 }
 
-limit_word : (text word : List ℕ) (value : Option ℕ) → HasOnlyWord text word → IsLimitText text value → IsLimitWord word value
+pub limit_word : (text word : List ℕ) (value : Option ℕ) → HasOnlyWord text word → IsLimitText text value → IsLimitWord word value
 limit_word text word value h t =
     let P : List ℕ → Type 0 = λ w. IsLimitWord w value in
     subst P (same_only_word text t.word word (has_only_word text value t) h) t.word_is

@@ -1,14 +1,16 @@
 -- The files of a group: their names and their texts (cgroup-v2.rst, "Memory Interface Files").
-use Rattle.std.specs.Prelude.{ℕ, ◌*◌, Bool, true, false, Option, Some, None, List, ◌++◌, codes}
+use Rattle.std.specs.Prelude.{ℕ, ◌*◌, Bool, true, false, Option, Some, None, Result, Ok, Err, List, ◌++◌, codes}
 use Rattle.std.specs.Fmt.{decimal}
 use Rattle.std.specs.List.{flat_map}
 use Rattle.group_tree.specs.Events.{EventCounts, all_keys, count_of, key_name}
 use Rattle.group_tree.specs.Groups.{is_oom_group, limit_of}
+use Rattle.group_tree.specs.declared.fault.Fault.{Fault}
+use Rattle.group_tree.specs.declared.fault.Fault.TheVariants.{WriteOnly}
 use Rattle.group_charge.specs.Charges.{Ledger, current_of, peak_of, events_of, events_local_of}
 use Rattle.control_files.specs.Flag.{flag_word}
 use Rattle.control_files.specs.declared.text.TheConstants.{PAGE_BYTES}
 use Rattle.control_files.specs.declared.file.File.{File}
-use Rattle.control_files.specs.declared.file.File.TheVariants.{Current, Max, Peak, Events, EventsLocal, OomGroup}
+use Rattle.control_files.specs.declared.file.File.TheVariants.{Current, Max, Peak, Events, EventsLocal, OomGroup, Reclaim}
 
 -- the bytes of a file's name, and whether it can be read and written
 pub record Row : Type 0 where
@@ -24,6 +26,7 @@ row_of Peak = record { name = codes "memory.peak"; is_readable = true; is_writab
 row_of Events = record { name = codes "memory.events"; is_readable = true; is_writable = false }
 row_of EventsLocal = record { name = codes "memory.events.local"; is_readable = true; is_writable = false }
 row_of OomGroup = record { name = codes "memory.oom.group"; is_readable = true; is_writable = true }
+row_of Reclaim = record { name = codes "memory.reclaim"; is_readable = false; is_writable = true }
 
 -- the bytes of a file's name
 abbrev pub name_of : File → List ℕ
@@ -58,11 +61,12 @@ count_line key count = key ++ (codes " " ++ (decimal count ++ codes "\n"))
 unfoldable pub events_text : EventCounts → List ℕ
 events_text counts = codes "low 0\nhigh 0\n" ++ flat_map (λ key. count_line (key_name key) (count_of counts key)) all_keys
 
--- the text of a file of a group
-abbrev pub file_text : Ledger → ℕ → File → List ℕ
-file_text ledger g Current = pages_text (current_of ledger g)
-file_text ledger g Max = limit_text (limit_of ledger.groups g)
-file_text ledger g Peak = pages_text (peak_of ledger g)
-file_text ledger g Events = events_text (events_of ledger g)
-file_text ledger g EventsLocal = events_text (events_local_of ledger g)
-file_text ledger g OomGroup = flag_text (is_oom_group ledger.groups g)
+-- the text of a file of a group; or why it can't be read
+abbrev pub file_text : Ledger → ℕ → File → Result (List ℕ) Fault
+file_text ledger g Current = Ok (pages_text (current_of ledger g))
+file_text ledger g Max = Ok (limit_text (limit_of ledger.groups g))
+file_text ledger g Peak = Ok (pages_text (peak_of ledger g))
+file_text ledger g Events = Ok (events_text (events_of ledger g))
+file_text ledger g EventsLocal = Ok (events_text (events_local_of ledger g))
+file_text ledger g OomGroup = Ok (flag_text (is_oom_group ledger.groups g))
+file_text ledger g Reclaim = Err WriteOnly

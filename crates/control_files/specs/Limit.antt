@@ -83,6 +83,17 @@ pub record ReadsAs (text : List ℕ) (limit : Option ℕ) : Type 0 where
 abbrev pub IsTooGreat : List ℕ → Type 0
 IsTooGreat text = (amount : ℕ) × (2 ^ 64 ≤ amount) × IsLimitText text (Some amount)
 
+-- the text is in the grammar and writes an amount, which is not too great: in whole pages of PAGE_BYTES, rounded up
+pub record ReadsAmount (text : List ℕ) (pages : ℕ) : Type 0 where
+  pub amount : ℕ
+  pub grammar : IsLimitText text (Some amount)
+  pub in_range : amount < 2 ^ 64
+  pub pages_are : pages ≡ div_ceil amount PAGE_BYTES
+
+-- the text writes no amount: it is not in the grammar, or it is `max`
+abbrev pub IsNoAmountText : List ℕ → Type 0
+IsNoAmountText text = (amount : ℕ) → ¬ IsLimitText text (Some amount)
+
 -- the text is not in the grammar
 abbrev pub IsNoLimitText : List ℕ → Type 0
 IsNoLimitText text = (value : Option ℕ) → ¬ IsLimitText text value

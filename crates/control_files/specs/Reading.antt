@@ -5,7 +5,7 @@ use Rattle.std.specs.List.{list_all}
 use Rattle.std.specs.Str.Parse.{AllDigits}
 use Rattle.group_tree.specs.declared.fault.Fault.{Fault}
 use Rattle.group_tree.specs.declared.fault.Fault.TheVariants.{BadLimit, BadNumber}
-use Rattle.control_files.specs.Limit.{is_space, AreSpaces, IsAmount, ReadsAs, IsTooGreat, IsNoLimitText}
+use Rattle.control_files.specs.Limit.{is_space, AreSpaces, IsAmount, ReadsAmount, ReadsAs, IsTooGreat, IsNoAmountText, IsNoLimitText}
 
 -- bytes of which none is white space
 abbrev pub HasNoSpace : List ℕ → Type 0
@@ -50,3 +50,10 @@ IsReading text (Ok limit) = ReadsAs text limit
 IsReading text (Err BadNumber) = IsTooGreat text
 IsReading text (Err BadLimit) = IsNoLimitText text
 IsReading text (Err _) = ⊥
+
+-- the pages that the text writes an amount of, or why there are none
+abbrev pub IsPagesReading : List ℕ → Result ℕ Fault → Type 0
+IsPagesReading text (Ok pages) = ReadsAmount text pages
+IsPagesReading text (Err BadNumber) = IsTooGreat text
+IsPagesReading text (Err BadLimit) = IsNoAmountText text
+IsPagesReading text (Err _) = ⊥

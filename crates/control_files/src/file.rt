@@ -30,16 +30,19 @@ pub enum File {
     EventsLocal,
     /// memory.oom.group: whether the group is killed as a whole.
     OomGroup,
+    /// memory.reclaim: an amount that is written to it is reclaimed from the group and those below it.
+    Reclaim,
 }
 
 // All files.
-const FILES: [File; 6] = [
+const FILES: [File; 7] = [
     File::Current,
     File::Max,
     File::Peak,
     File::Events,
     File::EventsLocal,
     File::OomGroup,
+    File::Reclaim,
 ];
 
 impl File {
@@ -56,6 +59,7 @@ impl File {
             File::Events => ("memory.events", true, false),
             File::EventsLocal => ("memory.events.local", true, false),
             File::OomGroup => ("memory.oom.group", true, true),
+            File::Reclaim => ("memory.reclaim", false, true),
         }
     }
 
@@ -81,23 +85,25 @@ impl File {
     }
 }
 
-/// The text of a file of a group that is there. `NoFile` for the root, which has no files.
+/// The text of a file of a group that is there. `NoFile` for the root, which has no files; `WriteOnly` for
+/// memory.reclaim, which can't be read.
 pub fn file_text(charges: &Charges, g: GroupId, file: File) -> Result<ArrayText, Fault>
     requires { IsTrue (has_group charges.now.groups g) }
     ensures root { g ≡ 0 → result ≡ Err Fault.NoFile }
-    ensures text { g ≢ 0 → result ≡ Ok (file_text charges.now g file) }
+    ensures text { g ≢ 0 → result ≡ file_text charges.now g file }
 {
     if g == GroupId::root() {
         return Err(Fault::NoFile);
     }
-    Ok(match file {
-        File::Current => pages_text(charges.current(g)),
-        File::Max => write_limit(charges.max(g)),
-        File::Peak => pages_text(charges.peak(g)),
-        File::Events => events_text(charges.events(g)),
-        File::EventsLocal => events_text(charges.events_local(g)),
-        File::OomGroup => write_flag(charges.oom_group(g)),
-    })
+    match file {
+        File::Current => Ok(pages_text(charges.current(g))),
+        File::Max => Ok(write_limit(charges.max(g))),
+        File::Peak => Ok(pages_text(charges.peak(g))),
+        File::Events => Ok(events_text(charges.events(g))),
+        File::EventsLocal => Ok(events_text(charges.events_local(g))),
+        File::OomGroup => Ok(write_flag(charges.oom_group(g))),
+        File::Reclaim => Err(Fault::WriteOnly),
+    }
 }
 
 // The text of counts. Nothing is protected here and nothing is throttled, so `low` and `high` stay 0.

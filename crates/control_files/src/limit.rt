@@ -5,7 +5,7 @@ ghost use Rattle.std.specs.Char.{is_ascii_digit, to_ascii_uppercase};
 ghost use Rattle.std.specs.List.{position};
 ghost use Rattle.std.specs.Str.Parse.{AllDigits, digits_value};
 ghost use Rattle.control_files.specs.Files.{limit_text};
-ghost use Rattle.control_files.specs.Limit.{factor_of, IsSuffix, pages_of, IsLimitText, ReadsAs, IsTooGreat, IsNoLimitText};
+ghost use Rattle.control_files.specs.Limit.{factor_of, IsSuffix, pages_of, IsLimitText, ReadsAmount, ReadsAs, IsTooGreat, IsNoAmountText, IsNoLimitText};
 ghost use Rattle.control_files.specs.Reading.{IsAmountReading, SplitsDigits};
 
 use crate::text::{ArrayText, PAGE_BYTES, pages_text, text_of};
@@ -30,7 +30,20 @@ pub fn read_limit(text: &[u8]) -> Result<Limit, Fault>
     if word == b"max".as_slice() {
         return Ok(None);
     }
-    Ok(limit_of(read_amount(word)?))
+    Ok(limit_of(bytes_of(word)?))
+}
+
+/// Reads the text of an amount, as memory.reclaim takes it: what `read_limit` reads, except `max`. The amount is in pages,
+/// rounded up, at most 2^52 of them, and is never taken for no limit. `BadLimit`: the text is no amount. `BadNumber`: it is
+/// one, above 2^64 - 1 bytes. (cgroup-v2.rst, memory.reclaim.)
+pub fn read_amount(text: &[u8]) -> Result<u64, Fault>
+    ensures ok { (pages : ℕ) → (result ≡ Ok pages) ↔ ReadsAmount text.now pages }
+    ensures bad_number { (result ≡ Err Fault.BadNumber) ↔ IsTooGreat text.now }
+    ensures bad_limit { (result ≡ Err Fault.BadLimit) ↔ IsNoAmountText text.now }
+    ensures err { IfErr result (λ fault. (fault ≡ Fault.BadNumber) ⊎ (fault ≡ Fault.BadLimit)) }
+{
+    let word = only_word(text).ok_or(Fault::BadLimit)?;
+    Ok(bytes_of(word)?.div_ceil(PAGE_BYTES))
 }
 
 /// The text of memory.max: the limit in bytes in decimal, or `max`, on a line of its own. It reads back as
@@ -74,7 +87,7 @@ fn factor_of(letter: u8) -> Option<u64>
 }
 
 // Reads an amount of bytes.
-fn read_amount(word: &[u8]) -> Result<u64, Fault>
+fn bytes_of(word: &[u8]) -> Result<u64, Fault>
     ensures { IsAmountReading word.now result }
 {
     let (digits, suffix) = split_digits(word);

@@ -89,7 +89,7 @@ pub(crate) fn set_max(rows: &mut Rows, seat: u32, group: GroupId, limit: Option<
     Answer::Done
 }
 
-/// A group is told whether it is to be killed as a whole.
+/// The flag of a group is set: whether it is killed as a whole.
 pub(crate) fn set_flag(rows: &mut Rows, seat: u32, group: GroupId, oom_group: bool) -> Answer
     requires fits { FitsZone rows.old }
     requires few { IsFew (state_in rows.old) }

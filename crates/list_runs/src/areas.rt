@@ -13,7 +13,7 @@ use zone_blocks::order::Order;
 #[test]
 fn areas_of_eleven_frames(rt: HostRuntime) {
     let mut areas = empty_areas(&rt, 11);
-    areas.set_from(&[true; 11]);
+    areas.set_all_free();
     let order = order_of(&rt, 1);
     zone_tells(&rt, areas.first(order) == Some(Block { at: 8, order }));
     if areas.contains(Block { at: 8, order }) {

@@ -25,6 +25,15 @@ pub fn walks_blocks(rt: &impl Abort, walk: Walk<'_>, pairs: &[(u32, u32)]) {
     zone_tells(rt, rest.next().is_none());
 }
 
+/// Two walks have to be over the same blocks.
+pub fn same_walks(rt: &impl Abort, walk: Walk<'_>, other: Walk<'_>) {
+    let mut rest = other;
+    for block in walk {
+        zone_tells(rt, rest.next() == Some(block));
+    }
+    zone_tells(rt, rest.next().is_none());
+}
+
 /// The blocks of a zone of 65,536 frames that are all free.
 pub fn greatest_blocks() -> [(u32, u32); 64] {
     let mut pairs = [(10, 0); 64];

@@ -317,15 +317,15 @@ fn make_call<N: BootName>(
         2 => drain_list(tables, machine, cpu, word),
         3 => make(machine, cpu, word),
         4 => remove(tables, machine, cpu, word),
+        5 if word & 32 == 0 => set_oom_group(machine, cpu, word),
         5 => set_max(machine, cpu, word),
+        6 if word & 32 == 0 => note_group_kill(machine, cpu, word),
         6 => note_max(machine, cpu, word),
         7 | 8 => prepay(tables, machine, cpu, word),
         9 => drain_stock(tables, machine, cpu, word),
         10 => drain_stocks(tables, machine, cpu, word),
         11 => settle(tables, machine, cpu),
         12 => take_block(tables, machine, cpu, word),
-        13 if word & 32 == 0 => set_oom_group(machine, cpu, word),
-        13 => note_group_kill(machine, cpu, word),
         _ => release(tables, machine, cpu, word),
     }
 }

@@ -1,6 +1,6 @@
 //! Reclaim where no frame is free: from the units of all groups.
 
-ghost use Rattle.std.specs.Prelude.{◌<◌, ◌^◌};
+ghost use Rattle.std.specs.Prelude.{◌<◌};
 ghost use Rattle.mem_reclaim.specs.Moves.{Leads};
 ghost use Rattle.mem_reclaim.specs.Passes.{Reclaims};
 ghost use Rattle.mem_reclaim.specs.Staying.{Keeps, MissedAll};
@@ -17,7 +17,6 @@ pub(crate) fn reclaim_anywhere<N: BootName>(
     tables: &Tables<N>,
     want: u64,
 ) -> u64
-    requires { want < 2 ^ 40 }
     ensures reclaims { Leads N.frames result machine.old machine.new (Reclaims 0 want) }
     ensures missed { result < want → MissedAll 0 machine.old machine.new }
     ensures keeps { Keeps N.frames machine.old machine.new }

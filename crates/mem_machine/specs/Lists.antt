@@ -1,5 +1,5 @@
 -- Units that come onto the lists of their groups, and that leave them.
-use Rattle.std.specs.Prelude.{◌≡◌, ◌≢◌, ℕ, Some, None, List, [], ◌∷◌, ◌++◌, false}
+use Rattle.std.specs.Prelude.{◌≡◌, ◌≢◌, ℕ, Some, None, [], ◌∷◌, ◌++◌, false}
 use Rattle.lru_lists.specs.declared.record.LruList.{LruList}
 use Rattle.lru_lists.specs.declared.record.LruList.TheVariants.{Inactive}
 use Rattle.lru_lists.specs.Queue.{link_at, nowhere, SameUse}

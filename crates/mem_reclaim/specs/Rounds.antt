@@ -46,3 +46,9 @@ MakesRounds group missing (suc rounds) done =
     ⊎ ((1 ≤ missing done.before.ledger)
     × BothGive (MakesOneRound group (max_rounds - rounds) (missing done.before.ledger))
     (UnlessNone (MakesRounds group missing rounds)) done)
+
+-- So many pages of the group's subtree are reclaimed, in at most 16 rounds. Each wants what is still missing of them: the
+-- pages that must come back, so that the usage with the pages asked for is at most what it was
+abbrev pub ReclaimsAmount : (group asked : ℕ) → Reclaiming
+ReclaimsAmount group asked done =
+    MakesRounds group (pages_missing group asked (current_of done.before.ledger group)) max_rounds done

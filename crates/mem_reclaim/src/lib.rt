@@ -6,16 +6,21 @@
 //! holds of a type's values is known only where one of its calls says it.
 #![tactic(auto)]
 
+mod amounts;
 mod kills;
+pub mod laws;
 mod meet;
 mod noting;
 mod passes;
 mod reclaiming;
 mod rounds;
 mod scan;
+mod sets;
 mod victims;
 
+pub use amounts::reclaim_pages;
 pub use kills::kill;
 pub use reclaiming::{Reclaimed, reclaim};
 pub use rounds::{MAX_ROUNDS, make_rounds};
+pub use sets::Killed;
 pub use victims::victim;

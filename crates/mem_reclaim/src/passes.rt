@@ -21,7 +21,7 @@ fn age_and_scan<N: BootName>(
     group: GroupId,
     want: u64,
 ) -> u64
-    requires { want < 2 ^ 40 }
+    requires { IsTrue (has_group machine.old.ledger.groups group) }
     ensures passes { Leads N.frames result machine.old machine.new (PassesGroup true group want) }
     ensures keeps { Keeps N.frames machine.old machine.new }
     ensures usage { UsageFalls group result machine.old machine.new }
@@ -38,8 +38,8 @@ fn scan_both<N: BootName>(
     group: GroupId,
     want: u64,
 ) -> u64
+    requires there { IsTrue (has_group machine.old.ledger.groups group) }
     requires wanted { 0 < want }
-    requires fits { want < 2 ^ 40 }
     ensures passes { Leads N.frames result machine.old machine.new (PassesGroup false group want) }
     ensures keeps { Keeps N.frames machine.old machine.new }
     ensures usage { UsageFalls group result machine.old machine.new }
@@ -47,6 +47,7 @@ fn scan_both<N: BootName>(
     ensures leaves { OnlyLeave machine.old machine.new }
     ensures missed { result < want → MissedOfGroup group machine.old machine.new }
 {
+    let _usage = machine.current(group); // What comes back is at most that.
     let inactive = scan(machine, tables, group, LruList::Inactive, want, false);
     if want <= inactive {
         return inactive;
@@ -82,7 +83,6 @@ fn take_turn<N: BootName>(
 ) -> u64
     requires there { IsTrue (has_group machine.old.ledger.groups group) }
     requires wanted { 0 < want }
-    requires fits { want < 2 ^ 40 }
     ensures turns { Leads N.frames result machine.old machine.new (TakesTurn is_first group turn want) }
     ensures keeps { Keeps N.frames machine.old machine.new }
     ensures usage { current_of machine.new.ledger group + result ≡ current_of machine.old.ledger group }
@@ -111,7 +111,6 @@ pub(crate) fn make_pass<N: BootName>(
     is_first: bool,
 ) -> u64
     requires there { IsTrue (has_group machine.old.ledger.groups group) }
-    requires fits { want < 2 ^ 40 }
     ensures passes { Leads N.frames result machine.old machine.new (MakesPass group is_first want) }
     ensures keeps { Keeps N.frames machine.old machine.new }
     ensures usage { current_of machine.new.ledger group + result ≡ current_of machine.old.ledger group }
@@ -119,6 +118,7 @@ pub(crate) fn make_pass<N: BootName>(
     ensures leaves { is_first ≡ false → OnlyLeave machine.old machine.new }
     ensures missed { is_first ≡ false → result < want → MissedAll group machine.old machine.new }
 {
+    let _usage = machine.current(group); // What comes back is at most that.
     let mut given = 0;
     for number in 0..MAX_GROUPS as u32 {
         if want <= given {

@@ -34,7 +34,6 @@ pub fn reclaim<N: BootName>(
     want: u64,
 ) -> Reclaimed
     requires there { IsTrue (has_group machine.old.ledger.groups group) }
-    requires fits { want < 2 ^ 40 }
     ensures reclaims { Leads N.frames result.pages machine.old machine.new (Reclaims group want) }
     ensures tried_all { result.tried_all ≡ nat_lt result.pages want }
     ensures missed { IsTrue result.tried_all → MissedAll group machine.old machine.new }
@@ -47,6 +46,7 @@ pub fn reclaim<N: BootName>(
             tried_all: false,
         };
     }
+    let _usage = machine.current(group); // What comes back is at most that.
     let first = make_pass(machine, tables, group, want, true);
     if want <= first {
         return Reclaimed {

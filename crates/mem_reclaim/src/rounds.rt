@@ -28,9 +28,8 @@ fn missing(charges: &Charges, group: GroupId, need: u32, limit: u32) -> u64
     (u64::from(charges.current(group)) + u64::from(need)).saturating_sub(u64::from(limit))
 }
 
-// Makes the round of this number, from 1, for a limit of the group: so many pages are wanted. It is noted, with what
-// it tried.
-fn make_round<N: BootName>(
+/// Makes the round of this number, from 1, for a group: so many pages are wanted. It is noted, with what it tried.
+pub(crate) fn make_round<N: BootName>(
     machine: &mut Machine<N>,
     tables: &Tables<N>,
     group: GroupId,
@@ -38,7 +37,6 @@ fn make_round<N: BootName>(
     want: u64,
 ) -> Reclaimed
     requires there { IsTrue (has_group machine.old.ledger.groups group) }
-    requires fits { want < 2 ^ 40 }
     ensures makes { Leads N.frames result.pages machine.old machine.new (MakesOneRound group number want) }
     ensures tried_all { result.tried_all ≡ nat_lt result.pages want }
     ensures missed { IsTrue result.tried_all → MissedAll group machine.old machine.new }

@@ -1,6 +1,7 @@
 //! The units of one list, met one after the other.
 
 ghost use Rattle.std.specs.Prelude.{◌≡◌, ◌<◌, ◌+◌, ◌^◌, false, IsTrue};
+ghost use Rattle.group_tree.specs.Groups.{has_group};
 ghost use Rattle.lru_lists.specs.declared.record.LruList.TheVariants.{Inactive};
 ghost use Rattle.mem_reclaim.specs.Moves.{Leads};
 ghost use Rattle.mem_reclaim.specs.Units.{ScansList};
@@ -22,7 +23,7 @@ pub(crate) fn scan<N: BootName>(
     want: u64,
     marks_count: bool,
 ) -> u64
-    requires fits { want < 2 ^ 40 }
+    requires there { IsTrue (has_group machine.old.ledger.groups group) }
     requires inactive { IsTrue marks_count → list ≡ Inactive }
     ensures scans { Leads N.frames result machine.old machine.new (ScansList marks_count group list want) }
     ensures keeps { Keeps N.frames machine.old machine.new }
@@ -32,6 +33,7 @@ pub(crate) fn scan<N: BootName>(
     ensures missed { marks_count ≡ false → result < want → MissedOnList group list machine.old machine.new }
 {
     let _records = machine.spots(); // For the clauses.
+    let _usage = machine.current(group); // What comes back is at most that, so no sum overflows.
     let units = machine.listed(group, list);
     let mut next = machine.oldest(group, list);
     let mut given = 0;

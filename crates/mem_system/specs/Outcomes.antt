@@ -1,6 +1,7 @@
 -- What a command came to, and the reply that is told of it.
-use Rattle.std.specs.Prelude.{◌≢◌, ℕ, IsTrue, Option, Some, None, List, []}
+use Rattle.std.specs.Prelude.{◌≢◌, ℕ, IsTrue, Option, Some, None, Result, Ok, Err, List, []}
 use Rattle.group_tree.specs.Groups.{has_group, path_of}
+use Rattle.group_tree.specs.declared.fault.Fault.{Fault}
 use Rattle.group_charge.specs.Charges.{Ledger}
 use Rattle.control_files.specs.Files.{file_text}
 use Rattle.frame_word.specs.Seats.{KnownTable}
@@ -18,12 +19,17 @@ abbrev pub path_or_empty : Option (List ℕ) → List ℕ
 path_or_empty (Some path) = path
 path_or_empty None = []
 
+-- the reply of a file that is read: its text, or why it can't be read
+abbrev pub text_reply : Result (List ℕ) Fault → Reply
+text_reply (Ok text) = Text text
+text_reply (Err fault) = Refused fault
+
 -- the reply of an outcome: its groups with their paths, its file with its text
 abbrev pub reply_of : Ledger → Outcome → Reply
 reply_of ledger (outcome.Group group) = Group group
 reply_of ledger (outcome.Frame frame) = Frame frame
 reply_of ledger outcome.Done = Done
-reply_of ledger (outcome.Text group file) = Text (file_text ledger group file)
+reply_of ledger (outcome.Text group file) = text_reply (file_text ledger group file)
 reply_of ledger outcome.Free = Free
 reply_of ledger (outcome.Lent processor) = Lent processor
 reply_of ledger (outcome.Charged group) = Charged group (path_or_empty (path_of ledger.groups group))

@@ -206,7 +206,63 @@ replay --audit
 2 put 0 | left 1
 1 alloc /a 1 | frame 0
 1 blocks | 1:2 2:4 3:8
-end | audit frames 16 free 14 charged 2; audit puts 0 freezes 1 drops 0 returns 1";
+end | audit frames 16 free 14 charged 2; audit puts 0 freezes 1 drops 0 returns 1
+
+an amount is reclaimed as far as that can be
+replay --cpus 1 --batch 1 --high 1 --stock 1
+1 mkdir /a | group 1
+1 alloc /a 0 | frame 0
+1 alloc /a 0 | frame 1
+1 alloc /a 0 | frame 2
+1 settle | settled
+1 write /a memory.reclaim 8192 | ok
+1 read /a memory.current | 4096
+1 write /a memory.reclaim 1M | refused 17 Again
+1 read /a memory.current | 0
+1 write /a memory.reclaim 0 | ok
+1 write /a memory.reclaim max | refused 12 BadLimit
+1 write /a memory.reclaim 18446744073709551616 | refused 13 BadNumber
+1 read /a memory.reclaim | refused 22 WriteOnly
+1 read / memory.reclaim | refused 10 NoFile
+1 write / memory.reclaim 4096 | refused 10 NoFile
+1 write /b memory.reclaim max | refused 6 NoGroup
+1 read /b memory.reclaim | refused 6 NoGroup
+1 read /a memory.events | events 0 0 0 0
+
+an amount that is reclaimed leaves the stock
+replay
+1 mkdir /a | group 1
+1 alloc /a 0 | frame 0
+1 write /a memory.reclaim 4096 | ok
+1 read /a memory.current | 12288
+
+an amount is rounded up and dirty and pinned units stay
+replay --audit
+1 mkdir /a | group 1
+1 alloc /a 1 | frame 0
+1 alloc /a 0 | frame 2
+1 alloc /a 0 | frame 3
+1 settle | settled
+1 dirty 2 | ok
+2 get 3 | held
+1 write /a memory.reclaim 4097 | ok
+1 owner 0 | free
+1 write /a memory.reclaim 1 | refused 17 Again
+1 owner 2 | /a
+1 owner 3 | /a
+2 put 3 | left 1
+1 write /a memory.reclaim 15E | refused 17 Again
+1 owner 3 | free
+1 write /a memory.reclaim  0  | ok
+end | audit frames 16 free 15 charged 1; audit puts 0 freezes 2 drops 0 returns 2
+
+the greatest machine has 1,024 blocks of order ten
+replay --frames 1048576 --cpus 64
+64 mkdir /a | group 1
+64 alloc /a 0 | frame 0
+64 show | 0 /a; 1-3 cpu 64; 4-1048575 free; current /a 16384
+64 alloc /a 10 | frame 1024
+64 read /a memory.current | 4210688";
 
 /// Kills: before a limit, where reclaim makes no room, and why they came.
 pub const KILL_ROWS: &str = "\

@@ -1,10 +1,12 @@
 //! Limits and files of a group, as the control files have them.
 
 use control_files::file::{File, file_named, file_text};
+use control_files::flag::{read_flag, write_flag};
 use control_files::limit::{Limit, read_limit, write_limit};
 use group_charge::charges::Charges;
 use group_tree::fault::Fault;
 use group_tree::group::GroupId;
+use std::alloc::AllocError;
 use std::process::Abort;
 use std::test::Fail;
 
@@ -86,12 +88,46 @@ fn limits_are_written_in_bytes(rt: HostRuntime) {
     assert_eq!(rt; write_limit(None).as_bytes(), b"max\n".as_slice());
 }
 
+// Values of memory.oom.group, and those that are none: `2`, what other readers of numbers take, and more than one word.
+const FLAGS: [(&str, Result<bool, Fault>); 13] = [
+    ("0", Ok(false)),
+    ("1", Ok(true)),
+    (" 1\t\n", Ok(true)),
+    ("\n0", Ok(false)),
+    ("", Err(Fault::BadLimit)),
+    (" \n", Err(Fault::BadLimit)),
+    ("2", Err(Fault::BadLimit)),
+    ("00", Err(Fault::BadLimit)),
+    ("01", Err(Fault::BadLimit)),
+    ("+1", Err(Fault::BadLimit)),
+    ("0x1", Err(Fault::BadLimit)),
+    ("true", Err(Fault::BadLimit)),
+    ("1 1", Err(Fault::BadLimit)),
+];
+
+#[test]
+fn flags_are_read(rt: HostRuntime) {
+    for (text, flag) in FLAGS {
+        assert_eq!(rt; read_flag(text.as_bytes()), flag, "{text:?}");
+    }
+}
+
+#[test]
+fn flags_are_written_as_digits(rt: HostRuntime) {
+    assert_eq!(rt; write_flag(false).as_bytes(), b"0\n".as_slice());
+    assert_eq!(rt; write_flag(true).as_bytes(), b"1\n".as_slice());
+}
+
 #[test]
 fn files_are_found_by_name(rt: HostRuntime) {
     assert_eq!(rt; file_named(b"memory.events.local"), Some(File::EventsLocal));
+    assert_eq!(rt; file_named(b"memory.oom.group"), Some(File::OomGroup));
     assert_eq!(rt; File::EventsLocal.name(), "memory.events.local");
     assert_eq!(rt; file_named(b"memory.high"), None);
-    assert!(rt; File::Max.is_writable());
+    assert!(rt;
+        File::Max.is_writable() && File::OomGroup.is_writable() && !File::Peak.is_writable()
+    );
+    assert!(rt; File::OomGroup.is_readable());
 }
 
 // The group is there, and the file has this text.
@@ -103,16 +139,26 @@ fn file_tells(rt: &impl Abort, charges: &Charges, group: GroupId, file: File, wa
     }
 }
 
-// The files of a group with one page and a limit of two, over which one charge was refused.
-const FILE_TEXTS: [(File, &str); 5] = [
+// The keys of the lines of events, in their order.
+const KEYS: [&str; 6] = ["low", "high", "max", "oom", "oom_kill", "oom_group_kill"];
+
+// The lines of events with these counts, and 0 for each other key.
+fn events(rt: &impl AllocGlobal, counts: &[(&str, u64)]) -> Result<String, AllocError> {
+    let mut text = String::new(rt.alloc());
+    for key in KEYS {
+        let counted = counts.iter().find(|counted| counted.0 == key);
+        let count = counted.map_or(0, |counted| counted.1);
+        write!(text, "{key} {count}\n")?;
+    }
+    Ok(text)
+}
+
+// The files of a group with one page, a limit of two and the flag: those that tell of no events.
+const FILE_TEXTS: [(File, &str); 4] = [
     (File::Current, "4096\n"),
     (File::Max, "8192\n"),
     (File::Peak, "4096\n"),
-    (File::Events, "low 0\nhigh 0\nmax 1\noom 0\noom_kill 0\n"),
-    (
-        File::EventsLocal,
-        "low 0\nhigh 0\nmax 1\noom 0\noom_kill 0\n",
-    ),
+    (File::OomGroup, "1\n"),
 ];
 
 #[test]
@@ -120,13 +166,58 @@ fn files_tell_what_is_charged(rt: HostRuntime) -> Result<(), Fail> {
     let mut charges = Charges::new(rt.alloc())?;
     let group = charges.make(b"/a")?;
     charges.set_max(group, Some(2));
+    assert!(rt; group != GroupId::root());
+    charges.set_oom_group(group, true);
     assert!(rt; charges.fits(1));
     charges.try_charge(group, 1)?;
-    assert!(rt; charges.tree().contains(group));
-    charges.note_max(group);
     for (file, text) in FILE_TEXTS {
         file_tells(&rt, &charges, group, file, text);
     }
+    Ok(())
+}
+
+// The file of the group has these counts, and 0 for each other key.
+fn file_counts<R: AllocGlobal + Abort>(
+    rt: &R,
+    charges: &Charges,
+    group: GroupId,
+    file: File,
+    counts: &[(&str, u64)],
+) -> Result<(), Fail> {
+    let wanted = events(rt, counts)?;
+    file_tells(rt, charges, group, file, &wanted);
+    Ok(())
+}
+
+// A limit of `/a/b` was met, one of `/a` couldn't be kept, both groups died, and twice `/a` died as a whole.
+#[test]
+fn files_tell_each_event_on_its_line(rt: HostRuntime) -> Result<(), Fail> {
+    let mut charges = Charges::new(rt.alloc())?;
+    let above = charges.make(b"/a")?;
+    let below = charges.make(b"/a/b")?;
+    charges.note_max(below);
+    charges.note_oom(above);
+    charges.note_kill(above);
+    charges.note_kill(below);
+    assert!(rt; above != GroupId::root());
+    charges.note_group_kill(above);
+    charges.note_group_kill(above);
+    let in_subtree = [
+        ("max", 1),
+        ("oom", 1),
+        ("oom_kill", 2),
+        ("oom_group_kill", 2),
+    ];
+    file_counts(&rt, &charges, above, File::Events, &in_subtree)?;
+    let local = [("oom", 1), ("oom_kill", 1), ("oom_group_kill", 2)];
+    file_counts(&rt, &charges, above, File::EventsLocal, &local)?;
+    file_counts(
+        &rt,
+        &charges,
+        below,
+        File::Events,
+        &[("max", 1), ("oom_kill", 1)],
+    )?;
     Ok(())
 }
 

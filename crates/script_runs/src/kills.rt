@@ -7,7 +7,7 @@ use kill_texts::write_explanation;
 use std::process::Abort;
 use std::test::Fail;
 
-// The notes are explained so, where there are the groups `/a` and `/a/b`, which have the numbers 1 and 2.
+// The notes are explained so, if there are the groups `/a` and `/a/b`, which have the numbers 1 and 2.
 fn notes_are_explained<R: AllocGlobal + Abort>(
     rt: &R,
     notes: &[Note],
@@ -45,8 +45,20 @@ fn note_of_limit(rt: &impl Abort) -> Note {
     }
 }
 
+// A group without a frame that dies with another.
+fn note_of_kill_of_nothing(rt: &impl Abort) -> Note {
+    Note::Kill {
+        group: group_numbered(rt, 1),
+        returned: 0,
+        pages: 0,
+        pinned: 0,
+        left: 0,
+        usage: 5,
+    }
+}
+
 fn note_of_kill(rt: &impl Abort) -> Note {
-    Note::Killed {
+    Note::Kill {
         group: group_numbered(rt, 2),
         returned: 2,
         pages: 2,
@@ -77,11 +89,16 @@ fn tells_a_line_of_each_kind(rt: HostRuntime) -> Result<(), Fail> {
             candidates: 2,
             next: candidate_of_group(&rt, 1, 1),
         },
+        Note::GroupKill {
+            group: group_numbered(&rt, 1),
+            groups: 2,
+        },
+        note_of_kill_of_nothing(&rt),
         Note::Stock { cpu: 1, pages: 1 },
         note_of_kill(&rt),
     ];
     let explanation =
-        "# limit /a 32768 usage 32768 need 4096\n# stock 2 bytes 12288 usage 20480\n# stock 16 bytes 0 usage 20480\n# round 1 tried 5 missed 4 returned 1 bytes 8192 usage 12288\n# oom /a\n# victim /a/b frames 3 of 2 candidates, next /a frames 1\n# killed /a/b returned 2 bytes 8192 pinned 1 bytes 4096 usage 12288\n";
+        "# limit /a 32768 usage 32768 need 4096\n# stock 2 bytes 12288 usage 20480\n# stock 16 bytes 0 usage 20480\n# round 1 tried 5 missed 4 returned 1 bytes 8192 usage 12288\n# oom /a\n# victim /a/b frames 3 of 2 candidates, next /a frames 1\n# group /a groups 2\n# killed /a returned 0 bytes 0 pinned 0 bytes 0 usage 20480\n# killed /a/b returned 2 bytes 8192 pinned 1 bytes 4096 usage 12288\n";
     notes_are_explained(&rt, &notes, explanation)
 }
 
@@ -108,7 +125,11 @@ fn tells_what_is_rare(rt: HostRuntime) -> Result<(), Fail> {
             candidates: 1,
             next: candidate_of_group(&rt, 63, u64::MAX),
         },
-        Note::Killed {
+        Note::GroupKill {
+            group: group_numbered(&rt, 63),
+            groups: u32::MAX,
+        },
+        Note::Kill {
             group: group_numbered(&rt, 0),
             returned: u64::MAX,
             pages: u64::MAX,
@@ -118,6 +139,6 @@ fn tells_what_is_rare(rt: HostRuntime) -> Result<(), Fail> {
         },
     ];
     let explanation =
-        "# victim 63 frames 18446744073709551615 of 1 candidates\n# killed / returned 18446744073709551615 bytes 75557863725914323415040 pinned 0 bytes 0 usage 17592186040320\n";
+        "# victim 63 frames 18446744073709551615 of 1 candidates\n# group 63 groups 4294967295\n# killed / returned 18446744073709551615 bytes 75557863725914323415040 pinned 0 bytes 0 usage 17592186040320\n";
     notes_are_explained(&rt, &notes, explanation)
 }

@@ -121,8 +121,8 @@ killed_group_ends =
     made 0 (Ungrant 1 1) Done ∷ made 0 (Unfreeze 0 1) Done ∷ made 0 (Publish 0) Done ∷ made 0 (Freeze 0 1) Done ∷ made 0 (Return 0) Done ∷
     made 0 (Make (codes "/a/b")) (Number 2) ∷ made 0 (Remove 2) Done ∷ made 0 (Remove 1) Done ∷ made 1 Unlock Done ∷ []
 
--- two groups are made, one below the other, and the upper one is to be killed as a whole. The root isn't, nor is a group that
--- isn't there
+-- two groups are made, one below the other, and the flag of the upper one is set. The root's can't be set, nor that of a group
+-- that isn't there
 abbrev pub group_with_flag : Run
 group_with_flag =
     made 1 Lock Done ∷ made 0 (Make (codes "/a")) (Number 1) ∷ made 0 (Make (codes "/a/b")) (Number 2) ∷ made 0 (SetFlag 0 true) Illegal ∷

@@ -22,7 +22,7 @@ limit_after g old action answer = old
 abbrev pub limit_given : Run → ℕ → Option ℕ
 limit_given run g = fold (λ old e. limit_after g old e.0.action e.1) None run
 
--- whether group g is to be killed as a whole after one more step
+-- the flag of group g after one more step: whether it is killed as a whole
 abbrev pub flag_after : ℕ → Bool → Action → Answer → Bool
 flag_after g old (SetFlag h flag) Done = if g == h then flag else old
 flag_after g old (Make path) (Number n) = if g == n then false else old

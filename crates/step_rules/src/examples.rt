@@ -86,8 +86,8 @@ pub fn a_killed_group_ends()
     ensures { IsLegalRun small_zone killed_group_ends }
 {}
 
-/// A group is to be killed as a whole, which the root can't be. It is counted once that it was killed so, at that group and
-/// above it, and each kill by itself. A new group of its number has neither the flag nor the count.
+/// The flag of a group is set; the root's can't be. That the group was killed as a whole is counted once, at that group and
+/// above it, and each single kill is counted too. A new group of its number has neither the flag nor the count.
 pub fn a_group_dies_whole()
     ensures legal { IsLegalRun small_zone group_dies_whole }
     ensures flag { (flag_given group_killed_whole 1 ≡ true) × (flag_given group_killed_whole 2 ≡ false) }

@@ -148,7 +148,7 @@ pub enum Action {
         group: GroupId,
         limit: Option<u32>,
     },
-    /// A group other than the root is told whether it is to be killed as a whole. Only later kills ask for that.
+    /// The flag of a group other than the root is set: whether it is killed as a whole. Only later kills read it.
     SetFlag {
         group: GroupId,
         oom_group: bool,

@@ -1,3 +1,4 @@
+pub mod AllFree
 pub mod Calls
 pub mod Edits
 pub mod Filling

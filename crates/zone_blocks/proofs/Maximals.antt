@@ -5,12 +5,12 @@ use Rattle.std.proofs.lemmas.Bool.{cases_lt}
 use Rattle.std.proofs.lemmas.Nat.{div-add-mod', le-div, pow_pos}
 use Rattle.std.proofs.Math.Nat.{mul-le-mul_right}
 use Rattle.zone_blocks.specs.declared.block.Block.{Block}
-use Rattle.zone_blocks.specs.Areas.{IsMaximalBlock, Inserts, Overlaps}
+use Rattle.zone_blocks.specs.Areas.{IsMaximalBlock, AreMaximalBlocks, Inserts, Overlaps}
 use Rattle.zone_blocks.specs.OrderLists.{AreMaximalUpTo}
 use Rattle.zone_blocks.proofs.Filling.{same_block, multiple_below}
 use Rattle.zone_blocks.proofs.Nested.{same_maximal}
 
-abbrev found : ℕ → ℕ → Block
+abbrev pub found : ℕ → ℕ → Block
 found order at = record { at = at; order = order }
 
 aligned_at : (free : List Bool) (b : Block) (order : ℕ) → b.order ≡ order → IsMaximalBlock free b → b.at % 2 ^ order ≡ 0
@@ -101,5 +101,13 @@ filled_order free order i blocks here h = record {
           h.all b m (inr (o, omega (arith, q, a, s, pow_pos order)))
     ]
   ];
+  ordered = h.ordered;
+}
+
+-- all orders were met
+pub filled_all : (free : List Bool) (order : ℕ) (blocks : List Block) → 11 ≤ order → AreMaximalUpTo free order 0 blocks → AreMaximalBlocks free blocks
+filled_all free order blocks l h = record {
+  each = h.each;
+  all = λ b m. let o = m.is_free.block.order in h.all b m (inl (omega arith));
   ordered = h.ordered;
 }

@@ -1,6 +1,6 @@
 //! The free areas of a zone: for each order its free blocks, linked by address.
 
-ghost use Rattle.std.specs.Prelude.{◌≡◌, ◌≤◌, ◌<◌, ◌↔◌, ◌+◌, IsTrue, IfOk, MatchOption, ℕ, length, []};
+ghost use Rattle.std.specs.Prelude.{◌≡◌, ◌≤◌, ◌<◌, ◌↔◌, ◌+◌, IsTrue, IfOk, MatchOption, ℕ, length, [], replicate, true};
 ghost use Rattle.std.specs.List.{Contains};
 ghost use Rattle.zone_blocks.specs.Block.{IsBlock, HasPairBit};
 ghost use Rattle.zone_blocks.specs.Areas.{AreMaximalBlocks, AreBlocksApart, HasNoneOf, HasNoneFrom};
@@ -78,6 +78,20 @@ impl FreeAreas {
         }
     }
 
+    /// Makes the areas those of a zone whose frames are all free, without a look at each frame: the
+    /// blocks of order 10 that fit, and of each lower order the last one, if it lies in none of the
+    /// next.
+    pub fn set_all_free(&mut self)
+        ensures areas { AreMaximalBlocks (replicate self.old.frames true) self.new.blocks }
+        ensures frames { self.new.frames ≡ self.old.frames }
+    {
+        self.clear();
+        for exponent in 0..Order::COUNT {
+            let order = Order::of(exponent).unwrap();
+            self.insert_all_free(order);
+        }
+    }
+
     // Takes all blocks out.
     fn clear(&mut self)
         ensures blocks { self.new.blocks ≡ [] }
@@ -102,6 +116,28 @@ impl FreeAreas {
             if is_maximal_block(free, Block { at, order }) {
                 self.insert(Block { at, order });
             }
+        }
+    }
+
+    // The same if all frames are free. Below order 10 only the last block can be maximal: any two
+    // buddies make a free block of the next order.
+    fn insert_all_free(&mut self, order: Order)
+        requires lower { AreMaximalUpTo (replicate self.old.frames true) order 0 self.old.blocks }
+        ensures filled { AreMaximalUpTo (replicate self.old.frames true) (order + 1) 0 self.new.blocks }
+        ensures frames { self.new.frames ≡ self.old.frames }
+    {
+        let size = order.frames();
+        let fitting = self.frames() / size;
+        let first = if order.exponent() < Order::GREATEST {
+            fitting - fitting % 2
+        } else {
+            0
+        };
+        for index in first..fitting {
+            self.insert(Block {
+                at: index * size,
+                order,
+            });
         }
     }
 

@@ -39,9 +39,8 @@ impl Buddy {
         ensures free { IfOk result (λ zone. zone.free ≡ replicate frames true) }
         ensures areas { IfOk result (λ zone. AreMaximalBlocks zone.free zone.blocks) }
     {
-        let free = vec![in alloc; true; frames as usize]?;
         let mut areas = FreeAreas::new(alloc, frames)?;
-        areas.set_from(free.as_slice());
+        areas.set_all_free();
         Ok(Buddy { areas })
     }
 

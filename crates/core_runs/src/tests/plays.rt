@@ -23,7 +23,7 @@ pub enum CoreFact {
     Pending(GroupId, u128),
     /// The limit of a group that is there.
     Max(GroupId, Option<u32>),
-    /// Whether a group that is there is to be killed as a whole.
+    /// Whether a group that is there is killed as a whole.
     Flag(GroupId, bool),
     /// How often an event was noted at a group that is there, or at one below it.
     Events(GroupId, EventKey, u64),

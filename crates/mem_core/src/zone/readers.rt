@@ -61,7 +61,7 @@ impl Core {
         self.rows.tree.limit(group)
     }
 
-    /// Whether a group that is there is to be killed as a whole (memory.oom.group); it isn't at first.
+    /// Whether a group that is there is killed as a whole (memory.oom.group). A new group isn't.
     pub fn oom_group(&self, group: GroupId) -> bool
         requires { IsTrue (has_group self.now.groups group) }
         ensures now { result ≡ is_oom_group self.now.groups group }

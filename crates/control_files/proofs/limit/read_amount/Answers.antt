@@ -1,28 +1,41 @@
-use Rattle.std.proofs.Common.{◌<◌, length, arith}
-use Rattle.std.proofs.lemmas.Bool.Decides.{nat_tests}
+use Rattle.std.specs.Prelude.{Ok}
 use Rattle.std.proofs.lemmas.Result.{err_from_is_err_and}
-use Rattle.control_files.specs.Limit.{IsSuffix}
-use Rattle.control_files.proofs.AmountLemmas.{suffix_refused, number_refused, amount_answer}
+use Rattle.control_files.specs.Reading.{HasOnlyWord, IsPagesReading}
+use Rattle.control_files.proofs.PagesLemmas.{exactly_no_amount, exactly_pages, exactly_too_great, no_pages, only_amount_refusals, pages_reading, refused_pages}
 use Rattle.control_files.proofs.limit.read_amount.Goals as goal
 
-pub returns-in_err-factor : goal.returns-in_err-factor
-returns-in_err-factor c = let p = err_from_is_err_and c.from_residual.result c.from_residual.ensures.1 in rw (p.1, p.2)
-    (suffix_refused c.args.word.now c.split_digits.result.0.now c.split_digits.result.1.now c.read_suffix.result _ c.split_digits.ensures
-    c.read_suffix.ensures.none c.in_err-factor.ensures.value)
+pub returns-in_err-word : goal.returns-in_err-word
+returns-in_err-word c =
+    let reading : IsPagesReading c.args.text.now c.from_residual.result = let p = err_from_is_err_and c.from_residual.result c.from_residual.ensures.1 in
+    rw (p.1, p.2) (no_pages c.args.text.now c.only_word.result _ c.only_word.ensures c.in_err-word.ensures.value) in
+    record {
+      ok = exactly_pages c.args.text.now c.from_residual.result reading;
+      bad_number = exactly_too_great c.args.text.now c.from_residual.result reading;
+      bad_limit = exactly_no_amount c.args.text.now c.from_residual.result reading;
+      err = only_amount_refusals c.args.text.now c.from_residual.result reading;
+    }
 
-pub returns-in_err-number : goal.returns-in_err-number
-returns-in_err-number c =
-    let some : 0 < length c.split_digits.result.0.now = grind (arith, nat_tests) in
-    let suffix_is : IsSuffix c.split_digits.result.1.now c.in_ok-factor.factor = rw c.in_ok-factor.ensures.ok_part at c.read_suffix.ensures.some in
-    let p = err_from_is_err_and c.from_residual-in_err-number.result c.from_residual-in_err-number.ensures.1 in rw (p.1, p.2)
-    (number_refused c.args.word.now c.split_digits.result.0.now c.split_digits.result.1.now c.in_ok-factor.factor c.number_of.result _
-    c.split_digits.ensures some suffix_is c.number_of.ensures c.in_err-number.ensures.value)
+pub returns-in_err-bytes_of : goal.returns-in_err-bytes_of
+returns-in_err-bytes_of c =
+    let word : HasOnlyWord c.args.text.now c.in_ok-word.word.now = rw c.in_ok-word.ensures.ok_part at c.only_word.ensures in
+    let reading : IsPagesReading c.args.text.now c.from_residual-in_err-bytes_of.result = let p =
+    err_from_is_err_and c.from_residual-in_err-bytes_of.result c.from_residual-in_err-bytes_of.ensures.1 in
+    rw (p.1, p.2) (refused_pages c.args.text.now c.in_ok-word.word.now _ word c.in_err-bytes_of.ensures) in
+    record {
+      ok = exactly_pages c.args.text.now c.from_residual-in_err-bytes_of.result reading;
+      bad_number = exactly_too_great c.args.text.now c.from_residual-in_err-bytes_of.result reading;
+      bad_limit = exactly_no_amount c.args.text.now c.from_residual-in_err-bytes_of.result reading;
+      err = only_amount_refusals c.args.text.now c.from_residual-in_err-bytes_of.result reading;
+    }
 
 pub returns : goal.returns
 returns c =
-    let some : 0 < length c.split_digits.result.0.now = grind (arith, nat_tests) in
-    let suffix_is : IsSuffix c.split_digits.result.1.now c.in_ok-factor.factor = rw c.in_ok-factor.ensures.ok_part at c.read_suffix.ensures.some in
-    let number_is = rw c.in_ok-number.ensures.ok_part at c.number_of.ensures in
-    rw c.ok_or-3.ensures.value
-    (amount_answer c.args.word.now c.split_digits.result.0.now c.split_digits.result.1.now c.in_ok-factor.factor c.in_ok-number.number
-    c.checked_mul.result c.split_digits.ensures some suffix_is number_is.1 c.checked_mul.ensures)
+    let word : HasOnlyWord c.args.text.now c.in_ok-word.word.now = rw c.in_ok-word.ensures.ok_part at c.only_word.ensures in
+    let reading : IsPagesReading c.args.text.now (Ok c.div_ceil.result) =
+    rw c.div_ceil.ensures (pages_reading c.args.text.now c.in_ok-word.word.now c.in_ok-bytes_of.field-0 word c.in_ok-bytes_of.ensures) in
+    record {
+      ok = exactly_pages c.args.text.now (Ok c.div_ceil.result) reading;
+      bad_number = exactly_too_great c.args.text.now (Ok c.div_ceil.result) reading;
+      bad_limit = exactly_no_amount c.args.text.now (Ok c.div_ceil.result) reading;
+      err = only_amount_refusals c.args.text.now (Ok c.div_ceil.result) reading;
+    }

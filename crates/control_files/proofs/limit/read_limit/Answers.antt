@@ -36,30 +36,30 @@ returns-then-eq c =
       err = only_refusals c.args.text.now (Ok None) reading;
     }
 
-pub returns-in_err-read_amount : goal.returns-in_err-read_amount
-returns-in_err-read_amount c =
+pub returns-in_err-bytes_of : goal.returns-in_err-bytes_of
+returns-in_err-bytes_of c =
     let word : HasOnlyWord c.args.text.now c.in_ok-word.word.now = rw c.in_ok-word.ensures.ok_part at c.only_word.ensures in
     let same_bytes : Decides c.eq.result (c.in_ok-word.word.now ≡ c.as_slice.result.now) = slice_eq-Decides Decides-eqb _ _ _ c.eq.ensures in
     let is_max : Decides c.eq.result (c.in_ok-word.word.now ≡ codes "max") = rw c.as_slice.ensures at same_bytes in
     let other_word : c.in_ok-word.word.now ≢ codes "max" = λ same. let no : true ≡ false = sym (is_max.1 same) ∙ c.if-eq.false in cc in
-    let reading : IsReading c.args.text.now c.from_residual-in_err-read_amount.result = let p =
-    err_from_is_err_and c.from_residual-in_err-read_amount.result c.from_residual-in_err-read_amount.ensures.1 in
-    rw (p.1, p.2) (refused_reading c.args.text.now c.in_ok-word.word.now _ word other_word c.in_err-read_amount.ensures) in
+    let reading : IsReading c.args.text.now c.from_residual-in_err-bytes_of.result = let p =
+    err_from_is_err_and c.from_residual-in_err-bytes_of.result c.from_residual-in_err-bytes_of.ensures.1 in
+    rw (p.1, p.2) (refused_reading c.args.text.now c.in_ok-word.word.now _ word other_word c.in_err-bytes_of.ensures) in
     record {
-      ok = exactly_ok c.args.text.now c.from_residual-in_err-read_amount.result reading;
+      ok = exactly_ok c.args.text.now c.from_residual-in_err-bytes_of.result reading;
       bad_number =
-          exactly_number c.args.text.now c.from_residual-in_err-read_amount.result reading;
+          exactly_number c.args.text.now c.from_residual-in_err-bytes_of.result reading;
       bad_limit =
-          exactly_limit c.args.text.now c.from_residual-in_err-read_amount.result reading;
+          exactly_limit c.args.text.now c.from_residual-in_err-bytes_of.result reading;
       err =
-          only_refusals c.args.text.now c.from_residual-in_err-read_amount.result reading;
+          only_refusals c.args.text.now c.from_residual-in_err-bytes_of.result reading;
     }
 
 pub returns : goal.returns
 returns c =
     let word : HasOnlyWord c.args.text.now c.in_ok-word.word.now = rw c.in_ok-word.ensures.ok_part at c.only_word.ensures in
     let reading : IsReading c.args.text.now (Ok c.limit_of.result) =
-    rw c.limit_of.ensures (amount_reading c.args.text.now c.in_ok-word.word.now c.in_ok-read_amount.field-0 word c.in_ok-read_amount.ensures) in
+    rw c.limit_of.ensures (amount_reading c.args.text.now c.in_ok-word.word.now c.in_ok-bytes_of.field-0 word c.in_ok-bytes_of.ensures) in
     record {
       ok = exactly_ok c.args.text.now (Ok c.limit_of.result) reading;
       bad_number =

@@ -1,4 +1,7 @@
-use Rattle.std.proofs.Common.{rules, false, refl, arith}
+use Rattle.std.proofs.Common.{◌≡◌, true, List, rules, false, refl, ap, ◌∙◌, arith}
+use Rattle.group_tree.specs.declared.group.Group.{Group}
+use Rattle.group_tree.specs.Groups.{in_subtree}
+use Rattle.group_tree.proofs.CallerLemmas.{in_subtree-refl}
 use Rattle.lru_lists.specs.declared.record.LruList.TheVariants.{Inactive, Active}
 use Rattle.mem_reclaim.specs.Units.{ScansList}
 use Rattle.mem_reclaim.proofs.Wanting.{first_enough, both_done}
@@ -40,3 +43,13 @@ returns-then-want-inactive-clause-few g c = search rules
 
 pub returns-then-want-inactive-clause-missed : goal.returns-then-want-inactive-clause-missed
 returns-then-want-inactive-clause-missed g c = search rules
+
+pub overflow_add-result : goal.overflow_add-result
+overflow_add-result g c =
+    let own : in_subtree c.args.machine.now.ledger.groups c.args.group c.args.group ≡ true = in_subtree-refl c.args.machine.now.ledger.groups c.args.group c.requires.there in
+    let first = c.scan-inactive.ensures.usage c.args.group own in
+    let second = c.scan-active.ensures.usage c.args.group
+    (ap (λ (groups : List Group). in_subtree groups c.args.group c.args.group) c.scan-inactive.ensures.keeps.groups ∙ own) in
+    let is = c.current-usage.ensures in
+    let fits = c.current-usage.type_inv in
+    omega (arith, first, second, is, fits)

@@ -1,5 +1,6 @@
 use Rattle.std.proofs.Common.{◌≡◌, Bool, true, sym, ap, ◌∙◌, subst}
 use Rattle.group_tree.specs.Groups.{in_subtree}
+use Rattle.group_tree.proofs.CallerLemmas.{in_subtree-below}
 use Rattle.group_charge.specs.Charges.{Ledger}
 use Rattle.mem_reclaim.specs.Moves.{Leads}
 use Rattle.mem_reclaim.specs.Passes.{TakesTurn}
@@ -38,4 +39,12 @@ returns-else-is_first-clause-turns g c =
 pub returns-else-is_first-clause-usage : goal.returns-else-is_first-clause-usage
 returns-else-is_first-clause-usage g c =
     c.scan_both.ensures.usage c.args.group
+    (ap (λ (l : Ledger). in_subtree l.groups c.args.group c.args.turn) (sym c.charges.ensures) ∙ sym c.is_below.ensures ∙ c.if-not-is_below.false)
+
+pub age_and_scan-requires : goal.age_and_scan-requires
+age_and_scan-requires g c = in_subtree-below c.args.machine.now.ledger.groups c.args.group c.args.turn
+    (ap (λ (l : Ledger). in_subtree l.groups c.args.group c.args.turn) (sym c.charges.ensures) ∙ sym c.is_below.ensures ∙ c.if-not-is_below.false)
+
+pub scan_both-requires-clause-there : goal.scan_both-requires-clause-there
+scan_both-requires-clause-there g c = in_subtree-below c.args.machine.now.ledger.groups c.args.group c.args.turn
     (ap (λ (l : Ledger). in_subtree l.groups c.args.group c.args.turn) (sym c.charges.ensures) ∙ sym c.is_below.ensures ∙ c.if-not-is_below.false)

@@ -20,8 +20,8 @@ returns-then-want-eq0 g c =
     c.loop-round.machine c.loop-round.invariant c.loop-round-test.true none in
     record { rounds = h.rounds; missed = h.missed; usage = h.usage; keeps = h.keeps }
 
-pub make_round-pages-requires-clause-there : goal.make_round-pages-requires-clause-there
-make_round-pages-requires-clause-there g c = ap (λ l. has_group l c.args.group) c.loop-round.invariant.keeps.groups ∙ c.requires.there
+pub make_round-pages-requires : goal.make_round-pages-requires
+make_round-pages-requires g c = record { there = ap (λ l. has_group l c.args.group) c.loop-round.invariant.keeps.groups ∙ c.requires.there }
 
 pub overflow_add-given : goal.overflow_add-given
 overflow_add-given g c =

@@ -1,5 +1,6 @@
 use Rattle.std.proofs.Common.{◌<◌, ◌≤◌, sym, ap, ◌∙◌, arith, rules}
 use Rattle.frame_word.specs.Seats.{KnownTable}
+use Rattle.group_tree.proofs.CallerLemmas.{in_subtree-refl}
 use Rattle.lru_lists.specs.Lists.{entry_of}
 use Rattle.mem_machine.specs.Machines.{home_of}
 use Rattle.mem_reclaim.proofs.Scanning.{scan_first, scan_here, scan_more, scan_done, scan_enough}
@@ -74,3 +75,12 @@ returns-then-want-given-clause-few g c = search rules
 
 pub returns-then-want-given-clause-missed : goal.returns-then-want-given-clause-missed
 returns-then-want-given-clause-missed g c = search rules
+
+pub overflow_add-given : goal.overflow_add-given
+overflow_add-given g c =
+    let usage = c.loop-met.invariant.usage c.args.group (in_subtree-refl c.args.machine.now.ledger.groups c.args.group c.requires.there) in
+    let is = c.current-usage.ensures in
+    let fits = c.current-usage.type_inv in
+    let more = c.from-given.ensures in
+    let small = c.meet.type_inv in
+    omega (arith, usage, is, fits, more, small)

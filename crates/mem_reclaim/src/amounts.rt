@@ -1,0 +1,44 @@
+//! Reclaim of an amount (cgroup-v2.rst, memory.reclaim).
+
+ghost use Rattle.std.specs.Prelude.{◌≡◌, ◌<◌, ◌+◌, IsTrue};
+ghost use Rattle.group_tree.specs.Groups.{has_group};
+ghost use Rattle.group_charge.specs.Charges.{current_of};
+ghost use Rattle.mem_reclaim.specs.Moves.{Leads};
+ghost use Rattle.mem_reclaim.specs.Rounds.{ReclaimsAmount};
+ghost use Rattle.mem_reclaim.specs.Staying.{Keeps, MissedAll};
+
+use crate::rounds::{MAX_ROUNDS, make_round};
+use cpu_part::{BootName, Tables};
+use group_tree::group::GroupId;
+use mem_machine::Machine;
+
+/// Reclaims `asked` pages from the subtree of `group`, in at most 16 rounds, each of which wants what is still missing of
+/// them, and is noted. A round that freed nothing is the last. It returns how many pages were freed: more than asked if a
+/// block had more, and fewer only if each clean unit that the subtree still keeps was tried, and missed. Stocks stay, no
+/// event is counted, and nobody is killed.
+pub fn reclaim_pages<N: BootName>(
+    machine: &mut Machine<N>,
+    tables: &Tables<N>,
+    group: GroupId,
+    asked: u64,
+) -> u64
+    requires there { IsTrue (has_group machine.old.ledger.groups group) }
+    ensures rounds { Leads N.frames result machine.old machine.new (ReclaimsAmount group asked) }
+    ensures missed { result < asked → MissedAll group machine.old machine.new }
+    ensures usage { current_of machine.new.ledger group + result ≡ current_of machine.old.ledger group }
+    ensures keeps { Keeps N.frames machine.old machine.new }
+{
+    let _usage = machine.current(group); // What is freed is at most that, so no sum overflows.
+    let mut freed = 0;
+    for round in 0..MAX_ROUNDS {
+        if asked <= freed {
+            return freed;
+        }
+        let pages = make_round(machine, tables, group, round + 1, asked - freed).pages;
+        freed += pages;
+        if pages == 0 {
+            return freed;
+        }
+    }
+    freed
+}

@@ -1,0 +1,104 @@
+-- Serves the writes of files: a value that isn't taken, and an amount that is reclaimed.
+use Rattle.std.proofs.Common.{◌≡◌, ◌≢◌, ◌⊎◌, ℕ, false, ◌+◌, ◌<◌, ◌≤◌, List, [], refl, sym, subst, inl, inr}
+use Rattle.group_tree.specs.declared.fault.Fault.{Fault}
+use Rattle.group_tree.specs.declared.fault.Fault.TheVariants.{Again, BadLimit, BadNumber}
+use Rattle.control_files.specs.declared.file.File.{File}
+use Rattle.control_files.specs.declared.file.File.TheVariants.{Current, Max, Peak, Events, EventsLocal, OomGroup, Reclaim}
+use Rattle.control_files.specs.Files.{is_writable}
+use Rattle.control_files.specs.Flag.{IsNoFlagText}
+use Rattle.control_files.specs.Limit.{ReadsAmount, IsNoAmountText, IsNoLimitText, IsTooGreat}
+use Rattle.frame_word.specs.Seats.{KnownTable}
+use Rattle.mem_machine.specs.Machines.{KnownMachine}
+use Rattle.mem_machine.specs.Local.{side}
+use Rattle.mem_machine.proofs.Followed.{makes_none}
+use Rattle.group_charge.specs.Charges.{current_of}
+use Rattle.mem_reclaim.specs.Moves.{Leads}
+use Rattle.mem_reclaim.specs.Rounds.{ReclaimsAmount}
+use Rattle.mem_reclaim.specs.Staying.{MissedAll}
+use Rattle.mem_alloc.specs.Stepping.{ByStepsOfAny}
+use Rattle.mem_system.specs.declared.command.Reply.TheVariants.{Done, Refused}
+use Rattle.mem_system.specs.declared.command.Reply.{Reply}
+use Rattle.mem_system.specs.Files.{IsFileOf, RefusesValue, Writes, WritesTo}
+
+pub refused_limit : (value : List ℕ) (fault : Fault) → (fault ≡ BadNumber) ⊎ (fault ≡ BadLimit) → (fault ≡ BadNumber → IsTooGreat value)
+    → (fault ≡ BadLimit → IsNoLimitText value) → RefusesValue Max value fault
+refused_limit value fault (inl number) great none = subst (λ (f : Fault). RefusesValue Max value f) (sym number) (great number)
+refused_limit value fault (inr limit) great none = subst (λ (f : Fault). RefusesValue Max value f) (sym limit) (none limit)
+
+pub refused_flag : (value : List ℕ) (fault : Fault) → fault ≡ BadLimit → (fault ≡ BadLimit → IsNoFlagText value) → RefusesValue OomGroup value fault
+refused_flag value fault limit none = subst (λ (f : Fault). RefusesValue OomGroup value f) (sym limit) (none limit)
+
+pub refused_amount : (value : List ℕ) (fault : Fault) → (fault ≡ BadNumber) ⊎ (fault ≡ BadLimit) → (fault ≡ BadNumber → IsTooGreat value)
+    → (fault ≡ BadLimit → IsNoAmountText value) → RefusesValue Reclaim value fault
+refused_amount value fault (inl number) great none = subst (λ (f : Fault). RefusesValue Reclaim value f) (sym number) (great number)
+refused_amount value fault (inr limit) great none = subst (λ (f : Fault). RefusesValue Reclaim value f) (sym limit) (none limit)
+
+-- the file is there, and nothing changes
+pub refused_by : (t : KnownTable) (file : File) (value : List ℕ) (g : ℕ) (fault : Fault) (m : KnownMachine) → RefusesValue file value fault
+    → ByStepsOfAny t (WritesTo file value g (Refused fault)) m m
+refused_by t file value g fault m why = record {
+  steps = [];
+  does = inl (why, record { machine = refl; steps_are = refl });
+  makes = λ c. makes_none t c.number (side m c);
+}
+
+-- so it is by the path and the name of the file
+pub refused_at : (t : KnownTable) (path name value : List ℕ) (g : ℕ) (file : File) (fault : Fault) (m : KnownMachine)
+    → IsFileOf m.ledger.groups path name g file → RefusesValue file value fault
+    → ByStepsOfAny t (Writes path name value (Refused fault)) m m
+refused_at t path name value g file fault m is why = record {
+  steps = [];
+  does = inl (inr (record { group = g; file = file; is_file = is; refuses = why }), record { machine = refl; steps_are = refl });
+  makes = λ c. makes_none t c.number (side m c);
+}
+
+-- what isn't one of these three files isn't written
+pub read_only : (file : File) → file ≢ Max → file ≢ OomGroup → file ≢ Reclaim → is_writable file ≡ false
+read_only Current a b c = refl
+read_only Max a b c = absurd (a refl)
+read_only Peak a b c = refl
+read_only Events a b c = refl
+read_only EventsLocal a b c = refl
+read_only OomGroup a b c = absurd (b refl)
+read_only Reclaim a b c = absurd (c refl)
+
+module _ (t : KnownTable) (value : List ℕ) (g asked freed : ℕ) (m n : KnownMachine) (reads : ReadsAmount value asked)
+    (leads : Leads t freed m n (ReclaimsAmount g asked)) (missed : freed < asked → MissedAll g m n)
+    (usage : current_of n.ledger g + freed ≡ current_of m.ledger g) where
+  -- all that was asked for is freed
+  pub reclaims_all : asked ≤ freed → ByStepsOfAny t (WritesTo Reclaim value g Done) m n
+  reclaims_all enough = record {
+    steps = leads.steps;
+    does = record {
+      asked = asked;
+      freed = freed;
+      reads = reads;
+      reclaims = leads;
+      missed = missed;
+      usage = usage;
+      ends = enough;
+      steps_are = refl;
+    };
+    makes = leads.moves.runs;
+  }
+
+  -- less is freed
+  pub reclaims_less : freed < asked → ByStepsOfAny t (WritesTo Reclaim value g (Refused Again)) m n
+  reclaims_less less = record {
+    steps = leads.steps;
+    does = inr (record {
+      file_is = refl;
+      fault_is = refl;
+      frees = record {
+        asked = asked;
+        freed = freed;
+        reads = reads;
+        reclaims = leads;
+        missed = missed;
+        usage = usage;
+        ends = less;
+        steps_are = refl;
+      };
+    });
+    makes = leads.moves.runs;
+  }
