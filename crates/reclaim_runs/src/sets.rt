@@ -14,11 +14,10 @@ use std::process::Abort;
 
 // What is noted of a victim that is the only candidate.
 fn only_victim(group: GroupId, frames: u64) -> Note {
-    let victim = Candidate { group, frames };
     Note::Victim {
-        victim,
+        victim: Candidate { group, frames },
         candidates: 1,
-        next: victim,
+        next: Candidate { group, frames },
     }
 }
 
@@ -164,9 +163,9 @@ pub fn pin_in_a_set<N: BootName>(rt: &impl Abort, small: &mut SmallMachine<N>)
     let two = small.machine.make(b"/a/c").expect(rt, "a group");
     take_unit(rt, small, one, 0, 0);
     take_unit(rt, small, two, 1, 2);
-    flag_group(rt, small, above, true);
     small.machine.shut(&small.tables, &mut small.cpu);
     pin_unit(rt, small, 0);
+    flag_group(rt, small, above, true);
     let killed = Killed {
         victim: two,
         head: above,
