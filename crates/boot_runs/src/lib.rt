@@ -8,4 +8,6 @@ mod rows;
 #[cfg(test)]
 mod second;
 #[cfg(test)]
+mod sets;
+#[cfg(test)]
 mod usage;

@@ -85,8 +85,21 @@ pub fn reads<N: BootName, R: Wait + Abort>(
     }
 }
 
+/// The text of an events file with these counts of `max`, `oom`, `oom_kill` and `oom_group_kill`.
+pub fn events_text(rt: &impl Abort, alloc: Global, counts: [u64; 4]) -> String {
+    let [max, oom, kills, sets] = counts;
+    format!(in alloc;
+        "low 0\nhigh 0\nmax {max}\noom {oom}\noom_kill {kills}\noom_group_kill {sets}\n"
+    ).expect(rt, "memory")
+}
+
 // Processor 1 makes the group, limits it and reads its files.
-fn makes_and_reads<N: BootName, R: Wait + Abort>(rt: &R, system: &System<N>, cpu: &mut Cpu<N>) {
+fn makes_and_reads<N: BootName, R: Wait + Abort>(
+    rt: &R,
+    alloc: Global,
+    system: &System<N>,
+    cpu: &mut Cpu<N>,
+) {
     let path: &[u8] = b"/a";
     let file: &[u8] = b"memory.max";
     let value: &[u8] = b"8K";
@@ -98,16 +111,22 @@ fn makes_and_reads<N: BootName, R: Wait + Abort>(rt: &R, system: &System<N>, cpu
     let write = Cmd::Write { path, file, value };
     answers(rt, system, cpu, &write, &Reply::Done);
     reads(rt, system, cpu, b"memory.max", b"8192\n");
-    reads_nothing(rt, system, cpu);
+    reads_nothing(rt, alloc, system, cpu);
 }
 
 // Nothing was charged to the group.
-fn reads_nothing<N: BootName, R: Wait + Abort>(rt: &R, system: &System<N>, cpu: &mut Cpu<N>) {
+fn reads_nothing<N: BootName, R: Wait + Abort>(
+    rt: &R,
+    alloc: Global,
+    system: &System<N>,
+    cpu: &mut Cpu<N>,
+) {
     reads(rt, system, cpu, b"memory.current", b"0\n");
     reads(rt, system, cpu, b"memory.peak", b"0\n");
-    let events = b"low 0\nhigh 0\nmax 0\noom 0\noom_kill 0\n";
-    reads(rt, system, cpu, b"memory.events", events);
-    reads(rt, system, cpu, b"memory.events.local", events);
+    reads(rt, system, cpu, b"memory.oom.group", b"0\n");
+    let events = events_text(rt, alloc, [0, 0, 0, 0]);
+    reads(rt, system, cpu, b"memory.events", events.as_bytes());
+    reads(rt, system, cpu, b"memory.events.local", events.as_bytes());
 }
 
 // All frames are free, and the group has nothing.
@@ -221,7 +240,7 @@ fn visits<N: BootName, R: Wait + Abort>(
 ) {
     for (at, cpu) in cpus.iter_mut().enumerate() {
         if at == 0 {
-            makes_and_reads(rt, system, cpu);
+            makes_and_reads(rt, alloc, system, cpu);
             tells(rt, alloc, system, cpu);
         } else {
             takes_out(rt, system, cpu);

@@ -1,7 +1,7 @@
 //! Allocations of one processor for the group `/a`: what they answer, and what is charged then.
 ghost use Rattle.std.specs.Prelude.{◌≡◌, ◌<◌};
 
-use crate::life::{answers, ends, holds, reads, visit};
+use crate::life::{answers, ends, events_text, holds, reads, visit};
 use cpu_part::{BootName, Cpu};
 use frame_word::Frame;
 use group_tree::fault::Fault;
@@ -27,17 +27,18 @@ enum Line {
     Settle,
 }
 
-// A zone of so many frames, the limit of the group, what is asked for, and what the group's files read then.
+// A zone of so many frames, the limit of the group, what is asked for, and what the group's files read then: of
+// memory.events the counts.
 struct Row {
     frames: u32,
     limit: &'static [u8],
     lines: [Line; 3],
     current: &'static [u8],
     peak: &'static [u8],
-    events: &'static [u8],
+    events: [u64; 4],
 }
 
-const NO_EVENT: &[u8] = b"low 0\nhigh 0\nmax 0\noom 0\noom_kill 0\n";
+const NO_EVENT: [u64; 4] = [0, 0, 0, 0];
 
 const ROWS: [Row; 7] = [
     // a frame, with a stock of three pages
@@ -64,7 +65,7 @@ const ROWS: [Row; 7] = [
         lines: [Line::Alloc(4, Told::OverLimit), Line::Settle, Line::Settle],
         current: b"0\n",
         peak: b"0\n",
-        events: b"low 0\nhigh 0\nmax 1\noom 0\noom_kill 0\n",
+        events: [1, 0, 0, 0],
     },
     Row {
         frames: 1024,
@@ -161,7 +162,13 @@ fn asks<N: BootName, R: Wait + Abort>(rt: &R, system: &System<N>, cpu: &mut Cpu<
 }
 
 // The processor makes the group, limits it, asks for all of the row and reads the files.
-fn plays<N: BootName, R: Wait + Abort>(rt: &R, system: &System<N>, cpu: &mut Cpu<N>, row: &Row) {
+fn plays<N: BootName, R: Wait + Abort>(
+    rt: &R,
+    alloc: Global,
+    system: &System<N>,
+    cpu: &mut Cpu<N>,
+    row: &Row,
+) {
     let path: &[u8] = b"/a";
     let file: &[u8] = b"memory.max";
     let value = row.limit;
@@ -173,7 +180,8 @@ fn plays<N: BootName, R: Wait + Abort>(rt: &R, system: &System<N>, cpu: &mut Cpu
     }
     reads(rt, system, cpu, b"memory.current", row.current);
     reads(rt, system, cpu, b"memory.peak", row.peak);
-    reads(rt, system, cpu, b"memory.events", row.events);
+    let events = events_text(rt, alloc, row.events);
+    reads(rt, system, cpu, b"memory.events", events.as_bytes());
 }
 
 // The life of a system of one processor.
@@ -182,7 +190,7 @@ fn lives<N: BootName, R: Wait + Abort>(rt: &R, alloc: Global, boot: Boot, row: &
 {
     let (system, mut cpus) = boot.start::<N>(alloc).expect(rt, "memory");
     for cpu in cpus.iter_mut() {
-        plays(rt, &system, cpu, row);
+        plays(rt, alloc, &system, cpu, row);
     }
     assert!(rt; cpus.len() == system.tables().frames.cpus() as usize);
     let audit = ends(rt, system, cpus);

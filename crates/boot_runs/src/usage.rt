@@ -153,8 +153,8 @@ const ROWS: [Row; 9] = [
     },
 ];
 
-// The processor puts its pin of the frame.
-fn puts<N: BootName>(rt: &impl Abort, system: &System<N>, cpu: &mut Cpu<N>, number: u32) {
+/// The processor puts its pin of the frame.
+pub fn puts<N: BootName>(rt: &impl Abort, system: &System<N>, cpu: &mut Cpu<N>, number: u32) {
     let pinned = frame(rt, system, number);
     assert!(rt; cpu.holds(pinned));
     let _ = cpu.put(system.tables(), pinned);

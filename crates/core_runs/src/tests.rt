@@ -303,28 +303,24 @@ fn a_refused_grant_is_noted(rt: HostRuntime) -> Result<(), Fail> {
     works_on_core(&rt, rt.alloc(), &with_group(), &rows, &facts)
 }
 
+// A seat says that a group is to be killed as a whole, and is answered so.
+fn flagging(seat: u32, group: GroupId, answer: Answer) -> CoreRow {
+    let oom_group = true;
+    (seat, Action::SetFlag { group, oom_group }, answer)
+}
+
 // /a is to be killed as a whole, is killed, and that is noted. Neither can be said of the root or of a group that isn't
 // there, nor by a processor.
 fn with_group_kill() -> [CoreRow; 10] {
     let (root, group, gone) = (GroupId::root(), group_of(1), group_of(2));
-    let oom_group = true;
-    let set_root = Action::SetFlag {
-        group: root,
-        oom_group,
-    };
-    let set_gone = Action::SetFlag {
-        group: gone,
-        oom_group,
-    };
-    let set = Action::SetFlag { group, oom_group };
     let [lock, make] = with_group();
     [
         lock,
         make,
-        (0, set_root, Answer::Illegal),
-        (0, set_gone, Answer::Illegal),
-        (1, set, Answer::Illegal),
-        (0, set, Answer::Done),
+        flagging(0, root, Answer::Illegal),
+        flagging(0, gone, Answer::Illegal),
+        flagging(1, group, Answer::Illegal),
+        flagging(0, group, Answer::Done),
         (0, Action::Kill { group }, Answer::Done),
         (0, Action::NoteGroupKill { group: root }, Answer::Illegal),
         (0, Action::NoteGroupKill { group: gone }, Answer::Illegal),

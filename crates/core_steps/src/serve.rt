@@ -11,7 +11,9 @@ ghost use Rattle.core_rows.specs.Shown.{state_in};
 ghost use Rattle.core_rows.specs.Rooms.{FitsZone, IsFew, Makes, PlacesFront, pages_asked};
 
 use crate::blocks::{place_block, return_unit};
-use crate::groups::{grant, kill, make, note_group_kill, note_max, note_oom, remove, set_flag, set_max, ungrant};
+use crate::groups::{
+    grant, kill, make, note_group_kill, note_max, note_oom, remove, set_flag, set_max, ungrant,
+};
 use crate::hand_over::{collect, pass_back, pass_out, take_in};
 use crate::legal::is_legal;
 use crate::references::{freeze, get, publish, put, unfreeze};

@@ -22,7 +22,7 @@ use Rattle.mem_machine.specs.Stocks.{Drains, Fills, stock_group}
 use Rattle.mem_machine.specs.Steps.{drain_steps, fill_steps, over_steps, refill_steps, take_front_steps}
 use Rattle.mem_machine.proofs.Prepaying.{filled_account, filled_at}
 use Rattle.mem_alloc.specs.declared.faults.AllocFault.{AllocFault}
-use Rattle.mem_alloc.specs.declared.faults.AllocFault.TheVariants.{Over, NoFrames, Killed}
+use Rattle.mem_alloc.specs.declared.faults.AllocFault.TheVariants.{Over, NoFrames, RequesterKilled}
 use Rattle.mem_alloc.specs.Stepping.{BySteps, Course, OfMachineAlone, Where, course}
 use Rattle.mem_alloc.specs.Room.{AfterRoom, IsRefusedAt, IsRefusedFor, IsRefusedAtSome, MakesRoom}
 use Rattle.mem_alloc.specs.Charging.{ChargesAfterDrain, ChargesFrame, ChargesOne, DrainsStock, FillsStock, AfterBatchRefused, PaysForFrame}
@@ -363,7 +363,7 @@ module _ (t : KnownTable) (sizes : Config) (m k x n : KnownMachine) (c e y : Kno
 pub no_frame_keeps : (t : KnownTable) (sizes : Config) (cause : AllocFault) (m n : KnownMachine) (c d : KnownCpu) (steps : Run)
     → FillsList sizes (Err cause) (course t (side m c) steps (side n d)) → KeepsPart m c n d
 no_frame_keeps t sizes (Over over) m n c d steps h = absurd h
-no_frame_keeps t sizes Killed m n c d steps h = absurd h
+no_frame_keeps t sizes RequesterKilled m n c d steps h = absurd h
 no_frame_keeps t sizes NoFrames m n c d steps h =
     let all = h.does.does in
     let x = all.between in
@@ -460,7 +460,7 @@ module _ (t : KnownTable) (sizes : Config) (g : ℕ) (m : KnownMachine) (c : Kno
       → BySteps t (AllocatesFrame sizes g (Err x)) (side m c) (side n d)
   refused_for (Over over) n d b = record { steps = b.steps; does = record { is = alive; does = b.does }; makes = b.makes }
   refused_for NoFrames n d b = absurd b.does.does.second.does.does.does.1.room
-  refused_for Killed n d b = record { steps = b.steps; does = inr (record { is = alive; does = b.does }); makes = b.makes }
+  refused_for RequesterKilled n d b = record { steps = b.steps; does = inr (record { is = alive; does = b.does }); makes = b.makes }
 
   pub not_paid : (r : Result ℕ AllocFault) (x : AllocFault) (n : KnownMachine) (d : KnownCpu) → IsErr r → IfErr r (λ e. e ≡ x)
       → BySteps t (PaysForFrame sizes g (Err x)) (side m c) (side n d) → BySteps t (AllocatesFrame sizes g r) (side m c) (side n d)
@@ -474,7 +474,7 @@ module _ (t : KnownTable) (sizes : Config) (g : ℕ) (m : KnownMachine) (c : Kno
     none_found : (x : AllocFault) (n : KnownMachine) (d : KnownCpu) → BySteps t (FillsList sizes (Err x)) (side k y) (side n d)
         → BySteps t (AllocatesFrame sizes g (Err x)) (side m c) (side n d)
     none_found (Over over) n d b = absurd b.does
-    none_found Killed n d b = absurd b.does
+    none_found RequesterKilled n d b = absurd b.does
     none_found NoFrames n d b = record {
       steps = pays.steps ++ b.steps;
       does = record {

@@ -1,14 +1,15 @@
 -- What kills keep, and kills one after the other. Serves `kill_for`, `make_room`, and those who call them.
 use Rattle.std.proofs.Common.{◌≡◌, ℕ, zero, suc, ◌<◌, ◌≤◌, Bool, true, false, Option, Some, None, List, [], ◌∷◌, ◌++◌, map, refl, sym, ap, ◌∙◌}
 use Rattle.std.proofs.Common.{subst, inl, inr, arith, cond, length}
-use Rattle.std.specs.Prelude.{set, slice_set}
+use Rattle.std.specs.Prelude.{set, slice_index_or, slice_set}
 use Rattle.std.proofs.lemmas.Bool.{and_parts, cases_Bool, cases_lt, false≢true, not-true}
-use Rattle.std.proofs.lemmas.List.{append_assoc, append-nil, get_or-set_same}
+use Rattle.std.proofs.lemmas.List.{append_assoc, append-nil, get_or-set_same, length-set}
 use Rattle.frame_word.specs.Seats.{KnownTable}
 use Rattle.group_tree.specs.declared.group.Group.{Group}
 use Rattle.group_tree.specs.Groups.{has_group, in_subtree}
+use Rattle.group_tree.specs.declared.event.EventKey.TheVariants.{Oom}
 use Rattle.group_charge.specs.declared.account.Account as charge
-use Rattle.group_charge.specs.Charges.{AreCharges, current_of, usage_of, with_event_at, with_oom, with_oom_noted}
+use Rattle.group_charge.specs.Charges.{AreCharges, current_of, usage_of, with_event_at, with_oom_noted}
 use Rattle.group_charge.proofs.CallerLemmas.{sum-map_same}
 use Rattle.group_charge.proofs.KeptLemmas.{number_below}
 use Rattle.group_charge.proofs.SumLemmas.{share}
@@ -18,9 +19,12 @@ use Rattle.step_rules.specs.After.{Run}
 use Rattle.mem_machine.specs.Machines.{IsConsistent, KnownMachine, is_killed}
 use Rattle.mem_machine.specs.Local.{MakesForAny, side}
 use Rattle.mem_machine.specs.Steps.{note_oom_steps}
-use Rattle.mem_reclaim.specs.Killing.{IsKilledBy, OnlyDrains, OnlyLetsGo}
+use Rattle.mem_reclaim.specs.declared.sets.Killed.{Killed}
+use Rattle.mem_reclaim.specs.Killing.{IsKilledBy, OnlyDrains, OnlyLetsGo, with_all_killed}
+use Rattle.mem_reclaim.specs.Sets.{IsHead, kill_set}
 use Rattle.mem_reclaim.specs.Victim.{IsVictim}
 use Rattle.mem_reclaim.proofs.Choosing.{chosen_there}
+use Rattle.mem_reclaim.proofs.Dying.{victims_die}
 use Rattle.mem_alloc.specs.Stepping.{ByStepsOfAny, MachineStays, course}
 use Rattle.mem_alloc.specs.Kills.{IsWanting, KillsEach, KillsFor, KillsOne, has_room_at, with_oom_noted_at}
 use Rattle.mem_alloc.specs.Room.{KillsForFew, RelievesLimit}
@@ -37,26 +41,31 @@ stays_marked (x ∷ marks) zero (suc j) dead = dead
 stays_marked (x ∷ marks) (suc v) zero dead = dead
 stays_marked (x ∷ marks) (suc v) (suc j) dead = stays_marked marks v j dead
 
-pub one_lowers : (t : KnownTable) (v : ℕ) (m n : KnownMachine) → n.killed ≡ slice_set m.killed v true → OnlyDrains m n → OnlyLetsGo t m n → Lowers t m n
-one_lowers t v m n marked stocks keeps = record {
+all_stay_marked : (groups : List ℕ) (marks : List Bool) (j : ℕ) → is_killed marks j ≡ true → is_killed (with_all_killed marks groups) j ≡ true
+all_stay_marked [] marks j dead = dead
+all_stay_marked (v ∷ groups) marks j dead = all_stay_marked groups (slice_set marks v true) j (stays_marked marks v j dead)
+
+pub one_lowers : (t : KnownTable) (groups : List ℕ) (m n : KnownMachine) → n.killed ≡ with_all_killed m.killed groups → OnlyDrains m n → OnlyLetsGo t m n
+    → Lowers t m n
+one_lowers t groups m n marked stocks keeps = record {
   groups = keeps.groups;
-  killed = λ j dead. ap (λ (k : List Bool). is_killed k j) marked ∙ stays_marked m.killed v j dead;
+  killed = λ j dead. ap (λ (k : List Bool). is_killed k j) marked ∙ all_stay_marked groups m.killed j dead;
   opened = keeps.opened;
   visit = keeps.visit;
   falls = keeps.usage;
   emptied = stocks.drained;
 }
 
-pub each_lowers : (r : Option ℕ) (t : KnownTable) (g pages : ℕ) (victims : List ℕ) (m n : KnownMachine) (steps : Run)
+pub each_lowers : (r : Option ℕ) (t : KnownTable) (g pages : ℕ) (victims : List Killed) (m n : KnownMachine) (steps : Run)
     → KillsEach r g pages victims (course t m steps n) → Lowers t m n
 each_lowers r t g pages [] m n steps h = subst (λ (x : KnownMachine). Lowers t m x) (sym h.machine) (lowers_none t m)
-each_lowers r t g pages (v ∷ later) m n steps h =
-    lowers_both t m h.between n (one_lowers t v m h.between h.first.marked h.first.stocks h.first.keeps)
+each_lowers r t g pages (killed ∷ later) m n steps h =
+    lowers_both t m h.between n (one_lowers t (kill_set m killed) m h.between h.first.marked h.first.stocks h.first.keeps)
     (each_lowers r t g pages later h.between n h.later h.second)
 
-usage_noted : (groups : List Group) (xs : List charge.Account) (g m : ℕ) → usage_of groups (map (with_event_at with_oom groups g) xs) m ≡ usage_of groups xs m
+usage_noted : (groups : List Group) (xs : List charge.Account) (g m : ℕ) → usage_of groups (map (with_event_at Oom groups g) xs) m ≡ usage_of groups xs m
 unfolding usage_of
-usage_noted groups xs g m = sum-map_same (share groups m) (with_event_at with_oom groups g) (λ a. refl) xs
+usage_noted groups xs g m = sum-map_same (share groups m) (with_event_at Oom groups g) (λ a. refl) xs
 
 pub oom_lowers : (t : KnownTable) (m : KnownMachine) (g : ℕ) → Lowers t m (with_oom_noted_at m g)
 oom_lowers t m g = record {
@@ -107,9 +116,9 @@ alive_at marks g = cond (is_killed marks g) 0 1
 abbrev pub count_alive : KnownMachine → ℕ
 count_alive m = sum_to 64 (alive_at m.killed)
 
-alive_less : (marks : List Bool) (v : ℕ) → v < length marks → is_killed marks v ≡ false → alive_at (slice_set marks v true) v < alive_at marks v
-alive_less marks v inside alive =
-    let now : alive_at (slice_set marks v true) v ≡ 0 = ap (λ (b : Bool). cond b 0 1) (get_or-set_same marks v true false inside) in
+alive_less : (marks later : List Bool) (v : ℕ) → is_killed later v ≡ true → is_killed marks v ≡ false → alive_at later v < alive_at marks v
+alive_less marks later v dead alive =
+    let now : alive_at later v ≡ 0 = ap (λ (b : Bool). cond b 0 1) dead in
     let was : alive_at marks v ≡ 1 = ap (λ (b : Bool). cond b 0 1) alive in
     omega (arith, now, was)
 
@@ -122,41 +131,58 @@ alive_falls true true stays = omega arith
 pub victim_below : (m : KnownMachine) → AreCharges m.ledger → (g v : ℕ) → IsVictim m g (Some v) → v < 64
 victim_below m charges g v most = number_below m.ledger.groups v charges.groups (chosen_there m g v most.chosen)
 
-pub fewer_alive : (t : KnownTable) (w : Words) (m n : KnownMachine) (g v : ℕ) → IsConsistent t w m → AreCharges m.ledger → IsVictim m g (Some v)
-    → n.killed ≡ slice_set m.killed v true → count_alive n < count_alive m
-fewer_alive t w m n g v whole charges most marked =
+-- each of these is marked
+all_marked : (groups : List ℕ) (marks : List Bool) (v k : ℕ) → v < length marks → k < length groups → slice_index_or groups k v ≡ v
+    → is_killed (with_all_killed marks groups) v ≡ true
+all_marked [] marks v k inside low is = absurd (omega (arith, low))
+all_marked (x ∷ groups) marks v zero inside low is =
+    all_stay_marked groups (slice_set marks x true) v
+    (subst (λ (y : ℕ). is_killed (slice_set marks y true) v ≡ true) (sym is) (get_or-set_same marks v true false inside))
+all_marked (x ∷ groups) marks v (suc k) inside low is =
+    let long = length-set marks x true in
+    all_marked groups (slice_set marks x true) v k (omega (arith, inside, long)) (omega (arith, low)) is
+
+pub fewer_alive : (t : KnownTable) (w : Words) (m n : KnownMachine) (g : ℕ) (killed : Killed) → IsConsistent t w m → AreCharges m.ledger
+    → IsVictim m g (Some killed.victim) → IsHead m.ledger.groups g killed → n.killed ≡ with_all_killed m.killed (kill_set m killed)
+    → count_alive n < count_alive m
+fewer_alive t w m n g killed whole charges most head marked =
+    let v = killed.victim in
+    let groups = kill_set m killed in
+    let now = with_all_killed m.killed groups in
     let low = victim_below m charges g v most in
     let many = whole.sizes.killed in
     let inside : v < length m.killed = omega (arith, low, many) in
     let alive : is_killed m.killed v ≡ false = not-true (is_killed m.killed v) (and_parts (in_subtree m.ledger.groups g v) _ most.chosen).1 in
+    let dies = victims_die m g killed (record { groups = charges.groups; chosen = most; head_is = head }) in
+    let dead : is_killed now v ≡ true = all_marked groups m.killed v dies.0 inside dies.1 dies.2 in
     subst (λ (k : List Bool). sum_to 64 (alive_at k) < count_alive m) (sym marked)
-    (sum_less 64 (alive_at (slice_set m.killed v true)) (alive_at m.killed) v low
-    (λ j. alive_falls (is_killed m.killed j) (is_killed (slice_set m.killed v true) j) (stays_marked m.killed v j)) (alive_less m.killed v inside alive))
+    (sum_less 64 (alive_at now) (alive_at m.killed) v low
+    (λ j. alive_falls (is_killed m.killed j) (is_killed now j) (all_stay_marked groups m.killed j)) (alive_less m.killed now v dead alive))
 
 -- kills, and one more
-kills_more : (r : Option ℕ) (t : KnownTable) (g pages v : ℕ) (victims : List ℕ) (m x n : KnownMachine) (first last : Run)
-    → KillsEach r g pages victims (course t m first x) → KillsOne r g pages v (course t x last n)
-    → KillsEach r g pages (victims ++ v ∷ []) (course t m (first ++ last) n)
-kills_more r t g pages v [] m x n first last each one = record {
+kills_more : (r : Option ℕ) (t : KnownTable) (g pages : ℕ) (killed : Killed) (victims : List Killed) (m x n : KnownMachine) (first last : Run)
+    → KillsEach r g pages victims (course t m first x) → KillsOne r g pages killed (course t x last n)
+    → KillsEach r g pages (victims ++ killed ∷ []) (course t m (first ++ last) n)
+kills_more r t g pages killed [] m x n first last each one = record {
   between = n;
   earlier = last;
   later = [];
-  first = subst (λ (y : KnownMachine). KillsOne r g pages v (course t y last n)) each.machine one;
+  first = subst (λ (y : KnownMachine). KillsOne r g pages killed (course t y last n)) each.machine one;
   second = record { machine = refl; steps_are = refl };
   steps_are = ap (λ (k : Run). k ++ last) each.steps_are ∙ sym (append-nil last);
 }
-kills_more r t g pages v (u ∷ victims) m x n first last each one = record {
+kills_more r t g pages killed (u ∷ victims) m x n first last each one = record {
   between = each.between;
   earlier = each.earlier;
   later = each.later ++ last;
   first = each.first;
-  second = kills_more r t g pages v victims each.between x n each.later last each.second one;
+  second = kills_more r t g pages killed victims each.between x n each.later last each.second one;
   steps_are = ap (λ (k : Run). k ++ last) each.steps_are ∙ append_assoc each.earlier each.later last;
 }
 
--- these were killed so far, and nothing else happened
+-- these victims were killed so far, with all who die with them, and nothing else happened
 pub record KillsSoFar (r : Option ℕ) (t : KnownTable) (g pages : ℕ) (m n : KnownMachine) : Type 0 where
-  pub victims : List ℕ
+  pub victims : List Killed
   pub killing : Run
   pub kills : KillsEach r g pages victims (course t m killing n)
   pub runs : MakesForAny t m killing n
@@ -164,13 +190,13 @@ pub record KillsSoFar (r : Option ℕ) (t : KnownTable) (g pages : ℕ) (m n : K
 pub so_far_nobody : (r : Option ℕ) (t : KnownTable) (g pages : ℕ) (m : KnownMachine) → KillsSoFar r t g pages m m
 so_far_nobody r t g pages m = record { victims = []; killing = []; kills = record { machine = refl; steps_are = refl }; runs = λ c. makes_none t c.number (side m c) }
 
-pub so_far_killed : (r : Option ℕ) (t : KnownTable) (w : Words) (g pages v : ℕ) (m x n : KnownMachine) → KillsSoFar r t g pages m x
-    → IsWanting r g pages x → IsConsistent t w x → AreCharges x.ledger → IsVictim x g (Some v) → IsKilledBy t g v x n
-    → n.killed ≡ slice_set x.killed v true → OnlyDrains x n → OnlyLetsGo t x n → KillsSoFar r t g pages m n
-so_far_killed r t w g pages v m x n so_far wanting whole charges chosen kills marked stocks keeps = record {
-  victims = so_far.victims ++ v ∷ [];
+pub so_far_killed : (r : Option ℕ) (t : KnownTable) (w : Words) (g pages : ℕ) (killed : Killed) (m x n : KnownMachine) → KillsSoFar r t g pages m x
+    → IsWanting r g pages x → IsConsistent t w x → AreCharges x.ledger → IsVictim x g (Some killed.victim) → IsKilledBy t g killed x n
+    → n.killed ≡ with_all_killed x.killed (kill_set x killed) → OnlyDrains x n → OnlyLetsGo t x n → KillsSoFar r t g pages m n
+so_far_killed r t w g pages killed m x n so_far wanting whole charges chosen kills marked stocks keeps = record {
+  victims = so_far.victims ++ killed ∷ [];
   killing = so_far.killing ++ kills.steps;
-  kills = kills_more r t g pages v so_far.victims m x n so_far.killing kills.steps so_far.kills (record {
+  kills = kills_more r t g pages killed so_far.victims m x n so_far.killing kills.steps so_far.kills (record {
     wanting = wanting;
     chosen = chosen;
     words = w;

@@ -11,11 +11,12 @@ use Rattle.mem_machine.specs.Local.{Side, side}
 use Rattle.mem_machine.specs.Blocks.{taken_steps, unplaced_steps}
 use Rattle.mem_machine.specs.Lending.{LendsMany, TakesManyBack}
 use Rattle.mem_machine.specs.Stocks.{Drains, DrainsAllBelow, stock_group}
-use Rattle.mem_machine.specs.Steps.{Drain, unlist_steps, drain_list_steps, drain_steps, drain_stocks_steps, fill_steps, kill_steps, lend_steps, note_max_steps, note_oom_steps, over_steps, refill_steps, take_front_steps}
-use Rattle.mem_reclaim.specs.Moves.{missed_in}
+use Rattle.mem_machine.specs.Steps.{Drain, unlist_steps, drain_list_steps, drain_steps, drain_stocks_steps, fill_steps, lend_steps, note_max_steps, note_oom_steps, over_steps, refill_steps, take_front_steps}
+use Rattle.mem_reclaim.specs.declared.sets.Killed.{Killed}
+use Rattle.mem_reclaim.proofs.KillSets.{missed_both}
 use Rattle.mem_reclaim.proofs.LettingGo.{AreQuiet, misses_put, quiet_both, quiet_drain, quiet_drains}
 use Rattle.mem_alloc.specs.declared.faults.AllocFault.{AllocFault}
-use Rattle.mem_alloc.specs.declared.faults.AllocFault.TheVariants.{Over, NoFrames, Killed}
+use Rattle.mem_alloc.specs.declared.faults.AllocFault.TheVariants.{Over, NoFrames, RequesterKilled}
 use Rattle.mem_alloc.specs.Stepping.{CountsMisses, Course, InTurn, OfMachineAlone, Stays, Where, course, of_machine}
 use Rattle.mem_alloc.specs.Kills.{KillsEach, KillsFor, KillsOne, has_room_at, with_oom_noted_at}
 use Rattle.mem_alloc.specs.Room.{AfterRoom, ClearsBelow, IsRefusedAt, IsRefusedFor, IsRefusedAtSome, KillsForFew, MakesRoom, RelievesLimit, with_max_noted_at}
@@ -23,7 +24,7 @@ use Rattle.mem_alloc.specs.Charging.{ChargesAfterDrain, ChargesFrame, ChargesOne
 use Rattle.mem_alloc.specs.Rounds.{FailsInRounds, GivesInRound, MakesRound, SucceedsInRounds}
 use Rattle.mem_alloc.specs.Frames.{AllocatesFrame, FillsList, HasNoFreeFrame, LendsBatch, LendsNoFrame, RefillsInRounds}
 use Rattle.mem_alloc.specs.Blocks.{AllocatesBlock, ChargesBlock, FindsNoBlock, RetriesBlock, TakesAfterDrain, TakesFreeBlock, TakesInRounds, TakesOrReclaims}
-use Rattle.mem_alloc.proofs.NoRash.{all_same, missed_both}
+use Rattle.mem_alloc.proofs.NoRash.{all_same}
 
 -- ---- one after another
 
@@ -68,26 +69,20 @@ pub counts_drains : (t : KnownTable) (g k : ℕ) (m n : KnownMachine) (drains : 
     → CountsMisses (course t m (drain_stocks_steps drains) n)
 counts_drains t g k m n drains all = counts_same t m n (drain_stocks_steps drains) (quiet_drains drains) (all_same g k m n drains all).frame_seat
 
-counts_one : (r : Option ℕ) (t : KnownTable) (g pages v : ℕ) (m n : KnownMachine) (steps : Run) → KillsOne r g pages v (course t m steps n)
-    → CountsMisses (course t m steps n)
-counts_one r t g pages v m n steps h =
-    let told = kill_steps v ++ h.kills.once.later in
-    let quiet : (f : ℕ) → missed_in f told ≡ 0 = λ f.
-    let a = missed_both f (kill_steps v) h.kills.once.later in
-    let b = h.kills.once.no_miss f in
-    let z : missed_in f (kill_steps v) ≡ 0 = refl in
-    omega (arith, a, b, z) in
-    counts_as t m n steps told (h.steps_are ∙ h.kills.once.front) (λ f.
-    let p = quiet f in
+counts_one : (r : Option ℕ) (t : KnownTable) (g pages : ℕ) (killed : Killed) (m n : KnownMachine) (steps : Run)
+    → KillsOne r g pages killed (course t m steps n) → CountsMisses (course t m steps n)
+counts_one r t g pages killed m n steps h =
+    counts_as t m n steps h.kills.steps h.steps_are (λ f.
+    let p = h.kills.these.no_miss f in
     let q = h.keeps.misses f in
     omega (arith, p, q))
 
-counts_each : (r : Option ℕ) (t : KnownTable) (g pages : ℕ) (victims : List ℕ) (m n : KnownMachine) (steps : Run)
+counts_each : (r : Option ℕ) (t : KnownTable) (g pages : ℕ) (victims : List Killed) (m n : KnownMachine) (steps : Run)
     → KillsEach r g pages victims (course t m steps n) → CountsMisses (course t m steps n)
 counts_each r t g pages [] m n steps h = counts_rest t m n steps h.machine h.steps_are
-counts_each r t g pages (v ∷ later) m n steps h =
+counts_each r t g pages (killed ∷ later) m n steps h =
     counts_as t m n steps (h.earlier ++ h.later) h.steps_are (counts_both t m h.between n h.earlier h.later
-    (counts_one r t g pages v m h.between h.earlier h.first) (counts_each r t g pages later h.between n h.later h.second))
+    (counts_one r t g pages killed m h.between h.earlier h.first) (counts_each r t g pages later h.between n h.later h.second))
 
 pub counts_kills : (r : Option ℕ) (t : KnownTable) (g pages : ℕ) (m n : KnownMachine) (steps : Run) → KillsFor r g pages (course t m steps n)
     → CountsMisses (course t m steps n)
@@ -255,7 +250,7 @@ fills_count sizes (Err NoFrames) way h =
     counts_turns (RefillsInRounds sizes.batch false) (Where HasNoFreeFrame DrainsStock) (refills_count sizes.batch false)
     (λ last drains. drains_count last drains.does) way h.does.does
 fills_count sizes (Err (Over over)) way h = absurd h
-fills_count sizes (Err Killed) way h = absurd h
+fills_count sizes (Err RequesterKilled) way h = absurd h
 
 stock_counts : (g pages : ℕ) → AllCounted (FillsStock g pages)
 stock_counts g pages way h =
@@ -307,8 +302,8 @@ frame_counts sizes g (Err (Over over)) way h = pays_count sizes g (Err (Over ove
 frame_counts sizes g (Err NoFrames) way h =
     counts_turns (PaysForFrame sizes g (Ok tt)) (FillsList sizes (Err NoFrames)) (pays_count sizes g (Ok tt))
     (fills_count sizes (Err NoFrames)) way h.does
-frame_counts sizes g (Err Killed) way (inl h) = counts_stay way h.does
-frame_counts sizes g (Err Killed) way (inr h) = pays_count sizes g (Err Killed) way h.does
+frame_counts sizes g (Err RequesterKilled) way (inl h) = counts_stay way h.does
+frame_counts sizes g (Err RequesterKilled) way (inr h) = pays_count sizes g (Err RequesterKilled) way h.does
 
 -- ---- a block
 
@@ -335,7 +330,7 @@ rounds_count g k (Ok head) way h =
     succeeds_count (2 ^ k) (FindsNoBlock g k) (finds_none_counts g k) 16 (TakesFreeBlock g k head) (takes_count g k head) way h
 rounds_count g k (Err NoFrames) way h = fails_count (2 ^ k) (FindsNoBlock g k) (finds_none_counts g k) 16 way h
 rounds_count g k (Err (Over over)) way h = absurd h
-rounds_count g k (Err Killed) way h = absurd h
+rounds_count g k (Err RequesterKilled) way h = absurd h
 
 or_reclaims_count : (g k : ℕ) (answer : Result ℕ AllocFault) → AllCounted (TakesOrReclaims g k answer)
 or_reclaims_count g k (Ok head) way (inl h) = takes_count g k head way h
@@ -356,7 +351,7 @@ charged_counts : (g k : ℕ) (answer : Result ℕ AllocFault) → AllCounted (Ch
 charged_counts g k (Ok head) way h = after_room_counts g (2 ^ k) (TakesFreeBlock g k head) (takes_count g k head) way h
 charged_counts g k (Err (Over over)) way h = refusal_counts g (2 ^ k) (Over over) way h
 charged_counts g k (Err NoFrames) way h = after_room_counts g (2 ^ k) (FindsNoBlock g k) (finds_none_counts g k) way h
-charged_counts g k (Err Killed) way h = refusal_counts g (2 ^ k) Killed way h
+charged_counts g k (Err RequesterKilled) way h = refusal_counts g (2 ^ k) RequesterKilled way h
 
 retries_count : (g k : ℕ) (answer : Result ℕ AllocFault) → AllCounted (RetriesBlock g k answer)
 retries_count g k answer way h =
@@ -368,5 +363,5 @@ block_counts g k (Ok head) way (inl h) = charged_counts g k (Ok head) way h.does
 block_counts g k (Ok head) way (inr h) = retries_count g k (Ok head) way h.does
 block_counts g k (Err (Over over)) way h = charged_counts g k (Err (Over over)) way h.does
 block_counts g k (Err NoFrames) way h = retries_count g k (Err NoFrames) way h.does
-block_counts g k (Err Killed) way (inl h) = counts_stay way h.does
-block_counts g k (Err Killed) way (inr h) = charged_counts g k (Err Killed) way h.does
+block_counts g k (Err RequesterKilled) way (inl h) = counts_stay way h.does
+block_counts g k (Err RequesterKilled) way (inr h) = charged_counts g k (Err RequesterKilled) way h.does

@@ -1,44 +1,45 @@
 -- No kill comes before everything else was tried. Serves whoever tells the steps of a command.
 use Rattle.std.proofs.Common.{◌≡◌, ◌≢◌, ℕ, zero, suc, ◌+◌, ◌≤◌, Bool, true, false, Option, Some, None, List, [], ◌∷◌, ◌++◌, refl, sym, ap, ◌∙◌}
-use Rattle.std.proofs.Common.{subst, inl, inr, arith, cond, eq-eqb, ◌==◌, ◌||◌, ◌⊎◌}
+use Rattle.std.proofs.Common.{subst, inl, inr, arith, eq-eqb, ◌==◌, ◌||◌, ◌⊎◌}
 use Rattle.std.specs.Prelude.{Result, Ok, Err}
 use Rattle.std.proofs.lemmas.Option.{none-some}
 use Rattle.std.proofs.lemmas.Bool.{cases_Bool, cases_lt, false≢true}
 use Rattle.std.proofs.lemmas.List.{append_assoc, append-nil}
 use Rattle.std.proofs.lemmas.List.Folds.{list_any-append}
-use Rattle.std.proofs.lemmas.List.Sums.{sum_by-append}
 use Rattle.frame_word.specs.Seats.{KnownTable, misses_of}
 use Rattle.stock_word.specs.Stock.{Seated, account_of}
 use Rattle.group_tree.specs.declared.group.Group.{Group}
-use Rattle.group_tree.specs.Groups.{in_subtree}
+use Rattle.group_tree.specs.Groups.{in_subtree, is_oom_group}
 use Rattle.lru_lists.specs.declared.record.Link.{Link}
 use Rattle.lru_lists.specs.declared.record.Home.{Home}
 use Rattle.lru_lists.specs.Lists.{owner_of}
 use Rattle.lru_lists.specs.Queue.{link_at}
 use Rattle.cpu_part.specs.Cpus.{KnownCpu}
-use Rattle.step_rules.specs.declared.step.Action.{Action}
 use Rattle.step_rules.specs.declared.step.Action.TheVariants.{Kill}
 use Rattle.step_rules.specs.declared.step.Answer.{Answer}
-use Rattle.step_rules.specs.declared.step.Answer.TheVariants.{Done}
 use Rattle.step_rules.specs.declared.step.Step.{Step}
 use Rattle.step_rules.specs.State.{State}
 use Rattle.step_rules.specs.After.{Run, after}
-use Rattle.mem_machine.specs.Machines.{KnownMachine, home_of}
+use Rattle.mem_machine.specs.Machines.{KnownMachine, home_of, with_note}
 use Rattle.mem_machine.specs.Local.{IsLocalRun, MakesForAny, Side, local_of, side}
-use Rattle.mem_machine.specs.Steps.{Drain, drain_stocks_steps, kill_steps, note_max_steps, note_oom_steps, over_steps}
+use Rattle.mem_machine.specs.Steps.{Drain, drain_stocks_steps, note_group_kill_steps, note_max_steps, note_oom_steps, over_steps}
 use Rattle.mem_machine.specs.Stocks.{AreDrained, Drains, DrainsBelow, DrainsAllBelow, of_subtree, stock_group}
 use Rattle.mem_machine.proofs.Draining.{groups_stay}
 use Rattle.mem_machine.proofs.Reaching.{run_both}
-use Rattle.mem_reclaim.specs.Moves.{has_kill, is_kill, is_miss, missed_in}
+use Rattle.mem_reclaim.specs.declared.sets.Killed.{Killed}
+use Rattle.mem_reclaim.specs.Moves.{has_kill, is_kill, killed_by, kills_in, missed_in}
 use Rattle.mem_reclaim.specs.Staying.{Keeps, MissedAll}
-use Rattle.mem_reclaim.specs.Killing.{IsKilledBy, OnlyDrains, OnlyLetsGo}
+use Rattle.mem_reclaim.specs.Killing.{IsKilledBy, KillsAll, KillsAs, OnlyDrains, OnlyLetsGo}
+use Rattle.mem_reclaim.specs.Sets.{alive_below, group_kill_note, kill_set}
+use Rattle.mem_reclaim.specs.Victim.{victim_note}
+use Rattle.mem_reclaim.proofs.KillSets.{kills_both, missed_both}
 use Rattle.mem_reclaim.proofs.LettingGo.{AreQuiet, quiet_both, quiet_drains}
 use Rattle.mem_alloc.specs.Stepping.{Course, OfMachineAlone, MachineStays, course}
 use Rattle.mem_alloc.specs.Kills.{KillsEach, KillsFor, KillsOne, KillsUntilRoom, has_room_at, with_oom_noted_at}
 use Rattle.mem_alloc.specs.Room.{AfterRoom, ClearsBelow, IsRefusedAt, IsRefusedFor, IsRefusedAtSome, KillsForFew, MakesRoom, ReclaimsFor, RelievesLimit}
 use Rattle.mem_alloc.specs.Room.{with_max_noted_at}
 use Rattle.mem_alloc.specs.declared.faults.AllocFault.{AllocFault}
-use Rattle.mem_alloc.specs.NoRash.{IsLeftBySteps, MayKill, MayKillAfter, has_oom_note, is_oom_note}
+use Rattle.mem_alloc.specs.NoRash.{IsLeftBySteps, MayKill, MayKillAfter, begins_with_kill, has_oom_note, is_oom_note}
 
 -- ---- where a pair of a list stands
 
@@ -66,23 +67,20 @@ nothing_stands (x ∷ before) rest e is = false≢true (ap is_some_list is)
 
 -- a pair of the one list after the other stands in the one or in the other
 stands_in : (one two before rest : Run) (e : Step × Answer) → one ++ two ≡ before ++ e ∷ rest
-    → ((more : Run) × (one ≡ before ++ e ∷ more)) ⊎ ((later : Run) × (before ≡ one ++ later) × (two ≡ later ++ e ∷ rest))
+    → ((more : Run) × (one ≡ before ++ e ∷ more) × (more ++ two ≡ rest)) ⊎ ((later : Run) × (before ≡ one ++ later) × (two ≡ later ++ e ∷ rest))
 stands_in [] two before rest e is = inr (before, refl, is)
-stands_in (x ∷ one) two [] rest e is = inl (one, ap (λ (a : Step × Answer). a ∷ one) (first_same x e (one ++ two) rest is))
+stands_in (x ∷ one) two [] rest e is =
+    inl (one, ap (λ (a : Step × Answer). a ∷ one) (first_same x e (one ++ two) rest is), rest_same x e (one ++ two) rest is)
 stands_in (x ∷ one) two (y ∷ before) rest e is =
     let head = first_same x y (one ++ two) (before ++ e ∷ rest) is in
     elim (stands_in one two before rest e (rest_same x y (one ++ two) (before ++ e ∷ rest) is)) [
-      | inl here ↦ inl (here.0, ap (λ (z : (Step × Answer) × Run). z.0 ∷ z.1) (λ i. (head i, here.1 i)))
+      | inl here ↦ inl (here.0, ap (λ (z : (Step × Answer) × Run). z.0 ∷ z.1) (λ i. (head i, here.1 i)), here.2)
       | inr there ↦ inr (
         there.0,
         ap (λ (z : (Step × Answer) × Run). z.0 ∷ z.1) (λ i. (sym head i, there.1 i)),
         there.2,
       )
     ]
-
-only_one : (x : Step × Answer) (before rest : Run) (e : Step × Answer) → x ∷ [] ≡ before ++ e ∷ rest → (before ≡ []) × (x ≡ e)
-only_one x [] rest e is = (refl, first_same x e [] rest is)
-only_one x (y ∷ before) rest e is = absurd (nothing_stands before rest e (rest_same x y [] (before ++ e ∷ rest) is))
 
 or_mid : (a b c : Bool) → b ≡ true → (a || (b || c)) ≡ true
 or_mid true b c is = refl
@@ -100,12 +98,40 @@ kills_there before rest e v kill =
     list_any-append (λ (x : Step × Answer). is_kill x.0.action) before (e ∷ rest)
     ∙ or_mid (has_kill before) (is_kill e.0.action) (has_kill rest) (ap is_kill kill)
 
-abbrev killed_by : Action → ℕ
-killed_by (Kill v) = v
-killed_by action = 0
+-- ---- where kills come first
 
-same_victim : (v u : ℕ) → Kill v ≡ Kill u → v ≡ u
-same_victim v u is = ap killed_by is
+-- the first step kills a group, or none does
+abbrev KillsFirst : Run → Type 0
+KillsFirst steps = (has_kill steps ≡ false) ⊎ (begins_with_kill steps ≡ true)
+
+begins_so : (before rest : Run) (e : Step × Answer) → begins_with_kill (before ++ e ∷ rest) ≡ true → (before ≡ []) ⊎ (begins_with_kill before ≡ true)
+begins_so [] rest e first = inl refl
+begins_so (x ∷ before) rest e first = inr first
+
+-- what leads up to a kill among such steps begins with a kill too
+comes_at_once : (steps before rest : Run) (e : Step × Answer) (v : ℕ) → KillsFirst steps → steps ≡ before ++ e ∷ rest → e.0.action ≡ Kill v
+    → (before ≡ []) ⊎ (begins_with_kill before ≡ true)
+comes_at_once steps before rest e v (inl quiet) is kill = absurd (false≢true (sym quiet ∙ ap has_kill is ∙ kills_there before rest e v kill))
+comes_at_once steps before rest e v (inr first) is kill = begins_so before rest e (sym (ap begins_with_kill is) ∙ first)
+
+begins_longer : (one two : Run) → begins_with_kill one ≡ true → begins_with_kill (one ++ two) ≡ true
+begins_longer [] two first = absurd (false≢true first)
+begins_longer (x ∷ one) two first = first
+
+subtree_first : (t : KnownTable) (g head : ℕ) (groups : List ℕ) (m : KnownMachine) (steps : Run) (n : KnownMachine) → KillsAll t g groups m steps n
+    → KillsFirst (steps ++ note_group_kill_steps head)
+subtree_first t g head [] m steps n h = inl (ap (λ (k : Run). has_kill (k ++ note_group_kill_steps head)) h.1)
+subtree_first t g head (v ∷ groups) m steps n h =
+    let one : begins_with_kill h.first ≡ true = ap begins_with_kill h.kills.kills.steps_are in
+    let all : begins_with_kill steps ≡ true = ap begins_with_kill h.steps_are ∙ begins_longer h.first h.later one in
+    inr (begins_longer steps (note_group_kill_steps head) all)
+
+set_first : (flag : Bool) (t : KnownTable) (g : ℕ) (killed : Killed) (m : KnownMachine) (steps : Run) (n : KnownMachine)
+    → KillsAs flag t g killed m steps n → KillsFirst steps
+set_first true t g killed m steps n h =
+    subst (λ (k : Run). KillsFirst k) (sym h.steps_are)
+    (subtree_first t g killed.head (alive_below m killed.head) (with_note m (group_kill_note m killed.head)) h.killing h.between h.kills)
+set_first false t g killed m steps n h = inr (ap begins_with_kill h.kills.steps_are)
 
 -- ---- lists of local steps
 
@@ -129,9 +155,6 @@ passes_none t c m = record {
   runs = refl;
   tied = record { misses = λ f. omega arith; owners = λ f is. refl; dirt = λ f is. refl };
 }
-
-pub missed_both : (f : ℕ) (one two : Run) → missed_in f (one ++ two) ≡ missed_in f one + missed_in f two
-missed_both f one two = sum_by-append (λ (e : Step × Answer). cond (is_miss f e.0.action e.1) 1 0) one two
 
 owned : (o was : Option Home) → o ≢ None → owner_of o ≡ owner_of was → was ≢ None
 owned None was kept same none = kept refl
@@ -231,35 +254,62 @@ keeps_pass t c m n steps runs keeps misses = record {
 -- each kill among these steps of a call, before which it made others, comes where its group may be killed
 abbrev pub RashFree : KnownTable → (List Group → ℕ → ℕ → Type 0) → KnownMachine → KnownCpu → Run → Run → Type 0
 RashFree t MayAsk start c made steps =
-    (before rest : Run) (e : Step × Answer) (victim : ℕ) → steps ≡ before ++ e ∷ rest → e.0.action ≡ Kill victim
-    → MayKillAfter t MayAsk start c (made ++ before) victim
+    (before rest : Run) (e : Step × Answer) (group : ℕ) → steps ≡ before ++ e ∷ rest → e.0.action ≡ Kill group
+    → MayKillAfter t MayAsk start c (made ++ before) group rest
 
 module _ (t : KnownTable) (MayAsk : List Group → ℕ → ℕ → Type 0) (s : KnownMachine) (c : KnownCpu) where
   pub rash_quiet : (made steps : Run) → has_kill steps ≡ false → RashFree t MayAsk s c made steps
   rash_quiet made steps quiet before rest e v is kill =
       absurd (false≢true (sym quiet ∙ ap has_kill is ∙ kills_there before rest e v kill))
 
+  -- more steps come after
+  may_longer : (before rest two : Run) (v : ℕ) → MayKillAfter t MayAsk s c before v rest → MayKillAfter t MayAsk s c before v (rest ++ two)
+  may_longer before rest two v may = record {
+    tried = may.tried;
+    since = may.since;
+    now = may.now;
+    killed = may.killed;
+    left = may.left;
+    later = may.later ++ kills_in two;
+    steps_are = may.steps_are;
+    leads = may.leads;
+    may = may.may;
+    at_once = may.at_once;
+    set_is = may.set_is;
+    others_die =
+        kills_both rest two ∙ ap (λ (k : List ℕ). k ++ kills_in two) may.others_die ∙ append_assoc may.left may.later (kills_in two);
+  }
+
   pub rash_both : (made one two : Run) → RashFree t MayAsk s c made one → RashFree t MayAsk s c (made ++ one) two
       → RashFree t MayAsk s c made (one ++ two)
   rash_both made one two first last before rest e v is kill = elim (stands_in one two before rest e is) [
-    | inl here ↦ first before here.0 e v here.1 kill
+    | inl here ↦
+        subst (λ (r : Run). MayKillAfter t MayAsk s c (made ++ before) v r) here.2
+        (may_longer (made ++ before) here.0 two v (first before here.0 e v here.1 kill))
     | inr there ↦
         let same : (made ++ one) ++ there.0 ≡ made ++ before =
         append_assoc made one there.0 ∙ ap (λ (r : Run). made ++ r) (sym there.1) in
-        subst (λ (done : Run). MayKillAfter t MayAsk s c done v) same (last there.0 rest e v there.2 kill)
+        subst (λ (done : Run). MayKillAfter t MayAsk s c done v rest) same (last there.0 rest e v there.2 kill)
   ]
 
-  -- a kill, and then steps without one
-  pub rash_kill : (made later : Run) (m : KnownMachine) (v : ℕ) → IsLocalRun c.number (local_of t s c) made (local_of t m c)
-      → MayKill MayAsk (course t s made m) v → has_kill later ≡ false → RashFree t MayAsk s c made (kill_steps v ++ later)
-  rash_kill made later m v runs may quiet before rest e u is kill = elim (stands_in (kill_steps v) later before rest e is) [
-    | inl here ↦
-        let only = only_one (record { seat = 0; action = Kill v }, Done) before here.0 e here.1 in
-        let who : v ≡ u = same_victim v u (ap (λ (x : Step × Answer). x.0.action) only.1 ∙ kill) in
-        let done : made ≡ made ++ before = sym (append-nil made) ∙ ap (λ (r : Run). made ++ r) (sym only.0) in
-        subst (λ (z : Run × ℕ). MayKillAfter t MayAsk s c z.0 z.1) (λ i. (done i, who i)) (record { now = m; leads = runs; may = may })
-    | inr there ↦ absurd (false≢true (sym quiet ∙ ap has_kill there.2 ∙ kills_there there.0 rest e u kill))
-  ]
+  -- the steps kill just the groups of a set, the first of them at once
+  rash_set : (made steps : Run) (m : KnownMachine) (killed : Killed) → IsLocalRun c.number (local_of t s c) made (local_of t m c)
+      → MayKill MayAsk (course t s made m) killed → KillsFirst steps → kills_in steps ≡ kill_set m killed → RashFree t MayAsk s c made steps
+  rash_set made steps m killed runs may first these before rest e v is kill = record {
+    tried = made;
+    since = before;
+    now = m;
+    killed = killed;
+    left = kills_in rest;
+    later = [];
+    steps_are = refl;
+    leads = runs;
+    may = may;
+    at_once = comes_at_once steps before rest e v first is kill;
+    set_is = sym these ∙ ap kills_in is ∙ kills_both before (e ∷ rest)
+        ∙ ap (λ (one : List ℕ). kills_in before ++ (one ++ kills_in rest)) (ap killed_by kill);
+    others_die = sym (append-nil (kills_in rest));
+  }
 
   -- what a part of the call's steps leaves, and that no kill among them is too early
   pub record Tame (made : Run) (m : KnownMachine) (steps : Run) (n : KnownMachine) : Type 0 where
@@ -306,18 +356,15 @@ module _ (t : KnownTable) (MayAsk : List Group → ℕ → ℕ → Type 0) (s : 
   is_kept None kept = absurd (kept refl)
   is_kept (Some h) kept = (h, refl)
 
-  -- a kill's steps, of which the first is the kill
-  kill_passes : (g v : ℕ) (m n : KnownMachine) (kills : IsKilledBy t g v m n) → OnlyLetsGo t m n → Passes t c m kills.steps n
-  kill_passes g v m n kills keeps = record {
+  -- the steps of a victim's kill, with all who die with it
+  kill_passes : (g : ℕ) (killed : Killed) (m n : KnownMachine) (kills : IsKilledBy t g killed m n) → OnlyLetsGo t m n → Passes t c m kills.steps n
+  kill_passes g killed m n kills keeps = record {
     runs = (kills.runs c).leads;
     tied = record {
       misses = λ f.
           let p = keeps.misses f in
-          let q = kills.once.no_miss f in
-          let r : missed_in f kills.steps ≡ missed_in f (kill_steps v) + missed_in f kills.once.later =
-          ap (missed_in f) kills.once.front ∙ missed_both f (kill_steps v) kills.once.later in
-          let z : missed_in f (kill_steps v) ≡ 0 = refl in
-          omega (arith, p, q, r, z);
+          let q = kills.these.no_miss f in
+          omega (arith, p, q);
       owners = λ f is.
           let there = is_kept (home_of n.links f) is in
           ap owner_of (there.1 ∙ sym (keeps.leaves f there.0 there.1));
@@ -338,10 +385,10 @@ module _ (t : KnownTable) (MayAsk : List Group → ℕ → ℕ → Type 0) (s : 
       let q = keeps.misses f in
       omega (arith, p, q)
 
-  ready_more : (r : Option ℕ) (g pages v : ℕ) (made : Run) (m : KnownMachine) (steps : Run) (n : KnownMachine) → Ready g made m
-      → (one : KillsOne r g pages v (course t m steps n)) → Ready g (made ++ steps) n
-  ready_more r g pages v made m steps n ready one =
-      let passes = subst (λ (k : Run). Passes t c m k n) (sym one.steps_are) (kill_passes g v m n one.kills one.keeps) in
+  ready_more : (r : Option ℕ) (g pages : ℕ) (killed : Killed) (made : Run) (m : KnownMachine) (steps : Run) (n : KnownMachine) → Ready g made m
+      → (one : KillsOne r g pages killed (course t m steps n)) → Ready g (made ++ steps) n
+  ready_more r g pages killed made m steps n ready one =
+      let passes = subst (λ (k : Run). Passes t c m k n) (sym one.steps_are) (kill_passes g killed m n one.kills one.keeps) in
       record {
         since = passes_both t c s m n made steps ready.since passes;
         noted = noted_more g made steps ready.noted;
@@ -349,9 +396,9 @@ module _ (t : KnownTable) (MayAsk : List Group → ℕ → ℕ → Type 0) (s : 
         missed = still_missed g m n one.keeps ready.missed;
       }
 
-  may_kill : (r : Option ℕ) (g pages v : ℕ) (made : Run) (m : KnownMachine) (steps : Run) (n : KnownMachine) → MayAsk m.ledger.groups g pages
-      → Ready g made m → KillsOne r g pages v (course t m steps n) → MayKill MayAsk (course t s made m) v
-  may_kill r g pages v made m steps n asked ready one = record {
+  may_kill : (r : Option ℕ) (g pages : ℕ) (killed : Killed) (made : Run) (m : KnownMachine) (steps : Run) (n : KnownMachine)
+      → MayAsk m.ledger.groups g pages → Ready g made m → KillsOne r g pages killed (course t m steps n) → MayKill MayAsk (course t s made m) killed
+  may_kill r g pages killed made m steps n asked ready one = record {
     limited = g;
     need = pages;
     asked = asked;
@@ -360,32 +407,34 @@ module _ (t : KnownTable) (MayAsk : List Group → ℕ → ℕ → Type 0) (s : 
     drained = ready.drained;
     missed = ready.missed;
     chosen = one.chosen;
+    head_is = one.kills.head_is;
     words = one.words;
     consistent = one.consistent;
     charges = one.charges;
     tied = ready.since.tied;
   }
 
-  tame_one : (r : Option ℕ) (g pages v : ℕ) (made : Run) (m : KnownMachine) (steps : Run) (n : KnownMachine) → MayAsk m.ledger.groups g pages
-      → Ready g made m → KillsOne r g pages v (course t m steps n) → Tame made m steps n
-  tame_one r g pages v made m steps n asked ready one =
-      let may = may_kill r g pages v made m steps n asked ready one in
+  tame_one : (r : Option ℕ) (g pages : ℕ) (killed : Killed) (made : Run) (m : KnownMachine) (steps : Run) (n : KnownMachine)
+      → MayAsk m.ledger.groups g pages → Ready g made m → KillsOne r g pages killed (course t m steps n) → Tame made m steps n
+  tame_one r g pages killed made m steps n asked ready one =
+      let may = may_kill r g pages killed made m steps n asked ready one in
+      let first = set_first (is_oom_group m.ledger.groups killed.head) t g killed (with_note m (victim_note m g killed.victim one.kills.next))
+      one.kills.steps n one.kills.kills in
       subst (λ (k : Run). Tame made m k n) (sym one.steps_are) (record {
-        rash = subst (λ (k : Run). RashFree t MayAsk s c made k) (sym one.kills.once.front)
-            (rash_kill made one.kills.once.later m v ready.since.runs may one.kills.once.quiet);
-        passes = kill_passes g v m n one.kills one.keeps;
+        rash = rash_set made one.kills.steps m killed ready.since.runs may first one.kills.these.killed;
+        passes = kill_passes g killed m n one.kills one.keeps;
         groups = one.keeps.groups;
       })
 
-  tame_each : (r : Option ℕ) (g pages : ℕ) (victims : List ℕ) (made : Run) (m : KnownMachine) (steps : Run) (n : KnownMachine)
+  tame_each : (r : Option ℕ) (g pages : ℕ) (victims : List Killed) (made : Run) (m : KnownMachine) (steps : Run) (n : KnownMachine)
       → MayAsk m.ledger.groups g pages → Ready g made m → KillsEach r g pages victims (course t m steps n) → Tame made m steps n
   tame_each r g pages [] made m steps n asked ready each = tame_stays made m steps n each
-  tame_each r g pages (v ∷ later) made m steps n asked ready each =
+  tame_each r g pages (killed ∷ later) made m steps n asked ready each =
       let x = each.between in
       let first = each.earlier in
-      let one = tame_one r g pages v made m first x asked ready each.first in
+      let one = tame_one r g pages killed made m first x asked ready each.first in
       let still = subst (λ (l : List Group). MayAsk l g pages) (sym each.first.keeps.groups) asked in
-      let rest = tame_each r g pages later (made ++ first) x each.later n still (ready_more r g pages v made m first x ready each.first) each.second in
+      let rest = tame_each r g pages later (made ++ first) x each.later n still (ready_more r g pages killed made m first x ready each.first) each.second in
       subst (λ (k : Run). Tame made m k n) (sym each.steps_are) (tame_both made m x n first each.later one rest)
 
   -- where everything was tried, and what is noted then is one more `oom`

@@ -19,7 +19,7 @@ use Rattle.mem_machine.specs.Steps.{drain_list_steps, drain_steps, over_steps, t
 use Rattle.mem_reclaim.specs.Moves.{has_kill, is_kill}
 use Rattle.mem_reclaim.proofs.LettingGo.{quiet_drain}
 use Rattle.mem_alloc.specs.declared.faults.AllocFault.{AllocFault}
-use Rattle.mem_alloc.specs.declared.faults.AllocFault.TheVariants.{Over, NoFrames, Killed}
+use Rattle.mem_alloc.specs.declared.faults.AllocFault.TheVariants.{Over, NoFrames, RequesterKilled}
 use Rattle.mem_alloc.specs.Stepping.{Course, InTurn, Where, course}
 use Rattle.mem_alloc.specs.Charging.{ChargesAfterDrain, ChargesFrame, ChargesOne, DrainsStock, FillsStock, AfterBatchRefused, PaysForFrame}
 use Rattle.mem_alloc.specs.Rounds.{FailsInRounds, GivesInRound, MakesRound, SucceedsInRounds}
@@ -94,7 +94,7 @@ fills_quiet sizes (Err NoFrames) way h =
     turns_quiet (RefillsInRounds sizes.batch false) (Where HasNoFreeFrame DrainsStock) (refills_quiet sizes.batch false)
     (λ last drains. drains_quiet last drains.does) way h.does.does
 fills_quiet sizes (Err (Over over)) way h = absurd h
-fills_quiet sizes (Err Killed) way h = absurd h
+fills_quiet sizes (Err RequesterKilled) way h = absurd h
 
 -- ---- a block
 
@@ -109,7 +109,7 @@ rounds_quiet g k (Ok head) way h =
     succeeds_quiet (2 ^ k) (FindsNoBlock g k) (finds_none_quiet g k) 16 (TakesFreeBlock g k head) (takes_quiet g k head) way h
 rounds_quiet g k (Err NoFrames) way h = fails_quiet (2 ^ k) (FindsNoBlock g k) (finds_none_quiet g k) 16 way h
 rounds_quiet g k (Err (Over over)) way h = absurd h
-rounds_quiet g k (Err Killed) way h = absurd h
+rounds_quiet g k (Err RequesterKilled) way h = absurd h
 
 or_reclaims_quiet : (g k : ℕ) (answer : Result ℕ AllocFault) → AllQuiet (TakesOrReclaims g k answer)
 or_reclaims_quiet g k (Ok head) way (inl h) = takes_quiet g k head way h
@@ -217,8 +217,8 @@ module _ (t : KnownTable) (MayAsk : List Group → ℕ → ℕ → Type 0) (s : 
         let quiet = fills_quiet sizes (Err NoFrames) (course t h.between h.later n) h.second in
         subst (λ (k : Run). RashFree t MayAsk s c [] k) (sym h.steps_are) (rash_both t MayAsk s c [] h.earlier h.later
         (pays_rash sizes (Ok tt) h.earlier h.later h.between z all h.first) (rash_quiet t MayAsk s c h.earlier h.later quiet))
-    frame_no_rash sizes (Err Killed) steps n z whole (inl h) = rash_quiet t MayAsk s c [] steps (ap has_kill h.does.steps_are)
-    frame_no_rash sizes (Err Killed) steps n z whole (inr h) = pays_all_rash sizes (Err Killed) steps n z whole h.does
+    frame_no_rash sizes (Err RequesterKilled) steps n z whole (inl h) = rash_quiet t MayAsk s c [] steps (ap has_kill h.does.steps_are)
+    frame_no_rash sizes (Err RequesterKilled) steps n z whole (inr h) = pays_all_rash sizes (Err RequesterKilled) steps n z whole h.does
 
   -- ---- blocks
 
@@ -233,8 +233,8 @@ module _ (t : KnownTable) (MayAsk : List Group → ℕ → ℕ → Type 0) (s : 
     charged_rash (Err NoFrames) steps rest n z whole h =
         quiet_after_room t MayAsk s c g (2 ^ k) s.ledger.groups asks (FindsNoBlock g k) [] s steps rest n z refl (passes_none t c s) whole
         (finds_none_quiet g k) h
-    charged_rash (Err Killed) steps rest n z whole h =
-        refusal_rash t MayAsk s c g (2 ^ k) s.ledger.groups asks Killed [] s steps rest n z refl (passes_none t c s) whole h
+    charged_rash (Err RequesterKilled) steps rest n z whole h =
+        refusal_rash t MayAsk s c g (2 ^ k) s.ledger.groups asks RequesterKilled [] s steps rest n z refl (passes_none t c s) whole h
 
     charged_all_rash : (answer : Result ℕ AllocFault) (steps : Run) (n : Side) (z : State) → IsLocalRun c.number (local_of t s c) steps z
         → ChargesBlock g k answer (course t (side s c) steps n) → RashFree t MayAsk s c [] steps
@@ -255,5 +255,5 @@ module _ (t : KnownTable) (MayAsk : List Group → ℕ → ℕ → Type 0) (s : 
     block_no_rash (Ok head) steps n z whole (inr h) = retries_rash (Ok head) steps n z whole h.does
     block_no_rash (Err (Over over)) steps n z whole h = charged_all_rash (Err (Over over)) steps n z whole h.does
     block_no_rash (Err NoFrames) steps n z whole h = retries_rash (Err NoFrames) steps n z whole h.does
-    block_no_rash (Err Killed) steps n z whole (inl h) = rash_quiet t MayAsk s c [] steps (ap has_kill h.does.steps_are)
-    block_no_rash (Err Killed) steps n z whole (inr h) = charged_all_rash (Err Killed) steps n z whole h.does
+    block_no_rash (Err RequesterKilled) steps n z whole (inl h) = rash_quiet t MayAsk s c [] steps (ap has_kill h.does.steps_are)
+    block_no_rash (Err RequesterKilled) steps n z whole (inr h) = charged_all_rash (Err RequesterKilled) steps n z whole h.does

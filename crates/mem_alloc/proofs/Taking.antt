@@ -21,12 +21,12 @@ use Rattle.mem_machine.specs.Blocks.{TakesBlock, TakesNoBlock, RefusesBlock, blo
 use Rattle.mem_machine.specs.Paying.{HasRoomFor}
 use Rattle.mem_machine.specs.Steps.{over_steps, drain_list_steps}
 use Rattle.mem_alloc.specs.declared.faults.AllocFault.{AllocFault}
-use Rattle.mem_alloc.specs.declared.faults.AllocFault.TheVariants.{Over, NoFrames, Killed}
+use Rattle.mem_alloc.specs.declared.faults.AllocFault.TheVariants.{Over, NoFrames, RequesterKilled}
 use Rattle.mem_alloc.specs.Stepping.{BySteps, Course, course}
 use Rattle.mem_alloc.specs.Room.{AfterRoom, IsRefusedFor, TellsRoom}
 use Rattle.mem_alloc.specs.Blocks.{AllocatesBlock, ChargesBlock, FindsNoBlock, MayHaveBlock, RetriesBlock}
 use Rattle.mem_alloc.specs.Blocks.{TakesAfterDrain, TakesFreeBlock, TakesInRounds, TakesOrReclaims}
-use Rattle.mem_alloc.proofs.Lowering.{Lowers, same_visit, lowered_fits, usage_back, room_back}
+use Rattle.mem_alloc.proofs.Lowering.{same_visit, lowered_fits, usage_back, room_back}
 use Rattle.mem_alloc.proofs.Making.{RoomSoFar, so_far_does, so_far_none}
 use Rattle.mem_alloc.proofs.Rounding.{FailureSpares, fails_spare, in_the_end}
 use Rattle.mem_machine.proofs.Followed.{makes_both}
@@ -93,7 +93,7 @@ charges_refused : (t : KnownTable) (g k : ℕ) (e : AllocFault) (a b : Side)
     → BySteps t (IsRefusedFor g (2 ^ k) e) a b → BySteps t (ChargesBlock g k (Err e)) a b
 charges_refused t g k (Over over) a b by = by
 charges_refused t g k NoFrames a b by = absurd by.does.does.does.1.room
-charges_refused t g k Killed a b by = by
+charges_refused t g k RequesterKilled a b by = by
 
 pub over_charges : (t : KnownTable) (g k : ℕ) (r : Result ℕ AllocFault) (x : AllocFault) (m n : KnownMachine) (c d : KnownCpu) → r ≡ Err x
     → d ≡ c → BySteps t (IsRefusedFor g (2 ^ k) x) (side m c) (side n c) → BySteps t (ChargesBlock g k r) (side m c) (side n d)
@@ -102,7 +102,7 @@ over_charges t g k r x m n c d is cpu by =
     (charges_refused t g k x (side m c) (side n c) by)
 
 abbrev fault_of : Result ℕ AllocFault → AllocFault
-fault_of (Ok head) = Killed
+fault_of (Ok head) = RequesterKilled
 fault_of (Err cause) = cause
 
 -- which isn't for want of a free block
@@ -196,7 +196,7 @@ rounds_open t g k (Ok head) m n c d steps h =
 rounds_open t g k (Err NoFrames) m n c d steps h =
     (fails_spare t (2 ^ k) (FindsNoBlock g k) (none_spares t g k) 16 m n c d steps h).lowers.opened
 rounds_open t g k (Err (Over over)) m n c d steps h = absurd h
-rounds_open t g k (Err Killed) m n c d steps h = absurd h
+rounds_open t g k (Err RequesterKilled) m n c d steps h = absurd h
 
 -- ---- what the second try leaves
 module _ (t : KnownTable) (g k : ℕ) (m x n : KnownMachine) (c y d : KnownCpu) (count listed : ℕ) (counts : listed ≡ length c.list) (few : count ≤ listed)
@@ -281,7 +281,7 @@ no_over g k over way h = elim h.takes [
   | inr rounds ↦ rounds.second
 ]
 
-no_kill : (g k : ℕ) (way : Course Side) → TakesAfterDrain g k (Err Killed) way → ⊥
+no_kill : (g k : ℕ) (way : Course Side) → TakesAfterDrain g k (Err RequesterKilled) way → ⊥
 no_kill g k way h = elim h.takes [
   | inl none ↦ none
   | inr rounds ↦ rounds.second
@@ -292,7 +292,7 @@ module _ (t : KnownTable) (g k : ℕ) (m : KnownMachine) (c : KnownCpu) (alive :
   by_answer (Ok head) n b = record { steps = b.steps; does = inr (record { is = alive; does = b.does }); makes = b.makes }
   by_answer (Err NoFrames) n b = record { steps = b.steps; does = record { is = alive; does = b.does }; makes = b.makes }
   by_answer (Err (Over over)) n b = absurd (no_over g k over _ b.does.second)
-  by_answer (Err Killed) n b = absurd (no_kill g k _ b.does.second)
+  by_answer (Err RequesterKilled) n b = absurd (no_kill g k _ b.does.second)
 
   -- no block is free at first, and what comes of the drained list decides
   pub decides_drained : (r : Result ℕ AllocFault) (cause : AllocFault) (x n : KnownMachine) (y d : KnownCpu) → cause ≡ NoFrames → y ≡ c

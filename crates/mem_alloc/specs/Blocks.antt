@@ -11,7 +11,7 @@ use Rattle.mem_machine.specs.Paying.{MayCharge}
 use Rattle.mem_machine.specs.Steps.{drain_list_steps}
 use Rattle.mem_reclaim.specs.Rounds.{max_rounds}
 use Rattle.mem_alloc.specs.declared.faults.AllocFault.{AllocFault}
-use Rattle.mem_alloc.specs.declared.faults.AllocFault.TheVariants.{Over, NoFrames, Killed}
+use Rattle.mem_alloc.specs.declared.faults.AllocFault.TheVariants.{Over, NoFrames, RequesterKilled}
 use Rattle.mem_alloc.specs.Stepping.{Course, InTurn, course}
 use Rattle.mem_alloc.specs.Room.{AfterRoom, IsRefusedFor}
 use Rattle.mem_alloc.specs.Rounds.{FailsInRounds, SucceedsInRounds}
@@ -35,7 +35,7 @@ abbrev pub ChargesBlock : ℕ → ℕ → Result ℕ AllocFault → Course Side 
 ChargesBlock group order (Ok head) way = AfterRoom group (2 ^ order) (TakesFreeBlock group order head) way
 ChargesBlock group order (Err (Over over)) way = IsRefusedFor group (2 ^ order) (Over over) way
 ChargesBlock group order (Err NoFrames) way = AfterRoom group (2 ^ order) (FindsNoBlock group order) way
-ChargesBlock group order (Err Killed) way = IsRefusedFor group (2 ^ order) Killed way
+ChargesBlock group order (Err RequesterKilled) way = IsRefusedFor group (2 ^ order) RequesterKilled way
 
 -- no limit is in the way of a block for the group: its pages may be charged, and each limit on its path has room for
 -- them
@@ -77,5 +77,5 @@ AllocatesBlock group order (Ok head) way =
     ForLiving group (ChargesBlock group order (Ok head)) way ⊎ ForLiving group (RetriesBlock group order (Ok head)) way
 AllocatesBlock group order (Err (Over over)) way = ForLiving group (ChargesBlock group order (Err (Over over))) way
 AllocatesBlock group order (Err NoFrames) way = ForLiving group (RetriesBlock group order (Err NoFrames)) way
-AllocatesBlock group order (Err Killed) way =
-    RefusesKilled group way ⊎ ForLiving group (ChargesBlock group order (Err Killed)) way
+AllocatesBlock group order (Err RequesterKilled) way =
+    RefusesKilled group way ⊎ ForLiving group (ChargesBlock group order (Err RequesterKilled)) way

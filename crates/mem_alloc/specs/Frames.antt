@@ -11,7 +11,7 @@ use Rattle.mem_machine.specs.Paying.{PaysForFront}
 use Rattle.mem_machine.specs.Steps.{refill_steps, take_front_steps}
 use Rattle.mem_reclaim.specs.Rounds.{max_rounds}
 use Rattle.mem_alloc.specs.declared.faults.AllocFault.{AllocFault}
-use Rattle.mem_alloc.specs.declared.faults.AllocFault.TheVariants.{Over, NoFrames, Killed}
+use Rattle.mem_alloc.specs.declared.faults.AllocFault.TheVariants.{Over, NoFrames, RequesterKilled}
 use Rattle.mem_alloc.specs.Stepping.{Course, InTurn, Stays, Where, course}
 use Rattle.mem_alloc.specs.Charging.{DrainsStock, PaysForFrame}
 use Rattle.mem_alloc.specs.Rounds.{FailsInRounds, SucceedsInRounds}
@@ -86,5 +86,5 @@ AllocatesFrame sizes group (Ok frame) way = ForLiving group (GetsFrame sizes gro
 AllocatesFrame sizes group (Err (Over over)) way = ForLiving group (PaysForFrame sizes group (Err (Over over))) way
 AllocatesFrame sizes group (Err NoFrames) way =
     ForLiving group (InTurn (PaysForFrame sizes group (Ok tt)) (FillsList sizes (Err NoFrames))) way
-AllocatesFrame sizes group (Err Killed) way =
-    RefusesKilled group way ⊎ ForLiving group (PaysForFrame sizes group (Err Killed)) way
+AllocatesFrame sizes group (Err RequesterKilled) way =
+    RefusesKilled group way ⊎ ForLiving group (PaysForFrame sizes group (Err RequesterKilled)) way

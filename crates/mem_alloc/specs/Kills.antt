@@ -1,5 +1,5 @@
--- Victims that are killed where a limit has no room even after a reclaim.
-use Rattle.std.specs.Prelude.{◌≡◌, ℕ, Bool, true, false, Option, Some, None, List, [], ◌∷◌, ◌++◌, slice_set}
+-- Victims that are killed if a limit has no room even after a reclaim.
+use Rattle.std.specs.Prelude.{◌≡◌, ℕ, Bool, true, false, Option, Some, None, List, [], ◌∷◌, ◌++◌}
 use Rattle.group_tree.specs.Room.{has_room}
 use Rattle.group_charge.specs.Charges.{AreCharges, Ledger, current_of, with_oom_noted}
 use Rattle.stock_word.specs.Stock.{Words}
@@ -9,7 +9,9 @@ use Rattle.kill_notes.specs.Notes.{noted}
 use Rattle.mem_machine.specs.Machines.{IsConsistent, KnownMachine, is_killed}
 use Rattle.mem_machine.specs.Local.{MakesForAny}
 use Rattle.mem_machine.specs.Steps.{note_oom_steps}
-use Rattle.mem_reclaim.specs.Killing.{IsKilledBy, OnlyDrains, OnlyLetsGo}
+use Rattle.mem_reclaim.specs.declared.sets.Killed.{Killed}
+use Rattle.mem_reclaim.specs.Killing.{IsKilledBy, OnlyDrains, OnlyLetsGo, with_all_killed}
+use Rattle.mem_reclaim.specs.Sets.{kill_set}
 use Rattle.mem_reclaim.specs.Victim.{IsVictim}
 use Rattle.mem_alloc.specs.Stepping.{Course, InTurn, MachineStays, course}
 
@@ -39,31 +41,32 @@ pub record IsWanting (requester : Option ℕ) (limited pages : ℕ) (machine : K
   pub over : has_room_at machine.ledger limited pages ≡ false
   pub alive : IsAlive requester machine
 
--- One kill: the pages are wanted still, and the victim of the group is killed, in a machine that is consistent and
--- whose usage is that of its accounts. The victim is marked as killed, no stock comes to be held or changes its group,
--- and of the kept units some are let go
-pub record KillsOne (requester : Option ℕ) (limited pages victim : ℕ) (way : Course KnownMachine) : Type 0 where
+-- One kill: the pages are wanted still, and the victim of the group is killed, with all that is killed with it, in a
+-- machine that is consistent and whose usage is that of its accounts. These are marked as killed, no stock comes to be
+-- held or changes its group, and of the kept units some are let go
+pub record KillsOne (requester : Option ℕ) (limited pages : ℕ) (killed : Killed) (way : Course KnownMachine) : Type 0 where
   pub wanting : IsWanting requester limited pages way.before
-  pub chosen : IsVictim way.before limited (Some victim)
+  pub chosen : IsVictim way.before limited (Some killed.victim)
   pub words : Words
   pub consistent : IsConsistent way.table words way.before
   pub charges : AreCharges way.before.ledger
-  pub kills : IsKilledBy way.table limited victim way.before way.after
+  pub kills : IsKilledBy way.table limited killed way.before way.after
   pub steps_are : way.steps ≡ kills.steps
-  pub marked : way.after.killed ≡ slice_set way.before.killed victim true
+  pub marked : way.after.killed ≡ with_all_killed way.before.killed (kill_set way.before killed)
   pub stocks : OnlyDrains way.before way.after
   pub keeps : OnlyLetsGo way.table way.before way.after
 
--- these victims are killed, one after the other
-abbrev pub KillsEach : Option ℕ → ℕ → ℕ → List ℕ → Course KnownMachine → Type 0
+-- these victims are killed so, one after the other
+abbrev pub KillsEach : Option ℕ → ℕ → ℕ → List Killed → Course KnownMachine → Type 0
 KillsEach requester limited pages [] way = MachineStays way
-KillsEach requester limited pages (victim ∷ others) way =
-    InTurn (KillsOne requester limited pages victim) (KillsEach requester limited pages others) way
+KillsEach requester limited pages (killed ∷ others) way =
+    InTurn (KillsOne requester limited pages killed) (KillsEach requester limited pages others) way
 
--- It is noted once as `oom` at the group, and then victims of it are killed, one after the other, until its limit has
--- room for so many pages, or the group that asks for them is killed, or no victim is left
+-- It is noted once as `oom` at the group, and then victims of it are killed, one after the other and each with all that
+-- is killed with it, until its limit has room for so many pages, or the group that asks for them is killed, or no victim
+-- is left
 pub record KillsUntilRoom (requester : Option ℕ) (limited pages : ℕ) (way : Course KnownMachine) : Type 0 where
-  pub victims : List ℕ
+  pub victims : List Killed
   pub killing : Run
   pub notes : MakesForAny way.table way.before (note_oom_steps limited) (with_oom_noted_at way.before limited)
   pub kills : KillsEach requester limited pages victims
@@ -71,7 +74,7 @@ pub record KillsUntilRoom (requester : Option ℕ) (limited pages : ℕ) (way : 
   pub ended : IsWanting requester limited pages way.after → IsVictim way.after limited None
   pub steps_are : way.steps ≡ note_oom_steps limited ++ killing
 
--- victims of the group are killed where its limit has no room for so many pages; where it has, nothing is done
+-- victims of the group are killed if its limit has no room for so many pages; if it has, nothing is done
 pub record KillsFor (requester : Option ℕ) (limited pages : ℕ) (way : Course KnownMachine) : Type 0 where
   pub room : has_room_at way.before.ledger limited pages ≡ true → MachineStays way
   pub over : has_room_at way.before.ledger limited pages ≡ false → KillsUntilRoom requester limited pages way

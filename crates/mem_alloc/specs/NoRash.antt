@@ -1,6 +1,6 @@
 -- No group is killed for a limit before everything else was tried. It is read from the steps of a call, and from the
 -- machine to which they lead.
-use Rattle.std.specs.Prelude.{◌≡◌, ℕ, ◌≤◌, ◌==◌, Bool, true, false, Some, List, ◌∷◌, ◌++◌}
+use Rattle.std.specs.Prelude.{◌≡◌, ℕ, ◌≤◌, ◌==◌, ◌⊎◌, Bool, true, false, Some, List, [], ◌∷◌, ◌++◌}
 use Rattle.std.specs.List.{list_any}
 use Rattle.frame_word.specs.Seats.{KnownTable}
 use Rattle.stock_word.specs.Stock.{Words}
@@ -18,6 +18,9 @@ use Rattle.step_rules.specs.After.{Run}
 use Rattle.mem_machine.specs.Machines.{HeadsKeptUnit, IsConsistent, KnownMachine, home_of}
 use Rattle.mem_machine.specs.Local.{IsLocalRun, local_of}
 use Rattle.mem_machine.specs.Stocks.{AreDrained}
+use Rattle.mem_reclaim.specs.declared.sets.Killed.{Killed}
+use Rattle.mem_reclaim.specs.Moves.{is_kill, kills_in}
+use Rattle.mem_reclaim.specs.Sets.{IsHead, kill_set}
 use Rattle.mem_reclaim.specs.Staying.{MissedAll}
 use Rattle.mem_reclaim.specs.Victim.{IsVictim}
 use Rattle.mem_alloc.specs.Kills.{has_room_at, most_killed_for}
@@ -49,11 +52,12 @@ pub record IsChargedBelow (group pages : ℕ) (groups : List Group) (limited nee
   pub need_is : need ≡ pages
   pub few : pages ≤ most_killed_for
 
--- The victim may be killed where these steps of a call have led, for the limit of the group `limited`: that has no room
--- for the pages that are needed. A step notes that there as `oom`; no stock of the subtree is held; since the call
--- began a freeze of each clean unit that the subtree still keeps missed; and the group is the victim. The machine is
--- consistent, its usage that of its accounts, and it is the one that the steps left
-pub record MayKill (MayAsk : List Group → ℕ → ℕ → Type 0) (way : Course KnownMachine) (victim : ℕ) : Type 0 where
+-- After these steps of a call the victim may be killed, with all that is killed with it, for the limit of the group
+-- `limited`: that has no room for the pages that are needed. A step notes that there as `oom`; no stock of the subtree is
+-- held; since the call began a freeze of each clean unit that the subtree still keeps missed; the group is the victim;
+-- and the head is that of what is killed with it. The machine is consistent, its usage that of its accounts, and it is
+-- the one that the steps left
+pub record MayKill (MayAsk : List Group → ℕ → ℕ → Type 0) (way : Course KnownMachine) (killed : Killed) : Type 0 where
   pub limited : ℕ
   pub need : ℕ
   pub asked : MayAsk way.after.ledger.groups limited need
@@ -61,22 +65,40 @@ pub record MayKill (MayAsk : List Group → ℕ → ℕ → Type 0) (way : Cours
   pub noted : has_oom_note limited way.steps ≡ true
   pub drained : AreDrained limited way.table.cpus way.after
   pub missed : MissedAll limited way.before way.after
-  pub chosen : IsVictim way.after limited (Some victim)
+  pub chosen : IsVictim way.after limited (Some killed.victim)
+  pub head_is : IsHead way.after.ledger.groups limited killed
   pub words : Words
   pub consistent : IsConsistent way.table words way.after
   pub charges : AreCharges way.after.ledger
   pub tied : IsLeftBySteps way
 
--- after these steps of a call the victim may be killed: there is a machine to which they lead, and there it may
-pub record MayKillAfter (table : KnownTable) (MayAsk : List Group → ℕ → ℕ → Type 0) (start : KnownMachine)
-    (cpu : KnownCpu) (before : Run) (victim : ℕ) : Type 0 where
-  pub now : KnownMachine
-  pub leads : IsLocalRun cpu.number (local_of table start cpu) before (local_of table now cpu)
-  pub may : MayKill MayAsk (course table start before now) victim
+-- the first step kills a group
+abbrev pub begins_with_kill : Run → Bool
+begins_with_kill [] = false
+begins_with_kill (entry ∷ later) = is_kill entry.0.action
 
--- each kill among the steps of a call comes where the victim may be killed: for each split of the list at a step that
--- is made and kills, the victim may be killed after the steps before it
+-- After these steps of a call, and before the others, the group may be killed. The first steps, `tried`, led to a machine
+-- in which a victim might be killed, with all that is killed with it. The kill of the first of these groups comes right
+-- after them. Of these groups, in their order, just those before this one were killed since; and the others, `left`, are
+-- killed next, before any other group
+pub record MayKillAfter (table : KnownTable) (MayAsk : List Group → ℕ → ℕ → Type 0) (start : KnownMachine)
+    (cpu : KnownCpu) (before : Run) (group : ℕ) (rest : Run) : Type 0 where
+  pub tried : Run
+  pub since : Run
+  pub now : KnownMachine
+  pub killed : Killed
+  pub left : List ℕ
+  pub later : List ℕ
+  pub steps_are : before ≡ tried ++ since
+  pub leads : IsLocalRun cpu.number (local_of table start cpu) tried (local_of table now cpu)
+  pub may : MayKill MayAsk (course table start tried now) killed
+  pub at_once : (since ≡ []) ⊎ (begins_with_kill since ≡ true)
+  pub set_is : kill_set now killed ≡ kills_in since ++ group ∷ left
+  pub others_die : kills_in rest ≡ left ++ later
+
+-- Each kill among the steps of a call comes where its group may be killed: for each split of the list at a step that
+-- kills a group, that may be killed after the steps before it, and before those after it
 abbrev pub NoRashKill : KnownTable → (List Group → ℕ → ℕ → Type 0) → KnownMachine → KnownCpu → Run → Type 0
 NoRashKill table MayAsk start cpu steps =
-    (before rest : Run) (made : Step × Answer) (victim : ℕ)
-    → steps ≡ before ++ made ∷ rest → made.0.action ≡ Kill victim → MayKillAfter table MayAsk start cpu before victim
+    (before rest : Run) (made : Step × Answer) (group : ℕ)
+    → steps ≡ before ++ made ∷ rest → made.0.action ≡ Kill group → MayKillAfter table MayAsk start cpu before group rest

@@ -16,7 +16,7 @@ use Rattle.mem_reclaim.specs.Moves.{Moves}
 use Rattle.mem_reclaim.specs.Rounds.{MakesRounds, max_rounds, pages_missing}
 use Rattle.mem_reclaim.specs.Staying.{Keeps, MissedAll}
 use Rattle.mem_alloc.specs.declared.faults.AllocFault.{AllocFault}
-use Rattle.mem_alloc.specs.declared.faults.AllocFault.TheVariants.{Over, NoFrames, Killed}
+use Rattle.mem_alloc.specs.declared.faults.AllocFault.TheVariants.{Over, NoFrames, RequesterKilled}
 use Rattle.mem_alloc.specs.Stepping.{Course, InTurn, OfMachineAlone, MachineStays, course}
 -- what is killed, and whether there is room
 pub use Rattle.mem_alloc.specs.Kills.{IsWanting, KillsFor, has_room_at, most_killed_for}
@@ -83,12 +83,12 @@ pub record HasMadeRoom (requester limited pages : ℕ) (after : KnownMachine) : 
   pub alive : is_killed after.killed requester ≡ false
 
 -- What the answer tells of the limit of the group `limited`, once it was relieved for the requester's pages. Ok: it has
--- room for them. Over: it has none still, and the requester isn't killed. Killed: the requester was killed
+-- room for them. Over: it has none still, and the requester isn't killed. RequesterKilled: the requester was killed
 abbrev pub TellsRoom : ℕ → ℕ → ℕ → Result (Unit {0}) AllocFault → KnownMachine → Type 0
 TellsRoom requester limited pages (Ok done) after = HasMadeRoom requester limited pages after
 TellsRoom requester limited pages (Err (Over named)) after =
     (named ≡ limited) × IsWanting (Some requester) limited pages after
-TellsRoom requester limited pages (Err Killed) after = is_killed after.killed requester ≡ true
+TellsRoom requester limited pages (Err RequesterKilled) after = is_killed after.killed requester ≡ true
 TellsRoom requester limited pages (Err NoFrames) after = ⊥
 
 -- A charge of so many pages to the group `requester` is refused at the group `limited`, the lowest of its path without

@@ -108,10 +108,10 @@ fn take_after_drain<N: BootName>(
 /// Allocates a block of this order for a group that is there, for the processor that is visited and was settled:
 /// 2^`order` pages are charged to the group, and the block is a kept unit of it at once, which goes by its head.
 ///
-/// `Killed`: the group was killed before, and nothing changed. Else, where a limit has no room for the pages, the
+/// `RequesterKilled`: the group was killed before, and nothing changed. Else, if a limit has no room for the pages, the
 /// stocks of its subtree are drained, clean units of it are reclaimed in at most 16 rounds, and for up to 8 pages
-/// groups of it are killed, until there is room. `Killed` is also the answer where the group itself was killed so;
-/// else, where there is no room still, `Over` names the group of the limit.
+/// groups of it are killed, until there is room. `RequesterKilled` is also the answer if the group itself died so, as a
+/// victim or with one; else, if there is no room still, `Over` names the group of the limit.
 ///
 /// Where no block of the order or above is free, the processor's own list goes back to the zone, and the block is tried
 /// once more. Where there is none still, as many pages as it has are reclaimed from the units of all groups, and it is
@@ -136,7 +136,7 @@ pub fn alloc_block<N: BootName>(
     ensures list { length cpu.new.list ≤ length cpu.old.list }
 {
     if machine.is_killed(group) {
-        return Err(AllocFault::Killed);
+        return Err(AllocFault::RequesterKilled);
     }
     let _pages = order.frames(); // For the clauses.
     machine.see_room();

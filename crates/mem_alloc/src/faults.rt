@@ -10,6 +10,6 @@ pub enum AllocFault {
     Over(GroupId),
     /// No sufficient free block is there, also after rounds of reclaim from all groups.
     NoFrames,
-    /// The group was killed: before, or where a limit had no room for these pages.
-    Killed,
+    /// The group that asks for the pages was killed: before, or with a victim whose limit had no room for these pages.
+    RequesterKilled,
 }

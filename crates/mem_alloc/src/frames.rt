@@ -84,11 +84,11 @@ fn fill_list<N: BootName>(
 /// Allocates one frame for a group that is there, for the processor that is visited and was settled: it is the front of
 /// the processor's list, paid for with a page of its stock, and is fresh then.
 ///
-/// `Killed`: the group was killed before, and nothing changed. Else, where the stock holds no page of the group, it is
-/// drained and filled with `sizes.stock` pages where every limit has room for them, else with one page. Where a limit
-/// has no room for that one, the stocks of its subtree are drained, clean units of it are reclaimed in at most 16
-/// rounds, and groups of it are killed, until there is room. `Killed` is also the answer where the group itself was
-/// killed so; else, where there is no room still, `Over` names the group of the limit.
+/// `RequesterKilled`: the group was killed before, and nothing changed. Else, if the stock holds no page of the group, it
+/// is drained and filled with `sizes.stock` pages if every limit has room for them, else with one page. If a limit has
+/// no room for that one, the stocks of its subtree are drained, clean units of it are reclaimed in at most 16 rounds,
+/// and groups of it are killed, until there is room. `RequesterKilled` is also the answer if the group itself died so, as
+/// a victim or with one; else, if there is no room still, `Over` names the group of the limit.
 ///
 /// Where the list is empty, up to `sizes.batch` free frames come to it. Where none is free, a page is reclaimed from
 /// the units of all groups, and free frames come to the list then: in at most 16 such rounds, of which one that gave
@@ -116,7 +116,7 @@ pub fn alloc_frame<N: BootName>(
     ensures frame { IfOk result (λ f. f < N.frames.frames) }
 {
     if machine.is_killed(group) {
-        return Err(AllocFault::Killed);
+        return Err(AllocFault::RequesterKilled);
     }
     pay_for_frame(machine, tables, cpu, sizes, group)?;
     fill_list(machine, tables, cpu, sizes, group)?;

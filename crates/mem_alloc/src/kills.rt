@@ -45,11 +45,12 @@ fn is_wanting<N: BootName>(
     }
 }
 
-/// Kills for a limit: where the limit of `limited` has no room for so many pages more, that is noted once as `oom` at
+/// Kills for a limit: if the limit of `limited` has no room for so many pages more, that is noted once as `oom` at
 /// it, and then victims of it are killed, one after the other, until it has room, or the group that asks for the
-/// pages is killed, or no victim is left. For `requester` None no group asks, as where a limit is written: with 0
-/// `pages` there is room then where the usage is at most the limit. Where there is room nothing is done. Modelled on
-/// what Linux does at a limit that it can't keep otherwise (cgroup-v2.rst, memory.max and memory.events).
+/// pages is killed, or no victim is left. All groups that are killed with a victim (memory.oom.group) die before the
+/// next look at the limit. For `requester` None no group asks, as for a limit that is written: with 0 `pages` there is
+/// room then if the usage is at most the limit. If there is room, nothing is done. Modelled on what Linux does at a
+/// limit that it can't keep otherwise (cgroup-v2.rst, memory.max, memory.oom.group and memory.events).
 pub fn kill_for<N: BootName>(
     machine: &mut Machine<N>,
     tables: &Tables<N>,
@@ -72,7 +73,7 @@ pub fn kill_for<N: BootName>(
         if !is_wanting(machine, &requester, limited, pages) {
             return;
         }
-        let Some(_victim) = kill(machine, tables, limited) else {
+        let Some(_killed) = kill(machine, tables, limited) else {
             return;
         };
     }

@@ -49,8 +49,9 @@ pub fn note_limit<N: BootName>(machine: &mut Machine<N>, group: GroupId, need: u
 // Relieves the limit of `limited`, the lowest on the path of `requester` without room for so many pages. That is noted
 // (`max`), and the stocks of the subtree are drained. Where there is no room still, clean units of the subtree are
 // reclaimed, in at most 16 rounds. Where that makes none either, for up to 8 pages, an order of at most 3, `oom` is
-// noted, and victims of the subtree are killed until there is room. Where no victim is left, or for more pages, the
-// charge is refused as `Over`; where the requester itself was killed, as `Killed`. What was done stands after that.
+// noted, and victims of the subtree are killed until there is room. If no victim is left, or for more pages, the charge
+// is refused as `Over`; if the requester was killed, as a victim or with one, as `RequesterKilled`, once all groups that
+// die with that victim were killed. What was done stands after that.
 pub(crate) fn make_room<N: BootName>(
     machine: &mut Machine<N>,
     tables: &Tables<N>,
@@ -70,7 +71,7 @@ pub(crate) fn make_room<N: BootName>(
     reclaim_for(machine, tables, limited, pages);
     kill_for_few(machine, tables, requester, limited, pages);
     if machine.is_killed(requester) {
-        return Err(AllocFault::Killed);
+        return Err(AllocFault::RequesterKilled);
     }
     if has_room_at(machine.charges(), limited, pages) {
         Ok(())

@@ -85,12 +85,7 @@ fn events_below(
 }
 
 // The events of a group alone after a step.
-fn events_here(
-    action: &Action,
-    answer: &Answer,
-    group: GroupId,
-    events: EventCounts,
-) -> EventCounts
+fn events_here(action: &Action, answer: &Answer, group: GroupId, events: EventCounts) -> EventCounts
     ensures { result ≡ events_after (λ h. h == group) group action.now answer.now events }
 {
     if makes_group(group, action, answer) {

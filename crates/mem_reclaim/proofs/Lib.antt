@@ -8,5 +8,8 @@ pub mod Passing
 pub mod Rounding
 pub mod Choosing
 pub mod LettingGo
-pub mod KillNotes
+pub mod Heads
+pub mod Alive
+pub mod KillSets
+pub mod Dying
 pub mod Rising

@@ -1,8 +1,10 @@
 -- A group is killed, and its kept units leave.
 use Rattle.std.specs.Prelude.{◌≡◌, ◌≢◌, ℕ, ◌+◌, ◌-◌, ◌≤◌, true, false, Option, Some, None, List, [], ◌∷◌, ◌++◌}
-use Rattle.std.specs.Prelude.{length, slice_set}
+use Rattle.std.specs.Prelude.{Bool, length, slice_set}
+use Rattle.std.specs.List.{fold}
 use Rattle.frame_word.specs.Seats.{KnownTable, misses_of}
-use Rattle.group_charge.specs.Charges.{current_of, with_kill_noted}
+use Rattle.group_tree.specs.Groups.{is_oom_group}
+use Rattle.group_charge.specs.Charges.{current_of, with_group_kill_noted, with_kill_noted}
 use Rattle.lru_lists.specs.declared.record.Entry.{Entry}
 use Rattle.lru_lists.specs.declared.record.Home.{Home}
 use Rattle.lru_lists.specs.Queue.{link_at}
@@ -10,15 +12,17 @@ use Rattle.cpu_part.specs.Cpus.{KnownCpu}
 use Rattle.step_rules.specs.After.{Run}
 use Rattle.mem_machine.specs.declared.releasing.Released.{Released}
 use Rattle.kill_notes.specs.declared.note.Note.{Note}
-use Rattle.kill_notes.specs.declared.note.Note.TheVariants.{Killed}
+use Rattle.kill_notes.specs.declared.note.Note.TheVariants as note
 use Rattle.mem_machine.specs.Machines.{HeadsKeptUnit, KnownMachine, Visits, active_in, home_of, inactive_in, side}
 use Rattle.mem_machine.specs.Machines.{with_note}
 use Rattle.mem_machine.specs.Local.{MakesForAny}
 use Rattle.mem_machine.specs.Releasing.{Releases, release_steps}
-use Rattle.mem_machine.specs.Steps.{Drain, drain_stocks_steps, kill_steps}
+use Rattle.mem_machine.specs.Steps.{Drain, drain_stocks_steps, kill_steps, note_group_kill_steps}
 use Rattle.mem_machine.specs.Stocks.{DrainsAllIf, IsDrained, of_group, stock_group}
-use Rattle.mem_reclaim.specs.Moves.{Rises, has_kill, missed_in, returned_in}
+use Rattle.mem_reclaim.specs.Moves.{Rises, has_kill, kills_in, missed_in, returned_in}
 use Rattle.mem_reclaim.specs.declared.noting.Having.{Having}
+use Rattle.mem_reclaim.specs.declared.sets.Killed.{Killed}
+use Rattle.mem_reclaim.specs.Sets.{IsHead, alive_below, group_kill_note, kill_set}
 use Rattle.mem_reclaim.specs.Staying.{OnlyLeave}
 use Rattle.mem_reclaim.specs.Victim.{IsNext, own_frames, victim_note}
 
@@ -97,25 +101,89 @@ having_of machine group = record {
 -- came back were put last, and the others are pinned; its frames either came back or stay charged to it
 abbrev pub killed_note : ℕ → ℕ → Having → KnownMachine → Note
 killed_note limited group had after =
-    Killed group (after.counts.last_puts - had.last_puts) (had.frames - own_frames after group)
+    note.Kill group (after.counts.last_puts - had.last_puts) (had.frames - own_frames after group)
     (had.units - (after.counts.last_puts - had.last_puts)) (own_frames after group) (current_of after.ledger limited)
 
--- A victim is killed for the group `limited`, by some steps, whoever holds the lock: it is noted who is the victim and
--- why; it is killed; and what became of its units is noted
-pub record IsKilledBy (table : KnownTable) (limited victim : ℕ) (before after : KnownMachine) : Type 0 where
-  pub next : ℕ
-  pub follows : IsNext before limited victim next
+-- a group is killed for the group `limited`, and what became of its units is noted
+pub record KillsNoted (table : KnownTable) (limited group : ℕ) (before : KnownMachine) (steps : Run)
+    (after : KnownMachine) : Type 0 where
   pub killed : KnownMachine
-  pub steps : Run
-  pub kills : KillsGroup table victim (with_note before (victim_note before limited victim next)) steps killed
-  pub noted : after ≡ with_note killed (killed_note limited victim (having_of before victim) killed)
-  pub runs : MakesForAny table before steps after
-  pub once : KillsOnce victim before steps after
+  pub kills : KillsGroup table group before steps killed
+  pub noted : after ≡ with_note killed (killed_note limited group (having_of before group) killed)
 
--- the victim for the group, if there is one, is killed; else nothing changed
-abbrev pub KillsVictim : KnownTable → ℕ → Option ℕ → KnownMachine → KnownMachine → Type 0
+-- a group is killed so, and then this is done
+pub record KillsThen (table : KnownTable) (limited group : ℕ) (Then : KnownMachine → Run → KnownMachine → Type 0)
+    (before : KnownMachine) (steps : Run) (after : KnownMachine) : Type 0 where
+  pub between : KnownMachine
+  pub first : Run
+  pub later : Run
+  pub kills : KillsNoted table limited group before first between
+  pub others : Then between later after
+  pub steps_are : steps ≡ first ++ later
+
+-- these groups are killed so, one after the other
+abbrev pub KillsAll : KnownTable → ℕ → List ℕ → KnownMachine → Run → KnownMachine → Type 0
+KillsAll table limited [] before steps after = (after ≡ before) × (steps ≡ [])
+KillsAll table limited (group ∷ others) before steps after =
+    KillsThen table limited group (KillsAll table limited others) before steps after
+
+-- A group is killed as a whole for the group `limited`. It is noted how many groups die; each group of its subtree that
+-- isn't killed is killed, by ascending number; and then one `oom_group_kill` is noted at it
+pub record KillsSubtree (table : KnownTable) (limited head : ℕ) (before : KnownMachine) (steps : Run)
+    (after : KnownMachine) : Type 0 where
+  pub between : KnownMachine
+  pub killing : Run
+  pub kills : KillsAll table limited (alive_below before head) (with_note before (group_kill_note before head))
+      killing between
+  pub counted : after ≡ record between { ledger = with_group_kill_noted between.ledger head }
+  pub steps_are : steps ≡ killing ++ note_group_kill_steps head
+
+-- these steps kill just these groups, in this order; none of them is a freeze that missed; and the last puts that the
+-- machine counts grew by the units that they return
+pub record KillsThese (groups : List ℕ) (before : KnownMachine) (steps : Run) (after : KnownMachine) : Type 0 where
+  pub killed : kills_in steps ≡ groups
+  pub no_miss : (frame : ℕ) → missed_in frame steps ≡ 0
+  pub returned : Rises before.counts.last_puts (returned_in steps) after.counts.last_puts
+
+-- just these groups are killed, and so it is done, by some steps, whoever holds the lock
+pub record KillsSoBySteps (table : KnownTable) (groups : List ℕ) (Kills : KnownMachine → Run → KnownMachine → Type 0)
+    (before after : KnownMachine) : Type 0 where
+  pub steps : Run
+  pub kills : Kills before steps after
+  pub runs : MakesForAny table before steps after
+  pub these : KillsThese groups before steps after
+
+-- what is done with a victim and its head: if the head's flag is on, the head is killed as a whole; else the victim is
+-- killed alone
+abbrev pub KillsAs : Bool → KnownTable → ℕ → Killed → KnownMachine → Run → KnownMachine → Type 0
+KillsAs true table limited killed = KillsSubtree table limited killed.head
+KillsAs false table limited killed = KillsNoted table limited killed.victim
+
+-- A victim is killed for the group `limited`, by some steps, whoever holds the lock, and all groups that die with it: it
+-- is noted who is the victim and why, and then they are killed, by whether a flag applies
+pub record IsKilledBy (table : KnownTable) (limited : ℕ) (killed : Killed) (before after : KnownMachine) : Type 0 where
+  pub next : ℕ
+  pub follows : IsNext before limited killed.victim next
+  pub head_is : IsHead before.ledger.groups limited killed
+  pub steps : Run
+  pub kills : KillsAs (is_oom_group before.ledger.groups killed.head) table limited killed
+      (with_note before (victim_note before limited killed.victim next)) steps after
+  pub runs : MakesForAny table before steps after
+  pub these : KillsThese (kill_set before killed) before steps after
+
+-- the victim for the group, if there is one, is killed, and all that die with it; else nothing changed
+abbrev pub KillsVictim : KnownTable → ℕ → Option Killed → KnownMachine → KnownMachine → Type 0
 KillsVictim table limited None before after = after ≡ before
-KillsVictim table limited (Some victim) before after = IsKilledBy table limited victim before after
+KillsVictim table limited (Some killed) before after = IsKilledBy table limited killed before after
+
+-- who was the victim, if one was killed
+abbrev pub victim_of : Option Killed → Option ℕ
+victim_of None = None
+victim_of (Some killed) = Some killed.victim
+
+-- the marks after these groups are killed too
+abbrev pub with_all_killed : List Bool → List ℕ → List Bool
+with_all_killed marks groups = fold (λ (old : List Bool) (group : ℕ). slice_set old group true) marks groups
 
 -- What stays where units are let go. Groups with their limits and every visit stay, and no visit is opened or shut. No
 -- usage rises. Who is kept was kept on the same list, and is as dirty as it was. No unit is frozen, so no miss is noted

@@ -5,5 +5,7 @@ pub mod Passes
 pub mod Rounds
 pub mod Staying
 pub mod Victim
+pub mod Sets
 pub mod Killing
 pub mod KillNotes
+pub mod Laws

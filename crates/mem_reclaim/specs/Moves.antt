@@ -1,5 +1,5 @@
 -- What a list of steps of reclaim does, whoever holds the lock.
-use Rattle.std.specs.Prelude.{◌≡◌, ℕ, ◌+◌, ◌≤◌, ◌==◌, ◌⊎◌, Bool, true, false, [], ◌∷◌}
+use Rattle.std.specs.Prelude.{◌≡◌, ℕ, ◌+◌, ◌≤◌, ◌==◌, ◌⊎◌, Bool, true, false, List, [], ◌∷◌, ◌++◌}
 use Rattle.std.specs.List.{list_any, count_by}
 use Rattle.frame_word.specs.Seats.{KnownTable, misses_of}
 use Rattle.group_tree.specs.Room.{max_count}
@@ -61,6 +61,16 @@ Rises before more after = (after ≡ before + more) ⊎ (max_count ≤ after)
 abbrev pub is_kill : Action → Bool
 is_kill (Kill group) = true
 is_kill action = false
+
+-- the group that the step kills, if it kills one
+abbrev pub killed_by : Action → List ℕ
+killed_by (Kill group) = group ∷ []
+killed_by action = []
+
+-- the groups that these steps kill, in their order
+abbrev pub kills_in : Run → List ℕ
+kills_in [] = []
+kills_in (e ∷ rest) = killed_by e.0.action ++ kills_in rest
 
 -- some step is a kill
 abbrev pub has_kill : Run → Bool

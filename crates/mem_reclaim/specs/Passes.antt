@@ -1,7 +1,6 @@
 -- Reclaim in two passes over the groups of a subtree, by ascending number.
 use Rattle.std.specs.Prelude.{◌≡◌, ℕ, ◌⊎◌, Bool, true, false, [], ◌∷◌}
 use Rattle.std.specs.List.{range_with_len}
-use Rattle.group_tree.specs.declared.group.TheConstants.{MAX_GROUPS}
 use Rattle.group_tree.specs.Groups.{in_subtree}
 use Rattle.lru_lists.specs.declared.record.LruList.TheVariants.{Inactive, Active}
 use Rattle.mem_machine.specs.Machines.{KnownMachine}
@@ -30,7 +29,7 @@ TakesTurn is_first group turn want done =
 
 -- one pass over the groups of the subtree
 abbrev pub MakesPass : ℕ → Bool → ℕ → Reclaiming
-MakesPass group is_first want = WhileWanted (TakesTurn is_first group) (range_with_len 0 MAX_GROUPS) want
+MakesPass group is_first want = WhileWanted (TakesTurn is_first group) (range_with_len 0 64) want
 
 -- a reclaim of so many pages from the subtree: the first pass, and the second where pages are still wanted
 abbrev pub Reclaims : ℕ → ℕ → Reclaiming

@@ -1,6 +1,5 @@
 -- The group that is killed where a limit can't be kept otherwise.
 use Rattle.std.specs.Prelude.{◌≡◌, ℕ, ◌≤◌, ◌==◌, ◌&&◌, ◌⊎◌, not, nat_le, Bool, true, false, Option, Some, None}
-use Rattle.group_tree.specs.declared.group.TheConstants.{MAX_GROUPS}
 use Rattle.group_tree.specs.Groups.{in_subtree}
 use Rattle.step_rules.specs.State.{one_if, sum_to}
 use Rattle.kill_notes.specs.declared.note.Candidate.{Candidate}
@@ -56,7 +55,7 @@ is_candidate machine group other = may_be_killed machine group other && nat_le 1
 
 -- how many groups may be killed for the group and have a frame of their own
 abbrev pub candidates : KnownMachine → ℕ → ℕ
-candidates machine group = sum_to MAX_GROUPS (λ other. one_if (is_candidate machine group other))
+candidates machine group = sum_to 64 (λ other. one_if (is_candidate machine group other))
 
 -- a group with its frames
 abbrev pub candidate : KnownMachine → ℕ → Candidate

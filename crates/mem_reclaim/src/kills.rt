@@ -1,19 +1,22 @@
 //! Kills: a group loses what it has, where nothing else made room.
 
-ghost use Rattle.std.specs.Prelude.{◌≡◌, ◌<◌, IfSome, IsTrue, None, [], false, slice_set, true};
+ghost use Rattle.std.specs.Prelude.{◌≡◌, ◌≢◌, ◌<◌, All, IfSome, IsTrue, None, [], ◌∷◌, false, slice_set, true};
 ghost use Rattle.group_tree.specs.Groups.{has_group};
 ghost use Rattle.lru_lists.specs.declared.record.LruList.{LruList};
 ghost use Rattle.mem_machine.specs.Machines.{is_killed};
 ghost use Rattle.mem_machine.specs.Ageing.{entries_in};
 ghost use Rattle.mem_machine.specs.Stocks.{AreOwnDrained};
 ghost use Rattle.mem_reclaim.specs.Victim.{IsVictim};
-ghost use Rattle.mem_reclaim.specs.Killing.{HasNoKeptUnit, KeepsStocks, KillsBySteps, KillsVictim, LetsGoBySteps};
-ghost use Rattle.mem_reclaim.specs.Killing.{OnlyDrains, OnlyLetsGo};
+ghost use Rattle.mem_reclaim.specs.Sets.{alive_below, kill_set};
+ghost use Rattle.mem_reclaim.specs.Killing.{HasNoKeptUnit, KeepsStocks, KillsAll, KillsBySteps, KillsNoted};
+ghost use Rattle.mem_reclaim.specs.Killing.{KillsSoBySteps, KillsSubtree, KillsVictim, LetsGoBySteps, OnlyDrains};
+ghost use Rattle.mem_reclaim.specs.Killing.{OnlyLetsGo, victim_of, with_all_killed};
 
-use crate::noting::{had_by, note_killed, note_victim};
-use crate::victims::victim;
+use crate::noting::{had_by, note_killed, note_subtree, note_victim};
+use crate::sets::{Killed, highest_flagged};
+use crate::victims::{may_be_killed, victim};
 use cpu_part::{BootName, Tables};
-use group_tree::group::GroupId;
+use group_tree::group::{GroupId, MAX_GROUPS};
 use lru_lists::record::LruList;
 use mem_machine::Machine;
 
@@ -60,29 +63,119 @@ fn kill_group<N: BootName>(machine: &mut Machine<N>, tables: &Tables<N>, group: 
     let _spots = machine.spots(); // For the clauses.
 }
 
-/// Kills the victim of a group, and tells who that was; None where there is none, and nothing has changed. Nothing
-/// can be charged to the victim any more, until it is removed; that is noted as `oom_kill`. Its stocks are drained.
-/// Its kept units, dirty ones too, leave their lists and lose the zone's reference, the inactive ones first, oldest
-/// first: those without a pin are uncharged and free, the others stay charged and kept by no one until their last put
-/// is settled. Why it is the victim is noted before, and what became of its units after.
+// Kills a group that isn't killed for the group `limited`, and notes what became of its units.
+fn kill_noted<N: BootName>(
+    machine: &mut Machine<N>,
+    tables: &Tables<N>,
+    limited: GroupId,
+    group: GroupId,
+)
+    requires limited { IsTrue (has_group machine.old.ledger.groups limited) }
+    requires there { IsTrue (has_group machine.old.ledger.groups group) }
+    requires alive { is_killed machine.old.killed group ≡ false }
+    ensures kills { KillsSoBySteps N.frames (group ∷ []) (KillsNoted N.frames limited group) machine.old machine.new }
+    ensures marked { machine.new.killed ≡ slice_set machine.old.killed group true }
+    ensures drained { AreOwnDrained group N.frames.cpus machine.new }
+    ensures stocks { OnlyDrains machine.old machine.new }
+    ensures none_kept { HasNoKeptUnit group machine.new }
+    ensures keeps { OnlyLetsGo N.frames machine.old machine.new }
+{
+    let had = had_by(machine, group);
+    kill_group(machine, tables, group);
+    note_killed(machine, limited, group, had);
+}
+
+// Kills the groups of the head's subtree that aren't killed, by ascending number, for the group `limited`.
+fn kill_below<N: BootName>(
+    machine: &mut Machine<N>,
+    tables: &Tables<N>,
+    limited: GroupId,
+    head: GroupId,
+)
+    requires limited { IsTrue (has_group machine.old.ledger.groups limited) }
+    requires head { IsTrue (has_group machine.old.ledger.groups head) }
+    ensures kills { KillsSoBySteps N.frames (alive_below machine.old head)
+        (KillsAll N.frames limited (alive_below machine.old head)) machine.old machine.new }
+    ensures marked { machine.new.killed ≡ with_all_killed machine.old.killed (alive_below machine.old head) }
+    ensures drained { All (λ group. AreOwnDrained group N.frames.cpus machine.new) (alive_below machine.old head) }
+    ensures stocks { OnlyDrains machine.old machine.new }
+    ensures none_kept { All (λ group. HasNoKeptUnit group machine.new) (alive_below machine.old head) }
+    ensures keeps { OnlyLetsGo N.frames machine.old machine.new }
+{
+    for number in 0..MAX_GROUPS as u32 {
+        let Some(turn) = GroupId::of(number) else {
+            unreachable!()
+        };
+        if may_be_killed(machine, head, turn) {
+            kill_noted(machine, tables, limited, turn);
+        }
+    }
+}
+
+// Kills the head as a whole, for the group `limited`: what has a flag dies with all that is below it.
+fn kill_subtree<N: BootName>(
+    machine: &mut Machine<N>,
+    tables: &Tables<N>,
+    limited: GroupId,
+    head: GroupId,
+)
+    requires limited { IsTrue (has_group machine.old.ledger.groups limited) }
+    requires head { IsTrue (has_group machine.old.ledger.groups head) }
+    requires below_root { head ≢ 0 }
+    ensures kills { KillsSoBySteps N.frames (alive_below machine.old head)
+        (KillsSubtree N.frames limited head) machine.old machine.new }
+    ensures marked { machine.new.killed ≡ with_all_killed machine.old.killed (alive_below machine.old head) }
+    ensures drained { All (λ group. AreOwnDrained group N.frames.cpus machine.new) (alive_below machine.old head) }
+    ensures stocks { OnlyDrains machine.old machine.new }
+    ensures none_kept { All (λ group. HasNoKeptUnit group machine.new) (alive_below machine.old head) }
+    ensures keeps { OnlyLetsGo N.frames machine.old machine.new }
+{
+    note_subtree(machine, head);
+    kill_below(machine, tables, limited, head);
+    machine.note_group_kill(head);
+}
+
+/// Kills the victim of a group, and reports what was killed; None if there is no victim, and then nothing has changed. If
+/// the flag memory.oom.group is on in a group from the victim up to this one, both included, the highest such group is
+/// the head: each group of its subtree that isn't killed is killed, by ascending number, and then one `oom_group_kill` is
+/// noted at the head. Otherwise the victim is killed alone.
+///
+/// Nothing can be charged to a killed group any more, until it is removed; each kill is noted as `oom_kill` at the group
+/// that it kills. The group's stocks are drained. Its kept units, dirty ones too, leave their lists and lose the zone's
+/// reference, the inactive ones first, oldest first: those without a pin are uncharged and free, the others stay charged
+/// and kept by no one until their last put is settled. Why it is the victim is noted before, then how many groups die if
+/// a flag applies, and after each kill what became of the group's units.
 pub fn kill<N: BootName>(
     machine: &mut Machine<N>,
     tables: &Tables<N>,
     group: GroupId,
-) -> Option<GroupId>
+) -> Option<Killed>
     requires { IsTrue (has_group machine.old.ledger.groups group) }
-    ensures victim { IsVictim machine.old group result }
+    ensures victim { IsVictim machine.old group (victim_of result) }
     ensures kills { KillsVictim N.frames group result machine.old machine.new }
-    ensures marked { IfSome result (λ v. machine.new.killed ≡ slice_set machine.old.killed v true) }
-    ensures drained { IfSome result (λ v. AreOwnDrained v N.frames.cpus machine.new) }
+    ensures marked { IfSome result (λ killed.
+        machine.new.killed ≡ with_all_killed machine.old.killed (kill_set machine.old killed)) }
+    ensures drained { IfSome result (λ killed.
+        All (λ g. AreOwnDrained g N.frames.cpus machine.new) (kill_set machine.old killed)) }
     ensures stocks { OnlyDrains machine.old machine.new }
-    ensures none_kept { IfSome result (λ v. HasNoKeptUnit v machine.new) }
+    ensures none_kept { IfSome result (λ killed.
+        All (λ g. HasNoKeptUnit g machine.new) (kill_set machine.old killed)) }
     ensures keeps { OnlyLetsGo N.frames machine.old machine.new }
 {
     let victim = victim(machine, group)?;
     note_victim(machine, group, victim);
-    let had = had_by(machine, victim);
-    kill_group(machine, tables, victim);
-    note_killed(machine, group, victim, had);
-    Some(victim)
+    let tree = machine.charges().tree();
+    match highest_flagged(tree, group, victim) {
+        Some(head) => {
+            kill_subtree(machine, tables, group, head);
+            Some(Killed { victim, head })
+        }
+        None => {
+            kill_noted(machine, tables, group, victim);
+            Some(Killed {
+                victim,
+                head: victim,
+            })
+        }
+    }
 }

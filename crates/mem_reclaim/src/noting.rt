@@ -5,8 +5,9 @@ ghost use Rattle.group_tree.specs.Groups.{has_group};
 ghost use Rattle.mem_machine.specs.Machines.{with_note};
 ghost use Rattle.mem_reclaim.specs.Killing.{having_of, killed_note};
 ghost use Rattle.mem_reclaim.specs.KillNotes.{NotesVictim};
+ghost use Rattle.mem_reclaim.specs.Sets.{group_kill_note};
 
-use crate::victims::{candidates, next_after};
+use crate::victims::{candidates, count_alive, next_after};
 use cpu_part::BootName;
 use group_tree::group::GroupId;
 use kill_notes::note::{Candidate, Note};
@@ -56,6 +57,18 @@ pub(crate) fn note_victim<N: BootName>(machine: &mut Machine<N>, group: GroupId,
     machine.note(note);
 }
 
+/// Notes that a group is killed as a whole, and how many groups die.
+pub(crate) fn note_subtree<N: BootName>(machine: &mut Machine<N>, head: GroupId)
+    requires { IsTrue (has_group machine.old.ledger.groups head) }
+    ensures { machine.new ≡ with_note machine.old (group_kill_note machine.old head) }
+{
+    let note = Note::GroupKill {
+        group: head,
+        groups: count_alive(machine, head),
+    };
+    machine.note(note);
+}
+
 /// Notes what became of the units of a group that was killed for the group `limited`.
 pub(crate) fn note_killed<N: BootName>(
     machine: &mut Machine<N>,
@@ -68,7 +81,7 @@ pub(crate) fn note_killed<N: BootName>(
 {
     let returned = machine.counts().last_puts.saturating_sub(had.last_puts);
     let left = machine.frames_of(killed);
-    let note = Note::Killed {
+    let note = Note::Kill {
         group: killed,
         returned,
         pages: had.frames.saturating_sub(left),

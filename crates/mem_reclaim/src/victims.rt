@@ -1,18 +1,23 @@
 //! Who is killed where a limit can't be kept otherwise. Modelled on the choice of Linux's out-of-memory killer
 //! (cgroup-v2.rst, memory.max and memory.events), with a group as one killable unit.
 
-ghost use Rattle.std.specs.Prelude.{◌≡◌, IsTrue};
+ghost use Rattle.std.specs.Prelude.{◌≡◌, IsTrue, length};
 ghost use Rattle.group_tree.specs.Groups.{has_group};
 ghost use Rattle.mem_reclaim.specs.Victim.{IsMost, IsNext, IsVictim, candidates, is_candidate, is_it};
 ghost use Rattle.mem_reclaim.specs.Victim.{may_be_chosen, may_be_killed};
+ghost use Rattle.mem_reclaim.specs.Sets.{alive_below};
 
 use crate::passes::is_below;
 use cpu_part::BootName;
 use group_tree::group::{GroupId, MAX_GROUPS};
 use mem_machine::Machine;
 
-// Whether the other group is the group or lies below it, and isn't killed.
-fn may_be_killed<N: BootName>(machine: &Machine<N>, group: GroupId, other: GroupId) -> bool
+/// Whether the other group is the group or lies below it, and isn't killed.
+pub(crate) fn may_be_killed<N: BootName>(
+    machine: &Machine<N>,
+    group: GroupId,
+    other: GroupId,
+) -> bool
     requires { IsTrue (has_group machine.now.ledger.groups group) }
     ensures { result ≡ may_be_killed machine.now group other }
 {
@@ -115,6 +120,23 @@ pub(crate) fn candidates<N: BootName>(machine: &Machine<N>, group: GroupId) -> u
             unreachable!()
         };
         if is_candidate(machine, group, turn) {
+            count += 1;
+        }
+    }
+    count
+}
+
+/// How many groups of the group's subtree aren't killed.
+pub(crate) fn count_alive<N: BootName>(machine: &Machine<N>, group: GroupId) -> u32
+    requires { IsTrue (has_group machine.now.ledger.groups group) }
+    ensures { result ≡ length (alive_below machine.now group) }
+{
+    let mut count = 0;
+    for number in 0..MAX_GROUPS as u32 {
+        let Some(turn) = GroupId::of(number) else {
+            unreachable!()
+        };
+        if may_be_killed(machine, group, turn) {
             count += 1;
         }
     }

@@ -9,7 +9,7 @@ use Rattle.zone_sizes.specs.declared.config.Config.{Config}
 use Rattle.mem_machine.specs.Machines.{KnownMachine}
 use Rattle.mem_machine.specs.Local.{Side, side}
 use Rattle.mem_alloc.specs.declared.faults.AllocFault.{AllocFault}
-use Rattle.mem_alloc.specs.declared.faults.AllocFault.TheVariants.{Over, NoFrames, Killed}
+use Rattle.mem_alloc.specs.declared.faults.AllocFault.TheVariants.{Over, NoFrames, RequesterKilled}
 use Rattle.mem_alloc.specs.Frames.{AllocatesFrame}
 use Rattle.mem_alloc.proofs.CallerLemmas.{frame_over_there}
 use Rattle.mem_system.specs.Allocations.{Allocates, AllocatesAs, FreshOf, outcome_of}
@@ -26,7 +26,7 @@ allocated sizes path order group way found within (Err (Over g)) done there =
     (record { group = group; found = found; within = within; allocates = done }, path_told way.after.machine.ledger.groups g (there g refl))
 allocated sizes path order group way found within (Err NoFrames) done there =
     record { group = group; found = found; within = within; allocates = done }
-allocated sizes path order group way found within (Err Killed) done there =
+allocated sizes path order group way found within (Err RequesterKilled) done there =
     record { group = group; found = found; within = within; allocates = done }
 
 -- the group that is over its limit is there
@@ -35,7 +35,7 @@ pub has_groups : (l : Ledger) (answer : Result ℕ AllocFault) → ((g : ℕ) �
 has_groups l (Ok f) there = tt
 has_groups l (Err (Over g)) there = there g refl
 has_groups l (Err NoFrames) there = tt
-has_groups l (Err Killed) there = tt
+has_groups l (Err RequesterKilled) there = tt
 
 -- a single frame that was allocated is fresh then, and after a refusal none is
 pub frame_fresh : (l : Ledger) (order : ℕ) (answer : Result ℕ AllocFault) (fresh : List ℕ) → order ≡ 0
@@ -44,7 +44,7 @@ frame_fresh l zero (Ok f) fresh single is = is
 frame_fresh l (suc n) (Ok f) fresh single is = absurd (omega (arith, single))
 frame_fresh l order (Err (Over g)) fresh single is = is
 frame_fresh l order (Err NoFrames) fresh single is = is
-frame_fresh l order (Err Killed) fresh single is = is
+frame_fresh l order (Err RequesterKilled) fresh single is = is
 
 -- no frame of a block is fresh
 pub block_fresh : (l : Ledger) (order : ℕ) (answer : Result ℕ AllocFault) (fresh : List ℕ) → order ≢ 0
@@ -53,7 +53,7 @@ block_fresh l zero (Ok f) fresh block none = absurd (block refl)
 block_fresh l (suc n) (Ok f) fresh block none = none
 block_fresh l order (Err (Over g)) fresh block none = none
 block_fresh l order (Err NoFrames) fresh block none = none
-block_fresh l order (Err Killed) fresh block none = none
+block_fresh l order (Err RequesterKilled) fresh block none = none
 
 -- ---- a single frame
 

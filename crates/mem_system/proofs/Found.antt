@@ -1,14 +1,8 @@
 -- Serves the commands that name a group: the group of a path is there.
-use Rattle.std.proofs.Common.{◌≡◌, ◌⊎◌, ℕ, true, Some, List, sym, ap, ◌∙◌, ◌==◌, map, Option, subst, inl, inr}
-use Rattle.group_tree.specs.declared.fault.Fault.{Fault}
-use Rattle.group_tree.specs.declared.fault.Fault.TheVariants.{BadLimit, BadNumber}
+use Rattle.std.proofs.Common.{◌≡◌, ℕ, true, Some, List, sym, ap, ◌∙◌, ◌==◌, map, Option}
 use Rattle.group_tree.specs.declared.group.Group.{Group}
 use Rattle.group_tree.specs.Groups.{has_group, number_at, limited, with_limit}
 use Rattle.group_tree.proofs.GroupLemmas.{has_group-any, has_group-contains, limited-number, list_any-map, number_at-contains}
-use Rattle.control_files.specs.declared.file.File.{File}
-use Rattle.control_files.specs.declared.file.File.TheVariants.{Max}
-use Rattle.control_files.specs.Limit.{IsNoLimitText, IsTooGreat}
-use Rattle.mem_system.specs.Files.{RefusesValue}
 
 -- the group of a path is there
 pub found_there : (groups : List Group) (path : List ℕ) (n : ℕ) → number_at groups path ≡ Some n → has_group groups n ≡ true
@@ -24,10 +18,3 @@ has_group-limited groups g n limit =
     has_group-any (map (limited g limit) groups) n
     ∙ list_any-map (λ (x : Group). x.number == n) (limited g limit) (λ x. ap (λ k. k == n) (limited-number g limit x)) groups
     ∙ sym (has_group-any groups n)
-
--- a limit that isn't taken
-pub refused_value : (value : List ℕ) (file : File) (fault : Fault) → file ≡ Max
-    → (fault ≡ BadNumber) ⊎ (fault ≡ BadLimit) → (fault ≡ BadNumber → IsTooGreat value)
-    → (fault ≡ BadLimit → IsNoLimitText value) → RefusesValue file value fault
-refused_value value file fault is (inl number) great none = subst (λ (f : Fault). RefusesValue file value f) (sym number) (is, great number)
-refused_value value file fault is (inr limit) great none = subst (λ (f : Fault). RefusesValue file value f) (sym limit) (is, none limit)

@@ -11,6 +11,8 @@ use Rattle.group_tree.specs.Room.{fits_limit}
 use Rattle.group_tree.proofs.CallerLemmas.{limit_of-limited}
 use Rattle.group_charge.specs.Charges.{current_of}
 use Rattle.zone_sizes.specs.declared.config.Config.{Config}
+use Rattle.control_files.specs.declared.file.File.{File}
+use Rattle.control_files.specs.declared.file.File.TheVariants.{Max, OomGroup}
 use Rattle.cpu_part.specs.Cpus.{KnownCpu}
 use Rattle.step_rules.specs.State.{State}
 use Rattle.step_rules.specs.After.{Run}
@@ -23,7 +25,7 @@ use Rattle.mem_machine.specs.Steps.{drain_stocks_steps, lend_steps, open_steps, 
 use Rattle.mem_reclaim.specs.Moves.{has_kill}
 use Rattle.mem_reclaim.proofs.LettingGo.{quiet_drains}
 use Rattle.mem_alloc.specs.declared.faults.AllocFault.{AllocFault}
-use Rattle.mem_alloc.specs.declared.faults.AllocFault.TheVariants.{Over, NoFrames, Killed}
+use Rattle.mem_alloc.specs.declared.faults.AllocFault.TheVariants.{Over, NoFrames, RequesterKilled}
 use Rattle.mem_alloc.specs.Kills.{has_room_at}
 use Rattle.mem_alloc.specs.Stepping.{Course, course}
 use Rattle.mem_alloc.specs.NoRash.{NoRashKill}
@@ -36,7 +38,7 @@ use Rattle.mem_system.specs.declared.command.Cmd.TheVariants.{Mkdir, Rmdir, Writ
 use Rattle.mem_system.specs.declared.command.Reply.{Reply}
 use Rattle.mem_system.specs.declared.command.Reply.TheVariants as reply
 use Rattle.mem_system.specs.Groups.{MakesGroup, Removes}
-use Rattle.mem_system.specs.Files.{IsLimitFor, SetsLimit, Writes, with_limit_of}
+use Rattle.mem_system.specs.Files.{IsFileOf, IsLimitFor, SetsFile, SetsLimit, Writes, with_limit_of}
 use Rattle.mem_alloc.specs.Room.{with_limit_noted}
 use Rattle.mem_system.specs.Usage.{LowersUsage, LowersAbove, LowersByKills, KeepsToLimit}
 use Rattle.mem_system.specs.Allocations.{Allocates, AllocatesFor}
@@ -160,14 +162,26 @@ module _ (t : KnownTable) (MayAsk : List Group → ℕ → ℕ → Type 0) (s : 
 
 -- ---- all commands
 
+-- a value that is set kills only by the limit that it writes
+set_no_rash : (t : KnownTable) (cmd : Cmd) (path name value : List ℕ) (g : ℕ) (file : File) (s : KnownMachine) (c : KnownCpu) (steps : Run)
+    (n : KnownMachine) (z : State) → IsFileOf s.ledger.groups path name g file
+    → ((h : ℕ) (of : Option ℕ) → IsLimitFor s.ledger.groups path name value h of → MayAskFor cmd s.ledger.groups (with_limit s.ledger.groups h of) h 0)
+    → IsLocalRun c.number (local_of t s c) steps z → SetsFile file value g (course t s steps n)
+    → NoRashKill t (MayAskFor cmd s.ledger.groups) s c steps
+set_no_rash t cmd path name value g Max s c steps n z is asks whole h =
+    sets_rash t (MayAskFor cmd s.ledger.groups) s c g h.limit steps n z (found_there s.ledger.groups path g is.number)
+    (asks g h.limit (record { file = is; reads = h.reads })) whole h.sets
+set_no_rash t cmd path name value g OomGroup s c steps n z is asks whole h =
+    rash_quiet t (MayAskFor cmd s.ledger.groups) s c [] steps (ap has_kill h.sets.steps_are)
+set_no_rash t cmd path name value g file s c steps n z is asks whole h = absurd h
+
 writes_no_rash : (t : KnownTable) (cmd : Cmd) (path name value : List ℕ) (said : Reply) (s : KnownMachine) (c : KnownCpu) (steps : Run) (n : KnownMachine)
     (z : State) → ((g : ℕ) (of : Option ℕ) → IsLimitFor s.ledger.groups path name value g of
     → MayAskFor cmd s.ledger.groups (with_limit s.ledger.groups g of) g 0)
     → IsLocalRun c.number (local_of t s c) steps z → Writes path name value said (course t s steps n)
     → NoRashKill t (MayAskFor cmd s.ledger.groups) s c steps
 writes_no_rash t cmd path name value reply.Done s c steps n z asks whole h =
-    sets_rash t (MayAskFor cmd s.ledger.groups) s c h.group h.limit steps n z (found_there s.ledger.groups path h.group h.asks.file.number)
-    (asks h.group h.limit h.asks) whole h.sets
+    set_no_rash t cmd path name value h.group h.file s c steps n z h.is_file asks whole h.sets
 writes_no_rash t cmd path name value (reply.Refused fault) s c steps n z asks whole h =
     rash_quiet t (MayAskFor cmd s.ledger.groups) s c [] steps (ap has_kill h.1.steps_are)
 writes_no_rash t cmd path name value other s c steps n z asks whole h = absurd h
@@ -206,7 +220,7 @@ allocates_no_rash t cmd sizes path order (reply.Refused fault.BadOrder) s c step
 allocates_no_rash t cmd sizes path order (reply.Refused fault.NoFrames) s c steps n z asks whole h =
     allocates_for t cmd sizes path order (Err NoFrames) s c steps n z asks whole h
 allocates_no_rash t cmd sizes path order (reply.Refused fault.Killed) s c steps n z asks whole h =
-    allocates_for t cmd sizes path order (Err Killed) s c steps n z asks whole h
+    allocates_for t cmd sizes path order (Err RequesterKilled) s c steps n z asks whole h
 allocates_no_rash t cmd sizes path order other s c steps n z asks whole h = absurd h
 
 pub obeys_no_rash : (t : KnownTable) (sizes : Config) (cmd : Cmd) (said : Reply) (s : KnownMachine) (c : KnownCpu) (steps : Run) (n : Side) (z : State)

@@ -6,15 +6,17 @@ use Rattle.frame_word.specs.Seats.{misses_of}
 use Rattle.frame_word.specs.Views.{let_go, let_go_last, passed_out_to}
 use Rattle.group_tree.specs.declared.fault.Fault.TheVariants as fault
 use Rattle.group_charge.specs.Charges.{current_of}
+use Rattle.control_files.specs.declared.file.File.{File}
+use Rattle.control_files.specs.declared.file.File.TheVariants.{Max, OomGroup}
 use Rattle.zone_sizes.specs.declared.config.Config.{Config}
 use Rattle.mem_machine.specs.declared.releasing.Released.TheVariants as released
 use Rattle.mem_machine.specs.Machines.{KnownMachine}
 use Rattle.mem_machine.specs.Local.{Side, side}
 use Rattle.mem_machine.specs.Releasing.{release_steps}
-use Rattle.mem_machine.specs.Steps.{drain_list_steps, drain_stocks_steps, lend_steps, make_steps, remove_steps, set_max_steps}
+use Rattle.mem_machine.specs.Steps.{drain_list_steps, drain_stocks_steps, lend_steps, make_steps, remove_steps, set_max_steps, set_oom_group_steps}
 use Rattle.mem_reclaim.proofs.LettingGo.{misses_put}
 use Rattle.mem_alloc.specs.declared.faults.AllocFault.{AllocFault}
-use Rattle.mem_alloc.specs.declared.faults.AllocFault.TheVariants.{Over, NoFrames, Killed}
+use Rattle.mem_alloc.specs.declared.faults.AllocFault.TheVariants.{Over, NoFrames, RequesterKilled}
 use Rattle.mem_alloc.specs.Stepping.{CountsMisses, Course, course, of_machine}
 use Rattle.mem_alloc.proofs.Missing.{back_calm, back_same, block_counts, counts_as, counts_both, counts_drains, counts_kills, counts_none, counts_rest, counts_same, frame_counts}
 use Rattle.mem_system.specs.declared.command.Cmd.{Cmd}
@@ -27,7 +29,7 @@ use Rattle.mem_system.specs.Allocations.{Allocates, AllocatesFor}
 use Rattle.mem_system.specs.Units.{HeadsNoUnit, NotesDirt, TouchesFrame}
 use Rattle.mem_system.specs.Releases.{ListsFrame, ReleasesFrame, ReturnsFrames}
 use Rattle.mem_system.specs.Groups.{MakesGroup, Removes}
-use Rattle.mem_system.specs.Files.{SetsLimit, Writes, with_limit_of}
+use Rattle.mem_system.specs.Files.{SetsFile, SetsLimit, Writes, with_limit_of}
 use Rattle.mem_system.specs.Commands.{Obeys}
 
 makes_counts : (path : List ℕ) (said : Reply) (way : Course KnownMachine) → MakesGroup path said way → CountsMisses way
@@ -80,8 +82,17 @@ sets_counts g of way h =
     (counts_same t way.before x (set_max_steps g of) (record { quiet = refl; no_miss = λ f. refl }) refl)
     (keeps_counts g of (course t x h.lowering way.after) h.keeps))
 
+set_counts : (file : File) (value : List ℕ) (g : ℕ) (way : Course KnownMachine) → SetsFile file value g way → CountsMisses way
+set_counts Max value g way h = sets_counts g h.limit way h.sets
+set_counts OomGroup value g way h =
+    let steps = set_oom_group_steps g h.flag in
+    counts_as way.table way.before way.after way.steps steps h.sets.steps_are
+    (counts_same way.table way.before way.after steps (record { quiet = refl; no_miss = λ f. refl })
+    (ap (λ (x : KnownMachine). x.frame_seat) h.sets.machine))
+set_counts file value g way h = absurd h
+
 writes_counts : (path name value : List ℕ) (said : Reply) (way : Course KnownMachine) → Writes path name value said way → CountsMisses way
-writes_counts path name value reply.Done way h = sets_counts h.group h.limit way h.sets
+writes_counts path name value reply.Done way h = set_counts h.file value h.group way h.sets
 writes_counts path name value (reply.Refused fault) way h = counts_rest way.table way.before way.after way.steps h.1.machine h.1.steps_are
 writes_counts path name value other way h = absurd h
 
@@ -160,7 +171,7 @@ allocates_counts sizes path order (reply.Refused fault.NoGroup) way h =
 allocates_counts sizes path order (reply.Refused fault.BadOrder) way h =
     counts_rest way.table way.before.machine way.after.machine way.steps h.stays.machine h.stays.steps_are
 allocates_counts sizes path order (reply.Refused fault.NoFrames) way h = allocates_for sizes path order (Err NoFrames) way h
-allocates_counts sizes path order (reply.Refused fault.Killed) way h = allocates_for sizes path order (Err Killed) way h
+allocates_counts sizes path order (reply.Refused fault.Killed) way h = allocates_for sizes path order (Err RequesterKilled) way h
 allocates_counts sizes path order other way h = absurd h
 
 pub obeys_counts : (sizes : Config) (cmd : Cmd) (said : Reply) (way : Course Side) → Obeys sizes cmd said way → CountsMisses (of_machine way)

@@ -5,7 +5,7 @@ use Rattle.group_tree.specs.Groups.{number_at, path_of}
 use Rattle.zone_sizes.specs.declared.config.Config.{Config}
 use Rattle.mem_machine.specs.Local.{Side}
 use Rattle.mem_alloc.specs.declared.faults.AllocFault.{AllocFault}
-use Rattle.mem_alloc.specs.declared.faults.AllocFault.TheVariants.{Over, NoFrames, Killed}
+use Rattle.mem_alloc.specs.declared.faults.AllocFault.TheVariants.{Over, NoFrames, RequesterKilled}
 use Rattle.mem_alloc.specs.Stepping.{Course, Stays}
 use Rattle.mem_alloc.specs.Frames.{AllocatesFrame}
 use Rattle.mem_alloc.specs.Blocks.{AllocatesBlock}
@@ -44,7 +44,7 @@ Allocates sizes path order (Refused fault.NoGroup) way =
     (number_at way.before.machine.ledger.groups path ≡ None) × Stays way
 Allocates sizes path order (Refused fault.BadOrder) way = HasBadOrder path order way
 Allocates sizes path order (Refused fault.NoFrames) way = AllocatesFor sizes path order (Err NoFrames) way
-Allocates sizes path order (Refused fault.Killed) way = AllocatesFor sizes path order (Err Killed) way
+Allocates sizes path order (Refused fault.Killed) way = AllocatesFor sizes path order (Err RequesterKilled) way
 Allocates sizes path order other way = ⊥
 
 -- what an allocation comes to, by its answer
@@ -52,7 +52,7 @@ abbrev pub outcome_of : Result ℕ AllocFault → Outcome
 outcome_of (Ok head) = outcome.Frame head
 outcome_of (Err (Over group)) = outcome.OverLimit group
 outcome_of (Err NoFrames) = outcome.Refused fault.NoFrames
-outcome_of (Err Killed) = outcome.Refused fault.Killed
+outcome_of (Err RequesterKilled) = outcome.Refused fault.Killed
 
 -- the fresh frames after an allocation of this order with this reply: the frame that it tells, where it is a single one
 abbrev pub FreshOf : Reply → (order : ℕ) (fresh : List ℕ) → Type 0

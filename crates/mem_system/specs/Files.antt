@@ -1,20 +1,21 @@
 -- The files of the groups: which is meant, what is read, and what a write does.
-use Rattle.std.specs.Prelude.{◌≡◌, ◌≢◌, ◌⊎◌, ℕ, Option, Some, None, List, ◌++◌}
+use Rattle.std.specs.Prelude.{◌≡◌, ◌≢◌, ◌⊎◌, ℕ, Bool, false, Option, Some, None, List, ◌++◌}
 use Rattle.group_tree.specs.declared.group.Group.{Group}
 use Rattle.group_tree.specs.Groups.{number_at}
 use Rattle.group_tree.specs.declared.fault.Fault.{Fault}
 use Rattle.group_tree.specs.declared.fault.Fault.TheVariants.{NoGroup, NoFile, ReadOnly, BadLimit, BadNumber}
-use Rattle.group_charge.specs.Charges.{Ledger, with_group_limit}
+use Rattle.group_charge.specs.Charges.{Ledger, with_group_limit, with_oom_flag}
 use Rattle.frame_word.specs.Seats.{KnownTable}
 use Rattle.cpu_part.specs.Cpus.{KnownCpu}
 use Rattle.control_files.specs.declared.file.File.{File}
-use Rattle.control_files.specs.declared.file.File.TheVariants.{Max}
-use Rattle.control_files.specs.Files.{name_of, file_text}
+use Rattle.control_files.specs.declared.file.File.TheVariants.{Max, OomGroup}
+use Rattle.control_files.specs.Files.{name_of, file_text, is_writable}
+use Rattle.control_files.specs.Flag.{IsFlagText, IsNoFlagText}
 use Rattle.control_files.specs.Limit.{ReadsAs, IsTooGreat, IsNoLimitText}
 use Rattle.step_rules.specs.After.{Run}
 use Rattle.mem_machine.specs.Machines.{KnownMachine, KeepsVisit, Visits}
 use Rattle.mem_machine.specs.Local.{side}
-use Rattle.mem_machine.specs.Steps.{set_max_steps}
+use Rattle.mem_machine.specs.Steps.{set_max_steps, set_oom_group_steps}
 use Rattle.mem_alloc.specs.Stepping.{Course, MachineStays, course}
 use Rattle.mem_system.specs.declared.command.Reply.{Reply}
 use Rattle.mem_system.specs.declared.command.Reply.TheVariants.{Text, Done, Refused}
@@ -56,12 +57,63 @@ Reads ledger path name (Text text) = ReadsFile ledger path name text
 Reads ledger path name (Refused fault) = HasNoFile ledger.groups path name fault
 Reads ledger path name other = ⊥
 
--- why a value is not written to a file that is there
+-- the machine with another limit of the group
+abbrev pub with_limit_of : KnownMachine → (group : ℕ) → Option ℕ → KnownMachine
+with_limit_of machine group limit = record machine { ledger = with_group_limit machine.ledger group limit }
+
+-- the group gets the limit, and then its usage is kept to it
+pub record SetsLimit (group : ℕ) (limit : Option ℕ) (way : Course KnownMachine) : Type 0 where
+  pub lowering : Run
+  pub keeps : KeepsToLimit group limit (course way.table (with_limit_of way.before group limit) lowering way.after)
+  pub steps_are : way.steps ≡ set_max_steps group limit ++ lowering
+
+-- the value writes a limit, and the group gets it
+pub record WritesLimit (value : List ℕ) (group : ℕ) (way : Course KnownMachine) : Type 0 where
+  pub limit : Option ℕ
+  pub reads : ReadsAs value limit
+  pub sets : SetsLimit group limit way
+
+-- the machine with another flag of the group: whether it is to be killed as a whole
+abbrev pub with_flag_of : KnownMachine → (group : ℕ) → Bool → KnownMachine
+with_flag_of machine group flag = record machine { ledger = with_oom_flag machine.ledger group flag }
+
+-- the group gets the flag, by one step, and nothing else changes: nobody is killed, and nothing is noted
+pub record SetsFlag (group : ℕ) (flag : Bool) (way : Course KnownMachine) : Type 0 where
+  pub machine : way.after ≡ with_flag_of way.before group flag
+  pub steps_are : way.steps ≡ set_oom_group_steps group flag
+
+-- the value writes a flag, and the group gets it
+pub record WritesFlag (value : List ℕ) (group : ℕ) (way : Course KnownMachine) : Type 0 where
+  pub flag : Bool
+  pub reads : IsFlagText value flag
+  pub sets : SetsFlag group flag way
+
+-- what a value sets that is written to a file of the group, and what is done then
+abbrev pub SetsFile : File → (value : List ℕ) → (group : ℕ) → Course KnownMachine → Type 0
+SetsFile Max value group way = WritesLimit value group way
+SetsFile OomGroup value group way = WritesFlag value group way
+SetsFile read_only value group way = ⊥
+
+-- why a file that is there doesn't take a value: it isn't written at all, or this is no value of it
 abbrev pub RefusesValue : File → (value : List ℕ) → Fault → Type 0
-RefusesValue file value ReadOnly = file ≢ Max
-RefusesValue file value BadLimit = (file ≡ Max) × IsNoLimitText value
-RefusesValue file value BadNumber = (file ≡ Max) × IsTooGreat value
+RefusesValue file value ReadOnly = is_writable file ≡ false
+RefusesValue Max value BadLimit = IsNoLimitText value
+RefusesValue Max value BadNumber = IsTooGreat value
+RefusesValue OomGroup value BadLimit = IsNoFlagText value
 RefusesValue file value fault = ⊥
+
+-- a value is written to a file that is there: it is set, or it is refused, and nothing changed
+abbrev pub WritesTo : File → (value : List ℕ) → (group : ℕ) → Reply → Course KnownMachine → Type 0
+WritesTo file value group Done way = SetsFile file value group way
+WritesTo file value group (Refused fault) way = RefusesValue file value fault × MachineStays way
+WritesTo file value group other way = ⊥
+
+-- the path and the name are those of a file, and what the value writes to it is set
+pub record WritesFile (path name value : List ℕ) (way : Course KnownMachine) : Type 0 where
+  pub group : ℕ
+  pub file : File
+  pub is_file : IsFileOf way.before.ledger.groups path name group file
+  pub sets : SetsFile file value group way
 
 -- the file is there, and doesn't take the value
 pub record RefusesValueOf (groups : List Group) (path name value : List ℕ) (fault : Fault) : Type 0 where
@@ -75,31 +127,14 @@ abbrev pub RefusesWrite : List Group → (path name value : List ℕ) → Fault 
 RefusesWrite groups path name value fault =
     HasNoFile groups path name fault ⊎ RefusesValueOf groups path name value fault
 
--- the machine with another limit of the group
-abbrev pub with_limit_of : KnownMachine → (group : ℕ) → Option ℕ → KnownMachine
-with_limit_of machine group limit = record machine { ledger = with_group_limit machine.ledger group limit }
-
--- the group gets the limit, and then its usage is kept to it
-pub record SetsLimit (group : ℕ) (limit : Option ℕ) (way : Course KnownMachine) : Type 0 where
-  pub lowering : Run
-  pub keeps : KeepsToLimit group limit (course way.table (with_limit_of way.before group limit) lowering way.after)
-  pub steps_are : way.steps ≡ set_max_steps group limit ++ lowering
+-- Write: the value is set; or it is refused, and nothing changed
+abbrev pub Writes : (path name value : List ℕ) → Reply → Course KnownMachine → Type 0
+Writes path name value Done way = WritesFile path name value way
+Writes path name value (Refused fault) way =
+    RefusesWrite way.before.ledger.groups path name value fault × MachineStays way
+Writes path name value other way = ⊥
 
 -- the file is memory.max of this group, and the value is this limit
 pub record IsLimitFor (groups : List Group) (path name value : List ℕ) (group : ℕ) (limit : Option ℕ) : Type 0 where
   pub file : IsFileOf groups path name group Max
   pub reads : ReadsAs value limit
-
--- the file is memory.max of a group, and the value is the limit that the group gets
-pub record WritesLimit (path name value : List ℕ) (way : Course KnownMachine) : Type 0 where
-  pub group : ℕ
-  pub limit : Option ℕ
-  pub asks : IsLimitFor way.before.ledger.groups path name value group limit
-  pub sets : SetsLimit group limit way
-
--- Write: the limit is set; or it is refused, and nothing changed
-abbrev pub Writes : (path name value : List ℕ) → Reply → Course KnownMachine → Type 0
-Writes path name value Done way = WritesLimit path name value way
-Writes path name value (Refused fault) way =
-    RefusesWrite way.before.ledger.groups path name value fault × MachineStays way
-Writes path name value other way = ⊥

@@ -28,7 +28,7 @@ pub(crate) fn outcome_of(answer: &Result<Frame, AllocFault>) -> Outcome
         Err(cause) => match *cause {
             AllocFault::Over(group) => Outcome::OverLimit(group),
             AllocFault::NoFrames => Outcome::Refused(Fault::NoFrames),
-            AllocFault::Killed => Outcome::Refused(Fault::Killed),
+            AllocFault::RequesterKilled => Outcome::Refused(Fault::Killed),
         },
     }
 }

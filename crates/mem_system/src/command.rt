@@ -32,9 +32,9 @@ pub enum Cmd<'a> {
     Rmdir {
         path: &'a [u8],
     },
-    /// Writes a value to a file of the group of this path. Where the group's usage is above its new memory.max, the
-    /// stocks of its subtree are drained, clean units of it are reclaimed, and then victims of it killed, until the
-    /// usage is at most that or no victim is left.
+    /// Writes a value to a file of the group of this path. If the group's usage is above its new memory.max, the stocks of
+    /// its subtree are drained, clean units of it are reclaimed, and then victims of it are killed, until the usage is at
+    /// most that or no victim is left. A write of memory.oom.group only changes what later kills do.
     Write {
         path: &'a [u8],
         file: &'a [u8],

@@ -4,12 +4,14 @@ ghost use Rattle.std.specs.Prelude.{◌≢◌, IsTrue, IfOk, IfErr};
 ghost use Rattle.group_tree.specs.Groups.{has_group};
 ghost use Rattle.mem_system.specs.Outcomes.{ComesToForAny, HasItsGroups, reply_of};
 ghost use Rattle.mem_alloc.specs.Stepping.{ByStepsOfAny};
-ghost use Rattle.mem_system.specs.Files.{IsFileOf, IsLimitFor, HasNoFile, Reads, RefusesWrite, Writes};
+ghost use Rattle.mem_system.specs.Files.{IsFileOf, HasNoFile, Reads, Writes, WritesTo};
 ghost use Rattle.mem_system.specs.Files.{KeepsAnyVisit, SetsLimit};
+ghost use Rattle.control_files.specs.declared.file.File.{File};
 
 use crate::outcome::Outcome;
 use crate::usage::lower_above;
 use control_files::file::{File, file_named};
+use control_files::flag::read_flag;
 use control_files::limit::{Limit, read_limit};
 use cpu_part::{BootName, Tables};
 use group_charge::charges::Charges;
@@ -42,30 +44,6 @@ pub(crate) fn read_file(charges: &Charges, path: &[u8], name: &[u8]) -> Outcome
     }
 }
 
-// The group whose memory.max is written, and its new limit.
-fn find_limit(
-    charges: &Charges,
-    path: &[u8],
-    name: &[u8],
-    value: &[u8],
-) -> Result<(GroupId, Limit), Fault>
-    ensures found { IfOk result (λ found.
-        IsLimitFor charges.now.groups path.now name.now value.now found.0 found.1) }
-    ensures refused { IfErr result (RefusesWrite charges.now.groups path.now name.now value.now) }
-{
-    let (group, file) = match find_file(charges, path, name) {
-        Ok(found) => found,
-        Err(fault) => return Err(fault),
-    };
-    if !file.is_writable() {
-        return Err(Fault::ReadOnly);
-    }
-    match read_limit(value) {
-        Ok(limit) => Ok((group, limit)),
-        Err(fault) => Err(fault),
-    }
-}
-
 // Gives the group the limit, and brings its usage down to it, as far as that can be, where it is above it.
 fn set_limit<N: BootName>(
     machine: &mut Machine<N>,
@@ -84,6 +62,45 @@ fn set_limit<N: BootName>(
     }
 }
 
+// Gives the group the limit that the value writes, and keeps its usage to it. The value is refused if it writes no limit.
+fn write_limit<N: BootName>(
+    machine: &mut Machine<N>,
+    tables: &Tables<N>,
+    group: GroupId,
+    value: &[u8],
+) -> Outcome
+    requires there { IsTrue (has_group machine.old.ledger.groups group) }
+    requires below_root { group ≢ 0 }
+    ensures written { ComesToForAny N.frames result (WritesTo File.Max value.now group) machine.old machine.new }
+    ensures groups { HasItsGroups machine.new.ledger result }
+    ensures stays { KeepsAnyVisit N.frames machine.old machine.new }
+{
+    match read_limit(value) {
+        Ok(limit) => {
+            set_limit(machine, tables, group, limit);
+            Outcome::Done
+        }
+        Err(fault) => Outcome::Refused(fault),
+    }
+}
+
+// Says that the group is to be killed as a whole, or not, as the value says. The value is refused if it writes no flag.
+fn write_flag<N: BootName>(machine: &mut Machine<N>, group: GroupId, value: &[u8]) -> Outcome
+    requires there { IsTrue (has_group machine.old.ledger.groups group) }
+    requires below_root { group ≢ 0 }
+    ensures written { ComesToForAny N.frames result (WritesTo File.OomGroup value.now group) machine.old machine.new }
+    ensures groups { HasItsGroups machine.new.ledger result }
+    ensures stays { KeepsAnyVisit N.frames machine.old machine.new }
+{
+    match read_flag(value) {
+        Ok(flag) => {
+            machine.set_oom_group(group, flag);
+            Outcome::Done
+        }
+        Err(fault) => Outcome::Refused(fault),
+    }
+}
+
 // Writes the value to the file.
 pub(crate) fn write_file<N: BootName>(
     machine: &mut Machine<N>,
@@ -96,10 +113,13 @@ pub(crate) fn write_file<N: BootName>(
     ensures groups { HasItsGroups machine.new.ledger result }
     ensures stays { KeepsAnyVisit N.frames machine.old machine.new }
 {
-    let (group, limit) = match find_limit(machine.charges(), path, name, value) {
+    let (group, file) = match find_file(machine.charges(), path, name) {
         Ok(found) => found,
         Err(fault) => return Outcome::Refused(fault),
     };
-    set_limit(machine, tables, group, limit);
-    Outcome::Done
+    match file {
+        File::Max => write_limit(machine, tables, group, value),
+        File::OomGroup => write_flag(machine, group, value),
+        _ => Outcome::Refused(Fault::ReadOnly),
+    }
 }

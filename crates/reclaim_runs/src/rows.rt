@@ -2,9 +2,14 @@
 ghost use Rattle.std.specs.Prelude.{◌≡◌};
 ghost use Rattle.mem_machine.specs.Machines.{Visits, side};
 
+use crate::sets::{
+    flag_above_the_limit, flag_elsewhere, flagged_victim, highest_flag, killed_in_a_set,
+    pin_in_a_set,
+};
 use crate::small::{
-    SmallMachine, SmallParts, dirty_unit, is_kept, kill_for, make_small_parts, pin_unit,
-    reclaim_from, rounds_from, row_tells, take_unit, touch_unit, unpin_unit, usage_and_kills,
+    SmallMachine, SmallParts, dirty_unit, is_kept, itself, kill_for, make_small_parts, noted,
+    pin_unit, reclaim_from, rounds_from, row_tells, take_unit, touch_unit, unpin_unit,
+    usage_and_kills,
 };
 use cpu_part::{BootName, Cpu, Tables};
 use group_tree::group::GroupId;
@@ -27,15 +32,12 @@ enum ReclaimRow {
     RoundsEnd,
     MostFrames,
     PinOutlivesAKill,
-}
-
-// What was noted, which is forgotten then.
-fn noted<N: BootName>(rt: &impl Abort, small: &mut SmallMachine<N>, notes: &[Note])
-    ensures opened { small.new.machine.frame_seat.view.opened ≡ small.old.machine.frame_seat.view.opened }
-    ensures cpu { small.new.cpu ≡ small.old.cpu }
-{
-    row_tells(rt, small.machine.notes() == notes, "notes");
-    small.machine.forget_notes();
+    HighestFlag,
+    FlagAboveTheLimit,
+    FlaggedVictim,
+    FlagElsewhere,
+    KilledInASet,
+    PinInASet,
 }
 
 // So many pages, and whether all was tried.
@@ -183,8 +185,7 @@ fn most_frames<N: BootName>(rt: &impl Abort, small: &mut SmallMachine<N>)
     take_unit(rt, small, one, 0, 0);
     take_unit(rt, small, two, 1, 2);
     dirty_unit(rt, small, 2);
-    let killed = kill_for(rt, small, above);
-    row_tells(rt, killed == two.number(), "the group with two frames");
+    kill_for(rt, small, above, itself(two));
     let victim = Note::Victim {
         victim: Candidate {
             group: two,
@@ -196,7 +197,7 @@ fn most_frames<N: BootName>(rt: &impl Abort, small: &mut SmallMachine<N>)
             frames: 1,
         },
     };
-    let gone = Note::Killed {
+    let gone = Note::Kill {
         group: two,
         returned: 1,
         pages: 2,
@@ -209,10 +210,8 @@ fn most_frames<N: BootName>(rt: &impl Abort, small: &mut SmallMachine<N>)
     row_tells(rt, is_kept(rt, small, 0), "the other stays");
     let told = usage_and_kills(rt, small, above);
     row_tells(rt, told == (1, 1), "a page, and a kill");
-    let killed = kill_for(rt, small, above);
-    row_tells(rt, killed == one.number(), "the group with one frame");
-    let killed = kill_for(rt, small, above);
-    row_tells(rt, killed == 64, "nobody is left");
+    kill_for(rt, small, above, itself(one));
+    kill_for(rt, small, above, None);
     let told = usage_and_kills(rt, small, above);
     row_tells(rt, told == (0, 2), "no page, and two kills");
 }
@@ -226,14 +225,13 @@ fn pin_outlives_a_kill<N: BootName>(rt: &impl Abort, small: &mut SmallMachine<N>
     take_unit(rt, small, group, 0, 0);
     small.machine.shut(&small.tables, &mut small.cpu);
     pin_unit(rt, small, 0);
-    let killed = kill_for(rt, small, root);
-    row_tells(rt, killed == group.number(), "the one group with a frame");
+    kill_for(rt, small, root, itself(group));
     let victim = Note::Victim {
         victim: Candidate { group, frames: 1 },
         candidates: 1,
         next: Candidate { group, frames: 1 },
     };
-    let pinned_past = Note::Killed {
+    let pinned_past = Note::Kill {
         group,
         returned: 0,
         pages: 0,
@@ -245,8 +243,7 @@ fn pin_outlives_a_kill<N: BootName>(rt: &impl Abort, small: &mut SmallMachine<N>
     row_tells(rt, !is_kept(rt, small, 0), "it isn't kept");
     let told = usage_and_kills(rt, small, group);
     row_tells(rt, told == (1, 1), "it is charged still");
-    let killed = kill_for(rt, small, root);
-    row_tells(rt, killed == 64, "a killed group is no victim");
+    kill_for(rt, small, root, None);
     unpin_unit(rt, small, 0);
     small.machine.open(&small.tables, &mut small.cpu);
     small.machine.settle(&small.tables, &mut small.cpu);
@@ -286,6 +283,12 @@ fn play_on<N: BootName>(rt: &impl Abort, alloc: Global, parts: SmallParts, row: 
         ReclaimRow::RoundsEnd => rounds_end(rt, &mut small),
         ReclaimRow::MostFrames => most_frames(rt, &mut small),
         ReclaimRow::PinOutlivesAKill => pin_outlives_a_kill(rt, &mut small),
+        ReclaimRow::HighestFlag => highest_flag(rt, &mut small),
+        ReclaimRow::FlagAboveTheLimit => flag_above_the_limit(rt, &mut small),
+        ReclaimRow::FlaggedVictim => flagged_victim(rt, &mut small),
+        ReclaimRow::FlagElsewhere => flag_elsewhere(rt, &mut small),
+        ReclaimRow::KilledInASet => killed_in_a_set(rt, &mut small),
+        ReclaimRow::PinInASet => pin_in_a_set(rt, &mut small),
     }
     let SmallMachine {
         tables,
@@ -352,4 +355,34 @@ fn the_group_with_most_frames_is_killed(rt: HostRuntime) {
 #[test]
 fn a_pin_outlives_a_kill(rt: HostRuntime) {
     play_row(&rt, rt.alloc(), ReclaimRow::PinOutlivesAKill);
+}
+
+#[test]
+fn the_highest_flagged_group_dies_whole(rt: HostRuntime) {
+    play_row(&rt, rt.alloc(), ReclaimRow::HighestFlag);
+}
+
+#[test]
+fn a_flag_above_the_limit_does_not_count(rt: HostRuntime) {
+    play_row(&rt, rt.alloc(), ReclaimRow::FlagAboveTheLimit);
+}
+
+#[test]
+fn a_flagged_victim_dies_with_its_subtree(rt: HostRuntime) {
+    play_row(&rt, rt.alloc(), ReclaimRow::FlaggedVictim);
+}
+
+#[test]
+fn a_flag_elsewhere_does_not_count(rt: HostRuntime) {
+    play_row(&rt, rt.alloc(), ReclaimRow::FlagElsewhere);
+}
+
+#[test]
+fn a_killed_group_of_a_set_is_not_killed_again(rt: HostRuntime) {
+    play_row(&rt, rt.alloc(), ReclaimRow::KilledInASet);
+}
+
+#[test]
+fn a_pin_outlives_the_kill_of_a_set(rt: HostRuntime) {
+    play_row(&rt, rt.alloc(), ReclaimRow::PinInASet);
 }

@@ -6,9 +6,11 @@ ghost use Rattle.mem_machine.specs.Machines.{Visits, side};
 
 use cpu_part::{BootName, Cpu, Tables};
 use frame_word::{Frame, FrameSeat, FrameWords, Get};
+use group_tree::event::EventKey;
 use group_tree::group::GroupId;
+use kill_notes::note::Note;
 use mem_machine::Machine;
-use mem_reclaim::{Reclaimed, kill, make_rounds, reclaim};
+use mem_reclaim::{Killed, Reclaimed, kill, make_rounds, reclaim};
 use std::alloc::Global;
 use std::process::Abort;
 use stock_word::{StockSeat, StockWords};
@@ -139,16 +141,50 @@ pub fn reclaim_from<N: BootName>(
     reclaim(&mut small.machine, &small.tables, group, want)
 }
 
-/// Kills the victim of the group, and tells its number; 64 where there is none.
-pub fn kill_for<N: BootName>(rt: &impl Abort, small: &mut SmallMachine<N>, group: GroupId) -> u32
+/// What was noted, which is forgotten then.
+pub fn noted<N: BootName>(rt: &impl Abort, small: &mut SmallMachine<N>, notes: &[Note])
+    ensures opened { small.new.machine.frame_seat.view.opened ≡ small.old.machine.frame_seat.view.opened }
+    ensures cpu { small.new.cpu ≡ small.old.cpu }
+{
+    row_tells(rt, small.machine.notes() == notes, "notes");
+    small.machine.forget_notes();
+}
+
+/// The group, which isn't the root, is to be killed as a whole, or not.
+pub fn flag_group<N: BootName>(
+    rt: &impl Abort,
+    small: &mut SmallMachine<N>,
+    group: GroupId,
+    flag: bool,
+)
+    ensures opened { small.new.machine.frame_seat.view.opened ≡ small.old.machine.frame_seat.view.opened }
+    ensures cpu { small.new.cpu ≡ small.old.cpu }
+{
+    assert!(rt; group.number() != 0 && small.machine.charges().tree().contains(group));
+    small.machine.set_oom_group(group, flag);
+}
+
+/// The group is killed alone, or as a whole if its own flag is the highest.
+pub fn itself(group: GroupId) -> Option<Killed> {
+    Some(Killed {
+        victim: group,
+        head: group,
+    })
+}
+
+/// Kills the victim of the group and all that die with it: these victim and head, or nobody.
+pub fn kill_for<N: BootName>(
+    rt: &impl Abort,
+    small: &mut SmallMachine<N>,
+    group: GroupId,
+    killed: Option<Killed>,
+)
     ensures opened { small.new.machine.frame_seat.view.opened ≡ small.old.machine.frame_seat.view.opened }
     ensures cpu { small.new.cpu ≡ small.old.cpu }
 {
     assert!(rt; small.machine.charges().tree().contains(group));
-    match kill(&mut small.machine, &small.tables, group) {
-        Some(victim) => victim.number(),
-        None => 64,
-    }
+    let told = kill(&mut small.machine, &small.tables, group);
+    row_tells(rt, told == killed, "the victim and the head");
 }
 
 /// The usage of a group, in pages, and how many kills its events count.
@@ -159,7 +195,25 @@ pub fn usage_and_kills<N: BootName>(
 ) -> (u32, u64) {
     let charges = small.machine.charges();
     assert!(rt; charges.tree().contains(group));
-    (charges.current(group), charges.events(group).oom_kill)
+    (
+        charges.current(group),
+        charges.events(group).count(EventKey::OomKill),
+    )
+}
+
+/// How often the group was killed, and how often it was killed as a whole; groups below it don't count.
+pub fn own_kills<N: BootName>(
+    rt: &impl Abort,
+    small: &SmallMachine<N>,
+    group: GroupId,
+) -> (u64, u64) {
+    let charges = small.machine.charges();
+    assert!(rt; charges.tree().contains(group));
+    let events = charges.events_local(group);
+    (
+        events.count(EventKey::OomKill),
+        events.count(EventKey::OomGroupKill),
+    )
 }
 
 /// Reclaims from the subtree of the group in rounds, until its usage with `need` pages more is at most `limit`.

@@ -1,10 +1,12 @@
-use Rattle.std.proofs.Common.{◌≡◌, ℕ, false, true, Option, Some, sym, ap, ◌∙◌, subst}
-use Rattle.std.specs.Prelude.{IfSome, slice_set}
+use Rattle.std.proofs.Common.{◌≡◌, false, Option, Some, sym, ap, ◌∙◌, subst}
+use Rattle.std.specs.Prelude.{IfSome}
 use Rattle.std.proofs.lemmas.Bool.{false≢true}
 use Rattle.group_charge.specs.Charges.{AreCharges, Ledger}
 use Rattle.kill_notes.specs.declared.note.Note.TheVariants.{Oom}
 use Rattle.mem_machine.specs.Machines.{KnownMachine, with_note}
-use Rattle.mem_reclaim.specs.Killing.{IsKilledBy, KillsVictim}
+use Rattle.mem_reclaim.specs.declared.sets.Killed.{Killed}
+use Rattle.mem_reclaim.specs.Killing.{IsKilledBy, KillsVictim, victim_of, with_all_killed}
+use Rattle.mem_reclaim.specs.Sets.{kill_set}
 use Rattle.mem_reclaim.specs.Victim.{IsVictim}
 use Rattle.mem_alloc.specs.Kills.{KillsFor, has_room_at, with_oom_noted_at}
 use Rattle.mem_alloc.specs.Stepping.{ByStepsOfAny}
@@ -41,9 +43,9 @@ returns-in_default g c =
     let t = g.N.BootName.frames in
     let over : has_room_at c.args.machine.now.ledger c.args.limited c.args.pages ≡ false =
     ap (λ (l : Ledger). has_room_at l c.args.limited c.args.pages) (sym c.charges.ensures) ∙ sym c.has_room_at.ensures ∙ c.if-has_room_at.false in
-    let none = subst (λ (o : Option ℕ). IsVictim c.kills.machine c.args.limited o) c.in_default.is c.kill.ensures.victim in
+    let none = subst (λ (o : Option Killed). IsVictim c.kills.machine c.args.limited (victim_of o)) c.in_default.is c.kill.ensures.victim in
     let same : c.kill.new.machine ≡ c.kills.machine =
-    subst (λ (o : Option ℕ). KillsVictim t c.args.limited o c.kills.machine c.kill.new.machine) c.in_default.is c.kill.ensures.kills in
+    subst (λ (o : Option Killed). KillsVictim t c.args.limited o c.kills.machine c.kill.new.machine) c.in_default.is c.kill.ensures.kills in
     subst (λ (y : KnownMachine). ByStepsOfAny t (KillsFor c.args.requester c.args.limited c.args.pages) c.args.machine.now y) (sym same)
     (kills_end c.args.requester t c.args.limited c.args.pages c.args.machine.now c.note_oom.new.self c.kills.machine over
     c.note_oom.ensures.machine c.note_oom.ensures.steps c.kills.invariant (λ wanting. none))
@@ -51,23 +53,29 @@ returns-in_default g c =
 pub kills-smaller : goal.kills-smaller
 kills-smaller g c =
     let t = g.N.BootName.frames in
-    let charges : AreCharges c.kills.machine.ledger = subst (λ (l : Ledger). AreCharges l) c.charges-charges.ensures c.tree-tree.ensures.legal in
-    let most : IsVictim c.kills.machine c.args.limited (Some c.in-Some._victim) =
-    subst (λ (o : Option ℕ). IsVictim c.kills.machine c.args.limited o) c.in-Some.is c.kill.ensures.victim in
-    let marked : c.kill.new.machine.killed ≡ slice_set c.kills.machine.killed c.in-Some._victim true =
-    subst (λ (o : Option ℕ). IfSome o (λ v. c.kill.new.machine.killed ≡ slice_set c.kills.machine.killed v true)) c.in-Some.is c.kill.ensures.marked in
-    fewer_alive t g.N.BootName.stocks c.kills.machine c.kill.new.machine c.args.limited c.in-Some._victim c.spots-spots.ensures.consistent charges most marked
+    let x = c.kills.machine in
+    let n = c.kill.new.machine in
+    let killed = c.in-Some._killed in
+    let charges : AreCharges x.ledger = subst (λ (l : Ledger). AreCharges l) c.charges-charges.ensures c.tree-tree.ensures.legal in
+    let most : IsVictim x c.args.limited (Some killed.victim) =
+    subst (λ (o : Option Killed). IsVictim x c.args.limited (victim_of o)) c.in-Some.is c.kill.ensures.victim in
+    let kills : IsKilledBy t c.args.limited killed x n = subst (λ (o : Option Killed). KillsVictim t c.args.limited o x n) c.in-Some.is c.kill.ensures.kills in
+    let marked : n.killed ≡ with_all_killed x.killed (kill_set x killed) =
+    subst (λ (o : Option Killed). IfSome o (λ k. n.killed ≡ with_all_killed x.killed (kill_set x k))) c.in-Some.is c.kill.ensures.marked in
+    fewer_alive t g.N.BootName.stocks x n c.args.limited killed c.spots-spots.ensures.consistent charges most kills.head_is marked
 
 pub kills-preserved : goal.kills-preserved
 kills-preserved g c =
     let t = g.N.BootName.frames in
-    let charges : AreCharges c.kills.machine.ledger = subst (λ (l : Ledger). AreCharges l) c.charges-charges.ensures c.tree-tree.ensures.legal in
-    let most : IsVictim c.kills.machine c.args.limited (Some c.in-Some._victim) =
-    subst (λ (o : Option ℕ). IsVictim c.kills.machine c.args.limited o) c.in-Some.is c.kill.ensures.victim in
-    let kills : IsKilledBy t c.args.limited c.in-Some._victim c.kills.machine c.kill.new.machine =
-    subst (λ (o : Option ℕ). KillsVictim t c.args.limited o c.kills.machine c.kill.new.machine) c.in-Some.is c.kill.ensures.kills in
-    let marked : c.kill.new.machine.killed ≡ slice_set c.kills.machine.killed c.in-Some._victim true =
-    subst (λ (o : Option ℕ). IfSome o (λ v. c.kill.new.machine.killed ≡ slice_set c.kills.machine.killed v true)) c.in-Some.is c.kill.ensures.marked in
-    so_far_killed c.args.requester t g.N.BootName.stocks c.args.limited c.args.pages c.in-Some._victim (with_oom_noted_at c.args.machine.now c.args.limited)
-    c.kills.machine c.kill.new.machine c.kills.invariant (c.is_wanting.ensures.0 c.if-not-is_wanting.false) c.spots-spots.ensures.consistent charges most kills
+    let x = c.kills.machine in
+    let n = c.kill.new.machine in
+    let killed = c.in-Some._killed in
+    let charges : AreCharges x.ledger = subst (λ (l : Ledger). AreCharges l) c.charges-charges.ensures c.tree-tree.ensures.legal in
+    let most : IsVictim x c.args.limited (Some killed.victim) =
+    subst (λ (o : Option Killed). IsVictim x c.args.limited (victim_of o)) c.in-Some.is c.kill.ensures.victim in
+    let kills : IsKilledBy t c.args.limited killed x n = subst (λ (o : Option Killed). KillsVictim t c.args.limited o x n) c.in-Some.is c.kill.ensures.kills in
+    let marked : n.killed ≡ with_all_killed x.killed (kill_set x killed) =
+    subst (λ (o : Option Killed). IfSome o (λ k. n.killed ≡ with_all_killed x.killed (kill_set x k))) c.in-Some.is c.kill.ensures.marked in
+    so_far_killed c.args.requester t g.N.BootName.stocks c.args.limited c.args.pages killed (with_oom_noted_at c.args.machine.now c.args.limited)
+    x n c.kills.invariant (c.is_wanting.ensures.0 c.if-not-is_wanting.false) c.spots-spots.ensures.consistent charges most kills
     marked c.kill.ensures.stocks c.kill.ensures.keeps

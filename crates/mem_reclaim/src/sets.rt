@@ -1,0 +1,37 @@
+//! Which groups are killed with a victim (cgroup-v2.rst, memory.oom.group; `mem_cgroup_get_oom_group`, since Linux 4.19).
+
+ghost use Rattle.std.specs.Prelude.{◌≡◌, ◌≢◌, IfSome, IsTrue};
+ghost use Rattle.group_tree.specs.Groups.{in_subtree};
+ghost use Rattle.mem_reclaim.specs.Sets.{IsFlaggedAbove};
+
+use group_tree::group::GroupId;
+use group_tree::tree::Tree;
+
+/// What was killed for a limit.
+#[derive(Clone, Copy, Debug, PartialEq, Eq)]
+pub struct Killed {
+    /// The victim.
+    pub victim: GroupId,
+    /// The group whose whole subtree was killed, the victim included; the victim itself if no flag applies.
+    pub head: GroupId,
+}
+
+/// The highest group from the victim up to the group `limited`, both included, whose flag memory.oom.group is on; None
+/// if none of them has it on. It is never the root, which has no flag.
+pub(crate) fn highest_flagged(tree: &Tree, limited: GroupId, victim: GroupId) -> Option<GroupId>
+    requires { IsTrue (in_subtree tree.now limited victim) }
+    ensures highest { IsFlaggedAbove tree.now limited victim result }
+    ensures below_root { IfSome result (λ head. head ≢ 0) }
+{
+    let _groups = tree.groups(); // For the clauses.
+    let mut head = None;
+    for above in tree.ancestors(victim) {
+        if tree.oom_group(above) {
+            head = Some(above);
+        }
+        if above == limited {
+            return head;
+        }
+    }
+    head
+}
