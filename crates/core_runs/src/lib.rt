@@ -1,4 +1,4 @@
-//! Runs of the core as tests: worked by hand from the table of the steps, and random beside a plain account.
+//! Runs of the core as tests, worked by hand from the table of the steps.
 #![tactic(auto)]
 
 #[cfg(test)]

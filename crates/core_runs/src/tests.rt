@@ -1,17 +1,16 @@
 //! Runs that are worked by hand from the table of the steps, each answer compared.
 
 mod plays;
-mod random;
-mod recount;
 
 use group_tree::event::EventKey;
 use group_tree::group::GroupId;
 use group_tree::path::PathText;
+use mem_core::run::run;
 use mem_core::zone::Core;
 use plays::{CoreFact, CoreRow, core_tells, group_of, plays_rows, works_on_core};
 use std::test::Fail;
 use step_rules::phase::Phase;
-use step_rules::step::{Action, Answer};
+use step_rules::step::{Action, Answer, Step};
 use zone_blocks::block::Block;
 use zone_blocks::order::Order;
 
@@ -68,6 +67,37 @@ fn with_frame() -> [CoreRow; 6] {
     let [lock, make] = with_group();
     let [grant, place, unfreeze, publish] = placing(0);
     [lock, make, grant, place, unfreeze, publish]
+}
+
+// The steps of a whole run, from a new core. The lock isn't given back while a page is pending.
+#[test]
+fn a_whole_run_is_answered(rt: HostRuntime) -> Result<(), Fail> {
+    let [lock, make] = with_group();
+    let group = group_of(1);
+    let order = Order::of(0).unwrap();
+    let block = Block { at: 0, order };
+    let rows: [CoreRow; 6] = [
+        lock,
+        make,
+        (0, Action::Grant { group, pages: 1 }, Answer::Granted),
+        (1, Action::Unlock, Answer::Illegal),
+        (
+            0,
+            Action::PlaceBlock { group, order },
+            Answer::Placed(block),
+        ),
+        (1, Action::Unlock, Answer::Done),
+    ];
+    let mut steps = Vec::new(rt.alloc());
+    for (seat, action, _) in rows {
+        steps.push(Step { seat, action })?;
+    }
+    let answers = run(rt.alloc(), 16, 1, steps.as_slice())?;
+    for (index, (_, _, wanted)) in rows.iter().enumerate() {
+        let answer = answers.get(index);
+        core_tells(&rt, answer.is_some_and(|answer| *answer == *wanted));
+    }
+    Ok(())
 }
 
 // A frame is placed, kept, pinned by processor 2, put for the last time there, handed back, and returned once.

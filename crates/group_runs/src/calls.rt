@@ -30,12 +30,6 @@ pub fn remove_group(rt: &impl Abort, charges: &mut Charges, g: GroupId) {
     charges.remove(g);
 }
 
-/// Sets the limit of the group.
-pub fn set_max(rt: &impl Abort, charges: &mut Charges, g: GroupId, limit: Option<u32>) {
-    group_stands(rt, charges.tree(), g);
-    charges.set_max(g, limit);
-}
-
 /// Says whether the group, which isn't the root, is killed as a whole.
 pub fn set_oom_group(rt: &impl Abort, charges: &mut Charges, g: GroupId, oom_group: bool) {
     group_stands(rt, charges.tree(), g);
@@ -78,11 +72,4 @@ pub fn charge_pages(
         group_stands(rt, charges.tree(), over.group);
         charges.note_max(over.group);
     }
-}
-
-/// Takes back n pages of the group.
-pub fn uncharge_pages(rt: &impl Abort, charges: &mut Charges, g: GroupId, n: u32) {
-    group_stands(rt, charges.tree(), g);
-    assert!(rt; n <= charges.pages(g));
-    charges.uncharge(g, n);
 }
