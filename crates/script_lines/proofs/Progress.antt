@@ -1,18 +1,18 @@
 -- How far a script was read.
-use Rattle.std.proofs.Common.{◌≡◌, ℕ, ◌+◌, ◌-◌, ◌<◌, ◌≤◌, List, [], ◌∷◌, ◌++◌, length, Bool, true, false, not, cond, filter, ◌||◌, ap₂, take, Option, Some, None}
+use Rattle.std.proofs.Common.{◌≡◌, ℕ, suc, Bor, ◌+◌, ◌-◌, ◌<◌, ◌≤◌, List, [], ◌∷◌, ◌++◌, length, Bool, true, false, not, cond, filter, ◌||◌, ap₂, take, Option, Some, None}
 use Rattle.std.proofs.Common.{MatchOption, IfSome, ◌==◌, drop, get_or, slice_get, refl, sym, ap, subst, ◌∙◌, arith, inl, inr, zero-add}
 use Rattle.std.specs.List.{AllZip, enumerate_from}
 use Rattle.std.proofs.lemmas.Bool.{cases_lt}
 use Rattle.std.proofs.Math.Bool.{or-false}
 use Rattle.std.proofs.lemmas.List.Folds.{list_any-append}
-use Rattle.std.proofs.lemmas.List.{append-nil, length-take-le, take-append-drop, take_all, take_more}
-use Rattle.std.proofs.lemmas.List.Sums.{sum_by-append}
+use Rattle.std.proofs.lemmas.List.{append-nil, length-drop, length-take-le, take-append-drop, take_all, take_more}
+use Rattle.std.proofs.lemmas.List.Sums.{count_by-le-length, sum_by-append}
 use Rattle.std.proofs.lemmas.List.Elements.{filter-append}
 use Rattle.std.proofs.lemmas.List.Splits.{length-slice_split}
+use Rattle.std.proofs.Math.Seq.{drop-cons}
 use Rattle.std.proofs.lemmas.Option.{get_or_from_slice_get, slice_get-get_or}
-use Rattle.std.proofs.lemmas.List.FromFn.{get_or-enumerate_from, length-enumerate_from}
 use Rattle.script_lines.specs.Script.{AreLines, IsFirstBadLine, IsGoodLine, IsLineText, IsScript, asking_texts, ended_lines}
-use Rattle.script_lines.specs.Script.{has_go, is_go, is_skipped, texts_of}
+use Rattle.script_lines.specs.Script.{has_go, is_go, is_skipped, texts_left, texts_of}
 use Rattle.zone_sizes.specs.declared.config.Config.{Config}
 use Rattle.script_lines.specs.declared.line.Line.{Line}
 
@@ -27,6 +27,10 @@ pub record IsNext (script : List ℕ) (count index : ℕ) (text : List ℕ) : Ty
   pub index_is : index ≡ count
   pub inside : index < length (texts_of script)
   pub is_text : slice_get (texts_of script) index ≡ Some text
+
+-- what is left after the first lines of the script
+abbrev pub IsLeft : List ℕ → ℕ → Option (Bor (List ℕ)) → Type 0
+IsLeft script count rest = drop count (texts_of script) ≡ texts_left rest
 
 -- the number of the first line that is too far, if any
 abbrev pub IsOver : List ℕ → Option ℕ → Type 0
@@ -233,18 +237,36 @@ is_whole sizes script count went lines over so_far all is_over =
       says = subst P taken so_far.says;
     }
 
--- what an iteration over the numbered texts is told
-pub next_of : (script : List ℕ) (count index : ℕ) (text : List ℕ)
-    → (count < length (enumerate_from 0 (texts_of script))) × ((index, text) ≡ get_or (enumerate_from 0 (texts_of script)) count (index, text))
-    → IsNext script count index text
-next_of script count index text turn =
-    let inside : count < length (texts_of script) = omega (arith, length-enumerate_from 0 (texts_of script), turn.0) in
-    let item : (index, text) ≡ (0 + count, get_or (texts_of script) count text) = turn.1
-    ∙ get_or-enumerate_from 0 (texts_of script) count (index, text) inside in
-    let index_is : index ≡ count = ap (λ (p : ℕ × List ℕ). p.0) item ∙ zero-add count in
-    let text_is : text ≡ get_or (texts_of script) count text = ap (λ (p : ℕ × List ℕ). p.1) item in
-    record {
-      index_is = index_is;
-      inside = rw index_is inside;
-      is_text = rw index_is (slice_get-get_or (texts_of script) count text inside ∙ ap Some (sym text_is));
-    }
+-- as many lines as texts were read when nothing is left
+pub all_read : (script : List ℕ) (count : ℕ) → count ≤ length (texts_of script) → IsLeft script count None → count ≡ length (texts_of script)
+all_read script count within left =
+    let size = length-drop count (texts_of script) in
+    let none : length (drop count (texts_of script)) ≡ 0 = ap length left in
+    omega arith
+
+-- where the first of the texts that are left is this one, it is the next, and the others are left after it
+pub next_of : (script : List ℕ) (count : ℕ) (text : List ℕ) (texts : List (List ℕ)) → drop count (texts_of script) ≡ text ∷ texts
+    → IsNext script count count text × (drop (count + 1) (texts_of script) ≡ texts)
+next_of script count text texts left =
+    let size = length-drop count (texts_of script) in
+    let some : length (drop count (texts_of script)) ≡ suc (length texts) = ap length left in
+    let inside : count < length (texts_of script) = omega arith in
+    let next : suc count ≡ count + 1 = omega arith in
+    let same : get_or (texts_of script) count text ∷ drop (suc count) (texts_of script) ≡ text ∷ texts
+    = sym (drop-cons (texts_of script) count text inside) ∙ left in
+    let is_text : get_or (texts_of script) count text ≡ text = cc in
+    let others : drop (suc count) (texts_of script) ≡ texts = cc in (
+      record {
+        index_is = refl;
+        inside = inside;
+        is_text = slice_get-get_or (texts_of script) count text inside ∙ ap Some is_text;
+      },
+      rw (← next) others,
+    )
+
+-- a script has fewer lines than a number can count
+pub few_lines : (script : List ℕ) → length (texts_of script) ≤ length script + 1
+few_lines script =
+    let count = length-slice_split (λ b. b == 10) script in
+    let few = count_by-le-length (λ b. b == 10) script in
+    omega arith

@@ -1,6 +1,7 @@
 -- The form of a script: lines that each end with a line feed, which the last may lack.
 use Rattle.std.specs.Prelude.{◌≡◌, ◌≢◌, ℕ, Bool, true, false, not, ◌==◌, ◌-◌, ◌<◌, ◌≤◌, List, [], ◌∷◌, ◌++◌, All, codes, nat_eq}
-use Rattle.std.specs.Prelude.{count_by, filter, length, slice_get, take, Some, ⊤}
+use Rattle.std.specs.Prelude.{count_by, filter, length, slice_get, take, Option, None, Some, ⊤}
+use Rattle.std.specs.Borrow.{Bor}
 use Rattle.std.specs.List.{AllZip, enumerate_from, list_any, slice_split}
 use Rattle.std.specs.Cmp.Lexicographic.{pointwise}
 use Rattle.zone_sizes.specs.declared.config.Config.{Config}
@@ -16,6 +17,11 @@ use Rattle.script_lines.specs.declared.fault.ScriptFault.TheVariants.{BadLine, N
 -- the texts between the line feeds of a script
 abbrev pub texts_of : List ℕ → List (List ℕ)
 texts_of script = slice_split (λ b. b == 10) script
+
+-- the texts of what is left of a script, none where nothing is
+abbrev pub texts_left : Option (Bor (List ℕ)) → List (List ℕ)
+texts_left None = []
+texts_left (Some rest) = texts_of rest.now
 
 -- the text is a word, a space, and the rest, and the word has no space
 pub record IsCut (text word rest : List ℕ) : Type 0 where

@@ -4,5 +4,6 @@
 pub mod fault;
 pub mod line;
 mod number;
+mod place;
 pub mod script;
 mod verb;

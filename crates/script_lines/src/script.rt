@@ -1,10 +1,10 @@
 //! A script's bytes, cut into lines.
 
-ghost use Rattle.std.specs.Prelude.{◌≡◌, ◌≢◌, ◌↔◌, ℕ, ◌+◌, ◌<◌, ◌≤◌, All, IfErr, IfOk, IfSome, IsTrue, List, MatchOption};
+ghost use Rattle.std.specs.Prelude.{◌≡◌, ◌≢◌, ◌↔◌, ◌∷◌, ℕ, ◌+◌, ◌<◌, ◌≤◌, All, IfErr, IfOk, IfSome, IsTrue, List, MatchOption};
 ghost use Rattle.std.specs.Prelude.{length, take};
 ghost use Rattle.script_lines.specs.Script.{HasArguments, IsAllocText, IsCommandText, IsCut, IsFirstBadLine, IsFrameText, IsGroupText, IsLineText};
 ghost use Rattle.script_lines.specs.Script.{IsPathText, IsReadText, IsRequestText, IsScript, IsWriteText, NamesFirstBadLine, ended_lines};
-ghost use Rattle.script_lines.specs.Script.{is_go, is_skipped};
+ghost use Rattle.script_lines.specs.Script.{is_go, is_skipped, texts_left, texts_of};
 ghost use Rattle.script_lines.specs.Verb.{IsNames, its_verb, on_frame};
 ghost use Rattle.script_lines.specs.declared.line.Command.{Command};
 ghost use Rattle.script_lines.specs.declared.line.Line.{Line};
@@ -12,6 +12,7 @@ ghost use Rattle.script_lines.specs.declared.line.Line.{Line};
 use crate::fault::ScriptFault;
 use crate::line::{Command, Line};
 use crate::number::number;
+use crate::place::{place_by_one, place_of};
 use crate::verb::{Names, Verb, command_names, verb_of};
 use std::alloc::Global;
 use zone_sizes::config::Config;
@@ -58,8 +59,12 @@ fn parse_lines<'a>(
     let over = line_over(input);
     let mut lines = Vec::new(alloc);
     let mut went = false;
-    for (index, text) in input.split(|byte| *byte == b'\n').enumerate() {
-        let number = index + 1;
+    let mut number = 0;
+    let mut rest = Some(input);
+    while let Some(left) = rest {
+        let (text, after) = first_line(left);
+        rest = after;
+        number += 1;
         if text.len() > MOST_LINE || !is_within(number, over) {
             return Err(ScriptFault::BadLine(number));
         }
@@ -77,6 +82,16 @@ fn parse_lines<'a>(
         }
     }
     Ok(lines)
+}
+
+// The text of the first line, and what stands after its line feed. None where it has no line feed.
+fn first_line(text: &[u8]) -> (&[u8], Option<&[u8]>)
+    ensures { texts_of text.now ≡ result.0.now ∷ texts_left result.1 }
+{
+    match place_of(b'\n', text) {
+        None => (text, None),
+        Some(end) => (&text[..end], Some(&text[end + 1..])),
+    }
 }
 
 // The number of the line in which the first byte past the most stands, where there is one. A line feed
@@ -281,7 +296,7 @@ fn parse_read(arguments: &[u8]) -> Option<(&[u8], &[u8])>
 fn first_word(text: &[u8]) -> Option<(&[u8], &[u8])>
     ensures { MatchOption result (All (λ b. b ≢ 32) text.now) (λ p. IsCut text.now p.0.now p.1.now) }
 {
-    let end = text.iter().position(|byte| *byte == b' ')?;
+    let end = place_by_one(b' ', text)?;
     Some((&text[..end], &text[end + 1..]))
 }
 

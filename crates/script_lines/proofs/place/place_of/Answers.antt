@@ -1,0 +1,11 @@
+use Rattle.std.proofs.Common.{eqb, arith, w8}
+use lib.Lanes.{chunk}
+use Rattle.std.proofs.lemmas.Simd.{bitmask_splat, length-chunk}
+use Rattle.script_lines.proofs.Places.{first_marked}
+use Rattle.script_lines.proofs.place.place_of.Goals as goal
+
+pub returns-then-marks-ne0 : goal.returns-then-marks-ne0
+returns-then-marks-ne0 c =
+    let v = chunk 0 32 c.args.text.now in
+    let long = length-chunk 0 32 c.args.text.now (omega arith) in
+    first_marked c.args.wanted c.args.text.now _ (omega arith) (bitmask_splat w8 eqb v 32 c.args.wanted long (omega arith)) c.if-marks-ne0.true

@@ -1,0 +1,8 @@
+-- Where a byte stands in a text.
+use Rattle.std.specs.Prelude.{◌≡◌, ◌≢◌, ℕ, ◌<◌, List, All, length, slice_index, take}
+
+-- the first place in the text at which this byte stands
+pub record IsFirstPlace (wanted : ℕ) (text : List ℕ) (place : ℕ) : Type 0 where
+  pub inside : place < length text
+  pub here : slice_index text place ≡ wanted
+  pub before : All (λ b. b ≢ wanted) (take place text)
