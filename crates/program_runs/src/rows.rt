@@ -495,7 +495,6 @@ replay --cpus 1 --batch 1 --high 1 --stock 1
 1 dirty 1 | ok
 1 write /a/b/c memory.max 0 | ok
 # limit /a/b/c 0 usage 4096 need 0
-# stock 1 bytes 0 usage 4096
 # round 1 tried 0 missed 0 returned 0 bytes 0 usage 4096
 # oom /a/b/c
 # victim /a/b/c frames 1 of 1 candidates
