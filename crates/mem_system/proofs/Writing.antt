@@ -14,7 +14,7 @@ use Rattle.mem_machine.proofs.Followed.{makes_none}
 use Rattle.group_charge.specs.Charges.{current_of}
 use Rattle.mem_reclaim.specs.Moves.{Leads}
 use Rattle.mem_reclaim.specs.Rounds.{ReclaimsAmount}
-use Rattle.mem_reclaim.specs.Staying.{MissedAll}
+use Rattle.mem_reclaim.specs.Staying.{Keeps, MissedAll}
 use Rattle.mem_alloc.specs.Stepping.{ByStepsOfAny}
 use Rattle.mem_system.specs.declared.command.Reply.TheVariants.{Done, Refused}
 use Rattle.mem_system.specs.declared.command.Reply.{Reply}
@@ -64,7 +64,7 @@ read_only Reclaim a b c = absurd (c refl)
 
 module _ (t : KnownTable) (value : List ℕ) (g asked freed : ℕ) (m n : KnownMachine) (reads : ReadsAmount value asked)
     (leads : Leads t freed m n (ReclaimsAmount g asked)) (missed : freed < asked → MissedAll g m n)
-    (usage : current_of n.ledger g + freed ≡ current_of m.ledger g) where
+    (usage : current_of n.ledger g + freed ≡ current_of m.ledger g) (keeps : Keeps t m n) where
   -- all that was asked for is freed
   pub reclaims_all : asked ≤ freed → ByStepsOfAny t (WritesTo Reclaim value g Done) m n
   reclaims_all enough = record {
@@ -76,6 +76,7 @@ module _ (t : KnownTable) (value : List ℕ) (g asked freed : ℕ) (m n : KnownM
       reclaims = leads;
       missed = missed;
       usage = usage;
+      keeps = keeps;
       ends = enough;
       steps_are = refl;
     };
@@ -96,6 +97,7 @@ module _ (t : KnownTable) (value : List ℕ) (g asked freed : ℕ) (m n : KnownM
         reclaims = leads;
         missed = missed;
         usage = usage;
+        keeps = keeps;
         ends = less;
         steps_are = refl;
       };

@@ -18,7 +18,7 @@ use Rattle.mem_machine.specs.Local.{side}
 use Rattle.mem_machine.specs.Steps.{set_max_steps, set_oom_group_steps}
 use Rattle.mem_reclaim.specs.Moves.{Leads}
 use Rattle.mem_reclaim.specs.Rounds.{ReclaimsAmount}
-use Rattle.mem_reclaim.specs.Staying.{MissedAll}
+use Rattle.mem_reclaim.specs.Staying.{Keeps, MissedAll}
 use Rattle.mem_alloc.specs.Stepping.{Course, MachineStays, course}
 use Rattle.mem_system.specs.declared.command.Reply.{Reply}
 use Rattle.mem_system.specs.declared.command.Reply.TheVariants.{Text, Done, Refused}
@@ -92,8 +92,8 @@ pub record WritesFlag (value : List ℕ) (group : ℕ) (way : Course KnownMachin
   pub reads : IsFlagText value flag
   pub sets : SetsFlag group flag way
 
--- The value writes an amount, and so many pages of the group's subtree are reclaimed, by these steps alone: no stock is
--- drained, no event is noted, and nobody is killed. If fewer are freed than asked for, each clean unit that the subtree
+-- The value writes an amount, and so many pages of the group's subtree are reclaimed, by these steps alone. Stocks and
+-- killed groups stay, and no dirty unit is freed. If fewer are freed than asked for, each clean unit that the subtree
 -- still keeps was tried, and missed
 pub record WritesAmount (value : List ℕ) (group : ℕ) (Ends : (asked freed : ℕ) → Type 0) (way : Course KnownMachine) : Type 0 where
   pub asked : ℕ
@@ -102,6 +102,7 @@ pub record WritesAmount (value : List ℕ) (group : ℕ) (Ends : (asked freed : 
   pub reclaims : Leads way.table freed way.before way.after (ReclaimsAmount group asked)
   pub missed : freed < asked → MissedAll group way.before way.after
   pub usage : current_of way.after.ledger group + freed ≡ current_of way.before.ledger group
+  pub keeps : Keeps way.table way.before way.after
   pub ends : Ends asked freed
   pub steps_are : way.steps ≡ reclaims.steps
 
