@@ -211,29 +211,29 @@ fn does_group<N: BootName, R: Wait + Abort>(
     cpu: &mut Cpu<N>,
     line: &Line,
 ) {
-    let (cmd, reply) = match line {
+    let order = 0;
+    match line {
         Line::Make(path, number) => {
+            let path = *path;
             let group = GroupId::of(*number).expect(rt, "a group");
-            (Cmd::Mkdir { path: *path }, Reply::Group(group))
+            answers(rt, system, cpu, &Cmd::Mkdir { path }, &Reply::Group(group));
         }
-        Line::TakeOut(path) => (Cmd::Rmdir { path: *path }, Reply::Done),
-        Line::Alloc(path, frame) => (
-            Cmd::Alloc {
-                path: *path,
-                order: 0,
-            },
-            Reply::Frame(*frame),
-        ),
-        Line::Dies(path) => (
-            Cmd::Alloc {
-                path: *path,
-                order: 0,
-            },
-            Reply::Refused(Fault::Killed),
-        ),
-        _ => (Cmd::Settle, Reply::Done),
-    };
-    answers(rt, system, cpu, &cmd, &reply);
+        Line::TakeOut(path) => {
+            let path = *path;
+            answers(rt, system, cpu, &Cmd::Rmdir { path }, &Reply::Done);
+        }
+        Line::Alloc(path, frame) => {
+            let path = *path;
+            let told = Reply::Frame(*frame);
+            answers(rt, system, cpu, &Cmd::Alloc { path, order }, &told);
+        }
+        Line::Dies(path) => {
+            let path = *path;
+            let told = Reply::Refused(Fault::Killed);
+            answers(rt, system, cpu, &Cmd::Alloc { path, order }, &told);
+        }
+        _ => answers(rt, system, cpu, &Cmd::Settle, &Reply::Done),
+    }
 }
 
 // The processor does what concerns a frame.
