@@ -8,6 +8,8 @@ use group_tree::path::PathText;
 use mem_core::run::run;
 use mem_core::zone::Core;
 use plays::{CoreFact, CoreRow, core_tells, group_of, plays_rows, works_on_core};
+use std::alloc::Global;
+use std::process::Abort;
 use std::test::Fail;
 use step_rules::phase::Phase;
 use step_rules::step::{Action, Answer, Step};
@@ -69,14 +71,13 @@ fn with_frame() -> [CoreRow; 6] {
     [lock, make, grant, place, unfreeze, publish]
 }
 
-// The steps of a whole run, from a new core. The lock isn't given back while a page is pending.
-#[test]
-fn a_whole_run_is_answered(rt: HostRuntime) -> Result<(), Fail> {
+// A page is granted and placed; the lock isn't given back while it is pending.
+fn with_pending_page() -> [CoreRow; 6] {
     let [lock, make] = with_group();
     let group = group_of(1);
     let order = Order::of(0).unwrap();
     let block = Block { at: 0, order };
-    let rows: [CoreRow; 6] = [
+    [
         lock,
         make,
         (0, Action::Grant { group, pages: 1 }, Answer::Granted),
@@ -87,17 +88,30 @@ fn a_whole_run_is_answered(rt: HostRuntime) -> Result<(), Fail> {
             Answer::Placed(block),
         ),
         (1, Action::Unlock, Answer::Done),
-    ];
-    let mut steps = Vec::new(rt.alloc());
+    ]
+}
+
+// The rows are the steps of a whole run, from a new core, each with its answer.
+fn runs_rows(rt: &impl Abort, alloc: Global, rows: &[CoreRow]) -> Result<(), Fail> {
+    let mut steps = Vec::new(alloc);
     for (seat, action, _) in rows {
-        steps.push(Step { seat, action })?;
+        let step = Step {
+            seat: *seat,
+            action: *action,
+        };
+        steps.push(step)?;
     }
-    let answers = run(rt.alloc(), 16, 1, steps.as_slice())?;
-    for (index, (_, _, wanted)) in rows.iter().enumerate() {
-        let answer = answers.get(index);
-        core_tells(&rt, answer.is_some_and(|answer| *answer == *wanted));
+    let answers = run(alloc, 16, 1, steps.as_slice())?;
+    core_tells(rt, answers.len() == rows.len());
+    for ((_, _, wanted), answer) in rows.iter().zip(answers.iter()) {
+        core_tells(rt, *answer == *wanted);
     }
     Ok(())
+}
+
+#[test]
+fn a_whole_run_is_answered(rt: HostRuntime) -> Result<(), Fail> {
+    runs_rows(&rt, rt.alloc(), &with_pending_page())
 }
 
 // A frame is placed, kept, pinned by processor 2, put for the last time there, handed back, and returned once.
