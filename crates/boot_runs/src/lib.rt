@@ -8,6 +8,4 @@ mod rows;
 #[cfg(test)]
 mod second;
 #[cfg(test)]
-mod sets;
-#[cfg(test)]
 mod usage;
