@@ -63,8 +63,8 @@ abbrev pub passes_out : FrameView → ℕ → ℕ → ℕ → FrameView → Type
 passes_out v f mark stored w = (w ≡ changed v f (passed_out_to (mark - no_mark))) × ((note_of v f).references ≡ 0) × (in_hands (note_of v f) ≡ 1)
     × ((note_of v f).lent ≡ 0)
 
--- The kinds of the zone's seat, joined with a processor's. Each takes the two views before, the frame (or the word) and the
--- number stored, and the two views after.
+-- ---- the kinds of the zone's seat, joined with a processor's: of the two views before, the frame or the word, the number
+-- ---- stored, and the two views after
 -- take, by a processor: into its borrowed hand, where neither seat had anything of the frame
 abbrev pub takes_in : FrameView → FrameView → ℕ → ℕ → FrameView → FrameView → Type 0
 takes_in z v f stored z' v' = (z' ≡ z) × (v' ≡ changed v f took_in) × HasNone z f × HasNone v f
@@ -85,6 +85,7 @@ abbrev pub visits : FrameView → FrameView → ℕ → ℕ → FrameView → Fr
 visits z v word state z' v' = (z' ≡ with_visit z v.number state) × (v' ≡ v) × ((f : ℕ) → f + (v.number - 1) < word → IsSettledAt z v f)
 
 module _ {S : Type 0} where
+  -- the reference rule of a table's state: of its words and of all views
   abbrev pub rule_of : ℕ → ℕ → State S (List FrameView) → Type 0
   rule_of frames cpus s = ReferenceRule frames cpus s.words s.views
 

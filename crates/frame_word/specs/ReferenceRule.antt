@@ -33,9 +33,11 @@ marked p word = cond (word == mark p) 1 0
 
 -- what one view counts of the frame f, and of its hand-overs between the zone and processor p
 module _ (f : ℕ) where
+  -- the references that the view's seat holds on the frame
   abbrev pub references_in : FrameView → ℕ
   references_in v = (note_of v f).references
 
+  -- how many of the seat's two hands, its own and the borrowed one, hold the frame
   abbrev pub hands_in : FrameView → ℕ
   hands_in v = in_hands (note_of v f)
 
@@ -47,6 +49,7 @@ module _ (f : ℕ) where
   abbrev pub ended_in : ℕ → FrameView → ℕ
   ended_in p v = only 0 v (slice_index (note_of v f).collected p) + only p v (note_of v f).taken_in
 
+  -- 1 if the zone's seat lent the frame to processor p; 0 of any other view
   abbrev pub lent_in : ℕ → FrameView → ℕ
   lent_in p v = only 0 v (lent_count (note_of v f) p)
 
@@ -54,6 +57,7 @@ module _ (f : ℕ) where
   abbrev pub lent_number : FrameView → ℕ
   lent_number v = only 0 v (note_of v f).lent
 
+  -- 1 if processor p holds the frame in its borrowed hand; 0 of any other view
   abbrev pub borrowed_in : ℕ → FrameView → ℕ
   borrowed_in p v = only p v (note_of v f).borrowed
 

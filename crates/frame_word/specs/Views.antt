@@ -74,7 +74,7 @@ pub record IsSettledAt (zone cpu : FrameView) (f : ℕ) : Type 0 where
 abbrev pub lent_count : FrameNote → ℕ → ℕ
 lent_count k p = cond (k.lent == p) 1 0
 
--- The changes of a note. Each is that of one atomic step.
+-- ---- the changes of a note, each that of one atomic step
 -- the load of a get, which saw this word
 abbrev pub looked : ℕ → FrameNote → FrameNote
 looked word k = record k { steps = k.steps + 1; looks = k.looks + 1; seen = word }
