@@ -31,7 +31,7 @@ use Rattle.mem_history.proofs.Staying.{Stays, run_on}
 use Rattle.mem_history.proofs.Wholes.{set_here, part_number, is_one, others_follow, locked, locked_is, takes, decided_count}
 
 -- who holds the lock doesn't matter to such a step
-fast_legal : (s : State) (hold : Hold) (p : ℕ) (action : Action) → is_fast action ≡ true → is_cpu s.zone p ≡ true →
+pub fast_legal : (s : State) (hold : Hold) (p : ℕ) (action : Action) → is_fast action ≡ true → is_cpu s.zone p ≡ true →
     is_legal (record s { hold = hold }) p action ≡ true → is_legal s p action ≡ true
 fast_legal s hold p (Get f) fast cpu legal = legal
 fast_legal s hold p (Put f) fast cpu legal =
@@ -42,7 +42,7 @@ fast_legal s hold p (Consume g) fast cpu legal = legal
 fast_legal s hold p (Credit f) fast cpu legal = legal
 fast_legal s hold p action fast cpu legal = absurd (false≢true fast)
 
-fast_answer : (s : State) (hold : Hold) (p : ℕ) (action : Action) (answer : Answer) → is_fast action ≡ true →
+pub fast_answer : (s : State) (hold : Hold) (p : ℕ) (action : Action) (answer : Answer) → is_fast action ≡ true →
     IsAnswer (record s { hold = hold }) p action answer → IsAnswer s p action answer
 fast_answer s hold p (Get f) Held fast h = h
 fast_answer s hold p (Get f) Zero fast h = h
@@ -61,7 +61,7 @@ fast_answer s hold p (Credit f) Drained fast h = h
 fast_answer s hold p (Credit f) answer fast h = h
 fast_answer s hold p action answer fast h = absurd (false≢true fast)
 
-fast_counted : (s : State) (hold : Hold) (action : Action) (answer : Answer) → is_fast action ≡ true →
+pub fast_counted : (s : State) (hold : Hold) (action : Action) (answer : Answer) → is_fast action ≡ true →
     IsCounted (record s { hold = hold }) action answer → IsCounted s action answer
 fast_counted s hold (Get f) answer fast h = h
 fast_counted s hold (Put f) (Left n) fast h = h

@@ -9,3 +9,4 @@ pub mod Currents
 pub mod Promised
 pub mod Leading
 pub mod Told
+pub mod Deciding

@@ -1,5 +1,6 @@
--- What all parts decide together is what the state counts. Serves `lines_follow`, `fast_lines_follow`.
-use Rattle.std.proofs.Common.{◌≡◌, ℕ, ◌+◌, ◌-◌, ◌<◌, ◌==◌, true, Some, List, [], ◌∷◌, length, refl, sym, ◌∙◌, ap, arith, inl, inr, zero, suc}
+-- What all parts decide together is what the state counts, and the other way round. Serves `lines_follow`,
+-- `fast_lines_follow`, `legal_lines_are_decided`, `legal_fast_steps_are_decided`.
+use Rattle.std.proofs.Common.{◌≡◌, ℕ, ◌+◌, ◌-◌, ◌<◌, ◌≤◌, ◌⊎◌, ◌==◌, true, Some, List, [], ◌∷◌, length, refl, sym, ◌∙◌, ap, subst, arith, inl, inr, zero, suc}
 use Rattle.std.specs.List.{slice_get}
 use Rattle.std.specs.Option.{option_map_or}
 use Rattle.std.proofs.lemmas.Bool.{cases_eq, ne_eqb, eq-eqb, cond-true, cond-false, or_right, or_from}
@@ -8,9 +9,9 @@ use Rattle.cpu_part.specs.Cpus.{KnownCpu}
 use Rattle.step_rules.specs.declared.step.Action.{Action}
 use Rattle.step_rules.specs.declared.step.Action.TheVariants.{Get, Put, Freeze, DrainStock, Consume, Credit}
 use Rattle.step_rules.specs.declared.step.Answer.{Answer}
-use Rattle.step_rules.specs.declared.step.Answer.TheVariants.{Done, Left, Last, Missed, Pages}
+use Rattle.step_rules.specs.declared.step.Answer.TheVariants.{Done, Left, Last, Missed, Pages, Took, Empty, OtherGroup, Drained, Back}
 use Rattle.step_rules.specs.State.{State, Part, is_cpu, live_references}
-use Rattle.step_rules.specs.Legal.{is_legal, IsCounted, get_answer}
+use Rattle.step_rules.specs.Legal.{is_legal, IsAnswer, IsCounted, get_answer}
 use Rattle.step_rules.specs.Cover.{hide, hide_part}
 use Rattle.step_rules.specs.Reaches.{is_own}
 use Rattle.step_rules.proofs.Sums.{sum_same}
@@ -44,6 +45,31 @@ counted_same x s (Freeze f n) Done live pages h = sym (live f) ∙ h
 counted_same x s (Freeze f n) Missed live pages h = λ e. h (live f ∙ e)
 counted_same x s (DrainStock q) (Pages n) live pages h = h ∙ pages q refl
 counted_same x s action answer live pages h = tt
+
+-- a stock pays in one state as in another if the part is the same
+consume_answer : (x y : State) (q g : ℕ) (answer : Answer) → x.parts q ≡ y.parts q → IsAnswer x q (Consume g) answer → IsAnswer y q (Consume g) answer
+consume_answer x y q g Took same h = (
+  ap (λ (part : Part). part.stock.group) (sym same) ∙ h.0,
+  ap (λ (part : Part). part.stock.is_drained) (sym same) ∙ h.1,
+  subst (λ (part : Part). 1 ≤ part.stock.pages) same h.2,
+)
+consume_answer x y q g Empty same h = (
+  ap (λ (part : Part). part.stock.group) (sym same) ∙ h.0,
+  ap (λ (part : Part). part.stock.is_drained) (sym same) ∙ h.1,
+  ap (λ (part : Part). part.stock.pages) (sym same) ∙ h.2,
+)
+consume_answer x y q g Drained same h = (
+  ap (λ (part : Part). part.stock.group) (sym same) ∙ h.0,
+  ap (λ (part : Part). part.stock.is_drained) (sym same) ∙ h.1,
+)
+consume_answer x y q g OtherGroup same h = λ e. h (ap (λ (part : Part). part.stock.group) same ∙ e)
+consume_answer x y q g answer same h = h
+
+-- and so does it take a page
+credit_answer : (x y : State) (q f : ℕ) (answer : Answer) → x.parts q ≡ y.parts q → IsAnswer x q (Credit f) answer → IsAnswer y q (Credit f) answer
+credit_answer x y q f Back same h = ap (λ (part : Part). part.stock.is_drained) (sym same) ∙ h
+credit_answer x y q f Drained same h = ap (λ (part : Part). part.stock.is_drained) (sym same) ∙ h
+credit_answer x y q f answer same h = h
 
 module _ (cpus : List KnownCpu) (p : ℕ) (start s : State) (count : length cpus ≡ s.zone.cpus)
     (known : (k : ℕ) (d : KnownCpu) → slice_get cpus k ≡ Some d → HasPart start k d) (stays : Stays p start s) where
@@ -96,3 +122,23 @@ module _ (cpus : List KnownCpu) (p : ℕ) (start s : State) (count : length cpus
       IsCounted s action answer
   counts seat action answer legal decided =
       counted_same together s action answer live_is (pages_are seat action legal) (decided_counted together seat action answer decided)
+
+  -- the processor that makes a step which no seat of the zone's may make
+  own_seat : (seat : ℕ) → (seat ≡ 0) ⊎ (seat ≡ p) → is_cpu s.zone seat ≡ true → seat ≡ p
+  own_seat seat (inl z) cpu = absurd (let r = cpu_range s.zone seat cpu in let low = r.0 in omega arith)
+  own_seat seat (inr e) cpu = e
+
+  own_part_seen : (seat : ℕ) → seat ≡ p → s.parts seat ≡ together.parts seat
+  own_part_seen seat e = sym (cond-true (seat == p) _ _ (eq-eqb seat p e) ∙ own_part p s.parts seat e)
+
+  -- what the state counts, all parts decide together
+  pub decides : (seat : ℕ) (action : Action) (answer : Answer) → (seat ≡ 0) ⊎ (seat ≡ p) → is_legal s seat action ≡ true →
+      IsAnswer s seat action answer → IsCounted s action answer → IsDecided together seat action answer
+  decides seat (Consume g) answer own legal answered counted =
+      let cpu : is_cpu s.zone seat ≡ true = grind arith in
+      consume_answer s together seat g answer (own_part_seen seat (own_seat seat own cpu)) answered
+  decides seat (Credit f) answer own legal answered counted =
+      let cpu : is_cpu s.zone seat ≡ true = grind arith in
+      credit_answer s together seat f answer (own_part_seen seat (own_seat seat own cpu)) answered
+  decides seat action answer own legal answered counted =
+      counted_same s together action answer (λ f. sym (live_is f)) (λ q is. sym (pages_are seat action legal q is)) counted

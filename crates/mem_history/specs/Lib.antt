@@ -2,3 +2,4 @@ pub mod Whole
 pub mod Kept
 pub mod Leading
 pub mod Told
+pub mod Decided

@@ -1,6 +1,7 @@
 //! Laws: what each function ensures holds of every run, machine and parts.
 
 ghost use Rattle.mem_history.specs.Whole.{LinesFollow, FastLinesFollow, TheHolderIsShown};
+ghost use Rattle.mem_history.specs.Decided.{LegalLinesAreDecided, LegalFastStepsAreDecided};
 ghost use Rattle.mem_history.specs.Kept.{ABootIsShown, CurrentIsKept, TheFirstHolderIsShown, TheWholeIsPromised};
 ghost use Rattle.mem_history.specs.Leading.{FastCallsLead};
 ghost use Rattle.mem_history.specs.Told.{ABootTells, LinesTell, FastLinesTell};
@@ -65,4 +66,15 @@ pub fn lines_tell()
 /// And the run that goes on with a step that takes no lock.
 pub fn fast_lines_tell()
     ensures { FastLinesTell }
+{}
+
+/// If the run that goes on with a line under the lock is legal, each answer in the line is what all parts together
+/// decide.
+pub fn legal_lines_are_decided()
+    ensures { LegalLinesAreDecided }
+{}
+
+/// So is the answer of a step that takes no lock.
+pub fn legal_fast_steps_are_decided()
+    ensures { LegalFastStepsAreDecided }
 {}

@@ -32,7 +32,7 @@ use Rattle.step_rules.specs.declared.step.Action.TheVariants as step
 use Rattle.step_rules.specs.declared.step.Answer.{Answer as Said}
 use Rattle.step_rules.specs.declared.step.Answer.TheVariants as says
 use Rattle.step_rules.specs.State.{State}
-use Rattle.step_rules.specs.After.{Run, state_of}
+use Rattle.step_rules.specs.After.{Run, state_of, IsLegalRun}
 use Rattle.mem_machine.specs.declared.spot.Spot.{Spot}
 use Rattle.mem_machine.specs.declared.spot.Spot.TheVariants as spot_is
 use Rattle.mem_machine.specs.Spots.{spot_at}
@@ -42,11 +42,12 @@ use Rattle.mem_machine.specs.Interleaving.{zone_of}
 use Rattle.mem_machine.specs.Steps.{cpu_makes}
 use Rattle.mem_machine.proofs.Records.{holds_same}
 use Rattle.mem_machine.specs.Telling.{TellsRun}
-use Rattle.mem_history.specs.Whole.{ShowsAll, ServesAt, ServesFast, IsSeenAt, seen_by, seen_together, state_after, IsDecided, AreDecided, under_lock, is_fast}
+use Rattle.mem_history.specs.Whole.{ShowsAll, ServesAt, ServesFast, IsSeenAt, seen_by, under_lock, is_fast}
 use Rattle.mem_history.specs.Kept.{AreTied}
 use Rattle.mem_history.specs.Leading.{IsPart, put_answer}
 use Rattle.mem_history.proofs.Wholes.{set_here, set_else, lines_follow}
 use Rattle.mem_history.proofs.Fast.{fast_lines_follow}
+use Rattle.mem_history.proofs.Deciding.{legal_lines_are_decided, legal_fast_steps_are_decided}
 use Rattle.mem_history.proofs.Told.{lines_tell, fast_lines_tell}
 use Rattle.mem_history.proofs.Leading.{fast_calls_lead}
 use Rattle.mem_system.specs.declared.command.Cmd.{Cmd}
@@ -125,13 +126,6 @@ module _ (t : KnownTable) (m : KnownMachine) (c : KnownCpu) where
 
 -- ---- one part of the whole
 
--- what is so of the entries of a list with one more behind it is so of those of the list
-within : {X : Type 0} (steps : List X) (last : X) (P : List X → X → Type 0) →
-    ((k : ℕ) → IfSome (slice_get (steps ++ last ∷ []) k) (λ e. P (take k (steps ++ last ∷ [])) e)) → (k : ℕ) → IfSome (slice_get steps k) (λ e. P (take k steps) e)
-within [] last P all k = tt
-within (x ∷ steps) last P all zero = all zero
-within (x ∷ steps) last P all (suc k) = within steps last (λ before e. P (x ∷ before) e) (λ i. all (suc i)) k
-
 module _ (t : KnownTable) (w : Words) (run : Run) (locked : KnownLocked) (cpus : List KnownCpu) (k : ℕ) (c : KnownCpu)
     (shows : ShowsAll t run locked.machine cpus) (is_part : slice_get cpus k ≡ Some c) (tied : AreTied t w cpus) where
   abbrev m : KnownMachine
@@ -148,8 +142,9 @@ module _ (t : KnownTable) (w : Words) (run : Run) (locked : KnownLocked) (cpus :
   Follows steps after = ShowsAll t (run ++ steps) after.locked.machine (slice_set cpus k after.cpu)
       × (TellsRun t run m.ledger → TellsRun t (run ++ steps) after.locked.machine.ledger)
 
-  abbrev Decided : Run → Type 0
-  Decided steps = AreDecided t cpus (side_of before) steps
+  -- the run that goes on with these steps is legal
+  abbrev GoesOn : Run → Type 0
+  GoesOn steps = IsLegalRun (zone_of t) (run ++ steps)
 
   -- nothing that is seen changed
   unseen_follows : (after : Holder) → after.locked ≡ locked → IsUnseen t m c after.cpu → Follows [] after
@@ -175,29 +170,19 @@ module _ (t : KnownTable) (w : Words) (run : Run) (locked : KnownLocked) (cpus :
             (subst (λ (l : KnownLocked). TellsRun t run l.machine.ledger) (sym kept) told),
       )
 
-  -- the processor holds the lock from its first step on, which decides nothing
-  inner_decided : (steps : Run) → Decided (under_lock p steps) → Decided steps
-  inner_decided steps decided =
-      let local = local_of t m c in
-      let hold : local.hold ≡ HeldBy p = ap (λ (x : State). x.hold) (shows.each k c is_part).sees in
-      let locks : record local { hold = HeldBy p } ≡ local = λ i. record local { hold = sym hold i } in
-      within steps (cpu_makes p step.Unlock says.Done) (λ first e. IsDecided (seen_together cpus p (state_after local first)) e.0.seat e.0.action e.1)
-      (λ j. subst (λ (l : State). IfSome (slice_get (steps ++ cpu_makes p step.Unlock says.Done ∷ []) j)
-      (λ e. IsDecided (seen_together cpus p (state_after l (take j (steps ++ cpu_makes p step.Unlock says.Done ∷ [])))) e.0.seat e.0.action e.1))
-      locks (decided (suc j)))
-
   -- served under the lock, after a look at its own stock
   served_follows : (seen : KnownCpu) → IsUnseen t m c seen → (command : Cmd) (reply : Reply) (after : Holder) →
-      (is : IsServed t command reply (holder locked seen) after) → AllShut after.locked.machine → Decided (under_lock p is.steps) → Follows (under_lock p is.steps) after
-  served_follows seen unseen command reply after is shut decided =
+      (is : IsServed t command reply (holder locked seen) after) → AllShut after.locked.machine → GoesOn (under_lock p is.steps) → Follows (under_lock p is.steps) after
+  served_follows seen unseen command reply after is shut legal =
+      let leads : Makes t (side m c) is.steps (side after.locked.machine after.cpu) = record {
+        leads = subst (λ (x : ℕ × State). IsLocalRun x.0 x.1 is.steps (local_of t after.locked.machine after.cpu)) (λ i. (unseen.number i, unseen.same i))
+            is.makes.leads;
+        follows = subst (λ (x : State). FollowsSteps x m.ledger is.steps after.locked.machine.ledger) unseen.same is.makes.follows;
+      } in
       let serves : ServesAt t cpus k (side m c) is.steps (side after.locked.machine after.cpu) = record {
         is_part = is_part;
-        leads = record {
-          leads = subst (λ (x : ℕ × State). IsLocalRun x.0 x.1 is.steps (local_of t after.locked.machine after.cpu)) (λ i. (unseen.number i, unseen.same i))
-              is.makes.leads;
-          follows = subst (λ (x : State). FollowsSteps x m.ledger is.steps after.locked.machine.ledger) unseen.same is.makes.follows;
-        };
-        decided = inner_decided is.steps decided;
+        leads = leads;
+        decided = legal_lines_are_decided t run cpus k (side m c) is.steps (side after.locked.machine after.cpu) shows is_part leads legal;
         shut = shut;
       } in (
         lines_follow t run cpus k (side m c) is.steps (side after.locked.machine after.cpu) shows serves,
@@ -206,15 +191,16 @@ module _ (t : KnownTable) (w : Words) (run : Run) (locked : KnownLocked) (cpus :
 
   -- a step without the lock
   step_follows : (action : Action) (said : Said) (after : Holder) → after.locked ≡ locked → after.cpu.number ≡ p → is_fast action ≡ true →
-      Makes t (side m c) (cpu_makes p action said ∷ []) (side m after.cpu) → Decided (cpu_makes p action said ∷ []) → Follows (cpu_makes p action said ∷ []) after
-  step_follows action said after kept number quick leads decided =
+      said ≢ says.Illegal → Makes t (side m c) (cpu_makes p action said ∷ []) (side m after.cpu) → GoesOn (cpu_makes p action said ∷ []) →
+      Follows (cpu_makes p action said ∷ []) after
+  step_follows action said after kept number quick made leads legal =
       let serves : ServesFast t cpus k (side m c) action said (side m after.cpu) = record {
         is_part = is_part;
         number = number;
         fast = quick;
         machine = refl;
         leads = leads;
-        decided = decided;
+        decided = legal_fast_steps_are_decided t run cpus k m c action said shows is_part quick made legal;
       } in (
         subst (λ (l : KnownLocked). ShowsAll t (run ++ cpu_makes p action said ∷ []) l.machine (slice_set cpus k after.cpu)) (sym kept)
             (fast_lines_follow t run cpus k (side m c) action said (side m after.cpu) shows serves),
@@ -226,106 +212,112 @@ module _ (t : KnownTable) (w : Words) (run : Run) (locked : KnownLocked) (cpus :
   this_part = record { shows = shows; is_part = is_part; tied = (tied k c is_part).tied }
 
   -- the steps are those that were made
-  as_made : (steps made : Run) (after : Holder) → steps ≡ made → (Decided made → Follows made after) → Decided steps → Follows steps after
-  as_made steps made after are follows decided = subst (λ (r : Run). Follows r after) (sym are) (follows (subst Decided are decided))
+  as_made : (steps made : Run) (after : Holder) → steps ≡ made → (GoesOn made → Follows made after) → GoesOn steps → Follows steps after
+  as_made steps made after are follows legal = subst (λ (r : Run). Follows r after) (sym are) (follows (subst GoesOn are legal))
 
-  got_follows : (g f : ℕ) (after : Holder) → FastAnswers g (Got f) c after.cpu → after.locked ≡ locked → Decided (fast_steps p g (Got f)) →
+  got_follows : (g f : ℕ) (after : Holder) → FastAnswers g (Got f) c after.cpu → after.locked ≡ locked → GoesOn (fast_steps p g (Got f)) →
       Follows (fast_steps p g (Got f)) after
-  got_follows g f after is kept decided =
-      step_follows (step.Consume g) says.Took after kept (ap (λ (x : KnownCpu). x.number) is.5) refl
-      (fast_calls_lead.got t w run m cpus k c after.cpu this_part g f is decided) decided
+  got_follows g f after is kept legal =
+      step_follows (step.Consume g) says.Took after kept (ap (λ (x : KnownCpu). x.number) is.5) refl (λ e. cc)
+      (fast_calls_lead.got t w run m cpus k c after.cpu this_part g f is
+      (legal_fast_steps_are_decided t run cpus k m c (step.Consume g) says.Took shows is_part refl (λ e. cc) legal)) legal
 
-  fast_follows : (g : ℕ) (said : fast.Fast) (after : Holder) → FastAnswers g said c after.cpu → after.locked ≡ locked → Decided (fast_steps p g said) →
+  fast_follows : (g : ℕ) (said : fast.Fast) (after : Holder) → FastAnswers g said c after.cpu → after.locked ≡ locked → GoesOn (fast_steps p g said) →
       Follows (fast_steps p g said) after
-  fast_follows g FreshFull after is kept decided = unseen_follows after kept (fast_unseen t m c g FreshFull after.cpu is (λ f e. cc))
-  fast_follows g ListEmpty after is kept decided = unseen_follows after kept (fast_unseen t m c g ListEmpty after.cpu is (λ f e. cc))
-  fast_follows g OtherGroup after is kept decided = unseen_follows after kept (fast_unseen t m c g OtherGroup after.cpu is (λ f e. cc))
-  fast_follows g Drained after is kept decided = unseen_follows after kept (fast_unseen t m c g Drained after.cpu is (λ f e. cc))
-  fast_follows g NoStock after is kept decided = unseen_follows after kept (fast_unseen t m c g NoStock after.cpu is (λ f e. cc))
-  fast_follows g (Got f) after is kept decided = got_follows g f after is kept decided
+  fast_follows g FreshFull after is kept legal = unseen_follows after kept (fast_unseen t m c g FreshFull after.cpu is (λ f e. cc))
+  fast_follows g ListEmpty after is kept legal = unseen_follows after kept (fast_unseen t m c g ListEmpty after.cpu is (λ f e. cc))
+  fast_follows g OtherGroup after is kept legal = unseen_follows after kept (fast_unseen t m c g OtherGroup after.cpu is (λ f e. cc))
+  fast_follows g Drained after is kept legal = unseen_follows after kept (fast_unseen t m c g Drained after.cpu is (λ f e. cc))
+  fast_follows g NoStock after is kept legal = unseen_follows after kept (fast_unseen t m c g NoStock after.cpu is (λ f e. cc))
+  fast_follows g (Got f) after is kept legal = got_follows g f after is kept legal
 
-  get_follows : (f : ℕ) (after : Holder) (said : Answer) → f < t.frames → GetsPin f c after.cpu said → after.locked ≡ locked → Decided (get_steps p f said) →
+  get_follows : (f : ℕ) (after : Holder) (said : Answer) → f < t.frames → GetsPin f c after.cpu said → after.locked ≡ locked → GoesOn (get_steps p f said) →
       Follows (get_steps p f said) after
-  get_follows f after (answer.Got Held) inside is kept decided =
-      step_follows (step.Get f) says.Held after kept (ap (λ (x : KnownCpu). x.number) is.1.2) refl
-      (fast_calls_lead.held t w run m cpus k c after.cpu this_part f inside is.0 is.1) decided
-  get_follows f after (answer.Got Zero) inside is kept decided =
+  get_follows f after (answer.Got Held) inside is kept legal =
+      step_follows (step.Get f) says.Held after kept (ap (λ (x : KnownCpu). x.number) is.1.2) refl (λ e. cc)
+      (fast_calls_lead.held t w run m cpus k c after.cpu this_part f inside is.0 is.1) legal
+  get_follows f after (answer.Got Zero) inside is kept legal =
       unseen_follows after kept (unseen_seat t m c after.cpu is.1.0 f (looked is.1.1.0) is.1.2 is.1.1.2 (λ x. refl))
-  get_follows f after (answer.Got (Raced found)) inside is kept decided =
+  get_follows f after (answer.Got (Raced found)) inside is kept legal =
       unseen_follows after kept (unseen_seat t m c after.cpu is.1.0 f (λ x. raced found (looked is.1.1.0 x)) is.1.2 is.1.1.4 (λ x. refl))
-  get_follows f after (answer.Got Full) inside is kept decided =
+  get_follows f after (answer.Got Full) inside is kept legal =
       unseen_follows after kept (unseen_seat t m c after.cpu is.1.0 f (looked 255) is.1.2 is.1.1 (λ x. refl))
-  get_follows f after (answer.Served (Refused PinsFull)) inside is kept decided = unseen_follows after kept (unseen_same t m c after.cpu is.1)
-  get_follows f after said inside is kept decided = absurd is
+  get_follows f after (answer.Served (Refused PinsFull)) inside is kept legal = unseen_follows after kept (unseen_same t m c after.cpu is.1)
+  get_follows f after said inside is kept legal = absurd is
 
-  put_follows : (f : ℕ) (after : Holder) (said : Answer) → PutsPin f c after.cpu said → after.locked ≡ locked → Decided (put_steps p f said) → Follows (put_steps p f said) after
-  put_follows f after (answer.Put putted) is kept decided =
-      step_follows (step.Put f) (put_answer putted) after kept (put_number putted is.1) refl
-      (fast_calls_lead.putted t w run m cpus k c after.cpu this_part f putted is.1) decided
+  put_follows : (f : ℕ) (after : Holder) (said : Answer) → PutsPin f c after.cpu said → after.locked ≡ locked → GoesOn (put_steps p f said) → Follows (put_steps p f said) after
+  put_follows f after (answer.Put putted) is kept legal =
+      step_follows (step.Put f) (put_answer putted) after kept (put_number putted is.1) refl (put_made putted)
+      (fast_calls_lead.putted t w run m cpus k c after.cpu this_part f putted is.1) legal
     where
       put_number : (x : Putted) → UnpinAnswers f x c after.cpu → after.cpu.number ≡ p
       put_number (put.Left n) a = ap (λ (y : KnownCpu). y.number) a.3
       put_number put.Last a = ap (λ (y : KnownCpu). y.number) a.3
-  put_follows f after (answer.Served (Refused NotPinned)) is kept decided = unseen_follows after kept (unseen_same t m c after.cpu is.1)
-  put_follows f after said is kept decided = absurd is
+
+      put_made : (x : Putted) → put_answer x ≢ says.Illegal
+      put_made (put.Left n) = λ e. cc
+      put_made put.Last = λ e. cc
+  put_follows f after (answer.Served (Refused NotPinned)) is kept legal = unseen_follows after kept (unseen_same t m c after.cpu is.1)
+  put_follows f after said is kept legal = absurd is
 
   -- served under the lock
   locked_follows : (seen : KnownCpu) → IsUnseen t m c seen → (command : Cmd) (reply : Reply) (steps : Run) (after : Holder) →
-      IsServedUnderLock command seen reply (course t before steps after) → AllShut after.locked.machine → Decided steps → Follows steps after
-  locked_follows seen unseen command reply steps after is shut decided =
+      IsServedUnderLock command seen reply (course t before steps after) → AllShut after.locked.machine → GoesOn steps → Follows steps after
+  locked_follows seen unseen command reply steps after is shut legal =
       as_made steps (under_lock p is.served.steps) after (is.steps_are ∙ ap (λ (q : ℕ). under_lock q is.served.steps) unseen.number)
-      (λ all. served_follows seen unseen command reply after is.served shut all) decided
+      (λ all. served_follows seen unseen command reply after is.served shut all) legal
 
   replied_follows : (command : Cmd) (steps : Run) (after : Holder) (said : Answer) → RepliesServed command (course t before steps after) said → AllShut after.locked.machine →
-      Decided steps → Follows steps after
-  replied_follows command steps after (answer.Served reply) is shut decided =
-      locked_follows c (unseen_same t m c c refl) command reply steps after is shut decided
-  replied_follows command steps after said is shut decided = absurd is
+      GoesOn steps → Follows steps after
+  replied_follows command steps after (answer.Served reply) is shut legal =
+      locked_follows c (unseen_same t m c c refl) command reply steps after is shut legal
+  replied_follows command steps after said is shut legal = absurd is
 
   frame_follows : (path : Bor (List ℕ)) (steps : Run) (after : Holder) (said : Answer) (may_kill : Bool) → AnswersFrame path (course t before steps after) said may_kill →
-      AllShut after.locked.machine → Decided steps → Follows steps after
-  frame_follows path steps after (answer.Fast (Got f)) false is shut decided =
+      AllShut after.locked.machine → GoesOn steps → Follows steps after
+  frame_follows path steps after (answer.Fast (Got f)) false is shut legal =
       as_made steps (fast_steps p is.gets.group (Got f)) after is.alone.steps_are
-      (λ all. got_follows is.gets.group f after is.gets.got is.alone.locked all) decided
-  frame_follows path steps after (answer.Served reply) false none shut decided =
-      as_made steps [] after none.1 (λ all. unseen_follows after none.0.same_locked (unseen_same t m c after.cpu none.0.same_cpu)) decided
-  frame_follows path steps after (answer.Served reply) true served shut decided =
+      (λ all. got_follows is.gets.group f after is.gets.got is.alone.locked all) legal
+  frame_follows path steps after (answer.Served reply) false none shut legal =
+      as_made steps [] after none.1 (λ all. unseen_follows after none.0.same_locked (unseen_same t m c after.cpu none.0.same_cpu)) legal
+  frame_follows path steps after (answer.Served reply) true served shut legal =
       let none = served.none in
       locked_follows served.seen (fast_unseen t m c none.group none.fast served.seen none.answers none.none) (cmd.Alloc path 0) reply steps after served.served
-      shut decided
-  frame_follows path steps after said may_kill is shut decided = absurd is
+      shut legal
+  frame_follows path steps after said may_kill is shut legal = absurd is
 
   release_follows : (f : ℕ) (steps : Run) (after : Holder) (said : Answer) (may_kill : Bool) → AnswersRelease f (course t before steps after) said may_kill →
-      AllShut after.locked.machine → Decided steps → Follows steps after
-  release_follows f steps after answer.Listed false is shut decided =
+      AllShut after.locked.machine → GoesOn steps → Follows steps after
+  release_follows f steps after answer.Listed false is shut legal =
       as_made steps (cpu_makes p (step.Credit f) says.Back ∷ []) after is.1.steps_are
-      (λ all. step_follows (step.Credit f) says.Back after is.1.locked (ap (λ (x : KnownCpu). x.number) is.0.listed.5) refl
-      (fast_calls_lead.listed t w run m cpus k c after.cpu this_part f is.0.fresh is.0.listed all) all) decided
-  release_follows f steps after (answer.Served reply) true is shut decided =
-      locked_follows is.seen (list_unseen t m c f is.seen is.not_listed) (cmd.Release f) reply steps after is.served shut decided
-  release_follows f steps after said may_kill is shut decided = absurd is
+      (λ all. step_follows (step.Credit f) says.Back after is.1.locked (ap (λ (x : KnownCpu). x.number) is.0.listed.5) refl (λ e. cc)
+      (fast_calls_lead.listed t w run m cpus k c after.cpu this_part f is.0.fresh is.0.listed
+      (legal_fast_steps_are_decided t run cpus k m c (step.Credit f) says.Back shows is_part refl (λ e. cc) all)) all) legal
+  release_follows f steps after (answer.Served reply) true is shut legal =
+      locked_follows is.seen (list_unseen t m c f is.seen is.not_listed) (cmd.Release f) reply steps after is.served shut legal
+  release_follows f steps after said may_kill is shut legal = absurd is
 
-  settle_follows : (steps : Run) (after : Holder) → SettlesUnderLock (course t before steps after) → AllShut after.locked.machine → Decided steps → Follows steps after
-  settle_follows steps after is shut decided = locked_follows c (unseen_same t m c c refl) cmd.Settle Done steps after is shut decided
+  settle_follows : (steps : Run) (after : Holder) → SettlesUnderLock (course t before steps after) → AllShut after.locked.machine → GoesOn steps → Follows steps after
+  settle_follows steps after is shut legal = locked_follows c (unseen_same t m c c refl) cmd.Settle Done steps after is shut legal
 
   answer_follows : (asked : Work) (steps : Run) (after : Holder) (said : Answer) (may_kill : Bool) → WorkInRange t.frames asked →
-      AnswersWork asked (course t before steps after) said may_kill → AllShut after.locked.machine → Decided steps → Follows steps after
-  answer_follows (work.Visit command) steps after said true names is shut decided = replied_follows command steps after said is shut decided
-  answer_follows (work.Frame path) steps after said may_kill names is shut decided = frame_follows path steps after said may_kill is shut decided
-  answer_follows (work.Fast g) steps after (answer.Fast taken) false names is shut decided =
-      as_made steps (fast_steps p g taken) after is.1.steps_are (λ all. fast_follows g taken after is.0 is.1.locked all) decided
-  answer_follows (work.Release f) steps after said may_kill names is shut decided = release_follows f steps after said may_kill is shut decided
-  answer_follows (work.Get f) steps after said false names is shut decided =
-      as_made steps (get_steps p f said) after is.1.steps_are (λ all. get_follows f after said names is.0 is.1.locked all) decided
-  answer_follows (work.Put f) steps after said false names is shut decided =
-      as_made steps (put_steps p f said) after is.1.steps_are (λ all. put_follows f after said is.0 is.1.locked all) decided
-  answer_follows work.Settle steps after answer.Settled false names is shut decided = settle_follows steps after is shut decided
-  answer_follows asked steps after said true names is shut decided = absurd is
-  answer_follows asked steps after said false names is shut decided = absurd is
+      AnswersWork asked (course t before steps after) said may_kill → AllShut after.locked.machine → GoesOn steps → Follows steps after
+  answer_follows (work.Visit command) steps after said true names is shut legal = replied_follows command steps after said is shut legal
+  answer_follows (work.Frame path) steps after said may_kill names is shut legal = frame_follows path steps after said may_kill is shut legal
+  answer_follows (work.Fast g) steps after (answer.Fast taken) false names is shut legal =
+      as_made steps (fast_steps p g taken) after is.1.steps_are (λ all. fast_follows g taken after is.0 is.1.locked all) legal
+  answer_follows (work.Release f) steps after said may_kill names is shut legal = release_follows f steps after said may_kill is shut legal
+  answer_follows (work.Get f) steps after said false names is shut legal =
+      as_made steps (get_steps p f said) after is.1.steps_are (λ all. get_follows f after said names is.0 is.1.locked all) legal
+  answer_follows (work.Put f) steps after said false names is shut legal =
+      as_made steps (put_steps p f said) after is.1.steps_are (λ all. put_follows f after said is.0 is.1.locked all) legal
+  answer_follows work.Settle steps after answer.Settled false names is shut legal = settle_follows steps after is shut legal
+  answer_follows asked steps after said true names is shut legal = absurd is
+  answer_follows asked steps after said false names is shut legal = absurd is
 
   pub work_follows : (is_explained : Bool) (asked : Work) (steps : Run) (after : Holder) (text : List ℕ) → WorkInRange t.frames asked
-      → WritesWork is_explained asked (course t before steps after) text → AllShut after.locked.machine → Decided steps → Follows steps after
-  work_follows is_explained work.Blocks steps after text names is shut decided = settle_follows steps after is.settles shut decided
-  work_follows is_explained work.Show steps after text names is shut decided = settle_follows steps after is.settles shut decided
-  work_follows is_explained asked steps after text names is shut decided =
-      answer_follows asked steps after is.said is.may_kill names is.answered shut decided
+      → WritesWork is_explained asked (course t before steps after) text → AllShut after.locked.machine → GoesOn steps → Follows steps after
+  work_follows is_explained work.Blocks steps after text names is shut legal = settle_follows steps after is.settles shut legal
+  work_follows is_explained work.Show steps after text names is shut legal = settle_follows steps after is.settles shut legal
+  work_follows is_explained asked steps after text names is shut legal =
+      answer_follows asked steps after is.said is.may_kill names is.answered shut legal

@@ -10,12 +10,14 @@ use Rattle.stock_word.specs.declared.view.Stock.{Stock}
 use Rattle.stock_word.specs.declared.view.Stock.TheVariants as stock_is
 use Rattle.stock_word.specs.Stock.{Words, group_of}
 use Rattle.cpu_part.specs.Cpus.{KnownCpu, IsTied}
-use Rattle.step_rules.specs.After.{Run}
+use Rattle.step_rules.specs.After.{Run, IsLegalRun}
+use Rattle.mem_machine.specs.Interleaving.{zone_of}
 use Rattle.mem_machine.specs.Telling.{TellsRun}
-use Rattle.mem_history.specs.Whole.{AreDecided, ShowsAll}
+use Rattle.mem_history.specs.Whole.{ShowsAll}
 use Rattle.mem_history.specs.Kept.{AreTied, IsTiedPart}
 use Rattle.mem_history.proofs.Wholes.{set_here, set_else}
 use Rattle.mem_history.proofs.Promised.{the_whole_is_promised}
+use Rattle.mem_history.proofs.Deciding.{legal_front}
 use Rattle.mem_system.specs.Locked.{KnownLocked, IsQuiet}
 use Rattle.mem_system.specs.Visits.{course, holder, side_of}
 use Rattle.script_lines.specs.declared.line.Command.{Command}
@@ -23,7 +25,7 @@ use Rattle.script_lines.specs.declared.line.Line.{Line}
 use Rattle.script_lines.specs.declared.line.Line.TheVariants.{Go, At}
 use Rattle.script_replay.specs.Answers.{AddsText, ServesCommand, WritesWork}
 use Rattle.script_replay.specs.Lines.{Standing, standing, AtPart, InOrder, ServesLine, ServesAll, StopsAt}
-use Rattle.script_replay.specs.History.{LineIsDecided, Past, past, past_line, TellsHistory, Replays, ServesAndKeeps, HoldsInvariants}
+use Rattle.script_replay.specs.History.{Past, past, past_line, TellsHistory, Replays, ServesAndKeeps, HoldsInvariants}
 use Rattle.script_replay.specs.Ranges.{LineIsThere}
 use Rattle.script_replay.specs.Terms.{Terms}
 use Rattle.script_replay.specs.Works.{work_of}
@@ -112,24 +114,23 @@ abbrev Follows : KnownTable → Run → Standing → Run → Standing → Type 0
 Follows t earlier s run e = ShowsAll t run e.locked.machine e.cpus × (TellsRun t earlier s.locked.machine.ledger → TellsRun t run e.locked.machine.ledger)
 
 line_follows : (on : Terms) (run : Run) (line : Line) (s e : Standing) (text : List ℕ) → ShowsAll on.frames run s.locked.machine s.cpus →
-    AreTied on.frames on.stocks s.cpus → (keeps : ServesAndKeeps on line s e text) → LineIsDecided on.frames line s keeps.serves.steps →
+    AreTied on.frames on.stocks s.cpus → (keeps : ServesAndKeeps on line s e text) →
+    IsLegalRun (zone_of on.frames) (run ++ keeps.serves.steps) →
     Follows on.frames run s (run ++ keeps.serves.steps) e
-line_follows on run Go s e text shows tied keeps decided =
+line_follows on run Go s e text shows tied keeps legal =
     subst (λ (r : Run). Follows on.frames run s r e) (sym (ap (λ (r : Run). run ++ r) keeps.serves.writes.steps_are ∙ append-nil run))
     (subst (λ (x : Standing). Follows on.frames run s run x) (sym keeps.serves.writes.stays) (shows, λ told. told))
-line_follows on run (At number processor command) s e text shows tied keeps decided =
+line_follows on run (At number processor command) s e text shows tied keeps legal =
     let steps = keeps.serves.steps in
     let is : AtPart processor (λ part left. WritesWork on.is_explained (work_of command)
     (course on.frames (holder s.locked part) steps (holder e.locked left)) text) s.cpus e.cpus = keeps.serves.writes in
-    let its : AreDecided on.frames s.cpus (side_of (holder s.locked is.part)) steps =
-    subst (λ (o : Option KnownCpu). IfSome o (λ part. AreDecided on.frames s.cpus (side_of (holder s.locked part)) steps)) is.is_part decided in
     subst (λ (cpus : List KnownCpu). ShowsAll on.frames (run ++ steps) e.locked.machine cpus
     × (TellsRun on.frames run s.locked.machine.ledger → TellsRun on.frames (run ++ steps) e.locked.machine.ledger)) (sym is.cpus)
     (work_follows on.frames on.stocks run s.locked s.cpus (processor - 1) is.part shows is.is_part tied on.is_explained (work_of command) steps (holder e.locked is.left) text
-    (work_in_range on.frames.frames command keeps.there.names) is.done keeps.keeps.holds.quiet.shut its)
+    (work_in_range on.frames.frames command keeps.there.names) is.done keeps.keeps.holds.quiet.shut legal)
 
 pub keeps_history : (on : Terms) (lines : List Line) (before : Past) (e : Standing) (text : List ℕ) →
-    (before.decided → ShowsAll on.frames before.run before.now.locked.machine before.now.cpus) → AreTied on.frames on.stocks before.now.cpus →
+    (IsLegalRun (zone_of on.frames) before.run → ShowsAll on.frames before.run before.now.locked.machine before.now.cpus) → AreTied on.frames on.stocks before.now.cpus →
     ServesAllAndKeeps on lines before.now e text → TellsHistory on lines before e text
 keeps_history on [] before e text shows tied all = all
 keeps_history on (line ∷ lines) before e text shows tied all =
@@ -137,22 +138,20 @@ keeps_history on (line ∷ lines) before e text shows tied all =
     let mid = all.between in
     let steps : Run = one.serves.steps in
     let next : Run = before.run ++ steps in
-    let follows : before.decided → LineIsDecided on.frames line before.now steps → Follows on.frames before.run before.now next mid =
-    λ so_far here. line_follows on before.run line before.now mid all.first (shows so_far) tied one here in
+    let follows : IsLegalRun (zone_of on.frames) next → Follows on.frames before.run before.now next mid =
+    λ legal. line_follows on before.run line before.now mid all.first (shows (legal_front (zone_of on.frames) before.run steps legal)) tied one legal in
     let tied_then : AreTied on.frames on.stocks mid.cpus = one.keeps.tied tied in record {
       first = all.first;
       rest = all.rest;
       between = mid;
       steps = steps;
       writes_first = one.serves.writes;
-      kept = λ so_far here. record {
-        legal = (follows so_far here).0.legal;
-        tells = (follows so_far here).1;
-        promise = the_whole_is_promised on.frames on.stocks next mid.locked.machine mid.cpus (follows so_far here).0 one.keeps.holds.consistent one.keeps.holds.charges tied_then
+      kept_where_legal = λ legal. record {
+        tells = (follows legal).1;
+        promise = the_whole_is_promised on.frames on.stocks next mid.locked.machine mid.cpus (follows legal).0 one.keeps.holds.consistent one.keeps.holds.charges tied_then
             (some_cpu on.frames on.stocks mid.locked one.keeps.holds.quiet);
       };
-      tells = keeps_history on lines (past_line on.frames line before steps mid) e all.rest
-          (λ both. (follows both.0 both.1).0) tied_then all.serves_rest;
+      tells = keeps_history on lines (past_line before steps mid) e all.rest (λ legal. (follows legal).0) tied_then all.serves_rest;
       text_is = all.text_is;
     }
 
@@ -160,7 +159,7 @@ keeps_history on (line ∷ lines) before e text shows tied all =
 pub all_replayed : (on : Terms) (lines : List Line) (s e : Standing) (text : List ℕ) → ServesAllAndKeeps on lines s e text → Replays on lines s e text
 all_replayed on lines s e text all = record {
   served = all_served on lines s e text all;
-  history = λ run shows tied. keeps_history on lines (past run s) e text (λ u. shows) tied all;
+  history = λ run shows tied. keeps_history on lines (past run s) e text (λ legal. shows) tied all;
 }
 
 -- memory was wanting for the text of the next line

@@ -1,5 +1,5 @@
 -- The history of lines: by their steps, and what holds after each.
-use Rattle.std.specs.Prelude.{◌≡◌, ℕ, ◌-◌, List, [], ◌∷◌, ◌++◌, Result, Vec, IfOk, IfSome, OnErr, length, slice_get}
+use Rattle.std.specs.Prelude.{◌≡◌, ℕ, List, [], ◌∷◌, ◌++◌, Result, Vec, IfOk, OnErr, length}
 use Rattle.frame_word.specs.Seats.{KnownTable}
 use Rattle.stock_word.specs.Stock.{Words}
 use Rattle.group_charge.specs.Charges.{AreCharges}
@@ -8,55 +8,38 @@ use Rattle.step_rules.specs.Promise.{Promise}
 use Rattle.mem_machine.specs.Machines.{IsConsistent}
 use Rattle.mem_machine.specs.Interleaving.{zone_of}
 use Rattle.mem_machine.specs.Telling.{TellsRun}
-use Rattle.mem_history.specs.Whole.{AreDecided, ShowsAll}
+use Rattle.mem_history.specs.Whole.{ShowsAll}
 use Rattle.mem_history.specs.Kept.{AreTied, shown_of}
 use Rattle.mem_system.specs.Locked.{IsQuiet, KnownLocked}
-use Rattle.mem_system.specs.Visits.{course, holder, side_of}
+use Rattle.mem_system.specs.Visits.{course}
 use Rattle.script_lines.specs.declared.line.Line.{Line}
-use Rattle.script_lines.specs.declared.line.Line.TheVariants.{Go, At}
 use Rattle.script_replay.specs.Lines.{Standing, ServesAll, ServesLine, StopsAt, WritesLine}
 use Rattle.script_replay.specs.Ranges.{LineIsThere}
 use Rattle.script_replay.specs.Terms.{Terms}
 
 -- ---- the history
--- of the steps of a line, each answer of a Get, a Put, a Freeze, a drain, a Consume and a Credit is what all parts
--- together decide
-abbrev pub LineIsDecided : KnownTable → Line → (before : Standing) (steps : Run) → Type 0
-LineIsDecided table Go before steps = Unit {0}
-LineIsDecided table (At number processor command) before steps =
-    IfSome (slice_get before.cpus (processor - 1))
-    (λ part. AreDecided table before.cpus (side_of (holder before.locked part)) steps)
-
--- What came before a line: the run of all steps so far, what stands after it, and whether each answer in it was what
--- all parts together decided
-pub record Past : Type 1 where
+-- What came before a line: the run of all steps so far, and what stands after it
+pub record Past : Type 0 where
   pub run : Run
   pub now : Standing
-  pub decided : Type 0
 
 -- the past of a run that begins with this and shows what stands
 abbrev pub past : Run → Standing → Past
-past run now = record { run = run; now = now; decided = Unit {0} }
+past run now = record { run = run; now = now }
 
 -- the past once a line was served by these steps
-abbrev pub past_line : KnownTable → Line → (past : Past) (steps : Run) (after : Standing) → Past
-past_line table line past steps after = record {
-  run = past.run ++ steps;
-  now = after;
-  decided = past.decided × LineIsDecided table line past.now steps;
-}
+abbrev pub past_line : (past : Past) (steps : Run) (after : Standing) → Past
+past_line past steps after = record { run = past.run ++ steps; now = after }
 
--- the run is legal, and the promise holds after it of what stands then; and where the ledger told the run before, each
--- group's peak and event counts, it tells this one
+-- The promise holds after the run of what stands then. If the ledger told the run before, each group's peak and event
+-- counts, it tells this one
 pub record HoldsPromise (table : KnownTable) (earlier : Run) (before : Standing) (run : Run) (now : Standing)
     : Type 0 where
-  pub legal : IsLegalRun (zone_of table) run
   pub promise : Promise (zone_of table) run (shown_of now.locked.machine now.cpus)
   pub tells : TellsRun table earlier before.locked.machine.ledger → TellsRun table run now.locked.machine.ledger
 
--- A first line is served by these steps. Where its answers and those of all lines before are what all parts together
--- decided, the run with these steps is legal and keeps the promise, and the ledger goes on telling it. The other lines
--- tell their history from there on
+-- A first line is served by these steps. If the run so far with these steps is legal, the promise holds after it, and
+-- the ledger goes on telling it. The other lines tell their history from there on
 pub record TellsFirstAndRest (terms : Terms) (line : Line) (past : Past) (text : List ℕ)
     (tells_rest : Past → List ℕ → Type 0) : Type 0 where
   pub first : List ℕ
@@ -64,13 +47,13 @@ pub record TellsFirstAndRest (terms : Terms) (line : Line) (past : Past) (text :
   pub between : Standing
   pub steps : Run
   pub writes_first : WritesLine terms.is_explained line (course terms.frames past.now steps between) first
-  pub kept : past.decided → LineIsDecided terms.frames line past.now steps
+  pub kept_where_legal : IsLegalRun (zone_of terms.frames) (past.run ++ steps)
       → HoldsPromise terms.frames past.run past.now (past.run ++ steps) between
-  pub tells : tells_rest (past_line terms.frames line past steps between) rest
+  pub tells : tells_rest (past_line past steps between) rest
   pub text_is : text ≡ first ++ rest
 
 -- the history of lines, which are served one after the other, as `ServesAll` says: after each of them the promise is
--- kept, where each answer so far is what all parts together decided
+-- kept if the steps so far are a legal run
 abbrev pub TellsHistory : Terms → List Line → Past → (after : Standing) (text : List ℕ) → Type 0
 TellsHistory terms [] past after text = (text ≡ []) × (after ≡ past.now)
 TellsHistory terms (line ∷ lines) past after text =

@@ -1,0 +1,29 @@
+-- What a legal run decides: the answers that all parts decide together are those of the run.
+use Rattle.std.specs.Prelude.{◌≡◌, ◌≢◌, ℕ, true, Some, List, [], ◌∷◌, ◌++◌, slice_get}
+use Rattle.frame_word.specs.Seats.{KnownTable}
+use Rattle.cpu_part.specs.Cpus.{KnownCpu}
+use Rattle.step_rules.specs.declared.step.Action.{Action}
+use Rattle.step_rules.specs.declared.step.Answer.{Answer}
+use Rattle.step_rules.specs.declared.step.Answer.TheVariants.{Illegal}
+use Rattle.step_rules.specs.After.{Run, IsLegalRun}
+use Rattle.mem_machine.specs.Machines.{KnownMachine, Side, side}
+use Rattle.mem_machine.specs.Local.{Makes}
+use Rattle.mem_machine.specs.Interleaving.{zone_of}
+use Rattle.mem_machine.specs.Steps.{cpu_makes}
+use Rattle.mem_history.specs.Whole.{ShowsAll, AreDecided, under_lock, is_fast}
+
+-- If a run shows the whole, and goes on legally with the steps of a line under the lock, then each of these steps was
+-- answered as all parts together decide
+abbrev pub LegalLinesAreDecided : Type 0
+LegalLinesAreDecided = (table : KnownTable) (run : Run) (cpus : List KnownCpu) (index : ℕ) (before : Side) (steps : Run)
+    (after : Side) → ShowsAll table run before.machine cpus → slice_get cpus index ≡ Some before.cpu
+    → Makes table before steps after → IsLegalRun (zone_of table) (run ++ under_lock before.cpu.number steps)
+    → AreDecided table cpus before steps
+
+-- So is a step that takes no lock, if the run that goes on with it is legal and it was not answered Illegal
+abbrev pub LegalFastStepsAreDecided : Type 0
+LegalFastStepsAreDecided = (table : KnownTable) (run : Run) (cpus : List KnownCpu) (index : ℕ) (machine : KnownMachine)
+    (cpu : KnownCpu) (action : Action) (answer : Answer) → ShowsAll table run machine cpus
+    → slice_get cpus index ≡ Some cpu → is_fast action ≡ true → answer ≢ Illegal
+    → IsLegalRun (zone_of table) (run ++ cpu_makes cpu.number action answer ∷ [])
+    → AreDecided table cpus (side machine cpu) (cpu_makes cpu.number action answer ∷ [])
