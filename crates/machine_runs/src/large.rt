@@ -1,10 +1,10 @@
-//! A machine of the greatest sizes, 1,048,576 frames and 64 processors, of which the last is lent frames and gives them back.
+//! A machine of the greatest size, 1,048,576 frames and 64 CPUs. The last CPU is lent frames and returns them.
 ghost use Rattle.std.specs.Prelude.{◌≡◌, ◌≤◌};
 ghost use Rattle.frame_word.specs.Seats.{IsShut, first_zone_view, first_cpu_view};
 ghost use Rattle.stock_word.specs.Stock.{first_zone_stock, first_processor};
 
-use crate::agrees::machine_agrees;
-use crate::parts::{ProcessorSeats, close_processor, new_processor};
+use crate::seats::{CpuSeats, close_cpu, new_cpu};
+use crate::small::row_tells;
 use cpu_part::{BootName, Cpu, Tables};
 use frame_word::{FrameSeat, FrameWords};
 use mem_machine::Machine;
@@ -13,14 +13,14 @@ use std::marker::Brand;
 use std::process::Abort;
 use stock_word::{StockSeat, StockWords};
 
-/// The tables of F frames and 64 processors, and the seats of the machine and of processor 64, as they are at first.
+/// The tables of F frames and 64 CPUs, and the seats of the machine and of CPU 64, as they are at first.
 #[derive(Drop)]
 struct LargeParts<const F: u32> {
     frames: FrameWords,
     stocks: StockWords,
     zone: FrameSeat,
     machine: StockSeat,
-    last: ProcessorSeats,
+    last: CpuSeats,
     ghost sizes: { (frames.frames ≡ F) × (frames.cpus ≡ 64) × (stocks.cpus ≡ 64) },
     ghost zone_is: { (zone.table ≡ frames.table) × (zone.view ≡ first_zone_view F) },
     ghost machine_is: { (machine.table ≡ stocks.table) × (machine.view ≡ first_zone_stock) },
@@ -34,7 +34,7 @@ fn make_large_parts<const F: u32>(rt: &impl Abort, alloc: Global) -> LargeParts<
 {
     let (frames, zone, mut seats) = FrameWords::new(alloc, F, 64).expect(rt, "memory");
     let (stocks, machine, mut payers) = StockWords::new(alloc, 64).expect(rt, "memory");
-    let last = ProcessorSeats {
+    let last = CpuSeats {
         frames: seats.pop().expect(rt, "a seat"),
         stock: payers.pop().expect(rt, "a stock seat"),
     };
@@ -47,7 +47,7 @@ fn make_large_parts<const F: u32>(rt: &impl Abort, alloc: Global) -> LargeParts<
     }
 }
 
-// In a visit so many frames come to the processor's list, and go back: three, and then the others.
+// In a visit so many frames come to the CPU's list, and go back: three, and then the others.
 fn lends_and_takes_back<N: BootName>(
     rt: &impl Abort,
     tables: &Tables<N>,
@@ -60,17 +60,17 @@ fn lends_and_takes_back<N: BootName>(
     machine.open(tables, cpu);
     assert!(rt; frames <= 64 && cpu.list_len() == 0 && cpu.fresh_len() == 0);
     let refilled = machine.refill(tables, cpu, frames);
-    machine_agrees(rt, refilled == frames, "frames that are lent");
+    row_tells(rt, refilled == frames, "frames that are lent");
     let listed = cpu.list_len();
-    machine_agrees(rt, listed == frames as usize, "a list of these");
+    row_tells(rt, listed == frames as usize, "a list of these");
     let first = machine.drain_list(tables, cpu, 3);
-    machine_agrees(rt, first == 3, "three frames go back");
+    row_tells(rt, first == 3, "three frames go back");
     let rest = machine.drain_list(tables, cpu, frames);
-    machine_agrees(rt, rest == frames.saturating_sub(3), "and the rest");
+    row_tells(rt, rest == frames.saturating_sub(3), "and the rest");
     machine.shut(tables, cpu);
 }
 
-// In a visit of processor 64 of a machine of F frames, 64 come to its list and go back.
+// In a visit of CPU 64 of a machine of F frames, 64 come to its list and go back.
 fn lends<const F: u32, N: BootName>(rt: &impl Abort, alloc: Global, parts: LargeParts<F>)
     requires { (parts.frames ≡ N.frames) × (parts.stocks ≡ N.stocks) }
 {
@@ -82,16 +82,16 @@ fn lends<const F: u32, N: BootName>(rt: &impl Abort, alloc: Global, parts: Large
         last,
     } = parts;
     let tables = Tables::<N>::new(frames, stocks);
-    let mut cpu = new_processor::<N>(rt, alloc, last);
+    let mut cpu = new_cpu::<N>(rt, alloc, last);
     let mut machine = Machine::<N>::new(alloc, &tables, zone, machine).expect(rt, "memory");
-    machine_agrees(rt, cpu.number() == 64, "the last processor");
+    row_tells(rt, cpu.number() == 64, "the last CPU");
     lends_and_takes_back(rt, &tables, &mut machine, &mut cpu, 64);
-    close_processor(rt, cpu);
+    close_cpu(rt, cpu);
     let _ = machine.into_seats();
     let _ = tables.into_tables();
 }
 
-// In a visit of processor 64 of a machine of 1,048,576 frames, 64 come to its list and go back.
+// In a visit of CPU 64 of a machine of 1,048,576 frames, 64 come to its list and go back.
 fn lends_of_many<N: BootName>(rt: &impl Abort, alloc: Global, parts: LargeParts<1048576>)
     requires { (parts.frames ≡ N.frames) × (parts.stocks ≡ N.stocks) }
 {

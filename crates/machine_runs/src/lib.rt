@@ -1,24 +1,15 @@
-//! Long runs of random calls on the machine that stands behind the zone's lock: beside a core that makes the steps of each
-//! call, and beside a plain recount. Nothing but tests stands here.
+//! Rows of the machine behind the zone's lock, and of reclaim and kills on it. Nothing but tests is here.
 #![tactic(auto)]
 
 #[cfg(test)]
-mod account;
-#[cfg(test)]
-mod agrees;
-#[cfg(test)]
-mod alike;
-#[cfg(test)]
-mod calls;
-#[cfg(test)]
 mod large;
 #[cfg(test)]
-mod made;
+mod life;
 #[cfg(test)]
-mod moves;
+mod rows;
 #[cfg(test)]
-mod parts;
+mod seats;
 #[cfg(test)]
-mod runs;
+mod sets;
 #[cfg(test)]
-mod tally;
+mod small;

@@ -2,6 +2,7 @@
 ghost use Rattle.std.specs.Prelude.{◌≡◌};
 ghost use Rattle.mem_machine.specs.Machines.{Visits, side};
 
+use crate::life::{frames_of_a_visit, group_of_a_visit, stock_of_a_visit};
 use crate::sets::{
     flag_above_the_limit, flag_elsewhere, flagged_victim, highest_flag, killed_in_a_set,
     pin_in_a_set,
@@ -21,7 +22,10 @@ use std::marker::Brand;
 use std::process::Abort;
 
 // What is tried.
-enum ReclaimRow {
+enum MachineRow {
+    GroupOfAVisit,
+    StockOfAVisit,
+    FramesOfAVisit,
     SecondChance,
     DirtyStays,
     MissedByAPin,
@@ -251,8 +255,35 @@ fn pin_outlives_a_kill<N: BootName>(rt: &impl Abort, small: &mut SmallMachine<N>
     row_tells(rt, told == (0, 1), "it came back");
 }
 
+// What a row does in a visit.
+fn make_row<N: BootName>(rt: &impl Abort, small: &mut SmallMachine<N>, row: MachineRow)
+    requires { Visits N.frames (side small.old.machine small.old.cpu) }
+{
+    match row {
+        MachineRow::GroupOfAVisit => group_of_a_visit(rt, small),
+        MachineRow::StockOfAVisit => stock_of_a_visit(rt, small),
+        MachineRow::FramesOfAVisit => frames_of_a_visit(rt, small),
+        MachineRow::SecondChance => second_chance(rt, small),
+        MachineRow::DirtyStays => dirty_stays(rt, small),
+        MachineRow::MissedByAPin => missed_by_a_pin(rt, small),
+        MachineRow::WantReachedEarly => want_reached_early(rt, small),
+        MachineRow::NothingWanted => nothing_wanted(rt, small),
+        MachineRow::Subtree => subtree(rt, small),
+        MachineRow::RoundsMakeRoom => rounds_make_room(rt, small),
+        MachineRow::RoundsEnd => rounds_end(rt, small),
+        MachineRow::MostFrames => most_frames(rt, small),
+        MachineRow::PinOutlivesAKill => pin_outlives_a_kill(rt, small),
+        MachineRow::HighestFlag => highest_flag(rt, small),
+        MachineRow::FlagAboveTheLimit => flag_above_the_limit(rt, small),
+        MachineRow::FlaggedVictim => flagged_victim(rt, small),
+        MachineRow::FlagElsewhere => flag_elsewhere(rt, small),
+        MachineRow::KilledInASet => killed_in_a_set(rt, small),
+        MachineRow::PinInASet => pin_in_a_set(rt, small),
+    }
+}
+
 // One row on a machine of the boot.
-fn play_on<N: BootName>(rt: &impl Abort, alloc: Global, parts: SmallParts, row: ReclaimRow)
+fn play_on<N: BootName>(rt: &impl Abort, alloc: Global, parts: SmallParts, row: MachineRow)
     requires { (parts.frames ≡ N.frames) × (parts.stocks ≡ N.stocks) }
 {
     let SmallParts {
@@ -272,24 +303,7 @@ fn play_on<N: BootName>(rt: &impl Abort, alloc: Global, parts: SmallParts, row: 
         cpu,
     };
     small.machine.open(&small.tables, &mut small.cpu);
-    match row {
-        ReclaimRow::SecondChance => second_chance(rt, &mut small),
-        ReclaimRow::DirtyStays => dirty_stays(rt, &mut small),
-        ReclaimRow::MissedByAPin => missed_by_a_pin(rt, &mut small),
-        ReclaimRow::WantReachedEarly => want_reached_early(rt, &mut small),
-        ReclaimRow::NothingWanted => nothing_wanted(rt, &mut small),
-        ReclaimRow::Subtree => subtree(rt, &mut small),
-        ReclaimRow::RoundsMakeRoom => rounds_make_room(rt, &mut small),
-        ReclaimRow::RoundsEnd => rounds_end(rt, &mut small),
-        ReclaimRow::MostFrames => most_frames(rt, &mut small),
-        ReclaimRow::PinOutlivesAKill => pin_outlives_a_kill(rt, &mut small),
-        ReclaimRow::HighestFlag => highest_flag(rt, &mut small),
-        ReclaimRow::FlagAboveTheLimit => flag_above_the_limit(rt, &mut small),
-        ReclaimRow::FlaggedVictim => flagged_victim(rt, &mut small),
-        ReclaimRow::FlagElsewhere => flag_elsewhere(rt, &mut small),
-        ReclaimRow::KilledInASet => killed_in_a_set(rt, &mut small),
-        ReclaimRow::PinInASet => pin_in_a_set(rt, &mut small),
-    }
+    make_row(rt, &mut small, row);
     let SmallMachine {
         tables,
         machine,
@@ -302,87 +316,102 @@ fn play_on<N: BootName>(rt: &impl Abort, alloc: Global, parts: SmallParts, row: 
 }
 
 // One row on a new machine.
-fn play_row(rt: &impl Abort, alloc: Global, row: ReclaimRow) {
+fn play_row(rt: &impl Abort, alloc: Global, row: MachineRow) {
     let parts = make_small_parts(rt, alloc);
     play_on::<Brand>(rt, alloc, parts, row);
 }
 
 #[test]
+fn a_group_is_made_and_removed(rt: HostRuntime) {
+    play_row(&rt, rt.alloc(), MachineRow::GroupOfAVisit);
+}
+
+#[test]
+fn a_stock_is_filled_and_drained(rt: HostRuntime) {
+    play_row(&rt, rt.alloc(), MachineRow::StockOfAVisit);
+}
+
+#[test]
+fn frames_are_listed_paid_for_and_released(rt: HostRuntime) {
+    play_row(&rt, rt.alloc(), MachineRow::FramesOfAVisit);
+}
+
+#[test]
 fn a_marked_unit_has_a_second_chance(rt: HostRuntime) {
-    play_row(&rt, rt.alloc(), ReclaimRow::SecondChance);
+    play_row(&rt, rt.alloc(), MachineRow::SecondChance);
 }
 
 #[test]
 fn a_dirty_unit_stays(rt: HostRuntime) {
-    play_row(&rt, rt.alloc(), ReclaimRow::DirtyStays);
+    play_row(&rt, rt.alloc(), MachineRow::DirtyStays);
 }
 
 #[test]
 fn a_pinned_unit_is_missed(rt: HostRuntime) {
-    play_row(&rt, rt.alloc(), ReclaimRow::MissedByAPin);
+    play_row(&rt, rt.alloc(), MachineRow::MissedByAPin);
 }
 
 #[test]
 fn enough_is_enough(rt: HostRuntime) {
-    play_row(&rt, rt.alloc(), ReclaimRow::WantReachedEarly);
+    play_row(&rt, rt.alloc(), MachineRow::WantReachedEarly);
 }
 
 #[test]
 fn with_nothing_wanted_nothing_is_done(rt: HostRuntime) {
-    play_row(&rt, rt.alloc(), ReclaimRow::NothingWanted);
+    play_row(&rt, rt.alloc(), MachineRow::NothingWanted);
 }
 
 #[test]
 fn what_is_outside_the_subtree_stays(rt: HostRuntime) {
-    play_row(&rt, rt.alloc(), ReclaimRow::Subtree);
+    play_row(&rt, rt.alloc(), MachineRow::Subtree);
 }
 
 #[test]
 fn rounds_end_where_there_is_room(rt: HostRuntime) {
-    play_row(&rt, rt.alloc(), ReclaimRow::RoundsMakeRoom);
+    play_row(&rt, rt.alloc(), MachineRow::RoundsMakeRoom);
 }
 
 #[test]
 fn rounds_end_where_nothing_comes(rt: HostRuntime) {
-    play_row(&rt, rt.alloc(), ReclaimRow::RoundsEnd);
+    play_row(&rt, rt.alloc(), MachineRow::RoundsEnd);
 }
 
 #[test]
 fn the_group_with_most_frames_is_killed(rt: HostRuntime) {
-    play_row(&rt, rt.alloc(), ReclaimRow::MostFrames);
+    play_row(&rt, rt.alloc(), MachineRow::MostFrames);
 }
 
 #[test]
 fn a_pin_outlives_a_kill(rt: HostRuntime) {
-    play_row(&rt, rt.alloc(), ReclaimRow::PinOutlivesAKill);
+    play_row(&rt, rt.alloc(), MachineRow::PinOutlivesAKill);
 }
 
 #[test]
 fn the_highest_flagged_group_dies_whole(rt: HostRuntime) {
-    play_row(&rt, rt.alloc(), ReclaimRow::HighestFlag);
+    play_row(&rt, rt.alloc(), MachineRow::HighestFlag);
 }
 
 #[test]
 fn a_flag_above_the_limit_does_not_count(rt: HostRuntime) {
-    play_row(&rt, rt.alloc(), ReclaimRow::FlagAboveTheLimit);
+    play_row(&rt, rt.alloc(), MachineRow::FlagAboveTheLimit);
 }
 
 #[test]
 fn a_flagged_victim_dies_with_its_subtree(rt: HostRuntime) {
-    play_row(&rt, rt.alloc(), ReclaimRow::FlaggedVictim);
+    play_row(&rt, rt.alloc(), MachineRow::FlaggedVictim);
 }
 
 #[test]
 fn a_flag_elsewhere_does_not_count(rt: HostRuntime) {
-    play_row(&rt, rt.alloc(), ReclaimRow::FlagElsewhere);
+    play_row(&rt, rt.alloc(), MachineRow::FlagElsewhere);
 }
 
 #[test]
 fn a_killed_group_of_a_set_is_not_killed_again(rt: HostRuntime) {
-    play_row(&rt, rt.alloc(), ReclaimRow::KilledInASet);
+    play_row(&rt, rt.alloc(), MachineRow::KilledInASet);
 }
 
 #[test]
 fn a_pin_outlives_the_kill_of_a_set(rt: HostRuntime) {
-    play_row(&rt, rt.alloc(), ReclaimRow::PinInASet);
+    play_row(&rt, rt.alloc(), MachineRow::PinInASet);
 }

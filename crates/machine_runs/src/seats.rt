@@ -1,0 +1,32 @@
+//! The seats of one CPU, and its part made of them.
+ghost use Rattle.std.specs.Prelude.{◌≡◌};
+ghost use Rattle.frame_word.specs.Seats.{first_cpu_view, number_of, IsCpuSeat};
+ghost use Rattle.stock_word.specs.Stock.{IsProcessor};
+
+use cpu_part::{BootName, Cpu};
+use frame_word::FrameSeat;
+use std::alloc::Global;
+use std::process::Abort;
+use stock_word::StockSeat;
+
+/// The seats of one CPU.
+#[derive(Drop)]
+pub struct CpuSeats {
+    pub frames: FrameSeat,
+    pub stock: StockSeat,
+}
+
+/// The part of the CPU whose seats these are.
+pub fn new_cpu<N: BootName>(rt: &impl Abort, alloc: Global, seats: CpuSeats) -> Cpu<N>
+    requires seat { IsCpuSeat N.frames seats.frames × (seats.frames.view ≡ first_cpu_view (number_of seats.frames)) }
+    requires stock { (seats.stock.table ≡ N.stocks.table) × IsProcessor N.stocks seats.stock.view × (seats.stock.view.fresh ≡ 0) }
+    requires same { seats.stock.view.number ≡ number_of seats.frames }
+{
+    Cpu::<N>::new(alloc, seats.frames, seats.stock).expect(rt, "memory")
+}
+
+/// Takes apart the part of a CPU that has nothing left.
+pub fn close_cpu<N: BootName>(rt: &impl Abort, cpu: Cpu<N>) {
+    assert!(rt; cpu.is_idle());
+    let _ = cpu.into_seats();
+}
