@@ -51,8 +51,8 @@ book_out p seat action answer = 0
 abbrev pub counted_over : (ℕ → Action → Answer → ℕ) → Run → ℕ
 counted_over count run = sum_by (λ e. count e.0.seat e.0.action e.1) run
 
--- After every legal run a seat's references on a frame are the gets that were Held and the counts of the unfreezes,
--- less the puts and the counts of the freezes that were Done.
+-- After every legal run a seat's references on a frame are those it was given less those it gave up. It is given one by
+-- a get that was Held, and the count of an unfreeze. It gives up one by a put, and the count of a freeze that was Done.
 abbrev pub ReferencesAreCounted : Type 0
 ReferencesAreCounted = (zone : Zone) (run : Run) → IsLegalRun zone run → (seat f : ℕ) →
     counted_over (references_in seat f) run ≡ (state_of zone run).references seat f + counted_over (references_out seat f) run

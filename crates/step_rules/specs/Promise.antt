@@ -28,8 +28,8 @@ use Rattle.step_rules.specs.Returns.{is_gone, is_drop, times_in}
 use Rattle.step_rules.specs.Charges.{groups_of, charged_below}
 
 -- ---- what is shown
--- What is shown: the free areas; for each CPU its list and its stock; for each frame the group that keeps it, if any;
--- the groups; for each group a number of pages, its memory.current.
+-- What is shown: the free areas; each CPU's list and stock; for each frame the group that keeps it, if any; the groups;
+-- for each group a number of pages, its memory.current.
 pub record Shown : Type 0 where
   pub areas : List Block
   pub lists : ℕ → List ℕ

@@ -36,9 +36,9 @@ pub record LockIsPassedOn : Type 0 where
   pub given_back : (zone : Zone) (run : Run) (p : ℕ) (local : State) → ShowsLocal zone run p local → is_legal local p Unlock ≡ true →
       IsFreeAfter zone (pushed run (record { seat = p; action = Unlock }) Done)
 
--- What p sees as it is in the whole state: the groups with their limits, who is killed, what is pending, the usage of
--- each group, which frames are free, and p's own part. Of each other CPU p sees the book, and sees it as the pages of
--- that CPU's stock.
+-- What p sees as it is in the state: the groups with their limits, who is killed, what is pending, each group's usage,
+-- which frames are free, and p's own part. Of each other CPU p sees the book, and sees it as the pages of that CPU's
+-- stock.
 pub record SeesAll (s local : State) (p : ℕ) : Type 0 where
   pub zone : local.zone ≡ s.zone
   pub groups : local.groups ≡ s.groups

@@ -33,8 +33,8 @@ pub record Part : Type 0 where
   pub unreported : ℕ
   pub reported : ℕ
 
--- The state: who holds the lock; the groups, and which of them are killed; the phase of each frame; the references of
--- each seat on each frame; each CPU's part; the pages pending for each group.
+-- The state: who holds the lock; the groups, and which are killed; the phase of each frame; the references of each seat
+-- on each frame; each CPU's part; the pages pending for each group.
 pub record State : Type 0 where
   pub zone : Zone
   pub hold : Hold

@@ -219,7 +219,7 @@ pub fn frames_are_lent_to_processors()
     ensures { FramesAreLentToProcessors }
 {}
 
-/// After every legal run a frame in transit between the zone and a CPU is so while that CPU's visit is open.
+/// After every legal run a frame is in transit between the zone and a CPU only while that CPU's visit is open.
 pub fn frames_pass_in_visits()
     ensures { FramesPassInVisits }
 {}
