@@ -18,7 +18,7 @@ abbrev pub FramesAreLentToProcessors : Type 0
 FramesAreLentToProcessors = (zone : Zone) (run : Run) → IsLegalRun zone run → (f p : ℕ) →
     lent_to ((state_of zone run).phases f) ≡ Some p → is_cpu zone p ≡ true
 
--- after every legal run a frame in transit to or from a CPU is so while that CPU's visit is open
+-- after every legal run a frame is in transit to or from a CPU only while that CPU's visit is open
 abbrev pub FramesPassInVisits : Type 0
 FramesPassInVisits = (zone : Zone) (run : Run) → IsLegalRun zone run → (f p : ℕ) →
     (passes_out p ((state_of zone run).phases f) || passes_back p ((state_of zone run).phases f)) ≡ true →
