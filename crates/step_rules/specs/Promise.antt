@@ -1,7 +1,7 @@
 -- The promise: what every list of steps keeps, said of what is shown when the lock is free. The free areas are the
 -- maximal free blocks (Knuth, The Art of Computer Programming, 2.5; Gorman, Understanding the Linux Virtual Memory
 -- Manager, chapter 6). Each frame is in one place. Each memory.current is right, and no grant passed memory.max
--- (cgroup-v2.rst). Each frame was returned once for each use.
+-- (cgroup-v2.rst). No frame was returned twice for one use.
 use Rattle.std.specs.Prelude.{◌≡◌, ◌⊎◌, ◌↔◌, ℕ, ◌+◌, ◌<◌, ◌≤◌, Bool, true, false, Option, Some, is_some, List, length, take, slice_get, IfSome, if◌then◌else◌}
 use Rattle.std.specs.List.{Contains}
 use Rattle.zone_blocks.specs.declared.block.Block.{Block}
@@ -95,7 +95,7 @@ KeepsLimits run (Grant g n) Granted = (was_killed run g ≡ false)
     × ((m : ℕ) → in_subtree (groups_of run) m g ≡ true → fits_limit (limit_given run m) (charged_below run m + n) ≡ true)
 KeepsLimits run action answer = Unit {0}
 
--- ---- each frame was returned once
+-- ---- no frame is returned twice for one use
 -- no seat has a reference on the frame: each gave up as many as it was given
 abbrev pub HasNoReference : Run → ℕ → Type 0
 HasNoReference run f = (seat : ℕ) → counted_over (references_in seat f) run ≡ counted_over (references_out seat f) run
@@ -126,8 +126,8 @@ ComesBackOnce run seat action answer = Unit {0}
 -- What is shown after the run keeps the promise. The groups are those of the run. The free areas are the maximal blocks
 -- of some set of frames; by the next field these are on no list and kept by no group. Each frame of the zone is in one
 -- place, and no other frame is in any. Each page in a stock is prepaid. Each memory.current is the frames that the
--- group and its descendants keep and the pages prepaid for them; it is also what is charged to them. At each step of
--- the run, as it was made, no grant passed a limit and each frame was returned once.
+-- group and its descendants keep and the pages prepaid for them; it is also what is charged to them. Each step of the
+-- run, when it was made, kept the limits and returned no frame twice for one use.
 pub record Promise (zone : Zone) (run : Run) (shown : Shown) : Type 0 where
   pub groups : shown.groups ≡ groups_of run
   pub areas : (free : List Bool) × (length free ≡ zone.frames) × AreMaximalBlocks free shown.areas

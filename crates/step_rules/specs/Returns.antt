@@ -1,4 +1,4 @@
--- A frame is returned once for each use, and nothing is pending while the lock is free.
+-- How each use of a frame ends and is closed, and that nothing is pending while the lock is free.
 use Rattle.std.specs.Prelude.{◌≡◌, ℕ, ◌+◌, ◌==◌, ◌++◌, Bool, true, false, Option, Some, None, List, [], ◌∷◌, fold, filter, length, if◌then◌else◌}
 use Rattle.step_rules.specs.declared.phase.Stage.{Stage}
 use Rattle.step_rules.specs.declared.phase.Stage.TheVariants.{Collected, BackAt, BackPassing, Ended}
@@ -94,9 +94,9 @@ with_count count t e = (after t.0 e.0.seat e.0.action e.1, t.1 + count t.0 e.0.s
 abbrev pub counted_beside : (State → ℕ → Action → Answer → ℕ) → Zone → Run → ℕ
 counted_beside count zone run = (fold (with_count count) (at_boot zone, 0) run).1
 
--- A frame is returned once for each use that ended: all its ended uses are closed, except one that is open, and no use
--- ends while one is open. So a return that closes no open end is a drop. Open ends and drops are the same in the state
--- as by the run.
+-- Each use of the frame that ended is closed by a return or a credit, or undone by an unfreeze, except one that is
+-- open. No use ends while one is open, so a return that closes no open end is a drop. Open ends and drops are the same
+-- in the state as by the run.
 pub record ReturnsOnce (zone : Zone) (run : Run) (f : ℕ) : Type 0 where
   pub once : counted_along (uses_ended f) run ≡ one_if (is_open ((state_of zone run).phases f)) + counted_along (uses_closed f) run
   pub gone : is_gone run f ≡ is_open ((state_of zone run).phases f)
@@ -105,7 +105,7 @@ pub record ReturnsOnce (zone : Zone) (run : Run) (f : ℕ) : Type 0 where
   pub none_open_at_put : (seat : ℕ) → IsMade (state_of zone run) seat (Put f) Last → is_open ((state_of zone run).phases f) ≡ false
   pub none_open_at_freeze : (seat n : ℕ) → IsMade (state_of zone run) seat (Freeze f n) Done → is_open ((state_of zone run).phases f) ≡ false
 
--- after every legal run each frame was returned once for each use that ended
+-- after every legal run each use of a frame that ended is closed, except one that is open
 abbrev pub EveryFrameReturnsOnce : Type 0
 EveryFrameReturnsOnce = (zone : Zone) (run : Run) → IsLegalRun zone run → (f : ℕ) → ReturnsOnce zone run f
 

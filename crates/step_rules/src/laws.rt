@@ -22,8 +22,8 @@ ghost use Rattle.step_rules.specs.Answers.{AnswersAreDetermined, EveryStepIsAnsw
 ghost use Rattle.step_rules.specs.Counts.{ReferencesAreCounted, StocksAreCounted, BooksAreCounted};
 
 /// After every legal run that leaves the lock free, what is shown keeps the promise. The free areas are maximal, each
-/// frame is in one place, and each memory.current is right. No grant passed a limit, and each frame was returned once
-/// for each use.
+/// frame is in one place, and each memory.current is right. No grant passed a limit, and no frame was returned twice
+/// for one use.
 pub fn the_promise_is_kept()
     ensures { ThePromiseIsKept }
 {}
