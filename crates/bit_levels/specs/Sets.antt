@@ -7,18 +7,18 @@ use Rattle.std.specs.Int.{bit_at}
 abbrev pub IsIn : List Bool → ℕ → Type 0
 IsIn set number = slice_index_or set number false ≡ true
 
--- no number from `low` to before `high` is in the set
+-- no number from `low` to just before `high` is in the set
 abbrev pub HasNoneIn : List Bool → ℕ → ℕ → Type 0
 HasNoneIn set low high = (number : ℕ) → low ≤ number → number < high → ¬ IsIn set number
 
--- a number from `low` to before `high` is in the set
+-- a number from `low` to just before `high` is in the set
 pub record HasSomeIn (set : List Bool) (low high : ℕ) : Type 0 where
   pub number : ℕ
   pub from : low ≤ number
   pub before : number < high
   pub there : IsIn set number
 
--- the last number from `low` to before `high` that is in the set
+-- the last number from `low` to just before `high` that is in the set
 pub record IsLastIn (set : List Bool) (low high last : ℕ) : Type 0 where
   pub from : low ≤ last
   pub before : last < high
@@ -31,17 +31,17 @@ pub record IsLastIn (set : List Bool) (low high last : ℕ) : Type 0 where
 abbrev pub is_set : List ℕ → ℕ → Bool
 is_set words number = bit_at (slice_index words (number / 64)) (number % 64) == 1
 
--- the set that the words tell, of numbers below n
+-- the set of the numbers below n whose bit in the words is 1
 unfoldable pub set_of : ℕ → List ℕ → List Bool
 set_of n words = map (is_set words) (range_with_len 0 n)
 
--- there is a word for each number up to n, which has 64 bits, and no bit from n on is 1
+-- there is a word for each number up to n, n fits into 64 bits, and no bit from n on is 1
 pub record AreWords (n : ℕ) (words : List ℕ) : Type 0 where
   pub small : n < 2 ^ 64
   pub count : length words ≡ n / 64 + 1
   pub rest : (number : ℕ) → n ≤ number → is_set words number ≡ false
 
--- the upper set has the number of each word of the lower set that has a member, and no other
+-- the upper set has the number of each word of the lower set that has a member, and no other number
 pub record IsSummaryOf (lower upper : List Bool) : Type 0 where
   pub count : length upper ≡ length lower / 64 + 1
   pub marks : (word : ℕ) → IsIn upper word ↔ HasSomeIn lower (word * 64) (word * 64 + 64)

@@ -7,11 +7,11 @@ use crate::word;
 use std::alloc::{AllocError, Global};
 use std::marker::Model;
 
-/// A set of numbers below a bound, one bit for each, seen as a list of truth values.
+/// A set of numbers below a bound, one bit for each. A contract sees a list of truth values.
 #[derive(Drop)]
 pub struct Bits {
     len: usize,
-    // 64 numbers a word, and a word behind the last.
+    // 64 numbers a word, and a word after the last.
     words: Vec<u64>,
 }
 
@@ -51,7 +51,7 @@ impl Bits {
         word::has(self.words[number / 64], (number % 64) as u32)
     }
 
-    /// Puts the number in, or takes it out.
+    /// Inserts the number, or removes it.
     pub fn set(&mut self, number: usize, value: bool)
         requires { number < length self.old }
         ensures { self.new ≡ slice_set self.old number value }
@@ -60,7 +60,7 @@ impl Bits {
         self.words[number / 64] = word::with(old, (number % 64) as u32, value);
     }
 
-    /// Puts the number in if it isn't there, else takes it out.
+    /// Inserts the number if it isn't in the set, else removes it.
     pub fn toggle(&mut self, number: usize)
         requires { number < length self.old }
         ensures { self.new ≡ slice_set self.old number (not (slice_index_or self.old number false)) }
@@ -87,7 +87,7 @@ impl Bits {
         Some(word * 64 + place as usize)
     }
 
-    /// The last number below this one and of its word that is in the set.
+    /// The last number below this one, and of its word, that is in the set.
     pub fn last_in_word_below(&self, number: usize) -> Option<usize>
         requires { number ≤ length self.now }
         ensures { MatchOption result (HasNoneIn self.now (number / 64 * 64) number) (IsLastIn self.now (number / 64 * 64) number) }

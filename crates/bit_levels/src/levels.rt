@@ -7,7 +7,7 @@ use crate::bits::Bits;
 use std::alloc::{AllocError, Global};
 use std::marker::Model;
 
-/// A set of numbers below a bound, seen as a list of truth values, one for each number.
+/// A set of numbers below a bound. A contract sees a list of truth values, one for each number.
 #[derive(Drop)]
 pub struct BitLevels {
     bits: Bits,
@@ -56,7 +56,7 @@ impl BitLevels {
         self.bits.contains(number)
     }
 
-    /// Puts the number in, or takes it out.
+    /// Inserts the number, or removes it.
     pub fn set(&mut self, number: usize, value: bool)
         requires { number < length self.old }
         ensures { self.new ≡ slice_set self.old number value }
@@ -64,14 +64,14 @@ impl BitLevels {
         self.bits.set(number, value);
         let word = number / 64;
         let has = self.bits.has_in_word(word);
-        // Written in any case: whether a mark changes is hard to foresee, and its word is at hand.
+        // Written in any case: whether a mark changes is hard to predict, and its word is at hand.
         self.summary.set(word, has);
         self.top.set(word / 64, self.summary.has_in_word(word / 64));
     }
 
-    /// The nearest number below this one that is in the set: by one look at each level, and at the
-    /// topmost words, each of which stands for 262,144 numbers.
-    // So that the first look, which mostly tells, costs no call.
+    /// The nearest number below this one that is in the set, by one look at each level and at the topmost words, each
+    /// of which covers 262,144 numbers.
+    // Inlined, so that the first look, which mostly suffices, costs no call.
     #[inline(always)]
     pub fn last_below(&self, number: usize) -> Option<usize>
         requires { number ≤ length self.now }

@@ -1,5 +1,5 @@
-//! Sets of numbers below a bound, as bits, with one summary bit for each word of bits and one for
-//! each word of those: the nearest lower member is found by a few loads.
+//! Sets of numbers below a bound, as bits, with one summary bit for each word of bits and one for each word of summary
+//! bits. So a few loads find the nearest lower member.
 #![tactic(auto)]
 
 pub mod bits;

@@ -40,11 +40,11 @@ is_readable file = (row_of file).is_readable
 abbrev pub is_writable : File → Bool
 is_writable file = (row_of file).is_writable
 
--- so many pages of PAGE_BYTES, 4,096, told in bytes, on a line of their own
+-- the bytes of this many pages of PAGE_BYTES, 4,096, on a line of their own
 abbrev pub pages_text : ℕ → List ℕ
 pages_text pages = decimal (pages * PAGE_BYTES) ++ codes "\n"
 
--- a limit in pages, or `max` for none
+-- a limit in bytes, given in pages, or `max` for none
 abbrev pub limit_text : Option ℕ → List ℕ
 limit_text None = codes "max\n"
 limit_text (Some pages) = pages_text pages
@@ -57,11 +57,11 @@ flag_text flag = flag_word flag ++ codes "\n"
 abbrev pub count_line : List ℕ → ℕ → List ℕ
 count_line key count = key ++ (codes " " ++ (decimal count ++ codes "\n"))
 
--- a line for each key: `low` and `high` never happen here and stay 0, and then come those that are counted
+-- A line for each key. First `low` and `high`, which never happen here and stay 0, then the keys that are counted.
 unfoldable pub events_text : EventCounts → List ℕ
 events_text counts = codes "low 0\nhigh 0\n" ++ flat_map (λ key. count_line (key_name key) (count_of counts key)) all_keys
 
--- the text of a file of a group; or why it can't be read
+-- the text of a file of a group, or why it can't be read
 abbrev pub file_text : Ledger → ℕ → File → Result (List ℕ) Fault
 file_text ledger g Current = Ok (pages_text (current_of ledger g))
 file_text ledger g Max = Ok (limit_text (limit_of ledger.groups g))

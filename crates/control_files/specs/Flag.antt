@@ -21,7 +21,7 @@ pub record IsFlagText (text : List ℕ) (flag : Bool) : Type 0 where
 abbrev pub IsNoFlagText : List ℕ → Type 0
 IsNoFlagText text = (flag : Bool) → ¬ IsFlagText text flag
 
--- the flag that the text writes, or that it writes none
+-- the flag that the text writes, or a refusal of a text that writes none
 abbrev pub IsFlagReading : List ℕ → Result Bool Fault → Type 0
 IsFlagReading text (Ok flag) = IsFlagText text flag
 IsFlagReading text (Err BadLimit) = IsNoFlagText text

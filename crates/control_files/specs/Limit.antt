@@ -15,7 +15,7 @@ use Rattle.control_files.specs.declared.text.TheConstants.{PAGE_BYTES}
 abbrev pub is_space : ℕ → Bool
 is_space byte = byte == 32 || (nat_le 9 byte && nat_le byte 13)
 
--- bytes of which each is white space
+-- the bytes are all white space
 abbrev pub AreSpaces : List ℕ → Type 0
 AreSpaces bytes = IsTrue (list_all is_space bytes)
 
@@ -36,7 +36,7 @@ IsSuffix [] factor = factor ≡ 1
 IsSuffix (letter ∷ []) factor = factor_of (to_ascii_uppercase letter) ≡ Some factor
 IsSuffix (letter ∷ byte ∷ bytes) factor = ⊥
 
--- decimal digits, as many as one likes, and a suffix; the amount is in bytes
+-- one or more decimal digits, and a suffix; the amount is in bytes
 pub record IsAmount (word : List ℕ) (amount : ℕ) : Type 0 where
   pub digits : List ℕ
   pub suffix : List ℕ
@@ -46,7 +46,7 @@ pub record IsAmount (word : List ℕ) (amount : ℕ) : Type 0 where
   pub suffix_is : IsSuffix suffix factor
   pub value : amount ≡ digits_value 10 digits * factor
 
--- `max` has the value None: no limit
+-- `max` has the value None, no limit; an amount has its bytes
 abbrev pub IsLimitWord : List ℕ → Option ℕ → Type 0
 IsLimitWord word None = word ≡ codes "max"
 IsLimitWord word (Some amount) = IsAmount word amount
@@ -83,7 +83,8 @@ pub record ReadsAs (text : List ℕ) (limit : Option ℕ) : Type 0 where
 abbrev pub IsTooGreat : List ℕ → Type 0
 IsTooGreat text = (amount : ℕ) × (2 ^ 64 ≤ amount) × IsLimitText text (Some amount)
 
--- the text is in the grammar and writes an amount, which is not too great: in whole pages of PAGE_BYTES, rounded up
+-- the text is in the grammar and writes an amount that is not too great; `pages` is that amount in pages of PAGE_BYTES,
+-- rounded up
 pub record ReadsAmount (text : List ℕ) (pages : ℕ) : Type 0 where
   pub amount : ℕ
   pub grammar : IsLimitText text (Some amount)

@@ -7,7 +7,7 @@ use Rattle.group_tree.specs.declared.fault.Fault.{Fault}
 use Rattle.group_tree.specs.declared.fault.Fault.TheVariants.{BadLimit, BadNumber}
 use Rattle.control_files.specs.Limit.{is_space, AreSpaces, IsAmount, ReadsAmount, ReadsAs, IsTooGreat, IsNoAmountText, IsNoLimitText}
 
--- bytes of which none is white space
+-- none of the bytes is white space
 abbrev pub HasNoSpace : List ℕ → Type 0
 HasNoSpace bytes = IsTrue (list_all (λ byte. not (is_space byte)) bytes)
 
@@ -21,17 +21,17 @@ pub record HasOnlyWord (text word : List ℕ) : Type 0 where
   pub no_space : HasNoSpace word
   pub some_byte : word ≢ []
 
--- the one word of the text, or that there is none
+-- the one word of the text, or None if it has not exactly one
 abbrev pub IsOnlyWord : List ℕ → Option (List ℕ) → Type 0
 IsOnlyWord text None = (word : List ℕ) → ¬ HasOnlyWord text word
 IsOnlyWord text (Some word) = HasOnlyWord text word
 
--- the list is empty, or its first byte does not pass
+-- the list is empty, or its first byte does not pass the test
 abbrev pub BeginsOutside : (ℕ → Bool) → List ℕ → Type 0
 BeginsOutside passes [] = ⊤
 BeginsOutside passes (byte ∷ bytes) = passes byte ≡ false
 
--- the digits that begin a word, and the bytes behind them
+-- the digits that begin a word, and the bytes after them
 pub record SplitsDigits (word digits suffix : List ℕ) : Type 0 where
   pub parts : word ≡ digits ++ suffix
   pub all_digits : AllDigits 10 digits
@@ -51,7 +51,7 @@ IsReading text (Err BadNumber) = IsTooGreat text
 IsReading text (Err BadLimit) = IsNoLimitText text
 IsReading text (Err _) = ⊥
 
--- the pages that the text writes an amount of, or why there are none
+-- the pages of the amount that the text writes, or why there are none
 abbrev pub IsPagesReading : List ℕ → Result ℕ Fault → Type 0
 IsPagesReading text (Ok pages) = ReadsAmount text pages
 IsPagesReading text (Err BadNumber) = IsTooGreat text

@@ -5,23 +5,23 @@ use Rattle.std.proofs.lemmas.List.{take-append-drop, length-take-le}
 use Rattle.control_files.specs.declared.text.TheConstants.{MAX_TEXT}
 use Rattle.control_files.specs.declared.text.ArrayText.TheInside.{Inside}
 
--- the first `len` bytes are the text, and the bytes behind it are zero
+-- the first `len` bytes are the text, and the bytes after it are zero
 pub record IsPadded (bytes : List ℕ) (len : ℕ) : Type 0 where
   pub size : length bytes ≡ MAX_TEXT
   pub fits : len ≤ MAX_TEXT
   pub zeros : drop len bytes ≡ replicate (MAX_TEXT - len) 0
 
--- a text with zeros behind it, MAX_TEXT bytes in all
+-- a text followed by zeros, MAX_TEXT bytes in all
 abbrev pub padded : List ℕ → List ℕ
 padded text = text ++ replicate (MAX_TEXT - length text) 0
 
--- the first bytes with zeros behind them are all the bytes
+-- the first bytes, followed by zeros, are all the bytes
 padded-bytes : (bytes : List ℕ) (len : ℕ) → IsPadded bytes len → padded (take len bytes) ≡ bytes
 padded-bytes bytes len h =
     let size : length (take len bytes) ≡ len = length-take-le len bytes (omega (arith, h.size, h.fits)) in
     rw size (rw (← h.zeros) (take-append-drop len bytes))
 
--- the fields come back from the text
+-- the fields can be found from the text
 pub padded-view : (bytes : List ℕ) (len : ℕ) → IsPadded bytes len →
     ◌≡◌ {A = Inside} (record { bytes = padded (take len bytes); len = length (take len bytes) }) (record { bytes = bytes; len = len })
 padded-view bytes len h =

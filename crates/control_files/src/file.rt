@@ -15,7 +15,7 @@ use group_tree::event::{EventCounts, EventKey};
 use group_tree::fault::Fault;
 use group_tree::group::GroupId;
 
-/// A file that each group but the root has.
+/// A file that each group except the root has.
 #[derive(Clone, Copy, Debug, PartialEq, Eq)]
 pub enum File {
     /// memory.current: the bytes that the group and those below it use.
@@ -24,13 +24,13 @@ pub enum File {
     Max,
     /// memory.peak: the greatest usage since the group was made.
     Peak,
-    /// memory.events: how often the limits were met, in the group and those below it.
+    /// memory.events: how many events of each kind the group and those below it had.
     Events,
-    /// memory.events.local: how often the group's own limit was met.
+    /// memory.events.local: how many events of each kind the group itself had.
     EventsLocal,
     /// memory.oom.group: whether the group is killed as a whole.
     OomGroup,
-    /// memory.reclaim: an amount that is written to it is reclaimed from the group and those below it.
+    /// memory.reclaim: an amount written to it is reclaimed from the group and those below it.
     Reclaim,
 }
 
@@ -63,7 +63,7 @@ impl File {
         }
     }
 
-    /// The name, as the file stands in a group's folder.
+    /// The name of the file in a group's folder.
     pub fn name(self) -> &'static str
         ensures { result.now ≡ name_of self }
     {
@@ -85,7 +85,7 @@ impl File {
     }
 }
 
-/// The text of a file of a group that is there. `NoFile` for the root, which has no files; `WriteOnly` for
+/// The text of a file of a group that exists. `NoFile` for the root, which has no files; `WriteOnly` for
 /// memory.reclaim, which can't be read.
 pub fn file_text(charges: &Charges, g: GroupId, file: File) -> Result<ArrayText, Fault>
     requires { IsTrue (has_group charges.now.groups g) }
@@ -130,7 +130,7 @@ fn push_count(text: &mut ArrayText, key: &[u8], count: u64)
     text.push(b"\n");
 }
 
-/// The file of this name; None where none has it.
+/// The file of this name, or None if no file has it.
 pub fn file_named(name: &[u8]) -> Option<File>
     ensures { (file : File) → (result ≡ Some file) ↔ (name.now ≡ name_of file) }
 {

@@ -8,8 +8,8 @@ use crate::text::{ArrayText, text_of};
 use crate::word::only_word;
 use group_tree::fault::Fault;
 
-/// Reads the text of a flag: `0` or `1`, with white space before and after. `BadLimit`: it is any other text, such as
-/// `00`, `01`, `+1` or the empty one. (cgroup-v2.rst, memory.oom.group.)
+/// Reads the text of a flag: `0` or `1`, with white space before and after. Any other text, such as `00`, `01`, `+1` or
+/// the empty one, is refused with `BadLimit`. (cgroup-v2.rst, memory.oom.group.)
 pub fn read_flag(text: &[u8]) -> Result<bool, Fault>
     ensures ok { (flag : Bool) → (result ≡ Ok flag) ↔ IsFlagText text.now flag }
     ensures bad_limit { (result ≡ Err Fault.BadLimit) ↔ IsNoFlagText text.now }
@@ -19,7 +19,7 @@ pub fn read_flag(text: &[u8]) -> Result<bool, Fault>
     flag_of(word).ok_or(Fault::BadLimit)
 }
 
-// The flag for which this is the word; None if it is the word for none.
+// The flag of this word; None if it is no flag's.
 fn flag_of(word: &[u8]) -> Option<bool>
     ensures { (flag : Bool) → (result ≡ Some flag) ↔ (word.now ≡ flag_word flag) }
 {

@@ -15,11 +15,10 @@ use group_tree::fault::Fault;
 /// A limit in pages of 4,096 bytes; None for no limit.
 pub type Limit = Option<u32>;
 
-/// Reads the text of a limit, of any length: `max`, or bytes in decimal with one letter of K M G T P E
-/// at most, in either case, and white space before and after. The limit is in pages, rounded up, and
-/// none where there are 2^32 of them or more. `BadLimit`: the text is not in this grammar. `BadNumber`: it
-/// is, and its value is above 2^64 - 1 bytes. (cgroup-v2.rst, memory.max; suffixes as in the kernel's
-/// memparse.)
+/// Reads the text of a limit, of any length: `max`, or bytes in decimal, perhaps with one letter of K M G T P E in
+/// either case, and white space before and after. The limit is in pages, rounded up; 2^32 pages or more are no limit. A
+/// text outside this grammar is refused with `BadLimit`, a value above 2^64 - 1 bytes with `BadNumber`. (cgroup-v2.rst,
+/// memory.max; suffixes as in the kernel's memparse.)
 pub fn read_limit(text: &[u8]) -> Result<Limit, Fault>
     ensures ok { (limit : Option ℕ) → (result ≡ Ok limit) ↔ ReadsAs text.now limit }
     ensures bad_number { (result ≡ Err Fault.BadNumber) ↔ IsTooGreat text.now }
@@ -33,9 +32,9 @@ pub fn read_limit(text: &[u8]) -> Result<Limit, Fault>
     Ok(limit_of(bytes_of(word)?))
 }
 
-/// Reads the text of an amount, as memory.reclaim takes it: what `read_limit` reads, except `max`. The amount is in pages,
-/// rounded up, at most 2^52 of them, and is never taken for no limit. `BadLimit`: the text is no amount. `BadNumber`: it is
-/// one, above 2^64 - 1 bytes. (cgroup-v2.rst, memory.reclaim.)
+/// Reads the text of an amount, as memory.reclaim takes it: what `read_limit` reads, except `max`. The amount is in
+/// pages, rounded up, at most 2^52 of them; it never means no limit. A text that is no amount is refused with
+/// `BadLimit`, an amount above 2^64 - 1 bytes with `BadNumber`. (cgroup-v2.rst, memory.reclaim.)
 pub fn read_amount(text: &[u8]) -> Result<u64, Fault>
     ensures ok { (pages : ℕ) → (result ≡ Ok pages) ↔ ReadsAmount text.now pages }
     ensures bad_number { (result ≡ Err Fault.BadNumber) ↔ IsTooGreat text.now }
@@ -58,7 +57,7 @@ pub fn write_limit(limit: Limit) -> ArrayText
     }
 }
 
-/// A text has one value at most.
+/// A text has at most one value.
 pub fn one_value()
     ensures { (text : List ℕ) (v w : Option ℕ) → IsLimitText text v → IsLimitText text w → v ≡ w }
 {}
@@ -99,7 +98,7 @@ fn bytes_of(word: &[u8]) -> Result<u64, Fault>
     number.checked_mul(factor).ok_or(Fault::BadNumber)
 }
 
-// The digits that begin the word, and the bytes behind them.
+// The digits that begin the word, and the bytes after them.
 fn split_digits(word: &[u8]) -> (&[u8], &[u8])
     ensures { SplitsDigits word.now result.0.now result.1.now }
 {
@@ -112,7 +111,7 @@ fn first_non_digit(word: &[u8]) -> Option<usize>
     word.iter().position(|byte| !byte.is_ascii_digit())
 }
 
-// What a suffix multiplies by; None where the bytes are no suffix.
+// What a suffix multiplies by; None if the bytes are no suffix.
 fn read_suffix(suffix: &[u8]) -> Option<u64>
     ensures some { IfSome result (λ factor. IsSuffix suffix.now factor) }
     ensures none { IfNone result ((factor : ℕ) → ¬ IsSuffix suffix.now factor) }
@@ -124,7 +123,7 @@ fn read_suffix(suffix: &[u8]) -> Option<u64>
     }
 }
 
-// The number that digits write; None where it is above 2^64 - 1.
+// The number that digits write; None if it is above 2^64 - 1.
 fn number_of(digits: &[u8]) -> Option<u64>
     requires { AllDigits 10 digits.now }
     ensures { SomeIff result (digits_value 10 digits.now < 2 ^ 64) (digits_value 10 digits.now) }

@@ -13,7 +13,7 @@ pub const PAGE_BYTES: u64 = 4096;
 /// How many bytes a text may have.
 pub const MAX_TEXT: usize = 160;
 
-/// A text of at most 160 bytes, kept without memory of its own. Behind the text stand zeros.
+/// A text of at most 160 bytes, kept without memory of its own. Zeros follow the text.
 #[derive(Clone, Copy, Debug, PartialEq, Eq)]
 pub struct ArrayText {
     bytes: [u8; MAX_TEXT],
@@ -85,7 +85,7 @@ pub(crate) fn text_of(bytes: &[u8]) -> ArrayText
     text
 }
 
-/// So many pages, told in bytes, on a line of their own.
+/// The bytes of this many pages, on a line of their own.
 pub(crate) fn pages_text(pages: u32) -> ArrayText
     ensures { result ≡ pages_text pages }
 {

@@ -1,5 +1,5 @@
--- Of the reading core, on which the program doesn't run.
--- What is asked of rows before a step: that they are of the zone's size, and that no number is near its bound.
+-- Part of the reading core, on which the program doesn't run. What must hold of rows before a step: they are of the
+-- zone's size, and no number is near its bound.
 use Rattle.std.specs.Prelude.{◌≡◌, ◌+◌, ◌^◌, ◌<◌, ◌≤◌, ℕ, true, false, List, All, replicate, length, vec_len, vec_capacity}
 use Rattle.step_rules.specs.Phases.{Kind, has_as, is_live}
 use Rattle.step_rules.specs.State.{State, frames_of, front_of, visits}
@@ -23,7 +23,8 @@ pub record HasRoom (frames : ℕ) (s : Seat) : Type 0 where
   pub fresh : frames ≤ vec_capacity s.fresh
   pub back : frames ≤ vec_capacity s.back
 
--- the rows are of the zone's size: a phase for each frame, a seat for the zone and each processor, and 64 group numbers
+-- the rows are of the zone's size: there is a phase for each frame, a seat for the zone and each CPU, and 64 group
+-- numbers
 pub record FitsZone (r : Rows) : Type 0 where
   pub frames : r.frames ≤ 1048576
   pub cpus : r.cpus ≤ 64
@@ -33,9 +34,10 @@ pub record FitsZone (r : Rows) : Type 0 where
   pub pending : vec_len r.pending ≡ 64
   pub rooms : All (HasRoom r.frames) r.seats.items
 
--- no number is near its bound: at most 255 references of a seat on a frame, and of live frames alone, no more pages than
--- many steps can grant, and a frame that isn't of a kind finds room on the list of that kind; the front of a list is a frame
--- of the zone; only a processor visits
+-- No number is near its bound. A seat has at most 255 references on a frame, and only on a live one. A book is the
+-- pages of the stock, the fresh frames, and the pages unreported and reported. Books and pending pages are at most
+-- 2^96. A frame that isn't of a kind has room on the list of that kind. The front of a list is a frame of the zone, and
+-- has room among the fresh frames. Only a CPU visits.
 pub record IsFew (s : State) : Type 0 where
   pub references : (seat f : ℕ) → s.references seat f ≤ 255
   pub booked : (p : ℕ) → (s.parts p).book ≡ (s.parts p).stock.pages + length (s.parts p).fresh + (s.parts p).unreported + (s.parts p).reported
@@ -47,14 +49,14 @@ pub record IsFew (s : State) : Type 0 where
   pub paying : (p : ℕ) → 1 ≤ length (s.parts p).list → length (s.parts p).fresh < s.zone.frames
   pub visitor : (p : ℕ) → visits p s.hold ≡ true → p ≤ s.zone.cpus
 
--- a step that may be made is answered so, and leaves the rows so
+-- a step that may be made gets this answer, and leaves these rows
 pub record Makes (old : Rows) (seat : ℕ) (action : Action) (answer : Answer) (new : Rows) : Type 0 where
   pub answered : IsAnswer (state_in old) seat action answer
   pub counted : IsCounted (state_in old) action answer
   pub state : state_in new ≡ after (state_in old) seat action answer
   pub fits : FitsZone new
 
--- a step that is answered the same in every state leaves the rows so
+-- a step leaves these rows; its answer is the same in every state
 pub record Leaves (old : Rows) (seat : ℕ) (action : Action) (answer : Answer) (new : Rows) : Type 0 where
   pub state : state_in new ≡ after (state_in old) seat action answer
   pub fits : FitsZone new
@@ -72,7 +74,7 @@ pub record HasRooms (old new : Seat) : Type 0 where
   pub fresh : vec_capacity new.fresh ≡ vec_capacity old.fresh
   pub back : vec_capacity new.back ≡ vec_capacity old.back
 
--- which of the free blocks is placed: the front of the smallest sufficient area (Knuth)
+-- the placed block is the front of the smallest sufficient free block (Knuth)
 abbrev pub PlacesFront : List Block → Action → Answer → Type 0
 PlacesFront areas (PlaceBlock g k) (Placed b) = IsFrontOfSmallest areas k b
 PlacesFront areas action answer = Unit {0}
@@ -83,7 +85,7 @@ pages_asked (Grant g n) = n
 pages_asked (Fill p g n) = n
 pages_asked action = 0
 
--- a seat that has nothing, with no reference on any frame
+-- a seat that has nothing, and no reference on any frame
 pub record IsNewSeat (frames : ℕ) (s : Seat) : Type 0 where
   pub part : part_in s ≡ no_part
   pub references : s.references.items ≡ replicate frames 0

@@ -1,5 +1,5 @@
--- Of the reading core, on which the program doesn't run.
--- The state of the rules that rows of lists and numbers stand for.
+-- Part of the reading core, on which the program doesn't run. The state of the rules that rows of lists and numbers
+-- show.
 use Rattle.std.specs.Prelude.{ℕ, Option, Some, None, false}
 use Rattle.std.specs.List.{slice_get, slice_index_or}
 use Rattle.step_rules.specs.declared.phase.Phase.TheVariants.{InZone}
@@ -19,17 +19,17 @@ part_in s = record {
   reported = s.reported;
 }
 
--- the part of a seat that may be there; none has nothing
+-- the part of a seat; if there is no seat, an empty one
 abbrev pub part_of : Option Seat → Part
 part_of None = no_part
 part_of (Some s) = part_in s
 
--- the references on a frame of a seat that may be there
+-- the references of a seat on a frame; 0 if there is no seat
 abbrev pub reference_of : Option Seat → ℕ → ℕ
 reference_of None f = 0
 reference_of (Some s) f = slice_index_or s.references.items f 0
 
--- the state that the rows show; beyond the end of each list is what is there at first
+-- the state that the rows show; past the end of each list, as at boot
 abbrev pub state_in : Rows → State
 state_in r = record {
   zone = record { frames = r.frames; cpus = r.cpus };

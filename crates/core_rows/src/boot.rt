@@ -1,5 +1,5 @@
-//! Of the reading core, on which the program doesn't run.
-//! Rows on which no step was made, and which frames are free.
+//! Part of the reading core, on which the program doesn't run. Rows on which no step was made, and which frames are
+//! free.
 
 ghost use Rattle.std.specs.Prelude.{◌≡◌, ◌≤◌, ◌+◌, IfOk, All, vec_capacity, vec_len, replicate, false};
 ghost use Rattle.step_rules.specs.State.{at_boot, free_in};
@@ -14,7 +14,7 @@ use group_tree::tree::Tree;
 use std::alloc::{AllocError, Global};
 use step_rules::phase::{Hold, Phase};
 
-/// Seats that have nothing, the zone's own and one for each processor.
+/// Seats that have nothing, the zone's own and one for each CPU.
 fn new_seats(alloc: Global, frames: u32, cpus: u32) -> Result<Vec<Seat>, AllocError>
     requires { cpus ≤ 64 }
     ensures number { IfOk result (λ seats. vec_len seats ≡ cpus + 1) }
@@ -30,7 +30,7 @@ fn new_seats(alloc: Global, frames: u32, cpus: u32) -> Result<Vec<Seat>, AllocEr
     Ok(seats)
 }
 
-/// As many phases as the zone has frames, all in the zone.
+/// A phase for each frame of the zone, all free.
 fn new_phases(alloc: Global, frames: usize) -> Result<Vec<Phase>, AllocError>
     ensures items { IfOk result (λ phases. phases.items ≡ replicate frames Phase.InZone) }
     ensures number { IfOk result (λ phases. vec_len phases ≡ frames) }
@@ -55,8 +55,8 @@ fn new_counts(alloc: Global) -> Result<Vec<u128>, AllocError>
 }
 
 impl Rows {
-    /// Rows of so many frames and processors: all frames are free, the root is alone, and the lock is free. All room
-    /// that a step needs is reserved here.
+    /// Rows of this many frames and CPUs: all frames are free, the root is the only group, and the lock is free. All
+    /// room that a step needs is reserved here.
     pub fn new(alloc: Global, frames: u32, cpus: u32) -> Result<Rows, AllocError>
         requires frames { frames ≤ 1048576 }
         requires cpus { cpus ≤ 64 }
@@ -80,7 +80,7 @@ impl Rows {
         })
     }
 
-    /// Tells for each frame whether it is free.
+    /// Writes for each frame whether it is free.
     pub fn mark_free(&self, free: &mut Vec<bool>)
         requires room { self.now.frames ≤ vec_capacity free.old }
         ensures flags { free.new.items ≡ free_in (state_in self.now).zone (state_in self.now).phases }

@@ -1,12 +1,11 @@
-//! Of the reading core, on which the program doesn't run.
-//! Tests on who holds the lock.
+//! Part of the reading core, on which the program doesn't run. Tests on who holds the lock.
 
 ghost use Rattle.std.specs.Prelude.{◌≡◌};
 ghost use Rattle.step_rules.specs.State.{is_unheld, is_held_by, visits, may_zone_act};
 
 use step_rules::phase::Hold;
 
-/// The seat of the zone itself, which acts while a processor holds the lock.
+/// The zone's own seat, which acts while a CPU holds the lock.
 pub const ZONE_SEAT: u32 = 0;
 
 /// The lock is free.
@@ -20,7 +19,7 @@ pub fn is_unheld(hold: Hold) -> bool
     }
 }
 
-/// The processor holds the lock, and doesn't visit.
+/// The CPU holds the lock, and its visit isn't open.
 pub fn is_held_by(hold: Hold, cpu: u32) -> bool
     ensures { result ≡ is_held_by cpu hold }
 {
@@ -31,7 +30,7 @@ pub fn is_held_by(hold: Hold, cpu: u32) -> bool
     }
 }
 
-/// The processor visits: it holds the lock, and its visit is open.
+/// The CPU holds the lock, and its visit is open.
 pub fn visits(hold: Hold, cpu: u32) -> bool
     ensures { result ≡ visits cpu hold }
 {
@@ -42,7 +41,7 @@ pub fn visits(hold: Hold, cpu: u32) -> bool
     }
 }
 
-/// The zone's own seat acts: a processor holds the lock.
+/// The seat is the zone's own, and a CPU holds the lock.
 pub fn may_zone_act(hold: Hold, seat: u32) -> bool
     ensures { result ≡ may_zone_act hold seat }
 {

@@ -1,5 +1,5 @@
-//! Of the reading core, on which the program doesn't run.
-//! Tests on the phase of a frame, and how a step moves it on.
+//! Part of the reading core, on which the program doesn't run. Tests on the phase of a frame, and how a step changes
+//! it.
 
 ghost use Rattle.std.specs.Prelude.{◌≡◌};
 ghost use Rattle.step_rules.specs.Phases.{ListFrame, FreshFrame, BackFrame, has_as, is_free, is_head, is_head_in_hand, is_passing, is_stage_in_hand};
@@ -46,7 +46,7 @@ pub fn keeper_of(phase: Phase) -> Option<GroupId>
     }
 }
 
-/// The frame is on the processor's list.
+/// The frame is on the CPU's list.
 pub fn is_listed_at(phase: Phase, at: u32) -> bool
     ensures { result ≡ has_as ListFrame at phase }
 {
@@ -69,7 +69,7 @@ pub fn is_listed_at(phase: Phase, at: u32) -> bool
     }
 }
 
-/// The frame is fresh at the processor.
+/// The frame is fresh at the CPU.
 pub fn is_fresh_at(phase: Phase, at: u32) -> bool
     ensures { result ≡ has_as FreshFrame at phase }
 {
@@ -96,7 +96,7 @@ fn is_stage_fresh(stage: Stage, at: u32) -> bool
     }
 }
 
-/// The frame is a back frame of the processor.
+/// The frame is a back frame of the CPU.
 pub fn is_back_at(phase: Phase, at: u32) -> bool
     ensures { result ≡ has_as BackFrame at phase }
 {
@@ -123,7 +123,7 @@ fn is_stage_back(stage: Stage, at: u32) -> bool
     }
 }
 
-/// The frame passes out to the processor.
+/// The frame is in transit to the CPU.
 pub fn passes_out(phase: Phase, to: u32) -> bool
     ensures { result ≡ passes_out to phase }
 {
@@ -146,7 +146,7 @@ pub fn passes_out(phase: Phase, to: u32) -> bool
     }
 }
 
-/// The frame passes back from the processor.
+/// The frame is in transit back from the CPU.
 pub fn passes_back(phase: Phase, from: u32) -> bool
     ensures { result ≡ passes_back from phase }
 {
@@ -184,7 +184,7 @@ fn stage_passes_back(stage: Stage, from: u32) -> bool
     }
 }
 
-/// The frame passes between the zone and a processor.
+/// The frame is in transit between the zone and a CPU.
 pub fn is_passing(phase: Phase) -> bool
     ensures { result ≡ is_passing phase }
 {
@@ -249,7 +249,7 @@ fn is_stage_in_hand(stage: Stage) -> bool
     }
 }
 
-/// A unit at this stage, of a group that is killed or not, may come back.
+/// A unit at this stage may be returned, given whether its group is killed.
 pub fn may_stage_return(is_killed: bool, stage: Stage) -> bool
     ensures { result ≡ may_stage_return is_killed stage }
 {
@@ -265,7 +265,7 @@ pub fn may_stage_return(is_killed: bool, stage: Stage) -> bool
     }
 }
 
-/// The same unit at another stage.
+/// The same unit, at another stage.
 pub fn at_stage(new: Stage, phase: Phase) -> Phase
     ensures { result ≡ at_stage new phase }
 {
@@ -340,7 +340,7 @@ fn stage_collected(stage: Stage) -> Stage
     }
 }
 
-/// How many frames come back with this one.
+/// How many frames are returned together with this one.
 pub fn unit_size(phase: Phase) -> u32
     ensures { result ≡ unit_size (unit_of phase) }
 {

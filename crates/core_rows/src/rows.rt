@@ -1,5 +1,4 @@
-//! Of the reading core, on which the program doesn't run.
-//! The rows of the core: what stands behind the zone's lock.
+//! Part of the reading core, on which the program doesn't run. The rows of the core: what is behind the zone's lock.
 
 ghost use Rattle.std.specs.Prelude.{◌≡◌, ◌+◌, ◌-◌, ◌<◌, ◌≤◌, ◌^◌, Some, None, MatchOption, IfOk, length, vec_len};
 ghost use Rattle.std.specs.List.{slice_get};
@@ -17,12 +16,12 @@ use group_tree::group::GroupId;
 use group_tree::tree::Tree;
 use step_rules::phase::{Hold, Phase};
 
-/// What stands behind the zone's lock, as plain lists and numbers.
+/// What is behind the zone's lock, as plain lists and numbers.
 #[derive(Drop)]
 pub struct Rows {
     /// Frames of the zone, numbered from 0.
     pub frames: u32,
-    /// Processors, with the seats from 1 on.
+    /// CPUs, with the seats from 1 on.
     pub cpus: u32,
     /// Who holds the lock.
     pub hold: Hold,
@@ -32,28 +31,28 @@ pub struct Rows {
     pub killed: Vec<bool>,
     /// The phase of each frame.
     pub phases: Vec<Phase>,
-    /// What is kept of each seat: the zone's own is the first.
+    /// What is kept of each seat; the zone's own is the first.
     pub seats: Vec<Seat>,
     /// For each group number the pages that are pending.
     pub pending: Vec<u128>,
 }
 
 impl Rows {
-    /// The seat is that of a processor.
+    /// The seat is that of a CPU.
     pub fn is_cpu(&self, seat: u32) -> bool
         ensures { result ≡ is_cpu (state_in self.now).zone seat }
     {
         1 <= seat && seat <= self.cpus
     }
 
-    /// The frame is there.
+    /// The frame is one of the zone.
     pub fn is_frame(&self, frame: u32) -> bool
         ensures { result ≡ is_frame (state_in self.now).zone frame }
     {
         frame < self.frames
     }
 
-    /// The phase of a frame; of none that is there, InZone.
+    /// The phase of a frame; InZone if the zone doesn't have it.
     #[tactic(auto, using(crate::proofs::Looking::past_default))]
     pub fn phase(&self, frame: u32) -> Phase
         ensures { result ≡ (state_in self.now).phases frame }
@@ -87,7 +86,7 @@ impl Rows {
         }
     }
 
-    /// What is kept of a seat, if it is there.
+    /// What is kept of a seat, if it exists.
     #[tactic(auto, using(crate::proofs::Looking::got, std::proofs::lemmas::Option::slice_get_past))]
     pub fn seat(&self, seat: u32) -> Option<&Seat>
         ensures { MatchOption result (slice_get self.now.seats.items seat ≡ None) (λ s. slice_get self.now.seats.items seat ≡ Some s.now) }
@@ -116,7 +115,7 @@ impl Rows {
         }
     }
 
-    /// The front of a processor's list; of an empty one, 0.
+    /// The front of a CPU's list, or 0 if the list is empty.
     pub fn front(&self, cpu: u32) -> u32
         ensures { result ≡ front_of ((state_in self.now).parts cpu).list }
     {
@@ -126,7 +125,7 @@ impl Rows {
         }
     }
 
-    /// How many frames are on a processor's list.
+    /// How many frames are on a CPU's list.
     pub fn list_len(&self, cpu: u32) -> usize
         ensures { result ≡ length ((state_in self.now).parts cpu).list }
     {
@@ -136,7 +135,7 @@ impl Rows {
         }
     }
 
-    /// How many fresh frames a processor has.
+    /// How many fresh frames a CPU has.
     pub fn fresh_len(&self, cpu: u32) -> usize
         ensures { result ≡ length ((state_in self.now).parts cpu).fresh }
     {
@@ -146,7 +145,7 @@ impl Rows {
         }
     }
 
-    /// How many back frames a processor has.
+    /// How many back frames a CPU has.
     pub fn back_len(&self, cpu: u32) -> usize
         ensures { result ≡ length ((state_in self.now).parts cpu).back }
     {
@@ -156,7 +155,7 @@ impl Rows {
         }
     }
 
-    /// The group of the last fill of a processor's stock.
+    /// The group of the last fill of a CPU's stock.
     pub fn stock_group(&self, cpu: u32) -> Option<GroupId>
         ensures { result ≡ ((state_in self.now).parts cpu).stock.group }
     {
@@ -166,7 +165,7 @@ impl Rows {
         }
     }
 
-    /// The pages of a processor's stock.
+    /// The pages of a CPU's stock.
     pub fn stock_pages(&self, cpu: u32) -> u128
         ensures { result ≡ ((state_in self.now).parts cpu).stock.pages }
     {
@@ -176,7 +175,7 @@ impl Rows {
         }
     }
 
-    /// Whether a processor's stock was drained since its last fill.
+    /// Whether a CPU's stock was drained since its last fill.
     pub fn is_drained(&self, cpu: u32) -> bool
         ensures { result ≡ ((state_in self.now).parts cpu).stock.is_drained }
     {
@@ -186,7 +185,7 @@ impl Rows {
         }
     }
 
-    /// A processor's book: the pages filled for it and neither drained nor absorbed.
+    /// A CPU's book: the pages filled for it and neither drained nor absorbed.
     pub fn book(&self, cpu: u32) -> u128
         ensures { result ≡ ((state_in self.now).parts cpu).book }
     {
@@ -196,7 +195,7 @@ impl Rows {
         }
     }
 
-    /// The pages of a processor's fresh frames that it passed back and didn't report.
+    /// The pages of fresh frames that a CPU passed back and didn't report.
     pub fn unreported(&self, cpu: u32) -> u128
         ensures { result ≡ ((state_in self.now).parts cpu).unreported }
     {
@@ -206,7 +205,7 @@ impl Rows {
         }
     }
 
-    /// The pages that a processor reported and that aren't absorbed.
+    /// The pages that a CPU reported and that aren't absorbed.
     pub fn reported(&self, cpu: u32) -> u128
         ensures { result ≡ ((state_in self.now).parts cpu).reported }
     {
@@ -216,7 +215,7 @@ impl Rows {
         }
     }
 
-    /// The frames on a processor's list, the front first.
+    /// The frames on a CPU's list, the front first.
     pub fn list(&self, cpu: u32) -> &[u32]
         ensures { result.now ≡ ((state_in self.now).parts cpu).list }
     {
@@ -226,7 +225,7 @@ impl Rows {
         }
     }
 
-    /// A processor's fresh frames, the oldest first.
+    /// A CPU's fresh frames, the oldest first.
     pub fn fresh(&self, cpu: u32) -> &[u32]
         ensures { result.now ≡ ((state_in self.now).parts cpu).fresh }
     {
@@ -236,7 +235,7 @@ impl Rows {
         }
     }
 
-    /// A processor's back frames, the oldest first.
+    /// A CPU's back frames, the oldest first.
     pub fn back(&self, cpu: u32) -> &[u32]
         ensures { result.now ≡ ((state_in self.now).parts cpu).back }
     {
@@ -246,7 +245,7 @@ impl Rows {
         }
     }
 
-    /// Who holds the lock.
+    /// Sets who holds the lock.
     pub fn set_hold(&mut self, hold: Hold)
         requires fits { FitsZone self.old }
         ensures state { state_in self.new ≡ record (state_in self.old) { hold = hold } }
@@ -255,7 +254,7 @@ impl Rows {
         self.hold = hold;
     }
 
-    /// A frame is in another phase.
+    /// Sets the phase of a frame.
     pub fn set_phase(&mut self, frame: u32, phase: Phase)
         requires fits { FitsZone self.old }
         requires there { frame < self.old.frames }
@@ -265,7 +264,7 @@ impl Rows {
         self.phases[frame as usize] = phase;
     }
 
-    /// So many pages are pending for a group.
+    /// Sets the pages pending for a group.
     pub fn set_pending(&mut self, group: GroupId, pages: u128)
         requires fits { FitsZone self.old }
         ensures state { state_in self.new ≡ with_pending (state_in self.old) group pages }
@@ -274,7 +273,7 @@ impl Rows {
         self.pending[group.number() as usize] = pages;
     }
 
-    /// Whether a group is killed.
+    /// Sets whether a group is killed.
     pub fn set_killed(&mut self, group: GroupId, is_killed: bool)
         requires fits { FitsZone self.old }
         ensures state { state_in self.new ≡ record (state_in self.old) { killed = with_at (state_in self.old).killed group is_killed } }
@@ -283,7 +282,7 @@ impl Rows {
         self.killed[group.number() as usize] = is_killed;
     }
 
-    /// A seat has so many references on a frame.
+    /// Sets the references of a seat on a frame.
     pub fn set_references(&mut self, seat: u32, frame: u32, count: u32)
         requires fits { FitsZone self.old }
         requires seat { seat ≤ self.old.cpus }
@@ -294,7 +293,7 @@ impl Rows {
         set_count(&mut self.seats[seat as usize], frame, count);
     }
 
-    /// A frame is at the end of a processor's list.
+    /// Puts a frame at the end of a CPU's list.
     pub fn put_on_list(&mut self, cpu: u32, frame: u32)
         requires fits { FitsZone self.old }
         requires cpu { cpu ≤ self.old.cpus }
@@ -305,7 +304,7 @@ impl Rows {
         list_frame(&mut self.seats[cpu as usize], frame);
     }
 
-    /// A frame is on none of a processor's lists; a page of a fresh one is to be reported.
+    /// Removes a frame from all of a CPU's lists; if it was fresh, one more page is unreported.
     pub fn take_from_lists(&mut self, cpu: u32, frame: u32, was_fresh: bool)
         requires fits { FitsZone self.old }
         requires cpu { cpu ≤ self.old.cpus }
@@ -316,7 +315,7 @@ impl Rows {
         drop_frame(&mut self.seats[cpu as usize], frame, was_fresh);
     }
 
-    /// The front of a processor's list is fresh, paid with one page of its stock.
+    /// Makes the front of a CPU's list fresh, paid with one page of its stock.
     pub fn pay(&mut self, cpu: u32)
         requires fits { FitsZone self.old }
         requires cpu { cpu ≤ self.old.cpus }
@@ -329,7 +328,7 @@ impl Rows {
         pay_front(&mut self.seats[cpu as usize]);
     }
 
-    /// A fresh frame is at the end of a processor's list, and its page in its stock.
+    /// Moves a fresh frame to the end of a CPU's list, and its page into the stock.
     pub fn take_credit(&mut self, cpu: u32, frame: u32)
         requires fits { FitsZone self.old }
         requires cpu { cpu ≤ self.old.cpus }
@@ -341,7 +340,7 @@ impl Rows {
         credit_frame(&mut self.seats[cpu as usize], frame);
     }
 
-    /// A frame is at the end of a processor's back frames.
+    /// Puts a frame at the end of a CPU's back frames.
     pub fn put_back(&mut self, cpu: u32, frame: u32)
         requires fits { FitsZone self.old }
         requires cpu { cpu ≤ self.old.cpus }
@@ -352,7 +351,7 @@ impl Rows {
         keep_back(&mut self.seats[cpu as usize], frame);
     }
 
-    /// A processor reports so many pages.
+    /// Reports this many of a CPU's unreported pages.
     pub fn note_report(&mut self, cpu: u32, pages: u32)
         requires fits { FitsZone self.old }
         requires cpu { cpu ≤ self.old.cpus }
@@ -364,7 +363,7 @@ impl Rows {
         report_pages(&mut self.seats[cpu as usize], pages);
     }
 
-    /// What a processor reported is taken off its book.
+    /// Takes the pages that a CPU reported off its book, and returns how many they are.
     pub fn take_report(&mut self, cpu: u32) -> u128
         requires fits { FitsZone self.old }
         requires cpu { cpu ≤ self.old.cpus }
@@ -376,7 +375,7 @@ impl Rows {
         absorb_pages(&mut self.seats[cpu as usize])
     }
 
-    /// So many pages are filled into a processor's stock, for a group.
+    /// Fills this many pages into a CPU's stock, for a group.
     pub fn put_in_stock(&mut self, cpu: u32, group: GroupId, pages: u32)
         requires fits { FitsZone self.old }
         requires cpu { cpu ≤ self.old.cpus }
@@ -387,7 +386,7 @@ impl Rows {
         fill_stock(&mut self.seats[cpu as usize], group, pages);
     }
 
-    /// All pages are drained from a processor's stock.
+    /// Drains all pages from a CPU's stock, and returns how many they are.
     pub fn empty_stock(&mut self, cpu: u32) -> u128
         requires fits { FitsZone self.old }
         requires cpu { cpu ≤ self.old.cpus }

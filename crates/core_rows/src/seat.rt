@@ -1,5 +1,4 @@
-//! Of the reading core, on which the program doesn't run.
-//! What is kept of one seat.
+//! Part of the reading core, on which the program doesn't run. What is kept of one seat.
 
 ghost use Rattle.std.specs.Prelude.{◌≡◌, ◌+◌, ◌-◌, ◌<◌, ◌≤◌, ◌^◌, IfOk, vec_len, vec_capacity, length, replicate, slice_set};
 ghost use Rattle.step_rules.specs.State.{no_part, without};
@@ -10,12 +9,12 @@ ghost use Rattle.core_rows.specs.Rooms.{HasRoom, HasRooms, KeepsRoom};
 use group_tree::group::GroupId;
 use std::alloc::{AllocError, Global};
 
-/// What is kept of one seat: the zone's own, or a processor's.
+/// What is kept of one seat: the zone's own, or a CPU's.
 #[derive(Drop)]
 pub struct Seat {
     /// References, for each frame.
     pub references: Vec<u32>,
-    /// The frames on the processor's list, the front first.
+    /// The frames on the CPU's list, the front first.
     pub list: Vec<u32>,
     /// The fresh frames, the oldest first.
     pub fresh: Vec<u32>,
@@ -29,13 +28,13 @@ pub struct Seat {
     pub is_drained: bool,
     /// Pages filled and neither drained nor absorbed.
     pub book: u128,
-    /// Pages of fresh frames that were passed back, and not reported.
+    /// Pages of fresh frames that were passed back and not reported.
     pub unreported: u128,
-    /// Pages that were reported, and not absorbed.
+    /// Pages that were reported and not absorbed.
     pub reported: u128,
 }
 
-// The frames without this one.
+// Removes this frame from the list.
 fn take_out(frames: &mut Vec<u32>, frame: u32)
     ensures frames { frames.new.items ≡ without frame frames.old.items }
     ensures room { vec_capacity frames.new ≡ vec_capacity frames.old }
@@ -43,7 +42,7 @@ fn take_out(frames: &mut Vec<u32>, frame: u32)
     frames.retain(|x| *x != frame);
 }
 
-/// The seat has so many references on a frame.
+/// Sets the references of the seat on a frame.
 pub(crate) fn set_count(seat: &mut Seat, frame: u32, count: u32)
     requires there { frame < vec_len seat.old.references }
     ensures part { part_in seat.new ≡ part_in seat.old }
@@ -63,7 +62,7 @@ pub(crate) fn list_frame(seat: &mut Seat, frame: u32)
     seat.list.push_reserved(frame);
 }
 
-/// Takes a frame out of the list, the fresh and the back frames; a page of a fresh one is to be reported.
+/// Removes a frame from the list, the fresh and the back frames; if it was fresh, one more page is unreported.
 pub(crate) fn drop_frame(seat: &mut Seat, frame: u32, was_fresh: bool)
     requires few { seat.old.unreported < 2 ^ 100 }
     ensures part { part_in seat.new ≡ taken_off (part_in seat.old) frame was_fresh }
@@ -77,7 +76,7 @@ pub(crate) fn drop_frame(seat: &mut Seat, frame: u32, was_fresh: bool)
     }
 }
 
-/// The front of the list is fresh, paid with one page of the stock.
+/// Makes the front of the list fresh, paid with one page of the stock.
 pub(crate) fn pay_front(seat: &mut Seat)
     requires some { 1 ≤ length seat.old.list.items }
     requires page { 1 ≤ seat.old.pages }
@@ -91,7 +90,7 @@ pub(crate) fn pay_front(seat: &mut Seat)
     seat.pages -= 1;
 }
 
-/// A fresh frame is at the end of the list, and its page in the stock.
+/// Moves a fresh frame to the end of the list, and its page into the stock.
 pub(crate) fn credit_frame(seat: &mut Seat, frame: u32)
     requires room { length seat.old.list.items < vec_capacity seat.old.list }
     requires few { seat.old.pages < 2 ^ 100 }
@@ -112,7 +111,7 @@ pub(crate) fn keep_back(seat: &mut Seat, frame: u32)
     seat.back.push_reserved(frame);
 }
 
-/// So many pages are reported.
+/// Reports this many of the unreported pages.
 pub(crate) fn report_pages(seat: &mut Seat, pages: u32)
     requires enough { pages ≤ seat.old.unreported }
     requires few { seat.old.reported < 2 ^ 100 }
@@ -123,7 +122,7 @@ pub(crate) fn report_pages(seat: &mut Seat, pages: u32)
     seat.reported += u128::from(pages);
 }
 
-/// What was reported is taken off the book, and told.
+/// Takes the reported pages off the book, and returns how many they are.
 pub(crate) fn absorb_pages(seat: &mut Seat) -> u128
     requires booked { seat.old.reported ≤ seat.old.book }
     ensures pages { result ≡ seat.old.reported }
@@ -136,7 +135,7 @@ pub(crate) fn absorb_pages(seat: &mut Seat) -> u128
     pages
 }
 
-/// So many pages are filled into the stock, for this group.
+/// Fills this many pages into the stock, for this group.
 pub(crate) fn fill_stock(seat: &mut Seat, group: GroupId, pages: u32)
     requires few { seat.old.book < 2 ^ 100 }
     ensures part { part_in seat.new ≡ filled (part_in seat.old) group pages }
@@ -148,7 +147,7 @@ pub(crate) fn fill_stock(seat: &mut Seat, group: GroupId, pages: u32)
     seat.book += u128::from(pages);
 }
 
-/// All pages are drained from the stock, and told.
+/// Drains all pages from the stock, and returns how many they are.
 pub(crate) fn drain_pages(seat: &mut Seat) -> u128
     requires booked { seat.old.pages ≤ seat.old.book }
     ensures pages { result ≡ seat.old.pages }
@@ -162,7 +161,7 @@ pub(crate) fn drain_pages(seat: &mut Seat) -> u128
     pages
 }
 
-/// A seat that has nothing, with room for so many frames.
+/// A seat that has nothing, with room for this many frames.
 pub(crate) fn new_seat(alloc: Global, frames: u32) -> Result<Seat, AllocError>
     ensures part { IfOk result (λ s. part_in s ≡ no_part) }
     ensures none { IfOk result (λ s. s.references.items ≡ replicate frames 0) }

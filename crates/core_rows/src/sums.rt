@@ -1,5 +1,4 @@
-//! Of the reading core, on which the program doesn't run.
-//! Sums and tests over all frames, seats and groups.
+//! Part of the reading core, on which the program doesn't run. Sums and tests over all frames, seats and groups.
 
 ghost use Rattle.std.specs.Prelude.{◌≡◌, ◌+◌, ◌*◌, ◌^◌, ◌<◌, ◌≤◌, length, IfNone, IfSome, IsTrue, true, if◌then◌else◌};
 ghost use Rattle.group_tree.specs.Groups.{has_group, in_subtree};
@@ -14,7 +13,7 @@ use crate::phases::{is_passing, keeper_of, passes_back, passes_out};
 use crate::rows::Rows;
 use group_tree::group::GroupId;
 
-/// Whether there is a group, and it is this one: that of a stock.
+/// Whether the stock is of a group, and of this one.
 pub fn is_of_group(stock: Option<GroupId>, group: GroupId) -> bool
     ensures { result ≡ is_of_group stock group }
 {
@@ -39,7 +38,7 @@ impl Rows {
         sum
     }
 
-    /// The references of a seat on all frames: a processor's are its pins.
+    /// The references of a seat on all frames; a CPU's are its pins.
     #[tactic(auto, using(crate::proofs::Adding::sum_start, crate::proofs::Adding::sum_next))]
     pub fn pins(&self, seat: u32) -> u32
         requires fits { FitsZone self.now }
@@ -54,14 +53,14 @@ impl Rows {
         sum
     }
 
-    /// The frame does not pass for the processor.
+    /// The frame is not in transit to or from the CPU.
     fn rests(&self, cpu: u32, frame: u32) -> bool
         ensures { result ≡ rests (state_in self.now) cpu frame }
     {
         !passes_out(self.phase(frame), cpu) && !passes_back(self.phase(frame), cpu)
     }
 
-    /// No frame passes for the processor.
+    /// No frame is in transit to or from the CPU.
     #[tactic(auto, using(crate::proofs::Adding::all_is, crate::proofs::Adding::all_not))]
     pub fn nothing_passes(&self, cpu: u32) -> bool
         ensures { result ≡ nothing_passes (state_in self.now) cpu }
@@ -74,7 +73,7 @@ impl Rows {
         true
     }
 
-    /// No frame passes for any processor.
+    /// No frame is in transit.
     #[tactic(auto, using(crate::proofs::Adding::all_is, crate::proofs::Adding::all_not))]
     pub fn no_frame_passes(&self) -> bool
         ensures { result ≡ no_frame_passes (state_in self.now) }
@@ -101,7 +100,7 @@ impl Rows {
         true
     }
 
-    /// The number, if there is one, is that of a group of the subtree.
+    /// There is a group, and it is in the subtree.
     pub fn is_below(&self, group: GroupId, keeper: Option<GroupId>) -> bool
         ensures { result ≡ is_below self.now.tree group keeper }
     {
@@ -111,7 +110,7 @@ impl Rows {
         }
     }
 
-    /// The second group is the first or lies below it: both are there.
+    /// The second group is the first or below it, and both exist.
     #[tactic(auto, using(crate::proofs::Adding::above_there, crate::proofs::Adding::below_there))]
     pub fn in_subtree(&self, group: GroupId, below: GroupId) -> bool
         ensures { result ≡ in_subtree self.now.tree group below }
@@ -122,7 +121,7 @@ impl Rows {
         self.tree.in_subtree(group, below)
     }
 
-    // The frames that the group's subtree keeps.
+    // How many frames the group's subtree keeps.
     #[tactic(auto, using(crate::proofs::Adding::sum_start, crate::proofs::Adding::sum_next))]
     fn frames_kept(&self, group: GroupId) -> u128
         requires fits { FitsZone self.now }
@@ -138,7 +137,7 @@ impl Rows {
         sum
     }
 
-    // The pages of a processor's stock, where that is of a group of the subtree.
+    // The pages of a CPU's stock, if the stock is of a group of the subtree.
     fn stock_below(&self, group: GroupId, cpu: u32) -> u128
         requires few { IsFew (state_in self.now) }
         ensures pages { result ≡ stock_below self.now.tree group ((state_in self.now).parts cpu) }
@@ -166,7 +165,7 @@ impl Rows {
         sum
     }
 
-    // The pages that are pending for one group, where that is of the subtree.
+    // The pages pending for one group, if it is in the subtree.
     fn pending_below(&self, group: GroupId, number: u32) -> u128
         requires number { number < 64 }
         requires few { IsFew (state_in self.now) }
@@ -185,7 +184,7 @@ impl Rows {
         }
     }
 
-    // The pages that are pending for the subtree's groups.
+    // The pages pending for the subtree's groups.
     #[tactic(auto, using(crate::proofs::Adding::sum_start, crate::proofs::Adding::sum_next))]
     fn pages_pending(&self, group: GroupId) -> u128
         requires few { IsFew (state_in self.now) }
@@ -209,7 +208,7 @@ impl Rows {
         self.frames_kept(group) + self.pages_prepaid(group) + self.pages_pending(group)
     }
 
-    // Whether the usage with so many pages more is at most the group's own limit.
+    // Whether the usage with this many more pages is at most the group's own limit.
     fn has_room(&self, group: GroupId, pages: u32) -> bool
         requires fits { FitsZone self.now }
         requires few { IsFew (state_in self.now) }
@@ -230,7 +229,7 @@ impl Rows {
         ensures none { IfNone result (PathHasRoom self.now.tree (usage_of (state_in self.now)) group pages) }
         ensures some { IfSome result (IsLowestOver self.now.tree (usage_of (state_in self.now)) group pages) }
     {
-        // They are the groups of a tree.
+        // This shows that they are the groups of a tree.
         let _ = self.tree.groups();
         for above in self.tree.ancestors(group) {
             if !self.has_room(above, pages) {

@@ -1,5 +1,4 @@
-//! Of the reading core, on which the program doesn't run.
-//! Blocks that are placed, and units that come back.
+//! Part of the reading core, on which the program doesn't run. Blocks that are placed, and units that are returned.
 
 ghost use Rattle.std.specs.Prelude.{◌≡◌, ◌+◌, ◌<◌, ◌≤◌, ◌^◌, ◌++◌, true, IfNone, IfSome, take, drop, replicate, vec_len};
 ghost use Rattle.zone_blocks.specs.declared.block.Block.{Block};
@@ -30,7 +29,7 @@ fn set_range(phases: &mut Vec<Phase>, at: usize, n: usize, phase: Phase)
     phases[at..at + n].fill(phase);
 }
 
-/// The frames of a block head and follow a unit of a group, which is newly placed.
+/// Makes the frames of a block a newly placed unit of a group: the first its head, the others its tails.
 fn set_unit(rows: &mut Rows, group: GroupId, block: &Block)
     requires fits { FitsZone rows.old }
     requires inside { block.now.at + 2 ^ block.now.order ≤ rows.old.frames }
@@ -54,7 +53,7 @@ fn set_unit(rows: &mut Rows, group: GroupId, block: &Block)
     };
 }
 
-/// The frames of a unit are free again.
+/// Frees the frames of a unit.
 fn free_unit(rows: &mut Rows, frame: u32)
     requires fits { FitsZone rows.old }
     requires there { frame < rows.old.frames }
@@ -67,7 +66,7 @@ fn free_unit(rows: &mut Rows, frame: u32)
     set_range(&mut rows.phases, frame as usize, n as usize, Phase::InZone);
 }
 
-/// Pending pages of a group are placed on the front of the smallest free area, where one has room.
+/// Places pending pages of a group on the front of the smallest sufficient free block, if there is one.
 pub(crate) fn place_block(
     rows: &mut Rows,
     areas: &FreeAreas,
@@ -92,7 +91,7 @@ pub(crate) fn place_block(
     }
 }
 
-/// The free block of the order that is placed next: the lower part of the smallest area.
+/// The free block of the order that is placed next: the front of the smallest sufficient free block.
 fn free_block(rows: &Rows, areas: &FreeAreas, order: Order) -> Option<Block>
     requires areas { AreMaximalBlocks (free_in (state_in rows.now).zone (state_in rows.now).phases) areas.now.blocks }
     ensures none { IfNone result ((b : Block) → b.order ≡ order → ¬ IsFreeBlock (free_in (state_in rows.now).zone (state_in rows.now).phases) b) }
@@ -104,7 +103,7 @@ fn free_block(rows: &Rows, areas: &FreeAreas, order: Order) -> Option<Block>
     Some(Block { at: area.at, order })
 }
 
-/// Pending pages of a group are placed on a free block.
+/// Places pending pages of a group on a free block.
 fn charge_block(rows: &mut Rows, group: GroupId, block: &Block)
     requires fits { FitsZone rows.old }
     requires free { IsFreeBlock (free_in (state_in rows.old).zone (state_in rows.old).phases) block.now }
@@ -117,7 +116,7 @@ fn charge_block(rows: &mut Rows, group: GroupId, block: &Block)
     set_unit(rows, group, block);
 }
 
-/// The frames of a unit come back.
+/// Returns the frames of a unit.
 pub(crate) fn return_unit(rows: &mut Rows, seat: u32, frame: u32) -> Answer
     requires fits { FitsZone rows.old }
     requires few { IsFew (state_in rows.old) }

@@ -1,5 +1,4 @@
-//! Of the reading core, on which the program doesn't run.
-//! Groups, their limits, their flags and their pages.
+//! Part of the reading core, on which the program doesn't run. Groups, their limits, their flags and their pages.
 
 ghost use Rattle.std.specs.Prelude.{◌≡◌, ◌≢◌, ◌+◌, ◌-◌, ◌<◌, ◌≤◌, ◌^◌, true, false, Some, length};
 ghost use Rattle.step_rules.specs.Legal.{is_legal};
@@ -12,7 +11,7 @@ use group_tree::group::GroupId;
 use group_tree::path::PathText;
 use step_rules::step::Answer;
 
-/// Pages are granted to a group, where the limits on its path have room for them.
+/// Grants pages to a group, if the limits on its path have room for them.
 pub(crate) fn grant(rows: &mut Rows, seat: u32, group: GroupId, pages: u32) -> Answer
     requires fits { FitsZone rows.old }
     requires few { IsFew (state_in rows.old) }
@@ -28,7 +27,7 @@ pub(crate) fn grant(rows: &mut Rows, seat: u32, group: GroupId, pages: u32) -> A
     Answer::Granted
 }
 
-/// Pending pages are taken back.
+/// Ungrants pending pages.
 pub(crate) fn ungrant(rows: &mut Rows, seat: u32, group: GroupId, pages: u32) -> Answer
     requires fits { FitsZone rows.old }
     requires few { IsFew (state_in rows.old) }
@@ -77,7 +76,7 @@ pub(crate) fn note_group_kill(rows: &mut Rows, seat: u32, group: GroupId) -> Ans
     Answer::Done
 }
 
-/// A group is given another limit.
+/// Gives a group another limit.
 pub(crate) fn set_max(rows: &mut Rows, seat: u32, group: GroupId, limit: Option<u32>) -> Answer
     requires fits { FitsZone rows.old }
     requires few { IsFew (state_in rows.old) }
@@ -89,7 +88,7 @@ pub(crate) fn set_max(rows: &mut Rows, seat: u32, group: GroupId, limit: Option<
     Answer::Done
 }
 
-/// The flag of a group is set: whether it is killed as a whole.
+/// Sets the flag of a group: whether it is killed as a whole.
 pub(crate) fn set_flag(rows: &mut Rows, seat: u32, group: GroupId, oom_group: bool) -> Answer
     requires fits { FitsZone rows.old }
     requires few { IsFew (state_in rows.old) }
@@ -101,7 +100,7 @@ pub(crate) fn set_flag(rows: &mut Rows, seat: u32, group: GroupId, oom_group: bo
     Answer::Done
 }
 
-/// A group is made.
+/// Makes a group.
 pub(crate) fn make(rows: &mut Rows, seat: u32, path: &PathText) -> Answer
     requires fits { FitsZone rows.old }
     requires few { IsFew (state_in rows.old) }
@@ -114,7 +113,7 @@ pub(crate) fn make(rows: &mut Rows, seat: u32, path: &PathText) -> Answer
     Answer::Number(group)
 }
 
-/// A group is taken out.
+/// Removes a group.
 pub(crate) fn remove(rows: &mut Rows, seat: u32, group: GroupId) -> Answer
     requires fits { FitsZone rows.old }
     requires few { IsFew (state_in rows.old) }
@@ -126,7 +125,7 @@ pub(crate) fn remove(rows: &mut Rows, seat: u32, group: GroupId) -> Answer
     Answer::Done
 }
 
-/// A group is killed.
+/// Kills a group.
 pub(crate) fn kill(rows: &mut Rows, seat: u32, group: GroupId) -> Answer
     requires fits { FitsZone rows.old }
     requires few { IsFew (state_in rows.old) }

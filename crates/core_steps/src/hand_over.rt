@@ -1,5 +1,4 @@
-//! Of the reading core, on which the program doesn't run.
-//! Frames that pass between the zone and a processor.
+//! Part of the reading core, on which the program doesn't run. Frames that are handed over between the zone and a CPU.
 
 ghost use Rattle.std.specs.Prelude.{◌≡◌, ◌≢◌, ◌+◌, ◌-◌, ◌<◌, ◌≤◌, ◌^◌, true, false, Some, length};
 ghost use Rattle.step_rules.specs.Legal.{is_legal};
@@ -12,7 +11,7 @@ use core_rows::rows::Rows;
 use step_rules::phase::{Phase, Way};
 use step_rules::step::Answer;
 
-/// The zone passes a free frame to the processor.
+/// The zone passes a free frame to the CPU.
 pub(crate) fn pass_out(rows: &mut Rows, seat: u32, frame: u32, cpu: u32) -> Answer
     requires fits { FitsZone rows.old }
     requires few { IsFew (state_in rows.old) }
@@ -30,7 +29,7 @@ pub(crate) fn pass_out(rows: &mut Rows, seat: u32, frame: u32, cpu: u32) -> Answ
     Answer::Done
 }
 
-/// The processor takes it to the end of its list.
+/// The CPU takes the frame to the end of its list.
 pub(crate) fn take_in(rows: &mut Rows, seat: u32, frame: u32) -> Answer
     requires fits { FitsZone rows.old }
     requires few { IsFew (state_in rows.old) }
@@ -48,7 +47,7 @@ pub(crate) fn take_in(rows: &mut Rows, seat: u32, frame: u32) -> Answer
     Answer::Done
 }
 
-/// The processor passes a frame back.
+/// The CPU passes a frame back.
 pub(crate) fn pass_back(rows: &mut Rows, seat: u32, frame: u32) -> Answer
     requires fits { FitsZone rows.old }
     requires few { IsFew (state_in rows.old) }
@@ -62,7 +61,7 @@ pub(crate) fn pass_back(rows: &mut Rows, seat: u32, frame: u32) -> Answer
     Answer::Done
 }
 
-/// The zone takes it.
+/// The zone takes a frame that was passed back.
 pub(crate) fn collect(rows: &mut Rows, seat: u32, frame: u32, cpu: u32) -> Answer
     requires fits { FitsZone rows.old }
     requires few { IsFew (state_in rows.old) }

@@ -1,6 +1,5 @@
-//! Of the reading core, on which the program doesn't run.
-//! Which steps may be made: `may_ACTION` for each line of the table; what several lines share stands below them, from
-//! `has_group` on.
+//! Part of the reading core, on which the program doesn't run. Which steps may be made: `may_ACTION` for each line of
+//! the table. What several lines share is below them, from `has_group` on.
 
 ghost use Rattle.std.specs.Prelude.{◌≡◌};
 ghost use Rattle.group_tree.specs.Groups.{has_group};
@@ -250,14 +249,14 @@ fn may_kill(rows: &Rows, seat: u32, group: GroupId) -> bool
     may_zone_act(rows.hold, seat) && has_group(rows, group) && !rows.is_killed(group)
 }
 
-// The group is there.
+// The group exists.
 fn has_group(rows: &Rows, group: GroupId) -> bool
     ensures { result ≡ has_group rows.now.tree group }
 {
     rows.tree.contains(group)
 }
 
-// The frame is the front of the processor's list, fresh, or a back frame there: `may_pass_back` of the rules.
+// The frame is the front of the CPU's list, a fresh frame there or a back frame there: `may_pass_back` of the rules.
 fn may_pass(rows: &Rows, cpu: u32, frame: u32) -> bool
     ensures { result ≡ may_pass_back (state_in rows.now) cpu frame }
 {
@@ -266,14 +265,14 @@ fn may_pass(rows: &Rows, cpu: u32, frame: u32) -> bool
         || is_back_at(rows.phase(frame), cpu)
 }
 
-// The stock has no page, and the book is 0 or of the group: `may_fill` of the rules.
+// The stock has no page, and the book is 0 or the stock is of the group: `may_fill` of the rules.
 fn may_take_fill(rows: &Rows, cpu: u32, group: GroupId) -> bool
     ensures { result ≡ may_fill ((state_in rows.now).parts cpu) group }
 {
     rows.stock_pages(cpu) == 0 && (rows.book(cpu) == 0 || is_of_group(rows.stock_group(cpu), group))
 }
 
-// The frame heads a unit that may come back: `may_return` of the rules.
+// The frame heads a unit that may be returned: `may_return` of the rules.
 fn may_come_back(rows: &Rows, frame: u32) -> bool
     ensures { result ≡ may_return (state_in rows.now).killed ((state_in rows.now).phases frame) }
 {
@@ -285,7 +284,7 @@ fn may_come_back(rows: &Rows, frame: u32) -> bool
     }
 }
 
-// The group is there, is not the root, has none below it, and its usage is 0.
+// The group exists, isn't the root, has no child, and its usage is 0.
 fn is_removable(rows: &Rows, group: GroupId) -> bool
     requires fits { FitsZone rows.now }
     requires few { IsFew (state_in rows.now) }

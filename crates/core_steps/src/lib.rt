@@ -1,5 +1,5 @@
-//! Of the reading core, on which the program doesn't run.
-//! The 31 actions of the rules over the rows of the core: which may be made, what each is answered, and what it changes.
+//! Part of the reading core, on which the program doesn't run. The 31 actions of the rules over the rows of the core:
+//! which may be made, what each is answered, and what it changes.
 #![tactic(auto)]
 
 pub mod blocks;

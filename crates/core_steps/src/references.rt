@@ -1,5 +1,4 @@
-//! Of the reading core, on which the program doesn't run.
-//! References on frames.
+//! Part of the reading core, on which the program doesn't run. References on frames.
 
 ghost use Rattle.std.specs.Prelude.{◌≡◌, ◌≢◌, ◌+◌, ◌-◌, ◌<◌, ◌≤◌, ◌^◌, true, false, Some, length};
 ghost use Rattle.step_rules.specs.Legal.{is_legal};
@@ -13,7 +12,7 @@ use core_rows::rows::Rows;
 use step_rules::phase::Stage;
 use step_rules::step::Answer;
 
-/// A processor asks for one reference more.
+/// A CPU asks for one more reference.
 pub(crate) fn get(rows: &mut Rows, seat: u32, frame: u32) -> Answer
     requires fits { FitsZone rows.old }
     requires few { IsFew (state_in rows.old) }
@@ -33,7 +32,7 @@ pub(crate) fn get(rows: &mut Rows, seat: u32, frame: u32) -> Answer
     }
 }
 
-/// A seat gives one of its references up.
+/// A seat gives up one of its references.
 pub(crate) fn put(rows: &mut Rows, seat: u32, frame: u32) -> Answer
     requires fits { FitsZone rows.old }
     requires few { IsFew (state_in rows.old) }
@@ -53,7 +52,7 @@ pub(crate) fn put(rows: &mut Rows, seat: u32, frame: u32) -> Answer
     }
 }
 
-/// The zone gives the last reference up.
+/// The zone gives up the last reference.
 pub(crate) fn put_last(rows: &mut Rows, seat: u32, frame: u32) -> Answer
     requires fits { FitsZone rows.old }
     requires few { IsFew (state_in rows.old) }
@@ -70,7 +69,7 @@ pub(crate) fn put_last(rows: &mut Rows, seat: u32, frame: u32) -> Answer
     Answer::Last
 }
 
-/// A processor gives the last reference up, and has the frame as a back frame.
+/// A CPU gives up the last reference, and has the frame as a back frame.
 pub(crate) fn put_last_at(rows: &mut Rows, seat: u32, frame: u32) -> Answer
     requires fits { FitsZone rows.old }
     requires few { IsFew (state_in rows.old) }
@@ -87,7 +86,7 @@ pub(crate) fn put_last_at(rows: &mut Rows, seat: u32, frame: u32) -> Answer
     Answer::Last
 }
 
-/// The zone takes all references off a frame.
+/// The zone removes all references on a frame, if they are exactly this many.
 pub(crate) fn freeze(rows: &mut Rows, seat: u32, frame: u32, count: u32) -> Answer
     requires fits { FitsZone rows.old }
     requires few { IsFew (state_in rows.old) }
@@ -120,7 +119,7 @@ pub(crate) fn unfreeze(rows: &mut Rows, seat: u32, frame: u32, count: u32) -> An
     Answer::Done
 }
 
-/// The head of a unit is kept.
+/// The zone keeps the head of a unit; here that changes nothing.
 pub(crate) fn publish(rows: &mut Rows, seat: u32, frame: u32) -> Answer
     requires fits { FitsZone rows.old }
     requires few { IsFew (state_in rows.old) }

@@ -1,5 +1,4 @@
-//! Of the reading core, on which the program doesn't run.
-//! Every step, made where it is legal.
+//! Part of the reading core, on which the program doesn't run. Every step, made if it is legal.
 
 ghost use Rattle.std.specs.Prelude.{◌≡◌, ◌<◌, ◌^◌, true};
 ghost use Rattle.zone_blocks.specs.Areas.{AreMaximalBlocks};
@@ -23,7 +22,7 @@ use core_rows::rows::Rows;
 use step_rules::step::{Action, Answer, Step};
 use zone_blocks::areas::FreeAreas;
 
-/// Makes one step, where it is legal, and answers it. One that isn't is answered Illegal and changes nothing.
+/// Makes one step, if it is legal, and answers it. A step that isn't legal is answered Illegal and changes nothing.
 pub fn serve(rows: &mut Rows, areas: &FreeAreas, step: &Step) -> Answer
     requires fits { FitsZone rows.old }
     requires few { IsFew (state_in rows.old) }
@@ -85,7 +84,7 @@ fn make_step(rows: &mut Rows, areas: &FreeAreas, step: &Step) -> Answer
     }
 }
 
-/// The pages that a step asks for: to be granted, or filled into a stock.
+/// The pages that a step asks for: to be granted, or to be filled into a stock.
 pub fn pages_asked(action: &Action) -> u32
     ensures pages { result ≡ pages_asked action.now }
     ensures few { result < 2 ^ 32 }

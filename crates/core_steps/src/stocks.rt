@@ -1,5 +1,4 @@
-//! Of the reading core, on which the program doesn't run.
-//! Prepaid pages.
+//! Part of the reading core, on which the program doesn't run. Prepaid pages.
 
 ghost use Rattle.std.specs.Prelude.{◌≡◌, ◌≢◌, ◌+◌, ◌-◌, ◌<◌, ◌≤◌, ◌^◌, true, false, ℕ, Some, length};
 ghost use Rattle.step_rules.specs.After.{with_more};
@@ -22,7 +21,7 @@ fn least_order() -> Order
     Order::of(0).unwrap()
 }
 
-/// A processor pays the front of its list from its stock for a group.
+/// A CPU pays for the front of its list from its stock, for a group.
 pub(crate) fn consume(rows: &mut Rows, seat: u32, group: GroupId) -> Answer
     requires fits { FitsZone rows.old }
     requires few { IsFew (state_in rows.old) }
@@ -67,7 +66,7 @@ pub(crate) fn take_front(rows: &mut Rows, seat: u32, group: GroupId) -> Answer
     Answer::Took
 }
 
-/// A processor gives a fresh frame back to its list, and the page to its stock.
+/// A CPU puts a fresh frame back on its list, and the page into its stock.
 pub(crate) fn credit(rows: &mut Rows, seat: u32, frame: u32) -> Answer
     requires fits { FitsZone rows.old }
     requires few { IsFew (state_in rows.old) }
@@ -88,7 +87,7 @@ pub(crate) fn credit(rows: &mut Rows, seat: u32, frame: u32) -> Answer
     Answer::Back
 }
 
-/// The visited processor reports pages.
+/// The visited CPU reports pages.
 pub(crate) fn report(rows: &mut Rows, seat: u32, pages: u32) -> Answer
     requires fits { FitsZone rows.old }
     requires few { IsFew (state_in rows.old) }
@@ -99,7 +98,7 @@ pub(crate) fn report(rows: &mut Rows, seat: u32, pages: u32) -> Answer
     Answer::Done
 }
 
-/// The zone takes what it reported off its book.
+/// The zone takes what the visited CPU reported off the CPU's book.
 pub(crate) fn absorb(rows: &mut Rows, seat: u32, cpu: u32) -> Answer
     requires fits { FitsZone rows.old }
     requires few { IsFew (state_in rows.old) }
@@ -111,7 +110,7 @@ pub(crate) fn absorb(rows: &mut Rows, seat: u32, cpu: u32) -> Answer
     Answer::Pages(pages)
 }
 
-/// The zone fills its stock with pending pages.
+/// The zone fills the visited CPU's stock with pending pages.
 pub(crate) fn fill(rows: &mut Rows, seat: u32, cpu: u32, group: GroupId, pages: u32) -> Answer
     requires fits { FitsZone rows.old }
     requires few { IsFew (state_in rows.old) }
@@ -125,7 +124,7 @@ pub(crate) fn fill(rows: &mut Rows, seat: u32, cpu: u32, group: GroupId, pages: 
     Answer::Done
 }
 
-/// The zone takes all pages out of a processor's stock; they are pending then.
+/// The zone drains all pages from a CPU's stock; they are pending then.
 pub(crate) fn drain_stock(rows: &mut Rows, seat: u32, cpu: u32) -> Answer
     requires fits { FitsZone rows.old }
     requires few { IsFew (state_in rows.old) }
@@ -139,7 +138,7 @@ pub(crate) fn drain_stock(rows: &mut Rows, seat: u32, cpu: u32) -> Answer
     Answer::Pages(pages)
 }
 
-/// So many pages more are pending for a group, if there is one.
+/// Adds to the pages that are pending for a group, if there is one.
 fn add_pending(rows: &mut Rows, of: Option<GroupId>, pages: u128)
     requires fits { FitsZone rows.old }
     requires few { (g : ℕ) → (state_in rows.old).pending g ≤ 2 ^ 96 }

@@ -1,5 +1,4 @@
-//! Of the reading core, on which the program doesn't run.
-//! Who holds the lock, and visits.
+//! Part of the reading core, on which the program doesn't run. Who holds the lock, and whether its visit is open.
 
 ghost use Rattle.std.specs.Prelude.{◌≡◌, ◌≢◌, ◌+◌, ◌-◌, ◌<◌, ◌≤◌, ◌^◌, true, false, Some, length};
 ghost use Rattle.step_rules.specs.Legal.{is_legal};
@@ -11,7 +10,7 @@ use core_rows::rows::Rows;
 use step_rules::phase::Hold;
 use step_rules::step::Answer;
 
-/// A processor takes the lock.
+/// A CPU takes the lock.
 pub(crate) fn lock(rows: &mut Rows, seat: u32) -> Answer
     requires fits { FitsZone rows.old }
     requires few { IsFew (state_in rows.old) }
@@ -22,7 +21,7 @@ pub(crate) fn lock(rows: &mut Rows, seat: u32) -> Answer
     Answer::Done
 }
 
-/// It gives the lock back.
+/// The CPU releases the lock.
 pub(crate) fn unlock(rows: &mut Rows, seat: u32) -> Answer
     requires fits { FitsZone rows.old }
     requires few { IsFew (state_in rows.old) }
@@ -34,7 +33,7 @@ pub(crate) fn unlock(rows: &mut Rows, seat: u32) -> Answer
     Answer::Done
 }
 
-/// The zone opens a visit of the processor.
+/// The zone opens a visit of the CPU.
 pub(crate) fn open_visit(rows: &mut Rows, seat: u32, cpu: u32) -> Answer
     requires fits { FitsZone rows.old }
     requires few { IsFew (state_in rows.old) }
@@ -46,7 +45,7 @@ pub(crate) fn open_visit(rows: &mut Rows, seat: u32, cpu: u32) -> Answer
     Answer::Done
 }
 
-/// The zone shuts it.
+/// The zone shuts the visit.
 pub(crate) fn shut_visit(rows: &mut Rows, seat: u32, cpu: u32) -> Answer
     requires fits { FitsZone rows.old }
     requires few { IsFew (state_in rows.old) }

@@ -1,4 +1,4 @@
--- What a contract sees of a processor's part, and what always holds of it.
+-- What a contract sees of a CPU's part, and what always holds of it.
 use Rattle.std.specs.Prelude.{◌≡◌, ℕ, ◌+◌, ◌≤◌, ◌==◌, if◌then◌else◌, List, [], length, sum_by}
 use Rattle.atomic_table.specs.Seated.{TableId}
 use Rattle.frame_word.specs.declared.view.FrameNote.{FrameNote}
@@ -7,12 +7,12 @@ use Rattle.frame_word.specs.Views.{note_of}
 use Rattle.frame_word.specs.Seats.{KnownTable, KnownSeat, number_of}
 use Rattle.stock_word.specs.Stock.{Words, Seated}
 
--- the tables of no boot: no frame, no processor
+-- the table of no boot: it has no frame and no CPU
 abbrev pub no_table : TableId
 no_table = record { words = 0; slots = 0; views_name = 0; atom = 0; block = 0; offset = 0; slot_names = [] }
 
--- A processor's part: its number, its listed, fresh and back frames, its pins (an entry for each), its seats at the two tables,
--- and how often a fresh frame went back to its list
+-- A CPU's part: its number, its listed, fresh and back frames, its pins (an entry for each), its seats at the two
+-- tables, and how often a fresh frame was dropped to its list.
 pub record KnownCpu : Type 0 where
   pub number : ℕ
   pub list : List ℕ
@@ -23,11 +23,12 @@ pub record KnownCpu : Type 0 where
   pub stock_seat : Seated
   pub drops : ℕ
 
--- how often x stands in the list
+-- how often x is in the list
 abbrev pub times : ℕ → List ℕ → ℕ
 times x xs = sum_by (λ y. if y == x then 1 else 0) xs
 
--- What the seat notes of one frame is what the lists have of it, each frame stands once in them at most, and from the table's frames on none does
+-- The seat's note of one frame agrees with the lists. The lists have each frame at most once, and no frame that the
+-- table doesn't have.
 pub record IsNoted (frames f borrowed own references : ℕ) (note : FrameNote) : Type 0 where
   pub borrowed_is : note.borrowed ≡ borrowed
   pub own_is : note.own ≡ own
@@ -35,11 +36,11 @@ pub record IsNoted (frames f borrowed own references : ℕ) (note : FrameNote) :
   pub once : borrowed + own ≤ 1
   pub in_table : frames ≤ f → borrowed + own + references ≡ 0
 
--- the borrowed hand is the listed and the fresh frames, the own hand the back frames, and each pin is a reference
+-- the CPU has borrowed the listed and the fresh frames, it owns the back frames, and each pin is a reference
 abbrev pub AreNoted : ℕ → List ℕ → List ℕ → List ℕ → List ℕ → FrameView → Type 0
 AreNoted frames list fresh back pins view = (f : ℕ) → IsNoted frames f (times f list + times f fresh) (times f back) (times f pins) (note_of view f)
 
--- both seats are this processor's, at these tables
+-- both seats are this CPU's, at these tables
 pub record AreItsSeats (t : KnownTable) (w : Words) (number : ℕ) (seat : KnownSeat) (stock : Seated) : Type 0 where
   pub frame_table : seat.table ≡ t.table
   pub frame_number : number_of seat ≡ number
@@ -49,27 +50,27 @@ pub record AreItsSeats (t : KnownTable) (w : Words) (number : ℕ) (seat : Known
   pub frame_cpus : number ≤ t.cpus
   pub stock_cpus : number ≤ w.cpus
 
--- how many frames and pins a processor's part can have, and a fresh page is taken for each fresh frame
+-- how many frames and pins a CPU's part can have; for each fresh frame it has taken a page
 pub record AreWithin (list fresh back pins pages : ℕ) : Type 0 where
   pub list_bound : list + fresh ≤ 256
   pub fresh_bound : fresh ≤ 32
   pub pin_bound : back + pins ≤ 256
   pub pages_are : pages ≡ fresh
 
--- What always holds: the lists and pins are what the two seats know
+-- what always holds: the lists and pins agree with what the two seats know
 pub record IsTied (t : KnownTable) (w : Words) (c : KnownCpu) : Type 0 where
   pub seats : AreItsSeats t w c.number c.frame_seat c.stock_seat
   pub noted : AreNoted t.frames c.list c.fresh c.back c.pins c.frame_seat.view
   pub within : AreWithin (length c.list) (length c.fresh) (length c.back) (length c.pins) c.stock_seat.view.fresh
 
--- room is reserved for as many as there can be
+-- room is reserved for as many frames and pins as there can be
 pub record HasRoom (list fresh back pins : ℕ) : Type 0 where
   pub list_room : 256 ≤ list
   pub fresh_room : 32 ≤ fresh
   pub back_room : 256 ≤ back
   pub pin_room : 256 ≤ pins
 
--- the part of a processor that did nothing yet
+-- the part of a CPU that did nothing yet
 abbrev pub first_cpu : KnownSeat → Seated → KnownCpu
 first_cpu seat stock = record { number = number_of seat; list = []; fresh = []; back = []; pins = []; frame_seat = seat; stock_seat = stock; drops = 0 }
 

@@ -10,18 +10,18 @@ pub enum Fast {
     FreshFull,
     /// No frame is on the list: a visit refills it.
     ListEmpty,
-    /// The processor's stock is of another group, or of none.
+    /// The CPU's stock is of another group, or of none.
     OtherGroup,
-    /// The processor's stock was drained and not filled since.
+    /// The CPU's stock was drained and not filled since.
     Drained,
-    /// The processor's stock has no page.
+    /// The CPU's stock has no page.
     NoStock,
 }
 
 /// What a `drop_fresh` answers.
 #[derive(Clone, Copy, PartialEq, Eq, Debug)]
 pub enum Dropped {
-    /// The page is in the stock again, and the frame at the end of the list.
+    /// The page is in the stock again, and the frame is at the end of the list.
     Listed,
     /// The stock was drained and not filled since: a visit settles the frame.
     NeedVisit,

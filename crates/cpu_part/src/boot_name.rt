@@ -1,11 +1,11 @@
-//! Which boot a processor's part and the tables belong to.
+//! Which boot a CPU's part and the tables belong to.
 ghost use Rattle.std.specs.Prelude.{◌≡◌};
 
 use frame_word::FrameWords;
 use std::marker::{Brand, PhantomData};
 use stock_word::StockWords;
 
-/// The name of a boot. Contracts alone see what it names: the boot's two tables.
+/// The name of a boot. Only contracts see what it names: the boot's two tables.
 pub trait BootName {
     ghost use Rattle.frame_word.specs.Seats.{KnownTable};
     ghost use Rattle.stock_word.specs.Stock.{Words};
@@ -23,7 +23,7 @@ impl BootName for Brand {
     ghost stocks = { record { table = no_table; cpus = 0 } };
 }
 
-/// The two tables of a boot, which all its processors share by `&`.
+/// The two tables of a boot, which all its CPUs share by `&`.
 pub struct Tables<N: BootName> {
     pub frames: FrameWords,
     pub stocks: StockWords,
@@ -47,7 +47,7 @@ impl<N: BootName> Tables<N> {
         }
     }
 
-    /// The tables, where the boot ends.
+    /// The two tables, when the boot ends.
     pub fn into_tables(self) -> (FrameWords, StockWords)
         ensures frames { result.0 ≡ N.frames }
         ensures stocks { result.1 ≡ N.stocks }

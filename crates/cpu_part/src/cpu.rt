@@ -1,4 +1,4 @@
-//! A processor's part, and how it is made.
+//! A CPU's part, and how it is made.
 ghost use Rattle.std.specs.Prelude.{◌≡◌, ◌≤◌, IfOk};
 
 use crate::boot_name::BootName;
@@ -8,20 +8,20 @@ use std::collections::VecDeque;
 use std::marker::{Model, PhantomData};
 use stock_word::StockSeat;
 
-/// The most frames of a processor, listed and fresh ones together.
+/// The most listed and fresh frames of a CPU, together.
 pub const MOST_LISTED: usize = 256;
 
-/// The most fresh frames of a processor.
+/// The most fresh frames of a CPU.
 pub const MOST_FRESH: usize = 32;
 
-/// The most pins of a processor and back frames, together.
+/// The most pins and back frames of a CPU, together.
 pub const MOST_PINS: usize = 256;
 
-// Entries past the last one that is used: as many bytes as a line of the cache.
+// Entries past the last one that is used: as many bytes as a cache line.
 const SPARE: usize = 16;
 
-/// What a processor has for itself. It is spent by `into_seats`. At its end lies a line of the cache
-/// that no one writes, so that no two processors write one.
+/// What a CPU has for itself. `into_seats` consumes it. It ends with a cache line that no one writes, so that no two
+/// CPUs write the same one.
 pub struct Cpu<N: BootName> {
     pub(crate) number: u32,
     pub(crate) list: VecDeque<Frame>,
@@ -70,8 +70,8 @@ impl<N: BootName> Cpu<N> {
     ghost use Rattle.stock_word.specs.Stock.{IsProcessor};
     ghost use Rattle.cpu_part.specs.Cpus.{first_cpu, IsIdle};
 
-    /// The part of the processor whose seats these are, which did nothing yet. All room that its
-    /// calls need is reserved. `AllocError` comes where memory is wanting.
+    /// The part of the CPU that has these seats and did nothing yet. All room that its calls need is reserved.
+    /// `AllocError` if memory runs out.
     pub fn new(
         alloc: Global,
         frame_seat: FrameSeat,
@@ -100,7 +100,7 @@ impl<N: BootName> Cpu<N> {
         })
     }
 
-    /// The two seats, where nothing is left: no frame on the lists and no pin.
+    /// The two seats, once nothing is left: no frame on the lists and no pin.
     pub fn into_seats(self) -> (FrameSeat, StockSeat)
         requires { IsIdle self }
         ensures { result ≡ (self.frame_seat, self.stock_seat) }

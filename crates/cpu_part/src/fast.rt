@@ -1,4 +1,4 @@
-//! The fast path: frames are paid for and given back without a lock.
+//! The fast path: frames are paid for and dropped without a lock.
 ghost use Rattle.std.specs.Prelude.{◌≡◌, ◌<◌, ◌≤◌};
 ghost use Rattle.cpu_part.specs.Cpus.{times};
 ghost use Rattle.cpu_part.specs.Calls.{FastAnswers, IfGot, DropAnswers};
@@ -11,9 +11,8 @@ use frame_word::Frame;
 use stock_word::{Consume, Credit};
 
 impl<N: BootName> Cpu<N> {
-    /// Takes the front of the list for group `group` (0 to 63), and pays for it from the processor's
-    /// stock. The answer is the first of these that holds: 32 fresh frames, an empty list, what the
-    /// stock says; else the frame.
+    /// Takes the front of the list for group `group` (0 to 63), and pays for it from the CPU's stock. The answer is the
+    /// first of these that holds: 32 fresh frames, an empty list, what the stock says; else the frame.
     pub fn alloc_fast(&mut self, tables: &Tables<N>, group: u32) -> Fast
         requires { group < 64 }
         ensures answer { FastAnswers group result self.old self.new }
@@ -33,9 +32,9 @@ impl<N: BootName> Cpu<N> {
         }
     }
 
-    /// Gives a fresh frame back: its page to the stock, the frame to the end of the list. Where the
-    /// stock was drained, nothing changes but what the processor saw of it. A frame that is listed
-    /// again counts as one drop and one return; the count stays at 2^64 - 1.
+    /// Drops a fresh frame: its page goes to the stock, the frame to the end of the list. If the stock was drained,
+    /// only what the CPU saw of it changes. A frame that is listed again counts as one drop and one return; the count
+    /// stays at 2^64 - 1.
     pub fn drop_fresh(&mut self, tables: &Tables<N>, frame: Frame) -> Dropped
         requires { 1 ≤ times frame self.old.fresh }
         ensures { DropAnswers frame result self.old self.new }

@@ -1,7 +1,6 @@
-//! A processor's part of the memory controller: the frames of its list, its fresh and its back
-//! frames, its pins, and its seats at the table of frame words and at the table of stocks. The
-//! fast calls take no lock and wait for nobody; the others are made inside a visit, beside the
-//! zone's seats.
+//! A CPU's part of the memory controller: the frames of its list, its fresh and its back frames, its pins, and its
+//! seats at the tables of frame words and of stocks. The fast calls take no lock and wait for nobody. The others are
+//! made inside a visit, together with the zone's seats.
 #![tactic(auto)]
 
 mod answers;

@@ -1,4 +1,4 @@
-//! Frames that move between a processor's lists.
+//! Frames that move between a CPU's lists.
 ghost use Rattle.std.specs.Prelude.{◌≡◌, ◌+◌, ◌<◌, ◌≤◌, ℕ, [], ◌∷◌, ◌++◌, length, remove, slice_index, IsPermutation, vec_len, vec_capacity};
 ghost use Rattle.std.specs.VecDeque.{deque_len, deque_capacity};
 ghost use Rattle.cpu_part.specs.Cpus.{times};
@@ -37,7 +37,7 @@ pub(crate) fn relist(list: &mut VecDeque<Frame>, fresh: &mut Vec<Frame>, frame: 
     list.push_back_reserved(frame);
 }
 
-// What stands at the place goes. Where that is the end, nothing is moved.
+// Removes what is at the place. If that is the end, nothing is moved.
 fn take_out(frames: &mut Vec<Frame>, place: usize)
     requires { place < vec_len frames.old }
     ensures out { frames.new.items ≡ remove frames.old.items place }
@@ -50,7 +50,7 @@ fn take_out(frames: &mut Vec<Frame>, place: usize)
     }
 }
 
-/// A pin goes.
+/// Removes a pin.
 pub(crate) fn unpin(pins: &mut Vec<Frame>, frame: Frame)
     requires { 1 ≤ times frame pins.old.items }
     ensures pins { IsPermutation pins.old.items (frame ∷ pins.new.items) }

@@ -1,4 +1,4 @@
-//! Pins: the references of the processor.
+//! Pins: the references of the CPU.
 ghost use Rattle.std.specs.Prelude.{◌≡◌, ◌≢◌, ◌+◌, ◌<◌, ◌≤◌, length, IfOk, MatchResult, Ok};
 ghost use Rattle.frame_word.specs.declared.answers.Get.TheVariants.{Zero};
 ghost use Rattle.frame_word.specs.Seats.{IsInNoHand};
@@ -13,9 +13,8 @@ use frame_word::{Frame, Get, Put};
 use group_tree::fault::Fault;
 
 impl<N: BootName> Cpu<N> {
-    /// Pins the frame where someone has a reference on it. `PinsFull` comes where pins and back
-    /// frames are 256 together, before the word is looked at. A processor that has a pin on the
-    /// frame never gets `Zero`.
+    /// Pins the frame if some seat has a reference on it. If pins and back frames are 256 together, that is refused
+    /// with `PinsFull`, before the word is looked at. A CPU that has a pin on the frame never gets `Zero`.
     pub fn get(&mut self, tables: &Tables<N>, frame: Frame) -> Result<Get, Fault>
         requires { frame < N.frames.frames }
         ensures answer { MatchResult result
@@ -36,7 +35,7 @@ impl<N: BootName> Cpu<N> {
         }
     }
 
-    /// Takes one pin from the frame. After its last reference the frame is the newest back frame.
+    /// Removes one pin from the frame. After its last reference the frame is the newest back frame.
     pub fn put(&mut self, tables: &Tables<N>, frame: Frame) -> Put
         requires { 1 ≤ times frame self.old.pins }
         ensures answer { UnpinAnswers frame result self.old self.new }

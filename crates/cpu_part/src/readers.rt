@@ -1,4 +1,4 @@
-//! What a processor's part tells of itself.
+//! What can be read of a CPU's part.
 ghost use Rattle.std.specs.Prelude.{◌≡◌, ◌≤◌, ◌<◌, ◌+◌, ◌↔◌, [], length, IsTrue, MatchOption};
 ghost use Rattle.stock_word.specs.declared.view.Stock.TheVariants.{NoGroup};
 ghost use Rattle.stock_word.specs.Stock.{HasWord};
@@ -11,7 +11,7 @@ use frame_word::Frame;
 use stock_word::Stock;
 
 impl<N: BootName> Cpu<N> {
-    /// The processor's number, from 1 up.
+    /// The CPU's number, from 1 up.
     pub fn number(&self) -> u32
         ensures number { result ≡ self.now.number }
         ensures tied { IsTied N.frames N.stocks self.now }
@@ -19,7 +19,7 @@ impl<N: BootName> Cpu<N> {
         self.number
     }
 
-    /// Whether the processor has a pin on the frame.
+    /// Whether the CPU has a pin on the frame.
     pub fn holds(&self, frame: Frame) -> bool
         ensures { IsTrue result ↔ (1 ≤ times frame self.now.pins) }
     {
@@ -41,7 +41,7 @@ impl<N: BootName> Cpu<N> {
         self.pins.len()
     }
 
-    /// A frame that is pinned, where there is one.
+    /// A frame that is pinned, if there is one.
     pub fn first_pin(&self) -> Option<Frame>
         ensures { MatchOption result (self.now.pins ≡ []) (λ f. (1 ≤ times f self.now.pins) × (f < N.frames.frames)) }
     {
@@ -72,7 +72,7 @@ impl<N: BootName> Cpu<N> {
         self.back.len()
     }
 
-    /// The stock that the processor saw last, of which its fresh frames are. A drain may have come
+    /// The stock that the CPU saw last; its fresh frames are of that stock's group. The stock may have been drained
     /// since.
     pub fn last_stock(&self) -> Stock
         ensures last { result ≡ self.now.stock_seat.view.last }
@@ -82,8 +82,7 @@ impl<N: BootName> Cpu<N> {
         self.stock_seat.last()
     }
 
-    /// How often a fresh frame went back to the list. Each is one drop and one return. The count
-    /// stays at 2^64 - 1.
+    /// How often a fresh frame was dropped to the list. Each is one drop and one return. The count stays at 2^64 - 1.
     pub fn drops(&self) -> u64
         ensures { result ≡ self.now.drops }
     {

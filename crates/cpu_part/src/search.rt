@@ -1,13 +1,13 @@
-//! Where a frame stands.
+//! The place of a frame in a list.
 ghost use Rattle.std.specs.Prelude.{◌≡◌, ◌<◌, ◌≤◌, false, MatchOption, drop, length, slice_index};
 ghost use Rattle.cpu_part.specs.Cpus.{times};
 
 use frame_word::Frame;
 
-/// So many frames are compared at once.
+/// How many frames are compared at once.
 const BLOCK: usize = 16;
 
-/// A place of the frame, which is sought from the end: the end itself before all others.
+/// A place of the frame, searched for from the end: first at the end itself.
 pub(crate) fn place_of(frames: &[Frame], frame: Frame) -> Option<usize>
     ensures { MatchOption result (times frame frames.now ≡ 0) (λ i. (i < length frames.now) × (slice_index frames.now i ≡ frame)) }
 {
@@ -18,7 +18,7 @@ pub(crate) fn place_of(frames: &[Frame], frame: Frame) -> Option<usize>
     seek(frames, frame)
 }
 
-// A place of the frame, of which many are passed over at once.
+// A place of the frame; many frames are skipped at once.
 fn seek(frames: &[Frame], frame: Frame) -> Option<usize>
     ensures { MatchOption result (times frame frames.now ≡ 0) (λ i. (i < length frames.now) × (slice_index frames.now i ≡ frame)) }
 {
@@ -32,7 +32,7 @@ fn seek(frames: &[Frame], frame: Frame) -> Option<usize>
     None
 }
 
-// How many frames are left where the blocks from the end are passed over that don't hold the frame.
+// How many frames are left if, from the end, the blocks without the frame are skipped.
 fn pass_over(frames: &[Frame], frame: Frame) -> usize
     ensures inside { result ≤ length frames.now }
     ensures absent { times frame (drop result frames.now) ≡ 0 }
@@ -47,7 +47,7 @@ fn pass_over(frames: &[Frame], frame: Frame) -> usize
     end
 }
 
-// Whether the frame is one of these: all of them are compared, so that it is done for several at once.
+// Whether the frame is one of these. All of them are compared, so that several are compared at once.
 fn holds(block: &[Frame], frame: Frame) -> bool
     ensures { result ≡ false → times frame block.now ≡ 0 }
 {

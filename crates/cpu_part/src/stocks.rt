@@ -1,4 +1,4 @@
-//! What a processor prepays and pays inside a visit: with the machine's seat of the stocks beside.
+//! What a CPU prepays and pays inside a visit, together with the machine's seat at the stocks.
 ghost use Rattle.std.specs.Prelude.{◌≡◌, ◌+◌, ◌-◌, ◌<◌, ◌≤◌, ◌⊎◌, [], Some, false, length};
 ghost use Rattle.stock_word.specs.Stock.{IsZoneStock, account_of, stocked, pages_of, group_of, is_held, drained_of};
 ghost use Rattle.stock_word.specs.Kinds.{filling, after_fill, with_steps};
@@ -12,9 +12,8 @@ use frame_word::Frame;
 use stock_word::{Stock, StockSeat};
 
 impl<N: BootName> Cpu<N> {
-    /// Fills the processor's stock with `pages` pages (1 to 65,535) of group `group` (0 to 63). The
-    /// stock was never filled, or was drained after its last fill; there is no fresh frame, and no
-    /// reported page that was not taken in.
+    /// Fills the CPU's stock with `pages` pages (1 to 65,535) of group `group` (0 to 63). The stock was never filled,
+    /// or was drained after its last fill. There is no fresh frame, and no reported page that isn't absorbed.
     pub fn fill(&mut self, tables: &Tables<N>, machine: &mut StockSeat, group: u32, pages: u32)
         requires machine { (machine.old.table ≡ N.stocks.table) × IsZoneStock machine.old.view }
         requires group { group < 64 }
@@ -30,8 +29,8 @@ impl<N: BootName> Cpu<N> {
             .fill(machine, &mut self.stock_seat, group, pages);
     }
 
-    /// The processor's stock by its word, and so by the books: one look, which counts at the machine's
-    /// seat and changes nothing else. The book is the pages in the stock, the fresh ones and the reported ones.
+    /// The CPU's stock, by its word and so by the book. This is one look, which counts at the machine's seat and
+    /// changes nothing else. The book is the pages in the stock, the fresh ones and the reported ones.
     pub fn look(&mut self, tables: &Tables<N>, machine: &mut StockSeat) -> Stock
         requires machine { (machine.old.table ≡ N.stocks.table) × IsZoneStock machine.old.view }
         ensures balanced { (account_of machine.old.view self.old.number).book
@@ -46,8 +45,8 @@ impl<N: BootName> Cpu<N> {
         tables.stocks.look(machine, &mut self.stock_seat)
     }
 
-    /// Takes the front of the list for group `group` and pays for it, always. By the books the
-    /// processor's stock, which is of that group, has a page that is neither fresh nor reported.
+    /// Takes the front of the list for group `group` and pays for it, always. By the book the CPU's stock, which is of
+    /// that group, has a page that is neither fresh nor reported.
     pub fn take_front(&mut self, tables: &Tables<N>, machine: &mut StockSeat, group: u32) -> Frame
         requires machine { (machine.old.table ≡ N.stocks.table) × IsZoneStock machine.old.view }
         requires group { (account_of machine.old.view self.old.number).group ≡ Some group }

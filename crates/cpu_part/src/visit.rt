@@ -1,4 +1,4 @@
-//! The hand-over of frames between a processor and the zone, inside a visit: with the zone's seat beside.
+//! The hand-over of frames between a CPU and the zone, inside a visit and together with the zone's seat.
 ghost use Rattle.std.specs.Prelude.{◌≡◌, ◌+◌, ◌<◌, ◌≤◌, ◌⊎◌, [], ◌∷◌, ◌++◌, length, IfSome, MatchOption};
 ghost use Rattle.frame_word.specs.Views.{took_in, collected_from};
 ghost use Rattle.frame_word.specs.Seats.{HandsAreApart, HasNothingOf, IsLent, IsLentToNone};
@@ -14,8 +14,8 @@ use frame_word::{Frame, FrameSeat};
 use stock_word::{StockSeat, StockWords};
 
 impl<N: BootName> Cpu<N> {
-    /// Opens this processor's visit, which isn't open. Nothing passes for it yet, and what is lent
-    /// to it are its listed and fresh frames.
+    /// Opens this CPU's visit, which isn't open. No frame is in transit to or from the CPU yet, and what is lent to it
+    /// is its listed and fresh frames.
     pub fn open(&mut self, tables: &Tables<N>, zone: &mut FrameSeat)
         requires zone { IsZoneSeat N.frames zone.old }
         requires shut { IsShut zone.old self.old.number }
@@ -28,7 +28,7 @@ impl<N: BootName> Cpu<N> {
         tables.frames.open_visit(zone, &mut self.frame_seat);
     }
 
-    /// Shuts this processor's visit, which is open, and for which nothing passes any more.
+    /// Shuts this CPU's visit, which is open and has no frame in transit any more.
     pub fn shut(&mut self, tables: &Tables<N>, zone: &mut FrameSeat)
         requires zone { IsZoneSeat N.frames zone.old }
         requires open { IsOpen zone.old self.old.number }
@@ -42,8 +42,8 @@ impl<N: BootName> Cpu<N> {
         tables.frames.shut_visit(zone, &mut self.frame_seat);
     }
 
-    /// Takes a frame that passes for this processor and is lent to it to the end of the list, where
-    /// listed and fresh frames are fewer than 256.
+    /// Takes a frame that is in transit to this CPU, and lent to it, to the end of the list. Listed and fresh frames
+    /// are fewer than 256.
     pub fn accept(&mut self, tables: &Tables<N>, zone: &mut FrameSeat, frame: Frame)
         requires zone { IsZoneSeat N.frames zone.old }
         requires frame { frame < N.frames.frames }
@@ -58,8 +58,7 @@ impl<N: BootName> Cpu<N> {
         self.list.push_back_reserved(frame);
     }
 
-    /// Passes the front of the list back to the zone; `None` exactly where the list is empty. The
-    /// visit is open.
+    /// Passes the front of the list back to the zone; `None` exactly if the list is empty. The visit is open.
     pub fn hand_front(&mut self, tables: &Tables<N>, zone: &mut FrameSeat) -> Option<Frame>
         requires zone { IsZoneSeat N.frames zone.old }
         requires open { IsOpen zone.old self.old.number }
@@ -73,8 +72,8 @@ impl<N: BootName> Cpu<N> {
         Some(frame)
     }
 
-    /// Passes the oldest fresh frame back to the zone and reports its page; `None` exactly where
-    /// there is none. The visit is open.
+    /// Passes the oldest fresh frame back to the zone and reports its page; `None` exactly if there is none. The visit
+    /// is open.
     pub fn hand_fresh(
         &mut self,
         tables: &Tables<N>,
@@ -109,8 +108,7 @@ impl<N: BootName> Cpu<N> {
         Some(frame)
     }
 
-    /// Passes the oldest back frame back to the zone; `None` exactly where there is none. The visit
-    /// is open.
+    /// Passes the oldest back frame back to the zone; `None` exactly if there is none. The visit is open.
     pub fn hand_back(&mut self, tables: &Tables<N>, zone: &mut FrameSeat) -> Option<Frame>
         requires zone { IsZoneSeat N.frames zone.old }
         requires open { IsOpen zone.old self.old.number }
@@ -124,7 +122,7 @@ impl<N: BootName> Cpu<N> {
         Some(frame)
     }
 
-    /// Takes a frame that passes for this processor into the zone's hand. It is lent to it no more.
+    /// Takes a frame that is in transit from this CPU into the zone's hand. It is lent to the CPU no more.
     pub fn collect(&mut self, tables: &Tables<N>, zone: &mut FrameSeat, frame: Frame)
         requires zone { IsZoneSeat N.frames zone.old }
         requires frame { frame < N.frames.frames }
@@ -138,8 +136,8 @@ impl<N: BootName> Cpu<N> {
     }
 }
 
-// Reports the page of a fresh frame that has left the processor's hand. Until then the page is the frame's, so the two atomic
-// steps come in this order; what is asked of the seat and the frame says so, and nothing else reads them.
+// Reports the page of a fresh frame that has left the CPU's hand. Until then the page is the frame's, so the two atomic
+// steps come in this order. The conditions on the seat and the frame say so; nothing else reads them.
 fn report_passed(
     stocks: &StockWords,
     machine: &mut StockSeat,

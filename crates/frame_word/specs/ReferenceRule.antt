@@ -1,6 +1,6 @@
--- The reference rule: what holds of the words and of all seats' views between any two atomic steps of any threads.
--- Word f is frame f's: 0, 1 to 255 references, or 256 + p while the frame passes for processor p.
--- Word frames + p - 1 is the visit word of processor p: 1 while its visit is open, else 0.
+-- The reference rule: what holds of the words and of all seats' views between any two atomic steps of any threads. Word
+-- f is frame f's: 0, 1 to 255 references, or 256 + p while the frame is in transit to or from CPU p. Word frames + p -
+-- 1 is the visit word of CPU p: 1 while its visit is open, else 0.
 use Rattle.std.specs.Prelude.{◌≡◌, ◌≢◌, ◌⊎◌, ℕ, ◌+◌, ◌-◌, ◌<◌, ◌≤◌, ◌==◌, cond, List, length, slice_index}
 use Rattle.frame_word.specs.declared.kinds.TheConstants.{MOST_REFERENCES, NO_MARK}
 use Rattle.seat_sums.specs.Totals.{total_over}
@@ -11,90 +11,90 @@ use Rattle.frame_word.specs.Views.{note_of, in_hands, lent_count}
 abbrev pub most_references : ℕ
 most_references = MOST_REFERENCES
 
--- above it stand the passing marks
+-- the number above which passing marks are
 abbrev pub no_mark : ℕ
 no_mark = NO_MARK
 
--- the passing mark of processor p
+-- the passing mark of CPU p
 abbrev pub mark : ℕ → ℕ
 mark p = no_mark + p
 
--- where the visit word of processor p stands: behind the words of all frames
+-- the index of CPU p's visit word, after the words of all frames
 abbrev pub visit_index : ℕ → ℕ → ℕ
 visit_index frames p = frames + (p - 1)
 
--- n where the view is of the seat numbered k, else 0
+-- n if the view is of the seat numbered k, else 0
 abbrev pub only : ℕ → FrameView → ℕ → ℕ
 only k v n = cond (v.number == k) n 0
 
--- 1 where the word is the mark of p, else 0
+-- 1 if the word is the mark of p, else 0
 abbrev pub marked : ℕ → ℕ → ℕ
 marked p word = cond (word == mark p) 1 0
 
--- what one view counts of the frame f, and of its hand-overs between the zone and processor p
+-- what one view counts of the frame f, and of its hand-overs between the zone and CPU p
 module _ (f : ℕ) where
-  -- the references that the view's seat holds on the frame
+  -- the references that the view's seat has on the frame
   abbrev pub references_in : FrameView → ℕ
   references_in v = (note_of v f).references
 
-  -- how many of the seat's two hands, its own and the borrowed one, hold the frame
+  -- in how many of the seat's two hands the frame is: as its own, and as borrowed
   abbrev pub hands_in : FrameView → ℕ
   hands_in v = in_hands (note_of v f)
 
-  -- hand-overs begun: passed out by the zone's seat, passed back by the processor's
+  -- hand-overs begun: passed out by the zone's seat, passed back by the CPU's
   abbrev pub begun_in : ℕ → FrameView → ℕ
   begun_in p v = only 0 v (slice_index (note_of v f).passed_out p) + only p v (note_of v f).passed_back
 
-  -- hand-overs ended: collected by the zone's seat, taken in by the processor's
+  -- hand-overs ended: collected by the zone's seat, taken in by the CPU's
   abbrev pub ended_in : ℕ → FrameView → ℕ
   ended_in p v = only 0 v (slice_index (note_of v f).collected p) + only p v (note_of v f).taken_in
 
-  -- 1 if the zone's seat lent the frame to processor p; 0 of any other view
+  -- 1 if the zone's seat lent the frame to CPU p; 0 for any other view
   abbrev pub lent_in : ℕ → FrameView → ℕ
   lent_in p v = only 0 v (lent_count (note_of v f) p)
 
-  -- the processor that the zone's seat lent the frame to; 0 where it is lent to none, and of any other view
+  -- the CPU that the zone's seat lent the frame to; 0 if it is lent to none, and for any other view
   abbrev pub lent_number : FrameView → ℕ
   lent_number v = only 0 v (note_of v f).lent
 
-  -- 1 if processor p holds the frame in its borrowed hand; 0 of any other view
+  -- 1 if CPU p has borrowed the frame; 0 for any other view
   abbrev pub borrowed_in : ℕ → FrameView → ℕ
   borrowed_in p v = only p v (note_of v f).borrowed
 
--- what the zone's view notes of the visit of processor p; 0 of any other view
+-- what the zone's view notes of the visit of CPU p; 0 for any other view
 abbrev pub opened_in : ℕ → FrameView → ℕ
 opened_in p v = only 0 v (slice_index v.opened p)
 
--- A frame's word, its references and its hands, over all seats: 1 to 255 references and in no hand,
--- or no reference and in exactly one hand, or passing for one processor, with no reference and in no hand.
+-- A frame is in one of three cases, over all seats. First: its word is its number of references, 1 to 255, and no hand
+-- has it.
 abbrev pub IsReferenced : ℕ → ℕ → ℕ → Type 0
 IsReferenced word references hands = (1 ≤ word) × (word ≤ most_references) × (references ≡ word) × (hands ≡ 0)
 
--- the word is 0: the frame has no reference and is in exactly one hand
+-- second case: the word is 0, and the frame has no reference and is in exactly one hand
 abbrev pub IsInOneHand : ℕ → ℕ → ℕ → Type 0
 IsInOneHand word references hands = (word ≡ 0) × (references ≡ 0) × (hands ≡ 1)
 
--- the word is the mark of a processor, 1 to cpus: the frame has no reference and is in no hand
+-- third case: the word is the mark of a CPU, 1 to cpus, and the frame has no reference and is in no hand
 abbrev pub IsPassing : ℕ → ℕ → ℕ → ℕ → Type 0
 IsPassing cpus word references hands = (mark 1 ≤ word) × (word ≤ mark cpus) × (references ≡ 0) × (hands ≡ 0)
 
--- A frame and a processor: a hand-over has begun and not ended exactly where the word is the processor's mark.
--- What the processor borrows is lent to it, and what else is lent to it is at its mark.
+-- A frame and a CPU: a hand-over has begun and not ended exactly if the word is the CPU's mark. What the CPU has
+-- borrowed is lent to it. What else is lent to it has the CPU's mark.
 pub record HandOverRule (seats : List (List FrameView)) (f word p : ℕ) : Type 0 where
   pub passing : total_over (begun_in f p) seats ≡ total_over (ended_in f p) seats + marked p word
   pub borrowed_is_lent : total_over (borrowed_in f p) seats ≤ total_over (lent_in f p) seats
   pub lent_is_near : total_over (lent_in f p) seats ≤ total_over (borrowed_in f p) seats + marked p word
 
--- a frame is referenced, in one hand or passing, and its hand-overs with each processor keep their rule
+-- a frame has references, is in one hand or is in transit, and its hand-overs with each CPU keep their rule
 pub record FrameRule (cpus : ℕ) (seats : List (List FrameView)) (f word : ℕ) : Type 0 where
   pub one_case : IsReferenced word (total_over (references_in f) seats) (total_over (hands_in f) seats)
       ⊎ (IsInOneHand word (total_over (references_in f) seats) (total_over (hands_in f) seats)
       ⊎ IsPassing cpus word (total_over (references_in f) seats) (total_over (hands_in f) seats))
   pub each_cpu : (p : ℕ) → 1 ≤ p → p ≤ cpus → HandOverRule seats f word p
-  -- it is lent to none, or to a processor, 1 to cpus
+  -- it is lent to no CPU, or to one of 1 to cpus
   pub lent_to_one : total_over (lent_number f) seats ≤ cpus
 
--- A visit word is what the zone's seat noted, and while it is 0 no frame passes for the processor.
+-- A visit word is what the zone's seat noted. While it is 0 no frame is in transit to or from the CPU.
 pub record VisitRule (frames : ℕ) (words : List ℕ) (seats : List (List FrameView)) (p : ℕ) : Type 0 where
   pub noted : total_over (opened_in p) seats ≡ slice_index words (visit_index frames p)
   pub open_or_shut : slice_index words (visit_index frames p) ≤ 1

@@ -3,7 +3,7 @@ use Rattle.std.specs.Prelude.{◌≡◌, ◌≤◌, ℕ, zero, suc, ◌+◌, ◌
 use Rattle.frame_word.specs.declared.view.FrameNote.{FrameNote}
 use Rattle.frame_word.specs.declared.view.FrameView.{FrameView}
 
--- the list with x at i, made longer by d where it ends before i
+-- the list with x at i; if it is shorter, d fills the gap
 abbrev pub put_at : {A : Type 0} → A → List A → ℕ → A → List A
 put_at d [] zero x = x ∷ []
 put_at d [] (suc i) x = d ∷ put_at d [] i x
@@ -31,11 +31,11 @@ blank = record {
   collected = [];
 }
 
--- the view's note of frame f; a blank one past the end of its notes
+-- the view's note of frame f; past the end of its notes, a blank one
 abbrev pub note_of : FrameView → ℕ → FrameNote
 note_of v f = slice_index_or v.notes f blank
 
--- the view in which the note of f went through this change
+-- the view with its note of f changed
 abbrev pub changed : FrameView → ℕ → (FrameNote → FrameNote) → FrameView
 changed v f change = record v { notes = put_at blank v.notes f (change (note_of v f)) }
 
@@ -43,15 +43,15 @@ changed v f change = record v { notes = put_at blank v.notes f (change (note_of 
 abbrev pub with_visit : FrameView → ℕ → ℕ → FrameView
 with_visit v p state = record v { opened = put_at 0 v.opened p state; turns = v.turns + 1 }
 
--- the number of frames in the view's hands of this frame: 0 or 1
+-- in how many of the seat's hands the frame is: 0 or 1
 abbrev pub in_hands : FrameNote → ℕ
 in_hands k = k.own + k.borrowed
 
--- the hand-overs of the frame between the zone and this processor that one of the two seats began, and that one ended
+-- the hand-overs of the frame between the zone and this CPU that one of the two seats began
 abbrev pub begun : FrameView → FrameView → ℕ → ℕ
 begun zone cpu f = slice_index (note_of zone f).passed_out cpu.number + (note_of cpu f).passed_back
 
--- the hand-overs of the frame between the zone and this processor that one of the two seats ended
+-- the hand-overs of the frame between the zone and this CPU that one of the two seats ended
 abbrev pub ended : FrameView → FrameView → ℕ → ℕ
 ended zone cpu f = slice_index (note_of zone f).collected cpu.number + (note_of cpu f).taken_in
 
@@ -59,9 +59,9 @@ ended zone cpu f = slice_index (note_of zone f).collected cpu.number + (note_of 
 abbrev pub HasNone : FrameView → ℕ → Type 0
 HasNone v f = ((note_of v f).references ≡ 0) × (in_hands (note_of v f) ≡ 0)
 
--- The zone and a processor are settled at the frame: it doesn't pass for the processor, and is lent to it exactly where the
--- processor has borrowed it. What one of the two has in a hand, the other hasn't, and neither has a reference on it;
--- what is in an own hand of theirs is lent to no one.
+-- The zone and a CPU are settled at the frame. It isn't in transit to or from the CPU, and is lent to the CPU exactly
+-- if the CPU has borrowed it. If one of the two has it in a hand, the other hasn't, and neither has a reference on it.
+-- If one of the two owns it, it is lent to no CPU.
 pub record IsSettledAt (zone cpu : FrameView) (f : ℕ) : Type 0 where
   pub still : begun zone cpu f ≡ ended zone cpu f
   pub lent_is_borrowed : (note_of zone f).lent ≡ cpu.number → (note_of cpu f).borrowed ≡ 1
@@ -70,7 +70,7 @@ pub record IsSettledAt (zone cpu : FrameView) (f : ℕ) : Type 0 where
   pub no_reference : 1 ≤ in_hands (note_of zone f) + in_hands (note_of cpu f) → (note_of zone f).references + (note_of cpu f).references ≡ 0
   pub own_is_not_lent : 1 ≤ (note_of zone f).own + (note_of cpu f).own → (note_of zone f).lent ≡ 0
 
--- 1 where the frame is lent to p, else 0
+-- 1 if the frame is lent to p, else 0
 abbrev pub lent_count : FrameNote → ℕ → ℕ
 lent_count k p = cond (k.lent == p) 1 0
 
@@ -83,7 +83,7 @@ looked word k = record k { steps = k.steps + 1; looks = k.looks + 1; seen = word
 abbrev pub held : FrameNote → FrameNote
 held k = record k { steps = k.steps + 1; references = k.references + 1 }
 
--- the exchange of a get that found this word in place of the one that its load saw: one race more
+-- the exchange of a get that found this word instead of the one that its load saw: one race more
 abbrev pub raced : ℕ → FrameNote → FrameNote
 raced word k = record k { steps = k.steps + 1; races = k.races + 1; raced_from = k.seen; seen = word }
 
@@ -91,11 +91,11 @@ raced word k = record k { steps = k.steps + 1; races = k.races + 1; raced_from =
 abbrev pub let_go : ℕ → FrameNote → FrameNote
 let_go n k = record k { steps = k.steps + 1; references = k.references - 1; left = n }
 
--- the last put: one reference less, none left to any seat, and the frame comes into the own hand
+-- the last put: one reference less, none left to any seat, and the seat owns the frame
 abbrev pub let_go_last : FrameNote → FrameNote
 let_go_last k = record k { steps = k.steps + 1; references = k.references - 1; left = 0; own = 1 }
 
--- freeze: n references less, and the frame comes into the own hand
+-- freeze: n references less, and the seat owns the frame
 abbrev pub frozen : ℕ → FrameNote → FrameNote
 frozen n k = record k { steps = k.steps + 1; references = k.references - n; own = 1 }
 
@@ -103,22 +103,22 @@ frozen n k = record k { steps = k.steps + 1; references = k.references - n; own 
 abbrev pub missed : ℕ → FrameNote → FrameNote
 missed word k = record k { steps = k.steps + 1; misses = k.misses + 1; missed_word = word }
 
--- unfreeze: the frame leaves the own hand, n references more
+-- unfreeze: the seat owns the frame no more, and has n references more
 abbrev pub unfrozen : ℕ → FrameNote → FrameNote
 unfrozen n k = record k { steps = k.steps + 1; references = k.references + n; own = 0 }
 
--- pass_out: the frame leaves the zone's hand, is lent to p, and a hand-over began
+-- pass_out: the zone owns the frame no more, it is lent to p, and a hand-over began
 abbrev pub passed_out_to : ℕ → FrameNote → FrameNote
 passed_out_to p k = record k { steps = k.steps + 1; own = 0; lent = p; passed_out = put_at 0 k.passed_out p (slice_index k.passed_out p + 1) }
 
--- take_in: the frame enters the processor's borrowed hand, and the hand-over ended
+-- take_in: the CPU borrows the frame, and the hand-over ended
 abbrev pub took_in : FrameNote → FrameNote
 took_in k = record k { steps = k.steps + 1; borrowed = 1; taken_in = k.taken_in + 1 }
 
--- pass_back: the frame leaves the processor's hand, and a hand-over began
+-- pass_back: the frame leaves the CPU's hand, and a hand-over began
 abbrev pub gave_back : FrameNote → FrameNote
 gave_back k = record k { steps = k.steps + 1; own = 0; borrowed = 0; passed_back = k.passed_back + 1 }
 
--- collect: the frame enters the zone's hand and is lent to no one, and the hand-over ended
+-- collect: the zone owns the frame, which is lent to no CPU, and the hand-over ended
 abbrev pub collected_from : ℕ → FrameNote → FrameNote
 collected_from p k = record k { steps = k.steps + 1; own = 1; lent = 0; collected = put_at 0 k.collected p (slice_index k.collected p + 1) }

@@ -5,7 +5,7 @@
 pub enum Get {
     /// The seat has one reference more.
     Held,
-    /// No one had a reference: the frame is in a hand, or passes.
+    /// No seat had a reference: the frame is in a hand, or in transit.
     Zero,
     /// The exchange found this word and not the one that the load saw: another seat changed it in between. Try again.
     Raced(u64),
@@ -16,8 +16,8 @@ pub enum Get {
 /// What a `put` answers.
 #[derive(Clone, Copy, PartialEq, Eq, Debug)]
 pub enum Put {
-    /// So many references are left to all seats, at least one.
+    /// This many references are left to all seats, at least one.
     Left(u64),
-    /// That was the last reference. The frame is in the seat's own hand now.
+    /// That was the last reference. The frame is in the seat's hand now, as its own.
     Last,
 }

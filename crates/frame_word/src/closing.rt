@@ -50,7 +50,7 @@ impl FinalWords {
         self.closed.word(frame.word())
     }
 
-    /// The visit word of a processor.
+    /// The visit word of a CPU.
     pub fn visit_word(&self, cpu: u32) -> u64
         requires { (1 ≤ cpu) × (cpu ≤ self.now.cpus) }
         ensures { result ≡ slice_index self.now.words (visit_index self.now.frames cpu) }
@@ -60,8 +60,8 @@ impl FinalWords {
 }
 
 impl FrameWords {
-    /// Ends the table with all its seats, the processors' in any order. The reference rule holds of the
-    /// final words and these seats' views.
+    /// Ends the table with all its seats, those of the CPUs in any order. The reference rule holds of the final words
+    /// and these seats' views.
     pub fn close(self, zone: FrameSeat, cpus: Vec<FrameSeat>) -> FinalWords
         requires zone { zone.table ≡ self.table }
         requires cpus { AreSeatsAt self.table cpus.items }

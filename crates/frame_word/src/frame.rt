@@ -20,7 +20,7 @@ impl Model for Frame {
 impl Frame {
     ghost use Rattle.std.specs.Prelude.{◌≡◌};
 
-    /// The frame of this number. That the zone has it is for the caller to see to.
+    /// The frame of this number. The caller sees to it that the zone has it.
     pub(crate) fn new(number: u32) -> Frame
         ensures { result ≡ number }
     {
@@ -34,7 +34,7 @@ impl Frame {
         self.number
     }
 
-    /// Where the frame's word stands in the table: at the frame's number.
+    /// The place of the frame's word in the table: the frame's number.
     pub(crate) fn word(self) -> usize
         ensures { result ≡ self }
     {

@@ -1,10 +1,10 @@
-//! **The table of kinds.** What a seat may do to a word, and what it learns from it, is told by this file and
-//! `specs/Kinds.antt`, read as one: both are definitions. The rule that stands between any two steps is named here,
-//! in one line: `holds` of `TableRule` for `Counting`, the rule of the type that `Board` wraps.
+//! **The table of kinds.** This file and `specs/Kinds.antt`, read as one, define what a seat may do to a word and what
+//! it learns from it. One line here names the rule between any two steps: `holds` of `TableRule` for `Counting`, the
+//! rule of the type that `Board` wraps.
 //!
 //! The table and the seats' places are private to this file. It has one function for each kind of atomic step, whose
-//! contract is the kind: `get`, `put` and `freeze` are made of the first four, and no other file can make a step of
-//! a kind of its own. `cut` and `pair` part and join views and change none; `start` and `end` make and end a table.
+//! contract is the kind. `get`, `put` and `freeze` are made of the first four. No other file can make a step of a kind
+//! of its own. `cut` and `pair` split and join views and change none; `start` and `end` make and end a table.
 ghost use Rattle.std.specs.Prelude.{◌≡◌, ◌⊎◌, ◌<◌, ◌≤◌, ◌+◌, ◌++◌, [], ◌∷◌, length, IfOk};
 ghost use Rattle.std.specs.Mem.Slots.{slots_items, slots_len, IsFull};
 ghost use Rattle.frame_word.specs.ReferenceRule.{visit_index, ReferenceRule};
@@ -25,10 +25,10 @@ use std::alloc::{AllocError, Global};
 /// The most references that a frame can have.
 pub const MOST_REFERENCES: u64 = 255;
 
-/// Above it stand the passing marks: that of processor p is this number and p more.
+/// Passing marks are above it: that of CPU p is this number plus p.
 pub const NO_MARK: u64 = 256;
 
-/// How many frames and processors a table has. It is fixed when the table is made.
+/// How many frames and CPUs a table has. It is fixed when the table is made.
 #[derive(Clone, Copy)]
 pub struct Sizes {
     pub frames: u32,
@@ -50,7 +50,7 @@ pub(crate) struct Board {
     table: Table<(), [FrameView; 0], Sizes, Counting, Global>,
 }
 
-/// A seat at the table. Its view is a list: one view, two where it took in another seat's, none where it is empty.
+/// A seat at the table. Its view is a list: one view, two if it took in another seat's, none if it is empty.
 #[derive(Drop)]
 pub(crate) struct Place {
     seat: Seat<(), [FrameView; 0]>,
@@ -116,7 +116,7 @@ impl Play<(), [FrameView; 0]> for Visit {
     ghost then = { by_two visits };
 }
 
-/// Cuts a seat behind its first view.
+/// Splits off all of a seat's views except the first.
 pub(crate) struct Cut;
 
 impl Split<[FrameView; 0]> for Cut {
@@ -150,7 +150,7 @@ impl Board {
         Ok((Board { table }, Place { seat }))
     }
 
-    /// The place keeps its first view. The others are the new place's.
+    /// The place keeps its first view. The new place gets the others.
     pub(crate) fn cut(&self, place: &mut Place) -> Place
         requires { (place.old.seat.table_id ≡ self.now.table.shared.table_id) × (0 < self.now.table.shared.table_id.words) }
         ensures table { (place.new.seat.table_id ≡ place.old.seat.table_id) × (result.seat.table_id ≡ place.old.seat.table_id) }
@@ -161,7 +161,7 @@ impl Board {
         }
     }
 
-    /// The other place's views come behind the place's own.
+    /// The other place's views follow the place's own.
     pub(crate) fn pair(&self, place: &mut Place, other: Place)
         requires table { (place.old.seat.table_id ≡ self.now.table.shared.table_id) × (0 < self.now.table.shared.table_id.words) }
         requires other { (other.seat.table_id ≡ self.now.table.shared.table_id) × (other.seat.me.1 ≡ []) }
@@ -188,7 +188,7 @@ impl Board {
 
 // References. `get`, `put` and `freeze` are made of these four.
 impl FrameWords {
-    /// The load of a get. It tells the word.
+    /// The load of a get. It returns the word.
     pub(crate) fn look(&self, seat: &mut FrameSeat, frame: Frame) -> u64
         requires table { seat.old.table ≡ self.now.table }
         requires frame { frame < self.now.frames }
@@ -199,7 +199,7 @@ impl FrameWords {
         shared.load::<Look>(&mut seat.place.seat, frame.word())
     }
 
-    /// The exchange of a get, from the word that its load saw to one more. It tells the word that it found.
+    /// The exchange of a get, from the word that its load saw to one more. It returns the word that it found.
     pub(crate) fn add(&self, seat: &mut FrameSeat, frame: Frame, seen: u64) -> u64
         requires table { seat.old.table ≡ self.now.table }
         requires frame { frame < self.now.frames }
@@ -213,7 +213,7 @@ impl FrameWords {
         shared.compare_exchange::<Add>(&mut seat.place.seat, word, seen, seen + 1)
     }
 
-    /// Takes one reference of the seat off the word. It tells the word that it found.
+    /// Takes one reference of the seat off the word. It returns the word that it found.
     pub(crate) fn put_one(&self, seat: &mut FrameSeat, frame: Frame) -> u64
         requires table { seat.old.table ≡ self.now.table }
         requires frame { frame < self.now.frames }
@@ -225,7 +225,7 @@ impl FrameWords {
         shared.fetch_sub::<PutOne>(&mut seat.place.seat, frame.word(), 1)
     }
 
-    /// Exchanges `count` for 0. It tells the word that it found.
+    /// Exchanges `count` for 0. It returns the word that it found.
     pub(crate) fn freeze_at(&self, seat: &mut FrameSeat, frame: Frame, count: u64) -> u64
         requires table { seat.old.table ≡ self.now.table }
         requires frame { frame < self.now.frames }
@@ -238,8 +238,8 @@ impl FrameWords {
         shared.compare_exchange::<Freeze>(&mut seat.place.seat, word, count, 0)
     }
 
-    /// Puts a frame of the seat's own hand into use, with `count` references, 1 to 255, all of this seat.
-    /// There were none before.
+    /// Puts a frame that the seat owns into use, with `count` references, 1 to 255, all of this seat. There were none
+    /// before.
     pub fn unfreeze(&self, seat: &mut FrameSeat, frame: Frame, count: u64)
         requires table { seat.old.table ≡ self.now.table }
         requires frame { frame < self.now.frames }
@@ -255,10 +255,10 @@ impl FrameWords {
     }
 }
 
-// The hand-over of frames between the zone and the processors, inside a visit.
+// The hand-over of frames between the zone and the CPUs, inside a visit.
 impl FrameWords {
-    /// Passes a frame of the zone's hand to processor `cpu`, whose visit is open. It is lent to it from now on,
-    /// and was lent to no one.
+    /// Passes a frame of the zone's hand to CPU `cpu`, whose visit is open. The frame was lent to no CPU, and is lent
+    /// to this one from now on.
     pub fn pass_out(&self, zone: &mut FrameSeat, frame: Frame, cpu: u32)
         requires zone { IsZoneSeat self.now zone.old }
         requires frame { frame < self.now.frames }
@@ -275,8 +275,8 @@ impl FrameWords {
         shared.store::<PassOut>(&mut zone.place.seat, frame.word(), mark);
     }
 
-    /// Takes a frame that passes for this processor and is lent to it into its borrowed hand. Neither seat had a
-    /// reference on it or had it in a hand.
+    /// Takes a frame that is in transit to this CPU, and lent to it, into the CPU's hand as borrowed. Neither seat had
+    /// a reference on it or had it in a hand.
     pub fn take_in(&self, zone: &mut FrameSeat, cpu: &mut FrameSeat, frame: Frame)
         requires zone { IsZoneSeat self.now zone.old }
         requires cpu { IsCpuSeat self.now cpu.old }
@@ -294,8 +294,9 @@ impl FrameWords {
         part(&self.board, &mut zone.place, &mut cpu.place);
     }
 
-    /// Passes a frame of this processor's hand, own or borrowed, back to the zone. The processor's visit is open.
-    /// The zone had nothing of the frame. One of the own hand was lent to no one, a borrowed one to this processor.
+    /// Passes a frame of this CPU's hand, its own or borrowed, back to the zone. The CPU's visit is open. The zone's
+    /// seat had no reference on the frame and didn't have it in its hand. A frame of the CPU's own was lent to no CPU,
+    /// a borrowed one to this CPU.
     pub fn pass_back(&self, zone: &mut FrameSeat, cpu: &mut FrameSeat, frame: Frame)
         requires zone { IsZoneSeat self.now zone.old }
         requires cpu { IsCpuSeat self.now cpu.old }
@@ -317,8 +318,8 @@ impl FrameWords {
         part(&self.board, &mut zone.place, &mut cpu.place);
     }
 
-    /// Takes a frame that passes for this processor into the zone's hand. It is lent to no one any more. Neither
-    /// seat had a reference on it or had it in a hand.
+    /// Takes a frame that is in transit from this CPU into the zone's hand. It is lent to no CPU any more. Neither seat
+    /// had a reference on it or had it in a hand.
     pub fn collect(&self, zone: &mut FrameSeat, cpu: &mut FrameSeat, frame: Frame)
         requires zone { IsZoneSeat self.now zone.old }
         requires cpu { IsCpuSeat self.now cpu.old }
@@ -337,9 +338,9 @@ impl FrameWords {
     }
 }
 
-// The visits of the processors: frames are handed over only inside an open one.
+// The visits of the CPUs: frames are handed over only inside an open one.
 impl FrameWords {
-    // Where the visit word of a processor stands.
+    // The place of a CPU's visit word.
     fn visit_word(&self, cpu: u32) -> usize
         requires { 1 ≤ cpu }
         ensures { result ≡ visit_index self.now.frames cpu }
@@ -347,8 +348,8 @@ impl FrameWords {
         self.frames as usize + (cpu as usize - 1)
     }
 
-    /// Opens the visit of this processor, which isn't open. Nothing passes for it yet, and what is
-    /// lent to it is its borrowed hand.
+    /// Opens the visit of this CPU, which isn't open. No frame is in transit to or from it yet, and what is lent to it
+    /// is what it has borrowed.
     pub fn open_visit(&self, zone: &mut FrameSeat, cpu: &mut FrameSeat)
         requires zone { IsZoneSeat self.now zone.old }
         requires cpu { IsCpuSeat self.now cpu.old }
@@ -366,8 +367,8 @@ impl FrameWords {
         part(&self.board, &mut zone.place, &mut cpu.place);
     }
 
-    /// Shuts the visit of this processor, which is open, and for which nothing passes any more.
-    /// What is lent to it is its borrowed hand.
+    /// Shuts the visit of this CPU, which is open, and has no frame in transit any more. What is lent to the CPU is
+    /// what it has borrowed.
     pub fn shut_visit(&self, zone: &mut FrameSeat, cpu: &mut FrameSeat)
         requires zone { IsZoneSeat self.now zone.old }
         requires cpu { IsCpuSeat self.now cpu.old }

@@ -1,4 +1,4 @@
-//! What the reference rule says, which `close` gives: laws over its definitions.
+//! Laws that follow from the reference rule, which `close` ensures.
 ghost use Rattle.frame_word.specs.Laws.{NoFrameInTwoHands, OwnHandIsNotLent, WordsCountReferences};
 
 /// Law: no frame is in two hands.
@@ -6,12 +6,12 @@ pub fn no_frame_in_two_hands()
     ensures { NoFrameInTwoHands }
 {}
 
-/// Law: a frame of a seat's own hand is lent to no one.
+/// Law: a frame that a seat owns is lent to no CPU.
 pub fn own_hand_is_not_lent()
     ensures { OwnHandIsNotLent }
 {}
 
-/// Law: a word of at most 255 is the sum of the references of all seats, and at a mark there are none.
+/// Law: a word of at most 255 is the sum of the references of all seats, and with a mark there are none.
 pub fn words_count_references()
     ensures { WordsCountReferences }
 {}

@@ -1,13 +1,13 @@
-//! Atomic references on the frames of a zone, and the hand-over of frames between the zone and the
-//! processors. Any threads may get and put.
+//! Atomic references on the frames of a zone, and the hand-over of frames between the zone and the CPUs. Any thread may
+//! get and put.
 //!
-//! Word f is frame f's: 0 while no one has a reference and the frame lies in exactly one seat's hand,
-//! 1 to 255 for so many references, and 256 + p while it passes for processor p. Behind the frames'
-//! words stands one visit word for each processor, 1 while its visit is open, else 0.
+//! Word f is frame f's. It is 0 while no seat has a reference and exactly one seat's hand has the frame. It is 1 to 255
+//! for that many references, and 256 + p while the frame is in transit to or from CPU p. One visit word for each CPU
+//! follows the frames' words: 1 while its visit is open, else 0.
 //!
-//! The rule that stands between any two atomic steps is that of one line in `src/kinds.rt`: `holds` of
-//! `TableRule` for `Counting`. No public contract tells it but that of `close`, for the final words.
-//! What a step of each kind tells is defined by that file and `specs/Kinds.antt`, read as one.
+//! The rule between any two atomic steps is one line in `src/kinds.rt`: `holds` of `TableRule` for `Counting`. Of
+//! public contracts only that of `close` states it, for the final words. That file and `specs/Kinds.antt`, read as one,
+//! define what a step of each kind learns.
 #![tactic(auto)]
 
 mod answers;

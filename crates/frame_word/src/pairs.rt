@@ -5,7 +5,7 @@ ghost use Rattle.frame_word.specs.Kinds.{first_alone, but_first};
 use crate::kinds::{Board, Place};
 use std::mem;
 
-/// The first place takes in the second's view. An empty one stands in the second's place meanwhile.
+/// The first place takes in the second's view, and an empty place is left in the second meanwhile.
 pub(crate) fn join(board: &Board, zone: &mut Place, cpu: &mut Place)
     requires table { (zone.old.seat.table_id ≡ board.now.table.shared.table_id) × (cpu.old.seat.table_id ≡ board.now.table.shared.table_id)
         × (0 < board.now.table.shared.table_id.words) }
@@ -19,7 +19,7 @@ pub(crate) fn join(board: &Board, zone: &mut Place, cpu: &mut Place)
     board.pair(zone, place);
 }
 
-/// The second place gets its view again.
+/// The second place gets its view back.
 pub(crate) fn part(board: &Board, zone: &mut Place, cpu: &mut Place)
     requires table { (zone.old.seat.table_id ≡ board.now.table.shared.table_id) × (0 < board.now.table.shared.table_id.words) }
     requires zone { zone.old.seat.me.1 ≡ [] }

@@ -1,4 +1,5 @@
-//! References: `get`, `put`, `freeze`, made of the kinds of step. `get` is a load and at most one exchange, the others one step.
+//! References: `get`, `put`, `freeze`, made of the kinds of step. `get` is a load and at most one exchange, the others
+//! are one step each.
 ghost use Rattle.std.specs.Prelude.{◌≡◌, ◌≢◌, ◌+◌, ◌<◌, ◌≤◌};
 ghost use Rattle.frame_word.specs.declared.answers.Get.TheVariants.{Held, Zero};
 ghost use Rattle.frame_word.specs.Seats.{holds, IsInNoHand, GetAnswers, PutAnswers, FreezeAnswers};
@@ -10,9 +11,9 @@ use crate::seat::FrameSeat;
 use crate::words::FrameWords;
 
 impl FrameWords {
-    /// Takes a reference on the frame where someone has one: by one load and at most one exchange, from the word
-    /// that the load saw. A seat that has a reference on the frame already never gets `Zero`; one that has the frame
-    /// in a hand gets `Zero`.
+    /// Takes a reference on the frame if some seat has one: by one load and at most one exchange, from the word that
+    /// the load saw. A seat that already has a reference on the frame never gets `Zero`; a seat that has the frame in a
+    /// hand gets `Zero`.
     pub fn get(&self, seat: &mut FrameSeat, frame: Frame) -> Get
         requires table { seat.old.table ≡ self.now.table }
         requires frame { frame < self.now.frames }
@@ -36,7 +37,7 @@ impl FrameWords {
         }
     }
 
-    /// Gives a reference back. The frame was in no hand of the seat; after the last one it is in its own hand.
+    /// Drops a reference. The frame was in no hand of the seat. After the last put the seat owns it.
     pub fn put(&self, seat: &mut FrameSeat, frame: Frame) -> Put
         requires table { seat.old.table ≡ self.now.table }
         requires frame { frame < self.now.frames }
@@ -52,9 +53,9 @@ impl FrameWords {
         }
     }
 
-    /// Takes the frame out of use where its references are these `count` alone, all of this seat:
-    /// true exactly where the word is `count`. Then no one can get it, and it is in the seat's own
-    /// hand. False notes a miss, with the word that was found in place of `count`, and changes nothing else.
+    /// Takes the frame out of use if its references are exactly these `count`, all of this seat. That is so, and the
+    /// answer is true, exactly if the word is `count`. Then no seat can get the frame, and this seat owns it. False
+    /// notes a miss, with the word found, and changes nothing else.
     pub fn freeze(&self, seat: &mut FrameSeat, frame: Frame, count: u64) -> bool
         requires table { seat.old.table ≡ self.now.table }
         requires frame { frame < self.now.frames }

@@ -1,9 +1,9 @@
-//! The seat of the zone (0) or of a processor.
+//! The seat of the zone (0) or of a CPU.
 use crate::kinds::Place;
 use std::marker::Model;
 
-/// A seat at the table of frame words: number 0 is the zone's, 1 and up are the processors'.
-/// It keeps its number alone; what it knows is for contracts.
+/// A seat at the table of frame words: number 0 is the zone's, 1 and up are the CPUs'. It stores only its number; what
+/// it knows is for contracts.
 #[derive(Drop)]
 pub struct FrameSeat {
     pub(crate) place: Place,
@@ -27,7 +27,7 @@ impl FrameSeat {
     ghost use Rattle.std.specs.Prelude.{◌≡◌};
     ghost use Rattle.frame_word.specs.Seats.{number_of};
 
-    /// The seat's number: 0 for the zone's, the processor's else.
+    /// The seat's number: 0 for the zone's, else the CPU's.
     pub fn number(&self) -> u32
         ensures { result ≡ number_of self.now }
     {

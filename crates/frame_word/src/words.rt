@@ -9,7 +9,7 @@ use std::alloc::{AllocError, Global};
 use std::marker::Model;
 use std::mem;
 
-/// One word for each frame of a zone, and one visit word for each processor.
+/// One word for each frame of a zone, and one visit word for each CPU.
 #[derive(Drop)]
 pub struct FrameWords {
     pub(crate) board: Board,
@@ -30,9 +30,9 @@ impl Model for FrameWords {
 }
 
 impl FrameWords {
-    /// Words for so many frames, numbered from 0, and so many processors, numbered from 1, with the
-    /// zone's seat and the processors' seats in order. Each word is 0, each frame in the zone's hand,
-    /// and no visit is open. `AllocError` comes where memory is wanting.
+    /// Words for this many frames, numbered from 0, and this many CPUs, numbered from 1, with the zone's seat and the
+    /// CPUs' seats in order. Each word is 0, each frame in the zone's hand, and no visit is open. `AllocError` if
+    /// memory runs out.
     pub fn new(
         alloc: Global,
         frames: u32,
@@ -66,14 +66,14 @@ impl FrameWords {
         self.frames
     }
 
-    /// How many processors there are.
+    /// How many CPUs there are.
     pub fn cpus(&self) -> u32
         ensures { result ≡ self.now.cpus }
     {
         self.cpus
     }
 
-    /// The frame of this number, or `None` where the zone has none.
+    /// The frame of this number, or `None` if the zone has none.
     pub fn frame(&self, number: u32) -> Option<Frame>
         ensures { MatchOption result (self.now.frames ≤ number) (λ f. (f ≡ number) × (f < self.now.frames)) }
     {
@@ -85,7 +85,7 @@ impl FrameWords {
     }
 }
 
-// Splits off the seat of each processor.
+// Splits off the seat of each CPU.
 fn deal(
     alloc: Global,
     board: &Board,

@@ -1,4 +1,4 @@
-//! What is noted of a visit in which a limit had no room: what was tried there, and who was killed.
+//! What is noted of a visit in which a limit had no room: what was tried, and who was killed.
 #![tactic(auto)]
 
 pub mod note;

@@ -7,13 +7,12 @@ use crate::note::Note;
 use std::alloc::{AllocError, Global};
 use std::marker::Model;
 
-/// How many notes are kept at most. One command makes fewer, at most 909: for each of 8 limits on a path the limit, a
-/// stock of each of 64 processors, 16 rounds and an `oom`; a `Kill` for each of 63 groups, and a victim and a `GroupKill`
-/// for each time that the killer chooses, which is at most 63 times; and the 64 stocks that are drained as their groups
-/// die.
+/// How many notes are kept at most. One command makes at most 909. For each of 8 limits on a path these are the limit,
+/// a stock of each of 64 CPUs, 16 rounds and an `oom`. There is a `Kill` for each of 63 groups, and a victim and a
+/// `GroupKill` each time that the killer chooses, at most 63 times. And the 64 stocks are drained as their groups die.
 pub const MOST_NOTES: usize = 2_048;
 
-/// The notes of a visit, the first 2,048 of them, the oldest first.
+/// The notes of a visit, the oldest first; at most the first 2,048 of them.
 #[derive(Drop)]
 pub struct Notes {
     // Room for all of them is reserved.
@@ -33,8 +32,7 @@ impl Model for Notes {
 }
 
 impl Notes {
-    /// No notes. The room of all is reserved here: no other call takes memory. `AllocError` comes where memory is
-    /// wanting.
+    /// No notes. The room for all is reserved here: no other call takes memory. `AllocError` if memory runs out.
     pub fn new(alloc: Global) -> Result<Notes, AllocError>
         ensures { IfOk result (λ notes. notes ≡ []) }
     {
@@ -42,7 +40,7 @@ impl Notes {
         Ok(Notes { notes })
     }
 
-    /// One note more, unless there are 2,048.
+    /// Adds a note, unless there are 2,048.
     pub fn note(&mut self, note: Note)
         ensures { self.new ≡ noted self.old note }
     {

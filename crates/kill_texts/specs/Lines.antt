@@ -9,11 +9,11 @@ use Rattle.kill_notes.specs.declared.note.Note.{Note}
 use Rattle.kill_notes.specs.declared.note.Note.TheVariants.{Limit, Stock, Round, Oom, Victim, GroupKill, Kill}
 use Rattle.machine_texts.specs.Characters.{characters}
 
--- so many pages, in bytes
+-- the bytes of this many pages
 unfoldable pub bytes_text : ℕ → List ℕ
 bytes_text pages = decimal (pages * 4096)
 
--- the path of a group, or its number where it isn't there
+-- the path of a group, or its number if the group doesn't exist
 unfoldable pub group_text : List Group → ℕ → List ℕ
 group_text groups g = option_map_or characters (path_of groups g) (decimal g)
 
@@ -21,7 +21,7 @@ group_text groups g = option_map_or characters (path_of groups g) (decimal g)
 unfoldable pub candidate_text : List Group → Candidate → List ℕ
 candidate_text groups c = group_text groups c.group ++ codes " frames " ++ decimal c.frames
 
--- the end of a line: so many pages, and the usage under the limit then
+-- the end of a line: the bytes of this many pages, and the usage under the limit then
 unfoldable pub ending_text : ℕ → ℕ → List ℕ
 ending_text pages usage = codes " bytes " ++ bytes_text pages ++ codes " usage " ++ bytes_text usage ++ codes "\n"
 
@@ -30,13 +30,13 @@ abbrev pub limit_text : List Group → ℕ → ℕ → ℕ → ℕ → List ℕ
 limit_text groups g max usage need = codes "# limit " ++ group_text groups g ++ codes " " ++ bytes_text max
     ++ codes " usage " ++ bytes_text usage ++ codes " need " ++ bytes_text need ++ codes "\n"
 
--- a stock that was drained under a limit, and the usage under the limit then, where this was the usage before; nothing
--- for a stock that was drained for another reason
+-- A stock that was drained under a limit, and the usage under the limit afterwards, by the usage before. Nothing is
+-- written for a stock that was drained for another reason.
 abbrev pub stock_text : Option ℕ → ℕ → ℕ → List ℕ
 stock_text (Some usage) cpu pages = codes "# stock " ++ decimal cpu ++ ending_text pages (usage - pages)
 stock_text None cpu pages = []
 
--- a round of reclaim: the units that were tried came back or were missed
+-- a round of reclaim: the units that were tried were either freed (`returned`) or missed
 abbrev pub round_text : ℕ → ℕ → ℕ → ℕ → ℕ → List ℕ
 round_text number returned missed pages usage = codes "# round " ++ decimal number ++ codes " tried " ++ decimal (returned + missed)
     ++ codes " missed " ++ decimal missed ++ codes " returned " ++ decimal returned ++ ending_text pages usage
@@ -45,7 +45,7 @@ round_text number returned missed pages usage = codes "# round " ++ decimal numb
 abbrev pub oom_text : List Group → ℕ → List ℕ
 oom_text groups g = codes "# oom " ++ group_text groups g ++ codes "\n"
 
--- the next candidate, where there are more than one
+-- the next candidate, if there is more than one
 unfoldable pub next_text : List Group → ℕ → Candidate → List ℕ
 next_text groups candidates next = if nat_lt 1 candidates then codes ", next " ++ candidate_text groups next else []
 
@@ -53,7 +53,7 @@ next_text groups candidates next = if nat_lt 1 candidates then codes ", next " +
 unfoldable pub others_text : List Group → ℕ → Candidate → List ℕ
 others_text groups candidates next = codes " of " ++ decimal candidates ++ codes " candidates" ++ next_text groups candidates next
 
--- the group that is killed, among how many candidates, and the next of them
+-- the group that is killed, the number of candidates, and the next of them
 abbrev pub victim_text : List Group → Candidate → ℕ → Candidate → List ℕ
 victim_text groups victim candidates next =
     codes "# victim " ++ candidate_text groups victim ++ others_text groups candidates next ++ codes "\n"
@@ -62,13 +62,13 @@ victim_text groups victim candidates next =
 abbrev pub group_kill_text : List Group → ℕ → ℕ → List ℕ
 group_kill_text groups g number = codes "# group " ++ group_text groups g ++ codes " groups " ++ decimal number ++ codes "\n"
 
--- a group that was killed: what came back, how many of its units are pinned, what stays charged to the group itself, and the
--- usage under the limit
+-- a group that was killed: what was freed (`returned`), how many of its units are pinned, what stays charged to the
+-- group itself, and the usage under the limit
 abbrev pub killed_text : List Group → ℕ → ℕ → ℕ → ℕ → ℕ → ℕ → List ℕ
 killed_text groups g returned pages pinned left usage = codes "# killed " ++ group_text groups g ++ codes " returned " ++ decimal returned
     ++ codes " bytes " ++ bytes_text pages ++ codes " pinned " ++ decimal pinned ++ ending_text left usage
 
--- the line of a note, where this is the usage under the limit whose stocks are drained
+-- the line of a note; `usage` is that under the limit whose stocks are drained, if any
 abbrev pub line_text : List Group → Option ℕ → Note → List ℕ
 line_text groups _ (Limit g max usage need) = limit_text groups g max usage need
 line_text groups usage (Stock cpu pages) = stock_text usage cpu pages

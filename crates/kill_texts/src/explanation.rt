@@ -10,8 +10,8 @@ use group_tree::tree::Tree;
 use kill_notes::note::Note;
 use std::alloc::AllocError;
 
-/// Adds the explanation of the kills that these notes of a command tell of: the line of each note, and nothing where
-/// nobody was killed. A group that the tree doesn't have is told by its number. It fails only for want of memory.
+/// Adds the explanation of the kills among these notes of a command: the line of each note, and nothing if no group was
+/// killed. A group that the tree doesn't have is given by its number. It fails only if memory runs out.
 pub fn write_explanation(tree: &Tree, notes: &[Note], text: &mut String) -> Result<(), AllocError>
     ensures { IfOk result (λ _. string_bytes text.new ≡ string_bytes text.old ++ explanation_text tree.now notes.now) }
 {
@@ -22,7 +22,7 @@ pub fn write_explanation(tree: &Tree, notes: &[Note], text: &mut String) -> Resu
     }
 }
 
-// Whether somebody was killed.
+// Whether a group was killed.
 fn has_kill(notes: &[Note]) -> bool
     ensures { result ≡ list_any is_kill notes.now }
 {
@@ -47,7 +47,7 @@ fn write_lines(tree: &Tree, notes: &[Note], text: &mut String) -> Result<(), All
     Ok(())
 }
 
-// What is charged under the limit once this is noted, where the next stock has a line.
+// The usage under the limit after this note, if the next stock has a line.
 fn usage_after(usage: Option<u32>, note: &Note) -> Option<u32>
     ensures { result ≡ usage_after usage note.now }
 {

@@ -10,7 +10,7 @@ use group_tree::tree::Tree;
 use kill_notes::note::{Candidate, Note};
 use std::alloc::AllocError;
 
-// The line of a note. The usage is that under the limit whose stocks are drained; None where no stock has a line.
+// The line of a note. The usage is that under the limit whose stocks are drained; if it is None, no stock has a line.
 pub(crate) fn write_line(
     tree: &Tree,
     usage: Option<u32>,
@@ -70,7 +70,7 @@ fn write_limit(
     text.push_str("\n")
 }
 
-// A stock that was drained under a limit, where so many pages were charged before.
+// A stock that was drained under a limit, by the usage there before.
 fn write_stock(
     usage: Option<u32>,
     cpu: u32,
@@ -112,7 +112,7 @@ fn write_oom(tree: &Tree, group: GroupId, text: &mut String) -> Result<(), Alloc
     text.push_str("\n")
 }
 
-// The group that is killed, and the next one, where there is one.
+// The group that is killed, and the next one, if there is one.
 fn write_victim(
     tree: &Tree,
     victim: Candidate,
@@ -141,7 +141,7 @@ fn write_group_kill(
     text.push_str("\n")
 }
 
-// What came back of a group that was killed, how many of its units are pinned, and what stays charged to it.
+// What was freed of a killed group, how many of its units are pinned, and what stays charged to it.
 fn write_killed(
     tree: &Tree,
     group: GroupId,

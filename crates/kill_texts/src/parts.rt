@@ -19,7 +19,7 @@ pub(crate) fn push_count(word: &str, count: u128, text: &mut String) -> Result<(
     write!(text, "{count}")
 }
 
-// Adds a word and the bytes of so many pages, each of which has 4,096.
+// Adds a word and the bytes of this many pages, each of 4,096 bytes.
 #[tactic(auto, unfolding(crate::specs::Lines::bytes_text))]
 pub(crate) fn push_bytes(word: &str, pages: u64, text: &mut String) -> Result<(), AllocError>
     ensures { IfOk result (λ _. string_bytes text.new ≡ string_bytes text.old ++ (word.now ++ bytes_text pages)) }
@@ -27,7 +27,7 @@ pub(crate) fn push_bytes(word: &str, pages: u64, text: &mut String) -> Result<()
     push_count(word, u128::from(pages) * 4_096, text)
 }
 
-// Adds a word and the path of a group, or its number where the tree doesn't have it.
+// Adds a word and the path of a group, or its number if the tree doesn't have it.
 #[tactic(auto, unfolding(crate::specs::Lines::group_text, group_tree::specs::Groups::has_group, group_tree::specs::Groups::path_of))]
 pub(crate) fn push_group(
     word: &str,
@@ -73,7 +73,7 @@ pub(crate) fn push_others(
     push_next(tree, candidates, next, text)
 }
 
-// Adds the next candidate, where there are more than one.
+// Adds the next candidate, if there is more than one.
 #[tactic(auto, unfolding(crate::specs::Lines::next_text))]
 fn push_next(
     tree: &Tree,
@@ -89,7 +89,7 @@ fn push_next(
     push_candidate(", next ", tree, next, text)
 }
 
-// Adds the end of a line: the bytes of so many pages, and of the usage under the limit.
+// Adds the end of a line: the bytes of this many pages, and of the usage under the limit.
 #[tactic(auto, unfolding(crate::specs::Lines::ending_text))]
 pub(crate) fn push_ending(pages: u64, usage: u32, text: &mut String) -> Result<(), AllocError>
     ensures { IfOk result (λ _. string_bytes text.new ≡ string_bytes text.old ++ ending_text pages usage) }

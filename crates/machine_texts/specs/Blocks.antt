@@ -12,7 +12,7 @@ block_text block = decimal block.order ++ codes ":" ++ decimal block.at
 abbrev pub spaced_block : Block → List ℕ
 spaced_block block = codes " " ++ block_text block
 
--- what is written for `blocks`: the free blocks with a space between each two, or that there is none
+-- what is written for `blocks`: the free blocks with a space between each two, or `none`
 abbrev pub blocks_text : List Block → List ℕ
 blocks_text [] = codes "none\n"
 blocks_text (first ∷ others) = block_text first ++ flat_map spaced_block others ++ codes "\n"

@@ -1,4 +1,4 @@
--- The text of where the frames are.
+-- The text of the places of the frames.
 use Rattle.std.specs.Prelude.{◌≡◌, ℕ, List, [], ◌∷◌, ◌++◌, codes, ◌+◌, ◌-◌, ◌==◌, Bool, true, false, if◌then◌else◌}
 use Rattle.std.specs.Option.{option_map_or}
 use Rattle.std.specs.Fmt.{decimal}
@@ -10,7 +10,7 @@ use Rattle.mem_machine.specs.declared.spot.Place.TheVariants.{Free, Lent, Charge
 use Rattle.mem_machine.specs.Spots.{place_of}
 use Rattle.machine_texts.specs.Characters.{characters}
 
--- whether the two places are one
+-- whether the two places are the same
 abbrev pub is_same_place : Place → Place → Bool
 is_same_place Free Free = true
 is_same_place (Lent one) (Lent other) = one == other
@@ -22,17 +22,17 @@ is_same_place (Lent one) (Charged other) = false
 is_same_place (Charged one) Free = false
 is_same_place (Charged one) (Lent other) = false
 
--- the group that is charged for frames at this place, if any, is there
+-- the group that is charged for frames at this place, if any, exists
 abbrev pub KeeperIsThere : List Group → Place → Type 0
 KeeperIsThere groups (Charged group) = has_group groups group ≡ true
 KeeperIsThere groups Free = Unit {0}
 KeeperIsThere groups (Lent processor) = Unit {0}
 
--- the group that is charged for a frame with this record, if any, is there
+-- the group that is charged for a frame with this record, if any, exists
 abbrev pub SpotIsThere : List Group → Spot → Type 0
 SpotIsThere groups spot = KeeperIsThere groups (place_of spot)
 
--- where a frame is: in the free areas, lent to this processor, or charged to the group of this path
+-- the place of a frame: in the free areas, lent to this CPU, or charged to the group of this path
 abbrev pub place_text : List Group → Place → List ℕ
 place_text groups Free = codes "free"
 place_text groups (Lent processor) = codes "cpu " ++ decimal processor
@@ -48,7 +48,8 @@ frames_text first last =
 abbrev pub run_text : List Group → (first last : ℕ) → Place → List ℕ
 run_text groups first last place = frames_text first last ++ place_text groups place ++ codes "\n"
 
--- the frames from `first` to the one before `next` are at this place, and those from `next` on have these records
+-- the lines for the frames from `first` on: those up to just before `next` are at this place, and those from `next` on
+-- have these records
 abbrev pub runs_text : List Group → (first next : ℕ) → Place → List Spot → List ℕ
 runs_text groups first next place [] = run_text groups first (next - 1) place
 runs_text groups first next place (spot ∷ spots) =

@@ -1,4 +1,4 @@
--- The text of where the frames are and what the groups use.
+-- The text of the places of the frames and of what the groups use.
 use Rattle.std.specs.Prelude.{ℕ, List, [], ◌++◌, codes, ◌*◌, ◌==◌, if◌then◌else◌}
 use Rattle.std.specs.List.{flat_map}
 use Rattle.std.specs.Fmt.{decimal}

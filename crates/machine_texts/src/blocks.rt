@@ -11,8 +11,8 @@ use std::alloc::AllocError;
 use zone_blocks::block::Block;
 use zone_blocks::walk::Walk;
 
-/// Adds a line with each free block, its order and its first frame, by order and then by address; `none` where
-/// there is none. It fails only for want of memory.
+/// Adds a line with each free block, its order and its first frame, by order and then by address; `none` if there is
+/// none. It fails only if memory runs out.
 pub fn write_blocks<N: BootName>(machine: &Machine<N>, text: &mut String) -> Result<(), AllocError>
     ensures { IfOk result (λ _. string_bytes text.new ≡ string_bytes text.old ++ blocks_text machine.now.blocks) }
 {

@@ -1,4 +1,4 @@
-//! The texts that the machine is told in: which frames are where, what each group uses, and the free blocks.
+//! The texts that show the machine: the places of the frames, what each group uses, and the free blocks.
 #![tactic(auto)]
 
 mod blocks;

@@ -1,4 +1,4 @@
-//! Where the frames are.
+//! The places of the frames.
 
 ghost use Rattle.std.specs.Prelude.{◌≡◌, ◌++◌, All, IfOk};
 ghost use Rattle.std.specs.String.{string_bytes};
@@ -30,7 +30,7 @@ pub(crate) fn write_places(spots: &[Spot], tree: &Tree, text: &mut String) -> Re
     write_run(first, spots.len() - 1, &place, tree, text)
 }
 
-// Whether the two places are one.
+// Whether the two places are the same.
 fn is_same_place(one: &Place, other: &Place) -> bool
     ensures { result ≡ is_same_place one.now other.now }
 {
@@ -65,7 +65,7 @@ fn write_frames(first: usize, last: usize, text: &mut String) -> Result<(), Allo
     }
 }
 
-// The place itself: for frames that are charged, the path of their group, which is there.
+// The place itself. For frames that are charged it is the path of their group, which exists.
 fn write_place(place: &Place, tree: &Tree, text: &mut String) -> Result<(), AllocError>
     requires { KeeperIsThere tree.now place.now }
     ensures { IfOk result (λ _. string_bytes text.new ≡ string_bytes text.old ++ place_text tree.now place.now) }

@@ -1,12 +1,12 @@
--- What a line of a script is answered. No value of this type is made when the program runs: definitions speak of it.
+-- What a line of a script is answered. No value of this type is made when the program runs; it is for definitions.
 use Rattle.cpu_part.specs.declared.answers.Fast as cpu
 use Rattle.frame_word.specs.declared.answers.Get as get
 use Rattle.frame_word.specs.declared.answers.Put as put
 use Rattle.mem_system.specs.declared.command.Reply.{Reply}
 
--- what a line is answered, but for `show` and `blocks`, whose answers are texts of any length: what was served under
--- the lock, or refused before; that the processor was settled, and nothing else; what a call that takes no lock answered;
--- and that a fresh frame stands at the end of the list again
+-- What a line is answered, except `show` and `blocks`, whose answers are texts of any length. Served: what was served
+-- under the lock, or refused before. Settled: the CPU was settled, and nothing else. Fast, Got and Put: what a call
+-- without a lock answered. Listed: a fresh frame is at the end of the list again.
 pub data Answer : Type 0 where
   Served : Reply → Answer
   Settled : Answer

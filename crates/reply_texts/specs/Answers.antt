@@ -27,7 +27,7 @@ get_text Zero = codes "zero\n"
 get_text (Raced found) = codes "raced\n"
 get_text Full = codes "full\n"
 
--- what is written for a pin taken off
+-- what is written for a pin given up
 abbrev pub put_text : word.Put → List ℕ
 put_text (Left references) = codes "left " ++ decimal references ++ codes "\n"
 put_text Last = codes "last\n"

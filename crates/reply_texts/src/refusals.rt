@@ -11,7 +11,7 @@ use group_tree::path::PathText;
 use machine_texts::push_characters;
 use std::alloc::AllocError;
 
-/// Adds the line of a refusal: its number and its name. It fails only for want of memory.
+/// Adds the line of a refusal: its number and its name. It fails only if memory runs out.
 pub fn write_refusal(fault: &Fault, text: &mut String) -> Result<(), AllocError>
     ensures { IfOk result (λ _. string_bytes text.new ≡ string_bytes text.old ++ refusal_text fault.now) }
 {

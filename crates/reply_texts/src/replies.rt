@@ -16,7 +16,7 @@ use machine_texts::push_characters;
 use mem_system::{Outcome, Reply};
 use std::alloc::AllocError;
 
-/// Adds what is written for a reply, with the line feed of each of its lines. It fails only for want of memory.
+/// Adds what is written for a reply, with the line feed of each of its lines. It fails only if memory runs out.
 pub fn write_reply(reply: &Reply, text: &mut String) -> Result<(), AllocError>
     ensures { IfOk result (λ _. string_bytes text.new ≡ string_bytes text.old ++ reply_text reply.now) }
 {
@@ -40,8 +40,8 @@ pub fn write_reply(reply: &Reply, text: &mut String) -> Result<(), AllocError>
     }
 }
 
-/// Adds what is written for the reply that these charges tell of an outcome: the text that `write_reply` adds for it,
-/// with no reply made. It fails only for want of memory.
+/// Adds what is written for an outcome, with paths and file texts from these charges. This is the text that
+/// `write_reply` adds for the reply of the outcome, but no reply is made. It fails only if memory runs out.
 pub fn write_outcome(
     charges: &Charges,
     outcome: &Outcome,
@@ -70,7 +70,7 @@ pub fn write_outcome(
     }
 }
 
-// The text of a file of a group that is there and isn't the root.
+// The text of a file of a group that exists and isn't the root.
 #[inline(never)]
 fn write_file(
     charges: &Charges,

@@ -1,4 +1,4 @@
-//! What is written for the calls that take no lock, and for a processor that was settled.
+//! What is written for the calls that take no lock, and for a CPU that was settled.
 
 ghost use Rattle.std.specs.Prelude.{◌≡◌, ◌++◌, IfOk};
 ghost use Rattle.std.specs.String.{string_bytes};
@@ -10,7 +10,7 @@ use cpu_part::Fast;
 use frame_word::{Get, Put};
 use std::alloc::AllocError;
 
-/// Adds the line for a frame asked for without the lock. It fails only for want of memory.
+/// Adds the line for a frame asked for without the lock. It fails only if memory runs out.
 pub fn write_fast(fast: &Fast, text: &mut String) -> Result<(), AllocError>
     ensures { IfOk result (λ _. string_bytes text.new ≡ string_bytes text.old ++ fast_text fast.now) }
 {
@@ -24,7 +24,7 @@ pub fn write_fast(fast: &Fast, text: &mut String) -> Result<(), AllocError>
     }
 }
 
-/// Adds the line for a pin asked for. It fails only for want of memory.
+/// Adds the line for a pin asked for. It fails only if memory runs out.
 pub fn write_get(get: &Get, text: &mut String) -> Result<(), AllocError>
     ensures { IfOk result (λ _. string_bytes text.new ≡ string_bytes text.old ++ get_text get.now) }
 {
@@ -36,7 +36,7 @@ pub fn write_get(get: &Get, text: &mut String) -> Result<(), AllocError>
     }
 }
 
-/// Adds the line for a pin taken off. It fails only for want of memory.
+/// Adds the line for a pin given up. It fails only if memory runs out.
 pub fn write_put(put: &Put, text: &mut String) -> Result<(), AllocError>
     ensures { IfOk result (λ _. string_bytes text.new ≡ string_bytes text.old ++ put_text put.now) }
 {
@@ -46,14 +46,14 @@ pub fn write_put(put: &Put, text: &mut String) -> Result<(), AllocError>
     }
 }
 
-/// Adds the line for a fresh frame that stands at the end of the list again. It fails only for want of memory.
+/// Adds the line for a fresh frame that is at the end of the list again. It fails only if memory runs out.
 pub fn write_listed(text: &mut String) -> Result<(), AllocError>
     ensures { IfOk result (λ _. string_bytes text.new ≡ string_bytes text.old ++ answer_text Listed) }
 {
     text.push_str("listed\n")
 }
 
-/// Adds the line for a processor that was settled, and nothing else. It fails only for want of memory.
+/// Adds the line for a CPU that was settled, and nothing else. It fails only if memory runs out.
 pub fn write_settled(text: &mut String) -> Result<(), AllocError>
     ensures { IfOk result (λ _. string_bytes text.new ≡ string_bytes text.old ++ answer_text Settled) }
 {

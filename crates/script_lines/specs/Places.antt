@@ -1,7 +1,7 @@
--- Where a byte stands in a text.
+-- The place of a byte in a text.
 use Rattle.std.specs.Prelude.{◌≡◌, ◌≢◌, ℕ, ◌<◌, List, All, length, slice_index, take}
 
--- the first place in the text at which this byte stands
+-- the first place in the text that has this byte
 pub record IsFirstPlace (wanted : ℕ) (text : List ℕ) (place : ℕ) : Type 0 where
   pub inside : place < length text
   pub here : slice_index text place ≡ wanted

@@ -18,7 +18,7 @@ use Rattle.script_lines.specs.declared.fault.ScriptFault.TheVariants.{BadLine, N
 abbrev pub texts_of : List ℕ → List (List ℕ)
 texts_of script = slice_split (λ b. b == 10) script
 
--- the texts of what is left of a script, none where nothing is
+-- the texts of the rest of a script; none if there is no rest
 abbrev pub texts_left : Option (Bor (List ℕ)) → List (List ℕ)
 texts_left None = []
 texts_left (Some rest) = texts_of rest.now
@@ -28,7 +28,7 @@ pub record IsCut (text word rest : List ℕ) : Type 0 where
   pub parts : text ≡ word ++ 32 ∷ rest
   pub no_space : All (λ b. b ≢ 32) word
 
--- `P COMMAND`, where P is the number of a processor
+-- `P COMMAND`, P being the number of a CPU
 pub record IsRequestText (sizes : Config) (processor : ℕ) (command : Command) (text : List ℕ) : Type 0 where
   pub digits : List ℕ
   pub rest : List ℕ
@@ -42,7 +42,7 @@ pub record IsRequestText (sizes : Config) (processor : ℕ) (command : Command) 
 abbrev pub is_go : List ℕ → Bool
 is_go text = pointwise nat_eq text (codes "go")
 
--- the n-th line is `go`, or `P COMMAND` and has its number
+-- the n-th line is `go`, or is `P COMMAND` and has its number
 abbrev pub IsLineText : Config → ℕ → Line → List ℕ → Type 0
 IsLineText sizes n Go text = text ≡ codes "go"
 IsLineText sizes n (At number processor command) text = (number ≡ n) × IsRequestText sizes processor command text
@@ -52,11 +52,11 @@ abbrev pub is_skipped : List ℕ → Bool
 is_skipped [] = true
 is_skipped (b ∷ bs) = b == 35
 
--- the texts that ask for something, each behind its number among all, from 1
+-- the texts that are neither empty nor comments, each with its number among all texts, from 1
 abbrev pub asking_texts : List (List ℕ) → List (ℕ × List ℕ)
 asking_texts texts = filter (λ t. not (is_skipped t.1)) (enumerate_from 1 texts)
 
--- the lines are what the asking texts say, in order
+-- the lines are those that these texts write, in order
 abbrev pub AreLines : Config → List (List ℕ) → List Line → Type 0
 AreLines sizes texts lines = AllZip (λ t line. IsLineText sizes t.0 line t.1) (asking_texts texts) lines
 
@@ -64,11 +64,12 @@ AreLines sizes texts lines = AllZip (λ t line. IsLineText sizes t.0 line t.1) (
 abbrev pub has_go : List (List ℕ) → Bool
 has_go texts = list_any is_go texts
 
--- the bytes of a script that are line feeds, so the lines that end in it
+-- how many bytes of a script are line feeds, and so how many lines end in it
 abbrev pub ended_lines : List ℕ → ℕ
 ended_lines script = count_by (λ b. b == 10) script
 
--- the n-th line is not too long, is within the bytes that a script may have, says what a line may, and isn't a second `go`
+-- the n-th line is at most 1,024 bytes, is within the 1,048,576 bytes that a script may have, is `go`, `P COMMAND` or
+-- skipped, and isn't a second `go`
 pub record IsGoodLine (sizes : Config) (script : List ℕ) (n : ℕ) : Type 0 where
   pub text : List ℕ
   pub is_text : slice_get (texts_of script) (n - 1) ≡ Some text
@@ -77,7 +78,7 @@ pub record IsGoodLine (sizes : Config) (script : List ℕ) (n : ℕ) : Type 0 wh
   pub says : is_skipped text ≡ false → (line : Line) × IsLineText sizes n line text
   pub once : is_go text ≡ true → has_go (take (n - 1) (texts_of script)) ≡ false
 
--- a script of at most 1,048,576 bytes, in which every line is good, and its lines
+-- the script has at most 1,048,576 bytes, every line in it is good, and these are its lines
 pub record IsScript (sizes : Config) (script : List ℕ) (lines : List Line) : Type 0 where
   pub fits : length script ≤ 1048576
   pub good : (n : ℕ) → 1 ≤ n → n ≤ length (texts_of script) → IsGoodLine sizes script n
@@ -90,7 +91,7 @@ pub record IsFirstBadLine (sizes : Config) (script : List ℕ) (n : ℕ) : Type 
   pub bad : ¬ IsGoodLine sizes script n
   pub first : (k : ℕ) → 1 ≤ k → k < n → IsGoodLine sizes script k
 
--- what the fault says of the script
+-- the fault names the first line that isn't good, or says that memory ran out
 abbrev pub NamesFirstBadLine : Config → List ℕ → ScriptFault → Type 0
 NamesFirstBadLine sizes script (BadLine n) = IsFirstBadLine sizes script n
 NamesFirstBadLine sizes script NoMemory = ⊤

@@ -31,7 +31,7 @@ its_verb (command.Owner frame) = Owner
 its_verb command.Blocks = Blocks
 its_verb command.Show = Show
 
--- the command about this frame; none where it is about none
+-- the command about this frame; None for a command that names no frame
 abbrev pub on_frame : Verb → ℕ → Option Command
 on_frame Release frame = Some (command.Release frame)
 on_frame Get frame = Some (command.Get frame)
@@ -87,19 +87,18 @@ pub record IsReadText (path file text : List ℕ) : Type 0 where
   pub path_text : IsPathText path
   pub file_text : IsPathText file
 
--- `PATH FILE VALUE`, where the value is all that follows the space after the file's name: it may have spaces,
--- and be empty
+-- `PATH FILE VALUE`; the value is all that follows the space after the file's name, so it may have spaces or be empty
 pub record IsWriteText (path file value text : List ℕ) : Type 0 where
   pub parts : text ≡ path ++ 32 ∷ (file ++ 32 ∷ value)
   pub path_text : IsPathText path
   pub file_text : IsPathText file
 
--- a frame of the zone, by its number
+-- the number of a frame of the zone
 pub record IsFrameText (sizes : Config) (frame : ℕ) (text : List ℕ) : Type 0 where
   pub writes : WritesNumber text frame
   pub in_zone : frame < sizes.frames
 
--- the number of a group, which needn't be there: 0 to 63
+-- the number of a group, 0 to 63, which needn't exist
 pub record IsGroupText (group : ℕ) (text : List ℕ) : Type 0 where
   pub writes : WritesNumber text group
   pub low : group < 64
@@ -127,7 +126,7 @@ HasArguments sizes command.Settle text = ⊥
 HasArguments sizes command.Blocks text = ⊥
 HasArguments sizes command.Show text = ⊥
 
--- the name of a command and its arguments after a space; or the name alone
+-- the name of a command, a space and its arguments; or the name alone
 abbrev pub IsCommandText : Config → Command → List ℕ → Type 0
 IsCommandText sizes command.Settle text = text ≡ codes "settle"
 IsCommandText sizes command.Blocks text = text ≡ codes "blocks"
@@ -148,6 +147,6 @@ named_commands =
 abbrev pub verb_named : List ℕ → Option Verb
 verb_named name = lookup (λ key. pointwise nat_eq name key) named_commands
 
--- the table has each command at its name, and no other name
+-- the table has each command under its name, and no other name
 abbrev pub IsNames : {S : Type 0} → HashMap Name Verb S → Type 0
 IsNames names = (name : List ℕ) → get_by (λ key. pointwise nat_eq name key.text.now) names ≡ verb_named name

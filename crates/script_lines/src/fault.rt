@@ -9,7 +9,7 @@ use thiserror::Error;
 /// Why a script gives no lines.
 #[derive(Clone, Copy, Debug, Error)]
 pub enum ScriptFault {
-    /// The first line that isn't in the grammar, counted from 1.
+    /// The number, from 1, of the first line that isn't in the grammar.
     #[error("bad line {0}")]
     BadLine(usize),
     /// Memory ran out.

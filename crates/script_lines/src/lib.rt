@@ -1,4 +1,4 @@
-//! The form of a script: its bytes, cut into lines, each a processor and what is done there.
+//! The form of a script: its bytes, cut into lines, each a CPU and what is done there.
 #![tactic(auto)]
 
 pub mod fault;

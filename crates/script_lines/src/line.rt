@@ -3,10 +3,10 @@
 /// One line of a script.
 #[derive(Clone, Copy, Debug, PartialEq, Eq)]
 pub enum Line<'a> {
-    /// From here on each processor may run its own lines beside the others.
+    /// From here on each CPU may run its own lines while others run theirs.
     Go,
-    /// What is done at a processor, which goes by its number, from 1. The line has a number too: its place among all
-    /// lines of the script's text, from 1, in which empty lines and comments count.
+    /// What is done at a CPU, given by its number, from 1. The line has a number too: its place among all lines of the
+    /// script's text, from 1. Empty lines and comments count.
     At {
         number: usize,
         processor: u32,
@@ -14,25 +14,25 @@ pub enum Line<'a> {
     },
 }
 
-/// What a line asks for. A path and a file's name are runs of bytes above 32 and below 127: whether they are
-/// those of a group and a file is not for the line to say. A frame is one of the zone's.
+/// What a line asks for. A path and a file's name are bytes above 32 and below 127. Whether such a group and file exist
+/// is not checked here. A frame is one of the zone.
 #[derive(Clone, Copy, Debug, PartialEq, Eq)]
 pub enum Command<'a> {
     /// Makes the group of this path.
     Mkdir {
         path: &'a [u8],
     },
-    /// Takes out the group of this path.
+    /// Removes the group of this path.
     Rmdir {
         path: &'a [u8],
     },
-    /// Writes a value, which may be any bytes and none, to a file of the group of this path.
+    /// Writes a value, which may be any bytes or none, to a file of the group of this path.
     Write {
         path: &'a [u8],
         file: &'a [u8],
         value: &'a [u8],
     },
-    /// Tells the text of a file of the group of this path.
+    /// Reads the text of a file of the group of this path.
     Read {
         path: &'a [u8],
         file: &'a [u8],
@@ -42,11 +42,11 @@ pub enum Command<'a> {
         path: &'a [u8],
         order: u32,
     },
-    /// Takes a frame from the processor's list for the group of this number, 0 to 63, without the lock.
+    /// Takes a frame from the CPU's list for the group of this number, 0 to 63, without the lock.
     Fast {
         group: u32,
     },
-    /// Releases the unit which this frame heads.
+    /// Releases the unit that this frame heads.
     Release {
         frame: u32,
     },
@@ -54,30 +54,30 @@ pub enum Command<'a> {
     Get {
         frame: u32,
     },
-    /// Takes a pin from this frame.
+    /// Removes a pin from this frame.
     Put {
         frame: u32,
     },
-    /// Settles the processor, and nothing else.
+    /// Settles the CPU, and nothing else.
     Settle,
-    /// Notes that the unit which this frame heads was used.
+    /// Notes that the unit that this frame heads was used.
     Touch {
         frame: u32,
     },
-    /// Notes that the pages of the unit which this frame heads are dirty.
+    /// Notes that the pages of the unit that this frame heads are dirty.
     Dirty {
         frame: u32,
     },
-    /// Notes that the pages of the unit which this frame heads aren't dirty.
+    /// Notes that the pages of the unit that this frame heads aren't dirty.
     Clean {
         frame: u32,
     },
-    /// Tells where this frame is.
+    /// Shows the place of this frame.
     Owner {
         frame: u32,
     },
-    /// Tells the blocks of the zone's free areas.
+    /// Shows the blocks of the zone's free areas.
     Blocks,
-    /// Tells the place of every frame and the usage of every group.
+    /// Shows the place of every frame and the usage of every group.
     Show,
 }

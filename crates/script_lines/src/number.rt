@@ -7,8 +7,8 @@ ghost use Rattle.std.specs.Str.Parse.{IsNumeral, digits_value};
 /// The greatest number that a word writes.
 const MOST: u64 = 4_294_967_295;
 
-/// The number that the word writes in decimal digits, leading zeros allowed. None where the word is empty,
-/// has another byte, or the number is above 2^32 - 1.
+/// The number that the word writes in decimal digits, leading zeros allowed. None if the word is empty, has another
+/// byte, or the number is above 2^32 - 1.
 pub fn number(word: &[u8]) -> Option<u32>
     ensures { SomeIff result (IsNumeral 10 word.now × (digits_value 10 word.now < 2 ^ 32)) (digits_value 10 word.now) }
 {

@@ -5,7 +5,7 @@ ghost use Rattle.script_lines.specs.Places.{IsFirstPlace};
 
 use std::simd::prelude::*;
 
-/// The place of the first such byte. The next 32 bytes are looked at together: most lines end there.
+/// The place of the first byte that is `wanted`. The first 32 bytes are compared at once: most lines end there.
 pub fn place_of(wanted: u8, text: &[u8]) -> Option<usize>
     ensures { MatchOption result (All (λ b. b ≢ wanted) text.now) (λ place. IsFirstPlace wanted text.now place) }
 {
@@ -20,7 +20,8 @@ pub fn place_of(wanted: u8, text: &[u8]) -> Option<usize>
     place_by_one(wanted, text)
 }
 
-/// The same, for a place that is near. It stays a call: inlined, its loop keeps a register for each slice that is cut at the place.
+/// The same, for a place that is near. It stays a call: inlined, its loop keeps a register for each slice that is cut
+/// at the place.
 #[inline(never)]
 pub fn place_by_one(wanted: u8, text: &[u8]) -> Option<usize>
     ensures { MatchOption result (All (λ b. b ≢ wanted) text.now) (λ place. IsFirstPlace wanted text.now place) }

@@ -17,7 +17,7 @@ use crate::verb::{Names, Verb, command_names, verb_of};
 use std::alloc::Global;
 use zone_sizes::config::Config;
 
-/// The numbers of groups, from 0.
+/// How many group numbers there are, from 0.
 const MOST_GROUPS: u32 = 64;
 
 /// The most bytes that a script has.
@@ -28,11 +28,11 @@ const MOST_LINE: usize = 1_024;
 
 /// The lines of a script in their order, without the empty ones and those that begin with `#`, each with its number.
 ///
-/// Each line ends with a line feed, which the last may lack, and is `go` or `P COMMAND`, with a single space
-/// between words and none at either end, but for the value of `write`, which is all that follows the space
-/// after the file's name. P is a processor and a frame one of the zone's, by the configuration's sizes. A line
-/// that isn't so, is longer than 1,024 bytes, or is a second `go`, is a bad line, and so is the one in which
-/// the byte stands that is past 1,048,576. The fault names the first bad line.
+/// Each line ends with a line feed, which the last may lack, and is `go` or `P COMMAND`. P is a CPU and a frame is one
+/// of the zone, by the configuration's sizes. A single space is between words and none at either end, except in the
+/// value of `write`, which is all that follows the space after the file's name. Any other line is a bad line. So is one
+/// longer than 1,024 bytes, a second `go`, and the line with the byte after the first 1,048,576. The fault names the
+/// first bad line.
 pub fn parse_script<'a>(
     alloc: Global,
     input: &'a [u8],
@@ -84,7 +84,7 @@ fn parse_lines<'a>(
     Ok(lines)
 }
 
-// The text of the first line, and what stands after its line feed. None where it has no line feed.
+// The text of the first line, and what follows its line feed: None if it has no line feed.
 fn first_line(text: &[u8]) -> (&[u8], Option<&[u8]>)
     ensures { texts_of text.now ≡ result.0.now ∷ texts_left result.1 }
 {
@@ -94,8 +94,8 @@ fn first_line(text: &[u8]) -> (&[u8], Option<&[u8]>)
     }
 }
 
-// The number of the line in which the first byte past the most stands, where there is one. A line feed
-// belongs to the line that it ends.
+// The number of the line with the first byte past the most, if there is one. A line feed belongs to the line that it
+// ends.
 fn line_over(input: &[u8]) -> Option<usize>
     ensures { MatchOption result (length input.now ≤ 1048576)
         (λ n. (1048576 < length input.now) × (n ≡ ended_lines (take 1048576 input.now) + 1)) }
@@ -120,7 +120,7 @@ fn is_within(number: usize, over: Option<usize>) -> bool
     }
 }
 
-// Whether a line is passed over.
+// Whether a line is skipped.
 fn is_skipped(text: &[u8]) -> bool
     ensures { result ≡ is_skipped text.now }
 {
@@ -154,7 +154,7 @@ fn parse_line<'a>(names: &Names, number: usize, text: &'a [u8], sizes: &Config) 
     })
 }
 
-// The processor and the command.
+// The CPU and the command.
 fn parse_request<'a>(names: &Names, text: &'a [u8], sizes: &Config) -> Option<(u32, Command<'a>)>
     requires { IsNames names.now }
     ensures { MatchOption result
@@ -186,7 +186,7 @@ fn parse_command<'a>(names: &Names, text: &'a [u8], sizes: &Config) -> Option<Co
     }
 }
 
-// The command, whose name this is, with its arguments.
+// The command of this name, with its arguments.
 fn parse_arguments<'a>(verb: Verb, arguments: &'a [u8], sizes: &Config) -> Option<Command<'a>>
     ensures { MatchOption result
         ((command : Command) → its_verb command ≡ verb → ¬ HasArguments sizes.now command arguments.entry.now)
@@ -220,7 +220,7 @@ fn parse_arguments<'a>(verb: Verb, arguments: &'a [u8], sizes: &Config) -> Optio
     }
 }
 
-// The command about this frame. None where it is about none.
+// The command about this frame. None for a command that names no frame.
 fn on_frame<'a>(verb: Verb, frame: u32) -> Option<Command<'a>>
     ensures { result ≡ on_frame verb frame }
 {
@@ -292,7 +292,7 @@ fn parse_read(arguments: &[u8]) -> Option<(&[u8], &[u8])>
     Some((path_of(path)?, path_of(file)?))
 }
 
-// What stands before the first space, and what stands after it. None where there is no space.
+// What is before the first space, and what follows it. None if there is no space.
 fn first_word(text: &[u8]) -> Option<(&[u8], &[u8])>
     ensures { MatchOption result (All (λ b. b ≢ 32) text.now) (λ p. IsCut text.now p.0.now p.1.now) }
 {
@@ -300,7 +300,7 @@ fn first_word(text: &[u8]) -> Option<(&[u8], &[u8])>
     Some((&text[..end], &text[end + 1..]))
 }
 
-// The text, where it is a path or a file name: some bytes above 32 and below 127.
+// The text, if it is a path or a file name: one or more bytes above 32 and below 127.
 fn path_of(text: &[u8]) -> Option<&[u8]>
     ensures { MatchOption result (¬ IsPathText text.now) (λ path. IsPathText text.now × (path.now ≡ text.now)) }
 {

@@ -28,7 +28,7 @@ pub enum Verb {
     Show,
 }
 
-/// The name of a command, as a script writes it. A map hashes it in one piece; a slice it would hash byte by byte.
+/// The name of a command, as a script writes it. A map hashes it in one piece; it would hash a slice byte by byte.
 #[derive(Clone, Copy, Debug, PartialEq, Eq)]
 pub struct Name<'a> {
     text: &'a [u8],
@@ -58,7 +58,7 @@ impl<'a> Hash for Name<'a> {
 /// The commands by their names.
 pub type Names = IndexMap<Name<'static>, Verb>;
 
-/// A new table of all commands by their names. `AllocError` comes where memory is wanting.
+/// A new table of all commands by their names. `AllocError` if memory runs out.
 pub fn command_names(alloc: Global) -> Result<Names, AllocError>
     ensures { IfOk result IsNames }
 {
@@ -85,7 +85,7 @@ pub fn command_names(alloc: Global) -> Result<Names, AllocError>
     )
 }
 
-/// The command of this name, where there is one.
+/// The command of this name, if there is one.
 pub fn verb_of(names: &Names, name: &[u8]) -> Option<Verb>
     requires { IsNames names.now }
     ensures { result ≡ verb_named name.now }

@@ -1,5 +1,5 @@
--- Sums over the views of all seats of a table.
--- A seat's view is itself a list of views: one, two where it took in another seat's, none where it is spent or empty.
+-- Sums over the views of all seats of a table. A seat's view is itself a list of views: one, two if it took in another
+-- seat's, none if it is empty.
 use Rattle.std.specs.Prelude.{◌≡◌, ℕ, ◌+◌, List, [], ◌∷◌, ◌++◌, slice_set}
 use mathlib.Core.Option.{some}
 use lib.ListN.{get_elem?}
@@ -17,11 +17,11 @@ total_over f seats = sum_over (λ views. sum_over f views) seats
 abbrev pub SameTotals : {V : Type 0} → List (List V) → List (List V) → Type 0
 SameTotals {V} before after = (f : V → ℕ) → total_over f after ≡ total_over f before
 
--- a seat whose views are cut into two lists, of which a new seat gets the second
+-- the seats after one seat's views are cut into two lists, of which a new seat gets the second
 abbrev pub split_of : {V : Type 0} → List (List V) → ℕ → List V → List V → List (List V)
 split_of seats id left right = slice_set seats id left ++ right ∷ []
 
--- a seat that takes in the views of another, which is left with none
+-- the seats after one seat takes in the views of another, which has none then
 abbrev pub join_of : {V : Type 0} → List (List V) → ℕ → List V → ℕ → List V → List (List V)
 join_of seats id views other taken = slice_set (slice_set seats id (views ++ taken)) other []
 

@@ -1,7 +1,6 @@
-//! Sums over the views of all seats of a table of words.
-//! A seat's view is a list of views, so that seats can be joined and split: one view, two where
-//! the seat took in another's, none where it is spent or empty. A rule that reads views only
-//! through totals over all seats then holds on, whatever is joined or split.
+//! Sums over the views of all seats of a table of words. A seat's view is a list of views, so that seats can be joined
+//! and split: one view, two if the seat took in another's, none if it is empty. A rule that reads views only through
+//! totals over all seats still holds after any split or join.
 #![tactic(auto)]
 
 ghost use Rattle.seat_sums.specs.Totals.{SplitsKeepTotals, JoinsKeepTotals};

@@ -20,48 +20,48 @@ use Rattle.step_rules.specs.Phases.{FreshFrame, has_as, unit_of, at_stage, stage
 use Rattle.step_rules.specs.State.{Zone, Part, State, at_boot, with_at, one_if, without, with_last, front_of}
 use Rattle.step_rules.specs.Legal.{Allows}
 
--- one frame is in another phase
+-- one frame gets another phase
 abbrev pub with_phase : State → ℕ → Phase → State
 with_phase s f phase = record s { phases = with_at s.phases f phase }
 
--- one processor has another part
+-- one CPU gets another part
 abbrev pub with_part : State → ℕ → Part → State
 with_part s p part = record s { parts = with_at s.parts p part }
 
--- the seat has so many references on the frame
+-- the seat gets this many references on the frame
 abbrev pub with_references : State → ℕ → ℕ → ℕ → State
 with_references s seat f n = record s { references = with_at s.references seat (with_at (s.references seat) f n) }
 
--- so many pages are pending for the group
+-- this many pages are pending for the group
 abbrev pub with_pending : State → ℕ → ℕ → State
 with_pending s g n = record s { pending = with_at s.pending g n }
 
--- the frame is one of so many from this one on
+-- the frame is one of n frames, of which `at` is the first
 abbrev pub is_within : ℕ → ℕ → ℕ → Bool
 is_within at n f = nat_le at f && nat_lt f (at + n)
 
--- the phase of a frame of a block that is placed: its head, and the rest
+-- the phase of a frame of a placed block: of the head, or of another frame
 abbrev pub placed_phase : ℕ → Block → ℕ → Phase
 placed_phase g b f = if f == b.at then Head (record { group = g; order = b.order }) Bare else Tail g
 
--- the phases with those of a block that is placed
+-- the phases, with those of a block that is placed
 abbrev pub with_block : (ℕ → Phase) → ℕ → Block → ℕ → Phase
 with_block phases g b f = if is_within b.at (2 ^ b.order) f then placed_phase g b f else phases f
 
--- how many frames come back with this one
+-- how many frames are returned together with this one: those of its unit
 abbrev pub unit_size : Option ChargedUnit → ℕ
 unit_size None = 1
 unit_size (Some unit) = 2 ^ unit.order
 
--- the phases with the frames of a unit free again
+-- the phases, with the frames of a unit free again
 abbrev pub without_unit : (ℕ → Phase) → ℕ → ℕ → Phase
 without_unit phases f x = if is_within f (unit_size (unit_of (phases f))) x then InZone else phases x
 
--- the frame is at the end of the list
+-- the part with the frame at the end of its list
 abbrev pub with_listed : Part → ℕ → Part
 with_listed part f = record part { list = with_last part.list f }
 
--- the frame is on none of the lists; the page of one that was fresh is to be reported
+-- the part with the frame on none of its lists; if it was fresh, one more page is unreported
 abbrev pub taken_off : Part → ℕ → Bool → Part
 taken_off part f was_fresh = record part {
   list = without f part.list;
@@ -70,19 +70,19 @@ taken_off part f was_fresh = record part {
   unreported = part.unreported + one_if was_fresh;
 }
 
--- the part without one of its frames that it passes back; the page of a fresh one is to be reported
+-- the part without a frame that it passes back; if that one was fresh, one more page is unreported
 abbrev pub without_frame : Part → Phase → ℕ → ℕ → Part
 without_frame part phase p f = taken_off part f (has_as FreshFrame p phase)
 
--- so many pages were reported
+-- the part with n of its unreported pages reported
 abbrev pub with_report : Part → ℕ → Part
 with_report part n = record part { unreported = part.unreported - n; reported = part.reported + n }
 
--- so many reported pages were taken off the book
+-- the part with n reported pages taken off its book
 abbrev pub absorbed : Part → ℕ → Part
 absorbed part n = record part { book = part.book - n; reported = part.reported - n }
 
--- the front of the list is fresh, paid with one page of the stock
+-- the front of the list becomes fresh, paid with one page of the stock
 abbrev pub paid : Part → Part
 paid part = record part {
   list = without (front_of part.list) part.list;
@@ -90,7 +90,7 @@ paid part = record part {
   stock = record (part.stock) { pages = part.stock.pages - 1 };
 }
 
--- the fresh frame is at the end of the list, and its page in the stock
+-- the fresh frame moves to the end of the list, and its page into the stock
 abbrev pub credited : Part → ℕ → Part
 credited part f = record part {
   list = with_last part.list f;
@@ -98,28 +98,28 @@ credited part f = record part {
   stock = record (part.stock) { pages = part.stock.pages + 1 };
 }
 
--- the last put was the processor's own: the frame is at the end of its back frames
+-- after a last put by the CPU itself: the frame is at the end of its back frames
 abbrev pub with_back : Part → ℕ → Part
 with_back part f = record part { back = with_last part.back f }
 
--- so many pages were filled into the stock, for this group
+-- the part with n pages of this group filled into its stock
 abbrev pub filled : Part → ℕ → ℕ → Part
 filled part g n = record part { stock = record { group = Some g; pages = n; is_drained = false }; book = part.book + n }
 
--- so many pages were drained from the stock
+-- the part with n pages drained from its stock
 abbrev pub drained : Part → ℕ → Part
 drained part n = record part { stock = record (part.stock) { pages = part.stock.pages - n; is_drained = is_some part.stock.group }; book = part.book - n }
 
--- the pages pending with n more for a group, if there is one
+-- the pending pages, with n more for a group, if there is one
 abbrev pub with_more : (ℕ → ℕ) → Option ℕ → ℕ → ℕ → ℕ
 with_more pending None n = pending
 with_more pending (Some g) n = with_at pending g (pending g + n)
 
--- the front of the list becomes fresh: its unit is of one frame, and of the group that paid
+-- the front of the list becomes fresh: a unit of one frame, of the group that paid
 abbrev pub consumed : ℕ → ℕ → Phase
 consumed p g = Head (record { group = g; order = 0 }) (FreshAt p)
 
--- the state after a last put of the seat: at a processor the frame joins its back frames
+-- the state after a last put by the seat; if a CPU made it, the frame joins its back frames
 abbrev pub after_last : State → ℕ → ℕ → State
 after_last s seat f = record s {
   references = with_at s.references seat (with_at (s.references seat) f (s.references seat f - 1));
@@ -127,7 +127,7 @@ after_last s seat f = record s {
   parts = if seat == 0 then s.parts else with_at s.parts seat (with_back (s.parts seat) f);
 }
 
--- what a step changes that is made, and is answered so; any other pair changes nothing
+-- the state after a step with its answer; a pair that isn't in this table changes nothing
 abbrev pub after : State → ℕ → Action → Answer → State
 after s seat Lock Done = record s { hold = HeldBy seat }
 after s seat Unlock Done = record s { hold = Unheld }
@@ -159,7 +159,7 @@ after s seat (Remove g) Done = record s { groups = without_group s.groups g }
 after s seat (Kill g) Done = record s { killed = with_at s.killed g true }
 after s seat action answer = s
 
--- the steps that were made, in their order, each with its answer
+-- the steps that were made, in order, each with its answer
 abbrev pub Run : Type 0
 Run = List (Step × Answer)
 

@@ -1,5 +1,5 @@
--- What breaks the promise: small runs and sights, each wrong in one thing. So each field of the promise refuses something; and
--- that it can be kept is said of one sight.
+-- What breaks the promise: small runs and shown states, each wrong in one thing. So each field of the promise refuses
+-- something. One shown state keeps the promise.
 use Rattle.std.specs.Prelude.{ℕ, ◌==◌, false, Some, None, List, [], ◌∷◌, ◌++◌, codes, if◌then◌else◌}
 use Rattle.group_tree.specs.Groups.{initial_groups}
 use Rattle.step_rules.specs.declared.step.Action.TheVariants.{Lock, Get, Put, Freeze, Unfreeze, TakeIn, Consume, Credit, Grant, PlaceBlock, Return, SetMax, Make, Kill}
@@ -9,7 +9,7 @@ use Rattle.step_rules.specs.After.{Run}
 use Rattle.step_rules.specs.Examples.{small_zone, made, first_visit, hand_over}
 use Rattle.step_rules.specs.Promise.{Shown, Promise}
 
--- whatever is shown after the run, it doesn't keep the promise
+-- after the run nothing that is shown keeps the promise
 abbrev pub BreaksPromise : Run → Type 0
 BreaksPromise run = (shown : Shown) → ¬ Promise small_zone run shown
 
@@ -29,23 +29,23 @@ granted_when_killed = made 1 Lock Done ∷ made 0 (Kill 0) Done ∷ made 0 (Gran
 abbrev pub placed : Run
 placed = made 0 (PlaceBlock 0 0) (Placed (record { at = 0; order = 0 })) ∷ []
 
--- the last reference of frame 0 goes
+-- the last reference of frame 0 is dropped
 abbrev pub ended : Run
 ended = made 0 (Freeze 0 0) Done ∷ []
 
--- a unit comes back that never had a reference
+-- a unit is returned that never had a reference
 abbrev pub returned_unused : Run
 returned_unused = placed ++ made 0 (Return 0) Done ∷ []
 
--- one comes back on which a reference is left
+-- a unit is returned on which a reference is left
 abbrev pub returned_in_use : Run
 returned_in_use = placed ++ made 0 (Unfreeze 0 2) Done ∷ made 0 (Freeze 0 1) Done ∷ made 0 (Return 0) Done ∷ []
 
--- a frame comes back that heads no unit
+-- a frame is returned that heads no unit
 abbrev pub returned_in_no_unit : Run
 returned_in_no_unit = ended ++ made 0 (Return 0) Done ∷ []
 
--- a unit comes back twice for one end
+-- a unit is returned twice for one end
 abbrev pub returned_again : Run
 returned_again = placed ++ made 0 (Unfreeze 0 1) Done ∷ made 0 (Freeze 0 1) Done ∷ made 0 (Return 0) Done ∷ made 0 (Return 0) Done ∷ []
 
@@ -53,7 +53,7 @@ returned_again = placed ++ made 0 (Unfreeze 0 1) Done ∷ made 0 (Freeze 0 1) Do
 abbrev pub credited_again : Run
 credited_again = first_visit ++ made 1 (Consume 0) Took ∷ made 1 (Credit 0) Back ∷ made 1 (Credit 0) Back ∷ []
 
--- one is credited to which somebody refers
+-- a fresh frame is credited to which a seat refers
 abbrev pub credited_in_use : Run
 credited_in_use = first_visit ++ made 1 (Consume 0) Took ∷ made 2 (Get 0) Held ∷ made 1 (Credit 0) Back ∷ []
 
@@ -61,7 +61,7 @@ credited_in_use = first_visit ++ made 1 (Consume 0) Took ∷ made 2 (Get 0) Held
 abbrev pub consumed_nothing : Run
 consumed_nothing = made 1 (Consume 0) Took ∷ []
 
--- the front of a list is paid for that lies in a unit
+-- the front of a list is paid for, although a unit has the frame
 abbrev pub consumed_in_a_unit : Run
 consumed_in_a_unit = placed ++ made 1 (TakeIn 0) Done ∷ made 1 (Consume 0) Took ∷ []
 
@@ -70,27 +70,27 @@ abbrev pub placed_on_a_tail : Run
 placed_on_a_tail =
     made 0 (PlaceBlock 0 1) (Placed (record { at = 0; order = 1 })) ∷ made 0 (PlaceBlock 0 0) (Placed (record { at = 1; order = 0 })) ∷ []
 
--- a block of another order is placed
+-- a block of another order than asked for is placed
 abbrev pub placed_smaller : Run
 placed_smaller = made 0 (PlaceBlock 0 1) (Placed (record { at = 0; order = 0 })) ∷ []
 
--- one is placed to which somebody refers
+-- a frame is placed to which a seat refers
 abbrev pub placed_in_use : Run
 placed_in_use = made 2 (Get 0) Held ∷ placed
 
--- one is placed whose last reference is gone without its coming back
+-- a frame is placed whose last reference was dropped and that wasn't returned since
 abbrev pub placed_ended : Run
 placed_ended = ended ++ placed
 
--- one is placed for a group that isn't there
+-- a frame is placed for a group that doesn't exist
 abbrev pub placed_for_nobody : Run
 placed_for_nobody = made 0 (PlaceBlock 5 0) (Placed (record { at = 0; order = 0 })) ∷ []
 
--- after the last reference another is given
+-- after the last reference another one is given
 abbrev pub given_after_the_last : Run
 given_after_the_last = ended ++ made 2 (Get 0) Held ∷ []
 
--- after the last reference one more goes, as the last
+-- after the last reference one more is dropped, as the last
 abbrev pub put_after_the_last : Run
 put_after_the_last = ended ++ made 2 (Put 0) Last ∷ []
 
@@ -98,7 +98,7 @@ put_after_the_last = ended ++ made 2 (Put 0) Last ∷ []
 abbrev pub frozen_after_the_last : Run
 frozen_after_the_last = ended ++ ended
 
--- the first references are put on a frame that heads no unit
+-- first references are put on a frame that heads no unit
 abbrev pub unfrozen_in_no_unit : Run
 unfrozen_in_no_unit = made 0 (Unfreeze 0 1) Done ∷ []
 
@@ -107,11 +107,11 @@ abbrev pub unfrozen_in_use : Run
 unfrozen_in_use = placed ++ made 0 (Unfreeze 0 1) Done ∷ made 0 (Unfreeze 0 1) Done ∷ []
 
 -- ---- what is shown
--- frame 0 is kept for the root, frame 1 is free, and processor 1 has a page of the root in its stock
+-- frame 0 is kept for the root, frame 1 is free, and CPU 1 has a page of the root in its stock
 abbrev pub kept_run : Run
 kept_run = first_visit ++ hand_over
 
--- so it is seen
+-- what is shown after that run and keeps the promise
 abbrev pub right_sight : Shown
 right_sight = record {
   areas = record { at = 1; order = 0 } ∷ [];
@@ -122,52 +122,52 @@ right_sight = record {
   current = λ g. 2;
 }
 
--- the frames of one processor's list
+-- one CPU has these frames on its list, the others none
 abbrev pub at_list : ℕ → List ℕ → ℕ → List ℕ
 at_list q frames p = if p == q then frames else []
 
--- seen after that run it breaks the promise
+-- what is shown after that run breaks the promise
 abbrev pub IsWrongSight : Shown → Type 0
 IsWrongSight shown = ¬ Promise small_zone kept_run shown
 
--- frame 1 is seen nowhere
+-- frame 1 is shown nowhere
 abbrev pub seen_nowhere : Shown
 seen_nowhere = record right_sight { areas = [] }
 
--- it is seen in the free areas and on a list
+-- frame 1 is shown in the free areas and on a list
 abbrev pub seen_twice : Shown
 seen_twice = record right_sight { lists = at_list 1 (1 ∷ []) }
 
--- it stands twice on a list
+-- frame 1 is shown twice on a list
 abbrev pub listed_twice : Shown
 listed_twice = record right_sight { areas = []; lists = at_list 1 (1 ∷ 1 ∷ []) }
 
--- it stands on the list of a processor that isn't there
+-- frame 1 is shown on the list of a CPU that doesn't exist
 abbrev pub listed_by_nobody : Shown
 listed_by_nobody = record right_sight { areas = []; lists = at_list 3 (1 ∷ []) }
 
--- it is kept by the root, and lies in no unit
+-- frame 1 is shown as kept by the root, without a unit
 abbrev pub kept_in_no_unit : Shown
 kept_in_no_unit = record right_sight { areas = []; keeper = λ f. Some 0 }
 
--- a frame is seen that the zone doesn't have
+-- a frame is shown that the zone doesn't have
 abbrev pub seen_beyond : Shown
 seen_beyond = record right_sight { lists = at_list 1 (2 ∷ []) }
 
--- a page is prepaid for no group
+-- a page is shown as prepaid for no group
 abbrev pub prepaid_for_nobody : Shown
 prepaid_for_nobody = record right_sight { stocks = λ p. if p == 1 then record { group = None; pages = 1; is_drained = false } else no_stock }
 
--- the root's number leaves out the page in the stock
+-- the root's memory.current leaves out the page in the stock
 abbrev pub prepaid_left_out : Shown
 prepaid_left_out = record right_sight { current = λ g. 1 }
 
--- no group is seen
+-- no group is shown
 abbrev pub no_group_seen : Shown
 no_group_seen = record right_sight { groups = [] }
 
 -- ---- what is shown of free frames alone
--- both frames are free, and nothing is charged
+-- what is shown if both frames are free and nothing is charged
 abbrev pub free_sight : Shown
 free_sight = record {
   areas = record { at = 0; order = 1 } ∷ [];
@@ -178,26 +178,26 @@ free_sight = record {
   current = λ g. 0;
 }
 
--- seen after the run it breaks the promise
+-- what is shown after the run breaks the promise
 abbrev pub IsWrongAfter : Run → Shown → Type 0
 IsWrongAfter run shown = ¬ Promise small_zone run shown
 
--- the two frames are seen as two blocks
+-- the two frames are shown as two blocks
 abbrev pub parted_areas : Shown
 parted_areas = record free_sight { areas = record { at = 0; order = 0 } ∷ record { at = 1; order = 0 } ∷ [] }
 
--- a page is in the stock of a processor that isn't there
+-- a page is shown in the stock of a CPU that doesn't exist
 abbrev pub prepaid_by_nobody : Shown
 prepaid_by_nobody = record free_sight { stocks = λ p. if p == 3 then record { group = Some 0; pages = 1; is_drained = false } else no_stock }
 
--- one is prepaid for a group that isn't there
+-- a page is shown as prepaid for a group that doesn't exist
 abbrev pub prepaid_for_no_group : Shown
 prepaid_for_no_group = record free_sight { stocks = λ p. if p == 1 then record { group = Some 5; pages = 1; is_drained = false } else no_stock }
 
--- a page was granted, and is neither in a stock nor kept: the number shown for the root may not leave it out
+-- a page was granted and is neither in a stock nor kept: the memory.current shown for the root may not leave it out
 abbrev pub granted_and_lost : Run
 granted_and_lost = made 0 (Grant 0 1) Granted ∷ []
 
--- nor may that number have it in, with no stock and no frame for it
+-- nor may that memory.current count it, without a stock or a frame for it
 abbrev pub lost_in_number : Shown
 lost_in_number = record free_sight { current = λ g. 1 }

@@ -1,4 +1,5 @@
--- The groups that a run made, and the pages charged to them (memory.current of cgroup-v2.rst), over the run's pairs alone.
+-- The groups that a run made, and the pages charged to them (memory.current of cgroup-v2.rst), over the run's pairs
+-- alone.
 use Rattle.std.specs.Prelude.{ℕ, ◌-◌, ◌^◌, Bool, Option, Some, None, List, fold, if◌then◌else◌}
 use Rattle.group_tree.specs.declared.group.Group.{Group}
 use Rattle.group_tree.specs.Groups.{in_subtree, initial_groups, with_group, with_limit, with_oom_group, without_group}
@@ -19,7 +20,7 @@ groups_after groups (SetFlag g flag) Done = with_oom_group groups g flag
 groups_after groups (Remove g) Done = without_group groups g
 groups_after groups action answer = groups
 
--- the root, and the groups that the run made and didn't take out
+-- the root, and the groups that the run made and didn't remove
 abbrev pub groups_of : Run → List Group
 groups_of run = fold (λ old e. groups_after old e.0.action e.1) initial_groups run
 
@@ -33,7 +34,7 @@ abbrev pub unit_pages : (ℕ → Bool) → Option ChargedUnit → ℕ
 unit_pages test None = 0
 unit_pages test (Some unit) = if test unit.group then 2 ^ unit.order else 0
 
--- the pages that a step after this run takes off them: those ungranted, and the frames of a unit that comes back
+-- the pages that a step after this run uncharges from them: those ungranted, and the frames of a unit that is returned
 abbrev pub charged_out : (ℕ → Bool) → Run → ℕ → Action → Answer → ℕ
 charged_out test run seat (Ungrant g n) Done = if test g then n else 0
 charged_out test run seat (Return f) Done = unit_pages test ((units_of run).unit f)

@@ -1,5 +1,5 @@
--- What a processor sees while it holds the lock: the state as if each other processor had given its fresh frames back to
--- its list and their pages to its stock. Others' lists, references and back frames are covered.
+-- What a CPU sees while it holds the lock: the state as if each other CPU had put its fresh frames back on its list and
+-- their pages into its stock. It doesn't see others' lists, back frames and references.
 use Rattle.std.specs.Prelude.{ℕ, ◌+◌, ◌==◌, ◌||◌, Bool, [], length, if◌then◌else◌}
 use Rattle.step_rules.specs.declared.phase.Hold.{Hold}
 use Rattle.step_rules.specs.declared.phase.Way.TheVariants.{OnList}
@@ -10,7 +10,8 @@ use Rattle.step_rules.specs.declared.phase.Phase.{Phase}
 use Rattle.step_rules.specs.declared.phase.Phase.TheVariants.{InZone, Lent, Head, Tail}
 use Rattle.step_rules.specs.State.{State, Part, is_held_by, visits}
 
--- the head of a unit as p sees it: another's fresh frame is on that one's list, and another's back frame has references
+-- the head of a unit as p sees it: another CPU's fresh frame is on that CPU's list, and another CPU's back frame has
+-- references
 abbrev pub hide_stage : ℕ → ChargedUnit → Stage → Phase
 hide_stage p unit (FreshAt q) = if q == p then Head unit (FreshAt q) else Lent q OnList
 hide_stage p unit (BackAt q) = if q == p then Head unit (BackAt q) else Head unit Live
@@ -28,7 +29,7 @@ hide_phase p InZone = InZone
 hide_phase p (Lent q way) = Lent q way
 hide_phase p (Tail g) = Tail g
 
--- another processor's part as p sees it
+-- another CPU's part as p sees it: no lists, and the pages of the fresh frames in the stock
 abbrev pub hide_part : Part → Part
 hide_part part = record part { list = []; fresh = []; back = []; stock = record (part.stock) { pages = part.stock.pages + length part.fresh } }
 
@@ -48,6 +49,6 @@ hide p s = record s {
   parts = hide_parts p s.parts;
 }
 
--- the processor holds the lock
+-- the CPU holds the lock
 abbrev pub holds_lock : ℕ → Hold → Bool
 holds_lock p hold = is_held_by p hold || visits p hold

@@ -1,5 +1,5 @@
--- Usage (memory.current of cgroup-v2.rst), counted over a run: frames by their places, stocks and pending pages by what was
--- put in and taken out.
+-- Usage (memory.current of cgroup-v2.rst), counted over a run: frames by their places, stocks and pending pages by what
+-- was put in and removed.
 use Rattle.std.specs.Prelude.{◌≡◌, ℕ, ◌+◌, ◌&&◌, if◌then◌else◌}
 use Rattle.group_tree.specs.Groups.{in_subtree}
 use Rattle.step_rules.specs.declared.step.FramePlace.TheVariants.{Charged}
@@ -12,20 +12,21 @@ use Rattle.step_rules.specs.Counts.{stock_in, stock_out, counted_over}
 use Rattle.step_rules.specs.Grants.{pending_in, pending_out}
 use Rattle.step_rules.specs.Folds.{last_fill}
 
--- the pairs of a frame of the zone and a place at a group of g's subtree
+-- how many pairs there are of a frame of the zone and a place at a group of g's subtree
 abbrev pub frames_placed : Zone → Run → ℕ → ℕ
 frames_placed zone run g = sum_to zone.frames (λ f. sum_to 64 (λ h. one_if (in_subtree (state_of zone run).groups g h && places_of zone run f (Charged h))))
 
--- a number of each processor, summed over those whose last fill was for a group of g's subtree
+-- a number for each CPU, summed over those whose last fill was for a group of g's subtree
 abbrev pub over_stocks : Zone → Run → ℕ → (ℕ → ℕ) → ℕ
 over_stocks zone run g of = sum_to (zone.cpus + 1) (λ p. if is_below (state_of zone run).groups g (last_fill run p).group then of p else 0)
 
--- a number of each group, summed over g's subtree
+-- a number for each group, summed over g's subtree
 abbrev pub over_groups : Zone → Run → ℕ → (ℕ → ℕ) → ℕ
 over_groups zone run g of = sum_to 64 (λ h. if in_subtree (state_of zone run).groups g h then of h else 0)
 
--- the three parts of a group's usage: the frames that are placed in its subtree; the pages filled and credited into its
--- stocks, less those consumed and drained; and the pages granted and drained there, less those taken back, filled and placed
+-- The usage of a group is the sum of three parts. Kept: the frames placed in its subtree. Prepaid: the pages filled and
+-- credited into the subtree's stocks, less those consumed and drained. Pending: the pages granted and drained there,
+-- less those ungranted, filled and placed.
 pub record CurrentIsTold (zone : Zone) (run : Run) (g : ℕ) : Type 0 where
   pub kept : frames_kept (state_of zone run).groups (state_of zone run).phases zone.frames g ≡ frames_placed zone run g
   pub prepaid : over_stocks zone run g (λ p. counted_over (stock_in p) run)
@@ -37,6 +38,6 @@ pub record CurrentIsTold (zone : Zone) (run : Run) (g : ℕ) : Type 0 where
       + pages_prepaid (state_of zone run).groups (state_of zone run).parts zone.cpus g
       + pages_pending (state_of zone run).groups (state_of zone run).pending g
 
--- so it is after every legal run
+-- after every legal run the usage of each group is the sum of its three parts
 abbrev pub AllCurrentIsTold : Type 0
 AllCurrentIsTold = (zone : Zone) (run : Run) → IsLegalRun zone run → (g : ℕ) → CurrentIsTold zone run g

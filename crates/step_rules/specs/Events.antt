@@ -46,37 +46,37 @@ abbrev pub makes_group : ℕ → Action → Answer → Bool
 makes_group g (action.Make path) (Number n) = g == n
 makes_group g step answer = false
 
--- the state, and how many steps passed the test since g was made, after one more pair
+-- the state after one more pair, and how many steps have passed the test since g was made
 abbrev pub with_passed : (List Group → Action → Answer → Bool) → ℕ → State × ℕ → Step × Answer → State × ℕ
 with_passed test g t e =
     (after t.0 e.0.seat e.0.action e.1, if makes_group g e.0.action e.1 then 0 else t.1 + one_if (test t.0.groups e.0.action e.1))
 
--- how many steps of the run passed the test since g was made, each tested with the groups of that moment
+-- how many steps of the run passed the test since g was made, each tested with the groups at that step
 abbrev pub passed_since_made : (List Group → Action → Answer → Bool) → ℕ → Zone → Run → ℕ
 passed_since_made test g zone run = (fold (with_passed test g) (at_boot zone, 0) run).1
 
--- memory.events: how many events of this kind were noted at the group and at those below it since it was made; a count
+-- memory.events: how many events of this kind were noted at the group and its descendants since it was made; a count
 -- stays at 2^64 - 1
 abbrev pub events_of : EventKey → Zone → Run → ℕ → ℕ
 events_of key zone run g = min (passed_since_made (is_noted_below key g) g zone run) max_count
 
--- memory.events.local: how many were noted at the group itself
+-- memory.events.local: how many events of this kind were noted at the group itself since it was made
 abbrev pub events_local_of : EventKey → Zone → Run → ℕ → ℕ
 events_local_of key zone run g = min (passed_since_made (is_noted_at key g) g zone run) max_count
 
--- a count of g after one more step: one more where an event was noted, and 0 where g is made
+-- a count of g after one more step: 0 if the step makes g, one more if it notes an event
 abbrev pub count_after : (List Group → Action → Answer → Bool) → ℕ → List Group → Action → Answer → ℕ → ℕ
 count_after test g groups step answer count =
     if makes_group g step answer then 0 else (if test groups step answer then one_more count else count)
 
--- how one more step changes both counts of each group, of each kind
+-- how one more step changes both counts of each kind, for each group
 pub record EventsFollow (zone : Zone) (run : Run) (step : Step) (answer : Answer) (key : EventKey) (g : ℕ) : Type 0 where
   pub below : events_of key zone (pushed run step answer) g ≡ count_after (is_noted_below key g) g (state_of zone run).groups step.action answer
       (events_of key zone run g)
   pub local : events_local_of key zone (pushed run step answer) g
       ≡ count_after (is_noted_at key g) g (state_of zone run).groups step.action answer (events_local_of key zone run g)
 
--- at boot no event was noted, and each step notes what it says
+-- at boot each count is 0, and each step changes the counts as `count_after` says
 pub record EventsAreCounted : Type 0 where
   pub boot : (zone : Zone) (key : EventKey) (g : ℕ) → (events_of key zone [] g ≡ 0) × (events_local_of key zone [] g ≡ 0)
   pub step : (zone : Zone) (run : Run) (step : Step) (answer : Answer) (key : EventKey) (g : ℕ) → EventsFollow zone run step answer key g

@@ -1,6 +1,6 @@
--- Small runs, to be read beside the table: one of the life of a frame, three whose last step is refused, one of a drop, two at
--- borders (of references, limits and kills, and of the order of a list), one of notes, two of a group, its limit and its kill,
--- one of a group that is killed as a whole, and one of a stock that doesn't pay.
+-- Small runs, to be read beside the table. One is the life of a frame, three end with a refused step, one has a drop.
+-- Two reach bounds: of references, limits and kills, and of the order of a list. One notes events. Two have a group,
+-- its limit and its kill, one a group that is killed as a whole. In one a stock doesn't pay.
 use Rattle.std.specs.Prelude.{ℕ, ◌==◌, true, Some, [], ◌∷◌, ◌++◌, codes, replicate, if◌then◌else◌}
 use Rattle.step_rules.specs.declared.step.Step.{Step}
 use Rattle.step_rules.specs.declared.step.Action.{Action}
@@ -13,7 +13,7 @@ use Rattle.step_rules.specs.declared.step.Answer.TheVariants.{Pages, Granted, Ov
 use Rattle.step_rules.specs.State.{Zone, State, at_boot, no_part}
 use Rattle.step_rules.specs.After.{Run}
 
--- a zone of two frames and two processors
+-- a zone of two frames and two CPUs
 abbrev pub small_zone : Zone
 small_zone = record { frames = 2; cpus = 2 }
 
@@ -21,24 +21,24 @@ small_zone = record { frames = 2; cpus = 2 }
 abbrev pub made : ℕ → Action → Answer → Step × Answer
 made seat action answer = (record { seat = seat; action = action }, answer)
 
--- processor 1 gets frame 0 to its list, and a stock of two pages of the root
+-- CPU 1 gets frame 0 on its list, and a stock of two pages of the root
 abbrev pub first_visit : Run
 first_visit =
     made 1 Lock Done ∷ made 0 (OpenVisit 1) Done ∷ made 0 (PassOut 0 1) Done ∷ made 1 (TakeIn 0) Done ∷
     made 0 (Grant 0 2) Granted ∷ made 0 (Fill 1 0 2) Done ∷ []
 
--- it pays for the frame, which becomes fresh, hands it over to the zone, which keeps it, and reports the page
+-- CPU 1 pays for the frame, which becomes fresh, hands it over to the zone, which keeps it, and reports the page
 abbrev pub hand_over : Run
 hand_over =
     made 1 (Consume 0) Took ∷ made 1 (PassBack 0) Done ∷ made 0 (Collect 0 1) Done ∷ made 0 (Unfreeze 0 1) Done ∷
     made 0 (Publish 0) Done ∷ made 1 (Report 1) Done ∷ made 0 (Absorb 1) (Pages 1) ∷ made 0 (ShutVisit 1) Done ∷ made 1 Unlock Done ∷ []
 
--- processor 2 pins the frame, the zone gives its own reference up, and the last put is processor 2's
+-- CPU 2 pins the frame, the zone gives up its reference, and CPU 2 makes the last put
 abbrev pub last_put : Run
 last_put =
     made 2 (Get 0) Held ∷ made 1 Lock Done ∷ made 0 (Put 0) (Left 1) ∷ made 2 (Put 0) Last ∷ made 1 Unlock Done ∷ []
 
--- processor 2 hands the back frame over, it comes back, and the stock is drained
+-- CPU 2 hands the back frame over, it is returned, and the stock is drained
 abbrev pub second_visit : Run
 second_visit =
     made 2 Lock Done ∷ made 0 (OpenVisit 2) Done ∷ made 2 (PassBack 0) Done ∷ made 0 (Collect 0 2) Done ∷ made 0 (Return 0) Done ∷
@@ -58,22 +58,22 @@ placed_again =
     made 1 Lock Done ∷ made 0 (Grant 0 2) Granted ∷ made 0 (PlaceBlock 0 0) (Placed (record { at = 0; order = 0 })) ∷ made 0 (Unfreeze 0 1) Done ∷
     made 0 (Freeze 0 1) Done ∷ made 0 (Return 0) Done ∷ made 0 (PlaceBlock 0 0) (Placed (record { at = 0; order = 0 })) ∷ []
 
--- it is returned twice for one end
+-- the unit is returned a second time for one end
 abbrev pub returned_twice : Run
 returned_twice = placed_again ++ made 0 (Return 0) Illegal ∷ []
 
--- the lock is given back while two pages are pending
+-- the lock is to be released while two pages are pending
 abbrev pub unlocked_too_soon : Run
 unlocked_too_soon = made 1 Lock Done ∷ made 0 (Grant 0 2) Granted ∷ made 1 Unlock Illegal ∷ []
 
--- a fresh frame that the zone collected comes back only when its group, here the root, is killed
+-- a fresh frame that the zone collected is returned only after its group, here the root, is killed
 abbrev pub returned_when_killed : Run
 returned_when_killed =
     first_visit ++ made 1 (Consume 0) Took ∷ made 1 (PassBack 0) Done ∷ made 0 (Collect 0 1) Done ∷ made 0 (Return 0) Illegal ∷
     made 0 (Kill 0) Done ∷ made 0 (Return 0) Done ∷ []
 
--- a frame gets 255 references and no more, and none is given on one that has none; a freeze takes all or nothing; the root gets
--- no limit, and a killed group no page; and it is killed once
+-- A frame gets at most 255 references, and none is given on one that has none. A freeze takes all references or none.
+-- The root gets no limit, a killed group gets no page, and a group is killed once.
 abbrev pub at_the_borders : Run
 at_the_borders =
     made 1 Lock Done ∷ made 0 (SetMax 0 (Some 5)) Illegal ∷ made 0 (Grant 0 1) Granted ∷
@@ -81,8 +81,8 @@ at_the_borders =
     made 1 (Get 0) Full ∷ made 0 (Put 0) (Left 254) ∷ made 1 (Get 0) Held ∷ made 1 (Get 1) Zero ∷ made 0 (Freeze 0 254) Missed ∷
     made 0 (Kill 0) Done ∷ made 0 (Grant 0 1) Illegal ∷ made 0 (Kill 0) Illegal ∷ []
 
--- a processor with two frames on its list passes the first back, and not the second; and a frame that a processor alone refers
--- to isn't published
+-- A CPU with two frames on its list passes the first back, and not the second. A frame that only a CPU refers to isn't
+-- published.
 abbrev pub in_line : Run
 in_line =
     made 1 Lock Done ∷ made 0 (OpenVisit 1) Done ∷ made 0 (PassOut 0 1) Done ∷ made 1 (TakeIn 0) Done ∷ made 0 (PassOut 1 1) Done ∷
@@ -94,8 +94,9 @@ in_line =
 abbrev pub noted : Run
 noted = made 1 Lock Done ∷ made 0 (NoteMax 0) Done ∷ made 0 (NoteOom 0) Done ∷ made 0 (NoteOom 0) Done ∷ made 0 (Kill 0) Done ∷ []
 
--- two groups are made, one below the other, and the upper one gets a limit of a page: two pages for the lower one are over
--- it, and one is granted; then the limit may fall below the usage. A frame is kept for that page, and has references
+-- Two groups are made, one below the other, and the upper one gets a limit of one page. A grant of two pages to the
+-- lower one is over it, a grant of one isn't. Then the limit may be set below the usage. A frame is kept for that page,
+-- and has references.
 abbrev pub group_in_use : Run
 group_in_use =
     made 1 Lock Done ∷ made 0 (Make (codes "/a")) (Number 1) ∷ made 0 (Make (codes "/a/b")) (Number 2) ∷ made 0 (SetMax 1 (Some 1)) Done ∷
@@ -103,17 +104,17 @@ group_in_use =
     made 0 (PlaceBlock 2 0) (Placed (record { at = 0; order = 0 })) ∷ made 0 (Unfreeze 0 1) Done ∷ made 1 (Get 0) Held ∷ made 1 (Get 0) Held ∷
     made 1 (Put 0) (Left 2) ∷ made 1 (Put 0) (Left 1) ∷ []
 
--- a group isn't removed while one lies below it, or while it is used. The lower one is killed; the frame comes back all the same,
--- and the group is removed. A new one gets its number, without its kill, and is below the same limit
+-- A group isn't removed while it has a child or usage. The lower one is killed, its frame is returned all the same, and
+-- the group is removed. A new one gets its number, not killed, and is below the same limit.
 abbrev pub group_comes_and_goes : Run
 group_comes_and_goes =
     group_in_use ++ made 0 (Remove 1) Illegal ∷ made 0 (Remove 2) Illegal ∷ made 0 (NoteOom 2) Done ∷ made 0 (Kill 2) Done ∷
     made 0 (Freeze 0 1) Done ∷ made 0 (Return 0) Done ∷ made 0 (Remove 2) Done ∷ made 0 (Make (codes "/a/b")) (Number 2) ∷
     made 0 (NoteMax 2) Done ∷ made 0 (Grant 2 1) (Over 1) ∷ made 1 Unlock Done ∷ []
 
--- two pages are granted to a group, and it is killed: it gets no other page, but of these the one is placed and the other taken
--- back; events are noted at it, its limit is set, its frame is published and comes back, a group is made below it and removed, and
--- it is removed itself
+-- Two pages are granted to a group, and it is killed. It gets no more pages, but of these one is placed and one
+-- ungranted. Events are noted at it, its limit is set, its frame is published and returned. A group is made below it
+-- and removed, and then it is removed itself.
 abbrev pub killed_group_ends : Run
 killed_group_ends =
     made 1 Lock Done ∷ made 0 (Make (codes "/a")) (Number 1) ∷ made 0 (Grant 1 2) Granted ∷ made 0 (Kill 1) Done ∷ made 0 (Grant 1 1) Illegal ∷
@@ -121,26 +122,27 @@ killed_group_ends =
     made 0 (Ungrant 1 1) Done ∷ made 0 (Unfreeze 0 1) Done ∷ made 0 (Publish 0) Done ∷ made 0 (Freeze 0 1) Done ∷ made 0 (Return 0) Done ∷
     made 0 (Make (codes "/a/b")) (Number 2) ∷ made 0 (Remove 2) Done ∷ made 0 (Remove 1) Done ∷ made 1 Unlock Done ∷ []
 
--- two groups are made, one below the other, and the flag of the upper one is set. The root's can't be set, nor that of a group
--- that isn't there
+-- Two groups are made, one below the other, and the flag of the upper one is set. The flag of the root can't be set,
+-- nor that of a group that doesn't exist.
 abbrev pub group_with_flag : Run
 group_with_flag =
     made 1 Lock Done ∷ made 0 (Make (codes "/a")) (Number 1) ∷ made 0 (Make (codes "/a/b")) (Number 2) ∷ made 0 (SetFlag 0 true) Illegal ∷
     made 0 (SetFlag 3 true) Illegal ∷ made 0 (SetFlag 1 true) Done ∷ []
 
--- both are killed, and it is noted once, at the upper one; it can't be noted at the root, or at a group that isn't there
+-- Both groups are killed, and that is noted once, at the upper one. It can't be noted at the root or at a group that
+-- doesn't exist.
 abbrev pub group_killed_whole : Run
 group_killed_whole =
     group_with_flag ++ made 0 (Kill 1) Done ∷ made 0 (Kill 2) Done ∷ made 0 (NoteGroupKill 0) Illegal ∷ made 0 (NoteGroupKill 3) Illegal ∷
     made 0 (NoteGroupKill 1) Done ∷ []
 
--- both are removed, and a new group gets the number of the upper one
+-- both groups are removed, and a new group gets the number of the upper one
 abbrev pub group_dies_whole : Run
 group_dies_whole =
     group_killed_whole ++ made 0 (Remove 2) Done ∷ made 0 (Remove 1) Done ∷ made 0 (Make (codes "/a")) (Number 1) ∷ made 1 Unlock Done ∷ []
 
--- a processor's stock has one page, and its list both frames, so that none is free. Its stock pays for its group alone, and for
--- one frame; and once it is drained it pays for none, and takes no page back
+-- A CPU's stock has one page, and its list has both frames, so that none is free. The stock pays only for its group,
+-- and for one frame. Once it is drained it pays for none, and no page is credited to it.
 abbrev pub stock_without_a_page : Run
 stock_without_a_page =
     made 1 Lock Done ∷ made 0 (OpenVisit 1) Done ∷ made 0 (PassOut 0 1) Done ∷ made 1 (TakeIn 0) Done ∷ made 0 (PassOut 1 1) Done ∷
@@ -148,23 +150,23 @@ stock_without_a_page =
     made 1 (Consume 5) OtherGroup ∷ made 1 (Consume 0) Took ∷ made 1 (Consume 0) Empty ∷ made 0 (DrainStock 1) (Pages 0) ∷
     made 1 (Consume 0) Drained ∷ made 1 (Credit 0) Drained ∷ []
 
--- processor 1 takes the lock
+-- CPU 1 takes the lock
 abbrev pub lock_taken : Run
 lock_taken = made 1 Lock Done ∷ []
 
--- its visit is opened and shut, and in between it asks in vain for a frame that has no reference; so does processor 2 meanwhile
+-- CPU 1's visit is opened and shut; meanwhile it and CPU 2 ask in vain for a frame that has no reference
 abbrev pub vain_visit : Run
 vain_visit = made 0 (OpenVisit 1) Done ∷ made 2 (Get 0) Zero ∷ made 1 (Get 0) Zero ∷ made 0 (ShutVisit 1) Done ∷ []
 
 -- ---- states at the bounds, which are tests of the table and not of a run
--- each seat has so many references on frame 0
+-- each seat has this many references on frame 0
 abbrev pub with_pins : ℕ → State
 with_pins n = record (at_boot small_zone) { references = λ seat f. if f == 0 then n else 0 }
 
--- each processor has so many back frames
+-- each CPU has this many back frames
 abbrev pub with_back_frames : ℕ → State
 with_back_frames n = record (at_boot small_zone) { parts = λ p. record no_part { back = replicate n 0 } }
 
--- each has so many fresh frames, and one on its list
+-- each CPU has this many fresh frames, and one frame on its list
 abbrev pub with_fresh_frames : ℕ → State
 with_fresh_frames n = record (at_boot small_zone) { parts = λ p. record no_part { list = 1 ∷ []; fresh = replicate n 0 } }

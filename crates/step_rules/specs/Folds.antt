@@ -1,4 +1,5 @@
--- What a run says of limits, flags, killed groups, the lock, lists and stocks, each folded over its pairs apart from the state.
+-- What a run says of limits, flags, killed groups, the lock, lists and stocks, each folded over its pairs without the
+-- state.
 use Rattle.std.specs.Prelude.{◌≡◌, ℕ, ◌==◌, Bool, true, false, Option, Some, None, is_some, List, [], fold, if◌then◌else◌}
 use Rattle.group_tree.specs.Groups.{has_group, limit_of, is_oom_group}
 use Rattle.step_rules.specs.declared.phase.Hold.{Hold}
@@ -38,17 +39,17 @@ killed_after g old (Kill h) Done = if g == h then true else old
 killed_after g old (Make path) (Number n) = if g == n then false else old
 killed_after g old action answer = old
 
--- a kill of the group was made since it was made, or since the start
+-- the group was killed since it was made, or since the start
 abbrev pub was_killed : Run → ℕ → Bool
 was_killed run g = fold (λ old e. killed_after g old e.0.action e.1) false run
 
--- the state has the limit, the flag and the kill of each group that the run says
+-- the limit, the flag and the kill of the group in the state are those of the run
 pub record GroupsAreTold (zone : Zone) (run : Run) (g : ℕ) : Type 0 where
   pub limit : has_group (state_of zone run).groups g ≡ true → limit_of (state_of zone run).groups g ≡ limit_given run g
   pub flag : has_group (state_of zone run).groups g ≡ true → is_oom_group (state_of zone run).groups g ≡ flag_given run g
   pub killed : (state_of zone run).killed g ≡ was_killed run g
 
--- so it is after every legal run
+-- after every legal run the limit, the flag and the kill of each group are those of the run
 abbrev pub AllGroupsAreTold : Type 0
 AllGroupsAreTold = (zone : Zone) (run : Run) → IsLegalRun zone run → (g : ℕ) → GroupsAreTold zone run g
 
@@ -59,7 +60,7 @@ holder_after old seat Lock Done = Some seat
 holder_after old seat Unlock Done = None
 holder_after old seat action answer = old
 
--- the seat that took the lock last and hasn't given it back; the lock is free where there is none
+-- the seat that took the lock last and hasn't released it; if there is none, the lock is free
 abbrev pub holder_of : Run → Option ℕ
 holder_of run = fold (λ old e. holder_after old e.0.seat e.0.action e.1) None run
 
@@ -69,34 +70,35 @@ open_after old (OpenVisit p) Done = true
 open_after old (ShutVisit p) Done = false
 open_after old action answer = old
 
--- the last visit was opened and not shut
+-- the last visit that was opened hasn't been shut
 abbrev pub has_visit : Run → Bool
 has_visit run = fold (λ old e. open_after old e.0.action e.1) false run
 
--- who holds the lock, and whether it visits, as one
+-- who holds the lock, and whether its visit is open, as one value
 abbrev pub hold_of : Option ℕ → Bool → Hold
 hold_of None visit = Unheld
 hold_of (Some p) false = HeldBy p
 hold_of (Some p) true = Visiting p
 
--- the state has the holder and the visit that the run says; and no visit is open while the lock is free
+-- the holder and the visit in the state are those of the run; no visit is open while the lock is free
 pub record LockIsTold (zone : Zone) (run : Run) : Type 0 where
   pub hold : (state_of zone run).hold ≡ hold_of (holder_of run) (has_visit run)
   pub free : holder_of run ≡ None → has_visit run ≡ false
 
--- so it is after every legal run
+-- after every legal run the holder and the visit are those of the run
 abbrev pub TheLockIsTold : Type 0
 TheLockIsTold = (zone : Zone) (run : Run) → IsLegalRun zone run → LockIsTold zone run
 
--- ---- a processor's frames
--- the frames in a processor's hand: its list, its fresh frames and its back frames
+-- ---- a CPU's frames
+-- the frames that a CPU has: its list, its fresh frames and its back frames
 pub record InHand : Type 0 where
   pub list : List ℕ
   pub fresh : List ℕ
   pub back : List ℕ
 
--- the hand of processor p after one more step: a frame that is taken in, or credited, goes to the end of the list; the
--- front of the list that is consumed to the fresh frames; a last put to the back frames; what is passed back is gone
+-- The frames of CPU p after one more step. A frame that is taken in or credited goes to the end of the list. A consume
+-- moves the front of the list to the fresh frames, a last put adds a back frame, and a frame that is passed back is
+-- removed.
 abbrev pub hand_after : ℕ → InHand → ℕ → Action → Answer → InHand
 hand_after p old seat (TakeIn f) Done = if p == seat then record old { list = with_last old.list f } else old
 hand_after p old seat (Credit f) Back = if p == seat then record old { list = with_last old.list f; fresh = without f old.fresh } else old
@@ -107,28 +109,28 @@ hand_after p old seat (PassBack f) Done =
     if p == seat then record { list = without f old.list; fresh = without f old.fresh; back = without f old.back } else old
 hand_after p old seat action answer = old
 
--- the hand of a processor
+-- the frames that a CPU has after the run
 abbrev pub hand_of : Run → ℕ → InHand
 hand_of run p = fold (λ old e. hand_after p old e.0.seat e.0.action e.1) (record { list = []; fresh = []; back = [] }) run
 
--- ---- a processor's stock
--- a fill of a stock: the group, if there was one, and whether a drain followed
+-- ---- a CPU's stock
+-- the last fill of a stock: its group, if there was one, and whether a drain followed
 pub record LastFill : Type 0 where
   pub group : Option ℕ
   pub is_drained : Bool
 
--- the last fill of processor p's stock after one more step
+-- the last fill of CPU p's stock after one more step
 abbrev pub fill_after : ℕ → LastFill → Action → Answer → LastFill
 fill_after p old (Fill q g n) Done = if p == q then record { group = Some g; is_drained = false } else old
 fill_after p old (DrainStock q) (Pages n) = if p == q then record old { is_drained = is_some old.group } else old
 fill_after p old action answer = old
 
--- the last fill of the processor's stock
+-- the last fill of the CPU's stock
 abbrev pub last_fill : Run → ℕ → LastFill
 last_fill run p = fold (λ old e. fill_after p old e.0.action e.1) (record { group = None; is_drained = false }) run
 
--- the state has the processor's list, fresh frames and back frames that the run says, and its stock is of the group of its
--- last fill, and drained exactly where a drain followed that
+-- The CPU's list, fresh frames and back frames in the state are those of the run. Its stock is of the group of its last
+-- fill, and is drained exactly if a drain followed that fill.
 pub record PartIsTold (zone : Zone) (run : Run) (p : ℕ) : Type 0 where
   pub list : ((state_of zone run).parts p).list ≡ (hand_of run p).list
   pub fresh : ((state_of zone run).parts p).fresh ≡ (hand_of run p).fresh
@@ -136,6 +138,6 @@ pub record PartIsTold (zone : Zone) (run : Run) (p : ℕ) : Type 0 where
   pub group : ((state_of zone run).parts p).stock.group ≡ (last_fill run p).group
   pub is_drained : ((state_of zone run).parts p).stock.is_drained ≡ (last_fill run p).is_drained
 
--- so it is of each processor after every legal run
+-- after every legal run the frames and the stock of each CPU are those of the run
 abbrev pub AllPartsAreTold : Type 0
 AllPartsAreTold = (zone : Zone) (run : Run) → IsLegalRun zone run → (p : ℕ) → is_cpu zone p ≡ true → PartIsTold zone run p

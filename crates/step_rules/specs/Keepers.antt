@@ -1,4 +1,4 @@
--- Each group that keeps a frame or a page is there.
+-- Each group that keeps a frame or a page exists.
 use Rattle.std.specs.Prelude.{◌≡◌, ℕ, ◌+◌, ◌<◌, ◌≤◌, true, false, Some, None}
 use Rattle.group_tree.specs.Groups.{has_group, parent_of, AreGroups}
 use Rattle.step_rules.specs.Phases.{keeper_of}
@@ -7,9 +7,9 @@ use Rattle.step_rules.specs.Legal.{is_settled}
 use Rattle.step_rules.specs.After.{Run, state_of, IsLegalRun}
 use Rattle.step_rules.specs.Cover.{holds_lock}
 
--- what a processor's part says of the group of its stock: that is there where the stock has a page, or the book has pages
--- beyond those that were passed back and aren't absorbed; a stock that was never filled has no page and no book, and a
--- drained one no page
+-- The group of a CPU's stock exists if the stock has a page, or if the book has pages beyond those unreported and
+-- reported. A stock that was never filled has no page and no book, and isn't drained. A drained stock has no page.
+-- Pages are in the stocks of CPUs alone, and are unreported or reported only in an open visit.
 pub record StockIsKept (s : State) (p : ℕ) : Type 0 where
   pub stock : (g : ℕ) → (s.parts p).stock.group ≡ Some g → 1 ≤ (s.parts p).stock.pages → has_group s.groups g ≡ true
   pub book : (g : ℕ) → (s.parts p).stock.group ≡ Some g → (s.parts p).unreported + (s.parts p).reported < (s.parts p).book → has_group s.groups g ≡ true
@@ -21,8 +21,8 @@ pub record StockIsKept (s : State) (p : ℕ) : Type 0 where
   pub unreported : visits p s.hold ≡ false → (s.parts p).unreported ≡ 0
   pub reported : visits p s.hold ≡ false → (s.parts p).reported ≡ 0
 
--- the groups are those of a tree, with numbers below 64; each that keeps a frame or a page, or lies above another, is
--- there, killed or not; so where the numbers below 64 are settled, all are; and who holds the lock is a processor
+-- The groups are those of a tree, with numbers below 64. Each that keeps a frame or a page, or has children, exists,
+-- killed or not. If no number below 64 has pending pages, no number has. The holder of the lock is a CPU.
 pub record KeepersAreThere (s : State) : Type 0 where
   pub groups : AreGroups s.groups
   pub numbers : (g : ℕ) → has_group s.groups g ≡ true → g < 64
@@ -33,6 +33,6 @@ pub record KeepersAreThere (s : State) : Type 0 where
   pub settled : is_settled s ≡ true → (g : ℕ) → s.pending g ≡ 0
   pub holder : (p : ℕ) → holds_lock p s.hold ≡ true → is_cpu s.zone p ≡ true
 
--- so it is after every legal run
+-- after every legal run each group that keeps a frame or a page exists
 abbrev pub AllKeepersAreThere : Type 0
 AllKeepersAreThere = (zone : Zone) (run : Run) → IsLegalRun zone run → KeepersAreThere (state_of zone run)

@@ -1,4 +1,4 @@
--- Which units were published: kept for their group, until they come back.
+-- Which units were published: kept for their group until they are returned.
 use Rattle.std.specs.Prelude.{◌≡◌, ℕ, ◌==◌, ◌||◌, Bool, true, false, fold, if◌then◌else◌}
 use Rattle.step_rules.specs.declared.step.Action.{Action}
 use Rattle.step_rules.specs.declared.step.Action.TheVariants.{Publish, Return}
@@ -15,15 +15,15 @@ published_after f old (Publish g) Done = if f == g then true else old
 published_after f old (Return g) Done = if f == g then false else old
 published_after f old action answer = old
 
--- the frame was published and has not come back since
+-- the frame was published and not returned since
 abbrev pub is_published : Run → ℕ → Bool
 is_published run f = fold (λ old e. published_after f old e.0.action e.1) false run
 
--- a published frame heads a charged unit, and is at the stage Live, or has an end that is open
+-- a published frame heads a charged unit, which is at the stage Live or has an open end
 pub record PublishedIsKept (zone : Zone) (run : Run) (f : ℕ) : Type 0 where
   pub head : is_published run f ≡ true → is_head ((state_of zone run).phases f) ≡ true
   pub used_or_ended : is_published run f ≡ true → (is_live ((state_of zone run).phases f) || is_open ((state_of zone run).phases f)) ≡ true
 
--- so it is after every legal run
+-- after every legal run each published frame heads a charged unit, live or with an open end
 abbrev pub AllPublishedIsKept : Type 0
 AllPublishedIsKept = (zone : Zone) (run : Run) → IsLegalRun zone run → (f : ℕ) → PublishedIsKept zone run f

@@ -1,4 +1,4 @@
--- Laws of what a processor sees while it holds the lock.
+-- Laws of what a CPU sees while it holds the lock.
 use Rattle.std.specs.Prelude.{◌≡◌, ◌≢◌, ℕ, ◌++◌, ◌⊎◌, Bool, true, false, [], ◌∷◌}
 use Rattle.step_rules.specs.declared.step.Step.{Step}
 use Rattle.step_rules.specs.declared.step.Action.{Action}
@@ -10,13 +10,13 @@ use Rattle.step_rules.specs.Legal.{is_legal, IsAnswer, IsCounted, Allows}
 use Rattle.step_rules.specs.After.{Run, after, state_of, IsLegalRun}
 use Rattle.step_rules.specs.Cover.{hide, holds_lock}
 
--- the run shows p this local state: the run is legal, p holds the lock after it, and this is what it sees then
+-- the run shows p this local state: the run is legal, p holds the lock after it, and this is what p sees then
 pub record ShowsLocal (zone : Zone) (run : Run) (p : ℕ) (local : State) : Type 0 where
   pub legal : IsLegalRun zone run
   pub holds : holds_lock p (state_of zone run).hold ≡ true
   pub sees : local ≡ hide p (state_of zone run)
 
--- the step takes or gives back the lock
+-- the step takes or releases the lock
 abbrev pub is_of_lock : Action → Bool
 is_of_lock Lock = true
 is_of_lock Unlock = true
@@ -33,18 +33,18 @@ pub record IsLocalStep (local : State) (p seat : ℕ) (action : Action) (answer 
 abbrev pub pushed : Run → Step → Answer → Run
 pushed run step answer = run ++ (step, answer) ∷ []
 
--- after a run that shows p a local state, a local step with an answer that the whole table allows there is legal, and the
--- run then shows p the next local state
+-- After a run that shows p a local state, take a local step whose answer also agrees with others' references and
+-- stocks. The step is legal, and the run then shows p the next local state.
 abbrev pub OwnStepIsLegal : Type 0
 OwnStepIsLegal = (zone : Zone) (run : Run) (p : ℕ) (local : State) (step : Step) (answer : Answer) →
     ShowsLocal zone run p local → IsLocalStep local p step.seat step.action answer → IsCounted (state_of zone run) step.action answer →
     ShowsLocal zone (pushed run step answer) p (after local step.seat step.action answer)
 
--- the step is another processor's, or any seat's that was answered Illegal
+-- the step is another CPU's, or any seat's and answered Illegal
 abbrev pub IsOtherOrIllegal : ℕ → ℕ → Answer → Type 0
 IsOtherOrIllegal p seat answer = ((seat ≢ 0) × (seat ≢ p)) ⊎ (answer ≡ Illegal)
 
--- a step of another processor, and any step that was answered Illegal, leaves the local state as it is
+-- an allowed step of another CPU, and any step that is answered Illegal, leaves the local state as it is
 abbrev pub OtherStepIsHidden : Type 0
 OtherStepIsHidden = (zone : Zone) (run : Run) (p : ℕ) (local : State) (step : Step) (answer : Answer) →
     ShowsLocal zone run p local → IsOtherOrIllegal p step.seat answer → Allows (state_of zone run) step.seat step.action answer →

@@ -18,15 +18,15 @@ use Rattle.step_rules.specs.State.{State, Part, all_to, front_of, is_cpu, is_fra
 use Rattle.step_rules.specs.State.{free_in}
 use Rattle.step_rules.specs.Usage.{usage_of}
 
--- the frame does not pass for the processor
+-- the frame is not in transit to or from the CPU
 abbrev pub rests : State → ℕ → ℕ → Bool
 rests s p f = not (passes_out p (s.phases f)) && not (passes_back p (s.phases f))
 
--- no frame passes for the processor
+-- no frame is in transit to or from the CPU
 abbrev pub nothing_passes : State → ℕ → Bool
 nothing_passes s p = all_to s.zone.frames (rests s p)
 
--- no frame passes for any processor
+-- no frame is in transit
 abbrev pub no_frame_passes : State → Bool
 no_frame_passes s = all_to s.zone.frames (λ f. not (is_passing (s.phases f)))
 
@@ -34,7 +34,7 @@ no_frame_passes s = all_to s.zone.frames (λ f. not (is_passing (s.phases f)))
 abbrev pub is_settled : State → Bool
 is_settled s = all_to 64 (λ g. s.pending g == 0)
 
--- the frame is the front of the processor's list, fresh, or a back frame there
+-- the frame is the front of the CPU's list, a fresh frame there or a back frame there
 abbrev pub may_pass_back : State → ℕ → ℕ → Bool
 may_pass_back s p f =
     has_as ListFrame p (s.phases f) && front_of (s.parts p).list == f || has_as FreshFrame p (s.phases f) || has_as kinds.BackFrame p (s.phases f)
@@ -44,11 +44,11 @@ abbrev pub is_of_group : Option ℕ → ℕ → Bool
 is_of_group None g = false
 is_of_group (Some h) g = h == g
 
--- the stock has no page, and the book is 0 or of the group
+-- the stock has no page, and the book is 0 or the stock is of the group
 abbrev pub may_fill : Part → ℕ → Bool
 may_fill part g = part.stock.pages == 0 && (part.book == 0 || is_of_group part.stock.group g)
 
--- the group is there, is not the root, has none below it, and its usage is 0
+-- the group exists, isn't the root, has no child, and its usage is 0
 abbrev pub is_removable : State → ℕ → Bool
 is_removable s g = has_group s.groups g && not (g == 0) && not (has_child s.groups g) && usage_of s g == 0
 
@@ -86,9 +86,9 @@ is_legal s seat (Make path) = may_zone_act s.hold seat && is_none (make_fault s.
 is_legal s seat (Remove g) = may_zone_act s.hold seat && is_removable s g
 is_legal s seat (Kill g) = may_zone_act s.hold seat && has_group s.groups g && not (s.killed g)
 
--- which answers a step may get, where it may be made, but for what others' references and stocks decide: a stock pays
--- where it is of the group, isn't drained and has a page; pages are granted exactly where every limit on the path has
--- room for them; any free block of the order may be placed, and NoFreeBlock is answered only where there is none
+-- Which answers a legal step may get, apart from what others' references and stocks decide. A stock pays if it is of
+-- the group, isn't drained and has a page. Pages are granted exactly if every limit on the path has room for them. Any
+-- free block of the order may be placed; NoFreeBlock is answered only if there is none.
 abbrev pub IsAnswer : State → ℕ → Action → Answer → Type 0
 IsAnswer s seat Lock Done = Unit {0}
 IsAnswer s seat Unlock Done = Unit {0}
@@ -133,12 +133,12 @@ IsAnswer s seat (Remove g) Done = Unit {0}
 IsAnswer s seat (Kill g) Done = Unit {0}
 IsAnswer s seat action answer = ⊥
 
--- what a get is answered at so many references: Held at 1 to 254, Full at 255, else Zero
+-- what a get is answered with this many references: Held with 1 to 254, Full with 255, else Zero
 abbrev pub get_answer : ℕ → Answer
 get_answer live = if nat_le 1 live && nat_le live 254 then Held else (if live == 255 then Full else Zero)
 
--- what others' references and stocks decide: a get by all references on the frame, a put by how many are left, a freeze
--- by whether they are exactly so many, and a drain by the pages of the stock
+-- What others' references and stocks decide. A get depends on all references on the frame, a put on how many are left,
+-- a freeze on whether they are exactly this many, and a drain on the pages of the stock.
 abbrev pub IsCounted : State → Action → Answer → Type 0
 IsCounted s (Get f) answer = answer ≡ get_answer (live_references s f)
 IsCounted s (Put f) (Left n) = (live_references s f ≡ n + 1) × (1 ≤ n)
@@ -148,13 +148,13 @@ IsCounted s (Freeze f n) Missed = live_references s f ≢ n
 IsCounted s (DrainStock p) (Pages n) = n ≡ (s.parts p).stock.pages
 IsCounted s action answer = Unit {0}
 
--- the step may be made, and may be answered so
+-- the step is legal, and this is an answer that it may get
 pub record IsMade (s : State) (seat : ℕ) (action : Action) (answer : Answer) : Type 0 where
   pub legal : is_legal s seat action ≡ true
   pub answered : IsAnswer s seat action answer
   pub counted : IsCounted s action answer
 
--- the answer that a step may get: Illegal exactly where the step may not be made
+-- the answer that a step may get: Illegal exactly if the step is not legal
 abbrev pub Allows : State → ℕ → Action → Answer → Type 0
 Allows s seat action Illegal = is_legal s seat action ≡ false
 Allows s seat action answer = IsMade s seat action answer

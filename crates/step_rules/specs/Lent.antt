@@ -1,4 +1,5 @@
--- A frame is lent to a processor of the zone, and passes only in its visit; and a beginning of a legal run is legal.
+-- A frame is lent only to a CPU of the zone, and is in transit only in that CPU's visit. A beginning of a legal run is
+-- legal.
 use Rattle.std.specs.Prelude.{◌≡◌, ℕ, ◌||◌, true, Option, Some, None, take}
 use Rattle.step_rules.specs.declared.phase.Phase.{Phase}
 use Rattle.step_rules.specs.declared.phase.Phase.TheVariants.{Lent}
@@ -7,17 +8,17 @@ use Rattle.step_rules.specs.Phases.{passes_out, passes_back}
 use Rattle.step_rules.specs.State.{Zone, is_cpu}
 use Rattle.step_rules.specs.After.{Run, state_of, IsLegalRun}
 
--- the number of the processor to which a frame is lent in this phase
+-- the CPU to which a frame is lent in this phase
 abbrev pub lent_to : Phase → Option ℕ
 lent_to (Lent p way) = Some p
 lent_to _ = None
 
--- after every legal run who a frame is lent to is one of the processors
+-- after every legal run a lent frame is lent to a CPU of the zone
 abbrev pub FramesAreLentToProcessors : Type 0
 FramesAreLentToProcessors = (zone : Zone) (run : Run) → IsLegalRun zone run → (f p : ℕ) →
     lent_to ((state_of zone run).phases f) ≡ Some p → is_cpu zone p ≡ true
 
--- after every legal run a frame that passes out to a processor, or back from it, does so while that one's visit is open
+-- after every legal run a frame is in transit to or from a CPU only while that CPU's visit is open
 abbrev pub FramesPassInVisits : Type 0
 FramesPassInVisits = (zone : Zone) (run : Run) → IsLegalRun zone run → (f p : ℕ) →
     (passes_out p ((state_of zone run).phases f) || passes_back p ((state_of zone run).phases f)) ≡ true →

@@ -1,4 +1,4 @@
--- A frame has references exactly where it is live, and then 1 to 255.
+-- A frame has references exactly if it is live, and then 1 to 255.
 use Rattle.std.specs.Prelude.{◌≡◌, ℕ, ◌≤◌, true, false}
 use Rattle.step_rules.specs.Phases.{is_live}
 use Rattle.step_rules.specs.State.{Zone, State, live_references}
@@ -9,6 +9,6 @@ pub record LiveIsReferred (s : State) (f : ℕ) : Type 0 where
   pub none : is_live (s.phases f) ≡ false → (seat : ℕ) → s.references seat f ≡ 0
   pub some : is_live (s.phases f) ≡ true → (1 ≤ live_references s f) × (live_references s f ≤ 255)
 
--- so it is of each frame after every legal run
+-- after every legal run a frame that isn't live has no reference, and a live one has 1 to 255
 abbrev pub AllLiveAreReferred : Type 0
 AllLiveAreReferred = (zone : Zone) (run : Run) → IsLegalRun zone run → (f : ℕ) → LiveIsReferred (state_of zone run) f

@@ -13,19 +13,19 @@ use Rattle.step_rules.specs.Legal.{Allows}
 use Rattle.step_rules.specs.After.{Run, after, state_of, IsLegalRun}
 use Rattle.step_rules.specs.Laws.{pushed}
 
--- what a step does to usage: n pages that are granted to a group are added there and at each of its ancestors, and no
--- other step raises any usage
+-- what a step does to usage: a grant adds its n pages at the group and at each ancestor, and any other step raises no
+-- usage
 abbrev pub UsageMoves : State → ℕ → Action → Answer → Type 0
 UsageMoves s seat (Grant g n) Granted =
     (m : ℕ) → usage_of (after s seat (Grant g n) Granted) m ≡ on_path s.groups g (λ pages. pages + n) m (usage_of s m)
 UsageMoves s seat action answer = (m : ℕ) → usage_of (after s seat action answer) m ≤ usage_of s m
 
--- no step but a grant raises any usage
+-- after every legal run only a grant raises usage
 abbrev pub OnlyGrantsRaiseUsage : Type 0
 OnlyGrantsRaiseUsage = (zone : Zone) (run : Run) → IsLegalRun zone run → (seat : ℕ) (action : Action) (answer : Answer) →
     Allows (state_of zone run) seat action answer → UsageMoves (state_of zone run) seat action answer
 
--- the group has been there in every beginning from the k-th on
+-- the group has existed in every beginning from the k-th on
 abbrev pub IsThereSince : Zone → Run → ℕ → ℕ → Type 0
 IsThereSince zone run g k = (j : ℕ) → k ≤ j → j ≤ length run → has_group (state_of zone (take j run)).groups g ≡ true
 
@@ -37,15 +37,15 @@ pub record IsPeak (zone : Zone) (run : Run) (g peak : ℕ) : Type 0 where
   pub reached : usage_of (state_of zone (take at run)) g ≡ peak
   pub greatest : (k : ℕ) → k ≤ length run → IsThereSince zone run g k → usage_of (state_of zone (take k run)) g ≤ peak
 
--- the peak of group m after one more step, which leads to state t: at a group and each of its ancestors, to which pages are
--- granted, the greater of the old peak and the usage then; a group that is made begins with its usage, which is 0
+-- The peak of group m after one more step, which leads to state t. If pages are granted to m or a descendant, it is the
+-- greater of the old peak and the usage then. A new group begins with its usage, which is 0.
 abbrev pub peak_follows : State → Action → Answer → ℕ → ℕ → ℕ
 peak_follows t (Grant g n) Granted m peak = peak_after t.groups (usage_of t) g m peak
 peak_follows t (Make path) (Number n) m peak = if m == n then 0 else peak
 peak_follows t action answer m peak = peak
 
--- a group has one peak; at boot the root's is 0; a step moves the peak of each group that is there after it so, whatever number is taken
--- for the old peak of one that was not there before
+-- A group has one peak, and at boot the root's is 0. A step moves the peak of each group that exists after it as
+-- `peak_follows` says. For a group that didn't exist before, any number may be taken as the old peak.
 pub record PeaksAreKept : Type 0 where
   pub one : (zone : Zone) (run : Run) (g peak other : ℕ) → IsPeak zone run g peak → IsPeak zone run g other → peak ≡ other
   pub boot : (zone : Zone) → IsPeak zone [] 0 0

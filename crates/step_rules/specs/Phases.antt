@@ -1,4 +1,4 @@
--- Tests on the phase of a frame, and how a step moves it on.
+-- Tests on the phase of a frame, and how a step changes it.
 use Rattle.std.specs.Prelude.{ℕ, ◌==◌, ◌&&◌, ◌||◌, Bool, true, false, Option, Some, None, if◌then◌else◌}
 use Rattle.step_rules.specs.declared.phase.ChargedUnit.{ChargedUnit}
 use Rattle.step_rules.specs.declared.phase.Way.{Way}
@@ -8,7 +8,7 @@ use Rattle.step_rules.specs.declared.phase.Stage.TheVariants.{FreshAt, FreshPass
 use Rattle.step_rules.specs.declared.phase.Phase.{Phase}
 use Rattle.step_rules.specs.declared.phase.Phase.TheVariants.{InZone, Lent, Head, Tail}
 
--- a processor's frames are of three kinds: on its list, fresh, or with a last put of its own
+-- the three kinds of a CPU's frames: on its list, fresh, or back frames, whose last put it made
 pub data Kind : Type 0 where
   ListFrame : Kind
   FreshFrame : Kind
@@ -45,57 +45,57 @@ abbrev pub is_live : Phase → Bool
 is_live (Head unit stage) = is_live_stage stage
 is_live _ = false
 
--- the processor has the unit's head as a frame of this kind
+-- the CPU has the unit's head as a frame of this kind
 abbrev pub has_stage : Kind → ℕ → Stage → Bool
 has_stage FreshFrame p (FreshAt q) = q == p
 has_stage BackFrame p (BackAt q) = q == p
 has_stage _ _ _ = false
 
--- the lent frame is on the processor's list
+-- the lent frame is on the CPU's list
 abbrev pub has_lent : Kind → ℕ → ℕ → Way → Bool
 has_lent ListFrame p q OnList = q == p
 has_lent _ _ _ _ = false
 
--- the processor has the frame as one of this kind
+-- the CPU has the frame as one of this kind
 abbrev pub has_as : Kind → ℕ → Phase → Bool
 has_as kind p (Lent q way) = has_lent kind p q way
 has_as kind p (Head unit stage) = has_stage kind p stage
 has_as _ _ _ = false
 
--- the lent frame passes out
+-- the lent frame is in transit to the CPU
 abbrev pub is_out : Way → Bool
 is_out PassingOut = true
 is_out _ = false
 
--- the frame passes out to the processor
+-- the frame is in transit to this CPU
 abbrev pub passes_out : ℕ → Phase → Bool
 passes_out p (Lent q way) = is_out way && q == p
 passes_out _ _ = false
 
--- the lent frame passes back
+-- the lent frame is in transit back to the zone
 abbrev pub is_returning : Way → Bool
 is_returning PassingBack = true
 is_returning _ = false
 
--- the unit's head passes back from the processor
+-- the unit's head is in transit back from this CPU
 abbrev pub stage_passes_back : ℕ → Stage → Bool
 stage_passes_back p (FreshPassing q) = q == p
 stage_passes_back p (BackPassing q) = q == p
 stage_passes_back _ _ = false
 
--- the frame passes back from the processor
+-- the frame is in transit back from this CPU
 abbrev pub passes_back : ℕ → Phase → Bool
 passes_back p (Lent q way) = is_returning way && q == p
 passes_back p (Head unit stage) = stage_passes_back p stage
 passes_back _ _ = false
 
--- the unit's head passes back
+-- the unit's head is in transit
 abbrev pub is_stage_passing : Stage → Bool
 is_stage_passing (FreshPassing p) = true
 is_stage_passing (BackPassing p) = true
 is_stage_passing _ = false
 
--- the frame passes between the zone and a processor
+-- the frame is in transit between the zone and a CPU
 abbrev pub is_passing : Phase → Bool
 is_passing (Lent q way) = is_out way || is_returning way
 is_passing (Head unit stage) = is_stage_passing stage
@@ -113,25 +113,25 @@ abbrev pub is_head_in_hand : Phase → Bool
 is_head_in_hand (Head unit stage) = is_stage_in_hand stage
 is_head_in_hand _ = false
 
--- the unit may come back: its last reference is gone, or it was collected fresh and its group is killed
+-- the unit may be returned: its last reference was dropped, or it was collected fresh and its group is killed
 abbrev pub may_stage_return : Bool → Stage → Bool
 may_stage_return is_killed Ended = true
 may_stage_return is_killed Collected = is_killed
 may_stage_return is_killed _ = false
 
--- the frame heads a unit that may come back
+-- the frame heads a unit that may be returned
 abbrev pub may_return : (ℕ → Bool) → Phase → Bool
 may_return killed (Head unit stage) = may_stage_return (killed unit.group) stage
 may_return killed _ = false
 
--- the same unit at another stage
+-- the same unit, at another stage
 abbrev pub at_stage : Stage → Phase → Phase
 at_stage stage (Head unit old) = Head unit stage
 at_stage stage InZone = InZone
 at_stage stage (Lent q way) = Lent q way
 at_stage stage (Tail g) = Tail g
 
--- the stage after a last put: a processor has the frame as a back frame, and the zone has it in its hand
+-- the stage after a last put: the head is a CPU's back frame, or in the zone's hand
 abbrev pub stage_after_last : ℕ → Stage
 stage_after_last seat = if seat == 0 then Ended else BackAt seat
 
@@ -164,7 +164,7 @@ stage_collected Live = Live
 stage_collected (BackAt p) = BackAt p
 stage_collected Ended = Ended
 
--- the phase of a frame that is collected: one of the list is free again
+-- the phase of a frame that is collected: a frame of the list is free again
 abbrev pub collected : Phase → Phase
 collected (Lent p way) = InZone
 collected (Head unit stage) = Head unit (stage_collected stage)

@@ -1,5 +1,5 @@
--- Where the frames are after a run: a set of pairs of a frame and a place, folded over the run's pairs alone. A step that
--- moves a frame adds its new pair and takes out only the old pair that it names.
+-- Where the frames are after a run: a set of pairs of a frame and a place, folded over the run's pairs alone. A step
+-- that moves a frame adds its new pair and removes only the old pair that it names.
 use Rattle.std.specs.Prelude.{◌≡◌, ℕ, ◌^◌, ◌<◌, ◌==◌, ◌&&◌, ◌||◌, not, Bool, true, false, Option, Some, None, fold, if◌then◌else◌}
 use Rattle.step_rules.specs.declared.phase.ChargedUnit.{ChargedUnit}
 use Rattle.step_rules.specs.declared.phase.Phase.{Phase}
@@ -15,11 +15,11 @@ use Rattle.step_rules.specs.State.{Zone, front_of, is_frame}
 use Rattle.step_rules.specs.After.{Run, state_of, IsLegalRun, is_within}
 use Rattle.step_rules.specs.Units.{Units, no_units, units_after}
 
--- a set of pairs of a frame and a place: the test whether a pair is in it
+-- a set of pairs of a frame and a place, as the test whether a pair is in it
 abbrev pub Places : Type 0
 Places = ℕ → FramePlace → Bool
 
--- the two places are one
+-- the two places are the same
 abbrev pub is_same_frame_place : FramePlace → FramePlace → Bool
 is_same_frame_place Free Free = true
 is_same_frame_place (Listed p) (Listed q) = p == q
@@ -30,24 +30,24 @@ is_same_frame_place _ _ = false
 abbrev pub places_at_boot : Zone → Places
 places_at_boot zone f p = is_frame zone f && is_same_frame_place p Free
 
--- each of n frames from this one on gains its new place and loses the old one that is named, and no other
+-- each of n frames from this one on gains its new place and loses the named old one, and no other
 abbrev pub moved : Places → ℕ → ℕ → FramePlace → FramePlace → Places
 moved places at n old new f p =
     if is_within at n f then is_same_frame_place p new || (places f p && not (is_same_frame_place p old)) else places f p
 
--- the frames of a unit that comes back lose the place at its group
+-- the frames of a unit that is returned lose the place at its group and gain Free
 abbrev pub returned : Places → ℕ → Option ChargedUnit → Places
 returned places f None = places
 returned places f (Some unit) = moved places f (2 ^ unit.order) (Charged unit.group) Free
 
--- a fresh frame that is credited loses the place at its group
+-- a fresh frame that is credited loses the place at its group and gains that on the CPU's list
 abbrev pub credited_place : Places → ℕ → ℕ → Option ChargedUnit → Places
 credited_place places p f None = places
 credited_place places p f (Some unit) = moved places f 1 (Charged unit.group) (Listed p)
 
--- the places after one more step: a frame passed out goes from Free to Listed, and one of the list that is collected back
--- to Free; the front of the list that is consumed goes to the group that pays, and a credit takes it back; a block that is
--- placed goes from Free to its group, and a unit that comes back from there to Free
+-- The places after one more step. A frame passed out goes from Free to Listed; a listed frame that is collected goes
+-- back to Free. A consume moves the front of the list to the group that pays, a credit moves it back. A placed block
+-- goes from Free to its group, a returned unit from there to Free.
 abbrev pub places_after : Units → Places → ℕ → Action → Answer → Places
 places_after units places seat (PassOut f p) Done = moved places f 1 Free (Listed p)
 places_after units places seat (Collect f p) Done = if places f (Listed p) then moved places f 1 (Listed p) Free else places
@@ -57,7 +57,7 @@ places_after units places seat (PlaceBlock g k) (Placed b) = moved places b.at (
 places_after units places seat (Return f) Done = returned places f (units.unit f)
 places_after units places seat action answer = places
 
--- the units of the run, and the places beside them, after one more pair
+-- the units of the run, and the places, after one more pair
 abbrev pub with_places : Units × Places → Step × Answer → Units × Places
 with_places t e = (units_after t.0 e.0.seat e.0.action e.1, places_after t.0 t.1 e.0.seat e.0.action e.1)
 
@@ -78,11 +78,11 @@ place_in (Lent p way) = Listed p
 place_in (Head unit stage) = Charged unit.group
 place_in (Tail g) = Charged g
 
--- after a legal run every frame of the zone has exactly one place, the one that its phase tells, and no other frame has any
+-- after the run each frame of the zone has exactly one place, that of its phase, and no other frame has any
 pub record PlacesAreTold (zone : Zone) (run : Run) : Type 0 where
   pub one : (f : ℕ) → f < zone.frames → HasOnePlace (places_of zone run) f
   pub told : (f : ℕ) (p : FramePlace) → places_of zone run f p ≡ (is_frame zone f && is_same_frame_place p (place_in ((state_of zone run).phases f)))
 
--- every legal run tells a place of each frame, and one alone
+-- after every legal run each frame of the zone has exactly one place, that of its phase
 abbrev pub EveryFrameHasOnePlace : Type 0
 EveryFrameHasOnePlace = (zone : Zone) (run : Run) → IsLegalRun zone run → PlacesAreTold zone run

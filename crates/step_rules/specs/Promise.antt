@@ -1,7 +1,7 @@
--- The promise: what every list of steps keeps, said of what is shown when the lock is free. The free areas are the maximal
--- free blocks (Knuth, The Art of Computer Programming, 2.5; Gorman, Understanding the Linux Virtual Memory Manager,
--- chapter 6); each frame is in one place; memory.current is right, and no grant passed memory.max (cgroup-v2.rst); and each
--- frame came back once.
+-- The promise: what every list of steps keeps, said of what is shown when the lock is free. The free areas are the
+-- maximal free blocks (Knuth, The Art of Computer Programming, 2.5; Gorman, Understanding the Linux Virtual Memory
+-- Manager, chapter 6). Each frame is in one place. Each memory.current is right, and no grant passed memory.max
+-- (cgroup-v2.rst). No frame was returned twice for one use.
 use Rattle.std.specs.Prelude.{◌≡◌, ◌⊎◌, ◌↔◌, ℕ, ◌+◌, ◌<◌, ◌≤◌, Bool, true, false, Option, Some, is_some, List, length, take, slice_get, IfSome, if◌then◌else◌}
 use Rattle.std.specs.List.{Contains}
 use Rattle.zone_blocks.specs.declared.block.Block.{Block}
@@ -28,8 +28,8 @@ use Rattle.step_rules.specs.Returns.{is_gone, is_drop, times_in}
 use Rattle.step_rules.specs.Charges.{groups_of, charged_below}
 
 -- ---- what is shown
--- the free areas; for each processor its list; for each frame the group that keeps it, if one does; the groups; for each
--- processor its stock; and for each group a number of pages, its memory.current
+-- What is shown: the free areas; each CPU's list and stock; for each frame the group that keeps it, if any; the groups;
+-- for each group a number of pages, its memory.current.
 pub record Shown : Type 0 where
   pub areas : List Block
   pub lists : ℕ → List ℕ
@@ -38,8 +38,8 @@ pub record Shown : Type 0 where
   pub stocks : ℕ → Stock
   pub current : ℕ → ℕ
 
--- it is shown of this state: the areas are the maximal blocks of the free frames, each group's number of pages is its
--- usage, and the rest is as it is there
+-- What is shown is this state: the areas are the maximal blocks of its free frames, each memory.current is the group's
+-- usage, and all else is the same.
 pub record IsShown (s : State) (shown : Shown) : Type 0 where
   pub areas : AreMaximalBlocks (free_in s.zone s.phases) shown.areas
   pub lists : (p : ℕ) → shown.lists p ≡ (s.parts p).list
@@ -49,24 +49,24 @@ pub record IsShown (s : State) (shown : Shown) : Type 0 where
   pub current : (g : ℕ) → has_group s.groups g ≡ true → shown.current g ≡ usage_of s g
 
 -- ---- each frame is in one place
--- the frame is seen at the place: in a block of the free areas, on the processor's list, or kept by the group
+-- the frame is shown at the place: in a block of the free areas, on the CPU's list, or kept by the group
 abbrev pub Has : Shown → ℕ → FramePlace → Type 0
 Has shown f Free = (b : Block) × Contains shown.areas b × Covers b f
 Has shown f (Listed p) = 1 ≤ times_in f (shown.lists p)
 Has shown f (Charged g) = shown.keeper f ≡ Some g
 
--- it is seen there once: in one block alone; once on the list, which is that of a processor; or by a group that is there
+-- the frame is shown at the place once: in one block alone, once on the list of a CPU, or kept by a group that exists
 abbrev pub HasOnce : Zone → Shown → ℕ → FramePlace → Type 0
 HasOnce zone shown f Free = IsInOneBlock shown.areas f
 HasOnce zone shown f (Listed p) = (is_cpu zone p ≡ true) × (times_in f (shown.lists p) ≡ 1)
 HasOnce zone shown f (Charged g) = (has_group shown.groups g ≡ true) × (shown.keeper f ≡ Some g)
 
--- by the run it lies in a unit of this group: that of a head h, of 2^k frames
+-- by the run a unit of this group has the frame: that of a head h, of 2^k frames
 abbrev pub IsInUnit : Run → ℕ → ℕ → Type 0
 IsInUnit run g f =
     (h : ℕ) × (k : ℕ) × ((units_of run).unit h ≡ Some (record { group = g; order = k })) × Covers (record { at = h; order = k }) f
 
--- it is seen once at one place, and at no other; and a group keeps it exactly where it lies in a unit of that group
+-- The frame is shown once at one place, and at no other. A group keeps it exactly if a unit of that group has it.
 pub record IsInOnePlace (zone : Zone) (run : Run) (shown : Shown) (f : ℕ) : Type 0 where
   pub place : FramePlace
   pub once : HasOnce zone shown f place
@@ -74,40 +74,41 @@ pub record IsInOnePlace (zone : Zone) (run : Run) (shown : Shown) (f : ℕ) : Ty
   pub kept : (g : ℕ) → (shown.keeper f ≡ Some g) ↔ IsInUnit run g f
 
 -- ---- each usage is right
--- a page in the stock is prepaid by a processor, for a group that is there
+-- the stock is that of a CPU, for a group that exists
 abbrev pub IsPrepaid : Zone → Shown → ℕ → Type 0
 IsPrepaid zone shown p = (is_cpu zone p ≡ true) × ((g : ℕ) × ((shown.stocks p).group ≡ Some g) × (has_group shown.groups g ≡ true))
 
--- how many of the first n frames the group and those below it keep
+-- how many of the first n frames the group and its descendants keep
 abbrev pub kept_below : Shown → ℕ → ℕ → ℕ
 kept_below shown frames g = sum_to frames (λ f. one_if (is_below shown.groups g (shown.keeper f)))
 
--- the pages prepaid for them, in the stocks of the processors, which have the numbers from 1 on
+-- the pages prepaid for them in the stocks of the CPUs, which have the numbers from 1 on
 abbrev pub prepaid_below : Shown → ℕ → ℕ → ℕ
 prepaid_below shown cpus g =
     sum_to cpus (λ p. if is_below shown.groups g (shown.stocks (p + 1)).group then (shown.stocks (p + 1)).pages else 0)
 
 -- ---- no grant passed a limit
--- pages are granted to a group that isn't killed; and with them the pages charged to the group and to each of its ancestors are
--- at most the limit that it was given last
+-- A grant is for a group that isn't killed. With it, the pages charged to the group and to each ancestor are at most
+-- the limit last given there, if any.
 abbrev pub KeepsLimits : Run → Action → Answer → Type 0
 KeepsLimits run (Grant g n) Granted = (was_killed run g ≡ false)
     × ((m : ℕ) → in_subtree (groups_of run) m g ≡ true → fits_limit (limit_given run m) (charged_below run m + n) ≡ true)
 KeepsLimits run action answer = Unit {0}
 
--- ---- each frame came back once
+-- ---- no frame is returned twice for one use
 -- no seat has a reference on the frame: each gave up as many as it was given
 abbrev pub HasNoReference : Run → ℕ → Type 0
 HasNoReference run f = (seat : ℕ) → counted_over (references_in seat f) run ≡ counted_over (references_out seat f) run
 
--- the frame is in no use: it lies in no unit, has no reference, and its last one isn't gone without its coming back
+-- the frame is in no use: no unit has it, no seat refers to it, and no return of it is due after a last reference
 abbrev pub IsUnused : Run → ℕ → Type 0
 IsUnused run f = ((g : ℕ) → ¬ IsInUnit run g f) × HasNoReference run f × (is_gone run f ≡ false)
 
--- a reference is given, and a last one goes, where none is gone; the first ones are put on the head of a unit that has none. A
--- frame comes back without a reference: as the head of its
--- unit, where its last reference is gone or it is a fresh frame of a killed group; or it goes back to the list of the
--- processor at which it is fresh. It is paid for from the front of that list, or placed, where it is in no use
+-- A reference is given, or dropped as the last, only while no return of the frame is due. First references are put only
+-- on the head of a unit that has none. A frame is returned only without references and as the head of its unit: after
+-- its last reference, or as a fresh frame of a killed group. A credit is of a frame that is fresh at the CPU, without
+-- references. A frame is paid for, from the front of the list, or placed only while it is in no use. A placed block has
+-- the order asked for.
 abbrev pub ComesBackOnce : Run → ℕ → Action → Answer → Type 0
 ComesBackOnce run seat (Get f) Held = is_gone run f ≡ false
 ComesBackOnce run seat (Put f) Last = is_gone run f ≡ false
@@ -122,10 +123,11 @@ ComesBackOnce run seat (PlaceBlock g k) (Placed b) = (b.order ≡ k) × ((f : �
 ComesBackOnce run seat action answer = Unit {0}
 
 -- ---- the promise
--- what is shown after the run keeps it: the groups are those of the run; the free areas are the maximal blocks of some set of
--- frames, which by the next field are those on no list and kept by no group; each frame of the zone is in one place, and no other
--- frame in any; each page in a stock is prepaid; each group's memory.current is the frames that it and those below it keep, and the pages prepaid for them, and is what is charged
--- to them; and of each step of the run, where it was made, no grant passed a limit and each frame came back once
+-- What is shown after the run keeps the promise. The groups are those of the run. The free areas are the maximal blocks
+-- of some set of frames; by the next field these are on no list and kept by no group. Each frame of the zone is in one
+-- place, and no other frame is in any. Each page in a stock is prepaid. Each memory.current is the frames that the
+-- group and its descendants keep and the pages prepaid for them; it is also what is charged to them. Each step of the
+-- run, when it was made, kept the limits and returned no frame twice for one use.
 pub record Promise (zone : Zone) (run : Run) (shown : Shown) : Type 0 where
   pub groups : shown.groups ≡ groups_of run
   pub areas : (free : List Bool) × (length free ≡ zone.frames) × AreMaximalBlocks free shown.areas

@@ -1,4 +1,4 @@
--- Every use of a frame comes back once, and nothing is pending while the lock is free.
+-- How each use of a frame ends and is closed, and that nothing is pending while the lock is free.
 use Rattle.std.specs.Prelude.{◌≡◌, ℕ, ◌+◌, ◌==◌, ◌++◌, Bool, true, false, Option, Some, None, List, [], ◌∷◌, fold, filter, length, if◌then◌else◌}
 use Rattle.step_rules.specs.declared.phase.Stage.{Stage}
 use Rattle.step_rules.specs.declared.phase.Stage.TheVariants.{Collected, BackAt, BackPassing, Ended}
@@ -18,24 +18,24 @@ use Rattle.step_rules.specs.Folds.{was_killed}
 use Rattle.step_rules.specs.Units.{units_of}
 use Rattle.step_rules.specs.Places.{is_same_frame_place, place_in}
 
--- the stage of a unit whose last reference is gone and that hasn't come back
+-- the stage of a unit whose last reference was dropped and that wasn't returned since
 abbrev pub is_open_stage : Stage → Bool
 is_open_stage (BackAt p) = true
 is_open_stage (BackPassing p) = true
 is_open_stage Ended = true
 is_open_stage _ = false
 
--- an end of the frame is open: its last reference is gone, and it hasn't come back
+-- an end of the frame is open: its last reference was dropped, and it wasn't returned since
 abbrev pub is_open : Phase → Bool
 is_open (Head unit stage) = is_open_stage stage
 is_open _ = false
 
--- the stage of a fresh frame that was collected, where its group is killed
+-- the stage of a fresh frame that was collected, if its group is killed
 abbrev pub is_drop_stage : Bool → Stage → Bool
 is_drop_stage is_killed Collected = is_killed
 is_drop_stage _ _ = false
 
--- a return from this phase is a drop: the frame was collected as a fresh frame, and its group is killed
+-- a return in this phase is a drop: the frame was collected as a fresh frame, and its group is killed
 abbrev pub is_drop_phase : (ℕ → Bool) → Phase → Bool
 is_drop_phase killed (Head unit stage) = is_drop_stage (killed unit.group) stage
 is_drop_phase _ _ = false
@@ -49,8 +49,8 @@ is_killed_group killed (Some g) = killed g
 abbrev pub is_drop : Run → ℕ → Bool
 is_drop run f = is_killed_group (was_killed run) ((units_of run).fresh_for f)
 
--- whether the last reference of frame f is gone, after one more step: gone by a last put or a freeze of all references, not
--- gone once references are put on it again or it came back
+-- Whether the last reference of frame f is gone after one more step. A last put and a freeze of all references drop it.
+-- It isn't gone any more once references are put on the frame again or the frame is returned.
 abbrev pub gone_after : ℕ → Bool → Action → Answer → Bool
 gone_after f old (Put g) Last = if g == f then true else old
 gone_after f old (Freeze g n) Done = if g == f then true else old
@@ -58,12 +58,12 @@ gone_after f old (Unfreeze g n) Done = if g == f then false else old
 gone_after f old (Return g) Done = if g == f then false else old
 gone_after f old action answer = old
 
--- the last reference of the frame is gone, and it hasn't come back
+-- the last reference of the frame was dropped, and the frame was neither returned nor unfrozen since
 abbrev pub is_gone : Run → ℕ → Bool
 is_gone run f = fold (λ old e. gone_after f old e.0.action e.1) false run
 
--- 1 where a step after this run ends a use of frame f: a last put, a freeze of all references, a credit, or a return that is
--- a drop
+-- 1 if a step after this run ends a use of frame f: a last put, a freeze of all references, a credit, or a return that
+-- is a drop
 abbrev pub uses_ended : ℕ → Run → ℕ → Action → Answer → ℕ
 uses_ended f run seat (Put g) Last = if g == f then 1 else 0
 uses_ended f run seat (Freeze g n) Done = if g == f then 1 else 0
@@ -71,32 +71,32 @@ uses_ended f run seat (Credit g) Back = if g == f then 1 else 0
 uses_ended f run seat (Return g) Done = if g == f then one_if (is_drop run g) else 0
 uses_ended f run seat action answer = 0
 
--- 1 where a step closes one: the frame comes back by a return or a credit, or an unfreeze undoes the end
+-- 1 if a step closes an end: the frame is returned or credited, or an unfreeze undoes the end
 abbrev pub uses_closed : ℕ → Run → ℕ → Action → Answer → ℕ
 uses_closed f run seat (Return g) Done = if g == f then 1 else 0
 uses_closed f run seat (Credit g) Back = if g == f then 1 else 0
 uses_closed f run seat (Unfreeze g n) Done = if g == f then one_if (is_gone run g) else 0
 uses_closed f run seat action answer = 0
 
--- the run so far, and what was counted along it, after one more pair
+-- the run so far and what was counted along it, after one more pair
 abbrev pub with_counted : (Run → ℕ → Action → Answer → ℕ) → Run × ℕ → Step × Answer → Run × ℕ
 with_counted count t e = (t.0 ++ e ∷ [], t.1 + count t.0 e.0.seat e.0.action e.1)
 
--- the sum of what each step of a run counts, told by the run before it
+-- the sum of what each step of a run counts, each counted with the run before it
 abbrev pub counted_along : (Run → ℕ → Action → Answer → ℕ) → Run → ℕ
 counted_along count run = (fold (with_counted count) ([], 0) run).1
 
--- the state, and what was counted beside it, after one more pair
+-- the state and what was counted with it, after one more pair
 abbrev pub with_count : (State → ℕ → Action → Answer → ℕ) → State × ℕ → Step × Answer → State × ℕ
 with_count count t e = (after t.0 e.0.seat e.0.action e.1, t.1 + count t.0 e.0.seat e.0.action e.1)
 
--- the sum of what each step of a run counts, told beside the state
+-- the sum of what each step of a run counts, each counted with the state before it
 abbrev pub counted_beside : (State → ℕ → Action → Answer → ℕ) → Zone → Run → ℕ
 counted_beside count zone run = (fold (with_count count) (at_boot zone, 0) run).1
 
--- each frame comes back once for each use that ended: of its ended uses all are closed but the one that is open, and no
--- use ends while one is open; so a return that closes no open end is a drop. What is open, and what is a drop, is in the
--- state as it is by the run
+-- Each use of the frame that ended is closed by a return or a credit, or undone by an unfreeze, except one that is
+-- open. No use ends while one is open, so a return that closes no open end is a drop. Open ends and drops are the same
+-- in the state as by the run.
 pub record ReturnsOnce (zone : Zone) (run : Run) (f : ℕ) : Type 0 where
   pub once : counted_along (uses_ended f) run ≡ one_if (is_open ((state_of zone run).phases f)) + counted_along (uses_closed f) run
   pub gone : is_gone run f ≡ is_open ((state_of zone run).phases f)
@@ -105,22 +105,22 @@ pub record ReturnsOnce (zone : Zone) (run : Run) (f : ℕ) : Type 0 where
   pub none_open_at_put : (seat : ℕ) → IsMade (state_of zone run) seat (Put f) Last → is_open ((state_of zone run).phases f) ≡ false
   pub none_open_at_freeze : (seat n : ℕ) → IsMade (state_of zone run) seat (Freeze f n) Done → is_open ((state_of zone run).phases f) ≡ false
 
--- after every legal run each frame came back once for each use that ended
+-- after every legal run each use of a frame that ended is closed, except one that is open
 abbrev pub EveryFrameReturnsOnce : Type 0
 EveryFrameReturnsOnce = (zone : Zone) (run : Run) → IsLegalRun zone run → (f : ℕ) → ReturnsOnce zone run f
 
--- how often the frame stands in the list
+-- how often the list has the frame
 abbrev pub times_in : ℕ → List ℕ → ℕ
 times_in f frames = length (filter (λ x. x == f) frames)
 
--- while the lock is free no page is pending, usage is the frames kept and the pages prepaid, no frame passes, and each
--- frame stands once on the list of the processor that it is lent to, and on no other list
+-- While the lock is free no page is pending, usage is the frames kept and the pages prepaid, and no frame is in
+-- transit. A frame that is lent is once on the list of its CPU, and no frame is on any other list.
 pub record IsAllPlaced (s : State) : Type 0 where
   pub pending : (g : ℕ) → s.pending g ≡ 0
   pub usage : (g : ℕ) → usage_of s g ≡ frames_kept s.groups s.phases s.zone.frames g + pages_prepaid s.groups s.parts s.zone.cpus g
   pub still : no_frame_passes s ≡ true
   pub listed : (f p : ℕ) → times_in f (s.parts p).list ≡ one_if (is_same_frame_place (place_in (s.phases f)) (Listed p))
 
--- every legal run that leaves the lock free leaves nothing pending or passing
+-- after every legal run that leaves the lock free nothing is pending or in transit
 abbrev pub NothingPendsWhileTheLockIsFree : Type 0
 NothingPendsWhileTheLockIsFree = (zone : Zone) (run : Run) → IsLegalRun zone run → is_unheld (state_of zone run).hold ≡ true → IsAllPlaced (state_of zone run)

@@ -1,4 +1,4 @@
--- Which steps are legal, told by what a processor sees.
+-- Which steps are legal, judged by what a CPU sees.
 use Rattle.std.specs.Prelude.{◌≡◌, ◌≢◌, ◌⊎◌, ℕ, true, false}
 use Rattle.step_rules.specs.declared.phase.Hold.TheVariants.{HeldBy}
 use Rattle.step_rules.specs.declared.step.Action.{Action}
@@ -11,14 +11,14 @@ use Rattle.step_rules.specs.After.{Run, state_of, IsLegalRun}
 use Rattle.step_rules.specs.Cover.{hide}
 use Rattle.step_rules.specs.Laws.{ShowsLocal, pushed}
 
--- what p sees tells whether a step is legal: by the same table
+-- a step is legal in what p sees exactly if it is legal, by the same table
 pub record LegalityIsSeen (s local : State) (seat : ℕ) (action : Action) : Type 0 where
   pub same : is_legal local seat action ≡ is_legal s seat action
   pub illegal : is_legal local seat action ≡ false → Allows s seat action Illegal
   pub not_illegal : Allows s seat action Illegal → is_legal local seat action ≡ false
 
--- after a run that shows p a local state, each step of p or the zone's seat is legal exactly where it is on the local state,
--- and so answered Illegal exactly where it isn't
+-- After a run that shows p a local state, each step of p or the zone's seat is legal exactly if it is on the local
+-- state. It is answered Illegal exactly if it isn't legal there.
 abbrev pub AllLegalityIsSeen : Type 0
 AllLegalityIsSeen = (zone : Zone) (run : Run) (p : ℕ) (local : State) → ShowsLocal zone run p local →
     (seat : ℕ) (action : Action) → (seat ≡ 0) ⊎ (seat ≡ p) → LegalityIsSeen (state_of zone run) local seat action
@@ -28,16 +28,17 @@ pub record IsFreeAfter (zone : Zone) (run : Run) : Type 0 where
   pub legal : IsLegalRun zone run
   pub free : is_unheld (state_of zone run).hold ≡ true
 
--- where p may take the lock, it takes it and sees the state then; and where it may give it back by what it sees, it gives
--- it back, and the lock is free
+-- If p may take the lock, it sees the state after taking it. If p may release the lock by what it sees, the run stays
+-- legal when p does so, and the lock is free then.
 pub record LockIsPassedOn : Type 0 where
   pub taken : (zone : Zone) (run : Run) (p : ℕ) → IsLegalRun zone run → is_legal (state_of zone run) p Lock ≡ true →
       ShowsLocal zone (pushed run (record { seat = p; action = Lock }) Done) p (hide p (record (state_of zone run) { hold = HeldBy p }))
   pub given_back : (zone : Zone) (run : Run) (p : ℕ) (local : State) → ShowsLocal zone run p local → is_legal local p Unlock ≡ true →
       IsFreeAfter zone (pushed run (record { seat = p; action = Unlock }) Done)
 
--- what p sees of the whole state as it is: the groups with their limits, who is killed, what is pending, the usage of each
--- group, which frames are free, and p's own part; and of each other processor the book, which is what p sees as its stock
+-- What p sees as it is in the state: the groups with their limits, who is killed, what is pending, each group's usage,
+-- which frames are free, and p's own part. Of each other CPU p sees the book, and sees it as the pages of that CPU's
+-- stock.
 pub record SeesAll (s local : State) (p : ℕ) : Type 0 where
   pub zone : local.zone ≡ s.zone
   pub groups : local.groups ≡ s.groups
@@ -49,6 +50,6 @@ pub record SeesAll (s local : State) (p : ℕ) : Type 0 where
   pub book : (q : ℕ) → (local.parts q).book ≡ (s.parts q).book
   pub others : (q : ℕ) → q ≢ p → (local.parts q).stock.pages ≡ (s.parts q).book
 
--- so it is after every run that shows p a local state
+-- after every run that shows p a local state, p sees in it what `SeesAll` lists
 abbrev pub AllIsSeen : Type 0
 AllIsSeen = (zone : Zone) (run : Run) (p : ℕ) (local : State) → ShowsLocal zone run p local → SeesAll (state_of zone run) local p

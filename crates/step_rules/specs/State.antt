@@ -1,4 +1,4 @@
--- What stands where after a list of steps.
+-- The state after a list of steps.
 use Rattle.std.specs.Prelude.{ℕ, ◌+◌, ◌==◌, ◌&&◌, ◌++◌, not, nat_le, nat_lt, zero, suc, Bool, true, false, Option, None, List, [], ◌∷◌, map, filter}
 use Rattle.std.specs.Prelude.{if◌then◌else◌}
 use Rattle.std.specs.List.{range_with_len, slice_index_or}
@@ -10,19 +10,20 @@ use Rattle.step_rules.specs.declared.phase.Phase.{Phase}
 use Rattle.step_rules.specs.declared.phase.Phase.TheVariants.{InZone}
 use Rattle.step_rules.specs.Phases.{Kind, ListFrame, FreshFrame, BackFrame, is_free}
 
--- the sizes of a zone: how many frames it has, and how many processors
+-- the sizes of a zone: how many frames it has, and how many CPUs
 pub record Zone : Type 0 where
   pub frames : ℕ
   pub cpus : ℕ
 
--- a processor's stock: the group of its last fill, the pages that it holds, and whether it was drained since
+-- a CPU's stock: the group of its last fill, the pages that it holds, and whether it was drained since
 pub record Stock : Type 0 where
   pub group : Option ℕ
   pub pages : ℕ
   pub is_drained : Bool
 
--- a processor's part: its list, its fresh frames, its back frames, its stock, and its book, the pages filled for it
--- and neither drained nor absorbed; of these `unreported` were passed back, and `reported` are to be absorbed
+-- A CPU's part: its list, its fresh frames, its back frames, its stock, and its book. The book is the pages filled for
+-- it and neither drained nor absorbed. Of these, `unreported` are the pages of fresh frames that were passed back, and
+-- `reported` are to be absorbed.
 pub record Part : Type 0 where
   pub list : List ℕ
   pub fresh : List ℕ
@@ -32,8 +33,8 @@ pub record Part : Type 0 where
   pub unreported : ℕ
   pub reported : ℕ
 
--- what stands where: who holds the lock, the groups, which of them are killed, the phase of each frame, the references of
--- each seat on each frame, each processor's part, and the pages that are pending for each group
+-- The state: who holds the lock; the groups, and which are killed; the phase of each frame; the references of each seat
+-- on each frame; each CPU's part; the pages pending for each group.
 pub record State : Type 0 where
   pub zone : Zone
   pub hold : Hold
@@ -48,11 +49,11 @@ pub record State : Type 0 where
 abbrev pub no_stock : Stock
 no_stock = record { group = None; pages = 0; is_drained = false }
 
--- a processor's part at first
+-- a CPU's part at boot
 abbrev pub no_part : Part
 no_part = record { list = []; fresh = []; back = []; stock = no_stock; book = 0; unreported = 0; reported = 0 }
 
--- at first the lock and each frame are free, there is the root alone, and nothing is referred to, lent or pending
+-- at boot the lock and each frame are free, the root is the only group, and nothing is referred to, lent or pending
 abbrev pub at_boot : Zone → State
 at_boot zone = record {
   zone = zone;
@@ -69,7 +70,7 @@ at_boot zone = record {
 abbrev pub with_at : {X : Type 0} → (ℕ → X) → ℕ → X → ℕ → X
 with_at h k x m = if m == k then x else h m
 
--- 1 where the test is true, else 0
+-- 1 if the test is true, else 0
 abbrev pub one_if : Bool → ℕ
 one_if true = 1
 one_if false = 0
@@ -92,7 +93,7 @@ without f frames = filter (λ x. not (x == f)) frames
 abbrev pub with_last : List ℕ → ℕ → List ℕ
 with_last frames f = frames ++ f ∷ []
 
--- the frames with this one at the end, or without it
+-- the frames with this one at the end if the test is true, else without it
 abbrev pub put_if : Bool → ℕ → List ℕ → List ℕ
 put_if true f frames = with_last frames f
 put_if false f frames = frames
@@ -101,17 +102,17 @@ put_if false f frames = frames
 abbrev pub front_of : List ℕ → ℕ
 front_of frames = slice_index_or frames 0 0
 
--- the processor's frames of one kind
+-- the CPU's frames of one kind
 abbrev pub frames_of : Part → Kind → List ℕ
 frames_of part ListFrame = part.list
 frames_of part FreshFrame = part.fresh
 frames_of part BackFrame = part.back
 
--- the seat is that of a processor
+-- the seat is a CPU's
 abbrev pub is_cpu : Zone → ℕ → Bool
 is_cpu zone p = nat_le 1 p && nat_le p zone.cpus
 
--- the frame is there
+-- the frame is one of the zone
 abbrev pub is_frame : Zone → ℕ → Bool
 is_frame zone f = nat_lt f zone.frames
 
@@ -120,28 +121,28 @@ abbrev pub is_unheld : Hold → Bool
 is_unheld Unheld = true
 is_unheld _ = false
 
--- the processor holds the lock, and doesn't visit
+-- the CPU holds the lock, and its visit isn't open
 abbrev pub is_held_by : ℕ → Hold → Bool
 is_held_by p (HeldBy q) = q == p
 is_held_by p _ = false
 
--- the processor visits: it holds the lock, and its visit is open
+-- the CPU holds the lock, and its visit is open
 abbrev pub visits : ℕ → Hold → Bool
 visits p (Visiting q) = q == p
 visits p _ = false
 
--- the zone's own seat acts: a processor holds the lock
+-- the seat is the zone's own, and a CPU holds the lock
 abbrev pub may_zone_act : Hold → ℕ → Bool
 may_zone_act hold seat = seat == 0 && not (is_unheld hold)
 
--- all references on the frame
+-- the references of all seats on the frame
 abbrev pub live_references : State → ℕ → ℕ
 live_references s f = sum_to (s.zone.cpus + 1) (λ seat. s.references seat f)
 
--- the references of the seat on all frames: a processor's are its pins
+-- the references of the seat on all frames; a CPU's are its pins
 abbrev pub pins_of : State → ℕ → ℕ
 pins_of s seat = sum_to s.zone.frames (λ f. s.references seat f)
 
--- which frames are free: for each frame of the zone whether it is in the free areas
+-- for each frame of the zone, whether it is in the free areas
 abbrev pub free_in : Zone → (ℕ → Phase) → List Bool
 free_in zone phases = map (λ f. is_free (phases f)) (range_with_len 0 zone.frames)

@@ -14,15 +14,15 @@ use Rattle.step_rules.specs.State.{Zone, front_of}
 use Rattle.step_rules.specs.After.{Run, state_of, IsLegalRun}
 use Rattle.step_rules.specs.Folds.{InHand, hand_after, hand_of}
 
--- the hand of each processor; the unit that each frame heads; and for each fresh frame the group that paid for it: it was
--- consumed, and since then no reference was put on it, so no use of it began or ended
+-- The frames that each CPU has; the unit that each frame heads; and for each fresh frame the group that paid for it. A
+-- frame is fresh if it was consumed, and since then not credited, returned or given a reference.
 pub record Units : Type 0 where
   pub hands : ℕ → InHand
   pub unit : ℕ → Option ChargedUnit
   pub fresh_for : ℕ → Option ℕ
 
--- the unit that frame f heads after one more step of a seat whose list begins with `front`: a consume makes that frame a unit
--- of one frame, a block that is placed is a unit of its order, and a credit or a return ends it
+-- The unit that frame f heads after one more step of a seat whose list begins with `front`. A consume makes that frame
+-- a unit of one frame, a placed block is a unit of its order, and a credit or a return ends the unit.
 abbrev pub unit_after : ℕ → ℕ → Option ChargedUnit → Action → Answer → Option ChargedUnit
 unit_after f front old (Consume g) Took = if front == f then Some (record { group = g; order = 0 }) else old
 unit_after f front old (PlaceBlock g k) (Placed b) = if b.at == f then Some (record { group = g; order = k }) else old
@@ -30,8 +30,8 @@ unit_after f front old (Credit h) Back = if h == f then None else old
 unit_after f front old (Return h) Done = if h == f then None else old
 unit_after f front old action answer = old
 
--- the group for which frame f is fresh after one more step of such a seat: a consume pays for it, and it is fresh until
--- references are put on it or it goes back
+-- The group for which frame f is fresh after one more step of such a seat. A consume pays for the frame. It is fresh
+-- until references are put on it, or it is credited or returned.
 abbrev pub fresh_after : ℕ → ℕ → Option ℕ → Action → Answer → Option ℕ
 fresh_after f front old (Consume g) Took = if front == f then Some g else old
 fresh_after f front old (Unfreeze h n) Done = if h == f then None else old
@@ -39,7 +39,7 @@ fresh_after f front old (Credit h) Back = if h == f then None else old
 fresh_after f front old (Return h) Done = if h == f then None else old
 fresh_after f front old action answer = old
 
--- all of these after one more step
+-- all three after one more step
 abbrev pub units_after : Units → ℕ → Action → Answer → Units
 units_after old seat action answer = record {
   hands = λ p. hand_after p (old.hands p) seat action answer;
@@ -47,7 +47,7 @@ units_after old seat action answer = record {
   fresh_for = λ f. fresh_after f (front_of (old.hands seat).list) (old.fresh_for f) action answer;
 }
 
--- before the first step there is none
+-- before the first step there are no units, and no CPU has a frame
 abbrev pub no_units : Units
 no_units = record { hands = λ p. record { list = []; fresh = []; back = [] }; unit = λ f. None; fresh_for = λ f. None }
 
@@ -67,12 +67,13 @@ abbrev pub fresh_group : Phase → Option ℕ
 fresh_group (Head unit stage) = if is_fresh_stage stage then Some unit.group else None
 fresh_group _ = None
 
--- the state has the unit that the run says, and the frame is fresh in it exactly where it is by the run, for the same group
+-- the unit in the state is that of the run, and the frame is fresh in the state exactly if it is by the run, for the
+-- same group
 pub record UnitsAreTold (zone : Zone) (run : Run) (f : ℕ) : Type 0 where
   pub unit : unit_of ((state_of zone run).phases f) ≡ (units_of run).unit f
   pub fresh : fresh_group ((state_of zone run).phases f) ≡ (units_of run).fresh_for f
   pub hands : (p : ℕ) → (units_of run).hands p ≡ hand_of run p
 
--- so it is of each frame after every legal run
+-- after every legal run the units and the fresh frames are those of the run
 abbrev pub AllUnitsAreTold : Type 0
 AllUnitsAreTold = (zone : Zone) (run : Run) → IsLegalRun zone run → (f : ℕ) → UnitsAreTold zone run f

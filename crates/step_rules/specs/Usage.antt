@@ -6,16 +6,16 @@ use Rattle.step_rules.specs.declared.phase.Phase.{Phase}
 use Rattle.step_rules.specs.Phases.{keeper_of}
 use Rattle.step_rules.specs.State.{State, Part, one_if, sum_to}
 
--- the number, if there is one, is that of a group of the subtree
+-- there is a group, and it is in the subtree
 abbrev pub is_below : List Group → ℕ → Option ℕ → Bool
 is_below groups g None = false
 is_below groups g (Some h) = in_subtree groups g h
 
--- the frames that the group's subtree keeps, of the first n
+-- how many of the first n frames the group's subtree keeps
 abbrev pub frames_kept : List Group → (ℕ → Phase) → ℕ → ℕ → ℕ
 frames_kept groups phases n g = sum_to n (λ f. one_if (is_below groups g (keeper_of (phases f))))
 
--- the pages of a processor's stock, where that is of a group of the subtree
+-- the pages of a CPU's stock, if the stock is of a group of the subtree
 abbrev pub stock_below : List Group → ℕ → Part → ℕ
 stock_below groups g part = if is_below groups g part.stock.group then part.stock.pages else 0
 
@@ -27,7 +27,7 @@ pages_prepaid groups parts cpus g = sum_to (cpus + 1) (λ p. stock_below groups 
 abbrev pub pages_pending : List Group → (ℕ → ℕ) → ℕ → ℕ
 pages_pending groups pending g = sum_to 64 (λ h. if in_subtree groups g h then pending h else 0)
 
--- the memory now used by the group and its descendants, in pages: the frames that they keep, the pages prepaid for them
--- and those pending
+-- The memory now used by the group and its descendants, in pages: the frames that they keep, the pages prepaid for them
+-- and those pending.
 abbrev pub usage_of : State → ℕ → ℕ
 usage_of s g = frames_kept s.groups s.phases s.zone.frames g + pages_prepaid s.groups s.parts s.zone.cpus g + pages_pending s.groups s.pending g

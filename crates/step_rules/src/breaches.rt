@@ -1,4 +1,5 @@
-//! What breaks the promise: runs and sights, each wrong in one thing, so that each field of the promise says something.
+//! What breaks the promise: runs and shown states, each wrong in one thing. So each field of the promise says
+//! something.
 
 ghost use Rattle.std.specs.Prelude.{[]};
 ghost use Rattle.step_rules.specs.After.{IsLegalRun, state_of};
@@ -12,14 +13,15 @@ ghost use Rattle.step_rules.specs.Breaches.{kept_run, right_sight, IsWrongSight,
 ghost use Rattle.step_rules.specs.Breaches.{kept_in_no_unit, seen_beyond, prepaid_for_nobody, prepaid_left_out, no_group_seen};
 ghost use Rattle.step_rules.specs.Breaches.{IsWrongAfter, free_sight, parted_areas, prepaid_by_nobody, prepaid_for_no_group, granted_and_lost, lost_in_number};
 
-/// A grant that passes the limit of an ancestor breaks the promise, and so does one to a killed group.
+/// A grant that passes the limit of an ancestor breaks the promise. A grant to a killed group breaks it too.
 pub fn a_grant_past_a_limit_breaks_the_promise()
     ensures limit { BreaksPromise past_a_limit }
     ensures killed { BreaksPromise granted_when_killed }
 {}
 
-/// A return breaks the promise where no last reference is gone, where one is left, of no unit, and a second time; and a
-/// credit a second time, and where somebody refers to the frame.
+/// A return breaks the promise if the last reference wasn't dropped, if a reference is left, if the frame heads no
+/// unit, or if it is the second return for one end. A credit breaks it if it is the second one, or if a seat refers to
+/// the frame.
 pub fn a_return_out_of_turn_breaks_the_promise()
     ensures unused { BreaksPromise returned_unused }
     ensures in_use { BreaksPromise returned_in_use }
@@ -29,8 +31,8 @@ pub fn a_return_out_of_turn_breaks_the_promise()
     ensures credited_in_use { BreaksPromise credited_in_use }
 {}
 
-/// A frame is paid for only from a list, and paid for or placed only where it is in no use; and a block is placed only of
-/// its order, and for a group that is there.
+/// A frame is paid for only from a list. It is paid for, or placed, only while it is in no use. A block is placed only
+/// with the order asked for, and for a group that exists.
 pub fn a_second_use_breaks_the_promise()
     ensures nothing { BreaksPromise consumed_nothing }
     ensures in_a_unit { BreaksPromise consumed_in_a_unit }
@@ -41,8 +43,8 @@ pub fn a_second_use_breaks_the_promise()
     ensures for_nobody { BreaksPromise placed_for_nobody }
 {}
 
-/// After the last reference is gone no other is given, goes last or is frozen; and the first ones are put on a unit that
-/// has none.
+/// After the last reference was dropped no reference is given, dropped as the last or frozen. First references are put
+/// only on a unit that has none.
 pub fn a_reference_after_the_last_breaks_the_promise()
     ensures given { BreaksPromise given_after_the_last }
     ensures put { BreaksPromise put_after_the_last }
@@ -58,8 +60,9 @@ pub fn a_right_sight_keeps_the_promise()
     ensures kept { Promise small_zone kept_run right_sight }
 {}
 
-/// The same breaks it where it is wrong in one thing: a frame is nowhere, in two places, twice on a list, on nobody's
-/// list, kept in no unit, or none of the zone's; a page is prepaid for nobody, or left out; or no group is seen.
+/// Shown states that are wrong in one thing break the promise. A frame is nowhere, in two places, twice on a list, on
+/// the list of no CPU, kept without a unit, or not of the zone. A page is prepaid for no group, or left out. No group
+/// is shown.
 pub fn a_wrong_sight_breaks_the_promise()
     ensures nowhere { IsWrongSight seen_nowhere }
     ensures twice { IsWrongSight seen_twice }
@@ -72,8 +75,9 @@ pub fn a_wrong_sight_breaks_the_promise()
     ensures no_group { IsWrongSight no_group_seen }
 {}
 
-/// Of free frames alone a sight breaks the promise where two blocks are seen that are one, where a page is prepaid by
-/// nobody or for a group that isn't there, and where a page was granted and is nowhere, counted or not.
+/// Shown states with only free frames break the promise if one block is shown as two, or if a page is prepaid by no CPU
+/// or for a group that doesn't exist. They also do if a granted page is nowhere, whether memory.current counts it or
+/// not.
 pub fn a_wrong_free_sight_breaks_the_promise()
     ensures parted { IsWrongAfter [] parted_areas }
     ensures by_nobody { IsWrongAfter [] prepaid_by_nobody }

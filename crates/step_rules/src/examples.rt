@@ -1,5 +1,4 @@
-//! Small runs that are checked by evaluation: what each function ensures is that the table allows every answer of the
-//! run as it stands, refused steps included.
+//! Small runs that are checked by evaluation: the table allows every answer of each run, refused steps included.
 
 ghost use Rattle.std.specs.Prelude.{◌≡◌, ◌++◌, true, false, Some};
 ghost use Rattle.step_rules.specs.After.{IsLegalRun, state_of};
@@ -19,8 +18,8 @@ ghost use Rattle.step_rules.specs.Events.{events_of, events_local_of};
 ghost use Rattle.step_rules.specs.declared.phase.Phase.TheVariants.{InZone};
 ghost use Rattle.step_rules.specs.declared.phase.Hold.TheVariants.{Unheld};
 
-/// The life of a frame, in 29 steps of two processors and the zone: lent, consumed, handed over, kept, pinned by
-/// another processor, put for the last time there, handed back and returned. At its end the lock and the frame are free.
+/// The life of a frame, in 29 steps of two CPUs and the zone: lent, consumed, handed over, kept, pinned by another CPU,
+/// put there last, handed back and returned. At its end the lock and the frame are free.
 pub fn the_life_of_a_frame_is_legal()
     ensures legal { IsLegalRun small_zone life_of_a_frame }
     ensures frame_free { (state_of small_zone life_of_a_frame).phases 0 ≡ InZone }
@@ -32,36 +31,36 @@ pub fn a_second_credit_is_illegal()
     ensures { IsLegalRun small_zone credited_twice }
 {}
 
-/// A unit that came back and was placed again comes back no second time for the first end: the second return is
+/// A unit that was returned and placed again isn't returned a second time for the first end: the second return is
 /// answered Illegal.
 pub fn a_second_return_is_illegal()
     ensures { IsLegalRun small_zone returned_twice }
 {}
 
-/// The lock is not given back while pages are pending.
+/// The lock isn't released while pages are pending.
 pub fn an_early_unlock_is_illegal()
     ensures { IsLegalRun small_zone unlocked_too_soon }
 {}
 
-/// A fresh frame that the zone collected comes back without a last put only where its group is killed: the return
-/// is answered Illegal before the kill, and Done after it.
+/// A fresh frame that the zone collected is returned without a last put only if its group is killed. The return is
+/// answered Illegal before the kill, and Done after it.
 pub fn a_killed_groups_fresh_frame_comes_back()
     ensures legal { IsLegalRun small_zone returned_when_killed }
     ensures frame_free { (state_of small_zone returned_when_killed).phases 0 ≡ InZone }
 {}
 
-/// A frame gets 255 references and no more, and none is given on one that has none; a freeze takes all references or
-/// none; the root gets no limit, a killed group no page, and it is killed once.
+/// A frame gets at most 255 references, and none is given on one that has none. A freeze takes all references or none.
+/// The root gets no limit, a killed group gets no page, and a group is killed once.
 pub fn the_borders_are_kept()
     ensures { IsLegalRun small_zone at_the_borders }
 {}
 
-/// A processor passes back the front of its list alone, and the zone publishes only what it has a reference on.
+/// A CPU passes back only the front of its list, and the zone publishes only a frame that it has a reference on.
 pub fn the_line_is_kept()
     ensures { IsLegalRun small_zone in_line }
 {}
 
-/// Each kind of event is counted where it is noted: one `max`, two of `oom` and one `oom_kill`.
+/// Each kind of event is counted at the group at which it is noted: one `max`, two of `oom` and one `oom_kill`.
 pub fn notes_are_counted()
     ensures legal { IsLegalRun small_zone noted }
     ensures max { (events_of Max small_zone noted 0 ≡ 1) × (events_local_of Max small_zone noted 0 ≡ 1) }
@@ -69,9 +68,9 @@ pub fn notes_are_counted()
     ensures oom_kill { (events_of OomKill small_zone noted 0 ≡ 1) × (events_local_of OomKill small_zone noted 0 ≡ 1) }
 {}
 
-/// Pages for a group are bounded by the limit of the one above it, which is named where they are over it and may be set
-/// below what is used; a group is removed once it has none below it and uses nothing, killed or not, and its number is
-/// given again, with nothing of what was counted there. What is noted at a group is counted above it too.
+/// The limit of the parent bounds the pages of a group: a grant over it names the parent, and it may be set below the
+/// usage. A group is removed once it has no child and no usage, killed or not. A new group gets its number, with none
+/// of its counts. What is noted at a group also counts for its ancestors.
 pub fn a_group_comes_and_goes()
     ensures legal { IsLegalRun small_zone group_comes_and_goes }
     ensures killed { was_killed group_comes_and_goes 2 ≡ false }
@@ -80,14 +79,14 @@ pub fn a_group_comes_and_goes()
     ensures noted { (events_of Max small_zone group_comes_and_goes 0 ≡ 1) × (events_local_of Max small_zone group_comes_and_goes 2 ≡ 1) }
 {}
 
-/// A killed group gets no page more; those that are pending for it are placed or taken back, events are noted at it, its
-/// limit is set, and it is removed once nothing of it is left.
+/// A killed group gets no more pages, and those pending for it are placed or ungranted. Events are noted at it and its
+/// limit is set. It is removed once it has no child and no usage.
 pub fn a_killed_group_ends()
     ensures { IsLegalRun small_zone killed_group_ends }
 {}
 
-/// The flag of a group is set; the root's can't be. That the group was killed as a whole is counted once, at that group and
-/// above it, and each single kill is counted too. A new group of its number has neither the flag nor the count.
+/// The flag of a group is set; the root's can't be. A kill as a whole is counted once, at that group and its ancestors;
+/// each single kill is counted too. A new group with its number has neither the flag nor the count.
 pub fn a_group_dies_whole()
     ensures legal { IsLegalRun small_zone group_dies_whole }
     ensures flag { (flag_given group_killed_whole 1 ≡ true) × (flag_given group_killed_whole 2 ≡ false) }
@@ -96,14 +95,14 @@ pub fn a_group_dies_whole()
     ensures anew { (flag_given group_dies_whole 1 ≡ false) × (events_local_of OomGroupKill small_zone group_dies_whole 1 ≡ 0) }
 {}
 
-/// A stock pays for its own group, as many frames as it has pages, and once it is drained nothing; and where no frame is
-/// free none is placed.
+/// A stock pays only for its own group, for as many frames as it has pages, and for none once it is drained. If no
+/// frame is free, none is placed.
 pub fn a_stock_pays_once()
     ensures { IsLegalRun small_zone stock_without_a_page }
 {}
 
-/// What a run tells of that life: the frame is lent to processor 1 after the first visit, published from the hand-over
-/// until it comes back, and gone from the last put until then.
+/// What the run says of that life. The frame is lent to CPU 1 after the first visit. It is published from the hand-over
+/// until it is returned, and gone from the last put until then.
 pub fn the_life_of_a_frame_is_told()
     ensures lent { lent_to ((state_of small_zone first_visit).phases 0) ≡ Some 1 }
     ensures published { (is_published (first_visit ++ hand_over) 0 ≡ true) × (is_published life_of_a_frame 0 ≡ false) }
@@ -111,8 +110,8 @@ pub fn the_life_of_a_frame_is_told()
     ensures gone { (is_gone (first_visit ++ hand_over ++ last_put) 0 ≡ true) × (is_gone life_of_a_frame 0 ≡ false) }
 {}
 
-/// There are local steps, of the processor that holds the lock and of the zone's seat, and steps of others between them:
-/// the visit is shown to the processor as if it and the zone had been alone.
+/// The CPU that holds the lock and the zone's seat make local steps, with steps of others between them. The visit is
+/// shown to that CPU as if it and the zone had been alone.
 pub fn a_visit_is_local()
     ensures before { ShowsLocal small_zone lock_taken 1 (hide 1 (state_of small_zone lock_taken)) }
     ensures local { IsLocalRun 1 (hide 1 (state_of small_zone lock_taken)) (own_steps 1 vain_visit) (hide 1 (state_of small_zone lock_taken)) }
@@ -120,8 +119,8 @@ pub fn a_visit_is_local()
     ensures after { ShowsLocal small_zone (lock_taken ++ vain_visit) 1 (hide 1 (state_of small_zone lock_taken)) }
 {}
 
-/// A processor gets a reference where its pins and back frames are below 256, and pays for a frame where fewer than 32
-/// are fresh.
+/// A CPU gets a reference only if its pins and back frames are below 256. It pays for a frame only if fewer than 32 are
+/// fresh.
 pub fn the_bounds_are_kept()
     ensures pins { (is_legal (with_pins 255) 1 (Get 1) ≡ true) × (is_legal (with_pins 256) 1 (Get 1) ≡ false) }
     ensures back { (is_legal (with_back_frames 255) 1 (Get 1) ≡ true) × (is_legal (with_back_frames 256) 1 (Get 1) ≡ false) }

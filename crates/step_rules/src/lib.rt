@@ -1,5 +1,5 @@
-//! The rules of the memory controller's core: every step that a processor or the zone's own seat may make, when
-//! it is legal, what it may be answered, what it changes, and what follows for every legal run.
+//! The rules of the memory controller's core: every step that a CPU or the zone's own seat may make. They say when a
+//! step is legal, what it may be answered and what it changes. Laws say what follows for every legal run.
 #![tactic(auto)]
 
 pub mod breaches;

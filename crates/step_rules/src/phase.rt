@@ -1,4 +1,4 @@
-//! In which phase of its life a frame is, and who holds the zone's lock.
+//! The phases in the life of a frame, and who holds the zone's lock.
 
 use group_tree::group::GroupId;
 use zone_blocks::order::Order;
@@ -8,38 +8,38 @@ use zone_blocks::order::Order;
 pub enum Hold {
     /// Nobody: the lock is free.
     Unheld,
-    /// This processor, whose visit isn't open.
+    /// This CPU, whose visit isn't open.
     HeldBy(u32),
-    /// This processor, and its visit is open.
+    /// This CPU, whose visit is open.
     Visiting(u32),
 }
 
-/// What was charged at once: a block of one frame or more, and the group that keeps it.
+/// What was charged at once: a block of one or more frames, and the group that keeps it.
 #[derive(Clone, Copy, Debug, PartialEq, Eq)]
 pub struct ChargedUnit {
     /// The group that keeps the frames.
     pub group: GroupId,
-    /// A unit of order k has 2^k frames, the head the first.
+    /// A unit of order k has 2^k frames; the head is the first.
     pub order: Order,
 }
 
-/// How a frame that is lent to a processor stands.
+/// Where a frame that is lent to a CPU is: in transit, or on the list.
 #[derive(Clone, Copy, Debug, PartialEq, Eq)]
 pub enum Way {
-    /// The zone passed it, and the processor hasn't taken it in.
+    /// The zone passed it, and the CPU hasn't taken it in.
     PassingOut,
-    /// It is on the processor's list.
+    /// It is on the CPU's list.
     OnList,
-    /// The processor passed it back, and the zone hasn't collected it.
+    /// The CPU passed it back, and the zone hasn't collected it.
     PassingBack,
 }
 
-/// How the head of a charged unit stands.
+/// The stage of a charged unit, by its head.
 #[derive(Clone, Copy, Debug, PartialEq, Eq)]
 pub enum Stage {
-    /// Fresh at this processor: it paid a page for the frame, which has had no reference since.
+    /// Fresh at this CPU: the CPU paid a page for the frame, which has had no reference since.
     FreshAt(u32),
-    /// Passed back by this processor as a fresh frame, and not collected.
+    /// Passed back by this CPU as a fresh frame, and not collected yet.
     FreshPassing(u32),
     /// In the zone's hand, collected as a fresh frame.
     Collected,
@@ -47,11 +47,11 @@ pub enum Stage {
     Bare,
     /// It has references, and is in no hand.
     Live,
-    /// Its last put was this processor's, in whose hand it is: a back frame.
+    /// This CPU made the last put and owns the frame: a back frame.
     BackAt(u32),
-    /// Passed back by this processor as a back frame, and not collected.
+    /// Passed back by this CPU as a back frame, and not collected yet.
     BackPassing(u32),
-    /// In the zone's hand, and its last reference is gone.
+    /// In the zone's hand, after its last reference was dropped.
     Ended,
 }
 
@@ -60,7 +60,7 @@ pub enum Stage {
 pub enum Phase {
     /// In the zone's free areas.
     InZone,
-    /// Lent to a processor.
+    /// Lent to a CPU.
     Lent { cpu: u32, way: Way },
     /// The head of a charged unit.
     Head { unit: ChargedUnit, stage: Stage },

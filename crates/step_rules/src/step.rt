@@ -1,4 +1,4 @@
-//! What a processor, or the zone's own seat, may ask of the core, and what it is answered.
+//! What a CPU or the zone's own seat may ask of the core, and what it is answered.
 
 use group_tree::group::GroupId;
 use group_tree::path::PathText;
@@ -10,47 +10,47 @@ use zone_blocks::order::Order;
 pub enum FramePlace {
     /// In the zone's free areas.
     Free,
-    /// Lent to this processor: on its list, or on the way there or back.
+    /// Lent to this CPU: on its list, or in transit to or from it.
     Listed(u32),
-    /// Kept by this group: the group, and each of its ancestors, is charged for it.
+    /// Kept by this group: the group and each of its ancestors are charged for it.
     Charged(GroupId),
 }
 
-/// One step of the core, and the seat that makes it: 0 is the zone's own seat, which acts only while a processor
-/// holds the lock, and the processors have the seats from 1 on.
+/// One step of the core, and the seat that makes it. Seat 0 is the zone's own, which acts only while a CPU holds the
+/// lock. Seats from 1 on are those of the CPUs.
 #[derive(Clone, Copy, Debug, PartialEq, Eq)]
 pub struct Step {
-    /// The seat's number. One that isn't there makes the step illegal.
+    /// The seat's number. A number that isn't a seat's makes the step illegal.
     pub seat: u32,
     /// What is done.
     pub action: Action,
 }
 
-/// What a step does. A step that names a frame or a processor that isn't there is illegal, and so is one other than
-/// Consume that names a group that isn't there.
+/// What a step does. A step that names a frame or CPU that doesn't exist is illegal. So is one, other than Consume,
+/// that names a group that doesn't exist.
 #[derive(Clone, Copy, Debug, PartialEq, Eq)]
 pub enum Action {
-    /// A processor takes the zone's lock, which is free.
+    /// A CPU takes the zone's lock, which is free.
     Lock,
-    /// The processor that holds the lock gives it back: no page is pending, no frame passes, no visit is open.
+    /// The CPU that holds the lock releases it: no page is pending, no frame is in transit, no visit is open.
     Unlock,
-    /// The zone opens a visit of the processor that holds the lock.
+    /// The zone opens a visit of the CPU that holds the lock.
     OpenVisit {
         cpu: u32,
     },
-    /// The zone shuts that visit: no frame passes, and no page of the processor is unreported or unabsorbed.
+    /// The zone shuts that visit: no frame is in transit, and no page of the CPU is unreported or unabsorbed.
     ShutVisit {
         cpu: u32,
     },
-    /// A processor whose pins and back frames are below 256 asks for one reference more.
+    /// A CPU whose pins and back frames are below 256 asks for one more reference.
     Get {
         frame: u32,
     },
-    /// A seat gives one of its references up.
+    /// A seat gives up one of its references.
     Put {
         frame: u32,
     },
-    /// The zone takes all references off a frame at once, if they are its own and as many as it says.
+    /// The zone removes all references on a frame at once, if they are its own and as many as it says.
     Freeze {
         frame: u32,
         count: u32,
@@ -60,90 +60,90 @@ pub enum Action {
         frame: u32,
         count: u32,
     },
-    /// The zone passes a free frame to the processor that is visited.
+    /// The zone passes a free frame to the CPU that is visited.
     PassOut {
         frame: u32,
         cpu: u32,
     },
-    /// The processor takes the frame that passes for it to the end of its list.
+    /// The CPU takes a frame that is in transit to it, and puts it at the end of its list.
     TakeIn {
         frame: u32,
     },
-    /// The visited processor passes back the front of its list, a fresh frame or a back frame.
+    /// The visited CPU passes back the front of its list, a fresh frame or a back frame.
     PassBack {
         frame: u32,
     },
-    /// The zone takes the frame that was passed back.
+    /// The zone takes a frame that was passed back.
     Collect {
         frame: u32,
         cpu: u32,
     },
-    /// A processor pays the front of its list from its stock for a group: fewer than 32 frames are fresh.
+    /// A CPU, with fewer than 32 fresh frames, pays for the front of its list from its stock, for a group.
     Consume {
         group: GroupId,
     },
-    /// A processor gives a fresh frame back to the end of its list, and its page to its stock.
+    /// A CPU puts a fresh frame back at the end of its list, and its page into its stock.
     Credit {
         frame: u32,
     },
-    /// The visited processor reports so many of the pages of the fresh frames that it passed back.
+    /// The visited CPU reports this many of the pages of the fresh frames that it passed back.
     Report {
         pages: u32,
     },
-    /// The zone takes what the visited processor reported off its book.
+    /// The zone takes the pages that the visited CPU reported off the CPU's book.
     Absorb {
         cpu: u32,
     },
-    /// The zone fills the visited processor's stock, which has no page, with pending pages of a group: the one
-    /// that its book is of, or any where the book is 0.
+    /// The zone fills the visited CPU's stock, which has no page, with pending pages of a group. That is the group of
+    /// the CPU's book, or any group if the book is 0.
     Fill {
         cpu: u32,
         group: GroupId,
         pages: u32,
     },
-    /// The zone takes all pages out of a processor's stock; they are pending then.
+    /// The zone removes all pages from a CPU's stock; they are pending then.
     DrainStock {
         cpu: u32,
     },
-    /// Pages are granted to a group that isn't killed, where the limits of the group and of each of its ancestors
-    /// have room for all of them. They are pending then.
+    /// Pages are granted to a group that isn't killed, if the limits of the group and of each ancestor have room for
+    /// all of them. They are pending then.
     Grant {
         group: GroupId,
         pages: u32,
     },
-    /// Pending pages are taken back, no more than the group has.
+    /// Pending pages of a group are ungranted, at most as many as it has.
     Ungrant {
         group: GroupId,
         pages: u32,
     },
-    /// Pending pages, as many as the block has frames, are placed on a free block, whose frames the group keeps
-    /// from then on.
+    /// Pending pages, as many as the block has frames, are placed on a free block. The group keeps its frames from then
+    /// on.
     PlaceBlock {
         group: GroupId,
         order: Order,
     },
-    /// The head of a charged unit, on which the zone has a reference, is kept for its group.
+    /// The zone keeps the head of a charged unit, on which it has a reference, for the unit's group.
     Publish {
         frame: u32,
     },
-    /// The frames of a unit that is in the zone's hand come back: its last reference is gone, or it is a fresh
-    /// frame that was passed back and collected, and whose group is killed by now.
+    /// The frames of a unit in the zone's hand are returned. The last reference of the unit was dropped, or it is a
+    /// fresh frame that was passed back and collected, and its group is killed by now.
     Return {
         frame: u32,
     },
-    /// It is noted that the usage of a group was about to go over its limit.
+    /// Notes that the usage of a group was about to go over its limit.
     NoteMax {
         group: GroupId,
     },
-    /// It is noted that a group's limit could not be kept by reclaim.
+    /// Notes that reclaim could not keep a group's limit.
     NoteOom {
         group: GroupId,
     },
-    /// It is noted that a group other than the root was killed as a whole, with all groups below it.
+    /// Notes that a group other than the root was killed as a whole, with all groups below it.
     NoteGroupKill {
         group: GroupId,
     },
-    /// A group other than the root is given another limit, in pages; None for no limit. It binds later grants alone.
+    /// A group other than the root gets another limit, in pages, or None for no limit. It binds only later grants.
     SetMax {
         group: GroupId,
         limit: Option<u32>,
@@ -153,15 +153,15 @@ pub enum Action {
         group: GroupId,
         oom_group: bool,
     },
-    /// A group is made, which the tree doesn't refuse (`Tree::make_fault`).
+    /// A group is made, unless the tree refuses it (`Tree::make_fault`).
     Make {
         path: PathText,
     },
-    /// A group other than the root is taken out, which has none below it and whose usage is 0.
+    /// A group other than the root is removed, which has no child and whose usage is 0.
     Remove {
         group: GroupId,
     },
-    /// A group that isn't killed is killed: it gets no grant any more.
+    /// A group that isn't killed is killed: it gets no more grants.
     Kill {
         group: GroupId,
     },
@@ -180,11 +180,11 @@ pub enum Answer {
     Zero,
     /// No reference was given: there were 255.
     Full,
-    /// So many references are left.
+    /// This many references are left.
     Left(u32),
     /// It was the last reference, and the frame is in the seat's hand.
     Last,
-    /// There were not exactly so many references.
+    /// The references were not exactly this many.
     Missed,
     /// One page was taken from the stock, and the front of the list is fresh.
     Took,
@@ -194,9 +194,9 @@ pub enum Answer {
     OtherGroup,
     /// The stock was drained.
     Drained,
-    /// The page went back into the stock.
+    /// The page was put back into the stock.
     Back,
-    /// So many pages were reported and absorbed, or drained.
+    /// This many pages were absorbed, or drained.
     Pages(u128),
     /// The pages were granted.
     Granted,

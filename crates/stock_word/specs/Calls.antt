@@ -13,33 +13,37 @@ use Rattle.stock_word.specs.Kinds.{after_took, after_back, draining}
 abbrev pub with_view : Seated → StockView → Seated
 with_view seat view = record { table = seat.table; view = view }
 
--- the seat as it is shown where its steps aren't counted
+-- the seat as contracts show it if its steps aren't counted
 abbrev pub uncounted : Seated → Seated
 uncounted seat = with_view seat (record seat.view { steps = 0 })
 
--- the processor's view after it was told Drained: by a step where it saw its stock held last, and without one where it saw it drained
+-- The CPU's view after it got the answer Drained. If it saw its stock held last, that took one step; if it saw it
+-- drained, none.
 abbrev pub told_drained : StockView → StockView
 told_drained v = record v { last = drained_of v.last; steps = v.steps + (if is_held v.last then 1 else 0) }
 
--- What consume(g) answers at a processor that knows v, and knows w afterwards. It took a page of a stock of g that it saw last with a page;
--- the stock that it saw last is of g and has no page; or isn't of g; or is of g, and is drained by now
+-- What consume(g) answers at a CPU that knows v, and w afterwards, by the stock that it saw last. Took: that stock is
+-- of g and has a page, which it took. Empty: it is of g, is held and has no page. OtherGroup: it isn't of g. Drained:
+-- it is of g, and is drained by now.
 abbrev pub Consumed : ℕ → Consume → StockView → StockView → Type 0
 Consumed g Took v w = (n : ℕ) × (v.last ≡ HeldBy g (n + 1)) × (w ≡ after_took v g n)
 Consumed g Empty v w = (v.last ≡ HeldBy g 0) × (w ≡ v)
 Consumed g OtherGroup v w = (group_of v.last ≢ Some g) × (w ≡ v)
 Consumed g Drained v w = (group_of v.last ≡ Some g) × (v.last ≢ HeldBy g 0) × (w ≡ told_drained v)
 
--- What credit answers: a page went back into the stock of g that it saw last; or that stock is drained by now
+-- What credit answers. Back: a page was put back into the stock of g that it saw last. Drained: that stock is drained
+-- by now.
 abbrev pub Credited : Credit → StockView → StockView → Type 0
 Credited credit.Back v w = (g : ℕ) × (n : ℕ) × (v.last ≡ HeldBy g n) × (w ≡ after_back v g (n + 1))
 Credited credit.Drained v w = (g : ℕ) × (group_of v.last ≡ Some g) × (w ≡ told_drained v)
 
--- The steps of a drain of a stock of this group: a look, and then a swap where it was ever filled
+-- the steps of a drain of a stock of this group: a look, and then a swap if the stock was ever filled
 abbrev pub steps_of_drain : Option ℕ → ℕ
 steps_of_drain None = 1
 steps_of_drain (Some g) = 2
 
--- what the machine's seat knows after it looked which group p's stock is of, but for that step: one that is of none counts as drained of no page
+-- What the machine's seat knows after it looked which group p's stock is of, without counting that step. A stock of no
+-- group counts as drained of no page.
 abbrev pub after_look : StockView → ℕ → Option ℕ → StockView
 after_look m p None = draining m p 0
 after_look m p (Some g) = m

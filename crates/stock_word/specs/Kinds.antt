@@ -1,6 +1,6 @@
--- The kinds of atomic step. This file and src/kinds.rt are the table of kinds, a definition to be read as one.
--- Each kind is a relation between the place of the word, the word before and after, and the views of the seats that make the step, before and after.
--- A step changes one word and the views of its own seats, and nothing else: what is not named here stays.
+-- The kinds of atomic step. This file and src/kinds.rt are the table of kinds, a definition to be read as one. Each
+-- kind is a relation of the place of the word, the word before and after, and the views before and after of the seats
+-- that make the step. A step changes one word and the views of its own seats. What isn't named here is unchanged.
 use Rattle.std.specs.Prelude.{◌≡◌, ◌≢◌, ℕ, ◌+◌, ◌-◌, ◌<◌, ◌≤◌, ◌⊎◌, false, true, List, [], ◌∷◌, Some, None}
 use mathlib.Core.Option.{some}
 use lib.ListN.{get_elem?}
@@ -11,52 +11,52 @@ use Rattle.stock_word.specs.declared.view.StockView.{StockView}
 use Rattle.stock_word.specs.Stock.{word_of, HasWord, pages_of, group_of, is_held, drained_of, account_of, with_account, first_of, second_of}
 use Rattle.stock_word.specs.StockRule.{stock_place, report_place, StockRule}
 
--- ---- the views after each kind. A step counts once: at the processor's seat where it made it, alone or joined with the machine's,
--- and at the machine's where that made it alone, or looks
+-- ---- the views after each kind: a step counts once, at the CPU's seat if that made it, alone or joined, else at the
+-- ---- machine's; a look always counts at the machine's
 
 -- the view with n steps more
 abbrev pub with_steps : ℕ → StockView → StockView
 with_steps n v = record v { steps = v.steps + n }
 
--- a page of the stock became fresh
+-- the view after a page of the stock became fresh
 abbrev pub after_took : StockView → ℕ → ℕ → StockView
 after_took v g n = record v { fresh = v.fresh + 1; last = HeldBy g n; steps = v.steps + 1 }
 
--- a fresh page went back into the stock
+-- the view after a fresh page was put back into the stock
 abbrev pub after_back : StockView → ℕ → ℕ → StockView
 after_back v g n = record v { fresh = v.fresh - 1; last = HeldBy g n; steps = v.steps + 1 }
 
--- the processor saw that its stock was drained
+-- the view after the CPU saw that its stock was drained
 abbrev pub after_drained : StockView → StockView
 after_drained v = record v { last = drained_of v.last; steps = v.steps + 1 }
 
--- n fresh pages were reported: by the processor's seat, and noted by the machine's
+-- the CPU's view after n of its fresh pages were reported
 abbrev pub after_report : StockView → ℕ → StockView
 after_report v n = record v { fresh = v.fresh - n; steps = v.steps + 1 }
 
--- the machine's view with n more pages noted as reported by processor p
+-- the machine's view with n more pages noted as reported by CPU p
 abbrev pub noting : StockView → ℕ → ℕ → StockView
 noting m p n = let a = account_of m p in with_account m p (record a { unabsorbed = a.unabsorbed + n })
 
--- the machine's view after the stock was filled for g with n pages
+-- the machine's view after p's stock was filled for g with n pages
 abbrev pub filling : StockView → ℕ → ℕ → ℕ → StockView
 filling m p g n = let a = account_of m p in with_account m p (record a { book = a.book + n; group = Some g; filled = true })
 
--- the processor's view after a fill: it saw its stock last as held by g with n pages
+-- the CPU's view after a fill: the stock that it saw last is held by g with n pages
 abbrev pub after_fill : StockView → ℕ → ℕ → StockView
 after_fill v g n = record v { last = HeldBy g n; steps = v.steps + 1 }
 
--- n pages were drained, by however many steps
+-- the machine's view after n pages were drained from p's stock, steps not counted
 abbrev pub draining : StockView → ℕ → ℕ → StockView
 draining m p n = let a = account_of m p in with_account m p (record a { book = a.book - n; filled = false })
 
--- the report was taken in, by however many steps
+-- the machine's view after p's report was absorbed, steps not counted
 abbrev pub absorbing : StockView → ℕ → StockView
 absorbing m p = let a = account_of m p in with_account m p (record a { book = a.book - a.unabsorbed; unabsorbed = 0 })
 
 -- ---- the table of kinds
 
--- consume, by processor p: its stock word, held by g with n + 1 pages, to n; one fresh page more
+-- consume, by CPU p: its stock word goes from n + 1 pages held by g to n; one more page is fresh
 pub record Consumes (place before after : ℕ) (v w : StockView) : Type 0 where
   pub group : ℕ
   pub pages : ℕ
@@ -66,7 +66,7 @@ pub record Consumes (place before after : ℕ) (v w : StockView) : Type 0 where
   pub word_after : after ≡ word_of (HeldBy group pages)
   pub view_after : w ≡ after_took v group pages
 
--- credit, by processor p: its stock word, held by g with n pages, to n + 1; one fresh page less
+-- credit, by CPU p: its stock word goes from n pages held by g to n + 1; one page less is fresh
 pub record Credits (place before after : ℕ) (v w : StockView) : Type 0 where
   pub group : ℕ
   pub pages : ℕ
@@ -77,14 +77,16 @@ pub record Credits (place before after : ℕ) (v w : StockView) : Type 0 where
   pub has_word : HasWord (HeldBy group (pages + 1))
   pub view_after : w ≡ after_back v group (pages + 1)
 
--- a consume or a credit whose exchange failed, by processor p: its stock word is drained of the group that it saw last, and stays
+-- a consume or credit of CPU p whose exchange failed: its stock word is drained of the group that it saw last, and is
+-- unchanged
 pub record SeesDrained (place before after : ℕ) (v w : StockView) : Type 0 where
   pub at_stock : place ≡ stock_place v.number
   pub word_before : before ≡ word_of (drained_of v.last)
   pub word_after : after ≡ before
   pub view_after : w ≡ after_drained v
 
--- report, by the joined seats of the machine (m) and of processor p (v): p's report word from r to r + n; n fresh pages less, and n more noted
+-- report, by the joined seats of the machine (m) and of CPU p (v): p's report word goes from r to r + n; n pages less
+-- are fresh, and n more are noted
 pub record Reports (n place before after : ℕ) (m v m' v' : StockView) : Type 0 where
   pub at_report : place ≡ report_place v.number
   pub word_after : after ≡ before + n
@@ -93,7 +95,8 @@ pub record Reports (n place before after : ℕ) (m v m' v' : StockView) : Type 0
   pub machine_after : m' ≡ noting m v.number n
   pub view_after : v' ≡ after_report v n
 
--- a consume that always takes, by the joined seats: the stock has just the booked pages that are neither fresh nor reported
+-- a consume that always takes, by the joined seats: the stock has exactly the booked pages that are neither fresh nor
+-- reported
 pub record ConsumesHeld (place before after : ℕ) (m v m' v' : StockView) : Type 0 where
   pub consumes : Consumes place before after v v'
   pub of_group : (account_of m v.number).group ≡ Some consumes.group
@@ -101,7 +104,7 @@ pub record ConsumesHeld (place before after : ℕ) (m v m' v' : StockView) : Typ
   pub exact : (account_of m v.number).book ≡ pages_of v.last + v.fresh + (account_of m v.number).unabsorbed
   pub machine_after : m' ≡ m
 
--- fill, by the joined seats: p's stock word, with no page, to held by g with n; the book was 0 and is n
+-- fill, by the joined seats: p's stock word becomes held by g with n pages; the book was 0 and is n
 pub record Fills (group pages place after : ℕ) (m v m' v' : StockView) : Type 0 where
   pub at_stock : place ≡ stock_place v.number
   pub word_after : after ≡ word_of (HeldBy group pages)
@@ -109,7 +112,8 @@ pub record Fills (group pages place after : ℕ) (m v m' v' : StockView) : Type 
   pub machine_after : m' ≡ filling m v.number group pages
   pub view_after : v' ≡ after_fill v group pages
 
--- drain, by the machine's seat: p's stock word, held by g with n pages or drained of g, to drained of g; the book is n less
+-- drain, by the machine's seat: p's stock word, held by g with n pages or drained of g, becomes drained of g; the book
+-- is n less
 pub record Drains (p group place before after : ℕ) (m m' : StockView) : Type 0 where
   pub stock : Stock
   pub at_stock : place ≡ stock_place p
@@ -121,7 +125,7 @@ pub record Drains (p group place before after : ℕ) (m m' : StockView) : Type 0
   pub was_held : is_held stock ≡ (account_of m p).filled
   pub machine_after : m' ≡ with_steps 1 (draining m p (pages_of stock))
 
--- the drain of a stock that was never filled, by the machine's seat: p's stock word is 0 and stays
+-- the drain of a stock that was never filled, by the machine's seat: p's stock word is 0 and is unchanged
 pub record DrainsNone (p place before after : ℕ) (m m' : StockView) : Type 0 where
   pub at_stock : place ≡ stock_place p
   pub word_before : before ≡ 0
@@ -129,7 +133,7 @@ pub record DrainsNone (p place before after : ℕ) (m m' : StockView) : Type 0 w
   pub never_filled : (account_of m p).group ≡ None
   pub machine_after : m' ≡ with_steps 1 (draining m p 0)
 
--- a look of a drain, by the machine's seat: p's stock word is of the group of the last fill, and stays
+-- the look of a drain, by the machine's seat: p's stock word is of the group of the last fill, and is unchanged
 pub record LooksAt (p place before after : ℕ) (m m' : StockView) : Type 0 where
   pub stock : Stock
   pub group : ℕ
@@ -141,7 +145,7 @@ pub record LooksAt (p place before after : ℕ) (m m' : StockView) : Type 0 wher
   pub filled_for : (account_of m p).group ≡ Some group
   pub machine_after : m' ≡ with_steps 1 m
 
--- a look of the joined seats: p's stock word says the stock that the books tell, and stays
+-- a look by the joined seats: p's stock word is that of the stock that the book gives, and is unchanged
 pub record SeesStock (place before after : ℕ) (m v m' v' : StockView) : Type 0 where
   pub stock : Stock
   pub at_stock : place ≡ stock_place v.number
@@ -156,7 +160,7 @@ pub record SeesStock (place before after : ℕ) (m v m' v' : StockView) : Type 0
   pub machine_after : m' ≡ with_steps 1 m
   pub view_after : v' ≡ v
 
--- absorb, by the machine's seat: p's report word, which is what was noted, to 0; the book is so many less
+-- absorb, by the machine's seat: p's report word, which is the number noted, becomes 0; the book is that much less
 pub record Absorbs (p place before after : ℕ) (m m' : StockView) : Type 0 where
   pub at_report : place ≡ report_place p
   pub word_before : before ≡ (account_of m p).unabsorbed
@@ -171,30 +175,30 @@ pub record Absorbs (p place before after : ℕ) (m m' : StockView) : Type 0 wher
 abbrev pub IsAlone : List StockView → Type 0
 IsAlone views = views ≡ first_of views ∷ []
 
--- the machine's place has taken in a processor's: its own view, then that one
+-- the machine's place has taken in a CPU's: it has its own view, then that one
 abbrev pub IsPair : List StockView → Type 0
 IsPair views = views ≡ first_of views ∷ second_of views ∷ []
 
--- the words at the end of a table of which one seat has these views: the rule holds of them and of the views of all seats
+-- the final words of a table of which one seat has these views: the rule holds of them and of all seats' views
 abbrev pub Ends : ℕ → List ℕ → List StockView → Type 0
 Ends cpus words views = (seats : List (List StockView)) × (id : ℕ) × (get_elem? seats id ≡ some views) × StockRule cpus words seats
 
 -- ---- how the steps of a table are read as kinds
 
--- one seat, with one view
+-- a step by one seat, with one view
 abbrev pub Alone : {S : Type 0} → (Step S → ℕ → StockView → StockView → Type 0) → Step S → Me S (List StockView) → ℕ → Me S (List StockView) → Type 0
 Alone kind s me found next = (w : StockView) × (next ≡ (w ∷ [], me.1)) × kind s found (first_of me.0) w
 
--- the machine's seat, joined with a processor's
+-- a step by the machine's seat, joined with a CPU's
 abbrev pub Joined : {S : Type 0} → (Step S → ℕ → StockView → StockView → StockView → StockView → Type 0) → Step S
     → Me S (List StockView) → ℕ → Me S (List StockView) → Type 0
 Joined kind s me found next = (m : StockView) × (v : StockView) × (next ≡ (m ∷ v ∷ [], me.1)) × kind s found (first_of me.0) (second_of me.0) m v
 
--- the exchange of a consume: it took, or found its stock drained
+-- the exchange of a consume: it took a page, or found the stock drained
 abbrev pub consuming : {S : Type 0} → Step S → ℕ → StockView → StockView → Type 0
 consuming s found v w = (found ≡ s.first → Consumes s.word found s.second v w) × (found ≢ s.first → SeesDrained s.word found found v w)
 
--- the exchange of a credit
+-- the exchange of a credit: it put the page back, or found the stock drained
 abbrev pub crediting : {S : Type 0} → Step S → ℕ → StockView → StockView → Type 0
 crediting s found v w = (found ≡ s.first → Credits s.word found s.second v w) × (found ≢ s.first → SeesDrained s.word found found v w)
 

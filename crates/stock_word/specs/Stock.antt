@@ -1,4 +1,4 @@
--- What a stock word says and its encoding, and what a seat knows of the stocks.
+-- What a stock word says, its encoding, and what a seat knows of the stocks.
 use Rattle.std.specs.Prelude.{◌≡◌, ℕ, zero, suc, ◌+◌, ◌-◌, ◌*◌, ◌<◌, ◌≤◌, Bool, true, false, List, [], ◌∷◌, Option, Some, None}
 use Rattle.atomic_table.specs.Seated.{TableId}
 use Rattle.seat_sums.specs.Totals.{sum_over}
@@ -31,7 +31,7 @@ group_of NoGroup = None
 group_of (HeldBy g n) = Some g
 group_of (DrainedOf g) = Some g
 
--- whether the stock is held by a group; one of no group is not, nor is a drained one
+-- whether the stock is held by a group; a stock of no group and a drained one are not
 abbrev pub is_held : Stock → Bool
 is_held NoGroup = false
 is_held (HeldBy g n) = true
@@ -43,42 +43,42 @@ drained_of NoGroup = NoGroup
 drained_of (HeldBy g n) = DrainedOf g
 drained_of (DrainedOf g) = DrainedOf g
 
--- a processor that was never filled for
+-- the account of a CPU whose stock was never filled
 abbrev pub no_account : Account
 no_account = record { book = 0; group = None; filled = false; unabsorbed = 0 }
 
--- the account at p; past the end, that of a processor that was never filled for
+-- the account at p; past the end, that of a CPU whose stock was never filled
 abbrev pub account_at : List Account → ℕ → Account
 account_at [] p = no_account
 account_at (a ∷ accounts) zero = a
 account_at (a ∷ accounts) (suc p) = account_at accounts p
 
--- the accounts with another one at p
+-- the accounts, with this one at p
 abbrev pub with_account_at : List Account → ℕ → Account → List Account
 with_account_at [] zero b = b ∷ []
 with_account_at [] (suc p) b = no_account ∷ with_account_at [] p b
 with_account_at (a ∷ accounts) zero b = b ∷ accounts
 with_account_at (a ∷ accounts) (suc p) b = a ∷ with_account_at accounts p b
 
--- A seat as contracts see it: its table, and what it knows
+-- a seat as contracts see it: its table, and what it knows
 pub record Seated : Type 0 where
   pub table : TableId
   pub view : StockView
 
--- a table of 16 words for each of 1 to 64 processors, and a row before theirs, with no slot
+-- a table of 16 words for each of 1 to 64 CPUs, and a row before theirs, with no slot
 abbrev pub IsSized : TableId → ℕ → Type 0
 IsSized table cpus = (table.words ≡ 16 * (cpus + 1)) × (table.slots ≡ 0) × (1 ≤ cpus) × (cpus ≤ 64)
 
--- A seat's place at the table: which table, and the views that it has: one, two where it is joined, none where it is spent
+-- a seat's place at the table: which table, and the views that it has: one, two if it is joined, none if it is empty
 pub record Placed : Type 0 where
   pub table : TableId
   pub views : List StockView
 
--- the machine's account of processor p
+-- the machine's account of CPU p
 abbrev pub account_of : StockView → ℕ → Account
 account_of machine p = account_at machine.accounts p
 
--- the machine's view with another account of processor p
+-- the machine's view with another account of CPU p
 abbrev pub with_account : StockView → ℕ → Account → StockView
 with_account machine p account = record machine { accounts = with_account_at machine.accounts p account }
 
@@ -86,33 +86,33 @@ with_account machine p account = record machine { accounts = with_account_at mac
 abbrev pub first_zone_stock : StockView
 first_zone_stock = record { number = 0; fresh = 0; last = NoGroup; accounts = []; steps = 0 }
 
--- what the seat of processor p knows at first
+-- what the seat of CPU p knows at first
 abbrev pub first_processor : ℕ → StockView
 first_processor p = record { number = p; fresh = 0; last = NoGroup; accounts = []; steps = 0 }
 
--- A table as contracts see it: which one it is, and how many processors it has
+-- a table as contracts see it: which one it is, and how many CPUs it has
 pub record Words : Type 0 where
   pub table : TableId
   pub cpus : ℕ
 
--- what is left of the views of joined seats where the second is taken out, and that second
+-- the views left at joined seats if the second is split off
 abbrev pub without_second : List StockView → List StockView
 without_second [] = []
 without_second (v ∷ []) = v ∷ []
 without_second (v ∷ w ∷ views) = v ∷ views
 
--- the second view alone, for the seat that is taken out; none where there is no second
+-- the second view alone, for the seat that is split off; none if there is no second
 abbrev pub second_alone : List StockView → List StockView
 second_alone [] = []
 second_alone (v ∷ []) = []
 second_alone (v ∷ w ∷ views) = w ∷ []
 
--- the processors' views at first: count of them, from number p on
+-- the CPUs' views at first: `count` of them, from number p on
 abbrev pub first_processors : ℕ → ℕ → List StockView
 first_processors p zero = []
 first_processors p (suc count) = first_processor p ∷ first_processors (p + 1) count
 
--- the processors' seats at first
+-- the CPUs' seats at first: `count` of them, from number p on
 abbrev pub first_seats : TableId → ℕ → ℕ → List Seated
 first_seats table p zero = []
 first_seats table p (suc count) = record { table = table; view = first_processor p } ∷ first_seats table (p + 1) count
@@ -133,26 +133,26 @@ abbrev pub views_of : List Seated → List StockView
 views_of [] = []
 views_of (seat ∷ seats) = seat.view ∷ views_of seats
 
--- the first view of a seat that has one, and the second of joined seats
+-- the first of a seat's views; if there is none, what the machine's seat knows at first
 abbrev pub first_of : List StockView → StockView
 first_of [] = first_zone_stock
 first_of (v ∷ views) = v
 
--- the second view of joined seats; where there is none, what the machine's seat knows at first
+-- the second view of joined seats; if there is none, what the machine's seat knows at first
 abbrev pub second_of : List StockView → StockView
 second_of [] = first_zone_stock
 second_of (v ∷ views) = first_of views
 
--- the machine's account of the processor that has this view
+-- the machine's account of the CPU that has this view
 abbrev pub account_for : StockView → StockView → Account
 account_for machine view = account_of machine view.number
 
--- the pages that the processor's stock has by the books: those that are neither fresh nor reported
+-- the pages that the CPU's stock has by the book: those that are neither fresh nor reported
 abbrev pub stocked : StockView → StockView → ℕ
 stocked machine view = (account_for machine view).book - view.fresh - (account_for machine view).unabsorbed
 
--- What a seat keeps beside its place in the table: it has one view, of which it keeps the number and the last stock;
--- a processor that never saw a stock has no fresh page
+-- What a seat stores beside its place in the table: the number and the last stock of its one view. A CPU that never saw
+-- a stock has no fresh page.
 pub record IsKept (views : List StockView) (number : ℕ) (last : Stock) : Type 0 where
   pub one_view : views ≡ first_of views ∷ []
   pub same_number : number ≡ (first_of views).number
@@ -160,7 +160,7 @@ pub record IsKept (views : List StockView) (number : ℕ) (last : Stock) : Type 
   pub last_word : HasWord last
   pub none_fresh : last ≡ NoGroup → (first_of views).fresh ≡ 0
 
--- the view is that of a processor's seat, whose number is one of theirs
+-- the view is that of a seat of one of these CPUs
 abbrev pub IsProcessor : Words → StockView → Type 0
 IsProcessor words view = (0 < view.number) × (view.number ≤ words.cpus)
 
@@ -168,14 +168,16 @@ IsProcessor words view = (0 < view.number) × (view.number ≤ words.cpus)
 abbrev pub IsZoneStock : StockView → Type 0
 IsZoneStock view = view.number ≡ 0
 
--- a view of a seat of this number that has seen nothing
+-- a view of a seat of this number that has seen nothing yet
 abbrev pub StartsAs : ℕ → StockView → Type 0
 StartsAs number view = (view.number ≡ number) × (view.last ≡ NoGroup) × (view.fresh ≡ 0)
 
--- these views are the machine's and those of the seats, in whatever order: each function of one view has the same sum
+-- these views are the machine's and those of the seats, in any order: any function of one view has the same sum over
+-- both
 abbrev pub Gathers : StockView → List Seated → List StockView → Type 0
 Gathers machine seats views = (f : StockView → ℕ) → sum_over f views ≡ f machine + sum_over f (views_of seats)
 
--- the stock of a processor may be filled: it was never filled or was drained since, and the processor has no fresh page and none reported that was not taken in
+-- The stock of a CPU may be filled: it was never filled or was drained since, and the CPU has no fresh page and no
+-- reported page that isn't absorbed.
 abbrev pub IsSettled : StockView → StockView → Type 0
 IsSettled machine view = ((account_of machine view.number).filled ≡ false) × (view.fresh ≡ 0) × ((account_of machine view.number).unabsorbed ≡ 0)

@@ -1,4 +1,4 @@
--- The stock rule: what the words and the views of all seats always satisfy, between any two atomic steps.
+-- The stock rule: what holds of the words and of all seats' views between any two atomic steps.
 use Rattle.std.specs.Prelude.{◌≡◌, ℕ, ◌+◌, ◌*◌, ◌<◌, ◌≤◌, ◌⊎◌, List, ◌==◌, cond, None, length, slice_index}
 use Rattle.seat_sums.specs.Totals.{total_over}
 use Rattle.stock_word.specs.declared.view.Stock.{Stock}
@@ -6,24 +6,24 @@ use Rattle.stock_word.specs.declared.view.Account.{Account}
 use Rattle.stock_word.specs.declared.view.StockView.{StockView}
 use Rattle.stock_word.specs.Stock.{word_of, HasWord, pages_of, group_of, is_held, drained_of, account_of}
 
--- the places of processor p's words
+-- the place of CPU p's stock word
 abbrev pub stock_place : ℕ → ℕ
 stock_place p = 16 * p
 
--- the place of processor p's report word, next to its stock word
+-- the place of CPU p's report word, next to its stock word
 abbrev pub report_place : ℕ → ℕ
 report_place p = 16 * p + 1
 
--- f of a view of seat number q, and 0 of any other
+-- f of a view of seat number q, and 0 for any other view
 abbrev pub at_seat : ℕ → (StockView → ℕ) → StockView → ℕ
 at_seat q f view = cond (view.number == q) (f view) 0
 
--- Among the views of all seats, joined ones and all, this is the only one of number q:
--- whatever is summed over the views of number q comes to what it is of this one
+-- Among the views of all seats, joined ones too, this is the only one of number q: the sum of any function over the
+-- views of number q is its value for this one.
 abbrev pub IsOnly : List (List StockView) → ℕ → StockView → Type 0
 IsOnly seats q view = (f : StockView → ℕ) → total_over (at_seat q f) seats ≡ f view
 
--- The stock word and the report word of one processor, the machine's account of it, and the processor's view
+-- what holds of a CPU's stock word and report word, the machine's account of it, and the CPU's view
 pub record IsStock (word report : ℕ) (account : Account) (view : StockView) : Type 0 where
   pub stock : Stock
   pub encoded : word ≡ word_of stock
@@ -31,28 +31,28 @@ pub record IsStock (word report : ℕ) (account : Account) (view : StockView) : 
   -- the book is the pages in the stock, the fresh pages and the reported pages, and fits a word
   pub balanced : account.book ≡ pages_of stock + view.fresh + report
   pub bounded : account.book < 65536
-  -- the stock is of the group of the last fill, and of no group before the first, when nothing is booked
+  -- the stock is of the group of the last fill; before the first it is of no group and nothing is booked
   pub of_group : group_of stock ≡ account.group
   pub unfilled : account.group ≡ None → account.book ≡ 0
   -- it is held from each fill to the next drain; else the word is 0 or drained
   pub held : is_held stock ≡ account.filled
-  -- what was reported was noted
+  -- what was reported is noted
   pub reported : report ≡ account.unabsorbed
-  -- the word is what the processor saw last, or was drained since, of the same group
+  -- the stock is what the CPU saw last, or was drained since, of the same group
   pub last_seen : (stock ≡ view.last) ⊎ (stock ≡ drained_of view.last)
   pub last_word : HasWord view.last
 
--- the words of processor p are what the machine's view and the processor's tell
+-- the words of CPU p agree with the machine's view and the CPU's
 abbrev pub IsStockOf : List ℕ → ℕ → StockView → StockView → Type 0
 IsStockOf words p machine view = IsStock (slice_index words (stock_place p)) (slice_index words (report_place p)) (account_of machine p) view
 
--- processor p has one seat, whose view tells its words together with the machine's
+-- CPU p has one seat, whose view agrees with its words, together with the machine's
 pub record HoldsAt (words : List ℕ) (seats : List (List StockView)) (machine : StockView) (p : ℕ) : Type 0 where
   pub view : StockView
   pub only : IsOnly seats p view
   pub stock : IsStockOf words p machine view
 
--- the machine has one view, each processor one, and there is no other
+-- each CPU and the machine have one view, there is no other, and the views agree with the words
 pub record StockRule (cpus : ℕ) (words : List ℕ) (seats : List (List StockView)) : Type 0 where
   pub rows : length words ≡ 16 * (cpus + 1)
   pub machine : StockView

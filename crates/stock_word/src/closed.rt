@@ -12,8 +12,8 @@ use atomic_table::Closed;
 use std::alloc::Global;
 use std::marker::Model;
 
-/// The words of a table that no thread shares any more. A contract sees them as a list, in rows of
-/// sixteen: word 16 p is the stock word of processor p, word 16 p + 1 its report word.
+/// The words of a table that no thread shares any more. A contract sees them as a list, in rows of sixteen: word 16 p
+/// is the stock word of CPU p, word 16 p + 1 its report word.
 pub struct ClosedWords {
     closed: Closed<(), Global>,
 }
@@ -30,7 +30,7 @@ impl Model for ClosedWords {
 }
 
 impl StockWords {
-    // The machine's seat takes in all seats of the processors.
+    // The machine's seat takes in all seats of the CPUs.
     fn gather(&self, place0: &mut Place, mut seats: Vec<StockSeat>)
         requires table { (place0.old.table ≡ self.now.table) × AreOf self.now.table seats.items }
         requires alone { IsAlone place0.old.views }
@@ -47,9 +47,9 @@ impl StockWords {
         }
     }
 
-    /// Ends the table, with all its seats: the machine's and as many others as there are
-    /// processors, in any order. Each processor has one of them, and its words are what the
-    /// machine's account of it and that seat tell, so no page was lost or made.
+    /// Ends the table, with all its seats: the machine's and as many others as there are CPUs, in any order. Each CPU
+    /// has one of them. Its words agree with the machine's account of it and with that seat, so no page was lost or
+    /// made.
     pub fn close(self, seat0: StockSeat, seats: Vec<StockSeat>) -> ClosedWords
         requires machine { (seat0.table ≡ self.table) × IsZoneStock seat0.view }
         requires processors { AreOf self.table seats.items × (length seats.items ≡ self.cpus) }
@@ -71,7 +71,7 @@ impl StockWords {
 }
 
 impl ClosedWords {
-    /// What the stock word of processor `p` says.
+    /// What the stock word of CPU `p` says.
     pub fn stock(&self, p: u32) -> Stock
         requires { place_of_stock p < length self.now }
         ensures { (stock : AStock) → HasWord stock → slice_index self.now (place_of_stock p) ≡ word_of stock → result ≡ stock }
@@ -79,7 +79,7 @@ impl ClosedWords {
         Stock::of_word(self.closed.word(stock_place(p)))
     }
 
-    /// The number of pages in the report word of processor `p`.
+    /// The number of pages in the report word of CPU `p`.
     pub fn reported(&self, p: u32) -> u64
         requires { place_of_report p < length self.now }
         ensures { result ≡ slice_index self.now (place_of_report p) }

@@ -1,12 +1,10 @@
-//! The table of kinds: every atomic step that this crate can make. This file and
-//! `specs/Kinds.antt` are a definition, read as one. The table's words and a seat's place at it are
-//! private to this file, which has one function for each kind of step, and a reader of the size. So
-//! `consume`, `credit`, `report`, `fill`, `drain`, `absorb` and `close` are made of these, and no
-//! code outside can make a step of another kind.
+//! The table of kinds: every atomic step that this crate can make. This file and `specs/Kinds.antt` are a definition,
+//! read as one. The table's words and a seat's place at it are private to this file. It has one function for each kind
+//! of step, and a reader of the size. So `consume`, `credit`, `report`, `fill`, `drain`, `absorb` and `close` are made
+//! of these, and no code outside can make a step of another kind.
 //!
-//! The rule that stands between any two steps is that of one line: `holds` of `TableRule` for
-//! `StockRule`, which the type of the field `table` of `StockWords` names. Of the public contracts
-//! only that of `close` tells of it, for the final words.
+//! One line names the rule between any two steps: `holds` of `TableRule` for `StockRule`, in the type of the field
+//! `table` of `StockWords`. Of public contracts only that of `close` states it, for the final words.
 //!
 //! A function here answers the word that its step found.
 ghost use Rattle.std.specs.Prelude.{◌≡◌, ◌≢◌, ◌*◌, ◌+◌, ◌-◌, ◌<◌, ◌≤◌, false, [], ◌∷◌, ◌++◌, Some, IfOk};
@@ -26,10 +24,10 @@ use std::alloc::{AllocError, Global};
 use std::collections::LinkedList;
 use std::marker::Model;
 
-/// What a seat of the table knows: one view, two where it is joined, none where it is spent.
+/// What a seat of the table knows: one view, two if it is joined, none if it is empty.
 pub(crate) type Views = LinkedList<StockView>;
 
-/// The rule of the table. Its key is the number of processors.
+/// The rule of the table. Its key is the number of CPUs.
 pub struct StockRule;
 
 impl TableRule<(), Views, u32> for StockRule {
@@ -38,8 +36,8 @@ impl TableRule<(), Views, u32> for StockRule {
     ghost first = { λ cpus. first_zone_stock ∷ first_processors 1 cpus };
 }
 
-/// The stock words and report words of all processors, which are numbered from 1. A contract sees
-/// which table it is and the number of processors. Threads share it by `&`; no call waits.
+/// The stock words and report words of all CPUs, which are numbered from 1. A contract sees which table it is and the
+/// number of CPUs. Threads share it by `&`; no call waits.
 #[derive(Drop)]
 pub struct StockWords {
     table: Table<(), Views, u32, StockRule, Global>,
@@ -67,21 +65,21 @@ impl Model for Place {
     ghost invariant = { λ p. p.seat.me.1 ≡ [] };
 }
 
-/// The place of a processor's stock word: word 0 of its row of sixteen.
+/// The place of a CPU's stock word: word 0 of its row of sixteen.
 pub(crate) fn stock_place(number: u32) -> usize
     ensures { result ≡ 16 * number }
 {
     16 * number as usize
 }
 
-/// The place of a processor's report word: word 1 of its row of sixteen.
+/// The place of a CPU's report word: word 1 of its row of sixteen.
 pub(crate) fn report_place(number: u32) -> usize
     ensures { result ≡ 16 * number + 1 }
 {
     stock_place(number) + 1
 }
 
-// ---- what each step tells
+// ---- what each step learns
 
 struct Consuming;
 
@@ -155,7 +153,7 @@ impl Split<Views> for Second {
     ghost right = { second_alone };
 }
 
-// Both seats' views in one, and an empty seat.
+// One seat gets both seats' views, and the other is empty.
 struct Both;
 
 impl Join<Views> for Both {
@@ -165,7 +163,7 @@ impl Join<Views> for Both {
 }
 
 impl StockWords {
-    /// The number of processors, 1 to 64.
+    /// The number of CPUs, 1 to 64.
     pub fn cpus(&self) -> u32
         ensures cpus { result ≡ self.now.cpus }
         ensures few { (1 ≤ result) × (result ≤ 64) }
@@ -174,11 +172,10 @@ impl StockWords {
     }
 }
 
-// ---- a processor's steps
+// ---- a CPU's steps
 
 impl StockWords {
-    /// Consume: the stock word of the processor, from the stock that it saw last to one page less;
-    /// or the word is found drained.
+    /// Consume: the stock word of the CPU goes from the stock that it saw last to one page less, or is found drained.
     pub(crate) fn step_consume(&self, place: &mut Place, number: u32, group: u32, pages: u32) -> u64
         requires table { place.old.table ≡ self.now.table }
         requires alone { IsAlone place.old.views }
@@ -205,8 +202,7 @@ impl StockWords {
             .compare_exchange::<Consuming>(&mut place.seat, at, word, left.word())
     }
 
-    /// Credit: the stock word of the processor, from the stock that it saw last to one page more;
-    /// or the word is found drained.
+    /// Credit: the stock word of the CPU goes from the stock that it saw last to one page more, or is found drained.
     pub(crate) fn step_credit(&self, place: &mut Place, number: u32, group: u32, pages: u32) -> u64
         requires table { place.old.table ≡ self.now.table }
         requires alone { IsAlone place.old.views }
@@ -252,7 +248,7 @@ impl StockWords {
         self.table.shared.load::<Looking>(&mut place.seat, at)
     }
 
-    /// Drain: the stock word, whatever it is, to drained of the group of the last fill.
+    /// Drain: the stock word, whatever it is, becomes drained of the group of the last fill.
     pub(crate) fn step_drain(&self, place: &mut Place, p: u32, group: u32) -> u64
         requires table { place.old.table ≡ self.now.table }
         requires alone { IsAlone place.old.views }
@@ -271,7 +267,7 @@ impl StockWords {
             .swap::<Draining>(&mut place.seat, at, drained.word())
     }
 
-    /// Absorb: the report word to 0.
+    /// Absorb: the report word becomes 0.
     pub(crate) fn step_absorb(&self, place: &mut Place, p: u32) -> u64
         requires table { place.old.table ≡ self.now.table }
         requires alone { IsAlone place.old.views }
@@ -286,7 +282,7 @@ impl StockWords {
     }
 }
 
-// ---- the steps of the machine's seat, joined with the seat of processor `number`
+// ---- the steps of the machine's seat, joined with the seat of CPU `number`
 
 impl StockWords {
     /// Report: `n` pages more in the report word.
@@ -328,7 +324,7 @@ impl StockWords {
             .fetch_sub::<ConsumingHeld>(&mut place.seat, at, 1)
     }
 
-    /// Fill: the stock word, whose stock has no page, to held by `group` with `pages`.
+    /// Fill: the stock word, whose stock has no page, becomes held by `group` with `pages`.
     pub(crate) fn step_fill(&self, place: &mut Place, number: u32, group: u32, pages: u32)
         requires table { place.old.table ≡ self.now.table }
         requires pair { IsPair place.old.views }
@@ -349,7 +345,7 @@ impl StockWords {
             .store::<Filling>(&mut place.seat, at, held.word());
     }
 
-    /// A look: the stock word says the stock that the books tell.
+    /// A look: the stock word is that of the stock that the book gives.
     pub(crate) fn step_see(&self, place: &mut Place, number: u32) -> u64
         requires table { place.old.table ≡ self.now.table }
         requires pair { IsPair place.old.views }
@@ -366,10 +362,10 @@ impl StockWords {
     }
 }
 
-// ---- begin and end, split and join: no word changes, and no view but which seat has it
+// ---- begin and end, split and join: no word and no view changes, only which seat has it
 
 impl StockWords {
-    /// A table of zeros for the processors 1 to `cpus`, and one seat that has all views.
+    /// A table of zeros for the CPUs 1 to `cpus`, and one seat that has all views.
     pub(crate) fn begin(alloc: Global, cpus: u32) -> Result<(StockWords, Place), AllocError>
         requires { (1 ≤ cpus) × (cpus ≤ 64) }
         ensures cpus { IfOk result (λ r. r.0.cpus ≡ cpus) }
@@ -380,7 +376,7 @@ impl StockWords {
         Ok((StockWords { table }, Place { seat }))
     }
 
-    /// The words at the end, of which the rule holds with the views of the seat among all.
+    /// Ends the table. The rule holds of its words and all views, those of this seat among them.
     pub(crate) fn end(self, place: Place) -> Closed<(), Global>
         requires table { place.table ≡ self.table }
         ensures full { IsFull result.words × (slots_len result.slots ≡ 0) }
@@ -413,7 +409,7 @@ impl StockWords {
         }
     }
 
-    /// The seat takes in the views of another.
+    /// The seat takes in the views of another one.
     pub(crate) fn join_place(&self, place: &mut Place, other: Place)
         requires tables { (place.old.table ≡ self.now.table) × (other.table ≡ self.now.table) }
         ensures both { place.new ≡ record { table = self.now.table; views = place.old.views ++ other.views } }

@@ -1,9 +1,8 @@
-//! Pages prepaid for a processor: a stock word and a report word for each, changed by single
-//! atomic steps. The processor pays from its stock without a lock; the machine's seat fills it,
-//! drains it and takes in what the processor reports.
+//! Pages prepaid for a CPU: a stock word and a report word for each, changed by single atomic steps. The CPU pays from
+//! its stock without a lock. The machine's seat fills it, drains it and absorbs what the CPU reports.
 //!
-//! Row p of sixteen words is processor p's: word 0 is its stock word, word 1 its report word. The
-//! others stand for distance, so that no two processors write to one cache line. Row 0 is unused.
+//! Row p of sixteen words is CPU p's: word 0 is its stock word, word 1 its report word. The others keep a distance, so
+//! that no two CPUs write to one cache line. Row 0 is unused.
 //!
 //! | stock word | value |
 //! | --- | --- |
@@ -13,10 +12,10 @@
 //!
 //! A report word is a number of pages.
 //!
-//! `src/kinds.rt` and `specs/Kinds.antt` are the table of kinds: every atomic step that this crate
-//! can make. They are a definition, read as one. The rule that stands between any two steps is that
-//! of one line there: `holds` of `TableRule` for `StockRule`, which the type of the field `table` of
-//! `StockWords` names. Of the public contracts only that of `close` tells of it, for the final words.
+//! `src/kinds.rt` and `specs/Kinds.antt` are the table of kinds: every atomic step that this crate can make. They are a
+//! definition, read as one. One line there names the rule between any two steps: `holds` of `TableRule` for
+//! `StockRule`, in the type of the field `table` of `StockWords`. Of public contracts only that of `close` states it,
+//! for the final words.
 #![tactic(auto)]
 
 mod closed;

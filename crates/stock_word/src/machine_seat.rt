@@ -1,5 +1,4 @@
-//! The calls of the machine's seat, alone or joined with a processor's. Whoever has that seat has
-//! the zone's lock.
+//! The calls of the machine's seat, alone or joined with a CPU's. Whoever has that seat holds the zone's lock.
 ghost use Rattle.std.specs.Prelude.{◌≡◌, ◌+◌, ◌-◌, ◌<◌, ◌≤◌, ◌⊎◌, [], ◌∷◌, false, Some, IfSome};
 ghost use Rattle.stock_word.specs.Stock.{IsProcessor, IsZoneStock, account_of, account_for, stocked, first_of, second_of};
 ghost use Rattle.stock_word.specs.Stock.{HasWord, pages_of, group_of, is_held, drained_of};
@@ -12,7 +11,7 @@ use crate::view::Stock;
 use std::mem;
 
 impl StockWords {
-    // The machine's seat takes in the processor's, in the place of which an empty seat stands.
+    // The machine's seat takes in the CPU's, and an empty seat is left in its place.
     fn join(&self, place0: &mut Place, place: &mut Place)
         requires tables { (place0.old.table ≡ self.now.table) × (place.old.table ≡ self.now.table) }
         requires alone { IsAlone place0.old.views × IsAlone place.old.views }
@@ -35,8 +34,7 @@ impl StockWords {
         *place = self.split_second(place0);
     }
 
-    /// Puts `n` fresh pages of the processor into its report word, from which an `absorb` takes
-    /// them.
+    /// Puts `n` fresh pages of the CPU into its report word, from which an `absorb` takes them.
     pub fn report(&self, seat0: &mut StockSeat, seat: &mut StockSeat, n: u32)
         requires tables { (seat0.old.table ≡ self.now.table) × (seat.old.table ≡ self.now.table) }
         requires machine { IsZoneStock seat0.old.view }
@@ -52,8 +50,8 @@ impl StockWords {
         self.part(&mut seat0.place, &mut seat.place);
     }
 
-    /// What the processor's stock is by its word, and so by the books: one look, which counts at the
-    /// machine's seat and changes nothing else. The book is the pages in the stock, the fresh ones and the reported ones.
+    /// What the CPU's stock is, by its word and so by the book. This is one look, which counts at the machine's seat
+    /// and changes nothing else. The book is the pages in the stock, the fresh ones and the reported ones.
     pub fn look(&self, seat0: &mut StockSeat, seat: &mut StockSeat) -> Stock
         requires tables { (seat0.old.table ≡ self.now.table) × (seat.old.table ≡ self.now.table) }
         requires machine { IsZoneStock seat0.old.view }
@@ -74,8 +72,8 @@ impl StockWords {
         Stock::of_word(found)
     }
 
-    /// A `consume` that always takes. By the books the processor's stock, which is of group `g`
-    /// (0 to 63), has a page that is neither fresh nor reported.
+    /// A `consume` that always takes. By the book the CPU's stock, which is of group `g` (0 to 63), has a page that is
+    /// neither fresh nor reported.
     pub fn consume_held(&self, seat0: &mut StockSeat, seat: &mut StockSeat, g: u32)
         requires tables { (seat0.old.table ≡ self.now.table) × (seat.old.table ≡ self.now.table) }
         requires machine { IsZoneStock seat0.old.view }
@@ -91,9 +89,8 @@ impl StockWords {
         self.part(&mut seat0.place, &mut seat.place);
     }
 
-    /// Fills the processor's stock with `n` pages (1 to 65,535) of group `g` (0 to 63). The stock
-    /// was never filled, or was drained after its last fill, and the processor has no fresh page
-    /// and none reported that was not taken in.
+    /// Fills the CPU's stock with `n` pages (1 to 65,535) of group `g` (0 to 63). The stock was never filled, or was
+    /// drained after its last fill. The CPU has no fresh page and no reported page that isn't absorbed.
     pub fn fill(&self, seat0: &mut StockSeat, seat: &mut StockSeat, g: u32, n: u32)
         requires tables { (seat0.old.table ≡ self.now.table) × (seat.old.table ≡ self.now.table) }
         requires machine { IsZoneStock seat0.old.view }
@@ -112,9 +109,8 @@ impl StockWords {
         self.part(&mut seat0.place, &mut seat.place);
     }
 
-    /// Takes all pages out of the stock of processor `p`, and tells how many they were. The stock
-    /// is drained from then on, until a fill. It is 0 where the stock was never filled or is
-    /// drained already. The processor's own calls may go on meanwhile.
+    /// Empties the stock of CPU `p` and returns how many pages it had: 0 if it was never filled or is drained already.
+    /// The stock is drained from then on, until a fill. The CPU's own calls may go on meanwhile.
     pub fn drain(&self, seat0: &mut StockSeat, p: u32) -> u32
         requires table { seat0.old.table ≡ self.now.table }
         requires machine { IsZoneStock seat0.old.view }
@@ -134,8 +130,8 @@ impl StockWords {
         }
     }
 
-    /// The group of the last fill of processor `p`'s stock, 0 to 63; None where it was never filled.
-    /// One look. A stock that was never filled counts as drained of no page from then on.
+    /// The group of the last fill of CPU `p`'s stock, 0 to 63; None if it was never filled. One look. A stock that was
+    /// never filled counts as drained of no page from then on.
     pub fn group(&self, seat0: &mut StockSeat, p: u32) -> Option<u32>
         requires table { seat0.old.table ≡ self.now.table }
         requires machine { IsZoneStock seat0.old.view }
@@ -148,8 +144,8 @@ impl StockWords {
         Stock::of_word(word).group()
     }
 
-    /// Takes in the pages that processor `p` reported and that were not taken in yet, and tells
-    /// how many they are. They are no longer booked to its stock.
+    /// Absorbs the pages that CPU `p` reported since the last absorb, and returns how many they are. They are no longer
+    /// booked to its stock.
     pub fn absorb(&self, seat0: &mut StockSeat, p: u32) -> u32
         requires table { seat0.old.table ≡ self.now.table }
         requires machine { IsZoneStock seat0.old.view }

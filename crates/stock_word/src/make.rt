@@ -22,8 +22,8 @@ fn seated(place: Place, number: u32) -> StockSeat
 }
 
 impl StockWords {
-    /// A table for the processors 1 to `cpus` (1 to 64), with the machine's seat and those of the
-    /// processors in their order. No stock has a group, and nothing is booked.
+    /// A table for CPUs 1 to `cpus` (1 to 64), with the machine's seat and those of the CPUs in their order. No stock
+    /// has a group, and nothing is booked.
     pub fn new(
         alloc: Global,
         cpus: u32,
@@ -41,7 +41,7 @@ impl StockWords {
         Ok((words, seated(place, 0), seats))
     }
 
-    // Gives each processor its seat, out of the one that has all views.
+    // Gives each CPU its seat, from the one that has all views.
     fn deal(
         &self,
         alloc: Global,

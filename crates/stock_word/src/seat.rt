@@ -5,13 +5,13 @@ use crate::kinds::Place;
 use crate::view::Stock;
 use std::marker::Model;
 
-/// The right to step for the machine (number 0) or for a processor (its number). A contract sees
-/// the table that it belongs to and what it knows. It takes a few bytes and no lock.
+/// The right to make steps for the machine (number 0) or for a CPU (its number). A contract sees the table that it
+/// belongs to and what it knows. It takes a few bytes and no lock.
 #[derive(Drop)]
 pub struct StockSeat {
     pub(crate) place: Place,
     pub(crate) number: u32,
-    // The stock that a processor's seat saw last.
+    // The stock that a CPU's seat saw last.
     pub(crate) last: Stock,
 }
 
@@ -31,15 +31,15 @@ impl StockSeat {
     ghost use Rattle.stock_word.specs.declared.view.Stock.TheVariants.{NoGroup};
     ghost use Rattle.stock_word.specs.Stock.{HasWord};
 
-    /// 0 for the machine's seat, else the processor's number.
+    /// 0 for the machine's seat, else the CPU's number.
     pub fn number(&self) -> u32
         ensures { result ≡ self.now.view.number }
     {
         self.number
     }
 
-    /// The stock that the processor saw last: its group is one of 64, and its pages are at most
-    /// 65,535. A processor that saw no stock yet has no fresh page.
+    /// The stock that the CPU saw last: its group is one of 64, and its pages are at most 65,535. A CPU that saw no
+    /// stock yet has no fresh page.
     pub fn last(&self) -> Stock
         ensures last { result ≡ self.now.view.last }
         ensures has_word { HasWord result }

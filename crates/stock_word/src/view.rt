@@ -1,17 +1,17 @@
 //! What a stock word says, and what a seat at the stock table knows.
 use std::collections::LinkedList;
 
-// A word from here on is that of a drained stock.
+// This word and any above it is that of a drained stock.
 pub(crate) const DRAINED: u64 = 1 << 32;
 
-/// What a processor has prepaid. Groups are numbers from 0 to 63.
+/// What a CPU has prepaid. Groups are numbers from 0 to 63.
 #[derive(Clone, Copy, Debug, PartialEq, Eq)]
 pub enum Stock {
     /// No group yet: the stock was never filled.
     NoGroup,
-    /// So many pages, 0 to 65,535, are prepaid for the group.
+    /// This many pages, 0 to 65,535, are prepaid for the group.
     HeldBy { group: u32, pages: u32 },
-    /// The pages were taken back from the stock of the group, which stays so until a fill.
+    /// The stock of the group was drained, and stays drained until a fill.
     DrainedOf { group: u32 },
 }
 
@@ -20,7 +20,7 @@ impl Stock {
     ghost use Rattle.stock_word.specs.declared.view.Stock.{Stock};
     ghost use Rattle.stock_word.specs.Stock.{word_of, HasWord, pages_of, group_of};
 
-    /// The word that stands for this stock in the table.
+    /// The word that encodes this stock in the table.
     pub(crate) fn word(self) -> u64
         ensures { result ≡ word_of self }
     {
@@ -31,7 +31,7 @@ impl Stock {
         }
     }
 
-    /// The stock that a word stands for. Of a word that is no stock's nothing is said.
+    /// The stock that a word encodes. The contract says nothing of a word that encodes no stock.
     pub(crate) fn of_word(word: u64) -> Stock
         ensures { (stock : Stock) → HasWord stock → word ≡ word_of stock → result ≡ stock }
     {
@@ -48,7 +48,7 @@ impl Stock {
         }
     }
 
-    /// The group of the stock; None for one of no group.
+    /// The group of the stock; None for a stock of no group.
     pub fn group(self) -> Option<u32>
         ensures { result ≡ group_of self }
     {
@@ -69,29 +69,28 @@ impl Stock {
     }
 }
 
-/// What the machine's seat knows of one processor. No value of it is made.
+/// What the machine's seat knows of one CPU. No value of it is made.
 pub struct Account {
-    /// Pages charged through this processor's stock: prepaid, fresh and reported ones.
+    /// Pages charged through this CPU's stock: prepaid, fresh and reported ones.
     pub book: u64,
     /// The group of its last fill.
     pub group: Option<u32>,
     /// Whether it was filled and not drained since.
     pub filled: bool,
-    /// Pages that were reported and not taken in yet.
+    /// Pages that were reported and not absorbed yet.
     pub unabsorbed: u64,
 }
 
-/// What a seat knows. Seat 0 is the machine's, the others the processors'. No value of it is made.
+/// What a seat knows. Seat 0 is the machine's, the others the CPUs'. No value of it is made.
 pub struct StockView {
-    /// 0 at the machine's seat, else the processor's number.
+    /// 0 at the machine's seat, else the CPU's number.
     pub number: u32,
-    /// Pages that the processor took and has neither given back nor reported.
+    /// Pages that the CPU took and has neither credited nor reported.
     pub fresh: u64,
-    /// The stock that the processor saw last. Its fresh pages are of that group.
+    /// The stock that the CPU saw last. Its fresh pages are of that group.
     pub last: Stock,
-    /// The machine's account of each processor, by its number. Place 0 is unused.
+    /// The machine's account of each CPU, by its number. Place 0 is unused.
     pub accounts: LinkedList<Account>,
-    /// Atomic steps that the seat made. One that two joined seats make counts at the processor's,
-    /// and a look at the machine's.
+    /// Atomic steps that the seat made. A step of two joined seats counts at the CPU's, a look at the machine's.
     pub steps: u64,
 }

@@ -1,4 +1,4 @@
-//! The calls that a processor makes alone.
+//! The calls that a CPU makes alone.
 ghost use Rattle.std.specs.Prelude.{◌≡◌, ◌<◌};
 ghost use Rattle.stock_word.specs.Stock.{IsProcessor};
 ghost use Rattle.stock_word.specs.Calls.{Consumed, Credited};
@@ -10,7 +10,7 @@ use crate::view::Stock;
 /// What a `consume` found.
 #[derive(Clone, Copy, Debug, PartialEq, Eq)]
 pub enum Consume {
-    /// A page of the stock is the processor's.
+    /// The CPU took a page of the stock.
     Took,
     /// The stock has no page.
     Empty,
@@ -25,14 +25,14 @@ pub enum Consume {
 pub enum Credit {
     /// The page is in the stock again.
     Back,
-    /// The stock was drained and not filled since. The page stays with the processor.
+    /// The stock was drained and not filled since. The page stays with the CPU.
     Drained,
 }
 
 impl StockWords {
-    /// Takes a page of group `g` (0 to 63) from the processor's stock, by one exchange. `Empty` and
-    /// `OtherGroup` tell of the stock that the processor saw last, without a step. Only a drain
-    /// changes a stock beside its processor, so an exchange that fails is `Drained`.
+    /// Takes a page of group `g` (0 to 63) from the CPU's stock, by one exchange. `Empty` and `OtherGroup` are said of
+    /// the stock that the CPU saw last, without a step. Apart from its CPU only a drain changes a stock, so an exchange
+    /// that fails is `Drained`.
     pub fn consume(&self, seat: &mut StockSeat, g: u32) -> Consume
         requires table { seat.old.table ≡ self.now.table }
         requires processor { IsProcessor self.now seat.old.view }
@@ -62,9 +62,8 @@ impl StockWords {
         }
     }
 
-    /// Puts a fresh page of the processor back into its stock, by one exchange, or without a step
-    /// where it saw before that the stock is drained. A fresh page is of the group of the stock
-    /// that the processor saw last.
+    /// Puts a fresh page of the CPU back into its stock, by one exchange, or without a step if it saw before that the
+    /// stock is drained. A fresh page is of the group of the stock that the CPU saw last.
     pub fn credit(&self, seat: &mut StockSeat) -> Credit
         requires table { seat.old.table ≡ self.now.table }
         requires processor { IsProcessor self.now seat.old.view }

@@ -4,16 +4,16 @@ use Rattle.std.specs.List.{Contains, AllPairs, slice_index_or}
 use Rattle.zone_blocks.specs.declared.block.Block.{Block}
 use Rattle.zone_blocks.specs.Block.{IsBlock, Covers, enclosing, buddy}
 
--- f is a frame of the zone, and free
+-- f is a frame of the zone, and is free
 abbrev pub IsFree : List Bool → ℕ → Type 0
 IsFree free f = slice_index_or free f false ≡ true
 
--- a block of the zone, each of its frames free
+-- a block of the zone whose frames are all free
 pub record IsFreeBlock (free : List Bool) (b : Block) : Type 0 where
   pub block : IsBlock (length free) b
   pub all_free : (f : ℕ) → Covers b f → IsFree free f
 
--- a free block that lies in no free block of the next order
+-- a free block that is inside no free block of the next order
 pub record IsMaximalBlock (free : List Bool) (b : Block) : Type 0 where
   pub is_free : IsFreeBlock free b
   pub maximal : ¬ IsFreeBlock free (enclosing b)
@@ -43,7 +43,7 @@ pub record AreBlocksApart (frames : ℕ) (blocks : List Block) : Type 0 where
 abbrev pub Overlaps : List Block → Block → Type 0
 Overlaps blocks b = (c : Block) × Contains blocks c × ((f : ℕ) × Covers c f × Covers b f)
 
--- exactly one of the block and its buddy is there
+-- exactly one of the block and its buddy is in the list
 abbrev pub IsOneOfPair : List Block → Block → Type 0
 IsOneOfPair blocks b = (Contains blocks b × ¬ Contains blocks (buddy b)) ⊎ ((¬ Contains blocks b) × Contains blocks (buddy b))
 
@@ -61,28 +61,29 @@ pub record IsFirstOf (blocks : List Block) (order : ℕ) (b : Block) : Type 0 wh
   pub order_is : b.order ≡ order
   pub least_address : (c : Block) → Contains blocks c → c.order ≡ order → b.at ≤ c.at
 
--- b is of the least order from this one on that has a block, and there has the least address
+-- b is of the least order, from this one on, that has a block; of that order it has the least address
 pub record IsSmallestFrom (blocks : List Block) (order : ℕ) (b : Block) : Type 0 where
   pub there : Contains blocks b
   pub sufficient : order ≤ b.order
   pub least_order : (c : Block) → Contains blocks c → order ≤ c.order → b.order ≤ c.order
   pub least_address : (c : Block) → Contains blocks c → c.order ≡ b.order → b.at ≤ c.at
 
--- b is of this order, and begins where the block of the least sufficient order does that has the least address (Knuth)
+-- b is of this order, and begins at the same frame as the block of the least sufficient order with the least address
+-- (Knuth)
 pub record IsFrontOfSmallest (blocks : List Block) (order : ℕ) (b : Block) : Type 0 where
   pub order_is : b.order ≡ order
   pub smallest : Block
   pub is_smallest : IsSmallestFrom blocks order smallest
   pub front : b.at ≡ smallest.at
 
--- the blocks after are those before and b, in walk order
+-- the list after has the blocks before and b, in walk order
 pub record Inserts (before : List Block) (b : Block) (after : List Block) : Type 0 where
   pub there : Contains after b
   pub keeps : (c : Block) → Contains before c → Contains after c
   pub only : (c : Block) → Contains after c → Contains before c ⊎ (c ≡ b)
   pub ordered : AllPairs Precedes after
 
--- the blocks after are those before without b, in walk order
+-- the list after has the blocks before except b, in walk order
 pub record Removes (before : List Block) (b : Block) (after : List Block) : Type 0 where
   pub gone : ¬ Contains after b
   pub keeps : (c : Block) → Contains before c → c ≢ b → Contains after c

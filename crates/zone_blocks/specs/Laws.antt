@@ -5,11 +5,11 @@ use Rattle.zone_blocks.specs.declared.block.Block.{Block}
 use Rattle.zone_blocks.specs.Block.{Covers}
 use Rattle.zone_blocks.specs.Areas.{IsFree, AreMaximalBlocks}
 
--- one of the blocks has the frame, and no other
+-- exactly one of the blocks has the frame
 abbrev pub IsInOneBlock : List Block → ℕ → Type 0
 IsInOneBlock blocks f = (b : Block) × Contains blocks b × Covers b f × ((c : Block) → Contains blocks c → Covers c f → c ≡ b)
 
--- every free frame lies in exactly one of the maximal free blocks
+-- every free frame is in exactly one of the maximal free blocks
 abbrev pub EveryFreeFrameIsInOneBlock : Type 0
 EveryFreeFrameIsInOneBlock = (free : List Bool) (blocks : List Block) → AreMaximalBlocks free blocks → (f : ℕ) → IsFree free f → IsInOneBlock blocks f
 

@@ -1,12 +1,12 @@
--- What stands behind the list of an order: records of two neighbours, as Linux's `struct list_head` (include/linux/types.h).
+-- How the list of an order is stored: records of two neighbours, as Linux's `struct list_head` (include/linux/types.h).
 use Rattle.std.specs.Prelude.{◌≡◌, ◌≢◌, ℕ, List, length, slice_index_or}
 use Rattle.zone_blocks.specs.declared.links.Link.{Link}
 
--- the record of node x; past the last node a blank one
+-- the record of node x; past the last node, a blank one
 abbrev pub link_at : List Link → ℕ → Link
 link_at links x = slice_index_or links x record { next = 0; prev = 0 }
 
--- the node behind x
+-- the node after x
 abbrev pub next_of : List Link → ℕ → ℕ
 next_of links x = (link_at links x).next
 
@@ -14,7 +14,7 @@ next_of links x = (link_at links x).next
 abbrev pub prev_of : List Link → ℕ → ℕ
 prev_of links x = (link_at links x).prev
 
--- b stands behind a, and a before b; all else is as before
+-- b is now the node after a, and a the node before b; all else is unchanged
 pub record Joins (old : List Link) (a b : ℕ) (new : List Link) : Type 0 where
   pub count : length new ≡ length old
   pub on : next_of new a ≡ b

@@ -1,4 +1,4 @@
--- What stands behind the free areas: for each order below 10 one bit for each pair of buddies, as in Gorman, chapter 6.
+-- How the free areas are stored: for each order below 10 one bit for each pair of buddies, as in Gorman, chapter 6.
 use Rattle.std.specs.Prelude.{◌≡◌, ◌≢◌, ℕ, ◌+◌, ◌⊎◌, ◌/◌, ◌^◌, ◌<◌, ◌↔◌, Bool, false, not, List, [], length, slice_index_or, slice_set}
 use Rattle.std.specs.List.{Contains}
 use Rattle.bit_levels.specs.Sets.{IsIn}
@@ -15,7 +15,7 @@ pub record AreBitLists (frames : ℕ) (pairs : List (List Bool)) : Type 0 where
   pub count : length pairs ≡ 10
   pub each : (k : ℕ) → k < 10 → length (slice_index_or pairs k []) ≡ frames / 2 ^ (k + 1)
 
--- the bit of each pair is 1 exactly where exactly one of the two is there
+-- the bit of each pair is 1 exactly if exactly one of the two is in the areas
 pub record ArePairBits (frames : ℕ) (blocks : List Block) (pairs : List (List Bool)) : Type 0 where
   pub lists : AreBitLists frames pairs
   pub bits : (b : Block) → HasPairBit frames b → IsIn (slice_index_or pairs b.order []) (pair_of b) ↔ IsOneOfPair blocks b
@@ -28,7 +28,7 @@ bit_of pairs b = slice_index_or (slice_index_or pairs b.order []) (pair_of b) fa
 abbrev pub toggled : List (List Bool) → Block → List (List Bool)
 toggled pairs b = slice_set pairs b.order (slice_set (slice_index_or pairs b.order []) (pair_of b) (not (bit_of pairs b)))
 
--- one block was put in or taken out, and every other is as before
+-- one block was inserted or removed, and every other is as before
 pub record ChangesOne (old new : List Block) (c : Block) : Type 0 where
   pub changed : (Contains old c × ¬ Contains new c) ⊎ ((¬ Contains old c) × Contains new c)
   pub keeps : (b : Block) → b ≢ c → Contains old b → Contains new b

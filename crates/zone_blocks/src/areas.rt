@@ -19,18 +19,18 @@ use bit_levels::levels::BitLevels;
 use std::alloc::{AllocError, Global};
 use std::marker::Model;
 
-/// The free areas of a zone: blocks of the zone, no two of which share a frame, seen as `frames`,
-/// how many frames the zone has, and `blocks` in walk order (by order, then by address).
+/// The free areas of a zone: blocks of the zone, no two of which share a frame. A contract sees `frames`, how many
+/// frames the zone has, and `blocks` in walk order (by order, then by address).
 #[derive(Drop)]
 pub struct FreeAreas {
     frames: u32,
-    // For each order which of its blocks are there, by number, so that the one before a block is
-    // found without a walk.
+    // For each order which of its blocks are in the areas, by number. So the one before a block is found without a
+    // walk.
     bits: Vec<BitLevels>,
     // For each order the list of its blocks by address: a ring through the record of the first
     // frame of each, and through the head of the order.
     links: Links,
-    // For each order below 10 one bit for each pair of buddies: 1 where exactly one of them is there.
+    // For each order below 10 one bit for each pair of buddies: 1 if exactly one of them is in the areas.
     pairs: Vec<Bits>,
 }
 
@@ -48,8 +48,8 @@ impl Model for FreeAreas {
 }
 
 impl FreeAreas {
-    /// The empty areas of a zone of this many frames, or an error, where memory is short or there
-    /// are more than 2^32 - 11. All room is reserved here: no other call takes memory.
+    /// The empty areas of a zone of this many frames, or an error if memory runs out or there are more than 2^32 - 11
+    /// frames. All room is reserved here: no other call takes memory.
     pub fn new(alloc: Global, frames: u32) -> Result<FreeAreas, AllocError>
         ensures frames { IfOk result (λ areas. areas.frames ≡ frames) }
         ensures blocks { IfOk result (λ areas. areas.blocks ≡ []) }
@@ -65,7 +65,7 @@ impl FreeAreas {
         })
     }
 
-    /// Makes the areas those of a set of free frames, of which `free` tells one by one.
+    /// Makes the areas those of a set of free frames. `free` has a value for each frame.
     pub fn set_from(&mut self, free: &[bool])
         requires { length free.now ≡ self.old.frames }
         ensures areas { AreMaximalBlocks free.now self.new.blocks }
@@ -78,9 +78,8 @@ impl FreeAreas {
         }
     }
 
-    /// Makes the areas those of a zone whose frames are all free, without a look at each frame: the
-    /// blocks of order 10 that fit, and of each lower order the last one, if it lies in none of the
-    /// next.
+    /// Makes the areas those of a zone whose frames are all free, without a look at each frame. These are the blocks of
+    /// order 10 that fit, and of each lower order the last block, if none of the next order has it.
     pub fn set_all_free(&mut self)
         ensures areas { AreMaximalBlocks (replicate self.old.frames true) self.new.blocks }
         ensures frames { self.new.frames ≡ self.old.frames }
@@ -92,7 +91,7 @@ impl FreeAreas {
         }
     }
 
-    // Takes all blocks out.
+    // Removes all blocks.
     fn clear(&mut self)
         ensures blocks { self.new.blocks ≡ [] }
         ensures frames { self.new.frames ≡ self.old.frames }
@@ -102,7 +101,7 @@ impl FreeAreas {
         }
     }
 
-    // Puts the maximal free blocks of one order in, where those of the lower orders are there.
+    // Inserts the maximal free blocks of one order; those of the lower orders are in the areas.
     fn insert_maximal(&mut self, free: &[bool], order: Order)
         requires frames { length free.now ≡ self.old.frames }
         requires lower { AreMaximalUpTo free.now order 0 self.old.blocks }
@@ -148,7 +147,7 @@ impl FreeAreas {
         self.frames
     }
 
-    /// The blocks that are there, by order and then by address.
+    /// The blocks in the areas, by order and then by address.
     pub fn walk(&self) -> Walk<'_>
         ensures walk { result ≡ self.now.blocks }
         ensures apart { AreBlocksApart self.now.frames self.now.blocks }
@@ -156,7 +155,7 @@ impl FreeAreas {
         Walk::over(self)
     }
 
-    /// Whether exactly this block is there.
+    /// Whether exactly this block is in the areas.
     pub fn contains(&self, block: Block) -> bool
         ensures { IsTrue result ↔ Contains self.now.blocks block }
     {
@@ -165,7 +164,7 @@ impl FreeAreas {
         block.is_block_of(self.frames) && bits.contains((block.at >> exponent) as usize)
     }
 
-    /// Whether a block that is there shares a frame with this one.
+    /// Whether a block in the areas shares a frame with this one.
     pub fn overlaps(&self, block: Block) -> bool
         ensures { IsTrue result ↔ Overlaps self.now.blocks block }
     {
@@ -180,15 +179,15 @@ impl FreeAreas {
         false
     }
 
-    /// The block of exactly this order with the least address. None exactly where there is none.
+    /// The block of exactly this order with the least address. None exactly if there is none.
     pub fn first(&self, order: Order) -> Option<Block>
         ensures { MatchOption result (HasNoneOf self.now.blocks order) (IsFirstOf self.now.blocks order) }
     {
         first_of(&self.links, self.frames, order)
     }
 
-    /// Of the blocks of the least order from this one on that has any, the one with the least
-    /// address. None exactly where no block of this order or above is there.
+    /// Of the least order, from this one on, that has a block, the block with the least address. None exactly if the
+    /// areas have no block of this order or above.
     pub fn smallest_from(&self, order: Order) -> Option<Block>
         ensures { MatchOption result (HasNoneFrom self.now.blocks order) (IsSmallestFrom self.now.blocks order) }
     {
@@ -209,8 +208,7 @@ impl FreeAreas {
         None
     }
 
-    // The block after one that is there, by order and then by address. None exactly where it is the
-    // last.
+    // The block after one in the areas, by order and then by address. None exactly if it is the last.
     pub(crate) fn after(&self, block: &Block) -> Option<Block>
         requires { Contains self.now.blocks block.now }
         ensures apart { AreBlocksApart self.now.frames self.now.blocks }
@@ -225,7 +223,7 @@ impl FreeAreas {
         self.first_from(order.exponent() + 1)
     }
 
-    /// Puts a block of the zone in, which shares no frame with one that is there.
+    /// Inserts a block of the zone that shares no frame with one in the areas.
     #[inline(always)]
     pub fn insert(&mut self, block: Block)
         requires block { IsBlock self.old.frames block }
@@ -245,7 +243,7 @@ impl FreeAreas {
         self.links.join(node, after);
     }
 
-    /// Takes a block that is there out.
+    /// Removes a block that is in the areas.
     #[inline(always)]
     pub fn remove(&mut self, block: Block)
         requires { Contains self.old.blocks block }
@@ -261,9 +259,8 @@ impl FreeAreas {
         self.links.join(before, after);
     }
 
-    /// Whether exactly one of the block and its buddy is there, as the bit of the pair tells it
-    /// (Gorman, chapter 6). None exactly where the pair has no bit: at order 10, and where one of
-    /// the two isn't a block of the zone.
+    /// Whether exactly one of the block and its buddy is in the areas, read from the bit of the pair (Gorman, chapter
+    /// 6). None exactly if the pair has no bit: at order 10, and if one of the two isn't a block of the zone.
     pub fn pair_bit(&self, block: Block) -> Option<bool>
         ensures { MatchOption result (¬ HasPairBit self.now.frames block)
             (λ bit. HasPairBit self.now.frames block × (IsTrue bit ↔ IsOneOfPair self.now.blocks block)) }

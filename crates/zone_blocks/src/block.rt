@@ -4,8 +4,8 @@ ghost use Rattle.std.specs.Prelude.{◌≡◌, ◌↔◌, IsTrue, MatchOption};
 
 use crate::order::Order;
 
-/// A block of 2^`order` frames, of which `at` is the first. Whether it is a block of a zone,
-/// aligned and inside, `IsBlock` says.
+/// A block of 2^`order` frames, of which `at` is the first. `IsBlock` says whether it is a block of a zone: aligned,
+/// and inside.
 #[derive(Clone, Copy, Debug, PartialEq, Eq)]
 pub struct Block {
     /// The number of its first frame.
@@ -26,8 +26,8 @@ impl Block {
         number * size == self.at && size <= frames && self.at <= frames - size
     }
 
-    /// The buddy, with which it may be merged (Knuth). None exactly where the order is 10, or one
-    /// of the two isn't a block of a zone of this many frames.
+    /// The buddy, with which the block may be merged (Knuth). None exactly if the order is 10, or one of the two isn't
+    /// a block of a zone of this many frames.
     pub fn buddy_in(&self, frames: u32) -> Option<Block>
         ensures { MatchOption result (¬ HasPairBit frames self.now) (λ other. HasPairBit frames self.now × (other ≡ buddy self.now)) }
     {

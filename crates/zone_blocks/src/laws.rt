@@ -3,7 +3,7 @@
 ghost use Rattle.zone_blocks.specs.Laws.{EveryFreeFrameIsInOneBlock, EveryFrameInABlockIsFree};
 ghost use Rattle.zone_blocks.specs.Laws.{MaximalBlocksAreUnique};
 
-/// Every free frame lies in exactly one of the maximal free blocks.
+/// Every free frame is in exactly one of the maximal free blocks.
 pub fn every_free_frame_is_in_one_block()
     ensures { EveryFreeFrameIsInOneBlock }
 {}

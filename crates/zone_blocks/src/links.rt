@@ -31,8 +31,7 @@ impl Model for Links {
 }
 
 impl Links {
-    /// The records of this many nodes, or an error where the numbers of nodes don't fit into 32
-    /// bits.
+    /// The records of this many nodes, or an error if the numbers of nodes don't fit into 32 bits or memory runs out.
     pub fn new(alloc: Global, nodes: usize) -> Result<Links, AllocError>
         ensures { IfOk result (λ links. length links ≡ nodes) }
     {
@@ -43,7 +42,7 @@ impl Links {
         Ok(Links { records })
     }
 
-    /// The node behind this one.
+    /// The node after this one.
     pub fn next(&self, node: usize) -> usize
         requires { node < length self.now }
         ensures { result ≡ next_of self.now node }
@@ -59,7 +58,7 @@ impl Links {
         self.records[node].prev as usize
     }
 
-    /// Makes `after` the node behind `before`, and `before` the one before `after`.
+    /// Makes `after` the node after `before`, and `before` the node before `after`.
     pub fn join(&mut self, before: usize, after: usize)
         requires before { before < length self.old }
         requires after { after < length self.old }

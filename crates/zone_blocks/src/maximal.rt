@@ -14,7 +14,7 @@ fn are_all_free(frames: &[bool]) -> bool
     frames.iter().all(|free| *free)
 }
 
-/// Whether it is a block of the zone, each of its frames free.
+/// Whether it is a block of the zone whose frames are all free.
 pub fn is_free_block(free: &[bool], block: Block) -> bool
     requires { length free.now < 2 ^ 32 }
     ensures { IsTrue result ↔ IsFreeBlock free.now block }
@@ -26,7 +26,7 @@ pub fn is_free_block(free: &[bool], block: Block) -> bool
     are_all_free(&free[start..start + block.order.frames() as usize])
 }
 
-/// Whether it is a free block that lies in no free block of the next order.
+/// Whether it is a free block that is inside no free block of the next order.
 pub fn is_maximal_block(free: &[bool], block: Block) -> bool
     requires { length free.now < 2 ^ 32 }
     ensures { IsTrue result ↔ IsMaximalBlock free.now block }

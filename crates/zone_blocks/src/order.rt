@@ -29,7 +29,7 @@ impl Order {
     /// How many orders there are.
     pub const COUNT: u32 = Order::GREATEST + 1;
 
-    /// The order with this exponent. None exactly where it is above 10.
+    /// The order with this exponent. None exactly if it is above 10.
     pub fn of(exponent: u32) -> Option<Order>
         ensures { MatchOption result (10 < exponent) (λ order. (order ≡ exponent) × (exponent ≤ 10)) }
     {

@@ -10,7 +10,7 @@ use crate::order::Order;
 use bit_levels::bits::Bits;
 use std::alloc::{AllocError, Global};
 
-/// The bits of a zone in which no block is there: one for each pair of each order below 10.
+/// The pair bits of a zone without free blocks: one for each pair of each order below 10.
 pub fn new_pairs(alloc: Global, frames: u32) -> Result<Vec<Bits>, AllocError>
     ensures { IfOk result (λ pairs. ArePairBits frames [] pairs.items) }
 {
@@ -22,7 +22,7 @@ pub fn new_pairs(alloc: Global, frames: u32) -> Result<Vec<Bits>, AllocError>
     Ok(pairs)
 }
 
-/// The number of a block's pair. None exactly where the pair has no bit.
+/// The number of a block's pair. None exactly if the pair has no bit.
 fn pair_number(frames: u32, block: &Block) -> Option<usize>
     requires { IsBlock frames block.now }
     ensures { MatchOption result (¬ HasPairBit frames block.now) (λ number. HasPairBit frames block.now × (number ≡ pair_of block.now)) }
@@ -49,7 +49,7 @@ pub fn toggle_pair(pairs: &mut Vec<Bits>, frames: u32, block: &Block)
     }
 }
 
-/// The bit of a block's pair. None exactly where it has none.
+/// The bit of a block's pair. None exactly if it has none.
 pub fn read_pair(pairs: &Vec<Bits>, frames: u32, block: &Block) -> Option<bool>
     requires { AreBitLists frames pairs.now.items }
     ensures { MatchOption result (¬ HasPairBit frames block.now) (λ bit. HasPairBit frames block.now × (bit ≡ bit_of pairs.now.items block.now)) }

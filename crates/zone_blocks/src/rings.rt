@@ -1,5 +1,4 @@
-//! The nodes of the lists: for each order the heads and the blocks, and the bits by which the node
-//! before a block is found.
+//! The nodes of the lists: for each order the head and the blocks. The bits serve to find the node before a block.
 
 ghost use Rattle.std.specs.Prelude.{◌≡◌, ◌≤◌, ◌<◌, ◌+◌, ◌*◌, ◌/◌, ◌^◌, ◌↔◌, IsTrue, IfOk, MatchOption, ℕ, length, []};
 ghost use Rattle.zone_blocks.specs.declared.block.Block.{Block};
@@ -13,7 +12,7 @@ use crate::order::Order;
 use bit_levels::levels::BitLevels;
 use std::alloc::{AllocError, Global};
 
-/// The bits of a zone in which no block is there.
+/// The block bits of a zone without free blocks.
 pub fn new_bits(alloc: Global, frames: u32) -> Result<Vec<BitLevels>, AllocError>
     ensures bits { IfOk result (λ all. AreBlockBits frames all.items) }
     ensures none { IfOk result (λ all. blocks_of frames all.items ≡ []) }
@@ -26,7 +25,7 @@ pub fn new_bits(alloc: Global, frames: u32) -> Result<Vec<BitLevels>, AllocError
     Ok(all)
 }
 
-/// The rings of a zone in which no block is there: each head stands before and behind itself.
+/// The rings of a zone without free blocks: each head is before and after itself.
 pub fn new_rings(alloc: Global, frames: u32) -> Result<Links, AllocError>
     ensures { IfOk result (λ links. AreRings frames [] links) }
 {
@@ -38,7 +37,7 @@ pub fn new_rings(alloc: Global, frames: u32) -> Result<Links, AllocError>
     Ok(links)
 }
 
-/// The head of the ring of an order: it stands behind all frames.
+/// The head of the ring of an order; the heads come after all frames.
 pub fn head_of(frames: u32, order: Order) -> usize
     ensures head { result ≡ frames + order }
     ensures within { order ≤ 10 }
@@ -82,8 +81,8 @@ fn node_below(bits: &BitLevels, frames: u32, order: Order, number: usize) -> usi
     below * order.frames() as usize
 }
 
-/// The node before a block in the ring of its order: the head where it begins before the first
-/// block of the order, and else as the bits tell it.
+/// The node before a block in the ring of its order: the head if it begins before the first block of the order, else by
+/// the bits.
 pub fn node_before(links: &Links, bits: &BitLevels, frames: u32, block: &Block) -> usize
     requires links { length links.now ≡ frames + 11 }
     requires bits { length bits.now ≡ frames / 2 ^ block.now.order }
@@ -98,14 +97,13 @@ pub fn node_before(links: &Links, bits: &BitLevels, frames: u32, block: &Block) 
     node_below(bits, frames, block.order, number)
 }
 
-/// Whether a block of this order, of which these are the bits, has a frame from `at` to before
-/// `end`.
+/// Whether a block of this order, of which these are the bits, has a frame from `at` to just before `end`.
 pub fn meets_range(bits: &BitLevels, order: Order, at: u32, end: usize) -> bool
     requires { end ≤ 2 ^ 33 }
     ensures { IsTrue result ↔ MeetsRange bits.now order at end }
 {
     let size = order.frames() as usize;
-    // So many blocks of the order begin before the end.
+    // How many blocks of the order begin before the end.
     let stop = (end + size - 1) >> order.exponent();
     let first = (at as usize) >> order.exponent();
     if first + 1 == stop {

@@ -7,7 +7,7 @@ use crate::areas::FreeAreas;
 use crate::block::Block;
 use std::marker::Model;
 
-/// The blocks of free areas that are left of a walk: by order, then by address.
+/// The blocks that are left of a walk over free areas: by order, then by address.
 #[derive(Drop)]
 pub struct Walk<'a> {
     areas: &'a FreeAreas,

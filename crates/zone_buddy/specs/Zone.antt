@@ -1,4 +1,4 @@
--- A zone whose frames are taken and given back in blocks, as in Knuth's buddy system (The Art of Computer Programming, 2.5).
+-- A zone whose frames are taken and freed in blocks, as in Knuth's buddy system (The Art of Computer Programming, 2.5).
 use Rattle.std.specs.Prelude.{◌≡◌, ◌+◌, ◌^◌, ℕ, ◌<◌, ◌↔◌, ◌⊎◌, ◌&&◌, Bool, List, length, map, nat_le, nat_lt}
 use Rattle.std.specs.List.{Contains, list_any, range_with_len}
 use Rattle.zone_blocks.specs.declared.block.Block.{Block}
@@ -10,18 +10,18 @@ pub record Zone : Type 0 where
   pub free : List Bool
   pub blocks : List Block
 
--- the block's frames were free and are in use, and all others are as before
+-- the block's frames were free and are in use now, and all others are unchanged
 pub record TakesFrames (before : List Bool) (b : Block) (after : List Bool) : Type 0 where
   pub same_length : length after ≡ length before
   pub were_free : (f : ℕ) → Covers b f → IsFree before f
   pub in_use : (f : ℕ) → Covers b f → ¬ IsFree after f
   pub others : (f : ℕ) → ¬ Covers b f → IsFree after f ↔ IsFree before f
 
--- the block's frames were in use and are free, and all others are as before
+-- the block's frames were in use and are free now, and all others are unchanged
 abbrev pub GivesFrames : List Bool → Block → List Bool → Type 0
 GivesFrames before b after = TakesFrames after b before
 
--- a block of the zone, each of its frames in use
+-- a block of the zone whose frames are all in use
 pub record IsInUse (free : List Bool) (b : Block) : Type 0 where
   pub block : IsBlock (length free) b
   pub none_free : (f : ℕ) → Covers b f → ¬ IsFree free f
@@ -32,11 +32,11 @@ pub record IsInUse (free : List Bool) (b : Block) : Type 0 where
 abbrev pub block_at : ℕ → ℕ → Block
 block_at at order = record { at = at; order = order }
 
--- whether the frame f lies in the block
+-- whether the block has frame f
 abbrev pub covers : ℕ → Block → Bool
 covers f b = nat_le b.at f && nat_lt f (b.at + 2 ^ b.order)
 
--- the frames that lie in a block of the areas
+-- for each frame, whether a block of the areas has it
 unfoldable pub set_of : FreeBlocks → List Bool
 set_of areas = map (λ f. list_any (covers f) areas.blocks) (range_with_len 0 areas.frames)
 
@@ -44,7 +44,7 @@ set_of areas = map (λ f. list_any (covers f) areas.blocks) (range_with_len 0 ar
 abbrev pub zone_of : FreeBlocks → Zone
 zone_of areas = record { free = set_of areas; blocks = areas.blocks }
 
--- the areas are the maximal free blocks of their frames, and each frame has a number of 32 bits
+-- the areas are the maximal free blocks of their frames, and each frame number has 32 bits
 pub record AreKept (areas : FreeBlocks) : Type 0 where
   pub maximal : AreMaximalBlocks (set_of areas) areas.blocks
   pub small : areas.frames < 2 ^ 32
@@ -53,12 +53,12 @@ pub record AreKept (areas : FreeBlocks) : Type 0 where
 abbrev pub HasNoBlockWith : List Block → ℕ → Type 0
 HasNoBlockWith blocks frame = (b : Block) → Contains blocks b → ¬ Covers b frame
 
--- nothing changed, and there is no buddy to merge b with
+-- nothing changed, and there is no free buddy to merge b with
 pub record HasNoBuddy (before : FreeBlocks) (b : Block) (after : FreeBlocks) : Type 0 where
   pub same : after ≡ before
   pub none : (b.order ≡ 10) ⊎ (¬ Contains before.blocks (buddy b))
 
--- b's buddy was there and was taken out, and both together are the block `larger`
+-- b's buddy was free and is removed from the areas; `larger` is the block of both
 pub record TakesBuddy (before : FreeBlocks) (b : Block) (after : FreeBlocks) (larger : Block) : Type 0 where
   pub there : Contains before.blocks (buddy b)
   pub order_below : b.order < 10

@@ -1,4 +1,4 @@
-//! A zone whose frames are taken and given back in blocks.
+//! A zone whose frames are taken and freed in blocks.
 
 ghost use Rattle.std.specs.Prelude.{◌≡◌, ◌↔◌, IsTrue, IfOk, MatchOption, replicate, true};
 ghost use Rattle.std.specs.Option.{IfNone, IfSome};
@@ -15,8 +15,8 @@ use zone_blocks::block::Block;
 use zone_blocks::order::Order;
 use zone_blocks::walk::Walk;
 
-/// A zone of page frames, seen as `free`, which of its frames are free, and `blocks`, the maximal
-/// free blocks in walk order.
+/// A zone of page frames. A contract sees `free`, which of its frames are free, and `blocks`, the maximal free blocks
+/// in walk order.
 #[derive(Drop)]
 pub struct Buddy {
     areas: FreeAreas,
@@ -33,8 +33,8 @@ impl Model for Buddy {
 }
 
 impl Buddy {
-    /// A zone of this many frames, all free. `AllocError` comes where memory is short or there are
-    /// more than 2^32 - 11 frames. All room is reserved here: no other call takes memory.
+    /// A zone of this many frames, all free. `AllocError` if memory runs out or there are more than 2^32 - 11 frames.
+    /// All room is reserved here: no other call takes memory.
     pub fn new(alloc: Global, frames: u32) -> Result<Buddy, AllocError>
         ensures free { IfOk result (λ zone. zone.free ≡ replicate frames true) }
         ensures areas { IfOk result (λ zone. AreMaximalBlocks zone.free zone.blocks) }
@@ -44,9 +44,8 @@ impl Buddy {
         Ok(Buddy { areas })
     }
 
-    /// Takes a block of this order: the front of the free block of the least sufficient order
-    /// that has the least address. None, and nothing changed, exactly where no free block of that
-    /// order or above is there.
+    /// Takes a block of this order: the front of the block with the least address of the least sufficient order. None,
+    /// and nothing changed, exactly if there is no free block of that order or above.
     pub fn take(&mut self, order: Order) -> Option<Block>
         ensures taken { MatchOption result (HasNoneFrom self.old.blocks order) (IsFrontOfSmallest self.old.blocks order) }
         ensures none { IfNone result (self.new ≡ self.old) }
@@ -63,8 +62,7 @@ impl Buddy {
         })
     }
 
-    /// Takes one frame that is free out of the free block that has it, and leaves the rest of that
-    /// block free, in halves.
+    /// Takes one free frame, and leaves the rest of the free block that has it free, in halves.
     pub fn take_frame(&mut self, frame: u32)
         requires { IsFree self.old.free frame }
         ensures frames { TakesFrames self.old.free (record { at = frame; order = 0 }) self.new.free }
@@ -75,15 +73,15 @@ impl Buddy {
         free_other_halves(&mut self.areas, &block, frame);
     }
 
-    /// Whether it is a block of the zone, all of whose frames are in use: it may be given back.
+    /// Whether it is a block of the zone whose frames are all in use, so that it may be freed.
     pub fn is_in_use(&self, block: Block) -> bool
         ensures { IsTrue result ↔ IsInUse self.now.free block }
     {
         block.is_block_of(self.areas.frames()) && !self.areas.overlaps(block)
     }
 
-    /// Gives a block back, all of whose frames are in use, and merges it with its buddy while that
-    /// is a free block of the same order, up to order 10.
+    /// Frees a block whose frames are all in use, and merges it with its buddy while that is a free block of the same
+    /// order, up to order 10.
     pub fn give(&mut self, block: Block)
         requires { IsInUse self.old.free block }
         ensures frames { GivesFrames self.old.free block self.new.free }

@@ -1,4 +1,4 @@
-//! The taking of one frame out of the free block that has it.
+//! How one frame is taken from the free block that has it.
 
 ghost use Rattle.std.specs.Prelude.{◌≡◌, ℕ, List, Bool, MatchOption};
 ghost use Rattle.std.specs.List.{Contains};
@@ -10,7 +10,7 @@ use zone_blocks::areas::FreeAreas;
 use zone_blocks::block::Block;
 use zone_blocks::order::Order;
 
-/// The block that is there and has this frame, by one look for each order.
+/// The free block that has this frame, by one look for each order.
 pub fn block_with(areas: &FreeAreas, frame: u32) -> Option<Block>
     requires { AreKept areas.now }
     ensures { MatchOption result (HasNoBlockWith areas.now.blocks frame) (λ block. Contains areas.now.blocks block × Covers block frame) }
@@ -25,8 +25,8 @@ pub fn block_with(areas: &FreeAreas, frame: u32) -> Option<Block>
     None
 }
 
-/// Halves a block that is in use down to one frame: each time the half without the frame is put
-/// into the areas, so that only the frame stays in use.
+/// Halves a block that is in use down to one frame. Each time the half without the frame goes into the areas, so that
+/// only the frame stays in use.
 pub fn free_other_halves(areas: &mut FreeAreas, block: &Block, frame: u32)
     requires kept { AreKept areas.old }
     requires block { IsBlock areas.old.frames block.now }

@@ -1,5 +1,5 @@
-//! Knuth's buddy system (The Art of Computer Programming, 2.5): page frames of a zone are taken
-//! and given back in blocks of 2^k frames, and the free areas stay the maximal free blocks.
+//! Knuth's buddy system (The Art of Computer Programming, 2.5): page frames of a zone are taken and freed in blocks of
+//! 2^k frames. The free areas are always the maximal free blocks.
 #![tactic(auto)]
 
 pub mod buddy;

@@ -10,9 +10,8 @@ use zone_blocks::areas::FreeAreas;
 use zone_blocks::block::Block;
 use zone_blocks::order::Order;
 
-/// Where the bit of the pair tells that the buddy of a block is there, takes it out, which makes the
-/// bit 0, and answers the block of both. None, and nothing changed, exactly where the pair has no
-/// bit or it is 0.
+/// If the bit of the pair says that a block's buddy is free, removes the buddy, which makes the bit 0, and returns the
+/// block of both. None, and nothing changed, exactly if the pair has no bit or it is 0.
 fn take_buddy(areas: &mut FreeAreas, block: &Block) -> Option<Block>
     requires kept { AreKept areas.old }
     requires block { IsBlock areas.old.frames block.now }
@@ -30,7 +29,7 @@ fn take_buddy(areas: &mut FreeAreas, block: &Block) -> Option<Block>
     Some(Block { at, order })
 }
 
-/// Puts a block that is in use into the areas, merged with its buddy as long as that is there.
+/// Inserts a block that is in use into the areas, merged with its buddy as long as that is free.
 pub fn insert_merged(areas: &mut FreeAreas, block: Block)
     requires kept { AreKept areas.old }
     requires block { IsBlock areas.old.frames block }

@@ -9,8 +9,8 @@ use zone_blocks::areas::FreeAreas;
 use zone_blocks::block::Block;
 use zone_blocks::order::Order;
 
-/// Halves a block that is in use down to `order`: each time the upper half is put into the areas,
-/// so that only the block of that order at the front stays in use.
+/// Halves a block that is in use down to `order`. Each time the upper half goes into the areas, so that only the block
+/// of that order at the front stays in use.
 pub fn free_upper_halves(areas: &mut FreeAreas, block: &Block, order: Order)
     requires kept { AreKept areas.old }
     requires block { IsBlock areas.old.frames block.now }

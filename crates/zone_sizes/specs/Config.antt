@@ -2,7 +2,7 @@
 use Rattle.std.specs.Prelude.{◌≤◌}
 use Rattle.zone_sizes.specs.declared.config.Config.{Config}
 
--- every size is in its range, and a processor's list holds a batch at least
+-- every size is in its range, and `high` is at least `batch`
 pub record IsValidConfig (c : Config) : Type 0 where
   pub frames_low : 1 ≤ c.frames
   pub frames_high : c.frames ≤ 1048576

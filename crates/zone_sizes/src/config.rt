@@ -7,13 +7,13 @@ ghost use Rattle.std.specs.Prelude.{◌↔◌, IsTrue};
 pub struct Config {
     /// Frames of the zone, numbered from 0: 1 to 1,048,576.
     pub frames: u32,
-    /// Processors, numbered from 1: 1 to 64.
+    /// CPUs, numbered from 1: 1 to 64.
     pub cpus: u32,
-    /// Frames by which a processor's list is refilled or cut: 1 to 64.
+    /// Frames by which a CPU's list is refilled or cut: 1 to 64.
     pub batch: u32,
-    /// Frames at which a processor's list is cut: `batch` to 256.
+    /// Frames at which a CPU's list is cut: `batch` to 256.
     pub high: u32,
-    /// Pages that a processor prepays at once: 1 to 64.
+    /// Pages that a CPU prepays at once: 1 to 64.
     pub stock: u32,
 }
 
