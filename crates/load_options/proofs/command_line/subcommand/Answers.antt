@@ -1,11 +1,11 @@
--- Serves the contract of `task`: its options, one after the other.
+-- Serves the contract of `subcommand`: its options, one after the other.
 use Rattle.std.proofs.Common.{◌∙◌, ap}
 use Rattle.std.proofs.lemmas.Result.{IfOk-weaker}
 use Rattle.clap.specs.Simple.{App, app_of_fields, new_app}
 use Rattle.clap.specs.declared.builder.command.Command.{Command}
 use Rattle.clap.specs.declared.builder.command.Command.TheOpen.{Command-F}
 use Rattle.load_options.proofs.Asking.{IsRead, option_added}
-use Rattle.load_options.proofs.command_line.task.Goals as goal
+use Rattle.load_options.proofs.command_line.subcommand.Goals as goal
 
 pub returns : goal.returns
 returns c =

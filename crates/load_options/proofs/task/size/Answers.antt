@@ -4,12 +4,12 @@ use Rattle.std.specs.Str.Parse.{ExplainsUnsignedError, HasUnsignedDigitsIfOk, Pa
 use Rattle.clap.specs.Words.{found_of, rows_of}
 use Rattle.load_options.specs.Words.{number_kept, size_in}
 use Rattle.load_options.proofs.Asking.{read_as_row}
-use Rattle.load_options.proofs.settings.size.Goals as goal
+use Rattle.load_options.proofs.task.size.Goals as goal
 
 pub returns-in_err-size-clause-asked : goal.returns-in_err-size-clause-asked
 returns-in_err-size-clause-asked c =
     let most = c.args.most in
-    let found = found_of c.args.found.now in
+    let found = found_of c.args.given.now in
     let name = c.args.name.now in
     let read : size_in name most (rows_of found) ≡ option_and_then (number_kept most) c.get_one.result =
     read_as_row _ (λ t r. ParsesUnsigned 32 10 t r × ExplainsUnsignedError 10 t r × HasUnsignedDigitsIfOk t r) (λ t r gives. gives.0)
@@ -20,7 +20,7 @@ returns-in_err-size-clause-asked c =
 pub returns-clause-asked : goal.returns-clause-asked
 returns-clause-asked c =
     let most = c.args.most in
-    let found = found_of c.args.found.now in
+    let found = found_of c.args.given.now in
     let name = c.args.name.now in
     let read : size_in name most (rows_of found) ≡ option_and_then (number_kept most) c.get_one.result =
     read_as_row _ (λ t r. ParsesUnsigned 32 10 t r × ExplainsUnsignedError 10 t r × HasUnsignedDigitsIfOk t r) (λ t r gives. gives.0)
