@@ -7,7 +7,7 @@ use Rattle.script_replay.specs.Ranges.{LineIsThere}
 use Rattle.script_replay.specs.Terms.{boot_tables}
 use Rattle.script_threads.specs.Each.{TellsEach, workers_from}
 use Rattle.load_run.specs.Ending.{EndsHeld}
-use Rattle.load_threads.proofs.running.serve_and_end.Goals as goal
+use Rattle.load_run.proofs.thread_running.serve_and_end.Goals as goal
 
 pub serve_later-told-requires-clause-count : goal.serve_later-told-requires-clause-count
 serve_later-told-requires-clause-count g c =

@@ -6,11 +6,11 @@ ghost use Rattle.script_replay.specs.Ranges.{LineIsThere};
 ghost use Rattle.script_replay.specs.Terms.{boot_tables};
 ghost use Rattle.script_threads.specs.Each.{TellsEach, workers_from};
 ghost use Rattle.load_run.specs.Ending.{EndsAfter};
-ghost use Rattle.load_threads.specs.Answers.{AreThreadAnswers, StandsQuiet};
+ghost use Rattle.load_run.specs.Answers.{AreThreadAnswers, StandsQuiet};
 
+use crate::boot_end::{Ended, end_boot};
+use crate::running::tell_end;
 use cpu_part::{BootName, Cpu, Tables};
-use load_run::boot_end::{Ended, end_boot};
-use load_run::running::tell_end;
 use mem_system::{Boot, Locked, NoGate, System};
 use script_lines::line::Line;
 use script_replay::replay;

@@ -11,8 +11,8 @@ use Rattle.script_threads.proofs.Going.{go_least}
 use Rattle.load_run.specs.Ending.{end_text}
 use Rattle.load_run.proofs.Answering.{at_ok, first_long, weakened}
 use Rattle.load_run.proofs.Starting.{boot_shown, parts_tied}
-use Rattle.load_threads.proofs.Joining.{are_answers, early_there, later_there}
-use Rattle.load_threads.proofs.running.run_by_threads.Goals as goal
+use Rattle.load_run.proofs.Joining.{are_answers, early_there, later_there}
+use Rattle.load_run.proofs.thread_running.run_by_threads.Goals as goal
 
 pub split_at-requires : goal.split_at-requires
 split_at-requires g c = subst (λ (n : ℕ). n ≤ length c.args.lines.now) (sym c.before_go.ensures) (go_least c.args.lines.now)

@@ -15,7 +15,7 @@ use Rattle.script_threads.specs.Runs.{lines_before_go}
 use Rattle.load_run.specs.declared.boot_end.Ended.{Ended}
 use Rattle.load_run.specs.Answers.{StandsAtFirst}
 use Rattle.load_run.specs.Ending.{EndsAfter, end_text}
-use Rattle.load_threads.specs.Answers.{AreThreadAnswers, StandsQuiet}
+use Rattle.load_run.specs.Answers.{AreThreadAnswers, StandsQuiet}
 
 -- all lines name what is there, also as the tables and the parts say it
 there : (frames cpus known parts : ℕ) (lines : List Line) → frames ≡ known → cpus ≡ parts → All (LineIsThere frames cpus) lines
