@@ -8,6 +8,8 @@ use std::cmp::min;
 use std::io;
 use std::io::{ErrorKind, Read, Write};
 use std::process::Abort;
+use std::sync::Wait;
+use std::thread::Threads;
 
 /// A script that is read a few bytes at a time. One of the reads may fail.
 #[derive(Drop)]
