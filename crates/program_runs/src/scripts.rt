@@ -8,18 +8,18 @@ use crate::streams::{
     words_of,
 };
 use crate::visits::visit_all;
-use load_options::command_line::parse_words;
+use load_run::{options, parse_script};
 use mem_system::Boot;
-use script_lines::script::parse_script;
 use std::alloc::{AllocError, Global};
 use std::marker::Brand;
 use std::process::Abort;
 use std::sync::Wait;
+use std::thread::Threads;
 use zone_sizes::config::Config;
 
 // The program answers the row's script as it says, and tells its end.
 fn program_answers(
-    rt: &(impl Abort + AllocGlobal),
+    rt: &(impl AllocGlobal + Threads + Wait + Abort + Sync),
     row: &Row<'_>,
     script: &str,
     is_explained: bool,
@@ -50,15 +50,15 @@ fn visits_told<R: AllocGlobal + Wait>(
 
 // The row's script is answered alike by visits.
 fn visits_answer<R: AllocGlobal + Abort + Wait>(rt: &R, row: &Row<'_>, script: &str) {
-    let settings = parse_words(rt.alloc(), &words_of(rt, row.words)).expect(rt, row.name);
-    let told = visits_told(rt, settings.sizes, script, settings.is_audited);
+    let options = options(rt.alloc(), &words_of(rt, row.words)).expect(rt, row.name);
+    let told = visits_told(rt, options.sizes, script, options.is_audited);
     let answers = row.answers(rt.alloc(), false).expect(rt, row.name);
     let told = told.expect(rt, row.name);
     row_holds(rt, told.as_slice() == answers.as_bytes(), row.name);
 }
 
 // The row's script is answered as it says: by the program, with what explains kills and without, and by visits.
-fn row_is_answered<R: AllocGlobal + Abort + Wait>(rt: &R, row: &Row<'_>) {
+fn row_is_answered(rt: &(impl AllocGlobal + Threads + Wait + Abort + Sync), row: &Row<'_>) {
     let script = row.script(rt.alloc()).expect(rt, row.name);
     program_answers(rt, row, script.as_str(), false);
     program_answers(rt, row, script.as_str(), true);

@@ -6,11 +6,8 @@ ghost use Rattle.script_replay.specs.Ranges.{LineIsThere};
 
 use cpu_part::{BootName, Cpu};
 use load_run::boot_end::end_boot;
+use load_run::{Line, parse_script, replay_lines, run_lines};
 use mem_system::{Audit, Boot, Gate, System};
-use script_lines::line::Line;
-use script_lines::script::parse_script;
-use script_replay::replay_lines;
-use script_threads::run_lines;
 use std::alloc::{AllocError, Global};
 use std::marker::Brand;
 use std::process::Abort;
