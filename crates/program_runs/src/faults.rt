@@ -6,6 +6,10 @@ use crate::streams::{
     AnswerWriter, PLAIN, ProgramRun, ScriptReader, program_holds, reader_in_steps, row_holds,
     run_program, run_program_on, script_reader, writer_with_room,
 };
+use load_run::fault::ProgramFault;
+use load_run::fault_lines::tell_fault;
+use load_run::{LineFault, ScriptFault};
+use std::alloc::AllocError;
 use std::io::ErrorKind;
 use std::process::Abort;
 use std::sync::Wait;
@@ -216,5 +220,37 @@ fn ends_as_it_would_where_a_fault_is_not_told(rt: HostRuntime) {
     let told = b"bad line 2\n".as_slice();
     for room in 0..told.len() {
         ends_as_it_would(&rt, &told[..room]);
+    }
+}
+
+// The program prints the fault in the words that it displays, with this after them.
+fn is_printed_as_displayed(
+    rt: &(impl AllocGlobal + Threads + Wait + Abort + Sync),
+    fault: &ProgramFault,
+    end: &str,
+) {
+    let displayed = format!(in rt.alloc(); "{fault}{end}").expect(rt, "memory");
+    let mut faults = writer_with_room(rt, 1_000);
+    let status = tell_fault(fault, &mut faults);
+    row_holds(rt, status == fault.status(), displayed.as_str());
+    let is_printed = faults.text.as_slice() == displayed.as_bytes();
+    row_holds(rt, is_printed, displayed.as_str());
+}
+
+#[test]
+fn each_fault_is_printed_as_it_is_displayed(rt: HostRuntime) {
+    let text = String::from_str(rt.alloc(), "error: a text with its line feed\n");
+    let words = LineFault::BadWords(text.expect(&rt, "memory"));
+    is_printed_as_displayed(&rt, &ProgramFault::Words(words), "");
+    for fault in [
+        ProgramFault::Words(LineFault::NoMemory(AllocError)),
+        ProgramFault::Script(ScriptFault::BadLine(65_537)),
+        ProgramFault::Script(ScriptFault::NoMemory),
+        ProgramFault::BadConfig,
+        ProgramFault::Input,
+        ProgramFault::Output,
+        ProgramFault::NoMemory(AllocError),
+    ] {
+        is_printed_as_displayed(&rt, &fault, "\n");
     }
 }

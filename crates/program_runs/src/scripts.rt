@@ -80,8 +80,8 @@ fn each_row_is_answered_and_explained(rt: HostRuntime) {
     }
 }
 
-// A script that begins so, goes on so many times so, and ends so.
-type LongScript = (&'static str, (&'static str, u32), &'static str);
+/// A script that begins so, goes on so many times so, and ends so.
+pub type LongScript = (&'static str, (&'static str, u32), &'static str);
 
 // Long scripts, with what each shows first, and at last the status that it ends with, its answers and its fault.
 const LONG_SCRIPTS: [(&str, LongScript, (u8, &str, &str)); 7] = [
@@ -122,7 +122,8 @@ const LONG_SCRIPTS: [(&str, LongScript, (u8, &str, &str)); 7] = [
     ),
 ];
 
-fn long_script(
+/// The text of the long script.
+pub fn long_script(
     alloc: Global,
     (begin, (repeated, times), end): LongScript,
 ) -> Result<String, AllocError> {
@@ -144,6 +145,18 @@ fn each_long_script_is_answered_or_refused(rt: HostRuntime) {
         row_holds(&rt, ended.output.as_slice() == answers.as_bytes(), name);
         row_holds(&rt, ended.faults.as_slice() == fault.as_bytes(), name);
     }
+}
+
+// Bytes that are no characters, in a comment and in a value.
+const ANY_BYTES: &[u8] = b"# \xff\xfe\n1 mkdir /a\n1 write /a memory.max \xc0\n";
+
+#[test]
+fn a_script_may_have_any_bytes(rt: HostRuntime) {
+    let ended = run_program(&rt, &PLAIN, script_reader(ANY_BYTES), 10_000);
+    let name = "bytes that are no characters";
+    row_holds(&rt, ended.status == 0, name);
+    let answers = b"group 1\nrefused 12 BadLimit\n".as_slice();
+    row_holds(&rt, ended.output.as_slice() == answers, name);
 }
 
 #[test]
