@@ -1,4 +1,4 @@
--- From what clap promises of a parse to the settings that the words ask for.
+-- From what clap promises of a parse to the options that the words ask for.
 use Rattle.std.proofs.Common.{◌≡◌, ◌∙◌, ◌<◌, ◌≤◌, ◌^◌, ℕ, Bool, true, false, cond, List, [], ◌∷◌, Option, Some, None, Result, Ok, Err, IfOk}
 use Rattle.std.proofs.Common.{MatchResult, arith, refl, ap, ap₂, sym, subst}
 use Rattle.std.specs.Prelude.{IsSome, OnOk, codes, nat_lt, option_and_then, pos, unwrap_or, ◌||◌}
@@ -21,11 +21,11 @@ use Rattle.clap.specs.declared.error.kind.ErrorKind.{ErrorKind}
 use Rattle.clap.specs.declared.parser.matches.Found.{Found}
 use Rattle.clap.proofs.WalkLemmas.{one_text-rows}
 use Rattle.clap.proofs.ValueTestLemmas.{Accepts-accepts, accepts-Accepts}
-use Rattle.load_options.specs.declared.settings.Settings.{Settings}
-use Rattle.load_options.specs.declared.fault.WordsFault.{WordsFault}
-use Rattle.load_options.specs.declared.fault.WordsFault.TheVariants.{BadWords, NoMemory}
+use Rattle.load_options.specs.declared.task.Options.{Options}
+use Rattle.load_options.specs.declared.fault.LineFault.{LineFault}
+use Rattle.load_options.specs.declared.fault.LineFault.TheVariants.{BadWords, NoMemory}
 use Rattle.load_options.specs.Fault.{IsNoMemory}
-use Rattle.load_options.specs.Words.{TellsSettings, if_none, number_in, number_kept, program, settings_for, settings_under, size_in}
+use Rattle.load_options.specs.Words.{TellsOptions, if_none, number_in, number_kept, options_of, options_under, program, size_in}
 
 -- ---- options
 
@@ -114,42 +114,42 @@ given_read E (Some t) None none value = go (bytes_eq t (codes "true")) refl
 
 -- ---- all the words
 
--- the settings are those that clap found, where it found no fault
-pub asked_found : (task : List ℕ) (words : List (List ℕ)) → fault_of program words ≡ []
-    → settings_for task words ≡ option_and_then (λ (p : List ℕ × List Row). settings_under task p.0 p.1) (subcommand_of program words)
-unfolding settings_for
-asked_found task words none =
-    ap (λ (kinds : Kinds). if_none kinds (option_and_then (λ (p : List ℕ × List Row). settings_under task p.0 p.1) (subcommand_of program words))) none
+-- the options are those that clap found, if it found no fault
+pub asked_found : (words : List (List ℕ)) → fault_of program words ≡ []
+    → options_of words ≡ option_and_then (λ (p : List ℕ × List Row). options_under p.0 p.1) (subcommand_of program words)
+unfolding options_of
+asked_found words none =
+    ap (λ (kinds : Kinds). if_none kinds (option_and_then (λ (p : List ℕ × List Row). options_under p.0 p.1) (subcommand_of program words))) none
 
--- and there are none where it found one
-pub asked_nothing : (task : List ℕ) (words : List (List ℕ)) (kind : ErrorKind) → IsAmong kind (fault_of program words) → settings_for task words ≡ None
-unfolding settings_for
-asked_nothing task words kind among = go (fault_of program words) among
+-- and there are none if it found one
+pub asked_nothing : (words : List (List ℕ)) (kind : ErrorKind) → IsAmong kind (fault_of program words) → options_of words ≡ None
+unfolding options_of
+asked_nothing words kind among = go (fault_of program words) among
   where
     go : (kinds : Kinds) → IsAmong kind kinds
-        → if_none kinds (option_and_then (λ (p : List ℕ × List Row). settings_under task p.0 p.1) (subcommand_of program words)) ≡ None
+        → if_none kinds (option_and_then (λ (p : List ℕ × List Row). options_under p.0 p.1) (subcommand_of program words)) ≡ None
     go [] none = absurd none
     go (k ∷ rest) some = refl
 
 -- a fault is what such words are answered
-pub answers_fault : (asked : Option Settings) (fault : WordsFault) → asked ≡ None → TellsSettings asked (Err fault)
+pub answers_fault : (asked : Option Options) (fault : LineFault) → asked ≡ None → TellsOptions asked (Err fault)
 answers_fault asked (BadWords text) none = none
 answers_fault asked (NoMemory e) none = tt
 
 -- and want of memory is an answer to all words
-pub answers_memory : (asked : Option Settings) (fault : WordsFault) → IsNoMemory fault → TellsSettings asked (Err fault)
+pub answers_memory : (asked : Option Options) (fault : LineFault) → IsNoMemory fault → TellsOptions asked (Err fault)
 answers_memory asked (BadWords text) memory = absurd memory
 answers_memory asked (NoMemory e) memory = tt
 
--- settings that are answered are those that were asked for
-pub asked_ok : (asked : Option Settings) (r : Result Settings WordsFault) → TellsSettings asked r → IfOk r (λ s. asked ≡ Some s)
-asked_ok asked (Ok s) is = is
+-- options that are answered are those that were asked for
+pub asked_ok : (asked : Option Options) (r : Result Options LineFault) → TellsOptions asked r → IfOk r (λ o. asked ≡ Some o)
+asked_ok asked (Ok o) is = is
 asked_ok asked (Err fault) is = tt
 
--- there are such settings, whatever comes after
-pub asked_some : {T E : Type 0} (asked : Option Settings) (s : Settings) (r : Result T E) → asked ≡ Some s → OnOk r (IsSome asked)
-asked_some asked s (Ok x) is = subst IsSome (sym is) refl
-asked_some asked s (Err e) is = tt
+-- there are such options, whatever comes after
+pub asked_some : {T E : Type 0} (asked : Option Options) (o : Options) (r : Result T E) → asked ≡ Some o → OnOk r (IsSome asked)
+asked_some asked o (Ok x) is = subst IsSome (sym is) refl
+asked_some asked o (Err e) is = tt
 
 -- ---- errors
 

@@ -1,3 +1,3 @@
 pub mod Fault
-pub mod Settings
+pub mod Sizes
 pub mod Words

@@ -11,11 +11,13 @@ use Rattle.clap.specs.declared.builder.action.ArgAction.TheVariants.{SetTrue}
 use Rattle.clap.specs.declared.builder.value_parser.ValueParser.TheVariants.{Signed}
 use Rattle.clap.specs.Kinds.{Kinds}
 use Rattle.zone_sizes.specs.declared.config.Config.{Config}
-use Rattle.load_options.specs.declared.settings.Settings.{Settings}
-use Rattle.load_options.specs.declared.fault.WordsFault.{WordsFault}
-use Rattle.load_options.specs.declared.fault.WordsFault.TheVariants.{BadWords, NoMemory}
+use Rattle.load_options.specs.declared.task.Options.{Options}
+use Rattle.load_options.specs.declared.task.Task.{Task}
+use Rattle.load_options.specs.declared.task.Task.TheVariants.{Replay, Run}
+use Rattle.load_options.specs.declared.fault.LineFault.{LineFault}
+use Rattle.load_options.specs.declared.fault.LineFault.TheVariants.{BadWords, NoMemory}
 
--- an option whose value is a whole number from 1 to `most`, and the value that stands where it is left out
+-- an option whose value is a whole number from 1 to `most`, and its value if it is left out
 abbrev pub size_rule : List ℕ → ℕ → List ℕ → Rule
 size_rule name most default = record (new_rule name) {
   long = Some name;
@@ -43,14 +45,14 @@ task_rules =
     ∷ []
 
 -- the subcommand of this name, with these options
-abbrev pub task_shape : List ℕ → Shape
-task_shape name = record (new_shape name) { rules = task_rules }
+abbrev pub command_shape : List ℕ → Shape
+command_shape name = record (new_shape name) { rules = task_rules }
 
--- `replay`, which has an option more
+-- `replay`, which has one option more
 abbrev pub replay_shape : Shape
-replay_shape = record (task_shape (codes "replay")) { rules = task_rules ++ flag_rule (codes "explain") ∷ [] }
+replay_shape = record (command_shape (codes "replay")) { rules = task_rules ++ flag_rule (codes "explain") ∷ [] }
 
--- the program: it wants one of its two subcommands, and its own name is not among the words
+-- the program: it wants one of its subcommands, and its own name is not among the words
 abbrev pub program : App
 program = record {
   top = record (new_shape (codes "memcg")) {
@@ -58,14 +60,14 @@ program = record {
     subcommand_required = true;
     is_leaf = false;
   };
-  subs = replay_shape ∷ task_shape (codes "run") ∷ [];
+  subs = replay_shape ∷ command_shape (codes "run") ∷ [];
 }
 
--- the number that a text writes, in decimal digits, perhaps behind a plus, where it is from 1 to `most`
+-- the number that a text writes, in decimal digits, perhaps after a plus, if it is from 1 to `most`
 abbrev pub number_in : ℕ → List ℕ → Option ℕ
 number_in most text = if is_unsigned_in 1 most text then Some (digits_value 10 (without_leading_plus text)) else None
 
--- a number, where it is one from 1 to `most`
+-- a number, if it is one from 1 to `most`
 abbrev pub number_kept : ℕ → ℕ → Option ℕ
 number_kept most n = if nat_lt n 1 || nat_lt most n then None else Some n
 
@@ -77,7 +79,7 @@ size_in name most found = option_and_then (number_in most) (one_of name found)
 abbrev pub is_given : List ℕ → List Row → Bool
 is_given name found = option_map_or (λ text. bytes_eq text (codes "true")) (one_of name found) false
 
--- what f makes of the value, where there is one: by this the lines of a `do` follow each other
+-- what f makes of the value, if there is one: by this the lines of a `do` follow each other
 infixl 10 ◌>>=◌
 abbrev ◌>>=◌ : {A B : Type 0} → Option A → (A → Option B) → Option B
 o >>= f = option_and_then f o
@@ -92,40 +94,31 @@ sizes_in found = do
   stock ← size_in (codes "stock") 64 found
   Some (record { frames = frames; cpus = cpus; batch = batch; high = high; stock = stock })
 
--- the sizes, and whether `--explain` and `--audit` are given
-abbrev pub settings_in : List Row → Option Settings
-settings_in found = do
+-- the task of this name, with the options that it alone has
+abbrev pub task_in : List ℕ → List Row → Option Task
+task_in name found =
+    if bytes_eq name (codes "replay") then Some (Replay (is_given (codes "explain") found))
+    else if bytes_eq name (codes "run") then Some Run else None
+
+-- the options that are found under the name of a subcommand
+abbrev pub options_under : List ℕ → List Row → Option Options
+options_under name found = do
+  task ← task_in name found
   sizes ← sizes_in found
-  Some (record {
-    sizes = sizes;
-    is_explained = is_given (codes "explain") found;
-    is_audited = is_given (codes "audit") found;
-  })
+  Some (record { task = task; sizes = sizes; is_audited = is_given (codes "audit") found })
 
--- what stands in the words of the subcommand that is asked, where it is this one
-abbrev pub settings_under : List ℕ → List ℕ → List Row → Option Settings
-settings_under task name found = if bytes_eq name task then settings_in found else None
-
--- what was found, where there is no fault
-abbrev pub if_none : Kinds → Option Settings → Option Settings
+-- what was found, if there is no fault
+abbrev pub if_none : Kinds → Option Options → Option Options
 if_none [] asked = asked
 if_none (fault ∷ faults) asked = None
 
--- the settings that the words ask of this subcommand: clap finds no fault in them, and finds these values behind its name
-unfoldable pub settings_for : List ℕ → List (List ℕ) → Option Settings
-settings_for task words =
-    if_none (fault_of program words) (option_and_then (λ p. settings_under task p.0 p.1) (subcommand_of program words))
+-- what the words ask for: clap finds no fault in them, and these options under the name of a subcommand
+unfoldable pub options_of : List (List ℕ) → Option Options
+options_of words =
+    if_none (fault_of program words) (option_and_then (λ p. options_under p.0 p.1) (subcommand_of program words))
 
--- the settings that the words ask of `replay`
-abbrev pub settings_of : List (List ℕ) → Option Settings
-settings_of words = settings_for (codes "replay") words
-
--- the settings that the words ask of `run`
-abbrev pub run_settings_of : List (List ℕ) → Option Settings
-run_settings_of words = settings_for (codes "run") words
-
--- what the words are answered: the settings that they ask for; a fault where they ask for none; or that memory ran out
-abbrev pub TellsSettings : Option Settings → Result Settings WordsFault → Type 0
-TellsSettings asked (Ok settings) = asked ≡ Some settings
-TellsSettings asked (Err (BadWords text)) = asked ≡ None
-TellsSettings asked (Err (NoMemory e)) = ⊤
+-- what the words are answered: the options that they ask for; a fault, if they ask for none; or that memory ran out
+abbrev pub TellsOptions : Option Options → Result Options LineFault → Type 0
+TellsOptions asked (Ok options) = asked ≡ Some options
+TellsOptions asked (Err (BadWords text)) = asked ≡ None
+TellsOptions asked (Err (NoMemory e)) = ⊤

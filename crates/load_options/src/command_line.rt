@@ -5,13 +5,13 @@ ghost use Rattle.clap.specs.Words.{app_of, kind_of, rule_of};
 ghost use Rattle.clap.specs.declared.builder.command.Command.TheViews.{out-Command as fields_of};
 ghost use Rattle.clap.specs.declared.builder.value_parser.ValueParser.TheVariants.{Signed};
 ghost use Rattle.load_options.specs.Fault.{IsNoMemory};
-ghost use Rattle.load_options.specs.Settings.{HasSizesInRange};
-ghost use Rattle.load_options.specs.Words.{TellsSettings, flag_rule, program, replay_shape, run_settings_of, settings_for};
-ghost use Rattle.load_options.specs.Words.{settings_of, size_rule, task_shape};
+ghost use Rattle.load_options.specs.Sizes.{HasSizesInRange};
+ghost use Rattle.load_options.specs.Words.{TellsOptions, command_shape, flag_rule, options_of, program, replay_shape};
+ghost use Rattle.load_options.specs.Words.{size_rule};
 
-use crate::fault::WordsFault;
-use crate::settings::{
-    MOST_BATCH, MOST_CPUS, MOST_FRAMES, MOST_HIGH, MOST_STOCK, Settings, read_settings,
+use crate::fault::LineFault;
+use crate::task::{
+    MOST_BATCH, MOST_CPUS, MOST_FRAMES, MOST_HIGH, MOST_STOCK, Options, read_options,
 };
 use clap::builder::ValueParser;
 use clap::error::ErrorKind;
@@ -27,92 +27,74 @@ const MEMCG_HELP: &str = "Charges page frames to the groups of a tree";
 const REPLAY_HELP: &str = "Runs the lines of a script, one after the other";
 
 const RUN_HELP: &str =
-    "Runs the lines before `go` so, and those behind it by a thread for each processor";
+    "Runs the lines before `go` in the same way, and the later ones in one thread for each CPU";
 
 const FRAMES_HELP: &str = "Frames of the zone, 1 to 1048576";
 
-const CPUS_HELP: &str = "Processors, 1 to 64";
+const CPUS_HELP: &str = "CPUs, 1 to 64";
 
-const BATCH_HELP: &str = "Frames by which a processor's list is refilled, 1 to 64";
+const BATCH_HELP: &str = "Frames by which a CPU's list is refilled, 1 to 64";
 
-const HIGH_HELP: &str = "Frames at which a processor's list gives back, batch to 256";
+const HIGH_HELP: &str = "Frames at which a CPU's list returns some to the zone, batch to 256";
 
-const STOCK_HELP: &str = "Pages that a processor prepays, 1 to 64";
+const STOCK_HELP: &str = "Pages that a CPU charges ahead, 1 to 64";
 
-const AUDIT_HELP: &str = "Tells at the end which pins were held, and what was counted";
+const AUDIT_HELP: &str = "Reports at the end which pins were held, and the counts";
 
-const EXPLAIN_HELP: &str = "Tells behind an answer why groups were killed for it";
+const EXPLAIN_HELP: &str = "Explains after an answer why groups were killed for it";
 
 /// The words of the command line that follow the program's name. A word that isn't UTF-8 is a fault of the
 /// words. It has no contract: no clause has a name for the words that a process was started with.
-pub fn words<R: Env + AllocGlobal>(rt: &R) -> Result<Vec<String>, WordsFault> {
+pub fn words<R: Env + AllocGlobal>(rt: &R) -> Result<Vec<String>, LineFault> {
     match env::args(rt) {
         Ok(words) => Ok(words.skip(1).collect(rt.alloc())?),
         Err(error) if error.kind() == io::ErrorKind::OutOfMemory => {
-            Err(WordsFault::NoMemory(AllocError))
+            Err(LineFault::NoMemory(AllocError))
         }
         Err(_) => {
             let text = "error: a word of the command line is not valid UTF-8\n";
-            Err(WordsFault::BadWords(String::from_str(rt.alloc(), text)?))
+            Err(LineFault::BadWords(String::from_str(rt.alloc(), text)?))
         }
     }
 }
 
-/// Reads the words that follow the program's name: `replay`, and then any of `--frames`, `--cpus`, `--batch`,
-/// `--high` and `--stock`, each at most once, with a whole number in its own range: frames 1 to 1,048,576,
-/// processors 1 to 64, batch 1 to 64, high 1 to 256, stock 1 to 64; and `--audit` and `--explain`, at most once.
+/// Reads the words that follow the program's name: `replay` or `run`, and then any of `--frames`, `--cpus`,
+/// `--batch`, `--high`, `--stock` and `--audit`, and after `replay` `--explain`, each at most once. A size is a
+/// whole number in its own range: 1 to 1,048,576 frames, 1 to 64 CPUs, batch 1 to 64, high 1 to 256, stock 1 to 64.
 /// `Config::is_valid` asks more: high is at least batch. A size that is left out is 16, 2, 4, 8, 4 in turn.
 /// Anything else is a fault of the words, a request for help too.
-pub fn parse_words<S: AsStr>(alloc: Global, words: &[S]) -> Result<Settings, WordsFault>
-    ensures asked { TellsSettings (settings_of (map S.text words.now)) result }
+pub fn options<S: AsStr>(alloc: Global, words: &[S]) -> Result<Options, LineFault>
+    ensures asked { TellsOptions (options_of (map S.text words.now)) result }
     ensures in_range { IfOk result (λ o. HasSizesInRange o.sizes) }
 {
-    parse_task(alloc, "replay", words)
-}
-
-/// Reads the words that follow the program's name as `parse_words` does, where `run` stands in place of `replay`. It has
-/// no `--explain`: that is a fault of the words here.
-pub fn parse_run_words<S: AsStr>(alloc: Global, words: &[S]) -> Result<Settings, WordsFault>
-    ensures asked { TellsSettings (run_settings_of (map S.text words.now)) result }
-    ensures in_range { IfOk result (λ o. HasSizesInRange o.sizes) }
-{
-    parse_task(alloc, "run", words)
-}
-
-// Reads the words that follow the program's name, where this subcommand is to be the first.
-fn parse_task<S: AsStr>(alloc: Global, task: &str, words: &[S]) -> Result<Settings, WordsFault>
-    ensures asked { TellsSettings (settings_for task.now (map S.text words.now)) result }
-    ensures in_range { IfOk result (λ o. HasSizesInRange o.sizes) }
-{
-    let mut command = memcg(alloc).map_err(WordsFault::NoMemory)?;
+    let mut command = memcg(alloc).map_err(LineFault::NoMemory)?;
     let found = match command.try_get_matches_from_mut(words) {
         Ok(found) => found,
         Err(error) => return Err(fault_of(alloc, &error)),
     };
-    match read_settings(&found, task) {
-        Some(settings) => Ok(settings),
-        // The words are those of the other subcommand. Clap refuses each word that has no value in its range before,
-        // and every size has a default; but of a value that it found it promises no range, so what can't come is
-        // answered as it would be if it came.
+    match read_options(&found) {
+        Some(options) => Ok(options),
+        // Clap refuses words without a subcommand of the program and each value out of its range, and every size has a
+        // default; but of what it found it promises neither, so what can't happen is answered as if it did.
         None => {
-            let text = "the subcommand is another, or an option has no value in its range";
+            let text = "there is no subcommand, or an option has no value in its range";
             let error = command
                 .error(ErrorKind::InvalidValue, text)
-                .map_err(WordsFault::NoMemory)?;
+                .map_err(LineFault::NoMemory)?;
             Err(fault_of(alloc, &error))
         }
     }
 }
 
 // The fault that clap's error is to whoever gave the words: its text, or that memory ran out.
-fn fault_of(alloc: Global, error: &Error) -> WordsFault
+fn fault_of(alloc: Global, error: &Error) -> LineFault
     ensures { kind_of error.now ≡ ErrorKind.OutOfMemory → IsNoMemory result }
 {
     match error.kind() {
-        ErrorKind::OutOfMemory => WordsFault::NoMemory(AllocError),
+        ErrorKind::OutOfMemory => LineFault::NoMemory(AllocError),
         _ => match format!(in alloc; "{error}") {
-            Ok(text) => WordsFault::BadWords(text),
-            Err(error) => WordsFault::NoMemory(error),
+            Ok(text) => LineFault::BadWords(text),
+            Err(error) => LineFault::NoMemory(error),
         },
     }
 }
@@ -126,21 +108,21 @@ fn memcg<'a>(alloc: Global) -> Result<Command<'a>, AllocError>
         .no_binary_name(true)
         .about(MEMCG_HELP)
         .subcommand_required(true)
-        .subcommand(replay_task(alloc)?)?
-        .subcommand(task(alloc, "run", RUN_HELP)?)
+        .subcommand(replay_command(alloc)?)?
+        .subcommand(subcommand(alloc, "run", RUN_HELP)?)
 }
 
-// `replay`, which has an option more.
-fn replay_task<'a>(alloc: Global) -> Result<Command<'a>, AllocError>
+// `replay`, which has one option more.
+fn replay_command<'a>(alloc: Global) -> Result<Command<'a>, AllocError>
     ensures shape { IfOk result (λ command. (app_of command).top ≡ replay_shape) }
     ensures local { IfOk result (λ command. (fields_of command).has_globals ≡ false) }
 {
-    task(alloc, "replay", REPLAY_HELP)?.arg(explain_option(alloc))
+    subcommand(alloc, "replay", REPLAY_HELP)?.arg(explain_option(alloc))
 }
 
 // A subcommand, with its options.
-fn task<'a>(alloc: Global, name: &'a str, about: &'a str) -> Result<Command<'a>, AllocError>
-    ensures shape { IfOk result (λ command. (app_of command).top ≡ task_shape name.entry.now) }
+fn subcommand<'a>(alloc: Global, name: &'a str, about: &'a str) -> Result<Command<'a>, AllocError>
+    ensures shape { IfOk result (λ command. (app_of command).top ≡ command_shape name.entry.now) }
     ensures local { IfOk result (λ command. (fields_of command).has_globals ≡ false) }
 {
     Command::new(alloc, name)
@@ -153,7 +135,7 @@ fn task<'a>(alloc: Global, name: &'a str, about: &'a str) -> Result<Command<'a>,
         .arg(audit_option(alloc))
 }
 
-// Whether the end is told.
+// Whether the end is reported.
 fn audit_option<'a>(alloc: Global) -> Arg<'a>
     ensures rule { rule_of result ≡ flag_rule (codes "audit") }
     ensures local { result.global ≡ false }
@@ -164,7 +146,7 @@ fn audit_option<'a>(alloc: Global) -> Arg<'a>
         .action(ArgAction::SetTrue)
 }
 
-// Whether it is told why groups were killed.
+// Whether kills are explained.
 fn explain_option<'a>(alloc: Global) -> Arg<'a>
     ensures rule { rule_of result ≡ flag_rule (codes "explain") }
     ensures local { result.global ≡ false }

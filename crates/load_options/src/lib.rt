@@ -1,6 +1,6 @@
-//! From the words of the command line to settings.
+//! From the words of the command line to the task and its options.
 #![tactic(auto)]
 
 pub mod command_line;
 pub mod fault;
-pub mod settings;
+pub mod task;

@@ -13,29 +13,29 @@ use Rattle.zone_sizes.specs.declared.config.Config.{Config}
 use Rattle.zone_sizes.specs.Config.{IsValidConfig}
 use Rattle.script_lines.specs.declared.line.Line.{Line}
 use Rattle.script_lines.specs.Script.{IsScript}
-use Rattle.load_options.specs.declared.settings.Settings.{Settings}
-use Rattle.load_run.specs.Answers.{AreAnswers, IsAnswered, IsReplayed}
+use Rattle.load_options.specs.declared.task.Options.{Options}
+use Rattle.load_run.specs.Answers.{AreAnswers, IsAnswered, IsWritten}
 use Rattle.script_replay.specs.Ranges.{LineIsThere}
 use Rattle.script_replay.proofs.InRange.{script_there}
 
 -- the answers were written behind what the writer held, where the script is known
-pub replayed : (asked : Option Settings) (input before after : Option (List ℕ)) (text : List ℕ) → IfSome input (IsAnswered asked text)
-    → Appends before after text → IfSome input (IsReplayed asked before after)
-replayed asked None before after text is written = tt
-replayed asked (Some bytes) before after text is written = record { text = text; answered = is; written = written }
+pub answers_written : (asked : Option Options) (input before after : Option (List ℕ)) (text : List ℕ) → IfSome input (IsAnswered asked text)
+    → Appends before after text → IfSome input (IsWritten asked before after)
+answers_written asked None before after text is written = tt
+answers_written asked (Some bytes) before after text is written = record { text = text; answered = is; written = written }
 
 -- what was read of an input is all of it, where it is a script, and is answered by what its lines are
-pub answered : (asked : Option Settings) (input : Option (List ℕ)) (script : List ℕ) (settings : Settings) (lines : List Line) (text : List ℕ)
-    → asked ≡ Some settings → IfSome input (λ bytes. script ≡ take 1048577 bytes) → IsScript settings.sizes script lines → IsValidConfig settings.sizes
-    → AreAnswers settings.sizes settings.is_explained settings.is_audited lines text → IfSome input (IsAnswered asked text)
-answered asked None script settings lines text is_asked read is valid answers = tt
-answered asked (Some bytes) script settings lines text is_asked read is valid answers =
+pub answered : (asked : Option Options) (input : Option (List ℕ)) (script : List ℕ) (options : Options) (lines : List Line) (text : List ℕ)
+    → asked ≡ Some options → IfSome input (λ bytes. script ≡ take 1048577 bytes) → IsScript options.sizes script lines → IsValidConfig options.sizes
+    → AreAnswers options.task options.sizes options.is_audited lines text → IfSome input (IsAnswered asked text)
+answered asked None script options lines text is_asked read is valid answers = tt
+answered asked (Some bytes) script options lines text is_asked read is valid answers =
     let fits = is.fits in
     let len : length script ≡ length (take 1048577 bytes) = ap length read in
     let taken = length-take 1048577 bytes in
     let whole : take 1048577 bytes ≡ bytes = take_all 1048577 bytes (omega arith) in
-    let is_script : IsScript settings.sizes bytes lines = subst (λ (all : List ℕ). IsScript settings.sizes all lines) (read ∙ whole) is in
-    record { settings = settings; is_asked = is_asked; valid = valid; lines = lines; script = is_script; answers = answers }
+    let is_script : IsScript options.sizes bytes lines = subst (λ (all : List ℕ). IsScript options.sizes all lines) (read ∙ whole) is in
+    record { options = options; is_asked = is_asked; valid = valid; lines = lines; script = is_script; answers = answers }
 
 -- so does what follows from it
 pub weakened : {T E : Type 0} (r : Result T E) (P Q : T → Type 0) → ((x : T) → P x → Q x) → IfOk r P → IfOk r Q

@@ -5,13 +5,13 @@ use Rattle.std.proofs.KnownBytes.{Appends-nil, Keeps-refl}
 use Rattle.script_lines.specs.declared.line.Line.{Line}
 use Rattle.script_lines.specs.declared.fault.ScriptFault.TheVariants as script
 use Rattle.script_lines.specs.Script.{IsScript}
-use Rattle.load_options.specs.declared.settings.Settings.{Settings}
+use Rattle.load_options.specs.declared.task.Options.{Options}
 use Rattle.load_run.specs.declared.fault.ProgramFault.{ProgramFault}
 use Rattle.load_run.specs.declared.fault.ProgramFault.TheVariants.{Words, Script, BadConfig, Input, Output, NoMemory}
 use Rattle.load_run.specs.Answers.{IsAnswered, bytes_read}
 use Rattle.load_run.specs.Causes.{FailsAtWork, HasCause, IsMisused, LeavesAnswers, written}
 use Rattle.load_run.specs.Fault.{IsBootFault, IsReadFault, IsScriptFault, IsWordsFault, fault_text, status_of}
-use Rattle.load_options.specs.Settings.{HasSizesInRange}
+use Rattle.load_options.specs.Sizes.{HasSizesInRange}
 use Rattle.load_run.specs.Writing.{AppendsBeginning}
 
 -- what a fault is, where there is one
@@ -19,8 +19,8 @@ pub on_error : {T E : Type 0} (r : Result T E) (P Q : E → Type 0) → ((e : E)
 on_error (Ok x) P Q follows is = tt
 on_error (Err e) P Q follows is = follows e is
 
--- the words gave no settings
-pub words_cause : (asked : Option Settings) (input : Option (List ℕ)) (fault : ProgramFault) → IsWordsFault asked fault
+-- the words gave no options
+pub words_cause : (asked : Option Options) (input : Option (List ℕ)) (fault : ProgramFault) → IsWordsFault asked fault
     → IfSome input (HasCause asked fault)
 words_cause asked None fault is = tt
 words_cause asked (Some bytes) (Words fault) is = is
@@ -31,46 +31,46 @@ words_cause asked (Some bytes) Output is = absurd is
 words_cause asked (Some bytes) (NoMemory e) is = absurd is
 
 -- the input wasn't read
-pub read_cause : (asked : Option Settings) (settings : Settings) (input : Option (List ℕ)) (fault : ProgramFault)
-    → asked ≡ Some settings → IsReadFault fault → IfSome input (HasCause asked fault)
-read_cause asked settings None fault is_asked is = tt
-read_cause asked settings (Some bytes) (Words fault) is_asked is = absurd is
-read_cause asked settings (Some bytes) (Script fault) is_asked is = absurd is
-read_cause asked settings (Some bytes) BadConfig is_asked is = absurd is
-read_cause asked settings (Some bytes) Input is_asked is = subst IsSome (sym is_asked) refl
-read_cause asked settings (Some bytes) Output is_asked is = absurd is
-read_cause asked settings (Some bytes) (NoMemory e) is_asked is = subst IsSome (sym is_asked) refl
+pub read_cause : (asked : Option Options) (options : Options) (input : Option (List ℕ)) (fault : ProgramFault)
+    → asked ≡ Some options → IsReadFault fault → IfSome input (HasCause asked fault)
+read_cause asked options None fault is_asked is = tt
+read_cause asked options (Some bytes) (Words fault) is_asked is = absurd is
+read_cause asked options (Some bytes) (Script fault) is_asked is = absurd is
+read_cause asked options (Some bytes) BadConfig is_asked is = absurd is
+read_cause asked options (Some bytes) Input is_asked is = subst IsSome (sym is_asked) refl
+read_cause asked options (Some bytes) Output is_asked is = absurd is
+read_cause asked options (Some bytes) (NoMemory e) is_asked is = subst IsSome (sym is_asked) refl
 
 -- what was read is no script
-pub script_cause : (asked : Option Settings) (settings : Settings) (input : Option (List ℕ)) (text : List ℕ) (fault : ProgramFault)
-    → asked ≡ Some settings → HasSizesInRange settings.sizes → IfSome input (λ bytes. text ≡ bytes_read bytes)
-    → IsScriptFault settings.sizes text fault → IfSome input (HasCause asked fault)
-script_cause asked settings None text fault is_asked in_range read is = tt
-script_cause asked settings (Some bytes) text (Words fault) is_asked in_range read is = absurd is
-script_cause asked settings (Some bytes) text (Script (script.BadLine n)) is_asked in_range read is = record {
-  settings = settings;
+pub script_cause : (asked : Option Options) (options : Options) (input : Option (List ℕ)) (text : List ℕ) (fault : ProgramFault)
+    → asked ≡ Some options → HasSizesInRange options.sizes → IfSome input (λ bytes. text ≡ bytes_read bytes)
+    → IsScriptFault options.sizes text fault → IfSome input (HasCause asked fault)
+script_cause asked options None text fault is_asked in_range read is = tt
+script_cause asked options (Some bytes) text (Words fault) is_asked in_range read is = absurd is
+script_cause asked options (Some bytes) text (Script (script.BadLine n)) is_asked in_range read is = record {
+  options = options;
   is_asked = is_asked;
   in_range = in_range;
-  first = subst (λ (l : List ℕ). IsScriptFault settings.sizes l (Script (script.BadLine n))) read is;
+  first = subst (λ (l : List ℕ). IsScriptFault options.sizes l (Script (script.BadLine n))) read is;
 }
-script_cause asked settings (Some bytes) text (Script script.NoMemory) is_asked in_range read is = subst IsSome (sym is_asked) refl
-script_cause asked settings (Some bytes) text BadConfig is_asked in_range read is = absurd is
-script_cause asked settings (Some bytes) text Input is_asked in_range read is = absurd is
-script_cause asked settings (Some bytes) text Output is_asked in_range read is = absurd is
-script_cause asked settings (Some bytes) text (NoMemory e) is_asked in_range read is = absurd is
+script_cause asked options (Some bytes) text (Script script.NoMemory) is_asked in_range read is = subst IsSome (sym is_asked) refl
+script_cause asked options (Some bytes) text BadConfig is_asked in_range read is = absurd is
+script_cause asked options (Some bytes) text Input is_asked in_range read is = absurd is
+script_cause asked options (Some bytes) text Output is_asked in_range read is = absurd is
+script_cause asked options (Some bytes) text (NoMemory e) is_asked in_range read is = absurd is
 
 -- no boot answered the script
-pub boot_cause : (asked : Option Settings) (settings : Settings) (input : Option (List ℕ)) (text : List ℕ) (lines : List Line)
-    (fault : ProgramFault) → asked ≡ Some settings → IfSome input (λ bytes. text ≡ bytes_read bytes)
-    → IsScript settings.sizes text lines → IsBootFault settings.sizes fault → IfSome input (HasCause asked fault)
-boot_cause asked settings None text lines fault is_asked read script is = tt
-boot_cause asked settings (Some bytes) text lines (Words fault) is_asked read script is = absurd is
-boot_cause asked settings (Some bytes) text lines (Script fault) is_asked read script is = absurd is
-boot_cause asked settings (Some bytes) text lines BadConfig is_asked read script is = record {
-  settings = settings;
+pub boot_cause : (asked : Option Options) (options : Options) (input : Option (List ℕ)) (text : List ℕ) (lines : List Line)
+    (fault : ProgramFault) → asked ≡ Some options → IfSome input (λ bytes. text ≡ bytes_read bytes)
+    → IsScript options.sizes text lines → IsBootFault options.sizes fault → IfSome input (HasCause asked fault)
+boot_cause asked options None text lines fault is_asked read script is = tt
+boot_cause asked options (Some bytes) text lines (Words fault) is_asked read script is = absurd is
+boot_cause asked options (Some bytes) text lines (Script fault) is_asked read script is = absurd is
+boot_cause asked options (Some bytes) text lines BadConfig is_asked read script is = record {
+  options = options;
   is_asked = is_asked;
   lines = lines;
-  script = subst (λ (l : List ℕ). IsScript settings.sizes l lines) (read ∙ whole) script;
+  script = subst (λ (l : List ℕ). IsScript options.sizes l lines) (read ∙ whole) script;
   refused = is;
 }
   where
@@ -80,19 +80,19 @@ boot_cause asked settings (Some bytes) text lines BadConfig is_asked read script
         let len : length text ≡ length (take 1048577 bytes) = ap length read in
         let taken = length-take 1048577 bytes in
         take_all 1048577 bytes (omega arith)
-boot_cause asked settings (Some bytes) text lines Input is_asked read script is = absurd is
-boot_cause asked settings (Some bytes) text lines Output is_asked read script is = absurd is
-boot_cause asked settings (Some bytes) text lines (NoMemory e) is_asked read script is = subst IsSome (sym is_asked) refl
+boot_cause asked options (Some bytes) text lines Input is_asked read script is = absurd is
+boot_cause asked options (Some bytes) text lines Output is_asked read script is = absurd is
+boot_cause asked options (Some bytes) text lines (NoMemory e) is_asked read script is = subst IsSome (sym is_asked) refl
 
 -- misuse that has a cause, and was told
-pub misused : (asked : Option Settings) (input before after : Option (List ℕ)) (fault : ProgramFault) → status_of fault ≡ 2
+pub misused : (asked : Option Options) (input before after : Option (List ℕ)) (fault : ProgramFault) → status_of fault ≡ 2
     → IfSome input (HasCause asked fault) → AppendsBeginning before after (fault_text fault)
     → IfSome input (IsMisused asked before after)
 misused asked None before after fault is cause told = tt
 misused asked (Some bytes) before after fault is cause told = record { fault = fault; is_misuse = is; cause = cause; told = told }
 
 -- nothing was written, so that is a beginning of the answers too
-nothing_left : (asked : Option Settings) (input : List ℕ) (fault : ProgramFault) (output : Option (List ℕ)) → HasCause asked fault input
+nothing_left : (asked : Option Options) (input : List ℕ) (fault : ProgramFault) (output : Option (List ℕ)) → HasCause asked fault input
     → LeavesAnswers asked fault output output input
 nothing_left asked input (Words fault) output cause = Keeps-refl output
 nothing_left asked input (Script fault) output cause = Keeps-refl output
@@ -102,7 +102,7 @@ nothing_left asked input Output output cause = record { text = cause.text; answe
 nothing_left asked input (NoMemory e) output cause = Keeps-refl output
 
 -- failure that has a cause, before an answer was written
-pub failed : (asked : Option Settings) (input output before after : Option (List ℕ)) (fault : ProgramFault) → status_of fault ≡ 1
+pub failed : (asked : Option Options) (input output before after : Option (List ℕ)) (fault : ProgramFault) → status_of fault ≡ 1
     → IfSome input (HasCause asked fault) → AppendsBeginning before after (fault_text fault)
     → IfSome input (FailsAtWork asked (written output before) (written output after))
 failed asked None output before after fault is cause told = tt
@@ -115,7 +115,7 @@ failed asked (Some bytes) output before after fault is cause told = record {
 }
 
 -- and that of the output, which took a beginning of the answers
-pub cut_short : (asked : Option Settings) (input output_before output_after before after : Option (List ℕ)) (text given : List ℕ)
+pub cut_short : (asked : Option Options) (input output_before output_after before after : Option (List ℕ)) (text given : List ℕ)
     (fault : ProgramFault) → IfSome input (IsAnswered asked text) → given ≡ text
     → AppendsBeginning output_before output_after given → fault ≡ Output → AppendsBeginning before after (fault_text fault)
     → IfSome input (FailsAtWork asked (written output_before before) (written output_after after))

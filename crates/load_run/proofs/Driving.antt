@@ -2,8 +2,8 @@
 use Rattle.std.proofs.Common.{◌≡◌, ◌∙◌, ℕ, ◌≤◌, List, Option, IfSome, IsSome, ap, arith, refl, subst, sym}
 use Rattle.std.specs.Io.KnownBytes.{Appends}
 use Rattle.script_lines.specs.declared.fault.ScriptFault.TheVariants as script
-use Rattle.load_options.specs.declared.fault.WordsFault.TheVariants as words
-use Rattle.load_options.specs.declared.settings.Settings.{Settings}
+use Rattle.load_options.specs.declared.fault.LineFault.TheVariants as words
+use Rattle.load_options.specs.declared.task.Options.{Options}
 use Rattle.load_run.specs.declared.fault.ProgramFault.{ProgramFault}
 use Rattle.load_run.specs.declared.fault.ProgramFault.TheVariants.{Words, Script, BadConfig, Input, Output, NoMemory}
 use Rattle.load_run.specs.Answers.{IsAnswered}
@@ -11,7 +11,7 @@ use Rattle.load_run.specs.Causes.{HasCause, written}
 use Rattle.load_run.specs.Driving.{Drives}
 use Rattle.load_run.specs.Fault.{fault_text, status_of}
 use Rattle.load_run.specs.Writing.{AppendsBeginning}
-use Rattle.load_run.proofs.Answering.{replayed}
+use Rattle.load_run.proofs.Answering.{answers_written}
 use Rattle.load_run.proofs.Causing.{cut_short, failed, misused}
 
 -- a fault's status is 1 or 2
@@ -36,21 +36,21 @@ status_high Output = omega arith
 status_high (NoMemory error) = omega arith
 
 -- the answers were written, all of them
-pub drives_well : (asked : Option Settings) (input output output_after faults : Option (List ℕ)) (text given : List ℕ) → IsSome asked
+pub drives_well : (asked : Option Options) (input output output_after faults : Option (List ℕ)) (text given : List ℕ) → IsSome asked
     → IfSome input (IsAnswered asked text) → given ≡ text → Appends output output_after given
     → Drives asked input (written output faults) (written output_after faults) 0
 drives_well asked input output output_after faults text given is_asked answered same whole = record {
   status_at_most = omega arith;
   is_asked = λ zero. is_asked;
   silent = λ zero. refl;
-  replayed = λ zero. replayed asked input output output_after text answered (subst (Appends output output_after) same whole);
+  answered = λ zero. answers_written asked input output output_after text answered (subst (Appends output output_after) same whole);
   fails = λ one. absurd (omega (arith, one));
   quiet = λ two. absurd (omega (arith, two));
   misused = λ two. absurd (omega (arith, two));
 }
 
 -- the output failed, and took a beginning of them
-pub drives_short : (asked : Option Settings) (input output output_after faults faults_after : Option (List ℕ)) (text given : List ℕ)
+pub drives_short : (asked : Option Options) (input output output_after faults faults_after : Option (List ℕ)) (text given : List ℕ)
     (fault : ProgramFault) (status : ℕ) → IfSome input (IsAnswered asked text) → given ≡ text → AppendsBeginning output output_after given
     → fault ≡ Output → status ≡ status_of fault → AppendsBeginning faults faults_after (fault_text fault)
     → Drives asked input (written output faults) (written output_after faults_after) status
@@ -60,14 +60,14 @@ drives_short asked input output output_after faults faults_after text given faul
       status_at_most = omega (arith, ended);
       is_asked = λ zero. absurd (omega (arith, ended, zero));
       silent = λ zero. absurd (omega (arith, ended, zero));
-      replayed = λ zero. absurd (omega (arith, ended, zero));
+      answered = λ zero. absurd (omega (arith, ended, zero));
       fails = λ one. cut_short asked input output output_after faults faults_after text given fault answered same begun is told;
       quiet = λ two. absurd (omega (arith, ended, two));
       misused = λ two. absurd (omega (arith, ended, two));
     }
 
 -- a fault came before there were answers
-pub drives_badly : (asked : Option Settings) (input output faults faults_after : Option (List ℕ)) (fault : ProgramFault) (status : ℕ)
+pub drives_badly : (asked : Option Options) (input output faults faults_after : Option (List ℕ)) (fault : ProgramFault) (status : ℕ)
     → IfSome input (HasCause asked fault) → status ≡ status_of fault → AppendsBeginning faults faults_after (fault_text fault)
     → Drives asked input (written output faults) (written output faults_after) status
 drives_badly asked input output faults faults_after fault status cause status_is told =
@@ -77,7 +77,7 @@ drives_badly asked input output faults faults_after fault status cause status_is
       status_at_most = omega (arith, status_is, high);
       is_asked = λ zero. absurd (omega (arith, status_is, low, zero));
       silent = λ zero. absurd (omega (arith, status_is, low, zero));
-      replayed = λ zero. absurd (omega (arith, status_is, low, zero));
+      answered = λ zero. absurd (omega (arith, status_is, low, zero));
       fails = λ one. failed asked input output faults faults_after fault (sym status_is ∙ one) cause told;
       quiet = λ two. refl;
       misused = λ two. misused asked input faults faults_after fault (sym status_is ∙ two) cause told;

@@ -1,5 +1,5 @@
 -- What a script is answered.
-use Rattle.std.specs.Prelude.{◌≡◌, ℕ, ◌+◌, Bool, Option, Some, List, [], ◌++◌, take}
+use Rattle.std.specs.Prelude.{◌≡◌, ℕ, ◌+◌, Bool, false, Option, Some, List, [], ◌++◌, drop, length, take}
 use Rattle.std.specs.Io.KnownBytes.{Appends}
 use Rattle.frame_word.specs.Seats.{KnownTable}
 use Rattle.stock_word.specs.Stock.{Words}
@@ -8,12 +8,17 @@ use Rattle.zone_sizes.specs.Config.{IsValidConfig}
 use Rattle.mem_machine.specs.Machines.{IsFirst}
 use Rattle.mem_machine.specs.Telling.{TellsRun}
 use Rattle.mem_system.specs.Boots.{IsSizedAs, first_cpus}
+use Rattle.mem_system.specs.Locked.{IsQuiet}
 use Rattle.script_lines.specs.declared.line.Line.{Line}
 use Rattle.script_lines.specs.Script.{IsScript, longest_script}
 use Rattle.script_replay.specs.Lines.{ServesAll, Standing}
 use Rattle.script_replay.specs.History.{TellsHistory, past}
-use Rattle.script_replay.specs.Terms.{terms}
-use Rattle.load_options.specs.declared.settings.Settings.{Settings}
+use Rattle.script_replay.specs.Terms.{boot_tables, terms}
+use Rattle.script_threads.specs.Each.{TellsEach, workers_from}
+use Rattle.script_threads.specs.Runs.{lines_before_go}
+use Rattle.load_options.specs.declared.task.Options.{Options}
+use Rattle.load_options.specs.declared.task.Task.{Task}
+use Rattle.load_options.specs.declared.task.Task.TheVariants.{Replay, Run}
 use Rattle.load_run.specs.Ending.{TellsEnd}
 
 -- what is read of an input: a byte more than a script may have, as far as there are so many
@@ -29,10 +34,10 @@ pub record StandsAtFirst (sizes : Config) (table : KnownTable) (stock_table : Wo
   pub cpus : first.cpus ≡ first_cpus table stock_table 1 sizes.cpus
 
 -- What a boot with these sizes answers to the lines, one after the other, with why groups were killed or without, and
--- then tells of its end. All steps of the lines together are one run from the boot on, which tells of each line that
+-- then reports of its end. All steps of the lines together are one run from the boot on, which says of each line that
 -- the promise is kept after it. The ledger of the boot tells the run of no step, and so after each line each group's
 -- peak and event counts are those of the run so far
-pub record AreAnswers (sizes : Config) (is_explained is_audited : Bool) (lines : List Line) (text : List ℕ)
+pub record AreReplayAnswers (sizes : Config) (is_explained is_audited : Bool) (lines : List Line) (text : List ℕ)
     : Type 0 where
   pub frames : KnownTable
   pub stocks : Words
@@ -47,19 +52,54 @@ pub record AreAnswers (sizes : Config) (is_explained is_audited : Bool) (lines :
   pub ends : TellsEnd frames stocks is_audited end ending
   pub text_is : text ≡ answers ++ ending
 
--- these settings are asked for, a boot takes their sizes, and the input is a script for them: the text is what a boot
--- of these sizes answers to it, and tells of kills and of its end where they say so
-pub record IsAnswered (asked : Option Settings) (text input : List ℕ) : Type 0 where
-  pub settings : Settings
-  pub is_asked : asked ≡ Some settings
-  pub valid : IsValidConfig settings.sizes
-  pub lines : List Line
-  pub script : IsScript settings.sizes input lines
-  pub answers : AreAnswers settings.sizes settings.is_explained settings.is_audited lines text
+-- no visit is open behind the lock, and there are as many parts as CPUs
+pub record StandsQuiet (frames : KnownTable) (stocks : Words) (now : Standing) : Type 0 where
+  pub quiet : IsQuiet frames stocks now.locked
+  pub count : length now.cpus ≡ frames.cpus
 
--- the settings that are asked for have answers to the input, and a writer that held the bytes `before`, where they are
+-- What a boot with these sizes answers to the lines by threads. Those before `go` are served one after the other from
+-- the boot on, and all their steps together are one run, which says of each line that the promise is kept after it.
+-- Then each CPU is answered its own among the lines from `go` on, from its part as the lines before left it. No clause
+-- says what is behind the lock and at the parts after that, except that no visit is open and that there are as many
+-- parts; from there the boot ends
+pub record AreThreadAnswers (sizes : Config) (is_audited : Bool) (lines : List Line) (text : List ℕ) : Type 0 where
+  pub frames : KnownTable
+  pub stocks : Words
+  pub start : Standing
+  pub at_go : Standing
+  pub end : Standing
+  pub early : List ℕ
+  pub later : List ℕ
+  pub ending : List ℕ
+  pub first : StandsAtFirst sizes frames stocks start
+  pub served : ServesAll (terms frames stocks false) (take (lines_before_go lines) lines) start at_go early
+  pub history : TellsHistory (terms frames stocks false) (take (lines_before_go lines) lines) (past [] start) at_go
+      early
+  pub tells : TellsEach (boot_tables frames stocks)
+      (workers_from 1 at_go.cpus (drop (lines_before_go lines) lines)) later
+  pub quiet : StandsQuiet frames stocks end
+  pub ends : TellsEnd frames stocks is_audited end ending
+  pub text_is : text ≡ (early ++ later) ++ ending
+
+-- what a boot with these sizes answers to the lines for this task, and reports of its end if it is audited
+abbrev pub AreAnswers : Task → (sizes : Config) (is_audited : Bool) (lines : List Line) (text : List ℕ) → Type 0
+AreAnswers (Replay is_explained) sizes is_audited lines text =
+    AreReplayAnswers sizes is_explained is_audited lines text
+AreAnswers Run sizes is_audited lines text = AreThreadAnswers sizes is_audited lines text
+
+-- these options are asked for, a boot takes their sizes, and the input is a script for them: the text is what a boot
+-- of these sizes answers to it for their task, and reports of its end if they ask for that
+pub record IsAnswered (asked : Option Options) (text input : List ℕ) : Type 0 where
+  pub options : Options
+  pub is_asked : asked ≡ Some options
+  pub valid : IsValidConfig options.sizes
+  pub lines : List Line
+  pub script : IsScript options.sizes input lines
+  pub answers : AreAnswers options.task options.sizes options.is_audited lines text
+
+-- the options that are asked for have answers to the input, and a writer that held the bytes `before`, if they are
 -- known, was given all of them
-pub record IsReplayed (asked : Option Settings) (before after : Option (List ℕ)) (input : List ℕ) : Type 0 where
+pub record IsWritten (asked : Option Options) (before after : Option (List ℕ)) (input : List ℕ) : Type 0 where
   pub text : List ℕ
   pub answered : IsAnswered asked text input
   pub written : Appends before after text

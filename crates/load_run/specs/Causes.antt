@@ -5,9 +5,9 @@ use Rattle.zone_sizes.specs.Config.{IsValidConfig}
 use Rattle.script_lines.specs.declared.fault.ScriptFault.TheVariants as script
 use Rattle.script_lines.specs.declared.line.Line.{Line}
 use Rattle.script_lines.specs.Script.{IsFirstBadLine, IsScript}
-use Rattle.load_options.specs.declared.settings.Settings.{Settings}
-use Rattle.load_options.specs.Settings.{HasSizesInRange}
-use Rattle.load_options.specs.Words.{TellsSettings}
+use Rattle.load_options.specs.declared.task.Options.{Options}
+use Rattle.load_options.specs.Sizes.{HasSizesInRange}
+use Rattle.load_options.specs.Words.{TellsOptions}
 use Rattle.load_run.specs.declared.fault.ProgramFault.{ProgramFault}
 use Rattle.load_run.specs.declared.fault.ProgramFault.TheVariants.{Words, Script, BadConfig, Input, Output, NoMemory}
 use Rattle.load_run.specs.Answers.{IsAnswered, bytes_read}
@@ -15,30 +15,30 @@ use Rattle.load_run.specs.Fault.{fault_text, status_of}
 use Rattle.load_run.specs.Writing.{AppendsBeginning}
 
 -- the line of this number of what is read of the input is the first bad one, for the sizes that are asked for
-pub record IsBadAt (asked : Option Settings) (number : ℕ) (input : List ℕ) : Type 0 where
-  pub settings : Settings
-  pub is_asked : asked ≡ Some settings
-  pub in_range : HasSizesInRange settings.sizes
-  pub first : IsFirstBadLine settings.sizes (bytes_read input) number
+pub record IsBadAt (asked : Option Options) (number : ℕ) (input : List ℕ) : Type 0 where
+  pub options : Options
+  pub is_asked : asked ≡ Some options
+  pub in_range : HasSizesInRange options.sizes
+  pub first : IsFirstBadLine options.sizes (bytes_read input) number
 
 -- the input is a script for the sizes that are asked for, and a boot refuses these
-pub record IsRefused (asked : Option Settings) (input : List ℕ) : Type 0 where
-  pub settings : Settings
-  pub is_asked : asked ≡ Some settings
+pub record IsRefused (asked : Option Options) (input : List ℕ) : Type 0 where
+  pub options : Options
+  pub is_asked : asked ≡ Some options
   pub lines : List Line
-  pub script : IsScript settings.sizes input lines
-  pub refused : ¬ IsValidConfig settings.sizes
+  pub script : IsScript options.sizes input lines
+  pub refused : ¬ IsValidConfig options.sizes
 
--- the settings that are asked for have answers to the input
-pub record HasAnswers (asked : Option Settings) (input : List ℕ) : Type 0 where
+-- the options that are asked for have answers to the input
+pub record HasAnswers (asked : Option Options) (input : List ℕ) : Type 0 where
   pub text : List ℕ
   pub answered : IsAnswered asked text input
 
 -- Which fault comes when. The words are judged first, then the script, then the sizes: so whatever comes after the
--- words comes where they ask for settings, and the sizes are refused only where the input is a script. That memory
+-- words comes where they ask for options, and the sizes are refused only where the input is a script. That memory
 -- ran out or the input failed has no other cause that a clause could name
-abbrev pub HasCause : Option Settings → ProgramFault → (input : List ℕ) → Type 0
-HasCause asked (Words fault) input = TellsSettings asked (Err fault)
+abbrev pub HasCause : Option Options → ProgramFault → (input : List ℕ) → Type 0
+HasCause asked (Words fault) input = TellsOptions asked (Err fault)
 HasCause asked (Script (script.BadLine number)) input = IsBadAt asked number input
 HasCause asked (Script script.NoMemory) input = IsSome asked
 HasCause asked BadConfig input = IsRefused asked input
@@ -56,19 +56,19 @@ abbrev pub written : (output faults : Option (List ℕ)) → Written
 written output faults = record { output = output; faults = faults }
 
 -- the input has answers, and a beginning of them was written
-pub record BeginsAnswers (asked : Option Settings) (before after : Option (List ℕ)) (input : List ℕ) : Type 0 where
+pub record BeginsAnswers (asked : Option Options) (before after : Option (List ℕ)) (input : List ℕ) : Type 0 where
   pub text : List ℕ
   pub answered : IsAnswered asked text input
   pub begun : AppendsBeginning before after text
 
 -- what is left of the answers to the input: a beginning where the output failed, else nothing
-abbrev pub LeavesAnswers : Option Settings → ProgramFault → (before after : Option (List ℕ)) (input : List ℕ) → Type 0
+abbrev pub LeavesAnswers : Option Options → ProgramFault → (before after : Option (List ℕ)) (input : List ℕ) → Type 0
 LeavesAnswers asked Output before after input = BeginsAnswers asked before after input
 LeavesAnswers asked fault before after input = Keeps before after
 
--- the words or the input are misused: the words ask for no settings, or the input has a first bad line, or the sizes
+-- the words or the input are misused: the words ask for no options, or the input has a first bad line, or the sizes
 -- are refused; and a writer that held the bytes `before`, where they are known, was told so, as far as it took that
-pub record IsMisused (asked : Option Settings) (before after : Option (List ℕ)) (input : List ℕ) : Type 0 where
+pub record IsMisused (asked : Option Options) (before after : Option (List ℕ)) (input : List ℕ) : Type 0 where
   pub fault : ProgramFault
   pub is_misuse : status_of fault ≡ 2
   pub cause : HasCause asked fault input
@@ -76,7 +76,7 @@ pub record IsMisused (asked : Option Settings) (before after : Option (List ℕ)
 
 -- the program failed at its work: of the answers a beginning was written where the output failed, else nothing; and
 -- that it failed was told, as far as the writer took that
-pub record FailsAtWork (asked : Option Settings) (before after : Written) (input : List ℕ) : Type 0 where
+pub record FailsAtWork (asked : Option Options) (before after : Written) (input : List ℕ) : Type 0 where
   pub fault : ProgramFault
   pub is_failure : status_of fault ≡ 1
   pub cause : HasCause asked fault input

@@ -1,27 +1,27 @@
 -- What a run of the program promises, by the status that it ends with.
 use Rattle.std.specs.Prelude.{◌≡◌, ℕ, ◌≤◌, List, Option, Result, Vec, IfErr, IfOk, IfSome, IsSome, OnOk}
-use Rattle.load_options.specs.declared.settings.Settings.{Settings}
+use Rattle.load_options.specs.declared.task.Options.{Options}
 use Rattle.load_run.specs.declared.fault.ProgramFault.{ProgramFault}
-use Rattle.load_run.specs.Answers.{IsAnswered, IsReplayed}
+use Rattle.load_run.specs.Answers.{IsAnswered, IsWritten}
 use Rattle.load_run.specs.Causes.{FailsAtWork, HasCause, IsMisused, Written}
 
--- What comes of the settings that are asked for, if any, and of an input: answers or a fault. Where the input's bytes
+-- What comes of the options that are asked for, if any, and of an input: answers or a fault. Where the input's bytes
 -- are known, it is answered so, or the fault has its cause
-pub record AnswersTo {Z : Type 0} (asked : Option Settings) (input : Option (List ℕ))
+pub record AnswersTo {Z : Type 0} (asked : Option Options) (input : Option (List ℕ))
     (result : Result (Vec ℕ Z) ProgramFault) : Type 0 where
   pub is_asked : OnOk result (IsSome asked)
   pub answered : IfOk result (λ answers. IfSome input (IsAnswered asked answers.items))
   pub cause : IfErr result (λ fault. IfSome input (HasCause asked fault))
 
--- The program ran, and ended with 0, 1 or 2. With 0, settings are asked for, no fault is told, and the output got what
+-- The program ran, and ended with 0, 1 or 2. With 0, options are asked for, no fault is told, and the output got what
 -- the input is answered; with 1, it failed at its work; with 2, words, script or sizes are wrong, and nothing is
 -- written to the output. What the input is answered, and why there is a fault, is said where its bytes are known
-pub record Drives (asked : Option Settings) (input : Option (List ℕ)) (before after : Written)
+pub record Drives (asked : Option Options) (input : Option (List ℕ)) (before after : Written)
     (status : ℕ) : Type 0 where
   pub status_at_most : status ≤ 2
   pub is_asked : status ≡ 0 → IsSome asked
   pub silent : status ≡ 0 → after.faults ≡ before.faults
-  pub replayed : status ≡ 0 → IfSome input (IsReplayed asked before.output after.output)
+  pub answered : status ≡ 0 → IfSome input (IsWritten asked before.output after.output)
   pub fails : status ≡ 1 → IfSome input (FailsAtWork asked before after)
   pub quiet : status ≡ 2 → after.output ≡ before.output
   pub misused : status ≡ 2 → IfSome input (IsMisused asked before.faults after.faults)

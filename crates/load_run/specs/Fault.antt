@@ -5,9 +5,9 @@ use Rattle.zone_sizes.specs.declared.config.Config.{Config}
 use Rattle.zone_sizes.specs.Config.{IsValidConfig}
 use Rattle.script_lines.specs.declared.fault.ScriptFault.TheVariants as script
 use Rattle.script_lines.specs.Script.{NamesFirstBadLine}
-use Rattle.load_options.specs.declared.fault.WordsFault.TheVariants as words
-use Rattle.load_options.specs.declared.settings.Settings.{Settings}
-use Rattle.load_options.specs.Words.{TellsSettings}
+use Rattle.load_options.specs.declared.fault.LineFault.TheVariants as words
+use Rattle.load_options.specs.declared.task.Options.{Options}
+use Rattle.load_options.specs.Words.{TellsOptions}
 use Rattle.load_run.specs.declared.fault.ProgramFault.{ProgramFault}
 use Rattle.load_run.specs.declared.fault.ProgramFault.TheVariants.{Words, Script, BadConfig, Input, Output, NoMemory}
 
@@ -37,9 +37,9 @@ fault_text Input = codes "input failed\n"
 fault_text Output = codes "output failed\n"
 fault_text (NoMemory error) = codes "no memory\n"
 
--- a fault of the words: they ask for no settings, or memory ran out
-abbrev pub IsWordsFault : Option Settings → ProgramFault → Type 0
-IsWordsFault asked (Words fault) = TellsSettings asked (Err fault)
+-- a fault of the words: they ask for no options, or memory ran out
+abbrev pub IsWordsFault : Option Options → ProgramFault → Type 0
+IsWordsFault asked (Words fault) = TellsOptions asked (Err fault)
 IsWordsFault asked fault = ⊥
 
 -- a fault of reading: the input failed, or memory ran out

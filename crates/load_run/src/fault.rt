@@ -2,39 +2,46 @@
 
 ghost use Rattle.std.specs.Prelude.{◌≡◌};
 
-use load_options::fault::WordsFault;
+use load_options::fault::LineFault;
 use script_lines::fault::ScriptFault;
 use std::alloc::AllocError;
+use thiserror::Error;
 
-/// Why the program ends without its answers.
-#[derive(Debug, Drop)]
+/// Why the program ends without its answers. `Display` gives the words that the program prints for it.
+#[derive(Debug, Drop, Error)]
 pub enum ProgramFault {
-    /// The words of the command line give no settings.
-    Words(WordsFault),
+    /// The words of the command line ask for nothing.
+    #[error("{0}")]
+    Words(LineFault),
     /// The script gives no lines.
+    #[error("{0}")]
     Script(ScriptFault),
     /// A size is out of its range.
+    #[error("refused 14 BadConfig")]
     BadConfig,
     /// The script can't be read.
+    #[error("input failed")]
     Input,
     /// The answers can't be written.
+    #[error("output failed")]
     Output,
     /// Memory ran out.
+    #[error("no memory")]
     NoMemory(AllocError),
 }
 
 impl ProgramFault {
     ghost use Rattle.load_run.specs.Fault.{status_of};
 
-    /// The status that the program ends with: 2 where it was used wrongly, 1 where it failed at its work.
+    /// The status that the program ends with: 2 if it was used wrongly, 1 if it failed at its work.
     pub fn status(&self) -> u8
         ensures status { result ≡ status_of self.now }
     {
         match self {
-            ProgramFault::Words(WordsFault::BadWords(_))
+            ProgramFault::Words(LineFault::BadWords(_))
             | ProgramFault::Script(ScriptFault::BadLine(_))
             | ProgramFault::BadConfig => 2,
-            ProgramFault::Words(WordsFault::NoMemory(_))
+            ProgramFault::Words(LineFault::NoMemory(_))
             | ProgramFault::Script(ScriptFault::NoMemory)
             | ProgramFault::Input
             | ProgramFault::Output

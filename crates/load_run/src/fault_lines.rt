@@ -8,7 +8,7 @@ ghost use Rattle.load_run.specs.Writing.{AppendsBeginning};
 use crate::fault::ProgramFault;
 use crate::writing::write_whole;
 use itoa::Buffer;
-use load_options::fault::WordsFault;
+use load_options::fault::LineFault;
 use script_lines::fault::ScriptFault;
 use std::io;
 use std::io::Write;
@@ -29,12 +29,12 @@ fn write_fault<F: Write>(fault: &ProgramFault, faults: &mut F) -> io::Result<()>
     ensures beginning { AppendsBeginning (F.contents faults.old) (F.contents faults.new) (fault_text fault.now) }
 {
     match fault {
-        ProgramFault::Words(WordsFault::BadWords(text)) => write_whole(text.as_bytes(), faults),
+        ProgramFault::Words(LineFault::BadWords(text)) => write_whole(text.as_bytes(), faults),
         ProgramFault::Script(ScriptFault::BadLine(number)) => write_bad_line(*number, faults),
         ProgramFault::BadConfig => write_whole("refused 14 BadConfig\n".as_bytes(), faults),
         ProgramFault::Input => write_whole("input failed\n".as_bytes(), faults),
         ProgramFault::Output => write_whole("output failed\n".as_bytes(), faults),
-        ProgramFault::Words(WordsFault::NoMemory(_))
+        ProgramFault::Words(LineFault::NoMemory(_))
         | ProgramFault::Script(ScriptFault::NoMemory)
         | ProgramFault::NoMemory(_) => write_whole("no memory\n".as_bytes(), faults),
     }

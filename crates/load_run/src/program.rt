@@ -1,54 +1,60 @@
 //! The program over any reader and two writers: what a new boot answers to the script is written to the output, or a
-//! fault is told, and the status says which.
+//! fault is reported, and the status says which.
 
-ghost use Rattle.std.specs.Prelude.{◌≡◌, All, IfErr, IfOk, IfSome, OnOk, Some, map};
+ghost use Rattle.std.specs.Prelude.{◌≡◌, All, IfErr, IfOk, OnOk, Some, map};
 ghost use Rattle.std.specs.Io.KnownBytes.{Appends};
 ghost use Rattle.zone_sizes.specs.Config.{IsValidConfig};
 ghost use Rattle.script_lines.specs.Script.{IsScript};
 ghost use Rattle.script_replay.specs.Ranges.{LineIsThere};
-ghost use Rattle.load_options.specs.Settings.{HasSizesInRange};
-ghost use Rattle.load_options.specs.Words.{settings_of};
-ghost use Rattle.load_run.specs.Answers.{AreAnswers, bytes_read};
+ghost use Rattle.load_options.specs.Sizes.{HasSizesInRange};
+ghost use Rattle.load_options.specs.Words.{options_of};
+ghost use Rattle.load_run.specs.Answers.{AreAnswers};
 ghost use Rattle.load_run.specs.Causes.{written};
 ghost use Rattle.load_run.specs.Driving.{AnswersTo, Drives};
-ghost use Rattle.load_run.specs.Fault.{IsBootFault, IsReadFault, IsScriptFault, IsWordsFault};
+ghost use Rattle.load_run.specs.Fault.{IsBootFault, IsScriptFault, IsWordsFault};
 ghost use Rattle.load_run.specs.Writing.{AppendsBeginning};
 
 use crate::fault::ProgramFault;
 use crate::fault_lines::tell_fault;
+use crate::reading::read_script;
 use crate::running::replay_on_boot;
+use crate::thread_running::run_by_threads;
 use crate::writing::write_whole;
-use load_options::command_line::parse_words;
-use load_options::settings::Settings;
+use cpu_part::BootName;
+use load_options::command_line::options;
+use load_options::task::{Options, Task};
 use mem_system::{Boot, BootFault};
 use script_lines::line::Line;
-use script_lines::script::{MOST_INPUT, parse_script};
+use script_lines::script::parse_script;
 use std::alloc::{AllocError, Global};
 use std::convert::AsStr;
-use std::io::{ErrorKind, Read, Write};
+use std::io::{Read, Write};
 use std::marker::Brand;
+use std::sync::Wait;
+use std::thread::Threads;
 
 /// Runs the program: the words that follow its name, the script, the answers and the faults. It gives the
 /// status to end with.
 ///
-/// First the words are read, then the whole script is read and parsed, then the configuration checked,
-/// then a boot replays the lines and ends. The answers are gathered first and then written whole; where the
-/// output fails, a beginning of them may stand there, and after any other fault nothing. A fault is told in
+/// First the words are read, then the whole script is read and parsed, then the configuration checked, then a boot
+/// answers the lines, as the task says, and ends. The answers are gathered first and then written whole; if the
+/// output fails, a beginning of them may have been written, and after any other fault nothing. A fault is reported in
 /// one line, those of the words in clap's text. The status is 0; 2 after a fault of the words, a bad line or
-/// a bad configuration; 1 where the script can't be read or the answers can't be written, and where memory
-/// runs out.
-pub fn drive<S: AsStr, I: Read, O: Write, F: Write>(
+/// a bad configuration; 1 if the script can't be read, the answers can't be written, memory runs out, or a thread
+/// can't be started.
+pub fn drive<R: Threads + Wait + Sync, S: AsStr, I: Read, O: Write, F: Write>(
+    rt: &R,
     alloc: Global,
     words: &[S],
     input: &mut I,
     output: &mut O,
     faults: &mut F,
 ) -> u8
-    ensures drives { Drives (settings_of (map S.text words.now)) (I.remaining input.old)
+    ensures drives { Drives (options_of (map S.text words.now)) (I.remaining input.old)
         (written (O.contents output.old) (F.contents faults.old))
         (written (O.contents output.new) (F.contents faults.new)) result }
 {
-    match answers_to(alloc, words, input) {
+    match answers_to(rt, alloc, words, input) {
         Ok(answers) => match write_answers(&answers, output) {
             Ok(()) => 0,
             Err(unwritten) => tell_fault(&unwritten, faults),
@@ -58,89 +64,93 @@ pub fn drive<S: AsStr, I: Read, O: Write, F: Write>(
 }
 
 // The answers to the script that the input holds.
-fn answers_to<S: AsStr, I: Read>(
+fn answers_to<R: Threads + Wait + Sync, S: AsStr, I: Read>(
+    rt: &R,
     alloc: Global,
     words: &[S],
     input: &mut I,
 ) -> Result<Vec<u8>, ProgramFault>
-    ensures { AnswersTo (settings_of (map S.text words.now)) (I.remaining input.old) result }
+    ensures { AnswersTo (options_of (map S.text words.now)) (I.remaining input.old) result }
 {
-    let settings = read_words(alloc, words)?;
+    let options = read_words(alloc, words)?;
     let script = read_script(alloc, input)?;
-    let lines = lines_of(alloc, &script, &settings)?;
-    answers_of(alloc, &settings, &lines)
+    let lines = lines_of(alloc, &script, &options)?;
+    answers_of(rt, alloc, &options, &lines)
 }
 
-// The settings that the words ask for.
-fn read_words<S: AsStr>(alloc: Global, words: &[S]) -> Result<Settings, ProgramFault>
-    ensures asked { IfOk result (λ settings. settings_of (map S.text words.now) ≡ Some settings) }
-    ensures in_range { IfOk result (λ settings. HasSizesInRange settings.sizes) }
-    ensures fault { IfErr result (IsWordsFault (settings_of (map S.text words.now))) }
+// The options that the words ask for.
+fn read_words<S: AsStr>(alloc: Global, words: &[S]) -> Result<Options, ProgramFault>
+    ensures asked { IfOk result (λ options. options_of (map S.text words.now) ≡ Some options) }
+    ensures in_range { IfOk result (λ options. HasSizesInRange options.sizes) }
+    ensures fault { IfErr result (IsWordsFault (options_of (map S.text words.now))) }
 {
-    match parse_words(alloc, words) {
-        Ok(settings) => Ok(settings),
+    match options(alloc, words) {
+        Ok(options) => Ok(options),
         Err(fault) => Err(ProgramFault::Words(fault)),
     }
 }
 
-/// The lines of the script, for the sizes of the settings. A bad line is a fault of the script, with its number.
-pub fn lines_of<'a>(
+// The lines of the script, for the sizes of the options. A bad line is a fault of the script, with its number.
+fn lines_of<'a>(
     alloc: Global,
     script: &'a [u8],
-    settings: &Settings,
+    options: &Options,
 ) -> Result<Vec<Line<'a>>, ProgramFault>
-    ensures lines { IfOk result (λ lines. IsScript settings.now.sizes script.now lines.items) }
-    ensures fault { IfErr result (IsScriptFault settings.now.sizes script.now) }
+    ensures lines { IfOk result (λ lines. IsScript options.now.sizes script.now lines.items) }
+    ensures fault { IfErr result (IsScriptFault options.now.sizes script.now) }
 {
-    match parse_script(alloc, script, &settings.sizes) {
+    match parse_script(alloc, script, &options.sizes) {
         Ok(lines) => Ok(lines),
         Err(fault) => Err(ProgramFault::Script(fault)),
     }
 }
 
 // What a new boot answers to the lines.
-fn answers_of(
+fn answers_of<R: Threads + Wait + Sync>(
+    rt: &R,
     alloc: Global,
-    settings: &Settings,
+    options: &Options,
     lines: &[Line<'_>],
 ) -> Result<Vec<u8>, ProgramFault>
-    requires lines { All (LineIsThere settings.now.sizes.frames settings.now.sizes.cpus) lines.now }
+    requires lines { All (LineIsThere options.now.sizes.frames options.now.sizes.cpus) lines.now }
     ensures answers { IfOk result (λ text.
-        AreAnswers settings.now.sizes settings.now.is_explained settings.now.is_audited lines.now text.items) }
-    ensures valid { OnOk result (IsValidConfig settings.now.sizes) }
-    ensures fault { IfErr result (IsBootFault settings.now.sizes) }
+        AreAnswers options.now.task options.now.sizes options.now.is_audited lines.now text.items) }
+    ensures valid { OnOk result (IsValidConfig options.now.sizes) }
+    ensures fault { IfErr result (IsBootFault options.now.sizes) }
 {
-    match Boot::new(alloc, settings.sizes) {
-        Ok(boot) => {
-            let is_explained = settings.is_explained;
-            match replay_on_boot::<Brand>(alloc, boot, lines, is_explained, settings.is_audited) {
-                Ok(answers) => Ok(answers),
-                Err(error) => Err(ProgramFault::NoMemory(error)),
-            }
-        }
+    match Boot::new(alloc, options.sizes) {
+        Ok(boot) => match answers_on_boot::<Brand, R>(rt, alloc, boot, options, lines) {
+            Ok(answers) => Ok(answers),
+            Err(error) => Err(ProgramFault::NoMemory(error)),
+        },
         Err(BootFault::BadConfig) => Err(ProgramFault::BadConfig),
         Err(BootFault::NoMemory) => Err(ProgramFault::NoMemory(AllocError)),
     }
 }
 
-/// Reads all of the script. Where it is longer than a script may be, one byte more tells so.
-pub fn read_script<I: Read>(alloc: Global, input: &mut I) -> Result<Vec<u8>, ProgramFault>
-    ensures read { IfOk result (λ script. IfSome (I.remaining input.old) (λ bytes. script.items ≡ bytes_read bytes)) }
-    ensures fault { IfErr result IsReadFault }
+// What a boot under a name of its tables answers to the lines, as the task says.
+fn answers_on_boot<N: BootName + Send + Sync, R: Threads + Wait + Sync>(
+    rt: &R,
+    alloc: Global,
+    boot: Boot,
+    options: &Options,
+    lines: &[Line<'_>],
+) -> Result<Vec<u8>, AllocError>
+    requires frames { boot.frames ≡ N.frames }
+    requires stocks { boot.stocks ≡ N.stocks }
+    requires lines { All (LineIsThere boot.sizes.frames boot.sizes.cpus) lines.now }
+    ensures answers { IfOk result (λ text.
+        AreAnswers options.now.task boot.sizes options.now.is_audited lines.now text.items) }
 {
-    let mut script = Vec::new(alloc);
-    let most = MOST_INPUT as u64 + 1;
-    match input.take(most).read_to_end(&mut script) {
-        Ok(_) => Ok(script),
-        Err(error) => Err(if error.kind() == ErrorKind::OutOfMemory {
-            ProgramFault::NoMemory(AllocError)
-        } else {
-            ProgramFault::Input
-        }),
+    match options.task {
+        Task::Replay { is_explained } => {
+            replay_on_boot::<N>(alloc, boot, lines, is_explained, options.is_audited)
+        }
+        Task::Run => run_by_threads::<N, R>(rt, alloc, boot, lines, options.is_audited),
     }
 }
 
-/// Writes all of the answers, or a beginning of them where the writer fails.
+/// Writes all of the answers, or a beginning of them if the writer fails.
 pub fn write_answers<O: Write>(answers: &[u8], output: &mut O) -> Result<(), ProgramFault>
     ensures fault { IfErr result (λ fault. fault ≡ ProgramFault.Output) }
     ensures written { OnOk result (Appends (O.contents output.old) (O.contents output.new) answers.now) }

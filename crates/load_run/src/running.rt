@@ -6,7 +6,7 @@ ghost use Rattle.script_replay.specs.History.{ReplaysOrStops};
 ghost use Rattle.script_replay.specs.Lines.{standing};
 ghost use Rattle.script_replay.specs.Ranges.{LineIsThere};
 ghost use Rattle.script_replay.specs.Terms.{terms};
-ghost use Rattle.load_run.specs.Answers.{AreAnswers};
+ghost use Rattle.load_run.specs.Answers.{AreReplayAnswers};
 ghost use Rattle.load_run.specs.Ending.{EndsAfter, end_text};
 
 use crate::boot_end::{Ended, end_boot, write_end};
@@ -29,7 +29,7 @@ pub fn replay_on_boot<N: BootName>(
     requires frames { boot.frames ≡ N.frames }
     requires stocks { boot.stocks ≡ N.stocks }
     requires lines { All (LineIsThere boot.sizes.frames boot.sizes.cpus) lines.now }
-    ensures answers { IfOk result (λ text. AreAnswers boot.sizes is_explained is_audited lines.now text.items) }
+    ensures answers { IfOk result (λ text. AreReplayAnswers boot.sizes is_explained is_audited lines.now text.items) }
 {
     let (locked, tables, cpus) = boot.into_parts::<N>(alloc)?;
     let (answers, ended) = replay_and_end_boot(alloc, locked, tables, cpus, lines, is_explained);

@@ -5,7 +5,6 @@ use load_options::command_line::words;
 use load_run::fault::ProgramFault;
 use load_run::fault_lines::tell_fault;
 use load_run::program::drive;
-use load_threads::program::drive_run;
 use std::process::ExitCode;
 
 fn main(rt: HostRuntime) -> ExitCode {
@@ -14,28 +13,16 @@ fn main(rt: HostRuntime) -> ExitCode {
         Ok(words) => {
             let mut input = rt.stdin();
             let mut output = rt.stdout();
-            if asks_for_run(&words) {
-                drive_run(
-                    &rt,
-                    rt.alloc(),
-                    &words,
-                    &mut input,
-                    &mut output,
-                    &mut faults,
-                )
-            } else {
-                drive(rt.alloc(), &words, &mut input, &mut output, &mut faults)
-            }
+            drive(
+                &rt,
+                rt.alloc(),
+                &words,
+                &mut input,
+                &mut output,
+                &mut faults,
+            )
         }
         Err(fault) => tell_fault(&ProgramFault::Words(fault), &mut faults),
     };
     ExitCode::from(status)
-}
-
-// Whether the first word is `run`.
-fn asks_for_run(words: &[String]) -> bool {
-    match words.first() {
-        Some(word) => word.as_str() == "run",
-        None => false,
-    }
 }

@@ -6,8 +6,14 @@ use crate::streams::{
     AnswerWriter, PLAIN, ProgramRun, ScriptReader, program_holds, reader_in_steps, row_holds,
     run_program, run_program_on, script_reader, writer_with_room,
 };
+use load_run::fault::ProgramFault;
+use load_run::fault_lines::tell_fault;
+use load_run::{LineFault, ScriptFault};
+use std::alloc::AllocError;
 use std::io::ErrorKind;
 use std::process::Abort;
+use std::sync::Wait;
+use std::thread::Threads;
 
 const GOOD_SCRIPT: &str = "1 mkdir /a\n1 alloc /a 0\n1 blocks\n1 read /a memory.current\n";
 
@@ -52,7 +58,11 @@ const BAD_SCRIPTS: [(&str, &str); 31] = [
 ];
 
 // The script's first bad line is told so, and nothing is answered.
-fn tells_first_bad_line(rt: &(impl Abort + AllocGlobal), script: &str, told: &str) {
+fn tells_first_bad_line(
+    rt: &(impl AllocGlobal + Threads + Wait + Abort + Sync),
+    script: &str,
+    told: &str,
+) {
     let ended = run_program(rt, &PLAIN, script_reader(script.as_bytes()), 10_000);
     row_holds(rt, ended.status == 2, script);
     row_holds(rt, ended.faults.as_slice() == told.as_bytes(), script);
@@ -91,8 +101,12 @@ fn reader_that_fails(good_reads: u32, read_fault: ErrorKind) -> ScriptReader<'st
     }
 }
 
-// Each read in turn fails so, the last one too: so many were made, each of which ended the run with this text.
-fn failed_reads<R: AllocGlobal + Abort>(rt: &R, read_fault: ErrorKind, told: &str) -> u32 {
+// Each read in turn fails so, the last one too: so many were made, each of which ended the run with `input failed`.
+fn failed_reads(
+    rt: &(impl AllocGlobal + Threads + Wait + Abort + Sync),
+    read_fault: ErrorKind,
+) -> u32 {
+    let told = "input failed\n";
     for good in 0..100 {
         let ended = run_program(rt, &PLAIN, reader_that_fails(good, read_fault), 10_000);
         if ended.status == 0 {
@@ -106,12 +120,13 @@ fn failed_reads<R: AllocGlobal + Abort>(rt: &R, read_fault: ErrorKind, told: &st
     100
 }
 
+// A reader's own error is told so whatever it says, also that memory ran out or that the end came too early.
 #[test]
 fn tells_that_the_input_failed(rt: HostRuntime) {
-    let failed = failed_reads(&rt, ErrorKind::ConnectionReset, "input failed\n");
+    let failed = failed_reads(&rt, ErrorKind::ConnectionReset);
     program_holds(&rt, 10 < failed && failed < 100);
-    let wanting = failed_reads(&rt, ErrorKind::OutOfMemory, "no memory\n");
-    program_holds(&rt, wanting == failed);
+    program_holds(&rt, failed_reads(&rt, ErrorKind::OutOfMemory) == failed);
+    program_holds(&rt, failed_reads(&rt, ErrorKind::UnexpectedEof) == failed);
 }
 
 #[test]
@@ -124,10 +139,13 @@ fn reads_on_after_an_interrupt(rt: HostRuntime) {
 }
 
 // `GOOD_SCRIPT`, over this writer for the answers.
-fn run_to(rt: &(impl Abort + AllocGlobal), output: AnswerWriter) -> ProgramRun {
-    let script = script_reader(GOOD_SCRIPT.as_bytes());
+fn run_to(
+    rt: &(impl AllocGlobal + Threads + Wait + Abort + Sync),
+    output: AnswerWriter,
+) -> ProgramRun {
+    let mut script = script_reader(GOOD_SCRIPT.as_bytes());
     let faults = writer_with_room(rt, 100);
-    run_program_on(rt.alloc(), &PLAIN, script, output, faults)
+    run_program_on(rt, &PLAIN, &mut script, output, faults)
 }
 
 // The run told that its output failed, and wrote these answers before.
@@ -139,7 +157,7 @@ fn answers_are_cut_short(ended: &ProgramRun, answers: &[u8]) -> bool {
 
 // With room for so many bytes, so many at once, the answers are cut short there.
 fn answers_are_cut_at(
-    rt: &(impl Abort + AllocGlobal),
+    rt: &(impl AllocGlobal + Threads + Wait + Abort + Sync),
     bytes_at_once: usize,
     answers: &[u8],
     room: usize,
@@ -152,13 +170,25 @@ fn answers_are_cut_at(
     program_holds(rt, answers_are_cut_short(&ended, &answers[..room]));
 }
 
-// With room for all of the answers they are written, so many bytes at once, where the first write is interrupted.
-fn answers_are_written(rt: &(impl Abort + AllocGlobal), bytes_at_once: usize) {
+// With room for all of the answers they are written, so many bytes at once, though the first three writes are
+// interrupted.
+fn answers_are_written(
+    rt: &(impl AllocGlobal + Threads + Wait + Abort + Sync),
+    bytes_at_once: usize,
+) {
     let mut writer = writer_with_room(rt, GOOD_ANSWERS.len());
     writer.bytes_at_once = bytes_at_once;
-    writer.interrupts = true;
+    writer.interrupts = 3;
     let ended = run_to(rt, writer);
     program_holds(rt, script_is_answered(&ended));
+}
+
+// The writer takes nothing at its first write, and would take all at the next.
+#[test]
+fn a_writer_that_takes_nothing_is_a_failed_output(rt: HostRuntime) {
+    let mut writer = writer_with_room(&rt, GOOD_ANSWERS.len());
+    writer.is_idle = true;
+    program_holds(&rt, answers_are_cut_short(&run_to(&rt, writer), &[]));
 }
 
 #[test]
@@ -176,11 +206,11 @@ fn tells_that_the_output_failed(rt: HostRuntime) {
 }
 
 // With room for so much of the fault that is told, the run ends as it would.
-fn ends_as_it_would(rt: &(impl Abort + AllocGlobal), told: &[u8]) {
-    let script = script_reader(b"1 show\n1 sho".as_slice());
+fn ends_as_it_would(rt: &(impl AllocGlobal + Threads + Wait + Abort + Sync), told: &[u8]) {
+    let mut script = script_reader(b"1 show\n1 sho".as_slice());
     let output = writer_with_room(rt, 100);
     let faults = writer_with_room(rt, told.len());
-    let ended = run_program_on(rt.alloc(), &PLAIN, script, output, faults);
+    let ended = run_program_on(rt, &PLAIN, &mut script, output, faults);
     program_holds(rt, ended.status == 2);
     program_holds(rt, ended.faults.as_slice() == told);
 }
@@ -190,5 +220,37 @@ fn ends_as_it_would_where_a_fault_is_not_told(rt: HostRuntime) {
     let told = b"bad line 2\n".as_slice();
     for room in 0..told.len() {
         ends_as_it_would(&rt, &told[..room]);
+    }
+}
+
+// The program prints the fault in the words that it displays, with this after them.
+fn is_printed_as_displayed(
+    rt: &(impl AllocGlobal + Threads + Wait + Abort + Sync),
+    fault: &ProgramFault,
+    end: &str,
+) {
+    let displayed = format!(in rt.alloc(); "{fault}{end}").expect(rt, "memory");
+    let mut faults = writer_with_room(rt, 1_000);
+    let status = tell_fault(fault, &mut faults);
+    row_holds(rt, status == fault.status(), displayed.as_str());
+    let is_printed = faults.text.as_slice() == displayed.as_bytes();
+    row_holds(rt, is_printed, displayed.as_str());
+}
+
+#[test]
+fn each_fault_is_printed_as_it_is_displayed(rt: HostRuntime) {
+    let text = String::from_str(rt.alloc(), "error: a text with its line feed\n");
+    let words = LineFault::BadWords(text.expect(&rt, "memory"));
+    is_printed_as_displayed(&rt, &ProgramFault::Words(words), "");
+    for fault in [
+        ProgramFault::Words(LineFault::NoMemory(AllocError)),
+        ProgramFault::Script(ScriptFault::BadLine(65_537)),
+        ProgramFault::Script(ScriptFault::NoMemory),
+        ProgramFault::BadConfig,
+        ProgramFault::Input,
+        ProgramFault::Output,
+        ProgramFault::NoMemory(AllocError),
+    ] {
+        is_printed_as_displayed(&rt, &fault, "\n");
     }
 }

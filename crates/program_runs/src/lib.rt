@@ -9,7 +9,11 @@ mod rows;
 #[cfg(test)]
 mod scripts;
 #[cfg(test)]
+mod sizes;
+#[cfg(test)]
 mod streams;
+#[cfg(test)]
+mod texts;
 #[cfg(test)]
 mod threads;
 #[cfg(test)]

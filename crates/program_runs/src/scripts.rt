@@ -8,18 +8,18 @@ use crate::streams::{
     words_of,
 };
 use crate::visits::visit_all;
-use load_options::command_line::parse_words;
+use load_run::{options, parse_script};
 use mem_system::Boot;
-use script_lines::script::parse_script;
 use std::alloc::{AllocError, Global};
 use std::marker::Brand;
 use std::process::Abort;
 use std::sync::Wait;
+use std::thread::Threads;
 use zone_sizes::config::Config;
 
 // The program answers the row's script as it says, and tells its end.
 fn program_answers(
-    rt: &(impl Abort + AllocGlobal),
+    rt: &(impl AllocGlobal + Threads + Wait + Abort + Sync),
     row: &Row<'_>,
     script: &str,
     is_explained: bool,
@@ -50,15 +50,15 @@ fn visits_told<R: AllocGlobal + Wait>(
 
 // The row's script is answered alike by visits.
 fn visits_answer<R: AllocGlobal + Abort + Wait>(rt: &R, row: &Row<'_>, script: &str) {
-    let settings = parse_words(rt.alloc(), &words_of(rt, row.words)).expect(rt, row.name);
-    let told = visits_told(rt, settings.sizes, script, settings.is_audited);
+    let options = options(rt.alloc(), &words_of(rt, row.words)).expect(rt, row.name);
+    let told = visits_told(rt, options.sizes, script, options.is_audited);
     let answers = row.answers(rt.alloc(), false).expect(rt, row.name);
     let told = told.expect(rt, row.name);
     row_holds(rt, told.as_slice() == answers.as_bytes(), row.name);
 }
 
 // The row's script is answered as it says: by the program, with what explains kills and without, and by visits.
-fn row_is_answered<R: AllocGlobal + Abort + Wait>(rt: &R, row: &Row<'_>) {
+fn row_is_answered(rt: &(impl AllocGlobal + Threads + Wait + Abort + Sync), row: &Row<'_>) {
     let script = row.script(rt.alloc()).expect(rt, row.name);
     program_answers(rt, row, script.as_str(), false);
     program_answers(rt, row, script.as_str(), true);
@@ -80,8 +80,8 @@ fn each_row_is_answered_and_explained(rt: HostRuntime) {
     }
 }
 
-// A script that begins so, goes on so many times so, and ends so.
-type LongScript = (&'static str, (&'static str, u32), &'static str);
+/// A script that begins so, goes on so many times so, and ends so.
+pub type LongScript = (&'static str, (&'static str, u32), &'static str);
 
 // Long scripts, with what each shows first, and at last the status that it ends with, its answers and its fault.
 const LONG_SCRIPTS: [(&str, LongScript, (u8, &str, &str)); 7] = [
@@ -122,7 +122,8 @@ const LONG_SCRIPTS: [(&str, LongScript, (u8, &str, &str)); 7] = [
     ),
 ];
 
-fn long_script(
+/// The text of the long script.
+pub fn long_script(
     alloc: Global,
     (begin, (repeated, times), end): LongScript,
 ) -> Result<String, AllocError> {
@@ -144,6 +145,18 @@ fn each_long_script_is_answered_or_refused(rt: HostRuntime) {
         row_holds(&rt, ended.output.as_slice() == answers.as_bytes(), name);
         row_holds(&rt, ended.faults.as_slice() == fault.as_bytes(), name);
     }
+}
+
+// Bytes that are no characters, in a comment and in a value.
+const ANY_BYTES: &[u8] = b"# \xff\xfe\n1 mkdir /a\n1 write /a memory.max \xc0\n";
+
+#[test]
+fn a_script_may_have_any_bytes(rt: HostRuntime) {
+    let ended = run_program(&rt, &PLAIN, script_reader(ANY_BYTES), 10_000);
+    let name = "bytes that are no characters";
+    row_holds(&rt, ended.status == 0, name);
+    let answers = b"group 1\nrefused 12 BadLimit\n".as_slice();
+    row_holds(&rt, ended.output.as_slice() == answers, name);
 }
 
 #[test]

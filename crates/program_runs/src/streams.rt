@@ -3,17 +3,20 @@
 ghost use Rattle.std.specs.Prelude.{◌≤◌, IfOk, length};
 
 use load_run::program::drive;
-use std::alloc::Global;
 use std::cmp::min;
 use std::io;
 use std::io::{ErrorKind, Read, Write};
 use std::process::Abort;
+use std::sync::Wait;
+use std::thread::Threads;
 
 /// A script that is read a few bytes at a time. One of the reads may fail.
 #[derive(Drop)]
 pub struct ScriptReader<'a> {
     pub rest_of_script: &'a [u8],
     pub bytes_at_once: usize,
+    /// How many reads were made.
+    pub reads: u32,
     /// How many reads go well before the one that fails.
     pub good_reads: Option<u32>,
     /// Why that one fails.
@@ -22,6 +25,7 @@ pub struct ScriptReader<'a> {
 
 impl Read for ScriptReader<'_> {
     fn read(&mut self, buf: &mut [u8]) -> io::Result<usize> {
+        self.reads = self.reads.saturating_add(1);
         match self.good_reads {
             Some(0) => {
                 self.good_reads = None;
@@ -45,6 +49,7 @@ pub fn reader_in_steps(rest_of_script: &[u8], bytes_at_once: usize) -> ScriptRea
     ScriptReader {
         rest_of_script,
         bytes_at_once,
+        reads: 0,
         good_reads: None,
         read_fault: ErrorKind::ConnectionReset,
     }
@@ -69,8 +74,10 @@ pub struct AnswerWriter {
     pub text: Vec<u8>,
     pub bytes_at_once: usize,
     pub room: usize,
-    /// Whether the next write is interrupted.
-    pub interrupts: bool,
+    /// How many writes are interrupted before one isn't.
+    pub interrupts: u32,
+    /// Whether the next write takes nothing, and says so.
+    pub is_idle: bool,
     pub flushes: bool,
 }
 
@@ -80,7 +87,8 @@ pub fn writer_with_room(rt: &(impl Abort + AllocGlobal), room: usize) -> AnswerW
         text: Vec::with_capacity(rt.alloc(), room).expect(rt, "memory"),
         bytes_at_once: 3,
         room,
-        interrupts: false,
+        interrupts: 0,
+        is_idle: false,
         flushes: true,
     }
 }
@@ -90,9 +98,13 @@ impl AnswerWriter {
     fn take(&mut self, bytes: &[u8]) -> Result<usize, ErrorKind>
         ensures { IfOk result (λ taken. taken ≤ length bytes.now) }
     {
-        if self.interrupts {
-            self.interrupts = false;
+        if self.interrupts > 0 {
+            self.interrupts -= 1;
             return Err(ErrorKind::Interrupted);
+        }
+        if self.is_idle {
+            self.is_idle = false;
+            return Ok(0);
         }
         let taken = min(self.bytes_at_once, min(bytes.len(), self.room));
         if taken == 0 && !bytes.is_empty() {
@@ -136,13 +148,13 @@ pub const PLAIN: [&str; 1] = ["replay"];
 
 /// Runs the program over these.
 pub fn run_program_on(
-    alloc: Global,
+    rt: &(impl AllocGlobal + Threads + Wait + Abort + Sync),
     words: &[&str],
-    mut script: ScriptReader<'_>,
+    script: &mut ScriptReader<'_>,
     mut output: AnswerWriter,
     mut faults: AnswerWriter,
 ) -> ProgramRun {
-    let status = drive(alloc, words, &mut script, &mut output, &mut faults);
+    let status = drive(rt, rt.alloc(), words, script, &mut output, &mut faults);
     ProgramRun {
         status,
         output: output.text,
@@ -152,17 +164,17 @@ pub fn run_program_on(
 
 /// Runs it over this script, with room for so many bytes of answers, and for a long fault.
 pub fn run_program(
-    rt: &(impl Abort + AllocGlobal),
+    rt: &(impl AllocGlobal + Threads + Wait + Abort + Sync),
     words: &[&str],
-    script: ScriptReader<'_>,
+    mut script: ScriptReader<'_>,
     room: usize,
 ) -> ProgramRun {
     let output = writer_with_room(rt, room);
     let faults = writer_with_room(rt, 10_000);
-    run_program_on(rt.alloc(), words, script, output, faults)
+    run_program_on(rt, words, &mut script, output, faults)
 }
 
-/// The words of a command line, between each two of which a space stands.
+/// The words of a command line, with a space between each two.
 pub fn words_of<'a>(rt: &(impl Abort + AllocGlobal), words: &'a str) -> Vec<&'a str> {
     let words_apart = words.split(' ').collect(rt.alloc());
     words_apart.expect(rt, words)
@@ -178,7 +190,7 @@ pub fn run_is_refused(rt: &impl Abort, ended: &ProgramRun, status: u8, begin: &s
 
 /// With these words, and over this script, the run is refused so.
 pub fn is_refused(
-    rt: &(impl Abort + AllocGlobal),
+    rt: &(impl AllocGlobal + Threads + Wait + Abort + Sync),
     words: &str,
     script: ScriptReader<'_>,
     status: u8,

@@ -1,37 +1,9 @@
 //! The program's `run`, which serves the lines from `go` on in threads.
 
-use crate::streams::{
-    ProgramRun, row_holds, run_is_refused, run_program, script_reader, words_of, writer_with_room,
-};
-use load_threads::program::drive_run;
+use crate::streams::{ProgramRun, row_holds, run_is_refused, run_program, script_reader, words_of};
 use std::process::Abort;
 use std::sync::Wait;
 use std::thread::Threads;
-
-// Runs the program with these words over this script, in threads.
-fn run_by_threads<R: AllocGlobal + Threads + Wait + Abort + Sync>(
-    rt: &R,
-    words: &str,
-    script: &str,
-) -> ProgramRun {
-    let words = words_of(rt, words);
-    let mut script = script_reader(script.as_bytes());
-    let mut output = writer_with_room(rt, 10_000);
-    let mut faults = writer_with_room(rt, 10_000);
-    let status = drive_run(
-        rt,
-        rt.alloc(),
-        &words,
-        &mut script,
-        &mut output,
-        &mut faults,
-    );
-    ProgramRun {
-        status,
-        output: output.text,
-        faults: faults.text,
-    }
-}
 
 // Scripts that leave pins, what their lines are answered by threads, and what is told of the end. No two threads get the
 // same frame: such a get may be `raced`.
@@ -65,20 +37,21 @@ fn ends_with(rt: &impl Abort, ended: &ProgramRun, ending: &str) {
 }
 
 // By threads the script is answered so, and the end is the same as by `replay`.
-fn threads_end_as_a_replay<R: AllocGlobal + Threads + Wait + Abort + Sync>(
-    rt: &R,
+fn threads_end_as_a_replay(
+    rt: &(impl AllocGlobal + Threads + Wait + Abort + Sync),
     script: &str,
     answers: &str,
     ending: &str,
 ) {
-    let by_threads = run_by_threads(rt, "run --audit", script);
+    let reader = script_reader(script.as_bytes());
+    let by_threads = run_program(rt, &["run", "--audit"], reader, 10_000);
     ends_with(rt, &by_threads, ending);
     let is_answered = by_threads.output.starts_with(answers.as_bytes());
     row_holds(rt, is_answered, answers);
     let is_whole = by_threads.output.len() == answers.len() + ending.len();
     row_holds(rt, is_whole, answers);
-    let script = script_reader(script.as_bytes());
-    let replayed = run_program(rt, &["replay", "--audit"], script, 10_000);
+    let reader = script_reader(script.as_bytes());
+    let replayed = run_program(rt, &["replay", "--audit"], reader, 10_000);
     ends_with(rt, &replayed, ending);
 }
 
@@ -90,8 +63,7 @@ fn pins_that_threads_leave_are_put_at_the_end(rt: HostRuntime) {
 }
 
 // Faults of the words, of the script and of the sizes: the words, the script and how what is told of it begins.
-const MISUSES: [(&str, &str, &str); 4] = [
-    ("replay --audit", "1 mkdir\n", "error: "),
+const MISUSES: [(&str, &str, &str); 3] = [
     (
         "run --explain",
         "1 mkdir\n",
@@ -104,7 +76,8 @@ const MISUSES: [(&str, &str, &str); 4] = [
 #[test]
 fn a_fault_of_the_words_the_script_or_the_sizes_is_told(rt: HostRuntime) {
     for (words, script, fault) in MISUSES {
-        let ended = run_by_threads(&rt, words, script);
+        let reader = script_reader(script.as_bytes());
+        let ended = run_program(&rt, &words_of(&rt, words), reader, 10_000);
         run_is_refused(&rt, &ended, 2, fault, fault);
         let is_whole = ended.faults.len() == fault.len();
         row_holds(&rt, is_whole || fault.starts_with("error: "), fault);

@@ -9,7 +9,7 @@ use load_run::boot_end::end_boot;
 use load_run::running::tell_end;
 use mem_system::Boot;
 use script_lines::line::Line;
-use script_replay::replay_by_visits;
+use script_replay::replay_lines;
 use std::alloc::{AllocError, Global};
 use std::sync::Wait;
 
@@ -27,7 +27,7 @@ pub fn visit_all<N: BootName, R: Wait>(
     requires lines { All (LineIsThere boot.sizes.frames boot.sizes.cpus) lines.now }
 {
     let (system, mut cpus) = boot.start::<N>(alloc)?;
-    let answers = replay_by_visits(rt, alloc, &system, &mut cpus, lines);
+    let answers = replay_lines(rt, alloc, &system, &mut cpus, lines);
     let (locked, tables) = system.into_parts();
     let ended = end_boot(locked, tables, cpus);
     tell_end(alloc, answers?, ended, is_audited)

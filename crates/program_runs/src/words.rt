@@ -1,43 +1,60 @@
 //! The words of the command line.
 
-use crate::streams::{broken_reader, is_refused, row_holds, run_is_refused, run_program, words_of};
-use load_options::command_line::parse_words;
-use load_options::settings::Settings;
+use crate::streams::{
+    row_holds, run_is_refused, run_program_on, script_reader, words_of, writer_with_room,
+};
+use load_run::{Options, Task, options};
+use std::process::Abort;
+use std::sync::Wait;
+use std::thread::Threads;
 use zone_sizes::config::Config;
 
-// Words of `replay` with a space between each two, and what they ask for: frames, processors, `batch`, `high` and `stock`,
-// and whether the end is audited and kills are explained.
-const GOOD_WORDS: [(&str, [u32; 5], bool, bool); 9] = [
-    ("replay", [16, 2, 4, 8, 4], false, false),
-    ("replay --frames=9", [9, 2, 4, 8, 4], false, false),
-    ("replay --cpus=9", [16, 9, 4, 8, 4], false, false),
-    ("replay --batch=9", [16, 2, 9, 8, 4], false, false),
-    ("replay --high=9", [16, 2, 4, 9, 4], false, false),
-    ("replay --stock=9", [16, 2, 4, 8, 9], false, false),
+// Good words with a space between each two, and what they ask for: the task; frames, CPUs, `batch`, `high` and `stock`;
+// and whether the end is audited.
+const GOOD_WORDS: [(&str, Task, [u32; 5], bool); 12] = [
+    ("replay", PLAIN_REPLAY, [16, 2, 4, 8, 4], false),
+    ("replay --frames=9", PLAIN_REPLAY, [9, 2, 4, 8, 4], false),
+    ("replay --cpus=9", PLAIN_REPLAY, [16, 9, 4, 8, 4], false),
+    ("replay --batch=9", PLAIN_REPLAY, [16, 2, 9, 8, 4], false),
+    ("replay --high=9", PLAIN_REPLAY, [16, 2, 4, 9, 4], false),
+    ("replay --stock=9", PLAIN_REPLAY, [16, 2, 4, 8, 9], false),
     (
         "replay --frames=1048576 --cpus 64 --batch 64 --high 256 --stock 64 --audit --explain",
+        Task::Replay { is_explained: true },
         [1_048_576, 64, 64, 256, 64],
-        true,
         true,
     ),
     (
         "replay --frames=40 --cpus=3 --batch=5 --high=12 --stock=7 --audit",
+        PLAIN_REPLAY,
         [40, 3, 5, 12, 7],
         true,
-        false,
     ),
     (
         "replay --audit --stock +7 --high 012 --batch 5 --cpus 3 --frames 40 --",
+        PLAIN_REPLAY,
         [40, 3, 5, 12, 7],
         true,
-        false,
+    ),
+    ("run", Task::Run, [16, 2, 4, 8, 4], false),
+    ("run --audit", Task::Run, [16, 2, 4, 8, 4], true),
+    (
+        "run --stock 7 --frames=40 --audit --cpus=3 --high=12 --batch=5",
+        Task::Run,
+        [40, 3, 5, 12, 7],
+        true,
     ),
 ];
 
+const PLAIN_REPLAY: Task = Task::Replay {
+    is_explained: false,
+};
+
 #[test]
 fn asks_for_what_the_words_say(rt: HostRuntime) {
-    for (words, [frames, cpus, batch, high, stock], is_audited, is_explained) in GOOD_WORDS {
-        let wanted = Settings {
+    for (words, task, [frames, cpus, batch, high, stock], is_audited) in GOOD_WORDS {
+        let wanted = Options {
+            task,
             sizes: Config {
                 frames,
                 cpus,
@@ -45,16 +62,15 @@ fn asks_for_what_the_words_say(rt: HostRuntime) {
                 high,
                 stock,
             },
-            is_explained,
             is_audited,
         };
-        let settings = parse_words(rt.alloc(), &words_of(&rt, words)).expect(&rt, words);
-        row_holds(&rt, settings == wanted, words);
+        let asked = options(rt.alloc(), &words_of(&rt, words)).expect(&rt, words);
+        row_holds(&rt, asked == wanted, words);
     }
 }
 
-// Bad words, and how what is told of them begins.
-const BAD_WORDS: [(&str, &str); 23] = [
+// Bad words, and how the text that is written of them begins.
+const BAD_WORDS: [(&str, &str); 25] = [
     (
         "replay --frames 0",
         "error: invalid value '0' for '--frames <N>': 0 is not in 1..=1048576\n",
@@ -81,18 +97,35 @@ const BAD_WORDS: [(&str, &str); 23] = [
     ("replay --frames=1 --frames=1", ""),
     ("replay --audit --audit", ""),
     ("replay x", ""),
-    ("run", ""),
+    (
+        "run --explain",
+        "error: unexpected argument '--explain' found\n",
+    ),
+    ("run --frames=0", "error: "),
+    ("run run", ""),
     ("--help", ""),
     ("help", ""),
 ];
 
-// The words are judged before the script is read.
+// The words are refused with a text that begins so, and the script isn't read.
+fn are_refused_unread(
+    rt: &(impl AllocGlobal + Threads + Wait + Abort + Sync),
+    words: &[&str],
+    begin: &str,
+    name: &str,
+) {
+    let mut script = script_reader(b"1 show\n".as_slice());
+    let output = writer_with_room(rt, 100);
+    let faults = writer_with_room(rt, 10_000);
+    let ended = run_program_on(rt, words, &mut script, output, faults);
+    run_is_refused(rt, &ended, 2, begin, name);
+    row_holds(rt, script.reads == 0, name);
+}
+
 #[test]
-fn refuses_bad_words(rt: HostRuntime) {
-    let no_words: [&str; 0] = [];
-    let ended = run_program(&rt, &no_words, broken_reader(), 10_000);
-    run_is_refused(&rt, &ended, 2, "", "no words");
+fn refuses_bad_words_before_it_reads_the_script(rt: HostRuntime) {
+    are_refused_unread(&rt, &[], "", "no words");
     for (words, begin) in BAD_WORDS {
-        is_refused(&rt, words, broken_reader(), 2, begin);
+        are_refused_unread(&rt, &words_of(&rt, words), begin, words);
     }
 }

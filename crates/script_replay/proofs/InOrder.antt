@@ -1,4 +1,4 @@
--- Lines that were served one after the other, so far. Serves `replay`, `replay_by_visits`, and `serve_own` of `script_threads`.
+-- Lines that were served one after the other, so far. Serves `replay`, `replay_lines`, and `serve_own` of `script_threads`.
 use Rattle.std.proofs.Common.{◌≡◌, ℕ, ◌+◌, ◌<◌, ◌≤◌, List, [], ◌∷◌, ◌++◌, length, take, get_or, append_assoc, append-nil, ap, refl, sym, ◌∙◌, subst}
 use Rattle.std.proofs.lemmas.List.{take_more, take_all}
 use Rattle.script_lines.specs.declared.line.Line.{Line}

@@ -15,5 +15,5 @@ mod work;
 
 pub use value_replay::replay;
 pub use visit_answers::{Visitor, visit_line};
-pub use visit_replay::{replay_by_visits, visit_command};
+pub use visit_replay::{replay_lines, visit_command};
 pub use work::Work;

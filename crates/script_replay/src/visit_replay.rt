@@ -20,7 +20,7 @@ use std::sync::Wait;
 /// and gives their answers, each of whose lines ends with a line feed. `go` does nothing. `AllocError` comes where
 /// memory is wanting for the text of a line: the lines before it were served then, it was served too, once, without
 /// its text, and no line after it was.
-pub fn replay_by_visits<N: BootName, R: Wait>(
+pub fn replay_lines<N: BootName, R: Wait>(
     rt: &R,
     alloc: Global,
     system: &System<N>,

@@ -9,14 +9,14 @@ use crate::each::run_each;
 use cpu_part::{BootName, Cpu};
 use mem_system::{Gate, System};
 use script_lines::line::Line;
-use script_replay::replay_by_visits;
+use script_replay::replay_lines;
 use std::alloc::{AllocError, Global};
 use std::sync::Wait;
 use std::thread::Threads;
 
-/// Serves the lines before `go` in their order, as `replay_by_visits` does, with no gate, and then those from `go` on
+/// Serves the lines before `go` in their order, as `replay_lines` does, with no gate, and then those from `go` on
 /// by a thread for each processor, as `run_each` does. Where there is no `go`, all lines run in threads. The answers of
-/// the lines before `go` stand first, without a heading. `AllocError` comes as with `replay_by_visits`, in which case
+/// the lines before `go` stand first, without a heading. `AllocError` comes as with `replay_lines`, in which case
 /// no thread was started, and as with `run_each`.
 pub fn run_lines<N: BootName + Send + Sync, R: Threads + Wait + Sync, G: Gate + Sync>(
     rt: &R,
@@ -31,7 +31,7 @@ pub fn run_lines<N: BootName + Send + Sync, R: Threads + Wait + Sync, G: Gate + 
     ensures { IfOk result (λ text. RunsLines (boot_tables N.frames N.stocks) lines.now cpus.old text.items) }
 {
     let (early, later) = lines.split_at(before_go(lines));
-    let mut text = replay_by_visits(rt, alloc, system, cpus, early)?;
+    let mut text = replay_lines(rt, alloc, system, cpus, early)?;
     let told = run_each(rt, alloc, system, cpus, later, gate)?;
     text.extend_from_slice(&told)?;
     Ok(text)

@@ -8,7 +8,7 @@ use anyhow::{Context, Result, bail, ensure};
 use cpu_part::{BootName, Cpu, Dropped, Tables};
 use mem_system::{Cmd, System};
 use script_lines::line::{Command, Line};
-use script_replay::{replay_by_visits, visit_command};
+use script_replay::{replay_lines, visit_command};
 use std::alloc::Global;
 use std::slice;
 use std::sync::Wait;
@@ -47,7 +47,7 @@ pub fn ask<N: BootName, R: Wait>(
         processor: 1,
         command: *command,
     };
-    Ok(replay_by_visits(rt, alloc, system, slice::from_mut(cpu), &[line])?)
+    Ok(replay_lines(rt, alloc, system, slice::from_mut(cpu), &[line])?)
 }
 
 // Adds what the processor is answered that visits at once.

@@ -1,6 +1,7 @@
 //! Scripts whose lines run in a thread for each processor.
 
-use crate::gates::{HeldVisit, LineTurns};
+use crate::gates::GateCall::{After, Before, Inside};
+use crate::gates::{GateCall, HeldVisit, LineTurns, NotedCalls};
 use crate::systems::{TWO_PROCESSORS, add, events_text, holds, run_script, threads_tell};
 use mem_system::{Audit, NoGate};
 
@@ -18,7 +19,7 @@ go
 
 #[test]
 fn a_processor_goes_on_while_another_is_inside(rt: HostRuntime) {
-    let gate = HeldVisit::new();
+    let gate = HeldVisit::until(3);
     let told = run_script(&rt, TWO_PROCESSORS, BESIDE_A_VISIT, "1 release 0\n", &gate);
     let told = told.expect(&rt, "a run");
     holds(&rt, !gate.thread_was_late());
@@ -34,6 +35,97 @@ fn a_processor_goes_on_while_another_is_inside(rt: HostRuntime) {
         returns: 1,
     };
     holds(&rt, told.audit == audit);
+}
+
+// CPU 1 is inside the visit of its release, before it is served, while CPU 2 is answered its line.
+const BESIDE_A_RELEASE: &str = "\
+1 mkdir /a
+1 alloc /a 0
+1 settle
+go
+1 release 0
+2 get 0
+";
+
+#[test]
+fn a_command_is_served_after_the_gate_was_inside(rt: HostRuntime) {
+    let gate = HeldVisit::until(1);
+    let last = "2 put 0\n2 settle\n1 owner 0\n";
+    let told = run_script(&rt, TWO_PROCESSORS, BESIDE_A_RELEASE, last, &gate);
+    let told = told.expect(&rt, "a run");
+    holds(&rt, !gate.thread_was_late());
+    let answers = "group 1\nframe 0\nsettled\ncpu 1\nleft 1\ncpu 2\nheld\n";
+    threads_tell(&rt, &told, answers, "last\nsettled\nfree\n");
+}
+
+// Lines 5 to 8 of CPU 1 and 9 to 17 of CPU 2, some of which need no visit.
+const VISITED_AND_NOT: &str = "\
+1 mkdir /a
+2 alloc /a 0
+2 settle
+go
+1 mkdir /a/b
+1 alloc /a 0
+1 alloc /a 0
+1 alloc /a 1
+2 release 0
+2 get 15
+2 fast 63
+2 write /a memory.max max
+2 read /a memory.max
+2 touch 15
+2 owner 15
+2 settle
+2 put 15
+";
+
+const CALLS_BY_FIRST: [GateCall; 11] = [
+    Before { line: 5 },
+    Inside,
+    After { line: 5 },
+    Before { line: 6 },
+    Inside,
+    After { line: 6 },
+    Before { line: 7 },
+    After { line: 7 },
+    Before { line: 8 },
+    Inside,
+    After { line: 8 },
+];
+
+const CALLS_BY_SECOND: [GateCall; 24] = [
+    Before { line: 9 },
+    Inside,
+    After { line: 9 },
+    Before { line: 10 },
+    After { line: 10 },
+    Before { line: 11 },
+    After { line: 11 },
+    Before { line: 12 },
+    Inside,
+    After { line: 12 },
+    Before { line: 13 },
+    Inside,
+    After { line: 13 },
+    Before { line: 14 },
+    Inside,
+    After { line: 14 },
+    Before { line: 15 },
+    Inside,
+    After { line: 15 },
+    Before { line: 16 },
+    Inside,
+    After { line: 16 },
+    Before { line: 17 },
+    After { line: 17 },
+];
+
+#[test]
+fn a_gate_is_called_around_each_line_and_inside_each_visit(rt: HostRuntime) {
+    let gate = NotedCalls::new(rt.alloc()).expect(&rt, "memory");
+    let told = run_script(&rt, TWO_PROCESSORS, VISITED_AND_NOT, "", &gate);
+    holds(&rt, told.is_some());
+    holds(&rt, gate.are(&CALLS_BY_FIRST, &CALLS_BY_SECOND));
 }
 
 // Processor 1 kills the group of a frame while processor 2 refers to it.

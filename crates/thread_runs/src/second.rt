@@ -1,7 +1,7 @@
 //! A run by threads that fails for want of memory, or of a thread, leaves nothing that keeps the next one from being whole.
 
+use crate::gates::CountedLines;
 use crate::systems::{TWO_PROCESSORS, ThreadAnswers, holds, run_script, threads_tell};
-use mem_system::NoGate;
 use std::process::Abort;
 use std::sync::Wait;
 use std::test::Fail;
@@ -11,21 +11,26 @@ use std::thread::Threads;
 const SCRIPT: &str =
     "1 mkdir /a\n2 alloc /a 0\n2 settle\ngo\n1 get 0\n1 put 0\n2 settle\n2 read /a memory.current\n";
 
-// What the threads answer in a whole life, from a boot to its end; None where memory or a thread is wanting.
-fn life_of_threads<R: AllocGlobal + Threads + Wait + Abort + Sync>(
-    rt: &R,
+// What the threads answer in a whole life, from a boot to its end; None if memory or a thread is refused.
+fn life_of_threads(
+    rt: &(impl AllocGlobal + Threads + Wait + Abort + Sync),
+    gate: &CountedLines,
 ) -> Option<ThreadAnswers> {
-    run_script(rt, TWO_PROCESSORS, SCRIPT, "1 owner 0\n", &NoGate)
+    run_script(rt, TWO_PROCESSORS, SCRIPT, "1 owner 0\n", gate)
 }
 
 // `tests/refuse-memory` runs this with each of its calls for memory, and for a thread, refused in turn, until the first run
-// ends.
+// ends. A line for which memory ran out is cut off: its gate isn't called after it.
 #[test]
 fn a_second_run_is_whole_where_the_first_was_refused(rt: HostRuntime) -> Result<(), Fail> {
-    let mut told = life_of_threads(&rt);
+    let gate = CountedLines::new();
+    let mut told = life_of_threads(&rt, &gate);
     if told.is_none() {
         println!(rt; "the first life was refused")?;
-        told = life_of_threads(&rt);
+        if gate.has_cut_a_line() {
+            println!(rt; "a line was cut off")?;
+        }
+        told = life_of_threads(&rt, &CountedLines::new());
     }
     is_whole(&rt, &told.expect(&rt, "a run"));
     Ok(())

@@ -1,0 +1,115 @@
+//! What the words of the command line ask for, read from what clap found in them.
+
+ghost use Rattle.std.specs.Prelude.{◌≡◌, ◌≤◌, IfSome, option_and_then};
+ghost use Rattle.clap.specs.Words.{found_of, rows_of, subcommand_rows_of};
+ghost use Rattle.load_options.specs.Sizes.{HasSizesInRange};
+ghost use Rattle.load_options.specs.Words.{is_given, number_kept, options_under, size_in, sizes_in, task_in};
+
+use clap::ArgMatches;
+use zone_sizes::config::Config;
+
+// The greatest value that the option of each size takes.
+pub(crate) const MOST_FRAMES: u32 = 1_048_576;
+
+pub(crate) const MOST_CPUS: u32 = 64;
+
+pub(crate) const MOST_BATCH: u32 = 64;
+
+pub(crate) const MOST_HIGH: u32 = 256;
+
+pub(crate) const MOST_STOCK: u32 = 64;
+
+/// What the program does with the script, with the options that this task alone has.
+#[derive(Clone, Copy, Debug, PartialEq, Eq)]
+pub enum Task {
+    /// The lines run one after the other.
+    Replay {
+        /// Whether each kill is explained after the answer of its command.
+        is_explained: bool,
+    },
+    /// The lines from `go` on run in one thread for each CPU.
+    Run,
+}
+
+/// What the words of the command line ask for.
+#[derive(Clone, Copy, Debug, PartialEq, Eq)]
+pub struct Options {
+    /// What is done with the script.
+    pub task: Task,
+    /// The sizes to boot with.
+    pub sizes: Config,
+    /// Whether the end is reported: the pins that are still held, and the counts.
+    pub is_audited: bool,
+}
+
+// The options, if there is a subcommand of the program and each size has a value in its range.
+pub(crate) fn read_options(found: &ArgMatches<'_>) -> Option<Options>
+    ensures asked { result ≡ option_and_then (λ p. options_under p.0 p.1) (subcommand_rows_of found.now) }
+    ensures in_range { IfSome result (λ o. HasSizesInRange o.sizes) }
+{
+    let (name, given) = found.subcommand()?;
+    let task = named_task(name, given)?;
+    let sizes = sizes(given)?;
+    let is_audited = is_set(given, "audit");
+    Some(Options {
+        task,
+        sizes,
+        is_audited,
+    })
+}
+
+// The task of this name, with its own options.
+fn named_task(name: &str, given: &ArgMatches<'_>) -> Option<Task>
+    ensures { result ≡ task_in name.now (rows_of (found_of given.now)) }
+{
+    if name == "replay" {
+        let is_explained = is_set(given, "explain");
+        Some(Task::Replay { is_explained })
+    } else if name == "run" {
+        Some(Task::Run)
+    } else {
+        None
+    }
+}
+
+// The five sizes.
+fn sizes(given: &ArgMatches<'_>) -> Option<Config>
+    ensures asked { result ≡ sizes_in (rows_of (found_of given.now)) }
+    ensures in_range { IfSome result HasSizesInRange }
+{
+    Some(Config {
+        frames: size(given, "frames", MOST_FRAMES)?,
+        cpus: size(given, "cpus", MOST_CPUS)?,
+        batch: size(given, "batch", MOST_BATCH)?,
+        high: size(given, "high", MOST_HIGH)?,
+        stock: size(given, "stock", MOST_STOCK)?,
+    })
+}
+
+// Whether an option without a value is given.
+fn is_set(given: &ArgMatches<'_>, name: &str) -> bool
+    ensures { result ≡ is_given name.now (rows_of (found_of given.now)) }
+{
+    given.get_one::<bool>(name).unwrap_or(false)
+}
+
+// The value of this option, if it is from 1 to `most`.
+fn size(given: &ArgMatches<'_>, name: &str, most: u32) -> Option<u32>
+    ensures asked { result ≡ size_in name.now most (rows_of (found_of given.now)) }
+    ensures in_range { IfSome result (λ size. (1 ≤ size) × (size ≤ most)) }
+{
+    let size = given.get_one::<u32>(name)?;
+    in_range(size, most)
+}
+
+// The number, if it is one from 1 to `most`.
+fn in_range(number: u32, most: u32) -> Option<u32>
+    ensures kept { result ≡ number_kept most number }
+    ensures in_range { IfSome result (λ number. (1 ≤ number) × (number ≤ most)) }
+{
+    if number < 1 || most < number {
+        None
+    } else {
+        Some(number)
+    }
+}

@@ -1,0 +1,64 @@
+-- The answers of the early lines and those of the later, joined. Serves `run_by_threads`.
+use Rattle.std.proofs.Common.{◌≡◌, ℕ, Bool, false, List, [], ◌++◌, All, take, drop, refl, sym, subst}
+use Rattle.std.proofs.lemmas.List.Elements.{All-take, All-drop}
+use Rattle.frame_word.specs.Seats.{KnownTable}
+use Rattle.stock_word.specs.Stock.{Words}
+use Rattle.zone_sizes.specs.declared.config.Config.{Config}
+use Rattle.mem_system.specs.Boots.{IsSizedAs}
+use Rattle.script_lines.specs.declared.line.Line.{Line}
+use Rattle.script_replay.specs.History.{TellsHistory, past}
+use Rattle.script_replay.specs.Lines.{ServesAll, Standing}
+use Rattle.script_replay.specs.Ranges.{LineIsThere}
+use Rattle.script_replay.specs.Terms.{boot_tables, terms}
+use Rattle.script_threads.specs.Each.{TellsEach, workers_from}
+use Rattle.script_threads.specs.Runs.{lines_before_go}
+use Rattle.load_run.specs.declared.boot_end.Ended.{Ended}
+use Rattle.load_run.specs.Answers.{StandsAtFirst}
+use Rattle.load_run.specs.Ending.{EndsAfter, end_text}
+use Rattle.load_run.specs.Answers.{AreThreadAnswers, StandsQuiet}
+
+-- all lines name what is there, also as the tables and the parts say it
+there : (frames cpus known parts : ℕ) (lines : List Line) → frames ≡ known → cpus ≡ parts → All (LineIsThere frames cpus) lines
+    → All (LineIsThere known parts) lines
+there frames cpus known parts lines f p all = subst (λ (b : ℕ × ℕ). All (LineIsThere b.0 b.1) lines) (λ i. (f i, p i)) all
+
+-- so do the first of them
+pub early_there : (sizes : Config) (t : KnownTable) (w : Words) (n parts : ℕ) (lines early : List Line) → IsSizedAs sizes t w
+    → parts ≡ sizes.cpus → early ≡ take n lines → All (LineIsThere sizes.frames sizes.cpus) lines → All (LineIsThere t.frames parts) early
+early_there sizes t w n parts lines early sized count is all =
+    subst (λ (l : List Line). All (LineIsThere t.frames parts) l) (sym is)
+    (All-take (LineIsThere t.frames parts) n lines (there sizes.frames sizes.cpus t.frames parts lines (sym sized.frames) (sym count) all))
+
+-- and the others
+pub later_there : (sizes : Config) (t : KnownTable) (w : Words) (n : ℕ) (lines later : List Line) → IsSizedAs sizes t w
+    → later ≡ drop n lines → All (LineIsThere sizes.frames sizes.cpus) lines → All (LineIsThere t.frames t.cpus) later
+later_there sizes t w n lines later sized is all =
+    subst (λ (l : List Line). All (LineIsThere t.frames t.cpus) l) (sym is)
+    (All-drop (LineIsThere t.frames t.cpus) n lines (there sizes.frames sizes.cpus t.frames t.cpus lines (sym sized.frames) (sym sized.cpus) all))
+
+-- the early lines were served from the boot on, the later ones told by processor, and the boot ended: these are the answers
+pub are_answers : (sizes : Config) (is_audited : Bool) (t : KnownTable) (w : Words) (lines first_lines other_lines : List Line)
+    (start at_go : Standing) (early later text : List ℕ) (told : Ended) → StandsAtFirst sizes t w start
+    → first_lines ≡ take (lines_before_go lines) lines → other_lines ≡ drop (lines_before_go lines) lines
+    → ServesAll (terms t w false) first_lines start at_go early → TellsHistory (terms t w false) first_lines (past [] start) at_go early
+    → TellsEach (boot_tables t w) (workers_from 1 at_go.cpus other_lines) later
+    → EndsAfter t w (StandsQuiet t w) told
+    → text ≡ (early ++ later) ++ end_text is_audited told → AreThreadAnswers sizes is_audited lines text
+are_answers sizes is_audited t w lines first_lines other_lines start at_go early later text told first is_first is_other served history tells
+    ended is = record {
+      frames = t;
+      stocks = w;
+      start = start;
+      at_go = at_go;
+      end = ended.before;
+      early = early;
+      later = later;
+      ending = end_text is_audited told;
+      first = first;
+      served = subst (λ (l : List Line). ServesAll (terms t w false) l start at_go early) is_first served;
+      history = subst (λ (l : List Line). TellsHistory (terms t w false) l (past [] start) at_go early) is_first history;
+      tells = subst (λ (l : List Line). TellsEach (boot_tables t w) (workers_from 1 at_go.cpus l) later) is_other tells;
+      quiet = ended.so;
+      ends = record { ended = told; ends = ended.ends; text_is = refl };
+      text_is = is;
+    }

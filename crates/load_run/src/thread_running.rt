@@ -1,0 +1,91 @@
+//! The life of a boot under `run`: the lines before `go` one after the other, the others by a thread for each
+//! processor, and the end.
+
+ghost use Rattle.std.specs.Prelude.{◌≡◌, ◌<◌, ◌^◌, All, IfOk, length};
+ghost use Rattle.script_replay.specs.Ranges.{LineIsThere};
+ghost use Rattle.script_replay.specs.Terms.{boot_tables};
+ghost use Rattle.script_threads.specs.Each.{TellsEach, workers_from};
+ghost use Rattle.load_run.specs.Ending.{EndsAfter};
+ghost use Rattle.load_run.specs.Answers.{AreThreadAnswers, StandsQuiet};
+
+use crate::boot_end::{Ended, end_boot};
+use crate::running::tell_end;
+use cpu_part::{BootName, Cpu, Tables};
+use mem_system::{Boot, Locked, NoGate, System};
+use script_lines::line::Line;
+use script_replay::replay;
+use script_threads::{before_go, run_each};
+use std::alloc::{AllocError, Global};
+use std::sync::Wait;
+use std::thread::Threads;
+
+/// Runs the lines on a boot under a name of its tables, and ends it; what they are answered, and what is told of the
+/// end where that is asked for. The lines before `go` are served one after the other, as `replay` does, and those from
+/// it on by a thread for each processor, as `run_each` does; where there is no `go`, all lines run in threads.
+/// `AllocError` comes where memory is wanting or a thread can't be made: the boot has ended then too, and each thread
+/// that was started before that.
+pub fn run_by_threads<N: BootName + Send + Sync, R: Threads + Wait + Sync>(
+    rt: &R,
+    alloc: Global,
+    boot: Boot,
+    lines: &[Line<'_>],
+    is_audited: bool,
+) -> Result<Vec<u8>, AllocError>
+    requires frames { boot.frames ≡ N.frames }
+    requires stocks { boot.stocks ≡ N.stocks }
+    requires lines { All (LineIsThere boot.sizes.frames boot.sizes.cpus) lines.now }
+    ensures answers { IfOk result (λ text. AreThreadAnswers boot.sizes is_audited lines.now text.items) }
+{
+    let (early, later) = lines.split_at(before_go(lines));
+    let (mut locked, tables, mut cpus) = boot.into_parts::<N>(alloc)?;
+    let first = replay(alloc, &mut locked, &tables, &mut cpus, early, false);
+    let (told, ended) = serve_and_end(rt, alloc, locked, tables, cpus, later, first.is_ok());
+    let mut answers = first?;
+    answers.extend_from_slice(&told?)?;
+    tell_end(alloc, answers, ended, is_audited)
+}
+
+// Serves the later lines by a thread for each processor, and ends the boot, also where memory was wanting.
+fn serve_and_end<N: BootName + Send + Sync, R: Threads + Wait + Sync>(
+    rt: &R,
+    alloc: Global,
+    locked: Locked<N>,
+    tables: Tables<N>,
+    mut cpus: Vec<Cpu<N>>,
+    lines: &[Line<'_>],
+    has_memory: bool,
+) -> (Result<Vec<u8>, AllocError>, Ended)
+    requires count { length cpus.items ≡ N.frames.cpus }
+    requires lines { All (LineIsThere N.frames.frames N.frames.cpus) lines.now }
+    ensures told { IfOk result.0 (λ text.
+        TellsEach (boot_tables N.frames N.stocks) (workers_from 1 cpus.items lines.now) text.items) }
+    ensures ends { EndsAfter N.frames N.stocks (StandsQuiet N.frames N.stocks) result.1 }
+{
+    locked.see_quiet(); // For the clauses: there are fewer than 2^31 processors, as `run_each` asks.
+    let system = System::of(locked, tables);
+    let told = serve_later(rt, alloc, &system, &mut cpus, lines, has_memory);
+    let (locked, tables) = system.into_parts();
+    let ended = end_boot(locked, tables, cpus);
+    (told, ended)
+}
+
+// The answers of the later lines, by a thread for each processor. Where memory was wanting before, none is started.
+fn serve_later<N: BootName + Send + Sync, R: Threads + Wait + Sync>(
+    rt: &R,
+    alloc: Global,
+    system: &System<N>,
+    cpus: &mut [Cpu<N>],
+    lines: &[Line<'_>],
+    has_memory: bool,
+) -> Result<Vec<u8>, AllocError>
+    requires count { length cpus.old < 2 ^ 31 }
+    requires lines { All (LineIsThere N.frames.frames (length cpus.old)) lines.now }
+    ensures told { IfOk result (λ text.
+        TellsEach (boot_tables N.frames N.stocks) (workers_from 1 cpus.old lines.now) text.items) }
+{
+    if has_memory {
+        run_each(rt, alloc, system, cpus, lines, &NoGate)
+    } else {
+        Err(AllocError)
+    }
+}

@@ -1,4 +1,0 @@
-pub mod Answering
-pub mod Causing
-pub mod Driving
-pub mod Joining
