@@ -5,7 +5,7 @@ ghost use Rattle.mem_system.specs.Commands.{IsOfZone};
 use cpu_part::{BootName, Cpu};
 use group_tree::fault::Fault;
 use group_tree::group::GroupId;
-use mem_system::{Audit, Boot, Cmd, Gate, Reply, System};
+use mem_system::{Audit, Boot, Cmd, Gate, Reply, System, boot};
 use std::alloc::Global;
 use std::marker::Brand;
 use std::process::Abort;
@@ -251,12 +251,12 @@ fn visits<N: BootName, R: Wait + Abort>(
 
 #[test]
 fn a_group_is_made_and_read(rt: HostRuntime) {
-    let boot = Boot::new(rt.alloc(), SIZES).expect(&rt, "a boot");
+    let boot = boot(rt.alloc(), SIZES).expect(&rt, "a boot");
     lives::<Brand, _>(&rt, rt.alloc(), boot);
 }
 
 #[test]
 fn bad_sizes_are_refused(rt: HostRuntime) {
     let sizes = Config { cpus: 65, ..SIZES };
-    holds(&rt, Boot::new(rt.alloc(), sizes).is_err());
+    holds(&rt, boot(rt.alloc(), sizes).is_err());
 }

@@ -3,7 +3,7 @@ ghost use Rattle.std.specs.Prelude.{◌≡◌};
 
 use crate::life::{SIZES, ends, nothing_was_charged};
 use cpu_part::{BootName, Cpu};
-use mem_system::{Audit, Boot, System};
+use mem_system::{Audit, Boot, System, boot};
 use std::alloc::Global;
 use std::marker::Brand;
 use std::process::Abort;
@@ -20,7 +20,7 @@ fn starts_and_ends<N: BootName, R: Abort>(rt: &R, alloc: Global, boot: Boot) -> 
 
 // A boot's whole life; None where memory is wanting.
 fn boots_and_ends<R: Abort>(rt: &R, alloc: Global) -> Option<Audit> {
-    let boot = Boot::new(alloc, SIZES).ok()?;
+    let boot = boot(alloc, SIZES).ok()?;
     starts_and_ends::<Brand, _>(rt, alloc, boot)
 }
 
@@ -65,7 +65,7 @@ fn starts_and_tells<N: BootName, R: Wait + Abort>(
 
 // A boot's whole life with its texts; None where memory is wanting.
 fn boots_and_tells<R: Wait + Abort>(rt: &R, alloc: Global) -> Option<(String, String)> {
-    let boot = Boot::new(alloc, SIZES).ok()?;
+    let boot = boot(alloc, SIZES).ok()?;
     starts_and_tells::<Brand, _>(rt, alloc, boot)
 }
 
