@@ -80,16 +80,14 @@ fn make<N: BootName>(machine: &mut Machine<N>, cpu: &Cpu<N>, word: u32) -> Machi
 }
 
 // A group with nothing below it and nothing charged goes.
-fn remove<N: BootName>(
-    tables: &Tables<N>,
-    machine: &mut Machine<N>,
-    cpu: &mut Cpu<N>,
-    word: u32,
-) -> MachineCall
-    requires { Visits N.frames (side machine.old cpu.old) }
-    ensures { Stays N.frames machine.old cpu.old machine.new cpu.new }
+fn remove<N: BootName>(machine: &mut Machine<N>, cpu: &Cpu<N>, word: u32) -> MachineCall
+    requires { Visits N.frames (side machine.old cpu.now) }
+    ensures { Stays N.frames machine.old cpu.now machine.new cpu.now }
 {
     let group = some_group(word);
+    if cpu.fresh_len() > 0 {
+        return MachineCall::Nothing;
+    }
     let tree = machine.charges().tree();
     if group == GroupId::root() || !tree.contains(group) || tree.has_child(group) {
         return MachineCall::Nothing;
@@ -97,7 +95,7 @@ fn remove<N: BootName>(
     if machine.current(group) > 0 {
         return MachineCall::Nothing;
     }
-    machine.remove(tables, cpu, group);
+    machine.remove(cpu, group);
     MachineCall::Removed(group)
 }
 
@@ -253,7 +251,10 @@ fn take_block<N: BootName>(
 {
     let group = some_group(word);
     let order = Order::of((word >> 16) % 4).unwrap();
-    if cpu.back_len() > 0 || !machine.charges().tree().contains(group) {
+    if cpu.fresh_len() > 0 || cpu.back_len() > 0 {
+        return MachineCall::Nothing;
+    }
+    if !machine.charges().tree().contains(group) {
         return MachineCall::Nothing;
     }
     if machine.is_killed(group) || !machine.charges().fits(order.frames()) {
@@ -316,7 +317,7 @@ fn make_call<N: BootName>(
         0 | 1 => refill(tables, machine, cpu, word),
         2 => drain_list(tables, machine, cpu, word),
         3 => make(machine, cpu, word),
-        4 => remove(tables, machine, cpu, word),
+        4 => remove(machine, cpu, word),
         5 if word & 32 == 0 => set_oom_group(machine, cpu, word),
         5 => set_max(machine, cpu, word),
         6 if word & 32 == 0 => note_group_kill(machine, cpu, word),
