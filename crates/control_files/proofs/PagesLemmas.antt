@@ -7,8 +7,7 @@ use Rattle.group_tree.specs.declared.fault.Fault.{Fault}
 use Rattle.group_tree.specs.declared.fault.Fault.TheVariants.{BadLimit, BadNumber}
 use Rattle.control_files.proofs.GrammarLemmas.{has_only_word, same_value}
 use Rattle.control_files.proofs.ReadingLemmas.{limit_text, limit_word}
-use Rattle.control_files.specs.declared.text.TheConstants.{PAGE_BYTES}
-use Rattle.control_files.specs.Limit.{IsLimitText, ReadsAmount, IsTooGreat, IsNoAmountText}
+use Rattle.control_files.specs.Limit.{page_bytes, IsLimitText, ReadsAmount, IsTooGreat, IsNoAmountText}
 use Rattle.control_files.specs.Reading.{HasOnlyWord, IsOnlyWord, IsAmountReading, IsPagesReading}
 
 no_word_pages : (text : List ℕ) → ((word : List ℕ) → ¬ HasOnlyWord text word) → IsPagesReading text (Err BadLimit)
@@ -20,7 +19,7 @@ no_pages text None fault missing is = let same : fault ≡ BadLimit = cc in rw s
 no_pages text (Some word) fault missing is = cc
 
 pub pages_reading : (text word : List ℕ) (amount : ℕ) → HasOnlyWord text word → IsAmountReading word (Ok amount)
-    → IsPagesReading text (Ok (div_ceil amount PAGE_BYTES))
+    → IsPagesReading text (Ok (div_ceil amount page_bytes))
 pages_reading text word amount h a =
     record { amount = amount; grammar = limit_text text word (Some amount) h a.0; in_range = a.1; pages_are = refl }
 
@@ -36,7 +35,7 @@ one_amount text m n h k = let same : Some m ≡ Some n = same_value text (Some m
 -- a text is read in one way
 reads_one : (text : List ℕ) (m n : ℕ) → ReadsAmount text m → ReadsAmount text n → m ≡ n
 reads_one text m n h k = h.pages_are
-    ∙ (ap (λ (a : ℕ). div_ceil a PAGE_BYTES) (one_amount text h.amount k.amount h.grammar k.grammar) ∙ sym k.pages_are)
+    ∙ (ap (λ (a : ℕ). div_ceil a page_bytes) (one_amount text h.amount k.amount h.grammar k.grammar) ∙ sym k.pages_are)
 
 reads_small : (text : List ℕ) (pages : ℕ) → ReadsAmount text pages → IsTooGreat text → ⊥
 reads_small text pages h great =

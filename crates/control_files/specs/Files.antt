@@ -8,7 +8,7 @@ use Rattle.group_tree.specs.declared.fault.Fault.{Fault}
 use Rattle.group_tree.specs.declared.fault.Fault.TheVariants.{WriteOnly}
 use Rattle.group_charge.specs.Charges.{Ledger, current_of, peak_of, events_of, events_local_of}
 use Rattle.control_files.specs.Flag.{flag_word}
-use Rattle.control_files.specs.declared.text.TheConstants.{PAGE_BYTES}
+use Rattle.control_files.specs.Limit.{page_bytes}
 use Rattle.control_files.specs.declared.file.File.{File}
 use Rattle.control_files.specs.declared.file.File.TheVariants.{Current, Max, Peak, Events, EventsLocal, OomGroup, Reclaim}
 
@@ -40,9 +40,9 @@ is_readable file = (row_of file).is_readable
 abbrev pub is_writable : File → Bool
 is_writable file = (row_of file).is_writable
 
--- so many pages of PAGE_BYTES, 4,096, told in bytes, on a line of their own
+-- so many pages, in bytes, on a line of their own
 abbrev pub pages_text : ℕ → List ℕ
-pages_text pages = decimal (pages * PAGE_BYTES) ++ codes "\n"
+pages_text pages = decimal (pages * page_bytes) ++ codes "\n"
 
 -- a limit in pages, or `max` for none
 abbrev pub limit_text : Option ℕ → List ℕ

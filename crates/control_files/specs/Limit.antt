@@ -9,7 +9,10 @@ use Rattle.std.specs.Char.{to_ascii_uppercase}
 use Rattle.std.specs.Int.{div_ceil}
 use Rattle.std.specs.List.{list_all}
 use Rattle.std.specs.Str.Parse.{IsNumeral, digits_value}
-use Rattle.control_files.specs.declared.text.TheConstants.{PAGE_BYTES}
+
+-- how many bytes a page has (PAGE_SIZE of x86-64 Linux)
+abbrev pub page_bytes : ℕ
+page_bytes = 4096
 
 -- a space, or a tab, a line feed, a vertical tab, a form feed or a carriage return (9 to 13)
 abbrev pub is_space : ℕ → Bool
@@ -61,11 +64,11 @@ pub record IsLimitText (text : List ℕ) (value : Option ℕ) : Type 0 where
   pub spaces_after : AreSpaces after
   pub word_is : IsLimitWord word value
 
--- whole pages of PAGE_BYTES, 4,096, rounded up; 2^32 pages and more are no limit
+-- whole pages, rounded up; 2^32 pages and more are no limit
 abbrev pub pages_of : Option ℕ → Option ℕ
 pages_of None = None
 pages_of (Some amount) =
-    if nat_lt (div_ceil amount PAGE_BYTES) (2 ^ 32) then Some (div_ceil amount PAGE_BYTES) else None
+    if nat_lt (div_ceil amount page_bytes) (2 ^ 32) then Some (div_ceil amount page_bytes) else None
 
 -- no limit, or an amount of at most 2^64 - 1 bytes
 abbrev pub IsInRange : Option ℕ → Type 0
@@ -83,12 +86,12 @@ pub record ReadsAs (text : List ℕ) (limit : Option ℕ) : Type 0 where
 abbrev pub IsTooGreat : List ℕ → Type 0
 IsTooGreat text = (amount : ℕ) × (2 ^ 64 ≤ amount) × IsLimitText text (Some amount)
 
--- the text is in the grammar and writes an amount, which is not too great: in whole pages of PAGE_BYTES, rounded up
+-- the text is in the grammar and writes an amount, which is not too great: in whole pages, rounded up
 pub record ReadsAmount (text : List ℕ) (pages : ℕ) : Type 0 where
   pub amount : ℕ
   pub grammar : IsLimitText text (Some amount)
   pub in_range : amount < 2 ^ 64
-  pub pages_are : pages ≡ div_ceil amount PAGE_BYTES
+  pub pages_are : pages ≡ div_ceil amount page_bytes
 
 -- the text writes no amount: it is not in the grammar, or it is `max`
 abbrev pub IsNoAmountText : List ℕ → Type 0

@@ -1,19 +1,22 @@
--- A text kept in a fixed array of MAX_TEXT bytes, 160.
+-- A text kept in a fixed array of `longest_text` bytes.
 use Rattle.std.specs.Prelude.{◌≡◌, ℕ, ◌-◌, ◌≤◌, ◌++◌, List, length, take, drop, replicate}
 use Rattle.std.proofs.Common.{arith}
 use Rattle.std.proofs.lemmas.List.{take-append-drop, length-take-le}
-use Rattle.control_files.specs.declared.text.TheConstants.{MAX_TEXT}
 use Rattle.control_files.specs.declared.text.ArrayText.TheInside.{Inside}
+
+-- how many bytes a text may have: more than any file of a group
+abbrev pub longest_text : ℕ
+longest_text = 160
 
 -- the first `len` bytes are the text, and the bytes behind it are zero
 pub record IsPadded (bytes : List ℕ) (len : ℕ) : Type 0 where
-  pub size : length bytes ≡ MAX_TEXT
-  pub fits : len ≤ MAX_TEXT
-  pub zeros : drop len bytes ≡ replicate (MAX_TEXT - len) 0
+  pub size : length bytes ≡ longest_text
+  pub fits : len ≤ longest_text
+  pub zeros : drop len bytes ≡ replicate (longest_text - len) 0
 
--- a text with zeros behind it, MAX_TEXT bytes in all
+-- a text with zeros behind it, longest_text bytes in all
 abbrev pub padded : List ℕ → List ℕ
-padded text = text ++ replicate (MAX_TEXT - length text) 0
+padded text = text ++ replicate (longest_text - length text) 0
 
 -- the first bytes with zeros behind them are all the bytes
 padded-bytes : (bytes : List ℕ) (len : ℕ) → IsPadded bytes len → padded (take len bytes) ≡ bytes

@@ -4,6 +4,7 @@ ghost use Rattle.std.specs.Prelude.{◌≡◌, ◌≢◌, ◌+◌, ◌≤◌, �
 ghost use Rattle.std.specs.List.{find};
 ghost use Rattle.std.specs.Str.{bytes_eq};
 ghost use Rattle.control_files.specs.declared.file.File.{File};
+ghost use Rattle.control_files.specs.Text.{longest_text};
 ghost use Rattle.control_files.specs.Files.{count_line, events_text, file_text, is_readable, is_writable, name_of};
 ghost use Rattle.group_tree.specs.Groups.{has_group};
 
@@ -120,7 +121,7 @@ fn events_text(counts: EventCounts) -> ArrayText
 
 // Writes the line of a key and its count.
 fn push_count(text: &mut ArrayText, key: &[u8], count: u64)
-    requires { length text.old + length key.now + 22 ≤ 160 }
+    requires { length text.old + length key.now + 22 ≤ longest_text }
     ensures text { text.new ≡ text.old ++ count_line key.now count }
     ensures short { length text.new ≤ length text.old + length key.now + 22 }
 {

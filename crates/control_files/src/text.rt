@@ -3,6 +3,7 @@
 ghost use Rattle.std.specs.Prelude.{◌≡◌, ◌+◌, ◌≤◌, [], ◌++◌, take, drop, length};
 ghost use Rattle.std.specs.Fmt.{decimal};
 ghost use Rattle.control_files.specs.Files.{pages_text};
+ghost use Rattle.control_files.specs.Text.{longest_text};
 
 use itoa::Buffer;
 use std::marker::Model;
@@ -40,7 +41,7 @@ impl ArrayText {
     /// The bytes of the text.
     pub fn as_bytes(&self) -> &[u8]
         ensures text { result.now ≡ self.now }
-        ensures short { length result.now ≤ MAX_TEXT }
+        ensures short { length result.now ≤ longest_text }
     {
         &self.bytes[..self.len]
     }
@@ -57,7 +58,7 @@ impl ArrayText {
 
     /// Writes more bytes at the end.
     pub(crate) fn push(&mut self, more: &[u8])
-        requires { length self.old + length more.now ≤ MAX_TEXT }
+        requires { length self.old + length more.now ≤ longest_text }
         ensures { self.new ≡ self.old ++ more.now }
     {
         write_at(&mut self.bytes, self.len, more);
@@ -66,7 +67,7 @@ impl ArrayText {
 
     /// Writes a number at the end, in decimal.
     pub(crate) fn push_number(&mut self, number: u64)
-        requires { length self.old + 20 ≤ MAX_TEXT }
+        requires { length self.old + 20 ≤ longest_text }
         ensures text { self.new ≡ self.old ++ decimal number }
         ensures short { length self.new ≤ length self.old + 20 }
     {
@@ -77,7 +78,7 @@ impl ArrayText {
 
 /// These bytes as a text.
 pub(crate) fn text_of(bytes: &[u8]) -> ArrayText
-    requires { length bytes.now ≤ MAX_TEXT }
+    requires { length bytes.now ≤ longest_text }
     ensures { result ≡ bytes.now }
 {
     let mut text = ArrayText::new();

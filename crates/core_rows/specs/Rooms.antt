@@ -1,6 +1,7 @@
 -- Of the reading core, on which the program doesn't run.
 -- What is asked of rows before a step: that they are of the zone's size, and that no number is near its bound.
 use Rattle.std.specs.Prelude.{◌≡◌, ◌+◌, ◌^◌, ◌<◌, ◌≤◌, ℕ, true, false, List, All, replicate, length, vec_len, vec_capacity}
+use Rattle.group_tree.specs.Bounds.{most_groups}
 use Rattle.step_rules.specs.Phases.{Kind, has_as, is_live}
 use Rattle.step_rules.specs.State.{State, frames_of, front_of, visits}
 use Rattle.zone_blocks.specs.declared.block.Block.{Block}
@@ -23,14 +24,15 @@ pub record HasRoom (frames : ℕ) (s : Seat) : Type 0 where
   pub fresh : frames ≤ vec_capacity s.fresh
   pub back : frames ≤ vec_capacity s.back
 
--- the rows are of the zone's size: a phase for each frame, a seat for the zone and each processor, and 64 group numbers
+-- the rows are of the zone's size: a phase for each frame, a seat for the zone and each processor, and
+-- a place for each group number
 pub record FitsZone (r : Rows) : Type 0 where
   pub frames : r.frames ≤ 1048576
   pub cpus : r.cpus ≤ 64
   pub phases : vec_len r.phases ≡ r.frames
   pub seats : vec_len r.seats ≡ r.cpus + 1
-  pub killed : vec_len r.killed ≡ 64
-  pub pending : vec_len r.pending ≡ 64
+  pub killed : vec_len r.killed ≡ most_groups
+  pub pending : vec_len r.pending ≡ most_groups
   pub rooms : All (HasRoom r.frames) r.seats.items
 
 -- no number is near its bound: at most 255 references of a seat on a frame, and of live frames alone, no more pages than

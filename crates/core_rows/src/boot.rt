@@ -2,6 +2,7 @@
 //! Rows on which no step was made, and which frames are free.
 
 ghost use Rattle.std.specs.Prelude.{◌≡◌, ◌≤◌, ◌+◌, IfOk, All, vec_capacity, vec_len, replicate, false};
+ghost use Rattle.group_tree.specs.Bounds.{most_groups};
 ghost use Rattle.step_rules.specs.State.{at_boot, free_in};
 ghost use Rattle.step_rules.specs.declared.phase.Phase.{Phase};
 ghost use Rattle.core_rows.specs.Shown.{state_in};
@@ -10,6 +11,7 @@ ghost use Rattle.core_rows.specs.Rooms.{FitsZone, HasRoom, IsNewSeat};
 use crate::phases::is_free;
 use crate::rows::Rows;
 use crate::seat::{Seat, new_seat};
+use group_tree::group::MAX_GROUPS;
 use group_tree::tree::Tree;
 use std::alloc::{AllocError, Global};
 use step_rules::phase::{Hold, Phase};
@@ -40,18 +42,18 @@ fn new_phases(alloc: Global, frames: usize) -> Result<Vec<Phase>, AllocError>
 
 /// A flag for each group number, all off.
 fn new_flags(alloc: Global) -> Result<Vec<bool>, AllocError>
-    ensures items { IfOk result (λ flags. flags.items ≡ replicate 64 false) }
-    ensures number { IfOk result (λ flags. vec_len flags ≡ 64) }
+    ensures items { IfOk result (λ flags. flags.items ≡ replicate most_groups false) }
+    ensures number { IfOk result (λ flags. vec_len flags ≡ most_groups) }
 {
-    vec![in alloc; false; 64]
+    vec![in alloc; false; MAX_GROUPS]
 }
 
 /// No pages for each group number.
 fn new_counts(alloc: Global) -> Result<Vec<u128>, AllocError>
-    ensures items { IfOk result (λ counts. counts.items ≡ replicate 64 0) }
-    ensures number { IfOk result (λ counts. vec_len counts ≡ 64) }
+    ensures items { IfOk result (λ counts. counts.items ≡ replicate most_groups 0) }
+    ensures number { IfOk result (λ counts. vec_len counts ≡ most_groups) }
 {
-    vec![in alloc; 0; 64]
+    vec![in alloc; 0; MAX_GROUPS]
 }
 
 impl Rows {

@@ -7,14 +7,23 @@ use group_tree::group::GroupId;
 use group_tree::path::PathText;
 use mem_core::run::run;
 use mem_core::zone::Core;
-use plays::{CoreFact, CoreRow, core_tells, group_of, plays_rows, works_on_core};
+use mem_core::{Action, Answer, Config, Step};
+use plays::{CoreFact, CoreRow, EIGHT_FRAMES, core_tells, group_of, plays_rows, works_on_core};
 use std::alloc::Global;
 use std::process::Abort;
 use std::test::Fail;
 use step_rules::phase::Phase;
-use step_rules::step::{Action, Answer, Step};
 use zone_blocks::block::Block;
 use zone_blocks::order::Order;
+
+// A zone of 16 frames and one CPU.
+const SIXTEEN_FRAMES: Config = Config {
+    frames: 16,
+    cpus: 1,
+    batch: 1,
+    high: 1,
+    stock: 1,
+};
 
 // Processor 1 takes the lock, and /a is made as group 1.
 fn with_group() -> [CoreRow; 2] {
@@ -101,7 +110,7 @@ fn runs_rows(rt: &impl Abort, alloc: Global, rows: &[CoreRow]) -> Result<(), Fai
         };
         steps.push(step)?;
     }
-    let answers = run(alloc, 16, 1, steps.as_slice())?;
+    let answers = run(alloc, SIXTEEN_FRAMES, steps.as_slice())?;
     core_tells(rt, answers.len() == rows.len());
     for ((_, _, wanted), answer) in rows.iter().zip(answers.iter()) {
         core_tells(rt, *answer == *wanted);
@@ -310,7 +319,7 @@ fn the_257th_pin_is_illegal(rt: HostRuntime) -> Result<(), Fail> {
         (2, Action::Get { frame: 1 }, Answer::Held),
         (2, Action::Get { frame: 1 }, Answer::Illegal),
     ];
-    let mut core = Core::new(rt.alloc(), 8, 3)?;
+    let mut core = Core::new(rt.alloc(), EIGHT_FRAMES)?;
     plays_rows(&rt, &mut core, &with_frame());
     plays_rows(&rt, &mut core, &[grant, place, unfreeze]);
     for _ in 0..254 {

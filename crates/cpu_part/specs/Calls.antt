@@ -16,25 +16,25 @@ use Rattle.cpu_part.specs.declared.answers.Fast.{Fast}
 use Rattle.cpu_part.specs.declared.answers.Fast.TheVariants.{FreshFull, ListEmpty, OtherGroup, Drained, NoStock, Got}
 use Rattle.cpu_part.specs.declared.answers.Dropped.{Dropped}
 use Rattle.cpu_part.specs.declared.answers.Dropped.TheVariants.{Listed, NeedVisit}
-use Rattle.cpu_part.specs.Cpus.{KnownCpu}
+use Rattle.cpu_part.specs.Cpus.{most_fresh, KnownCpu}
 
 -- there is a frame on the list, and room among the fresh frames
 abbrev pub CanTake : KnownCpu → Type 0
-CanTake c = (length c.fresh < 32) × (1 ≤ length c.list)
+CanTake c = (length c.fresh < most_fresh) × (1 ≤ length c.list)
 
 -- a consume of group g gave this answer, and no list changed
 abbrev pub OnlyConsumes : ℕ → Consume → KnownCpu → KnownCpu → Type 0
 OnlyConsumes g answer c d = (seen : StockView) × Consumed g answer c.stock_seat.view seen × (d ≡ record c { stock_seat = with_view c.stock_seat seen })
 
--- What alloc_fast answers for group g, in this order: 32 fresh frames; an empty list; what a consume answers.
+-- What alloc_fast answers for group g, in this order: `most_fresh` fresh frames; an empty list; what a consume answers.
 -- Where it took a page, the front of the list is now the newest fresh frame.
 abbrev pub FastAnswers : ℕ → Fast → KnownCpu → KnownCpu → Type 0
-FastAnswers g FreshFull c d = (length c.fresh ≡ 32) × (d ≡ c)
-FastAnswers g ListEmpty c d = (length c.fresh < 32) × (c.list ≡ []) × (d ≡ c)
+FastAnswers g FreshFull c d = (length c.fresh ≡ most_fresh) × (d ≡ c)
+FastAnswers g ListEmpty c d = (length c.fresh < most_fresh) × (c.list ≡ []) × (d ≡ c)
 FastAnswers g OtherGroup c d = CanTake c × OnlyConsumes g consume.OtherGroup c d
 FastAnswers g Drained c d = CanTake c × OnlyConsumes g consume.Drained c d
 FastAnswers g NoStock c d = CanTake c × OnlyConsumes g consume.Empty c d
-FastAnswers g (Got f) c d = (length c.fresh < 32) × (rest : List ℕ) × (c.list ≡ f ∷ rest) × (seen : StockView) × Consumed g consume.Took c.stock_seat.view seen
+FastAnswers g (Got f) c d = (length c.fresh < most_fresh) × (rest : List ℕ) × (c.list ≡ f ∷ rest) × (seen : StockView) × Consumed g consume.Took c.stock_seat.view seen
     × (d ≡ record c { list = rest; fresh = c.fresh ++ f ∷ []; stock_seat = with_view c.stock_seat seen })
 
 -- this holds of the frame that an alloc_fast got, if it got one

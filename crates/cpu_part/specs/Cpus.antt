@@ -49,11 +49,23 @@ pub record AreItsSeats (t : KnownTable) (w : Words) (number : ℕ) (seat : Known
   pub frame_cpus : number ≤ t.cpus
   pub stock_cpus : number ≤ w.cpus
 
+-- how many listed and fresh frames a processor has at most, together
+abbrev pub most_listed : ℕ
+most_listed = 256
+
+-- how many of them are fresh at most
+abbrev pub most_fresh : ℕ
+most_fresh = 32
+
+-- how many pins and back frames a processor has at most, together
+abbrev pub most_pins : ℕ
+most_pins = 256
+
 -- how many frames and pins a processor's part can have, and a fresh page is taken for each fresh frame
 pub record AreWithin (list fresh back pins pages : ℕ) : Type 0 where
-  pub list_bound : list + fresh ≤ 256
-  pub fresh_bound : fresh ≤ 32
-  pub pin_bound : back + pins ≤ 256
+  pub list_bound : list + fresh ≤ most_listed
+  pub fresh_bound : fresh ≤ most_fresh
+  pub pin_bound : back + pins ≤ most_pins
   pub pages_are : pages ≡ fresh
 
 -- What always holds: the lists and pins are what the two seats know
@@ -64,10 +76,10 @@ pub record IsTied (t : KnownTable) (w : Words) (c : KnownCpu) : Type 0 where
 
 -- room is reserved for as many as there can be
 pub record HasRoom (list fresh back pins : ℕ) : Type 0 where
-  pub list_room : 256 ≤ list
-  pub fresh_room : 32 ≤ fresh
-  pub back_room : 256 ≤ back
-  pub pin_room : 256 ≤ pins
+  pub list_room : most_listed ≤ list
+  pub fresh_room : most_fresh ≤ fresh
+  pub back_room : most_pins ≤ back
+  pub pin_room : most_pins ≤ pins
 
 -- the part of a processor that did nothing yet
 abbrev pub first_cpu : KnownSeat → Seated → KnownCpu

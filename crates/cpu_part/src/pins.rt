@@ -3,7 +3,7 @@ ghost use Rattle.std.specs.Prelude.{◌≡◌, ◌≢◌, ◌+◌, ◌<◌, ◌�
 ghost use Rattle.frame_word.specs.declared.answers.Get.TheVariants.{Zero};
 ghost use Rattle.frame_word.specs.Seats.{IsInNoHand};
 ghost use Rattle.group_tree.specs.declared.fault.Fault.TheVariants.{PinsFull};
-ghost use Rattle.cpu_part.specs.Cpus.{times};
+ghost use Rattle.cpu_part.specs.Cpus.{most_pins, times};
 ghost use Rattle.cpu_part.specs.Calls.{PinAnswers, UnpinAnswers};
 
 use crate::boot_name::{BootName, Tables};
@@ -19,8 +19,8 @@ impl<N: BootName> Cpu<N> {
     pub fn get(&mut self, tables: &Tables<N>, frame: Frame) -> Result<Get, Fault>
         requires { frame < N.frames.frames }
         ensures answer { MatchResult result
-            (λ answer. (length self.old.back + length self.old.pins < 256) × PinAnswers frame answer self.old self.new)
-            (λ fault. (fault ≡ PinsFull) × (length self.old.back + length self.old.pins ≡ 256) × (self.new ≡ self.old)) }
+            (λ answer. (length self.old.back + length self.old.pins < most_pins) × PinAnswers frame answer self.old self.new)
+            (λ fault. (fault ≡ PinsFull) × (length self.old.back + length self.old.pins ≡ most_pins) × (self.new ≡ self.old)) }
         ensures never_zero { 1 ≤ times frame self.old.pins → result ≢ Ok Zero }
         ensures in_no_hand { IfOk result (λ answer. answer ≢ Zero → IsInNoHand self.old.frame_seat frame) }
     {

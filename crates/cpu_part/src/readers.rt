@@ -2,7 +2,7 @@
 ghost use Rattle.std.specs.Prelude.{◌≡◌, ◌≤◌, ◌<◌, ◌+◌, ◌↔◌, [], length, IsTrue, MatchOption};
 ghost use Rattle.stock_word.specs.declared.view.Stock.TheVariants.{NoGroup};
 ghost use Rattle.stock_word.specs.Stock.{HasWord};
-ghost use Rattle.cpu_part.specs.Cpus.{IsTied, IsIdle, times};
+ghost use Rattle.cpu_part.specs.Cpus.{IsTied, IsIdle, most_fresh, most_listed, most_pins, times};
 
 use crate::boot_name::BootName;
 use crate::cpu::Cpu;
@@ -36,7 +36,7 @@ impl<N: BootName> Cpu<N> {
     /// The number of pins, at most 256 with the back frames.
     pub fn pins(&self) -> usize
         ensures count { result ≡ length self.now.pins }
-        ensures bound { result + length self.now.back ≤ 256 }
+        ensures bound { result + length self.now.back ≤ most_pins }
     {
         self.pins.len()
     }
@@ -51,7 +51,7 @@ impl<N: BootName> Cpu<N> {
     /// The number of frames on the list, at most 256 with the fresh frames.
     pub fn list_len(&self) -> usize
         ensures count { result ≡ length self.now.list }
-        ensures bound { result + length self.now.fresh ≤ 256 }
+        ensures bound { result + length self.now.fresh ≤ most_listed }
     {
         self.list.len()
     }
@@ -59,7 +59,7 @@ impl<N: BootName> Cpu<N> {
     /// The number of fresh frames, at most 32.
     pub fn fresh_len(&self) -> usize
         ensures count { result ≡ length self.now.fresh }
-        ensures bound { result ≤ 32 }
+        ensures bound { result ≤ most_fresh }
         ensures pages { result ≡ self.now.stock_seat.view.fresh }
     {
         self.fresh.len()

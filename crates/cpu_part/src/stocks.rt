@@ -4,6 +4,7 @@ ghost use Rattle.stock_word.specs.Stock.{IsZoneStock, account_of, stocked, pages
 ghost use Rattle.stock_word.specs.Kinds.{filling, after_fill, with_steps};
 ghost use Rattle.stock_word.specs.Calls.{with_view};
 ghost use Rattle.cpu_part.specs.Calls.{TakesFront};
+ghost use Rattle.cpu_part.specs.Cpus.{most_fresh};
 
 use crate::boot_name::{BootName, Tables};
 use crate::cpu::Cpu;
@@ -53,7 +54,7 @@ impl<N: BootName> Cpu<N> {
         requires group { (account_of machine.old.view self.old.number).group ≡ Some group }
         requires page { 0 < stocked machine.old.view self.old.stock_seat.view }
         requires front { 1 ≤ length self.old.list }
-        requires room { length self.old.fresh < 32 }
+        requires room { length self.old.fresh < most_fresh }
         ensures machine { machine.new ≡ machine.old }
         ensures cpu { TakesFront group (stocked machine.old.view self.old.stock_seat.view - 1) result self.old self.new }
         ensures frame { result < N.frames.frames }

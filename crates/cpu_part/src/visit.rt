@@ -7,6 +7,7 @@ ghost use Rattle.stock_word.specs.Stock.{IsZoneStock, IsProcessor, account_for, 
 ghost use Rattle.stock_word.specs.Kinds.{noting, after_report};
 ghost use Rattle.stock_word.specs.Calls.{with_view};
 ghost use Rattle.cpu_part.specs.Calls.{HandsFront, HandsFresh, HandsBack};
+ghost use Rattle.cpu_part.specs.Cpus.{most_listed};
 
 use crate::boot_name::{BootName, Tables};
 use crate::cpu::Cpu;
@@ -49,7 +50,7 @@ impl<N: BootName> Cpu<N> {
         requires frame { frame < N.frames.frames }
         requires passes { Passes zone.old self.old.frame_seat frame }
         requires lent { IsLent zone.old frame self.old.number }
-        requires room { length self.old.list + length self.old.fresh < 256 }
+        requires room { length self.old.list + length self.old.fresh < most_listed }
         ensures cpu { self.new ≡ record self.old { list = self.old.list ++ frame ∷ []; frame_seat = seat_with self.old.frame_seat frame took_in } }
         ensures zone { zone.new ≡ zone.old }
         ensures nothing { HasNothingOf zone.old frame × HasNothingOf self.old.frame_seat frame }

@@ -2,18 +2,17 @@
 -- Word f is frame f's: 0, 1 to 255 references, or 256 + p while the frame passes for processor p.
 -- Word frames + p - 1 is the visit word of processor p: 1 while its visit is open, else 0.
 use Rattle.std.specs.Prelude.{◌≡◌, ◌≢◌, ◌⊎◌, ℕ, ◌+◌, ◌-◌, ◌<◌, ◌≤◌, ◌==◌, cond, List, length, slice_index}
-use Rattle.frame_word.specs.declared.kinds.TheConstants.{MOST_REFERENCES, NO_MARK}
 use Rattle.seat_sums.specs.Totals.{total_over}
 use Rattle.frame_word.specs.declared.view.FrameView.{FrameView}
 use Rattle.frame_word.specs.Views.{note_of, in_hands, lent_count}
 
 -- the most references that a frame can have
 abbrev pub most_references : ℕ
-most_references = MOST_REFERENCES
+most_references = 255
 
 -- above it stand the passing marks
 abbrev pub no_mark : ℕ
-no_mark = NO_MARK
+no_mark = 256
 
 -- the passing mark of processor p
 abbrev pub mark : ℕ → ℕ

@@ -7,7 +7,7 @@
 //! a kind of its own. `cut` and `pair` part and join views and change none; `start` and `end` make and end a table.
 ghost use Rattle.std.specs.Prelude.{◌≡◌, ◌⊎◌, ◌<◌, ◌≤◌, ◌+◌, ◌++◌, [], ◌∷◌, length, IfOk};
 ghost use Rattle.std.specs.Mem.Slots.{slots_items, slots_len, IsFull};
-ghost use Rattle.frame_word.specs.ReferenceRule.{visit_index, ReferenceRule};
+ghost use Rattle.frame_word.specs.ReferenceRule.{most_references, visit_index, ReferenceRule};
 ghost use Rattle.frame_word.specs.Views.{note_of, unfrozen, passed_out_to, took_in, gave_back, collected_from};
 ghost use Rattle.frame_word.specs.Kinds.{first_views, first_alone, but_first, rule_of, EndsWith, by_one, by_two, looks, adds, puts, freezes};
 ghost use Rattle.frame_word.specs.Kinds.{unfreezes, passes_out, takes_in, passes_back, collects, visits};
@@ -244,7 +244,7 @@ impl FrameWords {
         requires table { seat.old.table ≡ self.now.table }
         requires frame { frame < self.now.frames }
         requires hand { IsInOwnHand seat.old frame }
-        requires count { (1 ≤ count) × (count ≤ MOST_REFERENCES) }
+        requires count { (1 ≤ count) × (count ≤ most_references) }
         ensures seat { seat.new ≡ seat_with seat.old frame (unfrozen count) }
         ensures no_reference { holds seat.old frame ≡ 0 }
         ensures one_hand { IsInHand seat.old frame }

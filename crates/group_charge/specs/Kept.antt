@@ -2,8 +2,8 @@
 use Rattle.std.specs.Prelude.{◌≡◌, ℕ, max, Option, List, length, map, set, if◌then◌else◌}
 use Rattle.std.specs.List.{slice_index_or}
 use Rattle.group_tree.specs.declared.group.Group.{Group}
-use Rattle.group_tree.specs.declared.group.TheConstants.{MAX_GROUPS}
 use Rattle.group_tree.specs.Ancestors.{is_passed}
+use Rattle.group_tree.specs.Bounds.{most_groups}
 use Rattle.group_tree.specs.declared.event.EventKey.{EventKey}
 use Rattle.group_tree.specs.Events.{with_one_more}
 use Rattle.group_tree.specs.Room.{on_path}
@@ -27,13 +27,13 @@ ledger_of groups accounts = record { groups = groups; accounts = accounts_of gro
 
 -- each stored usage is the sum of the own pages over the group of that number and all below it; 0 where there is no such group
 pub record AreUsages (l : Ledger) (usages : List ℕ) : Type 0 where
-  pub size : length usages ≡ MAX_GROUPS
+  pub size : length usages ≡ most_groups
   pub sums : (g : ℕ) → usage_by usages g ≡ current_of l g
 
 -- what holds of all that is kept
 pub record AreKept (groups : List Group) (accounts : List Account) (usages : List ℕ) : Type 0 where
   pub charges : AreCharges (ledger_of groups accounts)
-  pub size : length accounts ≡ MAX_GROUPS
+  pub size : length accounts ≡ most_groups
   pub usages_are : AreUsages (ledger_of groups accounts) usages
 
 -- ---- what a walk changes

@@ -3,9 +3,9 @@
 
 ghost use Rattle.std.specs.Prelude.{◌≡◌, ℕ, ◌+◌, ◌-◌, ◌^◌, ◌<◌, ◌≤◌, IfSome, IsTrue, MatchOption, length};
 ghost use Rattle.group_tree.specs.Ancestors.{is_passed};
+ghost use Rattle.group_tree.specs.Bounds.{most_groups};
 ghost use Rattle.group_tree.specs.Groups.{AreGroups, has_group, in_subtree};
 ghost use Rattle.group_tree.specs.Room.{IsLowestOver, PathHasRoom, fits_limit};
-ghost use Rattle.group_tree.specs.declared.group.TheConstants.{MAX_GROUPS};
 ghost use Rattle.group_charge.specs.Kept.{AccountsOnPath, UsagesPassed, account_by, usage_by, with_event, with_local_event, with_usage_peak};
 
 use crate::account::Account;
@@ -28,11 +28,11 @@ fn fits_limit(limit: Option<u32>, pages: u32) -> bool
 pub fn add_until_over(tree: &Tree, usages: &mut [u32], g: GroupId, n: u32) -> Option<GroupId>
     requires legal { AreGroups tree.now }
     requires there { IsTrue (has_group tree.now g) }
-    requires size { length usages.old ≡ MAX_GROUPS }
+    requires size { length usages.old ≡ most_groups }
     requires fits { (m : ℕ) → usage_by usages.old m + n < 2 ^ 32 }
     ensures room { MatchOption result (PathHasRoom tree.now (usage_by usages.old) g n) (IsLowestOver tree.now (usage_by usages.old) g n) }
     ensures added { UsagesPassed tree.now g result (λ pages. pages + n) usages.old usages.new }
-    ensures size { length usages.new ≡ MAX_GROUPS }
+    ensures size { length usages.new ≡ most_groups }
 {
     for m in tree.ancestors(g) {
         let number = m.number() as usize;
@@ -50,11 +50,11 @@ pub fn add_until_over(tree: &Tree, usages: &mut [u32], g: GroupId, n: u32) -> Op
 pub fn take_off(tree: &Tree, usages: &mut [u32], g: GroupId, end: Option<GroupId>, n: u32)
     requires legal { AreGroups tree.now }
     requires there { IsTrue (has_group tree.now g) }
-    requires size { length usages.old ≡ MAX_GROUPS }
+    requires size { length usages.old ≡ most_groups }
     requires on_path { IfSome end (λ m. IsTrue (in_subtree tree.now m g)) }
     requires enough { (m : ℕ) → IsTrue (is_passed tree.now g end m) → n ≤ usage_by usages.old m }
     ensures taken { UsagesPassed tree.now g end (λ pages. pages - n) usages.old usages.new }
-    ensures size { length usages.new ≡ MAX_GROUPS }
+    ensures size { length usages.new ≡ most_groups }
 {
     for m in tree.ancestors(g) {
         if end == Some(m) {
@@ -68,10 +68,10 @@ pub fn take_off(tree: &Tree, usages: &mut [u32], g: GroupId, end: Option<GroupId
 pub fn raise_peaks(tree: &Tree, accounts: &mut [Account], usages: &[u32], g: GroupId)
     requires legal { AreGroups tree.now }
     requires there { IsTrue (has_group tree.now g) }
-    requires size { length accounts.old ≡ MAX_GROUPS }
-    requires usages { length usages.now ≡ MAX_GROUPS }
+    requires size { length accounts.old ≡ most_groups }
+    requires usages { length usages.now ≡ most_groups }
     ensures raised { AccountsOnPath tree.now g (with_usage_peak usages.now) accounts.old accounts.new }
-    ensures size { length accounts.new ≡ MAX_GROUPS }
+    ensures size { length accounts.new ≡ most_groups }
 {
     for m in tree.ancestors(g) {
         let number = m.number() as usize;
@@ -84,9 +84,9 @@ pub fn raise_peaks(tree: &Tree, accounts: &mut [Account], usages: &[u32], g: Gro
 pub fn count_event(tree: &Tree, accounts: &mut [Account], key: EventKey, g: GroupId)
     requires legal { AreGroups tree.now }
     requires there { IsTrue (has_group tree.now g) }
-    requires size { length accounts.old ≡ MAX_GROUPS }
+    requires size { length accounts.old ≡ most_groups }
     ensures counted { AccountsOnPath tree.now g (with_event key) accounts.old accounts.new }
-    ensures size { length accounts.new ≡ MAX_GROUPS }
+    ensures size { length accounts.new ≡ most_groups }
 {
     for m in tree.ancestors(g) {
         let at = m.number() as usize;
@@ -96,7 +96,7 @@ pub fn count_event(tree: &Tree, accounts: &mut [Account], key: EventKey, g: Grou
 
 /// Counts one more event of this key at the group itself.
 pub fn count_local_event(accounts: &mut [Account], key: EventKey, g: GroupId)
-    requires size { length accounts.old ≡ MAX_GROUPS }
+    requires size { length accounts.old ≡ most_groups }
     ensures counted { accounts.new ≡ with_local_event key g accounts.old }
 {
     let number = g.number() as usize;

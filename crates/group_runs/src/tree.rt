@@ -40,6 +40,30 @@ fn the_first_cause_refuses_a_path(rt: HostRuntime) -> Result<(), Fail> {
 }
 
 #[test]
+fn a_name_has_at_most_255_bytes(rt: HostRuntime) -> Result<(), Fail> {
+    let mut tree = Tree::new(rt.alloc())?;
+    let mut path = [b'x'; 257];
+    path[0] = b'/';
+    refuses_path(&rt, &mut tree, &path, Fault::BadName);
+    makes_group(&rt, &mut tree, &path[..256], 1);
+    Ok(())
+}
+
+#[test]
+fn a_path_has_at_most_512_bytes(rt: HostRuntime) -> Result<(), Fail> {
+    let mut tree = Tree::new(rt.alloc())?;
+    let mut path = [b'x'; 513];
+    path[0] = b'/';
+    path[256] = b'/';
+    makes_group(&rt, &mut tree, &path[..256], 1);
+    makes_group(&rt, &mut tree, &path[..512], 2);
+    path[511] = b'/';
+    refuses_path(&rt, &mut tree, &path, Fault::BadName);
+    makes_group(&rt, &mut tree, &path[..511], 3);
+    Ok(())
+}
+
+#[test]
 fn the_65th_group_is_refused(rt: HostRuntime) -> Result<(), Fail> {
     let mut tree = Tree::new(rt.alloc())?;
     for n in 1..64_u8 {

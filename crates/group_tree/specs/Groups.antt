@@ -5,7 +5,7 @@ use Rattle.std.specs.List.{find, list_any, starts_with}
 use Rattle.std.specs.Option.{option_map, option_and_then, option_map_or}
 use Rattle.std.specs.Str.{bytes_eq}
 use Rattle.group_tree.specs.Path.{root_path, is_root, names_of, depth_of, parent_path, is_well_formed, IsWellFormed}
-use Rattle.group_tree.specs.declared.path.TheConstants.{MAX_DEPTH}
+use Rattle.group_tree.specs.Bounds.{most_groups, most_names}
 use Rattle.group_tree.specs.declared.fault.Fault.{Fault}
 use Rattle.group_tree.specs.declared.fault.Fault.TheVariants.{NoParent, Exists, BadName, TreeFull, TooDeep}
 -- a group has a number, a path, a limit in pages, and a flag: whether it is killed as a whole
@@ -74,10 +74,10 @@ pub record IsLeastFreeNumber (groups : List Group) (n : ℕ) : Type 0 where
 unfoldable pub make_fault : List Group → List ℕ → Option Fault
 make_fault groups path =
     if not (is_well_formed path) || is_root path then Some BadName
-    else (if nat_lt MAX_DEPTH (depth_of path) then Some TooDeep
+    else (if nat_lt most_names (depth_of path) then Some TooDeep
     else (if is_some (number_at groups path) then Some Exists
     else (if is_none (number_at groups (parent_path path)) then Some NoParent
-    else (if nat_le 64 (length groups) then Some TreeFull
+    else (if nat_le most_groups (length groups) then Some TreeFull
     else None))))
 
 -- one more group, with no limit and its flag off
@@ -104,15 +104,15 @@ flagged n flag g = if g.number == n then record g { oom_group = flag } else g
 unfoldable pub with_oom_group : List Group → ℕ → Bool → List Group
 with_oom_group groups n flag = map (flagged n flag) groups
 
--- what holds of the groups of every tree: at most 64 of them, each with a number below 64 and a path of at most 8 names,
--- no two with one number or one path; the root is the first, and its flag is off; each one's parent is there
+-- what holds of the groups of every tree: at most `most_groups` of them, each with a number below that and a path of at most
+-- `most_names` names, no two with one number or one path; the root is the first, and its flag is off; each one's parent is there
 pub record AreGroups (groups : List Group) : Type 0 where
-  pub few : length groups ≤ 64
+  pub few : length groups ≤ most_groups
   pub root : IsSomeAnd (slice_get groups 0) (λ g. (g.number ≡ 0) × (g.path ≡ root_path))
   pub root_flag : is_oom_group groups 0 ≡ false
-  pub numbers : All (λ g. g.number < 64) groups
+  pub numbers : All (λ g. g.number < most_groups) groups
   pub paths : All (λ g. IsWellFormed g.path) groups
-  pub depths : All (λ g. depth_of g.path ≤ MAX_DEPTH) groups
+  pub depths : All (λ g. depth_of g.path ≤ most_names) groups
   pub numbers_distinct : AllPairs (λ g h. g.number ≢ h.number) groups
   pub paths_distinct : AllPairs (λ g h. g.path ≢ h.path) groups
   pub parents : All (λ g. IsTrue (is_some (number_at groups (parent_path g.path)))) groups

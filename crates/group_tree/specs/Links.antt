@@ -2,7 +2,7 @@
 use Rattle.std.specs.Prelude.{◌≡◌, ℕ, false, None, List, length, Contains}
 use Rattle.std.specs.List.{slice_index_or}
 use Rattle.group_tree.specs.declared.group.Group.{Group}
-use Rattle.group_tree.specs.declared.group.TheConstants.{MAX_GROUPS}
+use Rattle.group_tree.specs.Bounds.{most_groups}
 use Rattle.group_tree.specs.declared.tree.Link.{Link}
 use Rattle.group_tree.specs.Path.{depth_of, parent_path}
 use Rattle.group_tree.specs.Groups.{has_group}
@@ -18,7 +18,7 @@ link_at links g = slice_index_or links g no_link
 -- a link tells whether a group has the number; a group's link has the number of the group with its parent's path (the
 -- root's is its own), how many names its path has, and its limit
 pub record AreLinks (groups : List Group) (links : List Link) : Type 0 where
-  pub size : length links ≡ MAX_GROUPS
+  pub size : length links ≡ most_groups
   pub there : (n : ℕ) → (link_at links n).is_there ≡ has_group groups n
   pub parents : (x y : Group) → Contains groups x → Contains groups y → y.path ≡ parent_path x.path → (link_at links x.number).parent ≡ y.number
   pub depths : (x : Group) → Contains groups x → (link_at links x.number).depth ≡ depth_of x.path

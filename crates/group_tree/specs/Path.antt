@@ -2,7 +2,7 @@
 use Rattle.std.specs.Prelude.{ℕ, ◌==◌, ◌&&◌, ◌||◌, Bool, not, nat_eq, nat_le, nat_lt, IsTrue, List, [], ◌∷◌, length, drop, if◌then◌else◌, codes}
 use Rattle.std.specs.List.{slice_split, list_all, before_last, starts_with}
 use Rattle.std.specs.Str.{bytes_eq}
-use Rattle.group_tree.specs.declared.path.TheConstants.{MAX_NAME, MAX_PATH}
+use Rattle.group_tree.specs.Bounds.{longest_name, longest_path}
 
 -- the byte that stands before each name
 abbrev pub is_slash : ℕ → Bool
@@ -41,13 +41,13 @@ is_name_byte byte = nat_lt 32 byte && nat_lt byte 127 && not (is_slash byte)
 abbrev pub is_dots : List ℕ → Bool
 is_dots name = bytes_eq name (codes ".") || bytes_eq name (codes "..")
 
--- a name is 1 to 255 such bytes, and neither `.` nor `..`
+-- a name is some such bytes, at most `longest_name`, and neither `.` nor `..`
 unfoldable pub is_name : List ℕ → Bool
-is_name name = nat_le 1 (length name) && nat_le (length name) MAX_NAME && list_all is_name_byte name && not (is_dots name)
+is_name name = nat_le 1 (length name) && nat_le (length name) longest_name && list_all is_name_byte name && not (is_dots name)
 
--- a path has at most 512 bytes, begins with a slash, and has names alone between its slashes
+-- a path has at most `longest_path` bytes, begins with a slash, and has names alone between its slashes
 unfoldable pub is_well_formed : List ℕ → Bool
-is_well_formed path = nat_le (length path) MAX_PATH && starts_with nat_eq path root_path && list_all is_name (names_of path)
+is_well_formed path = nat_le (length path) longest_path && starts_with nat_eq path root_path && list_all is_name (names_of path)
 
 -- the same as a fact
 abbrev pub IsWellFormed : List ℕ → Type 0

@@ -1,19 +1,19 @@
--- A text kept in a fixed array of 512 bytes.
+-- A text kept in a fixed array of `longest_path` bytes.
 use Rattle.std.specs.Prelude.{◌≡◌, ℕ, ◌-◌, ◌≤◌, ◌++◌, List, length, take, drop, replicate}
 use Rattle.std.proofs.Common.{arith}
 use Rattle.std.proofs.lemmas.List.{take-append-drop, length-take-le}
-use Rattle.group_tree.specs.declared.path.TheConstants.{MAX_PATH}
+use Rattle.group_tree.specs.Bounds.{longest_path}
 use Rattle.group_tree.specs.declared.path.PathText.TheInside.{Inside}
 
--- the first `len` of the 512 bytes are the text, and the bytes behind it are zero
+-- the first `len` of the bytes are the text, and the bytes behind it are zero
 pub record IsPadded (bytes : List ℕ) (len : ℕ) : Type 0 where
-  pub size : length bytes ≡ MAX_PATH
-  pub fits : len ≤ MAX_PATH
-  pub zeros : drop len bytes ≡ replicate (MAX_PATH - len) 0
+  pub size : length bytes ≡ longest_path
+  pub fits : len ≤ longest_path
+  pub zeros : drop len bytes ≡ replicate (longest_path - len) 0
 
--- a text with zeros behind it, 512 bytes in all
+-- a text with zeros behind it, `longest_path` bytes in all
 abbrev pub padded : List ℕ → List ℕ
-padded text = text ++ replicate (MAX_PATH - length text) 0
+padded text = text ++ replicate (longest_path - length text) 0
 
 padded-bytes : (bytes : List ℕ) (len : ℕ) → IsPadded bytes len → padded (take len bytes) ≡ bytes
 padded-bytes bytes len h =

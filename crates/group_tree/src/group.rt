@@ -1,6 +1,7 @@
 //! A group and its number.
 
 ghost use Rattle.std.specs.Prelude.{◌≡◌, ◌<◌, SomeIff};
+ghost use Rattle.group_tree.specs.Bounds.{most_groups};
 
 use crate::path::PathText;
 use std::marker::Model;
@@ -21,9 +22,9 @@ impl Model for GroupId {
 
     ghost view = { λ g. g.number };
 
-    ghost use Rattle.group_tree.specs.declared.group.TheConstants.{MAX_GROUPS};
+    ghost use Rattle.group_tree.specs.Bounds.{most_groups};
 
-    ghost invariant = { λ g. g.number < MAX_GROUPS };
+    ghost invariant = { λ g. g.number < most_groups };
 
     ghost inverse = { λ n. record { number = n } };
 }
@@ -31,7 +32,7 @@ impl Model for GroupId {
 impl GroupId {
     /// The group of this number; None where the number is 64 or above.
     pub fn of(number: u32) -> Option<GroupId>
-        ensures { SomeIff result (number < MAX_GROUPS) number }
+        ensures { SomeIff result (number < most_groups) number }
     {
         if (number as usize) < MAX_GROUPS {
             Some(GroupId { number })
@@ -50,7 +51,7 @@ impl GroupId {
     /// The group's number, 0 to 63.
     pub fn number(self) -> u32
         ensures value { result ≡ self }
-        ensures below { result < MAX_GROUPS }
+        ensures below { result < most_groups }
     {
         self.number
     }

@@ -1,6 +1,7 @@
 //! The text of a path.
 
 ghost use Rattle.std.specs.Prelude.{◌≡◌, ◌≤◌, ◌++◌, SomeIff, drop, length};
+ghost use Rattle.group_tree.specs.Bounds.{longest_path};
 
 use std::marker::Model;
 
@@ -39,7 +40,7 @@ impl Model for PathText {
 impl PathText {
     /// The text of these bytes; None exactly where there are more than 512.
     pub fn of(text: &[u8]) -> Option<PathText>
-        ensures { SomeIff result (length text.now ≤ MAX_PATH) text.now }
+        ensures { SomeIff result (length text.now ≤ longest_path) text.now }
     {
         if text.len() > MAX_PATH {
             return None;
@@ -55,7 +56,7 @@ impl PathText {
     /// The bytes of the text.
     pub fn as_bytes(&self) -> &[u8]
         ensures text { result.now ≡ self.now }
-        ensures short { length result.now ≤ MAX_PATH }
+        ensures short { length result.now ≤ longest_path }
     {
         &self.bytes[..self.len]
     }

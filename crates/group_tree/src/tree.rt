@@ -4,6 +4,7 @@ ghost use Rattle.std.specs.Prelude.{◌≡◌, ◌≢◌, ℕ, ◌↔◌, ◌<�
 ghost use Rattle.std.specs.Option.{option_copied};
 ghost use Rattle.std.specs.Result.{result_err};
 ghost use Rattle.group_tree.specs.Ancestors.{depth_at};
+ghost use Rattle.group_tree.specs.Bounds.{most_groups};
 ghost use Rattle.group_tree.specs.Links.{no_link};
 ghost use Rattle.group_tree.specs.Path.{IsWellFormed};
 ghost use Rattle.group_tree.specs.Groups.{AreGroups, IsLeastFreeNumber, flagged, group_at, has_child, has_group, in_subtree, initial_groups};
@@ -42,14 +43,14 @@ struct Link {
 impl Model for Tree {
     ghost use Rattle.std.specs.Prelude.{◌≤◌, List, vec_capacity};
     ghost use Rattle.group_tree.specs.Groups.{AreGroups, Group};
-    ghost use Rattle.group_tree.specs.declared.group.TheConstants.{MAX_GROUPS};
+    ghost use Rattle.group_tree.specs.Bounds.{most_groups};
     ghost use Rattle.group_tree.specs.Links.{AreLinks};
 
     ghost Value = { List Group };
 
     ghost view = { λ t. t.rows.items };
 
-    ghost invariant = { λ t. AreGroups t.rows.items × (MAX_GROUPS ≤ vec_capacity t.rows) × AreLinks t.rows.items t.links };
+    ghost invariant = { λ t. AreGroups t.rows.items × (most_groups ≤ vec_capacity t.rows) × AreLinks t.rows.items t.links };
 }
 
 impl Tree {
@@ -220,9 +221,9 @@ impl Tree {
 
     // The least number that no group has.
     fn least_free(&self) -> GroupId
-        requires { length self.now < MAX_GROUPS }
+        requires { length self.now < most_groups }
         ensures number { IsLeastFreeNumber self.now result }
-        ensures below { result < MAX_GROUPS }
+        ensures below { result < most_groups }
     {
         let mut number = 0;
         while self.is_taken(number) {

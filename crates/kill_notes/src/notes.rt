@@ -23,13 +23,13 @@ pub struct Notes {
 impl Model for Notes {
     ghost use Rattle.std.specs.Prelude.{List, ◌≤◌, vec_capacity};
     ghost use Rattle.kill_notes.specs.declared.note.Note.{Note};
-    ghost use Rattle.kill_notes.specs.declared.notes.TheConstants.{MOST_NOTES};
+    ghost use Rattle.kill_notes.specs.Notes.{most_notes};
 
     ghost Value = { List Note };
 
     ghost view = { λ n. n.notes.items };
 
-    ghost invariant = { λ n. MOST_NOTES ≤ vec_capacity n.notes };
+    ghost invariant = { λ n. most_notes ≤ vec_capacity n.notes };
 }
 
 impl Notes {

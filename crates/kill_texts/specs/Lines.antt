@@ -1,4 +1,4 @@
--- The line of each note. Sizes are in bytes: a page has 4,096.
+-- The line of each note. Sizes are in bytes.
 use Rattle.std.specs.Prelude.{ℕ, Option, Some, None, List, [], ◌++◌, codes, ◌+◌, ◌-◌, ◌*◌, nat_lt, if◌then◌else◌}
 use Rattle.std.specs.Option.{option_map_or}
 use Rattle.std.specs.Fmt.{decimal}
@@ -7,11 +7,12 @@ use Rattle.group_tree.specs.Groups.{path_of}
 use Rattle.kill_notes.specs.declared.note.Candidate.{Candidate}
 use Rattle.kill_notes.specs.declared.note.Note.{Note}
 use Rattle.kill_notes.specs.declared.note.Note.TheVariants.{Limit, Stock, Round, Oom, Victim, GroupKill, Kill}
+use Rattle.control_files.specs.Limit.{page_bytes}
 use Rattle.machine_texts.specs.Characters.{characters}
 
 -- so many pages, in bytes
 unfoldable pub bytes_text : ℕ → List ℕ
-bytes_text pages = decimal (pages * 4096)
+bytes_text pages = decimal (pages * page_bytes)
 
 -- the path of a group, or its number where it isn't there
 unfoldable pub group_text : List Group → ℕ → List ℕ

@@ -5,6 +5,7 @@ ghost use Rattle.std.specs.Fmt.{decimal};
 ghost use Rattle.std.specs.String.{string_bytes};
 ghost use Rattle.kill_texts.specs.Lines.{bytes_text, candidate_text, ending_text, group_text, next_text, others_text};
 
+use control_files::text::PAGE_BYTES;
 use group_tree::group::GroupId;
 use group_tree::tree::Tree;
 use kill_notes::note::Candidate;
@@ -19,12 +20,12 @@ pub(crate) fn push_count(word: &str, count: u128, text: &mut String) -> Result<(
     write!(text, "{count}")
 }
 
-// Adds a word and the bytes of so many pages, each of which has 4,096.
+// Adds a word and the bytes of so many pages.
 #[tactic(auto, unfolding(crate::specs::Lines::bytes_text))]
 pub(crate) fn push_bytes(word: &str, pages: u64, text: &mut String) -> Result<(), AllocError>
     ensures { IfOk result (λ _. string_bytes text.new ≡ string_bytes text.old ++ (word.now ++ bytes_text pages)) }
 {
-    push_count(word, u128::from(pages) * 4_096, text)
+    push_count(word, u128::from(pages) * u128::from(PAGE_BYTES), text)
 }
 
 // Adds a word and the path of a group, or its number where the tree doesn't have it.

@@ -9,8 +9,7 @@ use Rattle.mem_machine.specs.Machines.{IsFirst}
 use Rattle.mem_machine.specs.Telling.{TellsRun}
 use Rattle.mem_system.specs.Boots.{IsSizedAs, first_cpus}
 use Rattle.script_lines.specs.declared.line.Line.{Line}
-use Rattle.script_lines.specs.declared.script.TheConstants.{MOST_INPUT}
-use Rattle.script_lines.specs.Script.{IsScript}
+use Rattle.script_lines.specs.Script.{IsScript, longest_script}
 use Rattle.script_replay.specs.Lines.{ServesAll, Standing}
 use Rattle.script_replay.specs.History.{TellsHistory, past}
 use Rattle.script_replay.specs.Terms.{terms}
@@ -19,7 +18,7 @@ use Rattle.load_run.specs.Ending.{TellsEnd}
 
 -- what is read of an input: a byte more than a script may have, as far as there are so many
 abbrev pub bytes_read : List ℕ → List ℕ
-bytes_read input = take (MOST_INPUT + 1) input
+bytes_read input = take (longest_script + 1) input
 
 -- what stands after a boot with these sizes, under these tables: the machine of a new boot, and the parts of the
 -- processors, which did nothing yet

@@ -16,6 +16,7 @@ use crate::parts::{MachineParts, close_processor, make_machine_parts, new_proces
 use crate::tally::CallTally;
 use cpu_part::{BootName, Cpu, Tables};
 use frame_word::FrameSeat;
+use mem_core::Config;
 use mem_core::zone::Core;
 use mem_machine::Machine;
 use rand_core::{Rng, SeedableRng};
@@ -24,6 +25,15 @@ use std::alloc::Global;
 use std::marker::Brand;
 use std::process::Abort;
 use stock_word::StockSeat;
+
+// The sizes of the run that has a core beside it; the core has no lists and stocks of its own sizes.
+const SMALL: Config = Config {
+    frames: 64,
+    cpus: 4,
+    batch: 1,
+    high: 1,
+    stock: 1,
+};
 
 // How many calls a run has, and what stands beside it: an account, and in one run a core.
 #[derive(Drop)]
@@ -259,7 +269,7 @@ fn runs_small<N: BootName>(rt: &impl Abort, alloc: Global, parts: MachineParts<6
     let mut beside = BesideMachine {
         calls: 1_000,
         account: MachineAccount::new(rt, alloc, 64),
-        core: Some(Core::new(alloc, 64, 4).expect(rt, "memory")),
+        core: Some(Core::new(alloc, SMALL).expect(rt, "memory")),
     };
     run_machine::<64, N>(rt, alloc, parts, &mut beside)
 }

@@ -4,7 +4,7 @@ use Rattle.std.specs.List.{flat_map}
 use Rattle.std.specs.Fmt.{decimal}
 use Rattle.group_tree.specs.declared.group.Group.{Group}
 use Rattle.group_charge.specs.Charges.{Ledger, current_of}
-use Rattle.control_files.specs.declared.text.TheConstants.{PAGE_BYTES}
+use Rattle.control_files.specs.Limit.{page_bytes}
 use Rattle.mem_machine.specs.Machines.{KnownMachine}
 use Rattle.machine_texts.specs.Characters.{characters}
 use Rattle.machine_texts.specs.Places.{places_text}
@@ -14,7 +14,7 @@ abbrev pub usage_text : Ledger → Group → List ℕ
 usage_text ledger group =
     if group.number == 0 then []
     else codes "current " ++ characters group.path
-    ++ (codes " " ++ decimal (current_of ledger group.number * PAGE_BYTES) ++ codes "\n")
+    ++ (codes " " ++ decimal (current_of ledger group.number * page_bytes) ++ codes "\n")
 
 -- what is written for `show`
 abbrev pub show_text : KnownMachine → List ℕ

@@ -4,7 +4,7 @@ ghost use Rattle.std.specs.Prelude.{◌≡◌, ◌*◌, ◌++◌, IfOk, IsTrue};
 ghost use Rattle.std.specs.String.{string_bytes};
 ghost use Rattle.group_tree.specs.Groups.{has_group};
 ghost use Rattle.group_charge.specs.Charges.{current_of};
-ghost use Rattle.control_files.specs.declared.text.TheConstants.{PAGE_BYTES};
+ghost use Rattle.control_files.specs.Limit.{page_bytes};
 ghost use Rattle.machine_texts.specs.Show.{show_text, usage_text};
 
 use crate::characters::push_characters;
@@ -46,7 +46,7 @@ fn write_usage(charges: &Charges, group: &Group, text: &mut String) -> Result<()
 // The memory now used by a group and its descendants, in bytes.
 fn bytes_used(charges: &Charges, group: GroupId) -> u64
     requires { IsTrue (has_group charges.now.groups group) }
-    ensures { result ≡ current_of charges.now group * PAGE_BYTES }
+    ensures { result ≡ current_of charges.now group * page_bytes }
 {
     u64::from(charges.current(group)) * PAGE_BYTES
 }

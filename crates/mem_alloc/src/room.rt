@@ -1,7 +1,7 @@
 //! What is done where a limit has no room for a charge.
 
 ghost use Rattle.std.specs.Prelude.{◌≡◌, ◌<◌, IsTrue};
-ghost use Rattle.group_tree.specs.declared.group.TheConstants.{MAX_GROUPS};
+ghost use Rattle.group_tree.specs.Bounds.{most_groups};
 ghost use Rattle.group_tree.specs.Groups.{has_group};
 ghost use Rattle.mem_alloc.specs.Stepping.{ByStepsOfAny};
 ghost use Rattle.mem_alloc.specs.Room.{ReclaimsFor, RelievesLimit, TellsRoom, with_limit_noted};
@@ -62,7 +62,7 @@ pub(crate) fn make_room<N: BootName>(
     requires { IsTrue (has_group machine.old.ledger.groups limited) }
     ensures relieves { ByStepsOfAny N.frames (RelievesLimit requester limited pages) machine.old machine.new }
     ensures room { TellsRoom requester limited pages result machine.new }
-    ensures below { limited < MAX_GROUPS }
+    ensures below { limited < most_groups }
 {
     let _number = limited.number(); // For the clauses.
     note_limit(machine, limited, pages);

@@ -1,6 +1,7 @@
 -- Of the reading core, on which the program doesn't run.
 -- What a core keeps, and how a contract sees it.
 use Rattle.std.specs.Prelude.{◌≡◌, ◌*◌, ◌^◌, ◌<◌, ◌≤◌, map, vec_len, vec_capacity}
+use Rattle.group_tree.specs.Bounds.{most_groups}
 use Rattle.zone_blocks.specs.Areas.{AreMaximalBlocks}
 use Rattle.step_rules.specs.State.{free_in}
 use Rattle.step_rules.proofs.Sound.{IsSound}
@@ -39,7 +40,7 @@ pub record IsWhole (c : Inside) : Type 0 where
   pub sound : IsSound (state_in c.rows)
   pub homed : IsHomed (state_in c.rows)
   pub bounded : IsBounded (c.steps * 2 ^ 32) (state_in c.rows)
-  pub accounts : vec_len c.accounts ≡ 64
+  pub accounts : vec_len c.accounts ≡ most_groups
   pub peaks : HaveSmallPeaks c.accounts.items
   pub few : c.steps < 2 ^ 64
   pub frames : c.areas.frames ≡ c.rows.frames

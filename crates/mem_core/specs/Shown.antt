@@ -15,7 +15,12 @@ use Rattle.step_rules.specs.State.{Zone, Part, State, no_part, free_in}
 use Rattle.step_rules.specs.After.{Run, state_of, IsLegalRun}
 use Rattle.step_rules.specs.Peaks.{IsPeak}
 use Rattle.step_rules.specs.Events.{events_of, events_local_of}
+use Rattle.zone_sizes.specs.declared.config.Config.{Config}
 use Rattle.mem_core.specs.Accounts.{Account, account_of}
+
+-- the frames and the CPUs of a zone that is booted with these sizes
+abbrev pub zone_of : Config → Zone
+zone_of config = record { frames = config.frames; cpus = config.cpus }
 
 -- what a core shows of a seat: its references on each frame, and its part
 pub record SeatState : Type 0 where

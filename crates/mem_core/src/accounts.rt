@@ -7,19 +7,20 @@ ghost use Rattle.step_rules.specs.Events.{makes_group, note_of};
 ghost use Rattle.core_rows.specs.Shown.{state_in};
 ghost use Rattle.core_rows.specs.Rooms.{FitsZone, IsFew};
 ghost use Rattle.mem_core.specs.Accounts.{new_account, account_after, events_after, AccountsFollow, HaveSmallPeaks, granted_to};
+ghost use Rattle.group_tree.specs.Bounds.{most_groups};
 ghost use Rattle.group_tree.specs.Groups.{in_subtree};
 
 use crate::account::Account;
 use core_rows::rows::Rows;
 use group_tree::event::{EventCounts, EventKey};
-use group_tree::group::GroupId;
+use group_tree::group::{GroupId, MAX_GROUPS};
 use std::alloc::{AllocError, Global};
 use step_rules::step::{Action, Answer};
 
 /// A new group's account for each group number.
 pub(crate) fn new_accounts(alloc: Global) -> Result<Vec<Account>, AllocError>
-    ensures items { IfOk result (λ accounts. accounts.items ≡ replicate 64 new_account) }
-    ensures number { IfOk result (λ accounts. vec_len accounts ≡ 64) }
+    ensures items { IfOk result (λ accounts. accounts.items ≡ replicate most_groups new_account) }
+    ensures number { IfOk result (λ accounts. vec_len accounts ≡ most_groups) }
 {
     let none = EventCounts::none();
     let account = Account {
@@ -27,7 +28,7 @@ pub(crate) fn new_accounts(alloc: Global) -> Result<Vec<Account>, AllocError>
         events: none,
         events_local: none,
     };
-    vec![in alloc; account; 64]
+    vec![in alloc; account; MAX_GROUPS]
 }
 
 // The event that a step notes, and the group at which it notes it.
@@ -158,9 +159,9 @@ fn account_after(
 pub(crate) fn follow(rows: &Rows, action: &Action, answer: &Answer, accounts: &mut Vec<Account>)
     requires fits { FitsZone rows.now }
     requires few { IsFew (state_in rows.now) }
-    requires length { vec_len accounts.old ≡ 64 }
+    requires length { vec_len accounts.old ≡ most_groups }
     requires small { HaveSmallPeaks accounts.old.items }
-    ensures length { vec_len accounts.new ≡ 64 }
+    ensures length { vec_len accounts.new ≡ most_groups }
     ensures small { HaveSmallPeaks accounts.new.items }
     ensures follow { AccountsFollow (state_in rows.now) action.now answer.now accounts.old.items accounts.new.items }
 {

@@ -8,3 +8,6 @@ mod accounts;
 mod free_areas;
 pub mod run;
 pub mod zone;
+
+pub use step_rules::step::{Action, Answer, Step};
+pub use zone_sizes::config::Config;

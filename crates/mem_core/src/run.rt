@@ -4,12 +4,14 @@
 ghost use Rattle.std.specs.Prelude.{◌≡◌, ◌≤◌, IfOk, length};
 ghost use Rattle.std.specs.List.{zip};
 ghost use Rattle.step_rules.specs.After.{IsLegalRun};
-ghost use Rattle.mem_core.specs.Shown.{Shows, HasMaximalAreas};
+ghost use Rattle.mem_core.specs.Shown.{Shows, zone_of, HasMaximalAreas};
 ghost use Rattle.mem_core.specs.Promise.{KeepsPromise, AlwaysKeepsPromise, AlwaysPlacesFirst};
+ghost use Rattle.zone_sizes.specs.Config.{IsValidConfig};
 
 use crate::zone::Core;
 use std::alloc::{AllocError, Global};
 use step_rules::step::{Answer, Step};
+use zone_sizes::config::Config;
 
 /// The core after a list of steps, and their answers.
 #[derive(Drop)]
@@ -24,20 +26,19 @@ pub struct Played {
 /// legal run, and the core shows that run: its state is the one that the run defines, and its free areas are the
 /// maximal blocks of the free frames. After each of its beginnings that leaves the lock free the promise holds of whatever
 /// shows the state, and at the end of what the core shows. A block that is placed is the first of the smallest. What
-/// else follows for any legal run is said in `step_rules::laws`. By reading, it fails for want of memory alone: no clause
+/// else follows for any legal run is said in `step_rules::laws`. By reading, it fails only if memory runs out: no clause
 /// says so.
-pub fn play(alloc: Global, frames: u32, cpus: u32, steps: &[Step]) -> Result<Played, AllocError>
-    requires frames { frames ≤ 1048576 }
-    requires cpus { cpus ≤ 64 }
+pub fn play(alloc: Global, config: Config, steps: &[Step]) -> Result<Played, AllocError>
+    requires { IsValidConfig config }
     ensures one_each { IfOk result (λ p. length p.answers.items ≡ length steps.now) }
-    ensures zone { IfOk result (λ p. p.core.zone ≡ record { frames = frames; cpus = cpus }) }
+    ensures zone { IfOk result (λ p. p.core.zone ≡ zone_of config) }
     ensures shows { IfOk result (λ p. Shows p.core (zip steps.now p.answers.items)) }
     ensures areas { IfOk result (λ p. HasMaximalAreas p.core) }
-    ensures promise { IfOk result (λ p. AlwaysKeepsPromise (record { frames = frames; cpus = cpus }) (zip steps.now p.answers.items)) }
+    ensures promise { IfOk result (λ p. AlwaysKeepsPromise (zone_of config) (zip steps.now p.answers.items)) }
     ensures promise_shown { IfOk result (λ p. KeepsPromise p.core (zip steps.now p.answers.items)) }
-    ensures first { IfOk result (λ p. AlwaysPlacesFirst (record { frames = frames; cpus = cpus }) (zip steps.now p.answers.items)) }
+    ensures first { IfOk result (λ p. AlwaysPlacesFirst (zone_of config) (zip steps.now p.answers.items)) }
 {
-    let mut core = Core::new(alloc, frames, cpus)?;
+    let mut core = Core::new(alloc, config)?;
     let mut answers = Vec::with_capacity(alloc, steps.len())?;
     for step in steps {
         answers.push(core.step(*step))?;
@@ -46,17 +47,16 @@ pub fn play(alloc: Global, frames: u32, cpus: u32, steps: &[Step]) -> Result<Pla
 }
 
 /// The answers to the steps, made one after another from the beginning: one for each, with which the steps are a legal
-/// run. So the laws of `step_rules::laws` hold of them, and each beginning that leaves the lock free keeps the promise. A block that is placed is the first of the smallest, which
-/// legality leaves open. By reading, it fails for want of memory alone: no clause
-/// says so.
-pub fn run(alloc: Global, frames: u32, cpus: u32, steps: &[Step]) -> Result<Vec<Answer>, AllocError>
-    requires frames { frames ≤ 1048576 }
-    requires cpus { cpus ≤ 64 }
+/// run. So the laws of `step_rules::laws` hold of them, and each beginning that leaves the lock free keeps the promise. A
+/// block that is placed is the first of the smallest, which legality leaves open. By reading, it fails only if memory runs
+/// out: no clause says so.
+pub fn run(alloc: Global, config: Config, steps: &[Step]) -> Result<Vec<Answer>, AllocError>
+    requires { IsValidConfig config }
     ensures one_each { IfOk result (λ answers. length answers.items ≡ length steps.now) }
-    ensures legal { IfOk result (λ answers. IsLegalRun (record { frames = frames; cpus = cpus }) (zip steps.now answers.items)) }
-    ensures promise { IfOk result (λ answers. AlwaysKeepsPromise (record { frames = frames; cpus = cpus }) (zip steps.now answers.items)) }
-    ensures first { IfOk result (λ answers. AlwaysPlacesFirst (record { frames = frames; cpus = cpus }) (zip steps.now answers.items)) }
+    ensures legal { IfOk result (λ answers. IsLegalRun (zone_of config) (zip steps.now answers.items)) }
+    ensures promise { IfOk result (λ answers. AlwaysKeepsPromise (zone_of config) (zip steps.now answers.items)) }
+    ensures first { IfOk result (λ answers. AlwaysPlacesFirst (zone_of config) (zip steps.now answers.items)) }
 {
-    let Played { core: _, answers } = play(alloc, frames, cpus, steps)?;
+    let Played { core: _, answers } = play(alloc, config, steps)?;
     Ok(answers)
 }

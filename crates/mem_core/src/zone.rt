@@ -7,8 +7,9 @@ ghost use Rattle.step_rules.specs.declared.step.Answer.TheVariants.{Illegal};
 ghost use Rattle.step_rules.specs.Legal.{Allows};
 ghost use Rattle.step_rules.specs.Peaks.{UsageMoves};
 ghost use Rattle.step_rules.specs.After.{Run, after};
-ghost use Rattle.mem_core.specs.Shown.{CoreState, Shows, state_in, HasMaximalAreas};
+ghost use Rattle.mem_core.specs.Shown.{CoreState, Shows, state_in, zone_of, HasMaximalAreas};
 ghost use Rattle.mem_core.specs.Promise.{PlacesFirst, KeepsPromise};
+ghost use Rattle.zone_sizes.specs.Config.{IsValidConfig};
 
 mod readers;
 
@@ -21,6 +22,7 @@ use std::alloc::{AllocError, Global};
 use std::marker::Model;
 use step_rules::step::{Answer, Step};
 use zone_blocks::areas::FreeAreas;
+use zone_sizes::config::Config;
 
 /// The core. A contract sees it as a `CoreState`.
 #[derive(Drop)]
@@ -47,18 +49,17 @@ impl Model for Core {
 
 impl Core {
     /// A core with all frames free, the root alone, the lock free and no step made. All room that its steps need is
-    /// reserved here.
-    pub fn new(alloc: Global, frames: u32, cpus: u32) -> Result<Core, AllocError>
-        requires frames { frames ≤ 1048576 }
-        requires cpus { cpus ≤ 64 }
-        ensures zone { IfOk result (λ core. core.zone ≡ record { frames = frames; cpus = cpus }) }
+    /// reserved here. Of the sizes only the frames and the CPUs matter here.
+    pub fn new(alloc: Global, config: Config) -> Result<Core, AllocError>
+        requires { IsValidConfig config }
+        ensures zone { IfOk result (λ core. core.zone ≡ zone_of config) }
         ensures empty { IfOk result (λ core. Shows core []) }
         ensures areas { IfOk result HasMaximalAreas }
     {
-        let rows = Rows::new(alloc, frames, cpus)?;
+        let rows = Rows::new(alloc, config.frames, config.cpus)?;
         let accounts = new_accounts(alloc)?;
-        let mut free = Vec::with_capacity(alloc, frames as usize)?;
-        let mut areas = FreeAreas::new(alloc, frames)?;
+        let mut free = Vec::with_capacity(alloc, config.frames as usize)?;
+        let mut areas = FreeAreas::new(alloc, config.frames)?;
         set_areas(&rows, &mut free, &mut areas);
         Ok(Core {
             rows,

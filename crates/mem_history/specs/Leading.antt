@@ -7,8 +7,7 @@ use Rattle.frame_word.specs.declared.answers.Put.TheVariants as put
 use Rattle.stock_word.specs.Stock.{Words}
 use Rattle.cpu_part.specs.declared.answers.Fast.TheVariants.{Got}
 use Rattle.cpu_part.specs.declared.answers.Dropped.TheVariants.{Listed}
-use Rattle.cpu_part.specs.declared.cpu.TheConstants.{MOST_PINS}
-use Rattle.cpu_part.specs.Cpus.{KnownCpu, IsTied, times}
+use Rattle.cpu_part.specs.Cpus.{KnownCpu, IsTied, most_pins, times}
 use Rattle.cpu_part.specs.Calls.{FastAnswers, DropAnswers, PinAnswers, UnpinAnswers}
 use Rattle.step_rules.specs.declared.step.Action.TheVariants.{Get, Put, Consume, Credit}
 use Rattle.step_rules.specs.declared.step.Answer.{Answer}
@@ -37,7 +36,7 @@ pub record IsPart (table : KnownTable) (words : Words) (run : Run) (machine : Kn
 pub record FastCallsLead : Type 0 where
   pub held : (table : KnownTable) (words : Words) (run : Run) (machine : KnownMachine) (cpus : List KnownCpu)
       (index : ℕ) (cpu later : KnownCpu) → IsPart table words run machine cpus index cpu → (frame : ℕ)
-      → frame < table.frames → length cpu.back + length cpu.pins < MOST_PINS → PinAnswers frame get.Held cpu later
+      → frame < table.frames → length cpu.back + length cpu.pins < most_pins → PinAnswers frame get.Held cpu later
       → Makes table (side machine cpu) (cpu_makes cpu.number (Get frame) Held ∷ []) (side machine later)
   pub putted : (table : KnownTable) (words : Words) (run : Run) (machine : KnownMachine) (cpus : List KnownCpu)
       (index : ℕ) (cpu later : KnownCpu) → IsPart table words run machine cpus index cpu → (frame : ℕ)

@@ -45,3 +45,4 @@ pub use machine::Machine;
 pub use places::Places;
 pub use releasing::Released;
 pub use spot::{Place, Spot};
+pub use step_rules::laws::{other_step, own_step};

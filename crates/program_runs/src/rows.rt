@@ -91,6 +91,8 @@ replay --frames 11
 1 alloc /b 11 | refused 6 NoGroup
 1 alloc /a 4294967295 | refused 19 BadOrder
 1 show | 0-10 free; current /a 0
+1 alloc /a 11 | refused 19 BadOrder
+1 blocks | 0:10 1:8 3:0
 
 blocks of every order are taken
 replay --cpus 1 --batch 1 --high 1 --stock 1
@@ -581,6 +583,17 @@ replay
 1 alloc /a 4 | refused 15 OverLimit /a
 1 read /a memory.events | events 1 0 0 0
 
+a great block goes over the limit of the group above
+replay
+1 mkdir /a | group 1
+1 write /a memory.max 32K | ok
+1 mkdir /a/b | group 2
+1 alloc /a/b 4 | refused 15 OverLimit /a
+1 read /a memory.events | events 1 0 0 0
+1 read /a/b memory.events | events 0 0 0 0
+1 alloc /a/b 1 | frame 0
+1 read /a memory.peak | 8192
+
 a charge without a frame is taken back
 replay
 1 mkdir /a | group 1
@@ -606,7 +619,7 @@ replay --audit
 1 mkdir /a | group 1
 1 alloc /a 0 | frame 0
 1 settle | settled
-2 get 0 | held
+1 get 0 | held
 2 get 0 | held
 2 get 0 | held
 end | held 3; audit frames 16 free 15 charged 1; audit puts 0 freezes 0 drops 0 returns 0

@@ -14,6 +14,14 @@ pub use Rattle.script_lines.specs.Verb.{HasArguments, IsCommandText}
 use Rattle.script_lines.specs.declared.fault.ScriptFault.{ScriptFault}
 use Rattle.script_lines.specs.declared.fault.ScriptFault.TheVariants.{BadLine, NoMemory}
 
+-- how many bytes a script may have
+abbrev pub longest_script : ℕ
+longest_script = 1048576
+
+-- how many bytes a line may have, its line feed not counted
+abbrev pub longest_line : ℕ
+longest_line = 1024
+
 -- the texts between the line feeds of a script
 abbrev pub texts_of : List ℕ → List (List ℕ)
 texts_of script = slice_split (λ b. b == 10) script
@@ -72,14 +80,14 @@ ended_lines script = count_by (λ b. b == 10) script
 pub record IsGoodLine (sizes : Config) (script : List ℕ) (n : ℕ) : Type 0 where
   pub text : List ℕ
   pub is_text : slice_get (texts_of script) (n - 1) ≡ Some text
-  pub short : length text ≤ 1024
-  pub within : 1048576 < length script → n ≤ ended_lines (take 1048576 script)
+  pub short : length text ≤ longest_line
+  pub within : longest_script < length script → n ≤ ended_lines (take longest_script script)
   pub says : is_skipped text ≡ false → (line : Line) × IsLineText sizes n line text
   pub once : is_go text ≡ true → has_go (take (n - 1) (texts_of script)) ≡ false
 
--- a script of at most 1,048,576 bytes, in which every line is good, and its lines
+-- a script that is not too long, in which every line is good, and its lines
 pub record IsScript (sizes : Config) (script : List ℕ) (lines : List Line) : Type 0 where
-  pub fits : length script ≤ 1048576
+  pub fits : length script ≤ longest_script
   pub good : (n : ℕ) → 1 ≤ n → n ≤ length (texts_of script) → IsGoodLine sizes script n
   pub says : AreLines sizes (texts_of script) lines
 

@@ -4,6 +4,7 @@ use Rattle.std.specs.Cmp.Lexicographic.{pointwise}
 use Rattle.std.specs.HashMap.{HashMap, get_by}
 use Rattle.std.specs.Map.{lookup}
 use Rattle.std.specs.Str.Parse.{IsNumeral, digits_value}
+use Rattle.group_tree.specs.Bounds.{most_groups}
 use Rattle.zone_sizes.specs.declared.config.Config.{Config}
 use Rattle.script_lines.specs.declared.line.Command.{Command}
 use Rattle.script_lines.specs.declared.line.Command.TheVariants as command
@@ -99,10 +100,10 @@ pub record IsFrameText (sizes : Config) (frame : ℕ) (text : List ℕ) : Type 0
   pub writes : WritesNumber text frame
   pub in_zone : frame < sizes.frames
 
--- the number of a group, which needn't be there: 0 to 63
+-- the number of a group, which needn't be there
 pub record IsGroupText (group : ℕ) (text : List ℕ) : Type 0 where
   pub writes : WritesNumber text group
-  pub low : group < 64
+  pub low : group < most_groups
 
 -- `PATH` alone
 abbrev pub IsPath : List ℕ → List ℕ → Type 0

@@ -4,7 +4,7 @@ ghost use Rattle.std.specs.Prelude.{◌≡◌, ◌≢◌, ◌↔◌, ◌∷◌, 
 ghost use Rattle.std.specs.Prelude.{length, take};
 ghost use Rattle.script_lines.specs.Script.{HasArguments, IsAllocText, IsCommandText, IsCut, IsFirstBadLine, IsFrameText, IsGroupText, IsLineText};
 ghost use Rattle.script_lines.specs.Script.{IsPathText, IsReadText, IsRequestText, IsScript, IsWriteText, NamesFirstBadLine, ended_lines};
-ghost use Rattle.script_lines.specs.Script.{is_go, is_skipped, texts_left, texts_of};
+ghost use Rattle.script_lines.specs.Script.{is_go, is_skipped, longest_script, texts_left, texts_of};
 ghost use Rattle.script_lines.specs.Verb.{IsNames, its_verb, on_frame};
 ghost use Rattle.script_lines.specs.declared.line.Command.{Command};
 ghost use Rattle.script_lines.specs.declared.line.Line.{Line};
@@ -14,11 +14,9 @@ use crate::line::{Command, Line};
 use crate::number::number;
 use crate::place::{place_by_one, place_of};
 use crate::verb::{Names, Verb, command_names, verb_of};
+use group_tree::group::MAX_GROUPS;
 use std::alloc::Global;
 use zone_sizes::config::Config;
-
-/// The numbers of groups, from 0.
-const MOST_GROUPS: u32 = 64;
 
 /// The most bytes that a script has.
 pub const MOST_INPUT: usize = 1_048_576;
@@ -97,8 +95,8 @@ fn first_line(text: &[u8]) -> (&[u8], Option<&[u8]>)
 // The number of the line in which the first byte past the most stands, where there is one. A line feed
 // belongs to the line that it ends.
 fn line_over(input: &[u8]) -> Option<usize>
-    ensures { MatchOption result (length input.now ≤ 1048576)
-        (λ n. (1048576 < length input.now) × (n ≡ ended_lines (take 1048576 input.now) + 1)) }
+    ensures { MatchOption result (length input.now ≤ longest_script)
+        (λ n. (longest_script < length input.now) × (n ≡ ended_lines (take longest_script input.now) + 1)) }
 {
     if input.len() <= MOST_INPUT {
         return None;
@@ -254,7 +252,7 @@ fn group_of(text: &[u8]) -> Option<u32>
     ensures { MatchOption result ((group : ℕ) → ¬ IsGroupText group text.now) (λ group. IsGroupText group text.now) }
 {
     let group = number(text)?;
-    if group < MOST_GROUPS {
+    if (group as usize) < MAX_GROUPS {
         Some(group)
     } else {
         None

@@ -12,8 +12,7 @@ use Rattle.group_tree.specs.declared.fault.Fault.TheVariants.{NoGroup, PinsFull,
 use Rattle.cpu_part.specs.declared.answers.Fast as cpu
 use Rattle.cpu_part.specs.declared.answers.Fast.TheVariants.{Got}
 use Rattle.cpu_part.specs.declared.answers.Dropped.TheVariants as dropped
-use Rattle.cpu_part.specs.declared.cpu.TheConstants.{MOST_PINS}
-use Rattle.cpu_part.specs.Cpus.{KnownCpu, times}
+use Rattle.cpu_part.specs.Cpus.{KnownCpu, most_pins, times}
 use Rattle.cpu_part.specs.Calls.{FastAnswers, DropAnswers, PinAnswers, UnpinAnswers}
 use Rattle.step_rules.specs.declared.step.Action.TheVariants as step
 use Rattle.step_rules.specs.declared.step.Answer.TheVariants as says
@@ -82,9 +81,9 @@ AnswersFast group way other = ⊥
 -- Get: a pin on the frame; refused where pins and back frames are as many as there is room for
 abbrev pub GetsPin : (frame : ℕ) (before after : KnownCpu) → Answer → Type 0
 GetsPin frame before after (answer.Got got) =
-    (length before.back + length before.pins < MOST_PINS) × PinAnswers frame got before after
+    (length before.back + length before.pins < most_pins) × PinAnswers frame got before after
 GetsPin frame before after (answer.Served (Refused PinsFull)) =
-    (length before.back + length before.pins ≡ MOST_PINS) × (after ≡ before)
+    (length before.back + length before.pins ≡ most_pins) × (after ≡ before)
 GetsPin frame before after other = ⊥
 
 -- a get that was held is one step, and any other made none

@@ -1,6 +1,6 @@
 -- What a line names is there.
 use Rattle.std.specs.Prelude.{ℕ, ◌≤◌, ◌<◌}
-use Rattle.group_tree.specs.declared.group.TheConstants.{MAX_GROUPS}
+use Rattle.group_tree.specs.Bounds.{most_groups}
 use Rattle.mem_system.specs.Commands.{NamesFrameBelow}
 use Rattle.script_lines.specs.declared.line.Command.{Command}
 use Rattle.script_lines.specs.declared.line.Command.TheVariants.{Alloc}
@@ -13,7 +13,7 @@ use Rattle.script_replay.specs.Works.{work_of}
 -- a frame that is named is one of so many, and the number of a group is one that there can be
 abbrev pub WorkInRange : ℕ → Work → Type 0
 WorkInRange frames (Visit command) = NamesFrameBelow frames command
-WorkInRange frames (Fast group) = group < MAX_GROUPS
+WorkInRange frames (Fast group) = group < most_groups
 WorkInRange frames (Release frame) = frame < frames
 WorkInRange frames (Get frame) = frame < frames
 WorkInRange frames (Put frame) = frame < frames

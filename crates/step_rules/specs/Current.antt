@@ -1,6 +1,7 @@
 -- Usage (memory.current of cgroup-v2.rst), counted over a run: frames by their places, stocks and pending pages by what was
 -- put in and taken out.
 use Rattle.std.specs.Prelude.{◌≡◌, ℕ, ◌+◌, ◌&&◌, if◌then◌else◌}
+use Rattle.group_tree.specs.Bounds.{most_groups}
 use Rattle.group_tree.specs.Groups.{in_subtree}
 use Rattle.step_rules.specs.declared.step.FramePlace.TheVariants.{Charged}
 use Rattle.step_rules.specs.State.{Zone, one_if, sum_to}
@@ -14,7 +15,7 @@ use Rattle.step_rules.specs.Folds.{last_fill}
 
 -- the pairs of a frame of the zone and a place at a group of g's subtree
 abbrev pub frames_placed : Zone → Run → ℕ → ℕ
-frames_placed zone run g = sum_to zone.frames (λ f. sum_to 64 (λ h. one_if (in_subtree (state_of zone run).groups g h && places_of zone run f (Charged h))))
+frames_placed zone run g = sum_to zone.frames (λ f. sum_to most_groups (λ h. one_if (in_subtree (state_of zone run).groups g h && places_of zone run f (Charged h))))
 
 -- a number of each processor, summed over those whose last fill was for a group of g's subtree
 abbrev pub over_stocks : Zone → Run → ℕ → (ℕ → ℕ) → ℕ
@@ -22,7 +23,7 @@ over_stocks zone run g of = sum_to (zone.cpus + 1) (λ p. if is_below (state_of 
 
 -- a number of each group, summed over g's subtree
 abbrev pub over_groups : Zone → Run → ℕ → (ℕ → ℕ) → ℕ
-over_groups zone run g of = sum_to 64 (λ h. if in_subtree (state_of zone run).groups g h then of h else 0)
+over_groups zone run g of = sum_to most_groups (λ h. if in_subtree (state_of zone run).groups g h then of h else 0)
 
 -- the three parts of a group's usage: the frames that are placed in its subtree; the pages filled and credited into its
 -- stocks, less those consumed and drained; and the pages granted and drained there, less those taken back, filled and placed

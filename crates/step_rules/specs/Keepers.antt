@@ -1,5 +1,6 @@
 -- Each group that keeps a frame or a page is there.
 use Rattle.std.specs.Prelude.{◌≡◌, ℕ, ◌+◌, ◌<◌, ◌≤◌, true, false, Some, None}
+use Rattle.group_tree.specs.Bounds.{most_groups}
 use Rattle.group_tree.specs.Groups.{has_group, parent_of, AreGroups}
 use Rattle.step_rules.specs.Phases.{keeper_of}
 use Rattle.step_rules.specs.State.{Zone, State, is_cpu, visits}
@@ -21,11 +22,11 @@ pub record StockIsKept (s : State) (p : ℕ) : Type 0 where
   pub unreported : visits p s.hold ≡ false → (s.parts p).unreported ≡ 0
   pub reported : visits p s.hold ≡ false → (s.parts p).reported ≡ 0
 
--- the groups are those of a tree, with numbers below 64; each that keeps a frame or a page, or lies above another, is
--- there, killed or not; so where the numbers below 64 are settled, all are; and who holds the lock is a processor
+-- the groups are those of a tree, with numbers below `most_groups`; each that keeps a frame or a page, or lies above another,
+-- is there, killed or not; so if the numbers below that are settled, all are; and who holds the lock is a processor
 pub record KeepersAreThere (s : State) : Type 0 where
   pub groups : AreGroups s.groups
-  pub numbers : (g : ℕ) → has_group s.groups g ≡ true → g < 64
+  pub numbers : (g : ℕ) → has_group s.groups g ≡ true → g < most_groups
   pub parents : (g h : ℕ) → parent_of s.groups g ≡ Some h → has_group s.groups h ≡ true
   pub frames : (f g : ℕ) → keeper_of (s.phases f) ≡ Some g → has_group s.groups g ≡ true
   pub parts : (p : ℕ) → StockIsKept s p

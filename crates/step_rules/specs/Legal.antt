@@ -3,6 +3,7 @@ use Rattle.std.specs.Prelude.{◌≡◌, ◌≢◌, ℕ, ◌+◌, ◌^◌, ◌�
 use Rattle.std.specs.Prelude.{if◌then◌else◌}
 use Rattle.zone_blocks.specs.declared.block.Block.{Block}
 use Rattle.zone_blocks.specs.Areas.{IsFreeBlock}
+use Rattle.group_tree.specs.Bounds.{most_groups}
 use Rattle.group_tree.specs.Groups.{has_group, has_child, make_fault, IsLeastFreeNumber}
 use Rattle.group_tree.specs.Room.{PathHasRoom, IsLowestOver}
 use Rattle.step_rules.specs.declared.step.Action.{Action}
@@ -32,7 +33,7 @@ no_frame_passes s = all_to s.zone.frames (λ f. not (is_passing (s.phases f)))
 
 -- no page of any group is pending
 abbrev pub is_settled : State → Bool
-is_settled s = all_to 64 (λ g. s.pending g == 0)
+is_settled s = all_to most_groups (λ g. s.pending g == 0)
 
 -- the frame is the front of the processor's list, fresh, or a back frame there
 abbrev pub may_pass_back : State → ℕ → ℕ → Bool

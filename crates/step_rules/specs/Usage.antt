@@ -1,6 +1,7 @@
 -- Usage (memory.current of cgroup-v2.rst).
 use Rattle.std.specs.Prelude.{ℕ, ◌+◌, Bool, false, Option, Some, None, List, if◌then◌else◌}
 use Rattle.group_tree.specs.declared.group.Group.{Group}
+use Rattle.group_tree.specs.Bounds.{most_groups}
 use Rattle.group_tree.specs.Groups.{in_subtree}
 use Rattle.step_rules.specs.declared.phase.Phase.{Phase}
 use Rattle.step_rules.specs.Phases.{keeper_of}
@@ -25,7 +26,7 @@ pages_prepaid groups parts cpus g = sum_to (cpus + 1) (λ p. stock_below groups 
 
 -- the pages that are pending for the subtree's groups
 abbrev pub pages_pending : List Group → (ℕ → ℕ) → ℕ → ℕ
-pages_pending groups pending g = sum_to 64 (λ h. if in_subtree groups g h then pending h else 0)
+pages_pending groups pending g = sum_to most_groups (λ h. if in_subtree groups g h then pending h else 0)
 
 -- the memory now used by the group and its descendants, in pages: the frames that they keep, the pages prepaid for them
 -- and those pending

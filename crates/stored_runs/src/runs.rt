@@ -31,7 +31,7 @@ fn sizes_of(words: &str) -> Result<Config> {
 // A core of these sizes, if one is to stand beside the system.
 fn core_of(alloc: Global, word: &str, sizes: &Config) -> Result<Option<Core>> {
     match word {
-        "beside" if sizes.is_valid() => Ok(Some(Core::new(alloc, sizes.frames, sizes.cpus)?)),
+        "beside" if sizes.is_valid() => Ok(Some(Core::new(alloc, *sizes)?)),
         "alone" => Ok(None),
         _ => bail!("neither beside a core nor alone"),
     }

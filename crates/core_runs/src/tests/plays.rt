@@ -3,11 +3,20 @@
 use group_tree::event::EventKey;
 use group_tree::group::GroupId;
 use mem_core::zone::Core;
+use mem_core::{Action, Answer, Config, Step};
 use std::alloc::Global;
 use std::process::Abort;
 use std::test::Fail;
 use step_rules::phase::Phase;
-use step_rules::step::{Action, Answer, Step};
+
+/// A zone of eight frames and three CPUs.
+pub const EIGHT_FRAMES: Config = Config {
+    frames: 8,
+    cpus: 3,
+    batch: 1,
+    high: 1,
+    stock: 1,
+};
 
 /// A seat, the step that it makes, and the answer that it has to get.
 pub type CoreRow = (u32, Action, Answer);
@@ -124,7 +133,7 @@ pub fn works_on_core(
     rows: &[CoreRow],
     facts: &[CoreFact],
 ) -> Result<(), Fail> {
-    let mut core = Core::new(alloc, 8, 3)?;
+    let mut core = Core::new(alloc, EIGHT_FRAMES)?;
     plays_rows(rt, &mut core, begin);
     plays_rows(rt, &mut core, rows);
     for fact in facts {

@@ -13,6 +13,7 @@ use Rattle.mem_core.proofs.Advancing.{bounded_boot}
 use Rattle.std.proofs.Common.{replicate}
 use Rattle.std.proofs.lemmas.List.{get_or-replicate, length-replicate}
 use Rattle.core_rows.proofs.Starting.{replicate_all}
+use Rattle.mem_core.specs.Shown.{zone_of}
 use Rattle.mem_core.specs.Accounts.{Account, new_account, account_of, HaveSmallPeaks}
 use Rattle.mem_core.proofs.Accounting.{tell_start}
 use Rattle.mem_core.proofs.zone.Core.new.Goals as goal
@@ -28,9 +29,9 @@ set_areas-requires-clause-frames c = c.in_ok-areas.ensures.frames ∙ sym (ap (�
 pub invariant_of-result : goal.invariant_of-result
 invariant_of-result c =
     let s = rows.state_in c.in_ok-rows.rows in
-    let zone : Zone = record { frames = c.args.frames; cpus = c.args.cpus } in
+    let zone : Zone = zone_of c.args.config in
     let boot : s ≡ at_boot zone = c.in_ok-rows.ensures.state in
-    let frames : s.zone.frames ≡ c.args.frames = ap (λ (t : State). t.zone.frames) boot in
+    let frames : s.zone.frames ≡ c.args.config.frames = ap (λ (t : State). t.zone.frames) boot in
     record {
       fits = c.in_ok-rows.ensures.fits;
       sound = subst IsSound (sym boot) (sound_boot zone);
@@ -55,7 +56,7 @@ returns-clause-empty c =
       areas = c.set_areas.new.areas;
       steps = 0;
     } in
-    let zone : Zone = record { frames = c.args.frames; cpus = c.args.cpus } in
+    let zone : Zone = zone_of c.args.config in
     let boot : s ≡ at_boot zone = c.in_ok-rows.ensures.state in
     let same : s.zone ≡ zone = ap (λ (t : State). t.zone) boot in
     record {
