@@ -95,7 +95,7 @@ prepay_stays (Ok x) t g pages m c n d visit prepays over = record {
 }
 prepay_stays (Err e) t g pages m c n d visit prepays over = record {
   visit = visit;
-  opened = ap (λ (k : KnownMachine). k.frame_seat.view.opened) over.drains.machine;
+  opened = ap (λ (k : KnownMachine). k.frame_seat.view.opened) over.machine ∙ ap (λ (k : KnownMachine). k.frame_seat.view.opened) over.drains.machine;
   number = ap (λ (e : KnownCpu). e.number) over.cpu;
 }
 

@@ -14,7 +14,7 @@ use Rattle.cpu_part.specs.Cpus.{KnownCpu}
 use Rattle.zone_sizes.specs.declared.config.Config.{Config}
 use Rattle.zone_sizes.specs.Config.{IsValidConfig}
 use Rattle.step_rules.specs.After.{Run}
-use Rattle.mem_machine.specs.Machines.{KnownMachine, is_killed}
+use Rattle.mem_machine.specs.Machines.{KnownMachine, Visits, is_killed}
 use Rattle.mem_machine.specs.Local.{Side, side, MakesAs}
 use Rattle.mem_machine.specs.Lending.{LendsMany, Refills}
 use Rattle.mem_machine.specs.Paying.{HoldsPage, PaysForFront}
@@ -29,10 +29,10 @@ use Rattle.mem_alloc.specs.Charging.{ChargesAfterDrain, ChargesFrame, ChargesOne
 use Rattle.mem_alloc.specs.Rounds.{FailsInRounds}
 use Rattle.mem_alloc.specs.Frames.{AllocatesFrame, FillsList, HasNoFreeFrame, LendsBatch, LendsNoFrame, RefillsInRounds, RefillsList}
 use Rattle.mem_alloc.proofs.Making.{answer_is}
-use Rattle.mem_alloc.proofs.Lowering.{Lowers, lowers_none, lowers_both, drain_lowers, looked_lowers}
+use Rattle.mem_alloc.proofs.Lowering.{Lowers, lowers_none, lowers_both, drain_lowers, looked_lowers, lowered_visit}
 use Rattle.mem_alloc.proofs.Killing.{relieves_lower}
 use Rattle.mem_alloc.proofs.Rounding.{Spares, FailureSpares, InTheEnd, spares_same, fails_spare, in_the_end}
-use Rattle.mem_machine.proofs.Followed.{makes_both}
+use Rattle.mem_machine.proofs.Followed.{makes_both, makes_stay}
 
 -- ---- what is kept
 
@@ -142,6 +142,25 @@ charged_page t sizes g (Ok v) m n c d steps valid (inl h) none = filled_page g s
 charged_page t sizes g (Ok v) m n c d steps valid (inr h) none =
     filled_page g 1 h.does.cleared n c d h.does.does.fills (omega arith) none
 charged_page t sizes g (Err e) m n c d steps valid h none = tt
+
+-- ---- a look at the own stock
+
+module _ (t : KnownTable) (m n : KnownMachine) (c d : KnownCpu) (seen : n ≡ with_look m) (mine : d ≡ c) where
+  pub looked_visit : Visits t (side m c) → Visits t (side n d)
+  looked_visit visit = lowered_visit t m n c d (subst (λ (x : KnownMachine). Lowers t m x) (sym seen) (looked_lowers t m)) mine visit
+
+  pub looked_page : (g : ℕ) → HoldsPage (side m c) g → HoldsPage (side n d) g
+  looked_page g page = subst (λ (z : KnownMachine × KnownCpu). HoldsPage (side z.0 z.1) g) (λ i. (sym seen i, sym mine i))
+      (record { group = page.group; held = page.held; some = page.some })
+
+  -- it shows a page of the group
+  pub pays_none : (sizes : Config) (g : ℕ) → HoldsPage (side m c) g → BySteps t (PaysForFrame sizes g (Ok tt)) (side m c) (side n d)
+  pays_none sizes g page = record {
+    steps = [];
+    does = inl (record { is = page; does = record { machine = seen; cpu = mine; steps_are = refl } });
+    makes = subst (λ (z : KnownMachine × KnownCpu). MakesAs t c.number (side m c) [] (side z.0 z.1)) (λ i. (sym seen i, sym mine i))
+        (makes_stay t m (with_look m) c c refl refl refl);
+  }
 
 -- ---- frames that are lent
 

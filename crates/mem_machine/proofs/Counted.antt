@@ -8,11 +8,12 @@ use Rattle.step_rules.specs.declared.step.Action.TheVariants.{Put, Return}
 use Rattle.step_rules.specs.declared.step.Answer.TheVariants.{Done, Last}
 use Rattle.step_rules.specs.Phases.{at_stage, passed_back, collected}
 use Rattle.step_rules.specs.State.{State, with_at}
+use Rattle.step_rules.specs.Returns.{is_drop_phase}
 use Rattle.step_rules.specs.After.{after}
 use Rattle.step_rules.proofs.Basics.{at_same}
 use Rattle.mem_machine.specs.declared.counts.Counts.{Counts}
 use Rattle.mem_machine.specs.Counts.{with_drop}
-use Rattle.mem_machine.specs.Counting.{counts_after, is_back_passing, is_collected_fresh, with_one_put_last, with_one_returned}
+use Rattle.mem_machine.specs.Counting.{counts_after, is_back_passing, with_one_put_last, with_one_returned}
 
 module _ (s : State) (f : ℕ) (x : Phase) (is : s.phases f ≡ x) where
   -- the phases once the frame was passed back
@@ -32,22 +33,22 @@ module _ (s : State) (f : ℕ) (x : Phase) (is : s.phases f ≡ x) where
   collects_none other counts = sym (ap (λ (b : Bool). cond b (with_one_put_last counts) counts) (ap is_back_passing passed_at ∙ other))
 
   -- a unit whose head is passed back, collected and returned
-  pub comes_back : (is_back is_fresh : Bool) → is_back_passing (passed_back x) ≡ is_back → is_collected_fresh (collected (passed_back x)) ≡ is_fresh → (counts : Counts)
-      → (let here = cond is_back (with_one_put_last counts) counts in cond is_fresh (with_drop here) (with_one_returned here))
+  pub comes_back : (is_back is_drop : Bool) → is_back_passing (passed_back x) ≡ is_back → is_drop_phase s.killed (collected (passed_back x)) ≡ is_drop → (counts : Counts)
+      → (let here = cond is_back (with_one_put_last counts) counts in cond is_drop (with_drop here) (with_one_returned here))
       ≡ (let here = cond (is_back_passing (passed f)) (with_one_put_last counts) counts in
-      cond (is_collected_fresh (with_at passed f (collected (passed f)) f)) (with_drop here) (with_one_returned here))
-  comes_back is_back is_fresh back fresh counts = λ i.
+      cond (is_drop_phase s.killed (with_at passed f (collected (passed f)) f)) (with_drop here) (with_one_returned here))
+  comes_back is_back is_drop back drop counts = λ i.
       let here = cond (sym (ap is_back_passing passed_at ∙ back) i) (with_one_put_last counts) counts in
-      cond (sym (ap is_collected_fresh collected_at ∙ fresh) i) (with_drop here) (with_one_returned here)
+      cond (sym (ap (is_drop_phase s.killed) collected_at ∙ drop) i) (with_drop here) (with_one_returned here)
 
--- a unit that ended is no fresh frame
-not_fresh : (x : Phase) → is_collected_fresh (at_stage Ended x) ≡ false
-not_fresh phase.InZone = refl
-not_fresh (phase.Lent q way) = refl
-not_fresh (phase.Head unit stage) = refl
-not_fresh (phase.Tail g) = refl
+-- a unit that ended is no drop
+no_drop : (killed : ℕ → Bool) (x : Phase) → is_drop_phase killed (at_stage Ended x) ≡ false
+no_drop killed phase.InZone = refl
+no_drop killed (phase.Lent q way) = refl
+no_drop killed (phase.Head unit stage) = refl
+no_drop killed (phase.Tail g) = refl
 
 -- the return of a unit of which the zone had the last reference
 pub returned_ended : (s : State) (f : ℕ) (counts : Counts) → counts_after (after s 0 (Put f) Last) 0 (Return f) Done counts ≡ with_one_returned counts
 returned_ended s f counts = ap (λ (b : Bool). cond b (with_drop counts) (with_one_returned counts))
-    (ap is_collected_fresh (at_same s.phases f (at_stage Ended (s.phases f))) ∙ not_fresh (s.phases f))
+    (ap (is_drop_phase s.killed) (at_same s.phases f (at_stage Ended (s.phases f))) ∙ no_drop s.killed (s.phases f))

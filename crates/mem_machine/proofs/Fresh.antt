@@ -260,8 +260,9 @@ module _ (t : KnownTable) (w : Words) (m : KnownMachine) (c : KnownCpu) (tied : 
         (drop_run s c.number f (fresh_unit c) _ v (own_part m c) (local_of t dropped d) (ap (is_killed m.killed) was.named ∙ killed)
         (λ i. record s { phases = λ x. sym (ph x) i; references = λ q x. sym (re q x) i; parts = λ q. sym (pa q) i }))
 
-    dropped_counts : counts ≡ counts_over s (drop_steps c.number f) m.counts
-    dropped_counts = counted ∙ comes_back s f (phase.Head (fresh_unit c) (FreshAt c.number)) fresh_now false true refl refl m.counts
+    dropped_counts : is_killed m.killed g ≡ true → counts ≡ counts_over s (drop_steps c.number f) m.counts
+    dropped_counts killed = counted ∙ comes_back s f (phase.Head (fresh_unit c) (FreshAt c.number)) fresh_now false true refl
+        (ap (is_killed m.killed) was.named ∙ killed) m.counts
 
     dropped_visits : Visits t (side dropped d)
     dropped_visits = handed_visits t w m c tied visit f (collected_from c.number) (λ k. refl) dropped d refl refl refl
@@ -363,7 +364,7 @@ drop_all t w m now same c h tied ok visit_now before free free_was f g was kille
       steps = record {
         leads = dropped_steps t w m c tied ok visit f g was rest front spots frees blocks areas counts counted killed;
         follows = follows_still _ m.ledger _ _ refl (uncharge_peaks m.ledger g 1) (uncharge_events m.ledger g 1);
-        counts = dropped_counts t w m c tied ok visit f g was rest front spots frees blocks areas counts counted;
+        counts = dropped_counts t w m c tied ok visit f g was rest front spots frees blocks areas counts counted killed;
       };
     } in
     let uncharged_one : ledger ≡ with_uncharge m.ledger g 1 = uncharges ∙ ap (λ (j : ℕ). with_uncharge m.ledger g (2 ^ j)) zero_is in

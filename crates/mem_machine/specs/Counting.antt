@@ -2,7 +2,7 @@
 use Rattle.std.specs.Prelude.{◌≡◌, ℕ, ◌==◌, Bool, true, false, [], ◌∷◌, if◌then◌else◌}
 use Rattle.group_tree.specs.Room.{one_more}
 use Rattle.step_rules.specs.declared.phase.Stage.{Stage}
-use Rattle.step_rules.specs.declared.phase.Stage.TheVariants.{Collected, BackPassing}
+use Rattle.step_rules.specs.declared.phase.Stage.TheVariants.{BackPassing}
 use Rattle.step_rules.specs.declared.phase.Phase.{Phase}
 use Rattle.step_rules.specs.declared.phase.Phase.TheVariants.{Head}
 use Rattle.step_rules.specs.declared.step.Action.{Action}
@@ -10,6 +10,7 @@ use Rattle.step_rules.specs.declared.step.Action.TheVariants.{Put, Freeze, Colle
 use Rattle.step_rules.specs.declared.step.Answer.{Answer}
 use Rattle.step_rules.specs.declared.step.Answer.TheVariants.{Done, Last, Missed}
 use Rattle.step_rules.specs.State.{State}
+use Rattle.step_rules.specs.Returns.{is_drop_phase}
 use Rattle.step_rules.specs.After.{Run, after}
 use Rattle.mem_machine.specs.declared.counts.Counts.{Counts}
 use Rattle.mem_machine.specs.Counts.{with_drop, with_miss}
@@ -24,16 +25,6 @@ abbrev pub is_back_passing : Phase → Bool
 is_back_passing (Head unit stage) = is_stage_back_passing stage
 is_back_passing phase = false
 
--- the unit's head was collected as a fresh frame
-abbrev pub is_stage_collected_fresh : Stage → Bool
-is_stage_collected_fresh Collected = true
-is_stage_collected_fresh stage = false
-
--- the frame was collected as a fresh frame
-abbrev pub is_collected_fresh : Phase → Bool
-is_collected_fresh (Head unit stage) = is_stage_collected_fresh stage
-is_collected_fresh phase = false
-
 -- one last put more
 abbrev pub with_one_put_last : Counts → Counts
 with_one_put_last counts = record counts { last_puts = one_more counts.last_puts }
@@ -47,8 +38,8 @@ abbrev pub with_one_returned : Counts → Counts
 with_one_returned counts = record counts { returns = one_more counts.returns }
 
 -- The counts after a step with its answer, by the state before it; each stays at its greatest. A last put is counted if
--- the zone's own put was the last, and if it collects a back frame. A freeze is counted by its answer. A unit that comes
--- back is counted, and as a drop too if it was a fresh frame
+-- the zone's own put was the last, and if it collects a back frame. A freeze, or a miss, is counted by the answer. A unit
+-- that comes back is counted, and as a drop too if it was a fresh frame of a killed group
 abbrev pub counts_after : State → (seat : ℕ) → Action → Answer → Counts → Counts
 counts_after state seat (Put frame) Last counts = if seat == 0 then with_one_put_last counts else counts
 counts_after state seat (Collect frame cpu) Done counts =
@@ -56,7 +47,7 @@ counts_after state seat (Collect frame cpu) Done counts =
 counts_after state seat (Freeze frame references) Done counts = with_one_frozen counts
 counts_after state seat (Freeze frame references) Missed counts = with_miss counts
 counts_after state seat (Return frame) Done counts =
-    if is_collected_fresh (state.phases frame) then with_drop counts else with_one_returned counts
+    if is_drop_phase state.killed (state.phases frame) then with_drop counts else with_one_returned counts
 counts_after state seat action answer counts = counts
 
 -- the counts after all steps of a list, the first of which is made in this state

@@ -164,9 +164,9 @@ impl<N: BootName> Machine<N> {
     }
 
     /// Tries once to prepay `pages` pages (1 to 65,535) of a group that isn't killed. The caller's own stock is drained
-    /// first, and all its pages are taken back; then the pages are charged to the group and fill the stock. Where a
-    /// limit has no room, the error names the lowest such group, and nothing is charged. The processor has no fresh
-    /// frame. In all, at most 2^32 - 1 pages can be charged, as `see_room` tells.
+    /// first, and all its pages are returned, as a look shows; then the pages are charged to the group and fill the
+    /// stock. If a limit has no room, the error names the lowest such group, and nothing is charged. The processor has
+    /// no fresh frame. In all, at most 2^32 - 1 pages can be charged, as `see_room` shows.
     pub fn prepay(
         &mut self,
         tables: &Tables<N>,
@@ -189,7 +189,8 @@ impl<N: BootName> Machine<N> {
     {
         let number = cpu.number();
         self.drain_stock(tables, number);
-        let _emptied = self.own_stock(tables, cpu); // For the clauses.
+        // The drain says how many pages it took, and not that none is left: the look does.
+        let _emptied = self.own_stock(tables, cpu);
         self.fill_stock(tables, cpu, group, pages)
     }
 }

@@ -13,10 +13,6 @@ use Rattle.stock_word.specs.Kinds.{after_took, after_back, draining}
 abbrev pub with_view : Seated → StockView → Seated
 with_view seat view = record { table = seat.table; view = view }
 
--- the seat as it is shown where its steps aren't counted
-abbrev pub uncounted : Seated → Seated
-uncounted seat = with_view seat (record seat.view { steps = 0 })
-
 -- the processor's view after it was told Drained: by a step where it saw its stock held last, and without one where it saw it drained
 abbrev pub told_drained : StockView → StockView
 told_drained v = record v { last = drained_of v.last; steps = v.steps + (if is_held v.last then 1 else 0) }
