@@ -1,6 +1,6 @@
 -- The machine's counts follow lists of steps in which units end and come back. Serves the `steps` clauses of `drain_list`, `settle`,
 -- `let_go` and `evict`.
-use Rattle.std.proofs.Common.{◌≡◌, ℕ, Bool, true, false, cond, refl, sym, ap, ◌∙◌}
+use Rattle.std.proofs.Common.{◌≡◌, ℕ, Bool, false, cond, refl, sym, ap, ◌∙◌}
 use Rattle.step_rules.specs.declared.phase.Stage.TheVariants.{Ended}
 use Rattle.step_rules.specs.declared.phase.Phase.{Phase}
 use Rattle.step_rules.specs.declared.phase.Phase.TheVariants as phase

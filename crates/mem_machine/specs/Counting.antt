@@ -1,5 +1,5 @@
 -- What a list of steps makes of the machine's counts: how often units ended and came back, or were tried in vain.
-use Rattle.std.specs.Prelude.{◌≡◌, ℕ, ◌==◌, Bool, true, false, [], ◌∷◌, if◌then◌else◌}
+use Rattle.std.specs.Prelude.{ℕ, ◌==◌, Bool, true, false, [], ◌∷◌, if◌then◌else◌}
 use Rattle.group_tree.specs.Room.{one_more}
 use Rattle.step_rules.specs.declared.phase.Stage.{Stage}
 use Rattle.step_rules.specs.declared.phase.Stage.TheVariants.{BackPassing}

@@ -1,4 +1,4 @@
-use Rattle.std.proofs.Common.{◌∙◌, sym, ap, refl}
+use Rattle.std.proofs.Common.{◌∙◌, sym, refl}
 use Rattle.mem_machine.specs.Stocks.{of_group}
 use Rattle.mem_machine.proofs.Draining.{never_drained}
 use Rattle.mem_machine.proofs.DrainingAll.{looked_own, looked_other, looked_never}

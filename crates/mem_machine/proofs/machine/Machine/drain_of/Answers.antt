@@ -1,4 +1,4 @@
-use Rattle.std.proofs.Common.{◌≡◌, ◌≤◌, Some, rules, refl, ap}
+use Rattle.std.proofs.Common.{◌≡◌, ◌≤◌, Some, rules, refl}
 use Rattle.mem_machine.proofs.Draining.{drained_all, drained_none, drained_within, some_not_none}
 use Rattle.mem_machine.proofs.machine.Machine.drain_of.Goals as goal
 

@@ -1,4 +1,4 @@
-use Rattle.std.proofs.Common.{◌≡◌, ◌<◌, rules, ap}
+use Rattle.std.proofs.Common.{◌≡◌, ◌<◌, rules}
 use Rattle.mem_machine.proofs.Fresh.{drop_all, was_fresh, drop_charged, drop_in_use}
 use Rattle.mem_machine.proofs.machine.Machine.drop_one.Goals as goal
 

@@ -1,4 +1,4 @@
-use Rattle.std.proofs.Common.{refl, rules, ap}
+use Rattle.std.proofs.Common.{refl, rules}
 use Rattle.std.specs.Prelude.{IfErr}
 use Rattle.std.proofs.lemmas.Result.{IfErr-weaker}
 use Rattle.group_tree.specs.Room.{IsLowestOver}

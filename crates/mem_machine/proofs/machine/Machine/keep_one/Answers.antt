@@ -1,4 +1,4 @@
-use Rattle.std.proofs.Common.{◌≡◌, ◌<◌, rules, ap}
+use Rattle.std.proofs.Common.{◌≡◌, ◌<◌, rules}
 use Rattle.mem_machine.proofs.Fresh.{keep_all, was_fresh, in_hand_then}
 use Rattle.mem_machine.proofs.machine.Machine.keep_one.Goals as goal
 

@@ -1,4 +1,4 @@
-use Rattle.std.proofs.Common.{◌≡◌, refl, rules, ap, ◌∙◌}
+use Rattle.std.proofs.Common.{◌≡◌, refl, rules, ◌∙◌}
 use Rattle.mem_machine.proofs.First.{starts, first_is}
 use Rattle.mem_machine.proofs.machine.Machine.new.Goals as goal
 

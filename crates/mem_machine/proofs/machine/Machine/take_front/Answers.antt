@@ -1,4 +1,4 @@
-use Rattle.std.proofs.Common.{refl, ap}
+use Rattle.std.proofs.Common.{refl}
 use Rattle.mem_machine.proofs.Fronts.{has_page, front_paid}
 use Rattle.mem_machine.proofs.machine.Machine.take_front.Goals as goal
 
