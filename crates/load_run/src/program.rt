@@ -20,7 +20,7 @@ use crate::running::replay_on_boot;
 use crate::writing::write_whole;
 use load_options::command_line::parse_words;
 use load_options::settings::Settings;
-use mem_system::{Boot, BootFault};
+use mem_system::{BootFault, boot};
 use script_lines::line::Line;
 use script_lines::script::{MOST_INPUT, parse_script};
 use std::alloc::{AllocError, Global};
@@ -110,7 +110,7 @@ fn answers_of(
     ensures valid { OnOk result (IsValidConfig settings.now.sizes) }
     ensures fault { IfErr result (IsBootFault settings.now.sizes) }
 {
-    match Boot::new(alloc, settings.sizes) {
+    match boot(alloc, settings.sizes) {
         Ok(boot) => {
             let is_explained = settings.is_explained;
             match replay_on_boot::<Brand>(alloc, boot, lines, is_explained, settings.is_audited) {

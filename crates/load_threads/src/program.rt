@@ -17,7 +17,7 @@ use load_options::settings::Settings;
 use load_run::fault::ProgramFault;
 use load_run::fault_lines::tell_fault;
 use load_run::program::{lines_of, read_script, write_answers};
-use mem_system::{Boot, BootFault};
+use mem_system::{BootFault, boot};
 use script_lines::line::Line;
 use std::alloc::{AllocError, Global};
 use std::convert::AsStr;
@@ -93,7 +93,7 @@ fn answers_of<R: Threads + Wait + Sync>(
     ensures valid { OnOk result (IsValidConfig settings.now.sizes) }
     ensures fault { IfErr result (IsBootFault settings.now.sizes) }
 {
-    match Boot::new(alloc, settings.sizes) {
+    match boot(alloc, settings.sizes) {
         Ok(boot) => match run_by_threads::<Brand, R>(rt, alloc, boot, lines, settings.is_audited) {
             Ok(answers) => Ok(answers),
             Err(error) => Err(ProgramFault::NoMemory(error)),

@@ -6,7 +6,7 @@ ghost use Rattle.script_replay.specs.Ranges.{LineIsThere};
 
 use cpu_part::{BootName, Cpu};
 use load_run::boot_end::end_boot;
-use mem_system::{Audit, Boot, Gate, System};
+use mem_system::{Audit, Boot, Gate, System, boot};
 use script_lines::line::Line;
 use script_lines::script::parse_script;
 use script_replay::replay_by_visits;
@@ -109,7 +109,7 @@ pub fn run_script<R: AllocGlobal + Threads + Wait + Abort + Sync, G: Gate + Sync
     let alloc = rt.alloc();
     let lines = parse_script(alloc, script.as_bytes(), &sizes).ok()?;
     let last = parse_script(alloc, last.as_bytes(), &sizes).ok()?;
-    let boot = Boot::new(alloc, sizes).ok()?;
+    let boot = boot(alloc, sizes).ok()?;
     live_by_threads::<Brand, _, _>(rt, alloc, boot, &lines, &last, gate).ok()
 }
 
