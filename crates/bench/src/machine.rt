@@ -89,7 +89,10 @@ impl<N: BootName> Visited<N> {
 
     // Takes a block for the group, and tells its first frame.
     fn take(&mut self) -> Option<u32> {
-        if self.cpu.back_len() > 0 || !may_charge(&self.machine, self.group, self.order.frames()) {
+        if self.cpu.fresh_len() > 0 || self.cpu.back_len() > 0 {
+            return None;
+        }
+        if !may_charge(&self.machine, self.group, self.order.frames()) {
             return None;
         }
         let taken = self

@@ -25,7 +25,7 @@ pub fn group_of_a_visit<N: BootName>(rt: &impl Abort, small: &mut SmallMachine<N
     machine.note_max(group);
     machine.note_group_kill(group);
     let is_leaf = !machine.charges().tree().has_child(group);
-    assert!(rt; is_leaf && machine.current(group) == 0);
+    assert!(rt; is_leaf && machine.current(group) == 0 && cpu.fresh_len() == 0);
     machine.remove(tables, cpu, group);
     row_tells(
         rt,

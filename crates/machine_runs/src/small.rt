@@ -84,7 +84,8 @@ pub fn take_unit<N: BootName>(
         cpu,
     } = small;
     let order = Order::of(exponent).expect(rt, "an order");
-    assert!(rt; cpu.back_len() == 0 && machine.charges().tree().contains(group));
+    assert!(rt; cpu.fresh_len() == 0 && cpu.back_len() == 0);
+    assert!(rt; machine.charges().tree().contains(group));
     assert!(rt; !machine.is_killed(group) && machine.charges().fits(order.frames()));
     let taken = machine.take_block(tables, cpu, group, order);
     let is_there = taken.is_ok_and(|head| head.number() == number);

@@ -14,25 +14,25 @@ use Rattle.cpu_part.specs.Cpus.{KnownCpu}
 use Rattle.zone_sizes.specs.declared.config.Config.{Config}
 use Rattle.zone_sizes.specs.Config.{IsValidConfig}
 use Rattle.step_rules.specs.After.{Run}
-use Rattle.mem_machine.specs.Machines.{KnownMachine, is_killed}
+use Rattle.mem_machine.specs.Machines.{KnownMachine, Visits, is_killed}
 use Rattle.mem_machine.specs.Local.{Side, side, MakesAs}
 use Rattle.mem_machine.specs.Lending.{LendsMany, Refills}
 use Rattle.mem_machine.specs.Paying.{HoldsPage, PaysForFront}
-use Rattle.mem_machine.specs.Stocks.{Drains, Fills, stock_group}
+use Rattle.mem_machine.specs.Stocks.{Drains, Fills, stock_group, with_look}
 use Rattle.mem_machine.specs.Steps.{drain_steps, fill_steps, over_steps, refill_steps, take_front_steps}
 use Rattle.mem_machine.proofs.Prepaying.{filled_account, filled_at}
 use Rattle.mem_alloc.specs.declared.faults.AllocFault.{AllocFault}
 use Rattle.mem_alloc.specs.declared.faults.AllocFault.TheVariants.{Over, NoFrames, RequesterKilled}
-use Rattle.mem_alloc.specs.Stepping.{BySteps, Course, OfMachineAlone, Where, course}
+use Rattle.mem_alloc.specs.Stepping.{BySteps, Course, InTurn, OfMachineAlone, Where, course}
 use Rattle.mem_alloc.specs.Room.{AfterRoom, IsRefusedAt, IsRefusedFor, IsRefusedAtSome, MakesRoom}
 use Rattle.mem_alloc.specs.Charging.{ChargesAfterDrain, ChargesFrame, ChargesOne, DrainsStock, FillsStock, AfterBatchRefused, PaysForFrame}
 use Rattle.mem_alloc.specs.Rounds.{FailsInRounds}
 use Rattle.mem_alloc.specs.Frames.{AllocatesFrame, FillsList, HasNoFreeFrame, LendsBatch, LendsNoFrame, RefillsInRounds, RefillsList}
 use Rattle.mem_alloc.proofs.Making.{answer_is}
-use Rattle.mem_alloc.proofs.Lowering.{Lowers, lowers_none, lowers_both, drain_lowers}
+use Rattle.mem_alloc.proofs.Lowering.{Lowers, lowers_none, lowers_both, drain_lowers, looked_lowers, lowered_visit}
 use Rattle.mem_alloc.proofs.Killing.{relieves_lower}
 use Rattle.mem_alloc.proofs.Rounding.{Spares, FailureSpares, InTheEnd, spares_same, fails_spare, in_the_end}
-use Rattle.mem_machine.proofs.Followed.{makes_both}
+use Rattle.mem_machine.proofs.Followed.{makes_both, makes_stay}
 
 -- ---- what is kept
 
@@ -114,13 +114,15 @@ drain_charges_keep : (t : KnownTable) (sizes : Config) (g : ℕ) (r : Result (Un
     → ChargesAfterDrain sizes g r (course t (side m c) steps (side n d)) → KeepsPart m c n d
 drain_charges_keep t sizes g r m n c d steps h =
     let x = h.does.between in
-    keeps_both m x.machine n c x.cpu d (own_drain_keeps t m x.machine c x.cpu h.does.earlier h.does.first)
-    (charges_keep t sizes g r x.machine n x.cpu d h.does.later h.does.second)
+    let k = with_look m in
+    keeps_both m k n c c d (lowers_keep t m k c c (looked_lowers t m) refl)
+    (keeps_both k x.machine n c x.cpu d (own_drain_keeps t k x.machine c x.cpu h.does.earlier h.does.first)
+    (charges_keep t sizes g r x.machine n x.cpu d h.does.later h.does.second))
 
 pub pays_keep : (t : KnownTable) (sizes : Config) (g : ℕ) (r : Result (Unit {0}) AllocFault) (m n : KnownMachine) (c d : KnownCpu) (steps : Run)
     → PaysForFrame sizes g r (course t (side m c) steps (side n d)) → KeepsPart m c n d
 pays_keep t sizes g (Ok v) m n c d steps (inl h) =
-    lowers_keep t m n c d (subst (λ (x : KnownMachine). Lowers t m x) (sym h.does.machine) (lowers_none t m)) h.does.cpu
+    lowers_keep t m n c d (subst (λ (x : KnownMachine). Lowers t m x) (sym h.does.machine) (looked_lowers t m)) h.does.cpu
 pays_keep t sizes g (Ok v) m n c d steps (inr h) = drain_charges_keep t sizes g (Ok v) m n c d steps h
 pays_keep t sizes g (Err e) m n c d steps h = drain_charges_keep t sizes g (Err e) m n c d steps h
 
@@ -140,6 +142,25 @@ charged_page t sizes g (Ok v) m n c d steps valid (inl h) none = filled_page g s
 charged_page t sizes g (Ok v) m n c d steps valid (inr h) none =
     filled_page g 1 h.does.cleared n c d h.does.does.fills (omega arith) none
 charged_page t sizes g (Err e) m n c d steps valid h none = tt
+
+-- ---- a look at the own stock
+
+module _ (t : KnownTable) (m n : KnownMachine) (c d : KnownCpu) (seen : n ≡ with_look m) (mine : d ≡ c) where
+  pub looked_visit : Visits t (side m c) → Visits t (side n d)
+  looked_visit visit = lowered_visit t m n c d (subst (λ (x : KnownMachine). Lowers t m x) (sym seen) (looked_lowers t m)) mine visit
+
+  pub looked_page : (g : ℕ) → HoldsPage (side m c) g → HoldsPage (side n d) g
+  looked_page g page = subst (λ (z : KnownMachine × KnownCpu). HoldsPage (side z.0 z.1) g) (λ i. (sym seen i, sym mine i))
+      (record { group = page.group; held = page.held; some = page.some })
+
+  -- it shows a page of the group
+  pub pays_none : (sizes : Config) (g : ℕ) → HoldsPage (side m c) g → BySteps t (PaysForFrame sizes g (Ok tt)) (side m c) (side n d)
+  pays_none sizes g page = record {
+    steps = [];
+    does = inl (record { is = page; does = record { machine = seen; cpu = mine; steps_are = refl } });
+    makes = subst (λ (z : KnownMachine × KnownCpu). MakesAs t c.number (side m c) [] (side z.0 z.1)) (λ i. (sym seen i, sym mine i))
+        (makes_stay t m (with_look m) c c refl refl refl);
+  }
 
 -- ---- frames that are lent
 
@@ -236,28 +257,34 @@ module _ (t : KnownTable) (pages q : ℕ) (m k x : KnownMachine) (c e : KnownCpu
   pub drained_own : BySteps t DrainsStock (side m c) (side x c)
   drained_own = record { steps = own_steps; does = drains_own; makes = by_drain }
 
-  module _ (sizes : Config) (g : ℕ) (n : KnownMachine) (d : KnownCpu) (lacks : ¬ HoldsPage (side m c) g) where
+  -- after a look, which showed no page of the group
+  module _ (sizes : Config) (g : ℕ) (n : KnownMachine) (d : KnownCpu) (start : KnownMachine) (seen : m ≡ with_look start)
+      (lacks : ¬ HoldsPage (side start c) g) where
     charges_anew : (r : Result (Unit {0}) AllocFault) → BySteps t (ChargesFrame sizes g r) (side x e) (side n d)
-        → BySteps t (ChargesAfterDrain sizes g r) (side m c) (side n d)
+        → BySteps t (ChargesAfterDrain sizes g r) (side start c) (side n d)
     charges_anew r b =
-        let here = subst (λ (z : KnownCpu). BySteps t (ChargesFrame sizes g r) (side x z) (side n d)) mine b in record {
-          steps = own_steps ++ here.steps;
+        let here = subst (λ (z : KnownCpu). BySteps t (ChargesFrame sizes g r) (side x z) (side n d)) mine b in
+        let all = own_steps ++ here.steps in
+        let made = makes_both t c.number own_steps here.steps (side m c) (side x c) (side n d) by_drain here.makes in
+        let looked : MakesAs t c.number (side (with_look start) c) all (side n d) =
+        subst (λ (z : KnownMachine). MakesAs t c.number (side z c) all (side n d)) seen made in record {
+          steps = all;
           does = record {
             is = lacks;
-            does = record {
+            does = subst (λ (z : KnownMachine). InTurn DrainsStock (ChargesFrame sizes g r) (course t (side z c) all (side n d))) seen (record {
               between = side x c;
               earlier = own_steps;
               later = here.steps;
               first = drains_own;
               second = here.does;
               steps_are = refl;
-            };
+            });
           };
-          makes = makes_both t c.number own_steps here.steps (side m c) (side x c) (side n d) by_drain here.makes;
+          makes = record { leads = looked.leads; follows = looked.follows; counts = looked.counts };
         }
 
     pub pays_anew : (r : Result (Unit {0}) AllocFault) → BySteps t (ChargesFrame sizes g r) (side x e) (side n d)
-        → BySteps t (PaysForFrame sizes g r) (side m c) (side n d)
+        → BySteps t (PaysForFrame sizes g r) (side start c) (side n d)
     pays_anew (Ok v) b = let h = charges_anew (Ok v) b in record { steps = h.steps; does = inr h.does; makes = h.makes }
     pays_anew (Err cause) b = charges_anew (Err cause) b
 

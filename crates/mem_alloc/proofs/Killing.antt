@@ -241,7 +241,7 @@ kills_end r t g pages m x n over noted noting so_far ended = record {
     noting_m = subst (λ (y : KnownMachine). MakesForAny t m (note_oom_steps g) y) noted noting
 
     told : MakesForAny t m (note_oom_steps g) (with_oom_noted_at m g)
-    told c = record { leads = (noting_m c).leads; follows = (noting_m c).follows }
+    told c = record { leads = (noting_m c).leads; follows = (noting_m c).follows; counts = (noting_m c).counts }
 
 -- ---- kills for a few pages alone
 

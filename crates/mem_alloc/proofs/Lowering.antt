@@ -15,7 +15,7 @@ use Rattle.group_charge.proofs.SumLemmas.{share}
 use Rattle.stock_word.specs.declared.view.Account.{Account}
 use Rattle.stock_word.specs.declared.view.StockView.{StockView}
 use Rattle.stock_word.specs.Stock.{Seated, account_of}
-use Rattle.stock_word.specs.Kinds.{draining}
+use Rattle.stock_word.specs.Kinds.{draining, with_steps}
 use Rattle.stock_word.specs.Calls.{with_view, after_look}
 use Rattle.cpu_part.specs.Cpus.{KnownCpu}
 use Rattle.step_rules.specs.State.{sum_to}
@@ -23,7 +23,7 @@ use Rattle.step_rules.specs.After.{Run}
 use Rattle.mem_machine.specs.Machines.{KnownMachine, Visits, is_killed}
 use Rattle.mem_machine.specs.Paying.{HasRoomFor}
 use Rattle.mem_machine.specs.Steps.{Drain}
-use Rattle.mem_machine.specs.Stocks.{Drains, DrainsBelow, DrainsAllBelow, stock_group, uncharged}
+use Rattle.mem_machine.specs.Stocks.{Drains, DrainsBelow, DrainsAllBelow, stock_group, uncharged, with_look}
 use Rattle.mem_machine.proofs.Draining.{groups_stay, drained_at, drained_else}
 use Rattle.mem_machine.proofs.Prepaying.{current_falls}
 use Rattle.mem_reclaim.specs.Staying.{Keeps}
@@ -87,7 +87,8 @@ drain_lowers t m n q k d = record {
   emptied = λ p is. ap (λ (y : KnownMachine). (account_of y.stock_seat.view p).filled) d.machine ∙ emptied_at m.stock_seat.view q k p is;
 }
 
-look_lowers : (t : KnownTable) (m n : KnownMachine) (q : ℕ) (o : Option ℕ) → n ≡ record m { stock_seat = with_view m.stock_seat (after_look m.stock_seat.view q o) } → Lowers t m n
+look_lowers : (t : KnownTable) (m n : KnownMachine) (q : ℕ) (o : Option ℕ) → n ≡ record m { stock_seat = with_view m.stock_seat (with_steps 1 (after_look m.stock_seat.view q o)) }
+    → Lowers t m n
 look_lowers t m n q None is = record {
   killed = λ v dead. ap (λ (y : KnownMachine). is_killed y.killed v) is ∙ dead;
   opened = ap (λ (y : KnownMachine). y.frame_seat.view.opened) is;
@@ -104,6 +105,10 @@ look_lowers t m n q (Some g) is = record {
   falls = λ h. let a : current_of n.ledger h ≡ current_of m.ledger h = ap (λ (y : KnownMachine). current_of y.ledger h) is in omega (arith, a);
   emptied = λ p e. ap (λ (y : KnownMachine). (account_of y.stock_seat.view p).filled) is ∙ e;
 }
+
+-- a look at a stock
+pub looked_lowers : (t : KnownTable) (m : KnownMachine) → Lowers t m (with_look m)
+looked_lowers t m = look_lowers t m (with_look m) 0 (Some 0) refl
 
 below_lowers : (t : KnownTable) (g q : ℕ) (m n : KnownMachine) (drains : List Drain) → DrainsBelow g q drains m n → Lowers t m n
 below_lowers t g q m n [] h = look_lowers t m n q (stock_group m q) h.1

@@ -37,7 +37,7 @@ clears_by t g pages back m y x n told noted noting_y drains drained =
     let both : x ≡ with_max_noted_at m g pages = noted ∙ ap (λ (k : KnownMachine). record k { ledger = with_max_noted k.ledger g }) told in
     let noting_told : MakesForAny t (with_limit_noted m g pages) (note_max_steps g) x =
     subst (λ (k : KnownMachine). MakesForAny t k (note_max_steps g) x) told noting_y in
-    let noting : MakesForAny t m (note_max_steps g) x = λ c. record { leads = (noting_told c).leads; follows = (noting_told c).follows } in record {
+    let noting : MakesForAny t m (note_max_steps g) x = λ c. record { leads = (noting_told c).leads; follows = (noting_told c).follows; counts = (noting_told c).counts } in record {
       steps = note_max_steps g ++ drain_stocks_steps drains.drains;
       does = record {
         drains = drains.drains;

@@ -10,7 +10,7 @@ use Rattle.mem_machine.specs.Machines.{KnownMachine}
 use Rattle.mem_machine.specs.Local.{Side, side}
 use Rattle.mem_machine.specs.Blocks.{taken_steps, unplaced_steps}
 use Rattle.mem_machine.specs.Lending.{LendsMany, TakesManyBack}
-use Rattle.mem_machine.specs.Stocks.{Drains, DrainsAllBelow, stock_group}
+use Rattle.mem_machine.specs.Stocks.{Drains, DrainsAllBelow, stock_group, with_look}
 use Rattle.mem_machine.specs.Steps.{Drain, unlist_steps, drain_list_steps, drain_steps, drain_stocks_steps, fill_steps, lend_steps, note_max_steps, note_oom_steps, over_steps, refill_steps, take_front_steps}
 use Rattle.mem_reclaim.specs.declared.sets.Killed.{Killed}
 use Rattle.mem_reclaim.proofs.KillSets.{missed_both}
@@ -276,12 +276,16 @@ charges_count sizes g (Ok v) way (inl h) = stock_counts g sizes.stock way h
 charges_count sizes g (Ok v) way (inr h) = lacks_counts sizes g (Ok v) way h
 charges_count sizes g (Err cause) way h = lacks_counts sizes g (Err cause) way h
 
+-- the same, after a look at the own stock
+abbrev looked_way : Course Side → Course Side
+looked_way way = course way.table (side (with_look way.before.machine) way.before.cpu) way.steps way.after
+
 anew_counts : (sizes : Config) (g : ℕ) (answer : Result (Unit {0}) AllocFault) → AllCounted (ChargesAfterDrain sizes g answer)
 anew_counts sizes g answer way h =
-    counts_turns DrainsStock (ChargesFrame sizes g answer) drains_count (charges_count sizes g answer) way h.does
+    counts_turns DrainsStock (ChargesFrame sizes g answer) drains_count (charges_count sizes g answer) (looked_way way) h.does
 
 pays_count : (sizes : Config) (g : ℕ) (answer : Result (Unit {0}) AllocFault) → AllCounted (PaysForFrame sizes g answer)
-pays_count sizes g (Ok v) way (inl h) = counts_stay way h.does
+pays_count sizes g (Ok v) way (inl h) = counts_stay (looked_way way) h.does
 pays_count sizes g (Ok v) way (inr h) = anew_counts sizes g (Ok v) way h
 pays_count sizes g (Err cause) way h = anew_counts sizes g (Err cause) way h
 

@@ -14,7 +14,7 @@ use Rattle.step_rules.specs.State.{State}
 use Rattle.step_rules.specs.After.{Run}
 use Rattle.mem_machine.specs.Machines.{KnownMachine}
 use Rattle.mem_machine.specs.Local.{IsLocalRun, Side, local_of, side}
-use Rattle.mem_machine.specs.Stocks.{stock_group}
+use Rattle.mem_machine.specs.Stocks.{stock_group, with_look}
 use Rattle.mem_machine.specs.Steps.{drain_list_steps, drain_steps, over_steps, take_front_steps}
 use Rattle.mem_reclaim.specs.Moves.{has_kill, is_kill}
 use Rattle.mem_reclaim.proofs.LettingGo.{quiet_drain}
@@ -163,10 +163,10 @@ module _ (t : KnownTable) (MayAsk : List Group → ℕ → ℕ → Type 0) (s : 
     charges_rash sizes (Ok v) made x steps rest n z is since whole (inr h) = lacks_rash sizes (Ok v) made x steps rest n z is since whole h
     charges_rash sizes (Err cause) made x steps rest n z is since whole h = lacks_rash sizes (Err cause) made x steps rest n z is since whole h
 
-    -- the own stock is drained
-    drain_passes : (x : Side) (steps : Run) → DrainsStock (course t (side s c) steps x) → Passes t c s steps x.machine
+    -- the own stock is drained, after a look
+    drain_passes : (x : Side) (steps : Run) → DrainsStock (course t (side (with_look s) c) steps x) → Passes t c s steps x.machine
     drain_passes x steps h =
-        let same = drain_same s x.machine c.number h.drained h.drains in
+        let same = drain_same (with_look s) x.machine c.number h.drained h.drains in
         let runs : IsLocalRun c.number (local_of t s c) steps (local_of t x.machine c) =
         subst (λ (y : KnownCpu). IsLocalRun c.number (local_of t s c) steps (local_of t x.machine y)) h.cpu h.runs.leads in
         subst (λ (k : Run). IsLocalRun c.number (local_of t s c) k (local_of t x.machine c) → Passes t c s k x.machine) (sym h.steps_are)
@@ -186,8 +186,8 @@ module _ (t : KnownTable) (MayAsk : List Group → ℕ → ℕ → Type 0) (s : 
         let on = run_rest c.number h.earlier (h.later ++ rest) (local_of t s c) (local_of t x.machine c) z passes.runs told in
         let charges = subst (λ (y : KnownCpu). ChargesFrame sizes g answer (course t (side x.machine y) h.later n)) h.first.cpu h.second in
         subst (λ (k : Run). RashFree t MayAsk s c [] k) (sym h.steps_are) (rash_both t MayAsk s c [] h.earlier h.later
-        (rash_quiet t MayAsk s c [] h.earlier (drains_quiet (course t (side s c) h.earlier x) h.first))
-        (charges_rash sizes answer h.earlier x.machine h.later rest n z (drain_same s x.machine c.number h.first.drained h.first.drains).groups passes on charges))
+        (rash_quiet t MayAsk s c [] h.earlier (drains_quiet (course t (side (with_look s) c) h.earlier x) h.first))
+        (charges_rash sizes answer h.earlier x.machine h.later rest n z (drain_same (with_look s) x.machine c.number h.first.drained h.first.drains).groups passes on charges))
 
     pays_rash : (sizes : Config) (answer : Result (Unit {0}) AllocFault) (steps rest : Run) (n : Side) (z : State)
         → IsLocalRun c.number (local_of t s c) (steps ++ rest) z → PaysForFrame sizes g answer (course t (side s c) steps n) → RashFree t MayAsk s c [] steps

@@ -3,10 +3,10 @@ use Rattle.std.specs.Prelude.{◌≡◌, ◌⊎◌, ℕ, Result, Ok, Err, ◌++�
 use Rattle.zone_sizes.specs.declared.config.Config.{Config}
 use Rattle.step_rules.specs.After.{Run}
 use Rattle.mem_machine.specs.Machines.{LacksRoom}
-use Rattle.mem_machine.specs.Stocks.{Drains, Fills, stock_group}
+use Rattle.mem_machine.specs.Stocks.{Drains, Fills, stock_group, with_look}
 use Rattle.mem_machine.specs.Steps.{drain_steps, fill_steps, over_steps}
 use Rattle.mem_machine.specs.Paying.{HoldsPage}
-use Rattle.mem_machine.specs.Local.{Makes, Side}
+use Rattle.mem_machine.specs.Local.{Makes, Side, side}
 use Rattle.mem_alloc.specs.declared.faults.AllocFault.{AllocFault}
 use Rattle.mem_alloc.specs.Stepping.{Course, InTurn, Stays, Where, course}
 use Rattle.mem_alloc.specs.Room.{AfterRoom, IsRefusedFor}
@@ -47,13 +47,20 @@ pub record DrainsStock (way : Course Side) : Type 0 where
   pub steps_are : way.steps
       ≡ drain_steps way.before.cpu.number (stock_group way.before.machine way.before.cpu.number) drained
 
--- the processor's stock holds no page of the group: it is drained, and then pages of the group are charged
+-- the zone's seat looks once at the processor's stock, and after that this is done
+abbrev pub AfterLook : (Course Side → Type 0) → Course Side → Type 0
+AfterLook Does way =
+    Does (course way.table (side (with_look way.before.machine) way.before.cpu) way.steps way.after)
+
+-- the processor's stock holds no page of the group, as a look shows: it is drained, and then pages of the group are
+-- charged
 abbrev pub ChargesAfterDrain : Config → ℕ → Result (Unit {0}) AllocFault → Course Side → Type 0
 ChargesAfterDrain sizes group answer way =
-    Where (λ now. ¬ HoldsPage now group) (InTurn DrainsStock (ChargesFrame sizes group answer)) way
+    Where (λ now. ¬ HoldsPage now group) (AfterLook (InTurn DrainsStock (ChargesFrame sizes group answer))) way
 
--- a page of the group is in the processor's stock: it was there, or it is charged; or its charge is refused
+-- a page of the group is in the processor's stock: it was there, as a look shows, or it is charged; or its charge is
+-- refused
 abbrev pub PaysForFrame : Config → ℕ → Result (Unit {0}) AllocFault → Course Side → Type 0
 PaysForFrame sizes group (Ok done) way =
-    Where (λ now. HoldsPage now group) Stays way ⊎ ChargesAfterDrain sizes group (Ok done) way
+    Where (λ now. HoldsPage now group) (AfterLook Stays) way ⊎ ChargesAfterDrain sizes group (Ok done) way
 PaysForFrame sizes group (Err cause) way = ChargesAfterDrain sizes group (Err cause) way

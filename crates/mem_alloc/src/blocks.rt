@@ -30,6 +30,7 @@ fn charge_block<N: BootName>(
 ) -> Result<Frame, AllocFault>
     requires visit { Visits N.frames (side machine.old cpu.old) }
     requires may_charge { MayCharge machine.old group (2 ^ order) }
+    requires none_fresh { cpu.old.fresh ≡ [] }
     requires none_back { cpu.old.back ≡ [] }
     ensures charges { BySteps N.frames (ChargesBlock group order result)
         (side machine.old cpu.old) (side machine.new cpu.new) }
@@ -59,6 +60,7 @@ fn take_in_rounds<N: BootName>(
 ) -> Result<Frame, AllocFault>
     requires visit { Visits N.frames (side machine.old cpu.old) }
     requires room { MayHaveBlock machine.old group order }
+    requires none_fresh { cpu.old.fresh ≡ [] }
     requires none_back { cpu.old.back ≡ [] }
     ensures takes { BySteps N.frames (TakesInRounds group order result)
         (side machine.old cpu.old) (side machine.new cpu.new) }

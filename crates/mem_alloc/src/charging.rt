@@ -5,7 +5,7 @@ ghost use Rattle.zone_sizes.specs.Config.{IsValidConfig};
 ghost use Rattle.group_tree.specs.Groups.{has_group};
 ghost use Rattle.mem_machine.specs.Machines.{Visits, is_killed};
 ghost use Rattle.mem_machine.specs.Paying.{HoldsPage, IsOfSize, MayCharge};
-ghost use Rattle.mem_machine.specs.Stocks.{IsDrained};
+ghost use Rattle.mem_machine.specs.Stocks.{IsDrained, with_look};
 ghost use Rattle.mem_alloc.specs.Stepping.{BySteps};
 ghost use Rattle.mem_alloc.specs.Charging.{ChargesFrame, ChargesOne, PaysForFrame};
 ghost use Rattle.mem_machine.specs.Local.{side};
@@ -18,7 +18,7 @@ use mem_machine::Machine;
 use stock_word::Stock;
 use zone_sizes::config::Config;
 
-// Whether the processor's stock holds a page of the group.
+// Whether the processor's stock holds a page of the group, as one look shows.
 fn holds_page<N: BootName>(
     machine: &mut Machine<N>,
     tables: &Tables<N>,
@@ -26,7 +26,7 @@ fn holds_page<N: BootName>(
     group: GroupId,
 ) -> bool
     ensures holds { IsTrue result ↔ HoldsPage (side machine.old cpu.old) group }
-    ensures machine { machine.new ≡ machine.old }
+    ensures machine { machine.new ≡ with_look machine.old }
     ensures cpu { cpu.new ≡ cpu.old }
 {
     let number = group.number();

@@ -38,6 +38,7 @@ use Rattle.mem_machine.specs.declared.spot.Spot.{Spot}
 use Rattle.mem_machine.specs.declared.spot.Spot.TheVariants.{Free, Lent, Head, Tail}
 use Rattle.mem_machine.specs.Spots.{spot_at}
 use Rattle.mem_machine.specs.Machines.{KnownMachine, side}
+use Rattle.mem_machine.specs.Counting.{with_one_put_last}
 use Rattle.mem_machine.specs.Local.{local_of, phase_of, part_of, part_with, references_of, fresh_group, number_or_0, Makes}
 use Rattle.mem_machine.specs.Interleaving.{zone_of}
 use Rattle.mem_machine.specs.Steps.{cpu_makes}
@@ -205,6 +206,7 @@ module _ (t : KnownTable) (w : Words) (run : Run) (m : KnownMachine) (cpus : Lis
           },
         );
         follows = follows_same _ _ _ refl;
+        counts = refl;
       })
 
   -- ---- put
@@ -233,6 +235,7 @@ module _ (t : KnownTable) (w : Words) (run : Run) (m : KnownMachine) (cpus : Lis
           },
         );
         follows = follows_same _ _ _ refl;
+        counts = refl;
       })
 
   last_phases : (f : ℕ) (u : ChargedUnit) → spot_at m.spots f ≡ Head u → (x : ℕ) →
@@ -289,6 +292,7 @@ module _ (t : KnownTable) (w : Words) (run : Run) (m : KnownMachine) (cpus : Lis
           },
         );
         follows = follows_same _ _ _ refl;
+        counts = sym (ap (λ (b : Bool). cond b (with_one_put_last m.counts) m.counts) (ne_eqb q 0 some));
       })
 
   -- ---- a frame that becomes fresh, and one that is listed again
@@ -363,6 +367,7 @@ module _ (t : KnownTable) (w : Words) (run : Run) (m : KnownMachine) (cpus : Lis
           },
         );
         follows = follows_same _ _ _ refl;
+        counts = refl;
       })
 
   leads_listed : (d : KnownCpu) (f i : ℕ) (stock : Seated) (drops : ℕ) → i < length c.fresh → get_or c.fresh i 0 ≡ f →
@@ -429,6 +434,7 @@ module _ (t : KnownTable) (w : Words) (run : Run) (m : KnownMachine) (cpus : Lis
           },
         );
         follows = follows_same _ _ _ refl;
+        counts = refl;
       })
 
 consume_same : (p g : ℕ) (x y : State) → x.parts p ≡ y.parts p → IsAnswer x p (Consume g) Took → IsAnswer y p (Consume g) Took

@@ -1,5 +1,5 @@
 -- A back frame's unit comes back. Serves `return_one`.
-use Rattle.std.proofs.Common.{◌≡◌, ℕ, ◌+◌, ◌^◌, ◌<◌, ◌≤◌, Bool, Option, Some, None, List, ◌∷◌, length, get_or}
+use Rattle.std.proofs.Common.{true, false, ◌≡◌, ℕ, ◌+◌, ◌^◌, ◌<◌, ◌≤◌, Bool, Option, Some, None, List, ◌∷◌, length, get_or}
 use Rattle.std.proofs.Common.{refl, sym, ap, ◌∙◌, subst, arith}
 use Rattle.std.specs.Prelude.{is_some, IfSome}
 use Rattle.std.proofs.lemmas.List.{get_or_default}
@@ -17,7 +17,8 @@ use Rattle.cpu_part.specs.Cpus.{KnownCpu, IsTied}
 use Rattle.cpu_part.specs.Calls.{HandsBack}
 use Rattle.cpu_part.proofs.CallerLemmas.{handed_passes}
 use Rattle.step_rules.specs.declared.phase.ChargedUnit.{ChargedUnit}
-use Rattle.step_rules.specs.declared.phase.Stage.TheVariants.{Ended}
+use Rattle.step_rules.specs.declared.phase.Stage.TheVariants.{BackAt, Ended}
+use Rattle.step_rules.specs.declared.phase.Phase.TheVariants as phase
 use Rattle.step_rules.specs.State.{State, one_if}
 use Rattle.mem_machine.specs.declared.spot.Spot.{Spot}
 use Rattle.mem_machine.specs.declared.spot.Spot.TheVariants.{Free, Head}
@@ -28,6 +29,7 @@ use Rattle.mem_machine.specs.Local.{IsLocalRun, local_of, side, MakesAs}
 use Rattle.mem_machine.specs.Freeing.{FreesFrames}
 use Rattle.mem_machine.specs.Settling.{ReturnsBack, return_steps}
 use Rattle.mem_machine.specs.Counts.{with_last_put}
+use Rattle.mem_machine.specs.Counting.{counts_over}
 use Rattle.mem_machine.proofs.Holds.{own_part}
 use Rattle.mem_machine.proofs.Records.{heads_one}
 use Rattle.mem_machine.proofs.Freeing.{free_block_given, unit_in_use, head_inside, unit_freed_consistent}
@@ -35,6 +37,7 @@ use Rattle.mem_machine.proofs.HandOvers.{handed_visits, IsBackFront, back_front,
 use Rattle.mem_machine.proofs.Shown.{is_visited, back_phase, back_handed, back_else, phases_freed, parts_back, references_same}
 use Rattle.mem_machine.proofs.Balances.{balanced_last_put}
 use Rattle.mem_machine.proofs.Followed.{follows_still}
+use Rattle.mem_machine.proofs.Counted.{comes_back}
 use Rattle.group_charge.proofs.CallerLemmas.{uncharge_peaks, uncharge_events}
 
 -- what is told of a back frame that was handed over
@@ -134,6 +137,10 @@ module _ (t : KnownTable) (w : Words) (m : KnownMachine) (c : KnownCpu) (tied : 
       return_run s c.number f unit _ v (own_part m c) (local_of t returned d) (back_phase c f (spot_at m.spots f) unit heads at.once)
       (λ i. record s { phases = λ x. sym (ph x) i; references = λ q x. sym (re q x) i; parts = λ q. sym (pa q) i })
 
+  pub returned_counts : counts ≡ counts_over s (return_steps c.number f) m.counts
+  returned_counts = counted
+      ∙ comes_back s f (phase.Head unit (BackAt c.number)) (back_phase c f (spot_at m.spots f) unit heads at.once) true false refl refl m.counts
+
   pub returned_visits : Visits t (side returned d)
   returned_visits = handed_visits t w m c tied visit f (collected_from c.number) (λ k. refl) returned d refl refl refl
 
@@ -190,6 +197,7 @@ return_all t w m now same c h d tied ok visit_now before free free_was f was han
         leads = returned_steps t w m c tied ok visit f was unit heads rest front spots frees blocks areas counts counted;
         follows = follows_still _ m.ledger _ _ refl (uncharge_peaks m.ledger unit.group (2 ^ unit.order))
             (uncharge_events m.ledger unit.group (2 ^ unit.order));
+        counts = returned_counts t w m c tied ok visit f was unit heads rest front spots frees blocks areas counts counted;
       };
     } in
     let number : h.number ≡ c.number = ap (λ (x : KnownCpu). x.number) hands.2 in

@@ -9,7 +9,7 @@ use Rattle.frame_word.specs.Seats.{KnownTable}
 use Rattle.stock_word.specs.declared.view.Account.{Account}
 use Rattle.stock_word.specs.declared.view.StockView.{StockView}
 use Rattle.stock_word.specs.Stock.{Words, Seated, IsZoneStock, account_of}
-use Rattle.stock_word.specs.Kinds.{draining}
+use Rattle.stock_word.specs.Kinds.{draining, with_steps}
 use Rattle.stock_word.specs.Calls.{with_view}
 use Rattle.stock_word.proofs.CallerLemmas.{account_of-with_account, account_of-with_account_other}
 use Rattle.group_tree.specs.Groups.{has_group}
@@ -28,11 +28,13 @@ use Rattle.mem_machine.specs.Spots.{count_of}
 use Rattle.mem_machine.specs.Machines.{KnownMachine, IsConsistent, booked, frames_charged, pages_booked}
 use Rattle.mem_machine.specs.Local.{local_of, part_of, part_with, IsLocalRun, MakesAs, side}
 use Rattle.mem_machine.specs.Steps.{ungrant_steps, drain_steps}
-use Rattle.mem_machine.specs.Stocks.{uncharged, stock_group, Drains}
+use Rattle.mem_machine.specs.Stocks.{uncharged, stock_group, steps_to_drain, with_look, Drains, DrainsBy}
 use Rattle.mem_machine.proofs.Reaching.{zone_step, run_one}
 use Rattle.mem_machine.proofs.Holds.{zone_may_act}
 use Rattle.mem_machine.proofs.Followed.{follows_same, follows_still}
 use Rattle.mem_machine.specs.Following.{FollowsSteps}
+use Rattle.mem_machine.specs.declared.counts.Counts.{Counts}
+use Rattle.mem_machine.specs.Counting.{counts_over}
 
 -- ---- the ledger
 
@@ -153,10 +155,10 @@ stocks_consistent t w m l stock ok table machine noted bounded charged = record 
   balances = ok.balances;
 }
 
-module _ (t : KnownTable) (w : Words) (m : KnownMachine) (ok : IsConsistent t w m) (q k : ℕ) (inside : q ≤ t.cpus) (enough : k
+module _ (t : KnownTable) (w : Words) (m : KnownMachine) (ok : IsConsistent t w m) (s q k : ℕ) (inside : q ≤ t.cpus) (enough : k
     ≤ (account_of m.stock_seat.view q).book) where
   abbrev pub emptied : Seated
-  emptied = with_view m.stock_seat (draining m.stock_seat.view q k)
+  emptied = with_view m.stock_seat (with_steps s (draining m.stock_seat.view q k))
 
   books_change : (h : ℕ) → pages_booked t emptied h + booked h (account_of m.stock_seat.view q)
       ≡ pages_booked t m.stock_seat h + booked h (drained_account m.stock_seat.view q k)
@@ -275,6 +277,12 @@ ungrants p s (Some g) (suc k) acts there =
     (zone_step now p (Ungrant g (suc k)) Done refl (and_from _ _ (and_from _ _ acts (there g refl (omega arith))) enough) tt)
     (λ i. record s { pending = sym (pending_back g (0 + suc k) (suc k) (omega arith)) i })
 
+-- no unit ends
+drain_counts : (s : State) (counts : Counts) (o : Option ℕ) (q k : ℕ) → counts ≡ counts_over s (drain_steps q o k) counts
+drain_counts s counts None q k = refl
+drain_counts s counts (Some g) q zero = refl
+drain_counts s counts (Some g) q (suc k) = refl
+
 -- no peak and no count moves
 drain_follows : (s : State) (l : Ledger) (o : Option ℕ) (q k : ℕ) → FollowsSteps s l (drain_steps q o k) (uncharged l o k)
 drain_follows s l None q k = follows_same s l (drain_steps q None k) refl
@@ -283,11 +291,11 @@ drain_follows s l (Some g) q zero = follows_still s l (drain_steps q (Some g) ze
 drain_follows s l (Some g) q (suc k) = follows_still s l (drain_steps q (Some g) (suc k)) (uncharged l (Some g) (suc k)) refl
     (uncharge_peaks l g (suc k)) (uncharge_events l g (suc k))
 
-pub drain_runs : (t : KnownTable) (m n : KnownMachine) (q k : ℕ)
-    → n ≡ record m { ledger = uncharged m.ledger (stock_group m q) k; stock_seat = with_view m.stock_seat (draining m.stock_seat.view q k) }
+pub drain_runs : (t : KnownTable) (m n : KnownMachine) (steps q k : ℕ)
+    → n ≡ record m { ledger = uncharged m.ledger (stock_group m q) k; stock_seat = with_view m.stock_seat (with_steps steps (draining m.stock_seat.view q k)) }
     → 1 ≤ q → q ≤ t.cpus → ((g : ℕ) → stock_group m q ≡ Some g → 1 ≤ k → has_group m.ledger.groups g ≡ true) → (c : KnownCpu)
     → MakesAs t c.number (side m c) (drain_steps q (stock_group m q) k) (side n c)
-drain_runs t m n q k is some inside there c =
+drain_runs t m n steps q k is some inside there c =
     let s = local_of t m c in
     let part = drained (part_of m.stock_seat c q) k in
     let acts = zone_may_act m.frame_seat c.number in
@@ -305,38 +313,40 @@ drain_runs t m n q k is some inside there c =
             rest,
           );
       follows = drain_follows s m.ledger (stock_group m q) q k;
+      counts = drain_counts s m.counts (stock_group m q) q k;
     })
 
--- what `drain_of` and `drain_stock` leave, of the machine as it was seen before
-pub record Drained (t : KnownTable) (w : Words) (m now : KnownMachine) (q k : ℕ) (l : Ledger) (stock : Seated) : Type 0 where
+-- what a drain by so many steps leaves, of the machine as it was seen before
+pub record Drained (t : KnownTable) (w : Words) (m now : KnownMachine) (count q k : ℕ) (l : Ledger) (stock : Seated) : Type 0 where
   pub consistent : IsConsistent t w (record m { ledger = l; stock_seat = stock })
-  pub drains : Drains q k now (record m { ledger = l; stock_seat = stock })
+  pub drains : DrainsBy count q k now (record m { ledger = l; stock_seat = stock })
   pub steps : (c : KnownCpu) → MakesAs t c.number (side now c) (drain_steps q (stock_group now q) k)
       (side (record m { ledger = l; stock_seat = stock }) c)
 
-drained_here : (t : KnownTable) (w : Words) (m : KnownMachine) (q k : ℕ) → IsConsistent t w m → (1 ≤ k → AreCharges m.ledger) → 1 ≤ q → q ≤ t.cpus
+drained_here : (t : KnownTable) (w : Words) (m : KnownMachine) (steps q k : ℕ) → IsConsistent t w m → (1 ≤ k → AreCharges m.ledger) → 1 ≤ q → q ≤ t.cpus
     → k ≤ (account_of m.stock_seat.view q).book → ((account_of m.stock_seat.view q).filled ≡ false → k ≡ 0) → (stock_group m q ≡ None → k ≡ 0)
-    → Drained t w m m q k (uncharged m.ledger (stock_group m q) k) (with_view m.stock_seat (draining m.stock_seat.view q k))
-drained_here t w m q k ok facts some inside enough before none = record {
-  consistent = drain_consistent t w m ok q k inside enough none;
+    → Drained t w m m steps q k (uncharged m.ledger (stock_group m q) k) (with_view m.stock_seat (with_steps steps (draining m.stock_seat.view q k)))
+drained_here t w m steps q k ok facts some inside enough before none = record {
+  consistent = drain_consistent t w m ok steps q k inside enough none;
   drains = record { machine = refl; booked = enough; drained_before = before };
   steps = drain_runs t m (record m {
     ledger = uncharged m.ledger (stock_group m q) k;
     stock_seat =
-        with_view m.stock_seat (draining m.stock_seat.view q k);
-  }) q k refl some inside
-      (λ g of one. (drained_there t w m ok q k inside enough g (facts one) of one).0);
+        with_view m.stock_seat (with_steps steps (draining m.stock_seat.view q k));
+  }) steps q k refl some inside
+      (λ g of one. (drained_there t w m ok steps q k inside enough g (facts one) of one).0);
 }
 
-pub drained_all : (t : KnownTable) (w : Words) (m now : KnownMachine) (q k : ℕ) → m ≡ now → IsConsistent t w m
+pub drained_all : (t : KnownTable) (w : Words) (m now : KnownMachine) (steps q k : ℕ) → m ≡ now → IsConsistent t w m
     → (1 ≤ k → AreCharges m.ledger) → 1 ≤ q → q ≤ t.cpus
     → k ≤ (account_of m.stock_seat.view q).book → ((account_of m.stock_seat.view q).filled ≡ false → k ≡ 0) → (o : Option ℕ) → stock_group now q ≡ o → (o ≡ None → k ≡ 0)
-    → (l : Ledger) (stock : Seated) → l ≡ uncharged m.ledger o k → stock ≡ with_view m.stock_seat (draining m.stock_seat.view q k) → Drained t w m now q k l stock
-drained_all t w m now q k same ok facts some inside enough before o of none l stock off emptied =
+    → (l : Ledger) (stock : Seated) → l ≡ uncharged m.ledger o k → stock ≡ with_view m.stock_seat (with_steps steps (draining m.stock_seat.view q k))
+    → Drained t w m now steps q k l stock
+drained_all t w m now steps q k same ok facts some inside enough before o of none l stock off emptied =
     let group : stock_group m q ≡ o = ap (λ (x : KnownMachine). stock_group x q) same ∙ of in
-    let here = drained_here t w m q k ok facts some inside enough before (λ e. none (sym group ∙ e)) in
+    let here = drained_here t w m steps q k ok facts some inside enough before (λ e. none (sym group ∙ e)) in
     let ledger : uncharged m.ledger (stock_group m q) k ≡ l = ap (λ (x : Option ℕ). uncharged m.ledger x k) group ∙ sym off in
-    subst (λ (x : KnownMachine × Ledger × Seated). Drained t w m x.0 q k x.1 x.2) (λ i. (same i, ledger i, sym emptied i)) here
+    subst (λ (x : KnownMachine × Ledger × Seated). Drained t w m x.0 steps q k x.1 x.2) (λ i. (same i, ledger i, sym emptied i)) here
 
 pub some_not_none : (g k : ℕ) → Some g ≡ None → k ≡ 0
 some_not_none g k e = absurd (none-some g (sym e))
@@ -351,20 +361,63 @@ pub drained_within : (t : KnownTable) (w : Words) (m now : KnownMachine) → m �
     → (has_group m.ledger.groups id ≡ true) × (k ≤ pages_of m.ledger id)
 drained_within t w m now same ok facts q k inside enough g of some id is =
     subst (λ (h : ℕ). (has_group m.ledger.groups h ≡ true) × (k ≤ pages_of m.ledger h)) (sym is)
-    (drained_there t w m ok q k inside enough g facts (ap (λ (x : KnownMachine). stock_group x q) same ∙ of) some)
+    (drained_there t w m ok 0 q k inside enough g facts (ap (λ (x : KnownMachine). stock_group x q) same ∙ of) some)
 
 -- a stock of no group: the look for its group drained nothing
 pub never_drained : (t : KnownTable) (w : Words) (m now : KnownMachine) → m ≡ now → IsConsistent t w m → (q : ℕ) → 1 ≤ q → q ≤ t.cpus
-    → None ≡ stock_group m q → (stock : Seated) → stock ≡ with_view m.stock_seat (draining m.stock_seat.view q 0) → Drained t w m now q 0 m.ledger stock
+    → None ≡ stock_group m q → (stock : Seated) → stock ≡ with_view m.stock_seat (with_steps 1 (draining m.stock_seat.view q 0))
+    → Drained t w m now 1 q 0 m.ledger stock
 never_drained t w m now same ok q some inside none stock emptied =
-    drained_all t w m now q 0 same ok (λ one. absurd (omega (arith, one))) some inside (omega arith) (λ e. refl) None
+    drained_all t w m now 1 q 0 same ok (λ one. absurd (omega (arith, one))) some inside (omega arith) (λ e. refl) None
     (sym (ap (λ (x : KnownMachine). stock_group x q) same) ∙ sym none) (λ e. refl)
     m.ledger stock refl emptied
 
--- a look at a stock of a group changed nothing
-pub looked_now : (m now : KnownMachine) → m ≡ now → (stock : Seated) → stock ≡ m.stock_seat → record m { stock_seat = stock } ≡ now
-looked_now m now same stock is = (λ i. record m { stock_seat = is i }) ∙ same
+-- and that look is all
+pub drained_never : (m now n : KnownMachine) → m ≡ now → (q : ℕ) → None ≡ stock_group m q → DrainsBy 1 q 0 now n → Drains q 0 now n
+drained_never m now n same q none drains = subst (λ (o : Option ℕ). DrainsBy (steps_to_drain o) q 0 now n)
+    (none ∙ ap (λ (x : KnownMachine). stock_group x q) same) drains
 
-pub looked_same : (t : KnownTable) (w : Words) (m : KnownMachine) → IsConsistent t w m → (stock : Seated) → stock ≡ with_view m.stock_seat m.stock_seat.view
-    → IsConsistent t w (record m { stock_seat = stock })
-looked_same t w m ok stock same = subst (λ (x : Seated). IsConsistent t w (record m { stock_seat = x })) (sym same) ok
+-- a look at a stock of a group, of the machine as it was seen before
+pub looked_now : (m now : KnownMachine) → m ≡ now → (stock : Seated) → stock ≡ with_view m.stock_seat (with_steps 1 m.stock_seat.view)
+    → record m { stock_seat = stock } ≡ with_look now
+looked_now m now same stock is = (λ i. record m { stock_seat = is i }) ∙ ap with_look same
+
+-- the machine is consistent after it
+pub looked_consistent : (t : KnownTable) (w : Words) (m : KnownMachine) → IsConsistent t w m → (stock : Seated)
+    → stock ≡ with_view m.stock_seat (with_steps 1 m.stock_seat.view) → IsConsistent t w (record m { stock_seat = stock })
+looked_consistent t w m ok stock is = subst (λ (x : Seated). IsConsistent t w (record m { stock_seat = x })) (sym is)
+    (stocks_consistent t w m m.ledger (with_look m).stock_seat ok refl ok.seats.stocks ok.absorbed ok.bounded ok.charged)
+
+-- the pages come off after a look that found the group, and the steps of both count
+after_look : (m n : KnownMachine) (q k g : ℕ) → stock_group m q ≡ Some g → DrainsBy 2 q k (with_look m) n → Drains q k m n
+after_look m n q k g of drains = record {
+  machine = drains.machine ∙ (λ i. record m {
+    ledger = uncharged m.ledger (stock_group m q) k;
+    stock_seat = record {
+      table = m.stock_seat.table;
+      view = record (draining m.stock_seat.view q k) { steps = counted i };
+    };
+  });
+  booked = drains.booked;
+  drained_before = drains.drained_before;
+}
+  where
+    counted : m.stock_seat.view.steps + 1 + 2 ≡ m.stock_seat.view.steps + steps_to_drain (stock_group m q)
+    counted =
+        let three : m.stock_seat.view.steps + 1 + 2 ≡ m.stock_seat.view.steps + 3 = omega arith in
+        three ∙ ap (λ (o : Option ℕ). m.stock_seat.view.steps + steps_to_drain o) (sym of)
+
+-- of the machine as it was seen before the look
+module _ (m now : KnownMachine) (same : m ≡ now) (stock : Seated) (is : stock ≡ with_view m.stock_seat (with_steps 1 m.stock_seat.view)) (q k g : ℕ)
+    (of : Some g ≡ stock_group m q) (n : KnownMachine) where
+  pub drained_looked : DrainsBy 2 q k (record m { stock_seat = stock }) n → Drains q k now n
+  drained_looked drains = after_look now n q k g (sym (of ∙ ap (λ (x : KnownMachine). stock_group x q) same))
+      (subst (λ (x : KnownMachine). DrainsBy 2 q k x n) (looked_now m now same stock is) drains)
+
+  pub runs_looked : (t : KnownTable)
+      → ((c : KnownCpu) → MakesAs t c.number (side (record m { stock_seat = stock }) c) (drain_steps q (stock_group (record m { stock_seat = stock }) q) k) (side n c))
+      → (c : KnownCpu) → MakesAs t c.number (side now c) (drain_steps q (stock_group now q) k) (side n c)
+  runs_looked t runs c =
+      let here : MakesAs t c.number (side (with_look now) c) (drain_steps q (stock_group (with_look now) q) k) (side n c) =
+      subst (λ (x : KnownMachine). MakesAs t c.number (side x c) (drain_steps q (stock_group x q) k) (side n c)) (looked_now m now same stock is) (runs c) in
+      record { leads = here.leads; follows = here.follows; counts = here.counts }

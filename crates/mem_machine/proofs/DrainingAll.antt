@@ -12,19 +12,21 @@ use Rattle.stock_word.specs.declared.view.Account.{Account}
 use Rattle.stock_word.specs.declared.view.StockView.{StockView}
 use Rattle.stock_word.specs.Stock.{Seated, account_of}
 use Rattle.stock_word.specs.Calls.{with_view, after_look}
-use Rattle.stock_word.specs.Kinds.{draining}
+use Rattle.stock_word.specs.Kinds.{draining, with_steps}
 use Rattle.group_tree.specs.declared.group.Group.{Group}
 use Rattle.group_tree.specs.Groups.{has_group, in_subtree}
 use Rattle.group_tree.proofs.CallerLemmas.{in_subtree-below}
 use Rattle.cpu_part.specs.Cpus.{KnownCpu}
+use Rattle.kill_notes.specs.declared.note.Note.{Note}
+use Rattle.kill_notes.specs.declared.note.Note.TheVariants.{Stock}
+use Rattle.kill_notes.specs.Notes.{noted as added}
 use Rattle.mem_machine.specs.Machines.{KnownMachine}
 use Rattle.step_rules.specs.State.{Part}
 use Rattle.step_rules.specs.After.{Run}
 use Rattle.mem_machine.specs.Local.{local_of, part_with, MakesAs, side}
 use Rattle.mem_machine.specs.Steps.{Drain, drain_steps, drain_stocks_steps, pages_drained}
-use Rattle.mem_machine.specs.Stocks.{stock_group, DrainsNoted, DrainsIf, DrainsAllIf, DrainsBySteps, AreDrainedIf}
-use Rattle.mem_machine.proofs.GroupSteps.{stayed_runs}
-use Rattle.mem_machine.proofs.Draining.{drained_at, drained_else, groups_stay, looked_now}
+use Rattle.mem_machine.specs.Stocks.{stock_group, steps_to_drain, with_look, DrainsBy, DrainsNoted, DrainsIf, DrainsAllIf, DrainsBySteps, AreDrainedIf}
+use Rattle.mem_machine.proofs.Draining.{drained_at, drained_else, drained_looked, groups_stay, runs_looked}
 use Rattle.mem_machine.proofs.Followed.{makes_both, makes_none, makes_stay}
 
 -- ---- the accounts after a look
@@ -63,7 +65,8 @@ module _ (test : List Group → Option ℕ → Bool) (q : ℕ) (x n : KnownMachi
 -- ---- one processor's stock
 
 -- it is of the subtree, and is drained
-pub drained_one : (t : KnownTable) (test : List Group → Option ℕ → Bool) (q pages : ℕ) (m n : KnownMachine) → test m.ledger.groups (stock_group m q) ≡ true → DrainsNoted q pages m n
+pub drained_one : (t : KnownTable) (test : List Group → Option ℕ → Bool) (q pages : ℕ) (m n : KnownMachine) → test m.ledger.groups (stock_group m q) ≡ true
+    → DrainsNoted (steps_to_drain (stock_group m q)) q pages m n
     → ((c : KnownCpu) → MakesAs t c.number (side m c) (drain_steps q (stock_group m q) pages) (side n c)) → DrainsBySteps t (DrainsIf test q) pages m n
 drained_one t test q pages m n below drains steps = record {
   drains = record { cpu = q; group = stock_group m q; pages = pages } ∷ [];
@@ -75,7 +78,7 @@ drained_one t test q pages m n below drains steps = record {
 
 -- it is of another group, or of none
 pub drained_not : (t : KnownTable) (test : List Group → Option ℕ → Bool) (q : ℕ) (m n : KnownMachine) → test m.ledger.groups (stock_group m q) ≡ false
-    → n ≡ record m { stock_seat = with_view m.stock_seat (after_look m.stock_seat.view q (stock_group m q)) }
+    → n ≡ record m { stock_seat = with_view m.stock_seat (with_steps 1 (after_look m.stock_seat.view q (stock_group m q))) }
     → ((c : KnownCpu) → MakesAs t c.number (side m c) [] (side n c)) → DrainsBySteps t (DrainsIf test q) 0 m n
 drained_not t test q m n other is steps = record { drains = []; all = (other, is); sum = refl; steps = steps }
 
@@ -113,38 +116,46 @@ module _ (t : KnownTable) (m : KnownMachine) (q : ℕ) (none : stock_group m q �
   ]
 
   -- the look at a stock of no group changes nothing that is seen
-  pub looked_none : MakesAs t c.number (side m c) [] (side (record m { stock_seat = with_view m.stock_seat (draining m.stock_seat.view q 0) }) c)
-  looked_none = makes_stay t m (record m { stock_seat = with_view m.stock_seat (draining m.stock_seat.view q 0) }) c c
-      (λ i. record (local_of t m c) { parts = λ p. sym (shown_same p) i }) refl
+  pub looked_none : MakesAs t c.number (side m c) [] (side (record m { stock_seat = with_view m.stock_seat (with_steps 1 (draining m.stock_seat.view q 0)) }) c)
+  looked_none = makes_stay t m (record m { stock_seat = with_view m.stock_seat (with_steps 1 (draining m.stock_seat.view q 0)) }) c c
+      (λ i. record (local_of t m c) { parts = λ p. sym (shown_same p) i }) refl refl
 
 -- the stock of a group that the test chooses, of the machine as it was seen before the look
-pub looked_own : (t : KnownTable) (m now : KnownMachine) → m ≡ now → (stock : Seated) → stock ≡ m.stock_seat → (test : List Group → Option ℕ → Bool)
-    → (q h pages : ℕ) (n : KnownMachine) → Some h ≡ stock_group m q → test m.ledger.groups (Some h) ≡ true → DrainsNoted q pages (record m { stock_seat = stock }) n
+pub looked_own : (t : KnownTable) (m now : KnownMachine) → m ≡ now → (stock : Seated) → stock ≡ with_view m.stock_seat (with_steps 1 m.stock_seat.view)
+    → (test : List Group → Option ℕ → Bool)
+    → (q h pages : ℕ) (n : KnownMachine) → Some h ≡ stock_group m q → test m.ledger.groups (Some h) ≡ true → DrainsNoted 2 q pages (record m { stock_seat = stock }) n
     → ((c : KnownCpu) → MakesAs t c.number (side (record m { stock_seat = stock }) c) (drain_steps q (stock_group (record m { stock_seat = stock }) q) pages)
     (side n c)) → DrainsBySteps t (DrainsIf test q) pages now n
-looked_own t m now same stock is test q h pages n of chosen drains steps =
-    subst (λ (x : KnownMachine). DrainsBySteps t (DrainsIf test q) pages x n) (looked_now m now same stock is)
-    (drained_one t test q pages (record m { stock_seat = stock }) n
-    (ap (test m.ledger.groups) (ap (λ (s : Seated). (account_of s.view q).group) is ∙ sym of) ∙ chosen) drains steps)
+looked_own t m now same stock is test q h pages n of chosen noted steps =
+    let its : Some h ≡ stock_group now q = of ∙ ap (λ (x : KnownMachine). stock_group x q) same in
+    drained_one t test q pages now n
+    (ap (test now.ledger.groups) (sym its) ∙ ap (λ (x : KnownMachine). test x.ledger.groups (Some h)) (sym same) ∙ chosen)
+    (record {
+      drains = subst (λ (l : List Note). DrainsBy (steps_to_drain (stock_group now q)) q pages now (record n { notes = l }))
+          (ap (λ (x : KnownMachine). x.notes) same)
+          (drained_looked m now same stock is q pages h of (record n { notes = m.notes }) noted.drains);
+      noted = noted.noted ∙ ap (λ (x : KnownMachine). added x.notes (Stock q pages)) same;
+    })
+    (runs_looked m now same stock is q pages h of n t steps)
 
 -- the stock of another group
 pub looked_other : (t : KnownTable) (m now : KnownMachine) → m ≡ now → (test : List Group → Option ℕ → Bool) (q h : ℕ) → Some h ≡ stock_group m q
-    → test m.ledger.groups (Some h) ≡ false → (stock : Seated) → stock ≡ m.stock_seat → DrainsBySteps t (DrainsIf test q) 0 now (record m { stock_seat = stock })
+    → test m.ledger.groups (Some h) ≡ false → (stock : Seated) → stock ≡ with_view m.stock_seat (with_steps 1 m.stock_seat.view)
+    → DrainsBySteps t (DrainsIf test q) 0 now (record m { stock_seat = stock })
 looked_other t m now same test q h of other stock is =
-    let n : KnownMachine = record m { stock_seat = stock } in
-    let none : n ≡ record m { stock_seat = with_view m.stock_seat (after_look m.stock_seat.view q (stock_group m q)) } =
-    (λ i. record m { stock_seat = is i }) ∙ (λ i. record m { stock_seat = with_view m.stock_seat (after_look m.stock_seat.view q (of i)) }) in
-    subst (λ (x : KnownMachine). DrainsBySteps t (DrainsIf test q) 0 x n) same
-    (drained_not t test q m n (ap (test m.ledger.groups) (sym of) ∙ other) none (stayed_runs t m m refl n (λ i. record m { stock_seat = is i })))
+    let none : with_look m ≡ record m { stock_seat = with_view m.stock_seat (with_steps 1 (after_look m.stock_seat.view q (stock_group m q))) } =
+    λ i. record m { stock_seat = with_view m.stock_seat (with_steps 1 (after_look m.stock_seat.view q (of i))) } in
+    subst (λ (x : KnownMachine × KnownMachine). DrainsBySteps t (DrainsIf test q) 0 x.0 x.1) (λ i. (same i, record m { stock_seat = sym is i }))
+    (drained_not t test q m (with_look m) (ap (test m.ledger.groups) (sym of) ∙ other) none (λ c. makes_stay t m (with_look m) c c refl refl refl))
 
 -- the stock of no group
 pub looked_never : (t : KnownTable) (m now : KnownMachine) → m ≡ now → (test : List Group → Option ℕ → Bool) (q : ℕ) → None ≡ stock_group m q
-    → test m.ledger.groups None ≡ false → (stock : Seated) → stock ≡ with_view m.stock_seat (draining m.stock_seat.view q 0)
+    → test m.ledger.groups None ≡ false → (stock : Seated) → stock ≡ with_view m.stock_seat (with_steps 1 (draining m.stock_seat.view q 0))
     → DrainsBySteps t (DrainsIf test q) 0 now (record m { stock_seat = stock })
 looked_never t m now same test q of none_chosen stock is =
-    let n : KnownMachine = record m { stock_seat = with_view m.stock_seat (draining m.stock_seat.view q 0) } in
-    let seen : n ≡ record m { stock_seat = with_view m.stock_seat (after_look m.stock_seat.view q (stock_group m q)) } =
-    λ i. record m { stock_seat = with_view m.stock_seat (after_look m.stock_seat.view q (of i)) } in
+    let n : KnownMachine = record m { stock_seat = with_view m.stock_seat (with_steps 1 (draining m.stock_seat.view q 0)) } in
+    let seen : n ≡ record m { stock_seat = with_view m.stock_seat (with_steps 1 (after_look m.stock_seat.view q (stock_group m q))) } =
+    λ i. record m { stock_seat = with_view m.stock_seat (with_steps 1 (after_look m.stock_seat.view q (of i))) } in
     subst (λ (x : KnownMachine × KnownMachine). DrainsBySteps t (DrainsIf test q) 0 x.0 x.1) (λ i. (same i, record m { stock_seat = sym is i }))
     (drained_not t test q m n (ap (test m.ledger.groups) (sym of) ∙ none_chosen) seen (looked_none t m q (sym of)))
 

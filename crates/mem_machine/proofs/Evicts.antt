@@ -28,6 +28,7 @@ use Rattle.mem_machine.specs.Machines.{KnownMachine, FitsSpot, IsConsistent, Vis
 use Rattle.mem_machine.specs.Local.{MakesForAny, local_of, references_of, side}
 use Rattle.mem_machine.specs.Freeing.{FreesFrames}
 use Rattle.mem_machine.specs.Counts.{with_freeze, with_miss}
+use Rattle.mem_machine.specs.Counting.{with_one_frozen}
 use Rattle.mem_machine.specs.Lists.{LeavesList}
 use Rattle.mem_machine.specs.Evicting.{MissesUnit, EvictsUnit, evict_steps}
 use Rattle.mem_machine.proofs.Balances.{balanced_freeze}
@@ -105,6 +106,7 @@ missed_all t w m now same ok f inside kept seat answered counts counted =
               λ i. record s { references = λ q x. references_stay m.frame_seat c f word q x i },
             );
             follows = follows_same _ _ _ refl;
+            counts = refl;
           };
     } in
     subst (λ (x : KnownMachine × KnownSeat × Counts). AllMissed t w x.0 f (record m { frame_seat = x.1; counts = x.2 }))
@@ -159,7 +161,8 @@ evicted_all t w m now same ok f i inside is kept_now links lists left_list stand
     } in
     let back = back_all t w m now same ok f i inside is kept_now links lists left_list stand linked listed (frozen 1) frozen_in_hand seat answered.1
     (Freeze f 1) answer.Done (λ c held. zone_step (local_of t m c) c.number (Freeze f 1) answer.Done refl (may_freeze t m f inside held c) tt) refl (λ c. refl)
-    unit head before free blocks spots ledger counts was frees_i gives_i areas_free uncharged (rw counted (balanced_freeze m.counts ok.balances)) in
+    (with_one_frozen m.counts) (λ c. refl)
+    unit head before free blocks spots ledger counts was frees_i gives_i areas_free uncharged (rw counted (balanced_freeze m.counts ok.balances)) counted in
     let here : spot_at m.spots f ≡ Head unit = subst (λ (x : ℕ). spot_at m.spots x ≡ Head unit) is head in
     let list : LeavesList f (lists_of now) (group_lists links lists) = back.list in
     let home : home_of m.links f ≡ Some (record { owner = list.group; list = list.list }) =

@@ -26,6 +26,8 @@ use Rattle.step_rules.specs.Legal.{is_of_group}
 use Rattle.step_rules.proofs.CallerLemmas.{noted_nowhere}
 use Rattle.step_rules.proofs.Moving.{gone_itself}
 use Rattle.mem_machine.specs.Following.{Moves, moved_over, moves_peak, moves_count, FollowsSteps}
+use Rattle.mem_machine.specs.declared.counts.Counts.{Counts}
+use Rattle.mem_machine.specs.Counting.{counts_after, counts_over}
 use Rattle.mem_machine.specs.Machines.{KnownMachine}
 use Rattle.mem_machine.specs.Local.{Side, side, local_of, IsLocalRun, MakesAs}
 use Rattle.mem_machine.proofs.Reaching.{run_both}
@@ -101,6 +103,13 @@ module _ (p : ℕ) (a : State) (one : Run) (b : State) (two : Run) (c : State) (
         | inr none ↦ over_anew moves m begins p b two c y (moved_over moves a one x) second none there
       ] ∙ sym (over_both moves p a one two b x first)
 
+-- the counts after one list and then another
+counts_both : (p : ℕ) (a : State) (one two : Run) (b : State) (x : Counts) → IsLocalRun p a one b
+    → counts_over a (one ++ two) x ≡ counts_over b two (counts_over a one x)
+counts_both p a [] two b x run = ap (λ (s : State). counts_over s two x) run
+counts_both p a (e ∷ rest) two b x run =
+    counts_both p (after a e.0.seat e.0.action e.1) rest two b (counts_after a e.0.seat e.0.action e.1 x) run.1
+
 -- one list after another
 pub makes_both : (t : KnownTable) (p : ℕ) (one two : Run) (a b c : Side) → MakesAs t p a one b → MakesAs t p b two c → MakesAs t p a (one ++ two) c
 makes_both t p one two a b c first second =
@@ -117,6 +126,7 @@ makes_both t p one two a b c first second =
         events_local = λ key m there. joined p s one u two v first.leads second.leads m (moves_count (is_noted_at key m) m)
             (count_begins (is_noted_at key m) m) _ _ _ (first.follows.events_local key m) (second.follows.events_local key m there) there;
       };
+      counts = second.counts ∙ ap (counts_over u two) first.counts ∙ sym (counts_both p s one two u a.machine.counts first.leads);
     }
 
 -- ---- steps that move nothing
@@ -200,12 +210,13 @@ follows_same s l steps still = follows_still s l steps l still (λ m. refl) (sam
 -- ---- no step
 
 pub makes_none : (t : KnownTable) (p : ℕ) (a : Side) → MakesAs t p a [] a
-makes_none t p a = record { leads = refl; follows = follows_same _ _ _ refl }
+makes_none t p a = record { leads = refl; follows = follows_same _ _ _ refl; counts = refl }
 
--- what is seen stays, and the ledger
+-- what is seen stays, and the ledger and the counts
 pub makes_stay : (t : KnownTable) (m n : KnownMachine) (c d : KnownCpu) → local_of t m c ≡ local_of t n d → n.ledger ≡ m.ledger
-    → MakesAs t c.number (side m c) [] (side n d)
-makes_stay t m n c d seen same = record {
+    → n.counts ≡ m.counts → MakesAs t c.number (side m c) [] (side n d)
+makes_stay t m n c d seen same counted = record {
   leads = seen;
+  counts = counted;
   follows = subst (FollowsSteps (local_of t m c) m.ledger []) (sym same) (follows_same (local_of t m c) m.ledger [] refl);
 }

@@ -34,6 +34,7 @@ use Rattle.mem_machine.specs.Local.{IsLocalRun, local_of, fresh_group, number_or
 use Rattle.mem_machine.specs.Steps.{zone_makes}
 use Rattle.mem_machine.specs.Blocks.{PlacesUnit}
 use Rattle.mem_machine.specs.Counts.{with_drop}
+use Rattle.mem_machine.specs.Counting.{counts_over}
 use Rattle.mem_machine.specs.Freeing.{FreesFrames}
 use Rattle.mem_machine.specs.Settling.{KeepsFresh, DropsFresh, with_page_absorbed, keep_steps, drop_steps}
 use Rattle.mem_machine.proofs.Holds.{own_part}
@@ -50,6 +51,7 @@ use Rattle.mem_machine.proofs.Shown.{is_visited, fresh_unit, fresh_phase, fresh_
 use Rattle.mem_machine.proofs.Shown.{references_same}
 use Rattle.mem_machine.proofs.Balances.{balanced_drop}
 use Rattle.mem_machine.proofs.Followed.{follows_same, follows_still}
+use Rattle.mem_machine.proofs.Counted.{collects_none, comes_back}
 
 -- what is told of a frame that was collected fresh, and of its page
 pub record WasFresh (t : KnownTable) (m : KnownMachine) (c : KnownCpu) (f g : ℕ) : Type 0 where
@@ -127,6 +129,9 @@ module _ (t : KnownTable) (w : Words) (m : KnownMachine) (c : KnownCpu) (tied : 
   fresh_now = fresh_phase c f (spot_at m.spots f) is_lent at.once
 
   -- ---- kept
+
+  kept_counts : m.counts ≡ counts_over s (keep_steps c.number f) m.counts
+  kept_counts = collects_none s f (phase.Head (fresh_unit c) (FreshAt c.number)) fresh_now refl m.counts
 
   module _ (links : List Link) (lists : List Lru) (joined : AllJoin m.links m.lists g f links lists) where
     abbrev used : FrameNote → FrameNote
@@ -255,6 +260,10 @@ module _ (t : KnownTable) (w : Words) (m : KnownMachine) (c : KnownCpu) (tied : 
         (drop_run s c.number f (fresh_unit c) _ v (own_part m c) (local_of t dropped d) (ap (is_killed m.killed) was.named ∙ killed)
         (λ i. record s { phases = λ x. sym (ph x) i; references = λ q x. sym (re q x) i; parts = λ q. sym (pa q) i }))
 
+    dropped_counts : is_killed m.killed g ≡ true → counts ≡ counts_over s (drop_steps c.number f) m.counts
+    dropped_counts killed = counted ∙ comes_back s f (phase.Head (fresh_unit c) (FreshAt c.number)) fresh_now false true refl
+        (ap (is_killed m.killed) was.named ∙ killed) m.counts
+
     dropped_visits : Visits t (side dropped d)
     dropped_visits = handed_visits t w m c tied visit f (collected_from c.number) (λ k. refl) dropped d refl refl refl
 
@@ -301,6 +310,7 @@ keep_all t w m now same c h tied ok visit_now free free_is f g was hands i k ind
       steps = record {
         leads = kept_steps t w m c tied ok visit f g was rest front links lists joined;
         follows = follows_same _ _ _ refl;
+        counts = kept_counts t w m c tied ok visit f g was rest front;
       };
     } in
     subst (λ (x : KnownMachine × KnownMachine × KnownCpu). AllKept t w x.0 c g f x.1 x.2 free)
@@ -354,6 +364,7 @@ drop_all t w m now same c h tied ok visit_now before free free_was f g was kille
       steps = record {
         leads = dropped_steps t w m c tied ok visit f g was rest front spots frees blocks areas counts counted killed;
         follows = follows_still _ m.ledger _ _ refl (uncharge_peaks m.ledger g 1) (uncharge_events m.ledger g 1);
+        counts = dropped_counts t w m c tied ok visit f g was rest front spots frees blocks areas counts counted killed;
       };
     } in
     let uncharged_one : ledger ≡ with_uncharge m.ledger g 1 = uncharges ∙ ap (λ (j : ℕ). with_uncharge m.ledger g (2 ^ j)) zero_is in

@@ -203,6 +203,7 @@ module _ (t : KnownTable) (w : Words) (m : KnownMachine) (c : KnownCpu) (tied : 
             ((λ i. record s { phases = λ h. phases_paid h i; parts = λ q. parts q i })
             ∙ (λ i. record s { phases = with_at s.phases (sym at i) (consumed p g); parts = with_at s.parts p (paid (part_of m.stock_seat c p)) }));
         follows = follows_same _ _ _ refl;
+        counts = refl;
       }
 
 -- all of it, of the machine as it was seen before

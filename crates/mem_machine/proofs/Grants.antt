@@ -65,7 +65,7 @@ module _ (t : KnownTable) (m : KnownMachine) (c : KnownCpu) (g n : ℕ) (there :
   })
 
   pub refused_run : (h : ℕ) → room.IsLowestOver m.ledger.groups (current_of m.ledger) g n h → MakesAs t c.number (side m c) (zone_makes (Grant g n) (Over h) ∷ []) (side m c)
-  refused_run h low = record { leads = (is_over h low, refl); follows = follows_same _ _ _ refl }
+  refused_run h low = record { leads = (is_over h low, refl); follows = follows_same _ _ _ refl; counts = refl }
 
   -- the state with the pages pending
   abbrev pub with_granted : State
@@ -165,4 +165,5 @@ module _ (t : KnownTable) (m : KnownMachine) (c : KnownCpu) (g n : ℕ) (there :
       ),
     );
     follows = follows_grant t m c g n facts there usage (zone_makes (PlaceBlock g k) NoFreeBlock ∷ zone_makes (Ungrant g n) Done ∷ []) refl x.ledger peaks events;
+    counts = ap (λ (y : KnownMachine). y.counts) is;
   }

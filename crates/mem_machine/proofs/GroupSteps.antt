@@ -19,23 +19,26 @@ use Rattle.step_rules.specs.declared.step.Answer.TheVariants.{Done, Number}
 use Rattle.step_rules.specs.Usage.{usage_of}
 use Rattle.step_rules.specs.Events.{note_of}
 use Rattle.step_rules.specs.Legal.{is_removable}
-use Rattle.step_rules.specs.State.{with_at}
+use Rattle.step_rules.specs.State.{State, with_at}
 use Rattle.step_rules.proofs.Basics.{at_each}
+use Rattle.mem_machine.specs.declared.counts.Counts.{Counts}
+use Rattle.mem_machine.specs.Counting.{counts_after}
 use Rattle.mem_machine.specs.Machines.{KnownMachine, is_killed, AddsGroup}
 use Rattle.mem_machine.specs.Local.{local_of, side, IsLocalRun, MakesAs}
 use Rattle.mem_machine.specs.Steps.{zone_makes, kill_steps, note_max_steps, note_oom_steps, note_group_kill_steps, set_max_steps, set_oom_group_steps, make_steps, remove_steps}
 use Rattle.mem_machine.proofs.Reaching.{zone_step, run_one}
 use Rattle.mem_machine.proofs.Holds.{zone_may_act}
-use Rattle.mem_machine.proofs.Followed.{makes_none}
 use Rattle.mem_machine.proofs.LedgerMoves.{follows_note, follows_limit, follows_flag, follows_make, follows_remove}
 
 -- a step notes an event of this kind at the group, and changes nothing that is seen
-note_runs : (kind : EventKey) (action : Action) (g : ℕ) → note_of action Done ≡ Some (kind, g) → (t : KnownTable) (m n : KnownMachine)
+note_runs : (kind : EventKey) (action : Action) (g : ℕ) → note_of action Done ≡ Some (kind, g)
+    → ((s : State) (x : Counts) → x ≡ counts_after s 0 action Done x) → (t : KnownTable) (m n : KnownMachine)
     → n ≡ record m { ledger = with_noted kind m.ledger g } → CountsEvent kind m.ledger n.ledger g → SamePeaks m.ledger n.ledger → (c : KnownCpu)
     → IsLocalRun c.number (local_of t m c) (zone_makes action Done ∷ []) (local_of t m c) → MakesAs t c.number (side m c) (zone_makes action Done ∷ []) (side n c)
-note_runs kind action g notes t m n is counts peaks c run = record {
+note_runs kind action g notes none t m n is counts peaks c run = record {
   leads = subst (λ (k : KnownMachine). IsLocalRun c.number (local_of t m c) (zone_makes action Done ∷ []) (local_of t k c)) (sym is) run;
   follows = follows_note kind action g notes t m c n.ledger counts peaks;
+  counts = ap (λ (k : KnownMachine). k.counts) is ∙ none (local_of t m c) m.counts;
 }
 
 module _ (t : KnownTable) (m n : KnownMachine) (g : ℕ) (there : has_group m.ledger.groups g ≡ true) where
@@ -47,6 +50,7 @@ module _ (t : KnownTable) (m n : KnownMachine) (g : ℕ) (there : has_group m.le
         leads = run_one c.number s _ 0 (SetMax g limit) Done (zone_step s c.number (SetMax g limit) Done refl
             (and_from _ _ (and_from _ _ (zone_may_act m.frame_seat c.number) there) (ap not (ne_eqb g 0 below))) tt) refl;
         follows = follows_limit s m.ledger g limit;
+        counts = refl;
       })
 
   set_oom_group_runs : (flag : Bool) → g ≢ 0 → n ≡ record m { ledger = with_oom_flag m.ledger g flag } → (c : KnownCpu)
@@ -57,15 +61,16 @@ module _ (t : KnownTable) (m n : KnownMachine) (g : ℕ) (there : has_group m.le
         leads = run_one c.number s _ 0 (SetFlag g flag) Done (zone_step s c.number (SetFlag g flag) Done refl
             (and_from _ _ (and_from _ _ (zone_may_act m.frame_seat c.number) there) (ap not (ne_eqb g 0 below))) tt) refl;
         follows = follows_flag s m.ledger g flag;
+        counts = refl;
       })
 
 -- the same, of the machine as it was seen before
 module _ (t : KnownTable) (m now : KnownMachine) (same : m ≡ now) (g : ℕ) (there : has_group now.ledger.groups g ≡ true) where
-  notes : (kind : EventKey) (action : Action) → note_of action Done ≡ Some (kind, g) → (l : Ledger) → l ≡ with_noted kind m.ledger g
+  notes : (kind : EventKey) (action : Action) → note_of action Done ≡ Some (kind, g) → ((s : State) (x : Counts) → x ≡ counts_after s 0 action Done x) → (l : Ledger) → l ≡ with_noted kind m.ledger g
       → CountsEvent kind m.ledger l g → SamePeaks m.ledger l → (c : KnownCpu)
       → IsLocalRun c.number (local_of t now c) (zone_makes action Done ∷ []) (local_of t now c)
       → MakesAs t c.number (side now c) (zone_makes action Done ∷ []) (side (record m { ledger = l }) c)
-  notes kind action noted l is counts peaks c run = note_runs kind action g noted t now (record m { ledger = l })
+  notes kind action noted none l is counts peaks c run = note_runs kind action g noted none t now (record m { ledger = l })
       ((λ i. record m { ledger = is i }) ∙ ap (λ (k : KnownMachine). record k { ledger = with_noted kind k.ledger g }) same)
       (subst (λ (k : KnownMachine). CountsEvent kind k.ledger l g) same counts) (subst (λ (k : KnownMachine). SamePeaks k.ledger l) same peaks) c run
 
@@ -73,21 +78,21 @@ module _ (t : KnownTable) (m now : KnownMachine) (same : m ≡ now) (g : ℕ) (t
       → MakesAs t c.number (side now c) (note_max_steps g) (side (record m { ledger = l }) c)
   notes_max l is counts peaks c =
       let s = local_of t now c in
-      notes Max (NoteMax g) refl l is counts peaks c (run_one c.number s s 0 (NoteMax g) Done
+      notes Max (NoteMax g) refl (λ k x. refl) l is counts peaks c (run_one c.number s s 0 (NoteMax g) Done
       (zone_step s c.number (NoteMax g) Done refl (and_from _ _ (zone_may_act now.frame_seat c.number) there) tt) refl)
 
   pub notes_oom : (l : Ledger) → l ≡ with_oom_noted m.ledger g → CountsOom m.ledger l g → SamePeaks m.ledger l → (c : KnownCpu)
       → MakesAs t c.number (side now c) (note_oom_steps g) (side (record m { ledger = l }) c)
   notes_oom l is counts peaks c =
       let s = local_of t now c in
-      notes Oom (NoteOom g) refl l is counts peaks c (run_one c.number s s 0 (NoteOom g) Done
+      notes Oom (NoteOom g) refl (λ k x. refl) l is counts peaks c (run_one c.number s s 0 (NoteOom g) Done
       (zone_step s c.number (NoteOom g) Done refl (and_from _ _ (zone_may_act now.frame_seat c.number) there) tt) refl)
 
   pub notes_group_kill : g ≢ 0 → (l : Ledger) → l ≡ with_group_kill_noted m.ledger g → CountsGroupKill m.ledger l g → SamePeaks m.ledger l → (c : KnownCpu)
       → MakesAs t c.number (side now c) (note_group_kill_steps g) (side (record m { ledger = l }) c)
   notes_group_kill below l is counts peaks c =
       let s = local_of t now c in
-      notes OomGroupKill (NoteGroupKill g) refl l is counts peaks c (run_one c.number s s 0 (NoteGroupKill g) Done
+      notes OomGroupKill (NoteGroupKill g) refl (λ k x. refl) l is counts peaks c (run_one c.number s s 0 (NoteGroupKill g) Done
       (zone_step s c.number (NoteGroupKill g) Done refl
       (and_from _ _ (and_from _ _ (zone_may_act now.frame_seat c.number) there) (ap not (ne_eqb g 0 below))) tt) refl)
 
@@ -118,6 +123,7 @@ kill_runs t m n g inside there alive is counts peaks c =
           (zone_step s c.number (Kill g) Done refl (and_from _ _ (and_from _ _ (zone_may_act m.frame_seat c.number) there) (ap not alive)) tt)
           (λ i. record s { killed = marks_set m.killed g true inside i }));
       follows = follows_note OomKill (Kill g) g refl t m c n.ledger counts peaks;
+      counts = ap (λ (k : KnownMachine). k.counts) is;
     }
 
 -- the same, of the machine as it was seen before
@@ -140,6 +146,7 @@ make_runs t m n g path inside allowed facts makes c =
           (zone_may_act m.frame_seat c.number) allowed) makes.least)
           (λ i. record s { groups = with_group m.ledger.groups g path; killed = marks_set m.killed g false inside i });
       follows = follows_make s m.ledger path g facts makes.least;
+      counts = refl;
     })
 
 -- nothing was refused
@@ -163,9 +170,6 @@ module _ (t : KnownTable) (m now : KnownMachine) (same : m ≡ now) where
       (none_of (make_fault now.ledger.groups path) (subst (λ (k : KnownMachine). make_fault k.ledger.groups path ≡ None) same (sym allowed)))
       (subst (λ (k : KnownMachine). AreCharges k.ledger) same facts) (makes l marks g path least is set) c
 
-  pub stayed_runs : (n : KnownMachine) → n ≡ m → (c : KnownCpu) → MakesAs t c.number (side now c) [] (side n c)
-  stayed_runs n is c = subst (λ (k : KnownMachine). MakesAs t c.number (side now c) [] (side k c)) (sym (is ∙ same)) (makes_none t c.number (side now c))
-
 -- a group that goes
 module _ (t : KnownTable) (m n : KnownMachine) (c : KnownCpu) (g : ℕ) where
   pub remove_runs : has_group m.ledger.groups g ≡ true → has_child m.ledger.groups g ≡ false → g ≢ 0 → current_of m.ledger g ≡ 0
@@ -179,6 +183,7 @@ module _ (t : KnownTable) (m n : KnownMachine) (c : KnownCpu) (g : ℕ) where
         leads = run_one c.number s _ 0 (Remove g) Done (zone_step s c.number (Remove g) Done refl
             (and_from _ _ (zone_may_act m.frame_seat c.number) removable) tt) refl;
         follows = follows_remove s m.ledger g;
+        counts = refl;
       })
 
 pub removes : (t : KnownTable) (m now : KnownMachine) → m ≡ now → (c d : KnownCpu) → d ≡ c → (g : ℕ) → has_group now.ledger.groups g ≡ true

@@ -93,6 +93,7 @@ open_runs t m n c is shut =
       leads = run_one p (local_of t m c) _ 0 (OpenVisit p) Done (zone_step (local_of t m c) p (OpenVisit p) Done refl legal tt)
           (λ i. record (local_of t m c) { hold = opened i });
       follows = follows_same _ _ _ refl;
+      counts = refl;
     })
 
 pub shut_runs : (t : KnownTable) (m n : KnownMachine) (c : KnownCpu) → n ≡ record m { frame_seat = seat_with_visit m.frame_seat c.number 0 } → IsOpen m.frame_seat c.number
@@ -110,6 +111,7 @@ shut_runs t m n c is was_open noted =
     subst (λ (k : KnownMachine). MakesAs t p (side m c) (shut_steps c.number) (side k c)) (sym is) (record {
       leads = run_one p s _ 0 (ShutVisit p) Done (zone_step s p (ShutVisit p) Done refl legal tt) (λ i. record s { hold = shut i });
       follows = follows_same _ _ _ refl;
+      counts = refl;
     })
 
 -- the same, of the machine as it was seen before, and of a processor's part that stayed

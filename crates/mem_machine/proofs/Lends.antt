@@ -195,6 +195,7 @@ module _ (t : KnownTable) (w : Words) (m : KnownMachine) (c : KnownCpu) (tied : 
           ),
         );
         follows = follows_same _ _ _ refl;
+        counts = refl;
       }
     where
       same_phase : (g : ℕ) (y : Spot) → phase_of (record c { list = c.list ++ f ∷ []; frame_seat = seat_with c.frame_seat f took_in }) g y ≡ phase_of c g y

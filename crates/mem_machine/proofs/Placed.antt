@@ -40,6 +40,7 @@ pub record IsPlaced (m : KnownMachine) (c : KnownCpu) (g : ℕ) (b : Block) (n :
   pub groups : n.ledger.groups ≡ m.ledger.groups
   pub killed : n.killed ≡ m.killed
   pub stock_seat : n.stock_seat ≡ m.stock_seat
+  pub counts : n.counts ≡ m.counts
 
 module _ (t : KnownTable) (m : KnownMachine) (c : KnownCpu) (g : ℕ) (b : Block) (there : has_group m.ledger.groups g ≡ true)
     (alive : is_killed m.killed g ≡ false) (usage : (h : ℕ) → usage_of (local_of t m c) h ≡ current_of m.ledger h)
@@ -155,4 +156,5 @@ module _ (t : KnownTable) (m : KnownMachine) (c : KnownCpu) (g : ℕ) (b : Block
       );
       follows = follows_grant t m c g (2 ^ b.order) facts there usage
           (zone_makes (PlaceBlock g b.order) (Placed b) ∷ zone_makes (Unfreeze b.at 1) Done ∷ zone_makes (Publish b.at) Done ∷ []) refl n.ledger peaks events;
+      counts = is.counts;
     }

@@ -35,7 +35,7 @@ use Rattle.mem_machine.specs.Spots.{spot_at, count_of}
 use Rattle.mem_machine.specs.Machines.{KnownMachine, IsConsistent, Visits, is_killed, booked, pages_booked}
 use Rattle.mem_machine.specs.Local.{local_of, phase_of, part_of, part_with, Makes, side, MakesAs}
 use Rattle.mem_machine.specs.Steps.{drain_steps, fill_steps, over_steps, zone_makes}
-use Rattle.mem_machine.specs.Stocks.{uncharged, stock_group, Drains, Fills, Prepays, IsOver, own_drain_steps, pages_held}
+use Rattle.mem_machine.specs.Stocks.{uncharged, stock_group, with_look, Drains, Fills, Prepays, IsOver, own_drain_steps, pages_held}
 use Rattle.mem_machine.specs.Paying.{IsOwnStock}
 use Rattle.mem_machine.proofs.Reaching.{zone_step}
 use Rattle.mem_machine.proofs.Holds.{zone_may_act, visits_open, own_part}
@@ -197,6 +197,7 @@ fill_runs t w m c g k ok facts tied visit none there alive empty has =
       );
       follows = follows_grant t m c g k facts there usage (zone_makes (Fill p g k) Done ∷ []) refl (with_charge m.ledger g k) (λ h. refl)
           (same_events (with_charge m.ledger g k));
+      counts = refl;
     }
 
 -- what `fill_stock` leaves, of the machine as it was seen before
@@ -316,7 +317,7 @@ module _ (m x : KnownMachine) (q p k : ℕ) (named : q ≡ p) (d : Drains q k m 
   pub emptied_own : Drains p k m x
   emptied_own = subst (λ (n : ℕ). Drains n k m x) named d
 
-  -- all of its pages came back, as a look at the stock tells
+  -- all of its pages came back, as a look at the stock shows
   pub emptied_whole : (c : KnownCpu) (y : KnownMachine) (stock : Stock) → y ≡ x → c.number ≡ p → c.fresh ≡ [] → IsOwnStock (side y c) stock
       → k ≡ pages_held (side m c)
   emptied_whole c y stock same mine none looked =
@@ -346,8 +347,11 @@ module _ (m x : KnownMachine) (q p k : ℕ) (named : q ≡ p) (d : Drains q k m 
     own_drain : Drains c.number (pages_held (side m c)) m x
     own_drain = subst (λ (z : ℕ × ℕ). Drains z.0 z.1 m x) (λ i. (its_number i, whole i)) d
 
-    -- what follows begins at the machine and the part that were looked at
-    module _ (y : KnownMachine) (e : KnownCpu) (same : y ≡ x) (stays : e ≡ c) (g pages : ℕ) (n : KnownMachine) (f : KnownCpu) where
+    looked_own : MakesAs t c.number (side m c) (own_drain_steps (side m c)) (side (with_look x) c)
+    looked_own = record { leads = drained_own.leads; follows = drained_own.follows; counts = drained_own.counts }
+
+    -- what follows begins at the machine and the part after the look
+    module _ (y : KnownMachine) (e : KnownCpu) (same : y ≡ with_look x) (stays : e ≡ c) (g pages : ℕ) (n : KnownMachine) (f : KnownCpu) where
       pub prepays : Fills g pages (side y e) (side n f) → Prepays g pages (side m c) (side n f)
       prepays fills = record {
         emptied = x;
@@ -357,8 +361,8 @@ module _ (m x : KnownMachine) (q p k : ℕ) (named : q ≡ p) (d : Drains q k m 
 
       pub prepay_runs : Makes t (side y e) (fill_steps e.number g pages) (side n f)
           → Makes t (side m c) (own_drain_steps (side m c) ++ fill_steps c.number g pages) (side n f)
-      prepay_runs steps = makes_both t c.number (own_drain_steps (side m c)) (fill_steps c.number g pages) (side m c) (side x c)
-          (side n f) drained_own
+      prepay_runs steps = makes_both t c.number (own_drain_steps (side m c)) (fill_steps c.number g pages) (side m c) (side (with_look x) c)
+          (side n f) looked_own
           (subst (λ (z : KnownMachine × KnownCpu). Makes t (side z.0 z.1) (fill_steps z.1.number g pages) (side n f)) (λ i. (same i, stays i)) steps)
 
       -- where the grant was refused, nothing changed since
@@ -366,7 +370,9 @@ module _ (m x : KnownMachine) (q p k : ℕ) (named : q ≡ p) (d : Drains q k m 
         pub is_refused : room.IsLowestOver y.ledger.groups (current_of y.ledger) g pages over → IsOver g pages over (side m c) (side n f)
         is_refused low = subst (λ (z : KnownMachine × KnownCpu). IsOver g pages over (side m c) (side z.0 z.1))
             (λ i. (sym (kept ∙ same) i, sym (own_kept ∙ stays) i)) (record {
+              emptied = x;
               drains = own_drain;
+              machine = refl;
               lowest = subst (λ (z : KnownMachine). room.IsLowestOver z.ledger.groups (current_of z.ledger) g pages over) same low;
               cpu = refl;
             })
@@ -375,5 +381,5 @@ module _ (m x : KnownMachine) (q p k : ℕ) (named : q ≡ p) (d : Drains q k m 
             → Makes t (side m c) (own_drain_steps (side m c) ++ over_steps g pages over) (side n f)
         refused_runs steps = subst (λ (z : KnownMachine × KnownCpu). Makes t (side m c) (own_drain_steps (side m c) ++ over_steps g pages over) (side z.0 z.1))
             (λ i. (sym (kept ∙ same) i, sym (own_kept ∙ stays) i))
-            (makes_both t c.number (own_drain_steps (side m c)) (over_steps g pages over) (side m c) (side x c) (side x c) drained_own
+            (makes_both t c.number (own_drain_steps (side m c)) (over_steps g pages over) (side m c) (side (with_look x) c) (side (with_look x) c) looked_own
             (subst (λ (z : KnownMachine × KnownCpu). Makes t (side z.0 z.1) (over_steps g pages over) (side z.0 z.1)) (λ i. (same i, stays i)) steps))

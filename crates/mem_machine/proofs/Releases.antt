@@ -41,6 +41,7 @@ use Rattle.mem_machine.specs.Spots.{spot_at, free_of, head_group_of, lent_to, so
 use Rattle.mem_machine.specs.Machines.{KnownMachine, FitsSpot, IsConsistent, Visits, BalancesCounts, home_of, is_killed, group_lists, lists_of}
 use Rattle.mem_machine.specs.Local.{IsLocalRun, MakesForAny, local_of, phase_of, references_of, side, MakesAs}
 use Rattle.mem_machine.specs.Counts.{with_last_put}
+use Rattle.mem_machine.specs.Counting.{counts_after, with_one_put_last, with_one_returned}
 use Rattle.mem_machine.specs.Freeing.{FreesFrames}
 use Rattle.mem_machine.specs.Lists.{LeavesList}
 use Rattle.mem_machine.specs.Releasing.{ReturnsUnit, release_steps}
@@ -48,6 +49,7 @@ use Rattle.mem_machine.specs.Steps.{zone_makes}
 use Rattle.mem_machine.specs.declared.counts.Counts.{Counts}
 use Rattle.mem_machine.specs.declared.releasing.Released.TheVariants.{Left, Returned}
 use Rattle.mem_machine.proofs.Reaching.{zone_step}
+use Rattle.mem_machine.proofs.Counted.{returned_ended}
 use Rattle.mem_machine.proofs.Holds.{zone_may_act}
 use Rattle.mem_machine.proofs.Freeing.{free_block_given, unit_freed_consistent}
 use Rattle.mem_machine.proofs.Balances.{balanced_last_put}
@@ -212,6 +214,7 @@ module _ (t : KnownTable) (w : Words) (m : KnownMachine) (ok : IsConsistent t w 
               λ i. record s { references = λ q x. references_less m.frame_seat c f (let_go left) (λ k. refl) q x i },
             );
             follows = follows_same _ _ _ refl;
+            counts = refl;
           }
 
     -- ---- it comes into the zone's hand
@@ -332,10 +335,12 @@ pub back_all : (t : KnownTable) (w : Words) (m now : KnownMachine) → m ≡ now
     → (action : Action) (answered : Answer)
     → ((c : KnownCpu) → holds m.frame_seat f ≡ 1 → IsLocalStep (local_of t m c) c.number 0 action answered) → is_still action answered ≡ true
     → ((c : KnownCpu) → after (local_of t m c) 0 action answered ≡ after (local_of t m c) 0 (Put f) answer.Last)
+    → (one : Counts) → ((c : KnownCpu) → counts_after (local_of t m c) 0 action answered m.counts ≡ one)
     → (unit : ChargedUnit) → spot_at m.spots i ≡ Head unit
     → (before free : List Bool) (blocks : List Block) (spots : List Spot) (ledger : Ledger) (counts : Counts)
     → before ≡ free_of m.spots → FreesFrames i (2 ^ unit.order) m.spots spots → GivesFrames before (record { at = i; order = unit.order }) free
     → AreMaximalBlocks free blocks → ledger ≡ with_uncharge m.ledger unit.group (2 ^ unit.order) → BalancesCounts counts
+    → counts ≡ with_one_returned one
     → AllBack t w now f unit free (zone_makes action answered ∷ zone_makes (Return f) answer.Done ∷ []) (record m {
       blocks = blocks;
       spots = spots;
@@ -345,8 +350,8 @@ pub back_all : (t : KnownTable) (w : Words) (m now : KnownMachine) → m ≡ now
       frame_seat = seat;
       counts = counts;
     })
-back_all t w m now same ok f i inside is kept_now links lists left_list stand linked listed change takes seat put action answered first still ends unit head before
-    free blocks spots ledger counts was frees_i gives_i areas_free uncharged balances =
+back_all t w m now same ok f i inside is kept_now links lists left_list stand linked listed change takes seat put action answered first still ends one ending unit
+    head before free blocks spots ledger counts was frees_i gives_i areas_free uncharged balances counted =
     let kept : home_of m.links f ≢ None = subst (λ (x : KnownMachine). home_of x.links f ≢ None) (sym same) kept_now in
     let leaves : LeavesList f (lists_of m) (group_lists links lists) = subst (λ (x : ℕ). LeavesList x (lists_of m) (group_lists links lists)) is left_list in
     let sized : length links ≡ t.frames = linked ∙ ok.sizes.links in
@@ -384,6 +389,8 @@ back_all t w m now same ok f i inside is kept_now links lists left_list stand li
           subst (λ (s : State). IsLocalRun c.number s (zone_makes (Return f) answer.Done ∷ []) (local_of t n c)) (sym (ends c))
               (return_runs t w m ok f inside kept links lists leaves stand sized listed unit heads c change takes spots blocks counts frees),
         );
+        counts = counted ∙ sym (ap (λ (s : State). counts_after s 0 (Return f) answer.Done (counts_after (local_of t m c) 0 action answered m.counts)) (ends c)
+            ∙ returned_ended (local_of t m c) f (counts_after (local_of t m c) 0 action answered m.counts) ∙ ap with_one_returned (ending c));
         follows = follows_still _ m.ledger steps _ (and_from _ _ still refl) (uncharge_peaks m.ledger unit.group (2 ^ unit.order))
             (uncharge_events m.ledger unit.group (2 ^ unit.order));
       };
@@ -428,7 +435,8 @@ returned_all t w m now same ok f i inside is kept_now links lists left_list stan
     ledger counts was frees_i gives_i areas_free uncharged counted =
     let back = back_all t w m now same ok f i inside is kept_now links lists left_list stand linked listed let_go_last last_in_hand seat put
     (Put f) answer.Last (λ c held. zone_step (local_of t m c) c.number (Put f) answer.Last refl (may_put_one t m f inside held c) tt) refl (λ c. refl)
-    unit head before free blocks spots ledger counts was frees_i gives_i areas_free uncharged (rw counted (balanced_last_put m.counts ok.balances)) in
+    (with_one_put_last m.counts) (λ c. refl)
+    unit head before free blocks spots ledger counts was frees_i gives_i areas_free uncharged (rw counted (balanced_last_put m.counts ok.balances)) counted in
     record {
       consistent = back.consistent;
       free_is = back.free_is;

@@ -38,6 +38,7 @@ use Rattle.mem_machine.proofs.Holds.{IsSeated, zone_may_act, visits_open, seated
 use Rattle.mem_machine.proofs.Records.{free_at, one_covered, length_free, free_given, lent_spot, spots_changed, holds_same, units_stay, charges_stay}
 use Rattle.mem_machine.proofs.Lends.{parts_changed, references_stay, lent_listed, phases_changed}
 use Rattle.mem_machine.proofs.Followed.{follows_same}
+use Rattle.mem_machine.proofs.Counted.{collects_none}
 
 -- a list that hasn't the frame stays without it
 pub without_none : (f : ℕ) (xs : List ℕ) → times f xs ≡ 0 → without f xs ≡ xs
@@ -189,6 +190,7 @@ module _ (t : KnownTable) (w : Words) (m : KnownMachine) (c : KnownCpu) (tied : 
           ),
         );
         follows = follows_same _ _ _ refl;
+        counts = collects_none s f (phase.Lent p OnList) was refl m.counts;
       }
 
 -- all of it, of the machine as it was seen before

@@ -245,6 +245,7 @@ taken_here t w m c ok facts g fits b may room rise before free blocks was front 
             groups = refl;
             killed = refl;
             stock_seat = refl;
+            counts = refl;
           }) facts (λ h. refl) (same_events (with_charge m.ledger g (2 ^ b.order)));
     }
 

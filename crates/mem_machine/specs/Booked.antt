@@ -3,7 +3,7 @@ use Rattle.std.specs.Prelude.{◌≡◌, ℕ, ◌<◌, List, length}
 use Rattle.std.specs.List.{slice_index_or}
 use Rattle.frame_word.specs.Seats.{KnownTable}
 use Rattle.stock_word.specs.Stock.{Words, Seated, IsZoneStock}
-use Rattle.group_tree.specs.declared.group.TheConstants.{MAX_GROUPS}
+use Rattle.group_tree.specs.Bounds.{most_groups}
 use Rattle.mem_machine.specs.Machines.{pages_booked}
 
 -- The seat is the zone's at the table of the stocks, which has as many processors as that of the frames. There is a sum
@@ -12,5 +12,5 @@ pub record AreBooked (frame_table : KnownTable) (words : Words) (stock : Seated)
   pub table : stock.table ≡ words.table
   pub zone : IsZoneStock stock.view
   pub cpus : words.cpus ≡ frame_table.cpus
-  pub size : length sums ≡ MAX_GROUPS
-  pub each : (group : ℕ) → group < MAX_GROUPS → slice_index_or sums group 0 ≡ pages_booked frame_table stock group
+  pub size : length sums ≡ most_groups
+  pub each : (group : ℕ) → group < most_groups → slice_index_or sums group 0 ≡ pages_booked frame_table stock group

@@ -2,12 +2,11 @@
 use Rattle.std.specs.Prelude.{◌≡◌}
 use Rattle.frame_word.specs.Seats.{KnownTable}
 use Rattle.stock_word.specs.Stock.{Words}
-use Rattle.stock_word.specs.Calls.{uncounted}
 use Rattle.mem_machine.specs.declared.machine.Machine.TheInside.{Inside}
 use Rattle.mem_machine.specs.Spots.{free_of}
 use Rattle.mem_machine.specs.Machines.{KnownMachine, IsConsistent}
 
--- what a contract sees of these fields: all but the number of steps that the seat at the stocks made
+-- what a contract sees of these fields
 abbrev pub machine_of : {N : Type 0} → Inside N → KnownMachine
 machine_of fields = record {
   blocks = fields.zone.blocks;
@@ -16,7 +15,7 @@ machine_of fields = record {
   links = fields.links;
   lists = fields.lists.items;
   frame_seat = fields.frame_seat;
-  stock_seat = uncounted fields.stock_seat;
+  stock_seat = fields.stock_seat;
   killed = fields.killed.items;
   counts = fields.counts;
   notes = fields.notes;

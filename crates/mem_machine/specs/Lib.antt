@@ -3,6 +3,7 @@ pub mod Counts
 pub mod Machines
 pub mod Kept
 pub mod Following
+pub mod Counting
 pub mod Local
 pub mod Start
 pub mod Steps

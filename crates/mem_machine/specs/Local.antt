@@ -1,5 +1,5 @@
 -- The local state: what stands where, as the processor that holds the lock sees it from the machine and its own part.
-use Rattle.std.specs.Prelude.{ℕ, ◌-◌, ◌==◌, ◌&&◌, nat_le, not, Option, Some, None, is_some}
+use Rattle.std.specs.Prelude.{◌≡◌, ℕ, ◌-◌, ◌==◌, ◌&&◌, nat_le, not, Option, Some, None, is_some}
 use Rattle.std.specs.Prelude.{List, [], length, slice_index, if◌then◌else◌}
 use Rattle.frame_word.specs.Seats.{KnownTable, KnownSeat, holds}
 use Rattle.stock_word.specs.declared.view.Account.{Account}
@@ -23,6 +23,7 @@ use Rattle.mem_machine.specs.declared.spot.Spot.TheVariants.{Free, Lent, Head, T
 use Rattle.mem_machine.specs.Spots.{spot_at}
 use Rattle.mem_machine.specs.Machines.{KnownMachine, is_killed}
 use Rattle.mem_machine.specs.Following.{FollowsSteps}
+use Rattle.mem_machine.specs.Counting.{counts_over}
 
 -- the number, 0 where there is none
 abbrev pub number_or_0 : Option ℕ → ℕ
@@ -97,10 +98,11 @@ abbrev pub local_at : KnownTable → Side → State
 local_at table now = local_of table now.machine now.cpu
 
 -- These steps, of the processor of this number and of the zone's seat, lead from one side to another: by what the
--- processor sees, and by the peaks and the event counts of the ledger
+-- processor sees, by the peaks and the event counts of the ledger, and by the machine's counts
 pub record MakesAs (table : KnownTable) (number : ℕ) (before : Side) (steps : Run) (after : Side) : Type 0 where
   pub leads : IsLocalRun number (local_at table before) steps (local_at table after)
   pub follows : FollowsSteps (local_at table before) before.machine.ledger steps after.machine.ledger
+  pub counts : after.machine.counts ≡ counts_over (local_at table before) steps before.machine.counts
 
 -- these steps lead the processor that holds the lock from one side to another
 abbrev pub Makes : KnownTable → Side → Run → Side → Type 0

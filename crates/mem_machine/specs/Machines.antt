@@ -11,7 +11,7 @@ use Rattle.frame_word.specs.Seats.{first_zone_view}
 use Rattle.stock_word.specs.declared.view.Account.{Account}
 use Rattle.stock_word.specs.Stock.{Words, Seated, IsZoneStock, account_of, first_zone_stock}
 use Rattle.group_charge.specs.Charges.{Ledger, pages_of, current_of, initial_ledger, with_new_group}
-use Rattle.group_tree.specs.declared.group.TheConstants.{MAX_GROUPS}
+use Rattle.group_tree.specs.Bounds.{most_groups}
 use Rattle.group_tree.specs.Groups.{IsLeastFreeNumber}
 use Rattle.group_tree.specs.Room.{IsLowestOver}
 use Rattle.lru_lists.specs.declared.record.Link.{Link}
@@ -61,7 +61,7 @@ no_queue = record { oldest = None; newest = None; length = 0 }
 
 -- two empty lists, of no owner that is there
 abbrev pub no_lists : Lru
-no_lists = record { owner = MAX_GROUPS; inactive = no_queue; active = no_queue }
+no_lists = record { owner = most_groups; inactive = no_queue; active = no_queue }
 
 -- the two lists of the group of this number
 abbrev pub lists_at : List Lru → ℕ → Lru
@@ -102,7 +102,7 @@ lists_of machine = group_lists machine.links machine.lists
 
 -- the lists of all groups but this one stand as they stood: the same units in the same order, with their marks and dirt
 abbrev pub OthersStay : ℕ → GroupLists → GroupLists → Type 0
-OthersStay group before after = (other : ℕ) (list : LruList) → other < MAX_GROUPS → other ≢ group
+OthersStay group before after = (other : ℕ) (list : LruList) → other < most_groups → other ≢ group
     → entries_of after.links (lists_at after.lists other) list
     ≡ entries_of before.links (lists_at before.lists other) list
 
@@ -113,7 +113,7 @@ LooseStay before after =
 
 -- each group number has its two lists, and these stand in the records through which they are linked
 pub record AreGroupLists (links : List Link) (lists : List Lru) : Type 0 where
-  pub groups : length lists ≡ MAX_GROUPS
+  pub groups : length lists ≡ most_groups
   pub stand : AllStand links lists
 
 -- the group of this number is killed
@@ -141,14 +141,14 @@ pub record FitsSpot (cpus : ℕ) (note : FrameNote) (home : Option Home) (spot :
   pub lent : some_cpu note.lent ≡ lent_to spot
   pub borrower : IfSome (lent_to spot) (λ processor. (1 ≤ processor) × (processor ≤ cpus))
   pub references : note.references ≡ one_if (is_some home)
-  pub kept : IfSome home (λ list. (list.owner < MAX_GROUPS) × (head_group_of spot ≡ Some list.owner))
+  pub kept : IfSome home (λ list. (list.owner < most_groups) × (head_group_of spot ≡ Some list.owner))
 
 -- the parts have the sizes of the tables, which agree
 pub record AreSized (table : KnownTable) (words : Words) (machine : KnownMachine) : Type 0 where
   pub spots : length machine.spots ≡ table.frames
   pub links : length machine.links ≡ table.frames
-  pub lists : length machine.lists ≡ MAX_GROUPS
-  pub killed : length machine.killed ≡ MAX_GROUPS
+  pub lists : length machine.lists ≡ most_groups
+  pub killed : length machine.killed ≡ most_groups
   pub cpus : words.cpus ≡ table.cpus
 
 -- the seats are the zone's, at these tables
@@ -246,6 +246,6 @@ pub record IsFirst (table : KnownTable) (words : Words) (machine : KnownMachine)
   pub nowhere : AreNowhere machine.links
   pub frame_seat : machine.frame_seat ≡ record { table = table.table; view = first_zone_view table.frames }
   pub stock_seat : machine.stock_seat ≡ record { table = words.table; view = first_zone_stock }
-  pub killed : machine.killed ≡ replicate MAX_GROUPS false
+  pub killed : machine.killed ≡ replicate most_groups false
   pub counts : machine.counts ≡ no_counts
   pub notes : machine.notes ≡ []

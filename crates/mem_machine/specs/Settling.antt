@@ -26,13 +26,9 @@ use Rattle.mem_machine.specs.Lists.{ListsUnit}
 use Rattle.mem_machine.specs.Counts.{with_drop, with_last_put}
 use Rattle.mem_machine.specs.Freeing.{FreesFrames}
 
--- the stocks after a page of the processor was reported and absorbed
+-- the zone's seat at the stocks after it absorbed, by one step, a page that the processor reported
 abbrev pub with_page_absorbed : Seated → ℕ → Seated
-with_page_absorbed stock processor = with_view stock (absorbing (noting stock.view processor 1) processor)
-
--- the stocks' seat after it absorbed that page, by one step
-abbrev pub after_page_absorbed : Seated → ℕ → Seated
-after_page_absorbed seat processor = with_view seat (with_steps 1 (absorbing (noting seat.view processor 1) processor))
+with_page_absorbed seat processor = with_view seat (with_steps 1 (absorbing (noting seat.view processor 1) processor))
 
 -- a page of the account's book isn't noted yet
 abbrev pub HasUnreportedPage : Account → Type 0

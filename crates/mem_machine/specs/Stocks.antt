@@ -3,7 +3,7 @@ use Rattle.std.specs.Prelude.{◌≡◌, ℕ, zero, suc, ◌-◌, ◌≤◌, ◌
 use Rattle.std.specs.Prelude.{Option, Some, None, List, [], ◌∷◌, ◌++◌, length}
 use Rattle.frame_word.specs.Seats.{KnownTable}
 use Rattle.stock_word.specs.Stock.{account_of}
-use Rattle.stock_word.specs.Kinds.{draining, filling, after_fill}
+use Rattle.stock_word.specs.Kinds.{draining, filling, after_fill, with_steps}
 use Rattle.stock_word.specs.Calls.{with_view, after_look}
 use Rattle.group_tree.specs.Room.{PathHasRoom}
 use Rattle.group_charge.specs.declared.charges.Over.{Over}
@@ -39,26 +39,44 @@ FitsStock pages = (0 < pages) × (pages < 65536)
 abbrev pub pages_held : Side → ℕ
 pages_held now = (account_of now.machine.stock_seat.view now.cpu.number).book - length now.cpu.fresh
 
--- The stock of the processor, in which so many pages were, is drained: they come off its book and off the charge of its
--- group. A stock that was drained before has none
-pub record Drains (processor pages : ℕ) (before after : KnownMachine) : Type 0 where
+-- the machine after the zone's seat looked at a stock once: that is a step of the seat, and changes nothing else
+abbrev pub with_look : KnownMachine → KnownMachine
+with_look machine = record machine {
+  stock_seat = with_view machine.stock_seat (with_steps 1 machine.stock_seat.view);
+}
+
+-- how many steps of the zone's seat drain a stock of this group: the look that finds the group, and if there is one, a
+-- second look and the swap that takes the pages
+abbrev pub steps_to_drain : Option ℕ → ℕ
+steps_to_drain None = 1
+steps_to_drain (Some group) = 3
+
+-- The stock of the processor, in which so many pages were, is drained by so many steps of the zone's seat: the pages
+-- come off its book and off the charge of its group. A stock that was drained before has none
+pub record DrainsBy (steps processor pages : ℕ) (before after : KnownMachine) : Type 0 where
   pub machine : after ≡ record before {
     ledger = uncharged before.ledger (stock_group before processor) pages;
-    stock_seat = with_view before.stock_seat (draining before.stock_seat.view processor pages);
+    stock_seat =
+        with_view before.stock_seat (with_steps steps (draining before.stock_seat.view processor pages));
   }
   pub booked : pages ≤ (account_of before.stock_seat.view processor).book
   pub drained_before : IsDrained before processor → pages ≡ 0
 
--- the stock of the processor is drained, and that is noted
-pub record DrainsNoted (processor pages : ℕ) (before after : KnownMachine) : Type 0 where
-  pub drains : Drains processor pages before (record after { notes = before.notes })
+-- the stock of the processor is drained, once a look found its group
+abbrev pub Drains : ℕ → ℕ → KnownMachine → KnownMachine → Type 0
+Drains processor pages before after =
+    DrainsBy (steps_to_drain (stock_group before processor)) processor pages before after
+
+-- the stock of the processor is drained by so many steps of the zone's seat, and that is noted
+pub record DrainsNoted (steps processor pages : ℕ) (before after : KnownMachine) : Type 0 where
+  pub drains : DrainsBy steps processor pages before (record after { notes = before.notes })
   pub noted : after.notes ≡ noted before.notes (Stock processor pages)
 
--- the stock of the processor is drained, and this is the drain
+-- the stock of the processor is drained, once a look found its group, and this is the drain
 pub record DrainsOne (processor : ℕ) (drain : Drain) (before after : KnownMachine) : Type 0 where
   pub cpu : drain.cpu ≡ processor
   pub group : drain.group ≡ stock_group before processor
-  pub drains : DrainsNoted processor drain.pages before after
+  pub drains : DrainsNoted (steps_to_drain (stock_group before processor)) processor drain.pages before after
 
 -- which stocks a call means: a test of the groups that are there and of the group that a stock is of
 abbrev pub StockTest : Type 0
@@ -76,13 +94,13 @@ of_group group groups stock = is_of_group stock group
 abbrev pub is_chosen : StockTest → KnownMachine → ℕ → Bool
 is_chosen test machine processor = test machine.ledger.groups (stock_group machine processor)
 
--- The processor's stock is drained where the test chooses it: that is the one drain. Else there is none, and nothing
--- changed but that a stock of no group, of which the zone's seat now knows, counts as drained of no page
+-- The processor's stock is drained if the test chooses it: that is the one drain. Else there is none, and nothing
+-- changed but the one look, after which a stock of no group counts as drained of no page
 abbrev pub DrainsIf : StockTest → ℕ → List Drain → KnownMachine → KnownMachine → Type 0
 DrainsIf test processor [] before after =
     (is_chosen test before processor ≡ false) × (after ≡ record before {
       stock_seat = with_view before.stock_seat
-          (after_look before.stock_seat.view processor (stock_group before processor));
+          (with_steps 1 (after_look before.stock_seat.view processor (stock_group before processor)));
     })
 DrainsIf test processor (drain ∷ []) before after =
     (is_chosen test before processor ≡ true) × DrainsOne processor drain before after
@@ -168,16 +186,18 @@ RefusesGrant table group pages over now = Makes table now (over_steps group page
 abbrev pub own_drain_steps : Side → Run
 own_drain_steps now = drain_steps now.cpu.number (stock_group now.machine now.cpu.number) (pages_held now)
 
--- what `prepay` leaves: the processor's own stock is drained of all its pages, and then filled
+-- what `prepay` leaves: the processor's own stock is drained of all its pages, looked at, and then filled
 pub record Prepays (group pages : ℕ) (before after : Side) : Type 0 where
   pub emptied : KnownMachine
   pub drains : Drains before.cpu.number (pages_held before) before.machine emptied
-  pub fills : Fills group pages (side emptied before.cpu) after
+  pub fills : Fills group pages (side (with_look emptied) before.cpu) after
 
--- what `prepay` leaves where a limit has no room for the pages, that of `over` the lowest: the stock is drained of all
--- its pages, and nothing is charged
+-- what `prepay` leaves if a limit has no room for the pages, that of `over` the lowest: the stock is drained of all its
+-- pages, looked at, and nothing is charged
 pub record IsOver (group pages over : ℕ) (before after : Side) : Type 0 where
-  pub drains : Drains before.cpu.number (pages_held before) before.machine after.machine
+  pub emptied : KnownMachine
+  pub drains : Drains before.cpu.number (pages_held before) before.machine emptied
+  pub machine : after.machine ≡ with_look emptied
   pub lowest : LacksRoom after.machine group pages over
   pub cpu : after.cpu ≡ before.cpu
 

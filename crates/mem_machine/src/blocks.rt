@@ -45,7 +45,7 @@ impl<N: BootName> Machine<N> {
     /// which is returned, has one reference of the zone and stands at the newest end of the group's inactive list.
     /// Where a limit has no room, the error names the lowest such group, and nothing is charged. Where no block is
     /// there, the pages go back, and the peaks alone may be higher. In all, at most 2^32 - 1 pages can be charged, as
-    /// `see_room` tells. The processor has no back frame, as once it was settled.
+    /// `see_room` tells. The processor has no fresh frame and no back frame, as once it was settled.
     pub fn take_block(
         &mut self,
         tables: &Tables<N>,
@@ -55,6 +55,7 @@ impl<N: BootName> Machine<N> {
     ) -> Result<Frame, TakeFault>
         requires visit { Visits N.frames (side self.old cpu.old) }
         requires charges { MayCharge self.old group (2 ^ order) }
+        requires none_fresh { cpu.old.fresh ≡ [] }
         requires none_back { cpu.old.back ≡ [] }
         ensures takes { IfOk result (λ head. TakesBlock group order head self.old self.new) }
         ensures refuses { IfErr result (λ fault. RefusesBlock group order fault self.old self.new) }
@@ -64,7 +65,7 @@ impl<N: BootName> Machine<N> {
             (block_steps group order result) (side self.new cpu.new) }
     {
         let pages = order.frames();
-        self.see_usage(tables, cpu);
+        let _number = cpu.number(); // For the clauses.
         let _tree = self.charges.tree(); // For the clauses.
         if let Err(over) = self.charges.try_charge(group, pages) {
             return Err(TakeFault::Over(over));

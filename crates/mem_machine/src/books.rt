@@ -7,10 +7,10 @@ ghost use Rattle.frame_word.specs.Seats.{seat_with};
 ghost use Rattle.stock_word.specs.Stock.{account_of, drained_of, first_zone_stock, group_of, is_held, pages_of};
 ghost use Rattle.stock_word.specs.Stock.{stocked};
 ghost use Rattle.stock_word.specs.Kinds.{after_fill, draining, filling, with_steps};
-ghost use Rattle.stock_word.specs.Calls.{after_look, steps_of_drain, with_view};
+ghost use Rattle.stock_word.specs.Calls.{after_look, with_view};
 ghost use Rattle.cpu_part.specs.Calls.{CanTake, HandsFresh, TakesFront};
 ghost use Rattle.mem_machine.specs.Machines.{IsCpuOf, pages_booked};
-ghost use Rattle.mem_machine.specs.Settling.{IsVisitedAt, KnowsFresh, after_page_absorbed};
+ghost use Rattle.mem_machine.specs.Settling.{IsVisitedAt, KnowsFresh, with_page_absorbed};
 ghost use Rattle.mem_machine.specs.Stocks.{FitsStock};
 
 use cpu_part::{BootName, Cpu, Tables};
@@ -84,13 +84,11 @@ impl<N: BootName> Books<N> {
         Some(GroupId::of(number).unwrap())
     }
 
-    /// Drains the stock of the processor, which is of this group, as `StockWords::drain` does.
+    /// Drains the stock of the processor, which is of this group, as `StockWords::drain` does: by a look and a swap.
     pub(crate) fn drain(&mut self, tables: &Tables<N>, processor: u32, group: GroupId) -> u32
         requires processor { IsCpuOf N.frames processor }
         requires group { (account_of self.old.view processor).group ≡ Some group }
-        ensures seat { self.new ≡ with_view self.old
-            (with_steps (steps_of_drain (account_of self.old.view processor).group)
-            (draining self.old.view processor result)) }
+        ensures seat { self.new ≡ with_view self.old (with_steps 2 (draining self.old.view processor result)) }
         ensures booked { result ≤ (account_of self.old.view processor).book }
         ensures drained_before { (account_of self.old.view processor).filled ≡ false → result ≡ 0 }
     {
@@ -165,7 +163,7 @@ impl<N: BootName> Books<N> {
         ensures known { KnowsFresh N.frames zone.old self.old cpu.old result }
         ensures cpu { HandsFresh result cpu.old cpu.new }
         ensures zone { zone.new ≡ seat_with zone.old result (collected_from cpu.old.number) }
-        ensures seat { self.new ≡ after_page_absorbed self.old cpu.old.number }
+        ensures seat { self.new ≡ with_page_absorbed self.old cpu.old.number }
     {
         let number = cpu.number();
         let Some(frame) = cpu.hand_fresh(tables, zone, &mut self.seat) else {

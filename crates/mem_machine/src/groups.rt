@@ -1,18 +1,17 @@
 //! The groups: made, removed, limited, noted and killed.
 
-ghost use Rattle.std.specs.Prelude.{◌≡◌, ◌≢◌, ℕ, IsTrue, IfOk, OnErr, false, true, slice_set};
+ghost use Rattle.std.specs.Prelude.{◌≡◌, ◌≢◌, IsTrue, IfOk, OnErr, false, true, slice_set, []};
 ghost use Rattle.std.specs.Result.{result_err};
 ghost use Rattle.group_tree.specs.Groups.{has_group, has_child, make_fault};
 ghost use Rattle.group_charge.specs.Charges.{current_of, SameUsage, with_group_limit, with_group_removed, with_oom_flag};
 ghost use Rattle.group_charge.specs.Charges.{with_group_kill_noted, with_kill_noted, with_max_noted, with_oom_noted};
-ghost use Rattle.step_rules.specs.Usage.{usage_of};
 ghost use Rattle.mem_machine.specs.Machines.{is_killed, AddsGroup, Visits};
-ghost use Rattle.mem_machine.specs.Local.{Makes, MakesForAny, side, local_of};
+ghost use Rattle.mem_machine.specs.Local.{Makes, MakesForAny, side};
 ghost use Rattle.mem_machine.specs.Steps.{kill_steps, note_group_kill_steps, note_max_steps, note_oom_steps};
 ghost use Rattle.mem_machine.specs.Steps.{make_steps, remove_steps, set_max_steps, set_oom_group_steps};
 
 use crate::machine::Machine;
-use cpu_part::{BootName, Cpu, Tables};
+use cpu_part::{BootName, Cpu};
 use group_tree::fault::Fault;
 use group_tree::group::GroupId;
 
@@ -81,34 +80,20 @@ impl<N: BootName> Machine<N> {
         Ok(group)
     }
 
-    /// Shows that the usage of each group which the rules of the steps count, in pages, is that of the charges: frames
-    /// that the processor has fresh, which the rules count as kept, are in its stock's book. One look at the
-    /// processor's stock, which changes nothing.
-    pub fn see_usage(&mut self, tables: &Tables<N>, cpu: &mut Cpu<N>)
-        requires { Visits N.frames (side self.old cpu.old) }
-        ensures usage { (group : ℕ)
-            → usage_of (local_of N.frames self.old cpu.old) group ≡ current_of self.old.ledger group }
-        ensures machine { self.new ≡ self.old }
-        ensures cpu { cpu.new ≡ cpu.old }
-    {
-        let _number = cpu.number(); // For the clauses.
-        let _last = cpu.last_stock(); // For the clauses.
-        let _tree = self.charges.tree(); // For the clauses.
-        let _stock = self.stock_seat.look(tables, cpu);
-    }
-
-    /// Takes out a group that is there, other than the root, with no group below it and nothing charged.
-    pub fn remove(&mut self, tables: &Tables<N>, cpu: &mut Cpu<N>, group: GroupId)
-        requires visit { Visits N.frames (side self.old cpu.old) }
+    /// Removes a group that is there, other than the root, with no group below it and nothing charged. The processor has
+    /// no fresh frame, as once it was settled.
+    pub fn remove(&mut self, cpu: &Cpu<N>, group: GroupId)
+        requires visit { Visits N.frames (side self.old cpu.now) }
         requires there { IsTrue (has_group self.old.ledger.groups group) }
         requires leaf { has_child self.old.ledger.groups group ≡ false }
         requires below_root { group ≢ 0 }
         requires empty { current_of self.old.ledger group ≡ 0 }
+        requires none_fresh { cpu.now.fresh ≡ [] }
         ensures machine { self.new ≡ record self.old { ledger = with_group_removed self.old.ledger group } }
-        ensures cpu { cpu.new ≡ cpu.old }
-        ensures steps { Makes N.frames (side self.old cpu.old) (remove_steps group) (side self.new cpu.new) }
+        ensures steps { Makes N.frames (side self.old cpu.now) (remove_steps group) (side self.new cpu.now) }
     {
-        self.see_usage(tables, cpu);
+        let _number = cpu.number(); // For the clauses.
+        let _tree = self.charges.tree(); // For the clauses.
         self.charges.remove(group);
     }
 

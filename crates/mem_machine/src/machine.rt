@@ -3,7 +3,6 @@
 ghost use Rattle.std.specs.Prelude.{◌≡◌, IfOk};
 ghost use Rattle.frame_word.specs.Seats.{first_zone_view};
 ghost use Rattle.stock_word.specs.Stock.{first_zone_stock};
-ghost use Rattle.stock_word.specs.Calls.{uncounted};
 ghost use Rattle.mem_machine.specs.Machines.{IsConsistent, IsFirst};
 
 use crate::books::Books;
@@ -21,8 +20,7 @@ use std::marker::{Model, PhantomData};
 use stock_word::StockSeat;
 use zone_buddy::buddy::Buddy;
 
-/// What stands behind the zone's lock. What always holds of its parts together is `IsConsistent`. A contract doesn't
-/// see how many steps its seat at the stocks made.
+/// What stands behind the zone's lock. What always holds of its parts together is `IsConsistent`.
 #[derive(Drop)]
 pub struct Machine<N: BootName> {
     // The free areas: the maximal blocks of the frames whose record is Free.
@@ -108,7 +106,7 @@ impl<N: BootName> Machine<N> {
     /// stocks'.
     pub fn into_seats(self) -> (FrameSeat, StockSeat)
         ensures frame_seat { result.0 ≡ self.frame_seat }
-        ensures stock_seat { uncounted result.1 ≡ self.stock_seat }
+        ensures stock_seat { result.1 ≡ self.stock_seat }
         ensures consistent { IsConsistent N.frames N.stocks self }
     {
         let Machine {

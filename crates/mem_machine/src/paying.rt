@@ -3,6 +3,7 @@
 ghost use Rattle.std.specs.Prelude.{◌≡◌, ℕ, ◌<◌, ◌≤◌, [], length};
 ghost use Rattle.mem_machine.specs.Machines.{Visits};
 ghost use Rattle.mem_machine.specs.Paying.{HasRoomFor, HoldsPage, IsOfSize, IsOwnStock, PaysForFront};
+ghost use Rattle.mem_machine.specs.Stocks.{with_look};
 ghost use Rattle.mem_machine.specs.Local.{Makes, side};
 ghost use Rattle.mem_machine.specs.Steps.{take_front_steps};
 
@@ -13,11 +14,11 @@ use group_tree::group::GroupId;
 use stock_word::Stock;
 
 impl<N: BootName> Machine<N> {
-    /// The processor's own stock: its group, the pages that it holds, and whether it was drained. One look, which
-    /// changes nothing.
+    /// The processor's own stock: its group, the pages that it holds, and whether it was drained. One look, which the
+    /// zone's seat counts.
     pub fn own_stock(&mut self, tables: &Tables<N>, cpu: &mut Cpu<N>) -> Stock
         ensures stock { IsOwnStock (side self.old cpu.old) result }
-        ensures machine { self.new ≡ self.old }
+        ensures machine { self.new ≡ with_look self.old }
         ensures cpu { cpu.new ≡ cpu.old }
     {
         let _number = cpu.number(); // For the clauses.

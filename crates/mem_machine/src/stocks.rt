@@ -4,7 +4,7 @@ ghost use Rattle.std.specs.Prelude.{◌≡◌, ◌<◌, [], Some, IsTrue, OnOk, 
 ghost use Rattle.group_tree.specs.Groups.{has_group, in_subtree};
 ghost use Rattle.mem_machine.specs.Machines.{IsCpuOf, LacksRoom, SideStays, Visits};
 ghost use Rattle.mem_machine.specs.Stocks.{IsDrained, AreDrained, AreOwnDrained, FitsStock, stock_group};
-ghost use Rattle.mem_machine.specs.Stocks.{of_group, of_subtree, Drains, DrainsIf, DrainsBySteps, DrainsNoted};
+ghost use Rattle.mem_machine.specs.Stocks.{of_group, of_subtree, Drains, DrainsBy, DrainsIf, DrainsBySteps, DrainsNoted};
 ghost use Rattle.mem_machine.specs.Stocks.{DrainsGroup, DrainsSubtree, Fills, Prepays, IsOver};
 ghost use Rattle.mem_machine.specs.Stocks.{RefusesGrant, own_fill_steps, prepay_steps, refused_prepay_steps};
 ghost use Rattle.mem_machine.specs.Paying.{MayCharge};
@@ -18,11 +18,11 @@ use group_tree::group::GroupId;
 use kill_notes::note::Note;
 
 impl<N: BootName> Machine<N> {
-    // Drains the stock of the processor, which is of this group, and tells how many pages were in it.
+    // Drains the stock of the processor, which a look found to be of this group, and reports how many pages were in it.
     fn drain_of(&mut self, tables: &Tables<N>, processor: u32, group: GroupId) -> u32
         requires processor { IsCpuOf N.frames processor }
         requires group { stock_group self.old processor ≡ Some group }
-        ensures drains { Drains processor result self.old self.new }
+        ensures drains { DrainsBy 2 processor result self.old self.new }
         ensures steps { MakesForAny N.frames self.old
             (drain_steps processor (stock_group self.old processor) result) self.new }
     {
@@ -34,11 +34,12 @@ impl<N: BootName> Machine<N> {
         pages
     }
 
-    // Drains the stock of the processor, which is of this group, notes that, and tells how many pages were in it.
+    // Drains the stock of the processor, which a look found to be of this group, notes that, and reports how many pages
+    // were in it.
     fn drain_noted(&mut self, tables: &Tables<N>, processor: u32, group: GroupId) -> u32
         requires processor { IsCpuOf N.frames processor }
         requires group { stock_group self.old processor ≡ Some group }
-        ensures drains { DrainsNoted processor result self.old self.new }
+        ensures drains { DrainsNoted 2 processor result self.old self.new }
         ensures steps { MakesForAny N.frames self.old
             (drain_steps processor (stock_group self.old processor) result) self.new }
     {
@@ -163,9 +164,9 @@ impl<N: BootName> Machine<N> {
     }
 
     /// Tries once to prepay `pages` pages (1 to 65,535) of a group that isn't killed. The caller's own stock is drained
-    /// first, and all its pages are taken back; then the pages are charged to the group and fill the stock. Where a
-    /// limit has no room, the error names the lowest such group, and nothing is charged. The processor has no fresh
-    /// frame. In all, at most 2^32 - 1 pages can be charged, as `see_room` tells.
+    /// first, and all its pages are returned, as a look shows; then the pages are charged to the group and fill the
+    /// stock. If a limit has no room, the error names the lowest such group, and nothing is charged. The processor has
+    /// no fresh frame. In all, at most 2^32 - 1 pages can be charged, as `see_room` shows.
     pub fn prepay(
         &mut self,
         tables: &Tables<N>,
@@ -188,7 +189,8 @@ impl<N: BootName> Machine<N> {
     {
         let number = cpu.number();
         self.drain_stock(tables, number);
-        let _emptied = self.own_stock(tables, cpu); // For the clauses.
+        // The drain says how many pages it took, and not that none is left: the look does.
+        let _emptied = self.own_stock(tables, cpu);
         self.fill_stock(tables, cpu, group, pages)
     }
 }

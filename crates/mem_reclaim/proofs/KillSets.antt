@@ -149,7 +149,7 @@ one_killed t limited g m b n had had_is kills marked drained stocks none_kept ke
       kills = record {
         steps = kills.steps;
         kills = record { killed = b; kills = kills.kills; noted = refl };
-        runs = λ c. record { leads = (kills.runs c).leads; follows = (kills.runs c).follows };
+        runs = λ c. record { leads = (kills.runs c).leads; follows = (kills.runs c).follows; counts = (kills.runs c).counts };
         these = record {
           killed = ap kills_in once.front ∙ ap (λ (l : List ℕ). g ∷ l) (quiet_kills once.later once.quiet);
           no_miss = λ f.
@@ -288,7 +288,7 @@ subtree_killed t limited head m a b n noted so_a counted usage runs =
         kills = record { between = b; killing = killing; kills = so.kills.kills; counted = counted; steps_are = refl };
         runs = λ c.
             makes_both t c.number killing (note_group_kill_steps head) (side m c) (side b c) (side n c)
-            (record { leads = (so.kills.runs c).leads; follows = (so.kills.runs c).follows }) (runs c);
+            (record { leads = (so.kills.runs c).leads; follows = (so.kills.runs c).follows; counts = (so.kills.runs c).counts }) (runs c);
         these = record {
           killed = kills_both killing (note_group_kill_steps head) ∙ append-nil (kills_in killing) ∙ these.killed;
           no_miss = λ f.
@@ -346,7 +346,7 @@ victim_killed t limited killed m a n told head_a flag flag_a so_flag =
         head_is = subst (λ (x : KnownMachine). IsHead x.ledger.groups limited killed) told.machine head_a;
         steps = so.kills.steps;
         kills = so.kills.kills;
-        runs = λ c. record { leads = (so.kills.runs c).leads; follows = (so.kills.runs c).follows };
+        runs = λ c. record { leads = (so.kills.runs c).leads; follows = (so.kills.runs c).follows; counts = (so.kills.runs c).counts };
         these = record { killed = so.kills.these.killed; no_miss = so.kills.these.no_miss; returned = so.kills.these.returned };
       };
       marked = so.marked;

@@ -28,7 +28,7 @@ use Rattle.mem_machine.specs.Ageing.{entries_in}
 use Rattle.mem_machine.specs.Lists.{LeavesList}
 use Rattle.mem_machine.specs.Releasing.{Releases, release_steps}
 use Rattle.mem_machine.specs.Steps.{Drain, drain_stocks_steps, kill_steps, drain_steps}
-use Rattle.mem_machine.specs.Stocks.{AreOwnDrained, DrainsNoted, DrainsIf, DrainsAllIf, DrainsGroup, of_group, stock_group, uncharged}
+use Rattle.mem_machine.specs.Stocks.{AreOwnDrained, DrainsNoted, DrainsIf, DrainsAllIf, DrainsGroup, of_group, steps_to_drain, stock_group, uncharged}
 use Rattle.mem_machine.proofs.Draining.{drained_at, groups_stay}
 use Rattle.std.proofs.lemmas.List.Folds.{list_any-append}
 use Rattle.std.proofs.lemmas.List.Sums.{sum_by-append}
@@ -332,8 +332,8 @@ one_drains test q m n drains h = record {
   ];
 }
 
-drain_leaves : (m n : KnownMachine) (q pages : ℕ) → DrainsNoted q pages m n → OnlyDrains m n → LeavesUnits m n
-drain_leaves m n q pages d stocks = record {
+drain_leaves : (m n : KnownMachine) (steps q pages : ℕ) → DrainsNoted steps q pages m n → OnlyDrains m n → LeavesUnits m n
+drain_leaves m n steps q pages d stocks = record {
   groups = ap (λ (x : KnownMachine). x.ledger.groups) d.drains.machine ∙ groups_stay m.ledger (stock_group m q) pages;
   frame_seat = ap (λ (x : KnownMachine). x.frame_seat) d.drains.machine;
   links = ap (λ (x : KnownMachine). x.links) d.drains.machine;
@@ -356,7 +356,7 @@ one_leaves test q m n [] h = record {
   usage = λ g. let e = ap (λ (x : KnownMachine). current_of x.ledger g) h.1 in omega (arith, e);
   stocks = one_drains test q m n [] h;
 }
-one_leaves test q m n (drain ∷ []) h = drain_leaves m n q drain.pages h.1.drains (one_drains test q m n (drain ∷ []) h)
+one_leaves test q m n (drain ∷ []) h = drain_leaves m n (steps_to_drain (stock_group m q)) q drain.pages h.1.drains (one_drains test q m n (drain ∷ []) h)
 one_leaves test q m n (one ∷ two ∷ more) h = absurd h
 
 pub drains_leave : (test : List Group → Option ℕ → Bool) (k : ℕ) (m n : KnownMachine) (drains : List Drain) → DrainsAllIf test k drains m n → LeavesUnits m n

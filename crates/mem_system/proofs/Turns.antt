@@ -5,8 +5,7 @@ use Rattle.std.specs.Prelude.{slice_set}
 use Rattle.std.proofs.lemmas.Bool.{cases_lt, cases_eq}
 use Rattle.frame_word.specs.Seats.{KnownTable}
 use Rattle.stock_word.specs.declared.view.Account.{Account}
-use Rattle.stock_word.specs.declared.view.StockView.{StockView}
-use Rattle.stock_word.specs.Stock.{Seated, account_of}
+use Rattle.stock_word.specs.Stock.{Seated, account_at, account_of}
 use Rattle.stock_word.specs.Kinds.{draining}
 use Rattle.cpu_part.specs.Cpus.{KnownCpu}
 use Rattle.mem_machine.specs.declared.spot.Spot.{Spot}
@@ -110,13 +109,13 @@ emptied_alone m entered x y n c1 c2 frames p q k opened takes drains shut =
     let taken = taken_alone frames entered c1 x c2 takes in
     let spots : n.spots ≡ x.spots = ap (λ (z : KnownMachine). z.spots) shut ∙ ap (λ (z : KnownMachine). z.spots) drains.machine in
     let first : entered.spots ≡ m.spots = ap (λ (z : KnownMachine). z.spots) opened in
-    let view : n.stock_seat.view ≡ draining m.stock_seat.view q k =
-    ap (λ (z : KnownMachine). z.stock_seat.view) shut ∙ ap (λ (z : KnownMachine). z.stock_seat.view) drains.machine
-    ∙ ap (λ (z : Seated). draining z.view q k) (taken.stock_seat ∙ ap (λ (z : KnownMachine). z.stock_seat) opened) in
+    let accounts : n.stock_seat.view.accounts ≡ (draining m.stock_seat.view q k).accounts =
+    ap (λ (z : KnownMachine). z.stock_seat.view.accounts) shut ∙ ap (λ (z : KnownMachine). z.stock_seat.view.accounts) drains.machine
+    ∙ ap (λ (z : Seated). (draining z.view q k).accounts) (taken.stock_seat ∙ ap (λ (z : KnownMachine). z.stock_seat) opened) in
     record {
       none_lent = λ r none f is. none f (sym (ap (λ (l : List Spot). spot_at l f) first)
           ∙ taken.lent f r (sym (ap (λ (l : List Spot). spot_at l f) spots) ∙ is));
-      drained = λ r was. ap (λ (v : StockView). (account_of v r).filled) view ∙ elim (cases_eq r q) [
+      drained = λ r was. ap (λ (l : List Account). (account_at l r).filled) accounts ∙ elim (cases_eq r q) [
         | inl e ↦ ap (λ (j : ℕ). (account_of (draining m.stock_seat.view q k) j).filled) e ∙ ap (λ (a : Account). a.filled) (drained_at m.stock_seat.view q k)
         | inr ne ↦ ap (λ (a : Account). a.filled) (drained_else m.stock_seat.view q k r ne) ∙ was
       ];

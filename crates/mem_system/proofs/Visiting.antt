@@ -62,7 +62,7 @@ served t cmd l k c d reply entered mid x c1 c2 c3 opened same second third shut 
     let three : c3.number ≡ p = third ∙ two in
     let before : KnownMachine × KnownCpu → Type 0 = λ (y : KnownMachine × KnownCpu). MakesAs t p (side l.machine c) (open_steps p) (side y.0 y.1) in
     let begun : MakesAs t p (side l.machine c) (open_steps p) (side begins c) =
-    subst before (λ i. (opened i, same i)) (record { leads = first.leads; follows = first.follows }) in
+    subst before (λ i. (opened i, same i)) (record { leads = first.leads; follows = first.follows; counts = first.counts }) in
     let settled : Settles (side begins c) (side mid c2) = subst (λ (y : KnownMachine × KnownCpu). Settles (side y.0 y.1) (side mid c2)) (λ i. (opened i, same i)) settles in
     let rested : MakesAs t p (side begins c) (settle_steps (side begins c)) (side mid c2) =
     subst (λ (y : KnownMachine × KnownCpu). MakesAs t y.1.number (side y.0 y.1) (settle_steps (side y.0 y.1)) (side mid c2)) (λ i. (opened i, same i)) rests in

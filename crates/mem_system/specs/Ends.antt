@@ -151,7 +151,8 @@ pub record HasNoPage (machine : KnownMachine) (stock_words : List ℕ) (processo
   pub none_reported : slice_index stock_words (report_place processor) ≡ 0
   pub book : (account_of machine.stock_seat.view processor).book ≡ 0
 
--- The end of a boot where no pin remains: each processor is settled, each list is given back and each stock drained.
+-- The end of a boot where no pin remains: each processor is settled, each list is given back and each stock drained, by
+-- steps by which the machine's counts rise.
 -- No frame is lent to anyone then, the closed words tell each processor's stock, no page is in one, and the audit
 -- tells what was counted
 pub record Ends (table : KnownTable) (stock_table : Words) (locked : KnownLocked) (cpus : List KnownCpu)

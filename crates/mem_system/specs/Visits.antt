@@ -71,7 +71,8 @@ pub record Serves (cmd : Cmd) (reply : Reply) (way : Course Holder) : Type 0 whe
   pub sizes : way.after.locked.sizes ≡ way.before.locked.sizes
   pub steps_are : way.steps ≡ visit_steps (side_of way.before) inner
 
--- a command was served under the lock, and this was its reply: these steps lead from the one holder to the other
+-- a command was served under the lock, and this was its reply: these steps lead from the one holder to the other, and the
+-- machine's counts rise by what they count
 pub record IsServed (table : KnownTable) (cmd : Cmd) (reply : Reply) (before after : Holder) : Type 0 where
   pub steps : Run
   pub serves : Serves cmd reply (course table before steps after)

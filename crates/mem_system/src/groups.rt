@@ -1,6 +1,6 @@
 //! Groups made and taken out.
 
-ghost use Rattle.std.specs.Prelude.{◌≡◌, ◌<◌, MatchResult};
+ghost use Rattle.std.specs.Prelude.{◌≡◌, ◌<◌, [], MatchResult};
 ghost use Rattle.mem_machine.specs.Machines.{KeepsVisit, Visits};
 ghost use Rattle.mem_system.specs.Leaves.{IsLeafAt, HasNoLeaf};
 ghost use Rattle.mem_system.specs.Outcomes.{ComesTo, ComesToForAny, HasItsGroups};
@@ -53,7 +53,8 @@ pub(crate) fn remove_group<N: BootName>(
     cpu: &mut Cpu<N>,
     path: &[u8],
 ) -> Outcome
-    requires { Visits N.frames (side machine.old cpu.old) }
+    requires visit { Visits N.frames (side machine.old cpu.old) }
+    requires none_fresh { cpu.old.fresh ≡ [] }
     ensures removed { ComesTo N.frames result (λ reply. OfMachine (Removes path.now reply))
         (side machine.old cpu.old) (side machine.new cpu.new) }
     ensures cpu { cpu.new ≡ cpu.old }
@@ -68,6 +69,6 @@ pub(crate) fn remove_group<N: BootName>(
     if machine.current(group) > 0 {
         return Outcome::Refused(Fault::Busy);
     }
-    machine.remove(tables, cpu, group);
+    machine.remove(cpu, group);
     Outcome::Done
 }

@@ -63,6 +63,7 @@ use Rattle.script_replay.specs.declared.work.Work.TheVariants as work
 use Rattle.script_replay.specs.Answers.{RepliesServed, GetsPin, PutsPin, CanNotList, AnswersRelease, AnswersFrame, IsServedUnderLock, SettlesUnderLock}
 use Rattle.script_replay.specs.Answers.{AnswersWork, WritesWork, fast_steps, get_steps, put_steps}
 use Rattle.script_replay.specs.Ranges.{WorkInRange}
+use Rattle.mem_machine.specs.Counting.{counts_over}
 use Rattle.mem_machine.specs.Following.{FollowsSteps}
 
 -- ---- what no one sees
@@ -178,6 +179,7 @@ module _ (t : KnownTable) (w : Words) (run : Run) (locked : KnownLocked) (cpus :
         leads = subst (λ (x : ℕ × State). IsLocalRun x.0 x.1 is.steps (local_of t after.locked.machine after.cpu)) (λ i. (unseen.number i, unseen.same i))
             is.makes.leads;
         follows = subst (λ (x : State). FollowsSteps x m.ledger is.steps after.locked.machine.ledger) unseen.same is.makes.follows;
+        counts = is.makes.counts ∙ ap (λ (x : State). counts_over x is.steps m.counts) unseen.same;
       } in
       let serves : ServesAt t cpus k (side m c) is.steps (side after.locked.machine after.cpu) = record {
         is_part = is_part;

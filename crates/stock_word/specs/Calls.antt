@@ -13,10 +13,6 @@ use Rattle.stock_word.specs.Kinds.{after_took, after_back, draining}
 abbrev pub with_view : Seated → StockView → Seated
 with_view seat view = record { table = seat.table; view = view }
 
--- the seat as contracts show it if its steps aren't counted
-abbrev pub uncounted : Seated → Seated
-uncounted seat = with_view seat (record seat.view { steps = 0 })
-
 -- The CPU's view after it got the answer Drained. If it saw its stock held last, that took one step; if it saw it
 -- drained, none.
 abbrev pub told_drained : StockView → StockView

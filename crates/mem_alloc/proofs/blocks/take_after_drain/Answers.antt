@@ -17,6 +17,9 @@ take_block-requires-clause-charges g c =
       fits = subst (λ l. current_of l 0 + 2 ^ c.args.order < 2 ^ 32) (sym part.ledger) c.requires.room.charges.fits;
     }
 
+pub take_block-requires-clause-none_fresh : goal.take_block-requires-clause-none_fresh
+take_block-requires-clause-none_fresh g c = (back_part _ _ _ _ _ c.drain_list.ensures.takes).fresh ∙ c.requires.settled.0
+
 pub take_block-requires-clause-none_back : goal.take_block-requires-clause-none_back
 take_block-requires-clause-none_back g c = (back_part _ _ _ _ _ c.drain_list.ensures.takes).back ∙ c.requires.settled.1
 
@@ -62,6 +65,10 @@ take_in_rounds-requires-clause-room g c =
     let fits = subst (λ l. current_of l 0 + 2 ^ c.args.order < 2 ^ 32) (sym part.ledger) c.requires.room.charges.fits in
     none_leaves g.N.BootName.frames c.args.group c.args.order c.drain_list.new.self c.take_block.new.self c.drain_list.new.cpu
     c.take_block.new.cpu none (ap (λ l. is_killed l c.args.group) part.killed ∙ c.requires.room.charges.alive) there fits
+
+pub take_in_rounds-requires-clause-none_fresh : goal.take_in_rounds-requires-clause-none_fresh
+take_in_rounds-requires-clause-none_fresh g c =
+    ap (λ (e : KnownCpu). e.fresh) c.in-Err-NoBlock.ensures.cpu ∙ (back_part _ _ _ _ _ c.drain_list.ensures.takes).fresh ∙ c.requires.settled.0
 
 pub take_in_rounds-requires-clause-none_back : goal.take_in_rounds-requires-clause-none_back
 take_in_rounds-requires-clause-none_back g c =

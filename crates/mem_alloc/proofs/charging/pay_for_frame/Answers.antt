@@ -1,8 +1,37 @@
-use Rattle.std.proofs.Common.{sym, ap, ◌∙◌}
+use Rattle.std.proofs.Common.{sym, refl, ap, ◌∙◌}
 use Rattle.std.proofs.lemmas.Bool.{false≢true}
-use Rattle.mem_machine.proofs.Prepaying.{emptied_drained}
-use Rattle.mem_alloc.proofs.Filling.{pays_anew, charged_page}
+use Rattle.group_tree.specs.Groups.{has_group}
+use Rattle.mem_machine.specs.Machines.{KnownMachine, is_killed}
+use Rattle.mem_machine.proofs.Prepaying.{emptied_alive, emptied_drained, emptied_has, emptied_visits}
+use Rattle.mem_alloc.proofs.Filling.{charged_page, looked_page, looked_visit, pays_anew, pays_none}
 use Rattle.mem_alloc.proofs.charging.pay_for_frame.Goals as goal
+
+pub returns-then-holds_page : goal.returns-then-holds_page
+returns-then-holds_page g c =
+    let t = g.N.BootName.frames in
+    let looked = c.holds_page.ensures in
+    let page = looked.holds.0 c.if-holds_page.true in
+    record {
+      pays = pays_none t _ _ _ _ looked.machine looked.cpu c.args.sizes c.args.group page;
+      visit = looked_visit t _ _ _ _ looked.machine looked.cpu c.requires.visit;
+      page = looked_page t _ _ _ _ looked.machine looked.cpu c.args.group page;
+    }
+
+pub charge_frame-requires-clause-visit : goal.charge_frame-requires-clause-visit
+charge_frame-requires-clause-visit g c =
+    let t = g.N.BootName.frames in
+    emptied_visits _ _ _ _ _ c.number-number.ensures.number c.drain_stock.ensures.drains t _
+    (looked_visit t _ _ _ _ c.holds_page.ensures.machine c.holds_page.ensures.cpu c.requires.visit)
+
+pub charge_frame-requires-clause-there : goal.charge_frame-requires-clause-there
+charge_frame-requires-clause-there g c =
+    emptied_has _ _ _ _ _ c.number-number.ensures.number c.drain_stock.ensures.drains c.args.group
+    (ap (λ (x : KnownMachine). has_group x.ledger.groups c.args.group) c.holds_page.ensures.machine ∙ c.requires.there)
+
+pub charge_frame-requires-clause-alive : goal.charge_frame-requires-clause-alive
+charge_frame-requires-clause-alive g c =
+    emptied_alive _ _ _ _ _ c.number-number.ensures.number c.drain_stock.ensures.drains c.args.group
+    (ap (λ (x : KnownMachine). is_killed x.killed c.args.group) c.holds_page.ensures.machine ∙ c.requires.alive)
 
 pub charge_frame-requires-clause-drained : goal.charge_frame-requires-clause-drained
 charge_frame-requires-clause-drained g c = emptied_drained _ _ _ _ _ c.number-number.ensures.number c.drain_stock.ensures.drains
@@ -10,7 +39,7 @@ charge_frame-requires-clause-drained g c = emptied_drained _ _ _ _ _ c.number-nu
 pub returns-clause-pays : goal.returns-clause-pays
 returns-clause-pays g c =
     pays_anew g.N.BootName.frames c.drain_stock.result c.number-number.result _ _ _ _ _ c.holds_page.ensures.machine
-    c.holds_page.ensures.cpu c.number-number.ensures.number c.drain_stock.ensures.drains c.drain_stock.ensures.steps c.args.sizes c.args.group _ _
+    c.holds_page.ensures.cpu c.number-number.ensures.number c.drain_stock.ensures.drains c.drain_stock.ensures.steps c.args.sizes c.args.group _ _ _ refl
     (λ page. false≢true (sym c.if-holds_page.false ∙ c.holds_page.ensures.holds.1 page)) c.charge_frame.result c.charge_frame.ensures.charges
 
 pub returns-clause-page : goal.returns-clause-page

@@ -21,10 +21,10 @@ current-requires g c =
     (leaf_keeps _ _ _ _ (lowered_groups g.N.BootName.frames _ _ _ _ c.lower_usage.ensures) leaf).0
 
 pub returns-then-current-gt0-clause-stays : goal.returns-then-current-gt0-clause-stays
-returns-then-current-gt0-clause-stays g c = lowered_visit g.N.BootName.frames _ _ _ _ _ c.lower_usage.ensures c.requires
+returns-then-current-gt0-clause-stays g c = lowered_visit g.N.BootName.frames _ _ _ _ _ c.lower_usage.ensures c.requires.visit
 
 pub remove-requires-clause-visit : goal.remove-requires-clause-visit
-remove-requires-clause-visit g c = (lowered_visit g.N.BootName.frames _ _ _ _ _ c.lower_usage.ensures c.requires).visit
+remove-requires-clause-visit g c = (lowered_visit g.N.BootName.frames _ _ _ _ _ c.lower_usage.ensures c.requires.visit).visit
 
 pub remove-requires-clause-there : goal.remove-requires-clause-there
 remove-requires-clause-there g c =
@@ -54,7 +54,7 @@ returns-clause-removed g c =
         steps_are = refl;
       };
       makes = makes_both t before.number lowers.steps (remove_steps c.in-Ok.group) (side c.args.machine.now before)
-          (side c.lower_usage.new.machine before) (side c.remove.new.self c.remove.new.cpu)
+          (side c.lower_usage.new.machine before) (side c.remove.new.self before)
           (lowers.makes before) c.remove.ensures.steps;
     }
 
@@ -65,10 +65,9 @@ returns-clause-stays g c =
     let x = c.lower_usage.new.machine in
     let n = c.remove.new.self in
     let before = c.args.cpu.now in
-    let first = lowered_visit t c.in-Ok.group _ m x before c.lower_usage.ensures c.requires in
+    let first = lowered_visit t c.in-Ok.group _ m x before c.lower_usage.ensures c.requires.visit in
     let last = visit_keeps t x n before (ap (λ (k : KnownMachine). k.frame_seat) c.remove.ensures.machine) first.visit in
-    subst (λ (y : KnownCpu). KeepsVisit t (side m before) (side n y)) (sym c.remove.ensures.cpu)
-    (visit_both t m x n before first last)
+    visit_both t m x n before first last
 
 pub returns-then-current-gt0-clause-removed : goal.returns-then-current-gt0-clause-removed
 returns-then-current-gt0-clause-removed g c = search rules

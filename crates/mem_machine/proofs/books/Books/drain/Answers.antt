@@ -1,5 +1,7 @@
-use Rattle.std.proofs.Common.{◌≡◌, Some, refl, sym, ap, ◌∙◌}
+use Rattle.std.proofs.Common.{◌≡◌, ℕ, Option, Some, refl, sym, ap, ◌∙◌}
 use Rattle.stock_word.specs.Stock.{Seated, account_of}
+use Rattle.stock_word.specs.Kinds.{draining, with_steps}
+use Rattle.stock_word.specs.Calls.{steps_of_drain, with_view}
 use Rattle.mem_machine.proofs.Booking.{after_drain, within_count}
 use Rattle.mem_machine.proofs.books.Books.drain.Goals as goal
 
@@ -18,3 +20,11 @@ invariant_of-self g c =
     after_drain g.N.BootName.frames g.N.BootName.stocks _ _ c.self.invariant c.args.processor c.number-number.result _ c.requires.processor.1
     c.number-number.ensures.below group
     _ refl c.drain-pages.ensures.booked _ _ c.drain-pages.ensures.machine
+
+pub returns-clause-seat : goal.returns-clause-seat
+returns-clause-seat g c =
+    let group : (account_of c.self.inside.seat.view c.args.processor).group ≡ Some c.args.group =
+    ap (λ (x : Seated). (account_of x.view c.args.processor).group) c.self.view_is ∙ c.requires.group in
+    c.drain-pages.ensures.machine
+    ∙ ap (λ (o : Option ℕ). with_view c.self.inside.seat (with_steps (steps_of_drain o) (draining c.self.inside.seat.view c.args.processor c.drain-pages.result))) group
+    ∙ ap (λ (x : Seated). with_view x (with_steps 2 (draining x.view c.args.processor c.drain-pages.result))) c.self.view_is

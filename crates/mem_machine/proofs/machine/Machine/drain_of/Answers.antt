@@ -1,5 +1,4 @@
-use Rattle.std.proofs.Common.{◌≡◌, ◌≤◌, Some, rules, refl, ap}
-use Rattle.stock_word.specs.Calls.{uncounted}
+use Rattle.std.proofs.Common.{◌≡◌, ◌≤◌, Some, rules, refl}
 use Rattle.mem_machine.proofs.Draining.{drained_all, drained_none, drained_within, some_not_none}
 use Rattle.mem_machine.proofs.machine.Machine.drain_of.Goals as goal
 
@@ -19,38 +18,38 @@ uncharge-requires-clause-charged g c =
 
 pub invariant_of-self : goal.invariant_of-self
 invariant_of-self g c = record {
-  consistent = (drained_all g.N.BootName.frames g.N.BootName.stocks _ _ _ _ c.self.view_is c.self.invariant.consistent
+  consistent = (drained_all g.N.BootName.frames g.N.BootName.stocks _ _ 2 _ _ c.self.view_is c.self.invariant.consistent
       (λ some. c.tree-tree.ensures.legal) c.requires.processor.0 c.requires.processor.1
       c.drain-pages.ensures.booked c.drain-pages.ensures.drained_before (Some c.args.group) c.requires.group (some_not_none _ _) _ _
       c.uncharge.ensures.uncharged
-      (ap uncounted c.drain-pages.ensures.seat)).consistent;
+      c.drain-pages.ensures.seat).consistent;
   free = c.self.invariant.free;
 }
 
 pub invariant_of-self-else-pages-gt0 : goal.invariant_of-self-else-pages-gt0
 invariant_of-self-else-pages-gt0 g c =
     let none : c.drain-pages.result ≡ 0 = search rules in record {
-      consistent = (drained_all g.N.BootName.frames g.N.BootName.stocks _ _ _ _ c.self.view_is c.self.invariant.consistent
+      consistent = (drained_all g.N.BootName.frames g.N.BootName.stocks _ _ 2 _ _ c.self.view_is c.self.invariant.consistent
           (λ some. c.tree-tree.ensures.legal) c.requires.processor.0 c.requires.processor.1
           c.drain-pages.ensures.booked c.drain-pages.ensures.drained_before (Some c.args.group) c.requires.group (some_not_none _ _) _ _
-          (drained_none c.self.inside.charges (Some c.args.group) _ none) (ap uncounted c.drain-pages.ensures.seat)).consistent;
+          (drained_none c.self.inside.charges (Some c.args.group) _ none) c.drain-pages.ensures.seat).consistent;
       free = c.self.invariant.free;
     }
 
 pub returns-then-pages-gt0-clause-steps : goal.returns-then-pages-gt0-clause-steps
 returns-then-pages-gt0-clause-steps g c =
-    (drained_all g.N.BootName.frames g.N.BootName.stocks _ _ _ _ c.self.view_is c.self.invariant.consistent
+    (drained_all g.N.BootName.frames g.N.BootName.stocks _ _ 2 _ _ c.self.view_is c.self.invariant.consistent
     (λ some. c.tree-tree.ensures.legal) c.requires.processor.0 c.requires.processor.1
     c.drain-pages.ensures.booked c.drain-pages.ensures.drained_before (Some c.args.group) c.requires.group (some_not_none _ _) _ _
-    c.uncharge.ensures.uncharged (ap uncounted c.drain-pages.ensures.seat)).steps
+    c.uncharge.ensures.uncharged c.drain-pages.ensures.seat).steps
 
 pub returns-else-pages-gt0 : goal.returns-else-pages-gt0
 returns-else-pages-gt0 g c =
     let none : c.drain-pages.result ≡ 0 = search rules in
-    let all = drained_all g.N.BootName.frames g.N.BootName.stocks _ _ _ _ c.self.view_is c.self.invariant.consistent
+    let all = drained_all g.N.BootName.frames g.N.BootName.stocks _ _ 2 _ _ c.self.view_is c.self.invariant.consistent
     (λ some. c.tree-tree.ensures.legal) c.requires.processor.0 c.requires.processor.1
     c.drain-pages.ensures.booked c.drain-pages.ensures.drained_before (Some c.args.group) c.requires.group (some_not_none _ _) _ _
-    (drained_none c.self.inside.charges (Some c.args.group) _ none) (ap uncounted c.drain-pages.ensures.seat) in
+    (drained_none c.self.inside.charges (Some c.args.group) _ none) c.drain-pages.ensures.seat in
     record { drains = all.drains; steps = all.steps }
 
 pub returns-then-pages-gt0-clause-drains : goal.returns-then-pages-gt0-clause-drains

@@ -1,5 +1,4 @@
-use Rattle.std.proofs.Common.{◌≡◌, ◌<◌, rules, ap}
-use Rattle.stock_word.specs.Calls.{uncounted}
+use Rattle.std.proofs.Common.{◌≡◌, ◌<◌, rules}
 use Rattle.mem_machine.proofs.Fresh.{drop_all, was_fresh, drop_charged, drop_in_use}
 use Rattle.mem_machine.proofs.machine.Machine.drop_one.Goals as goal
 
@@ -32,7 +31,7 @@ invariant_of-self g c =
     e.known.booked e.known.group c.requires.group fits in
     let u = c.free_unit.ensures in
     let all = (drop_all g.N.BootName.frames g.N.BootName.stocks _ _ c.self.view_is c.args.cpu.now _ c.number-number.ensures.tied c.self.invariant.consistent
-    c.requires.visit _ _ c.self.invariant.free _ c.args.group was c.requires.killed e.cpu _ c.unwrap-order.result c.number.ensures k0 _ e.zone _ (ap uncounted e.seat)
+    c.requires.visit _ _ c.self.invariant.free _ c.args.group was c.requires.killed e.cpu _ c.unwrap-order.result c.number.ensures k0 _ e.zone _ e.seat
     _ u.spots _ u.frames u.areas _ u.charges _
     c.with_drop-self-inside.ensures) in
     record { consistent = all.consistent; free = all.free_is }
@@ -46,7 +45,7 @@ returns g c =
     e.known.booked e.known.group c.requires.group fits in
     let u = c.free_unit.ensures in
     let all = drop_all g.N.BootName.frames g.N.BootName.stocks _ _ c.self.view_is c.args.cpu.now _ c.number-number.ensures.tied c.self.invariant.consistent
-    c.requires.visit _ _ c.self.invariant.free _ c.args.group was c.requires.killed e.cpu _ c.unwrap-order.result c.number.ensures k0 _ e.zone _ (ap uncounted e.seat)
+    c.requires.visit _ _ c.self.invariant.free _ c.args.group was c.requires.killed e.cpu _ c.unwrap-order.result c.number.ensures k0 _ e.zone _ e.seat
     _ u.spots _ u.frames u.areas _ u.charges _
     c.with_drop-self-inside.ensures in
     record { drops = all.drops; visit = all.visit; steps = all.steps }

@@ -1,10 +1,9 @@
-use Rattle.std.proofs.Common.{refl, rules, ap}
+use Rattle.std.proofs.Common.{refl, rules}
 use Rattle.std.specs.Prelude.{IfErr}
 use Rattle.std.proofs.lemmas.Result.{IfErr-weaker}
 use Rattle.group_tree.specs.Room.{IsLowestOver}
 use Rattle.group_charge.specs.declared.charges.Over.{Over}
 use Rattle.group_charge.specs.Charges.{current_of}
-use Rattle.stock_word.specs.Calls.{uncounted}
 use Rattle.mem_machine.proofs.Booking.{room_booked}
 use Rattle.mem_machine.proofs.Prepaying.{filled_all, refused_all}
 use Rattle.mem_machine.proofs.machine.Machine.fill_stock.Goals as goal
@@ -19,7 +18,7 @@ invariant_of-self-2 g c = record {
   consistent = (filled_all g.N.BootName.frames g.N.BootName.stocks _ _ c.args.cpu.now c.args.group c.args.pages c.self.view_is c.self.invariant.consistent c.tree-tree.ensures.legal
       c.number-number.ensures.tied c.requires.visit c.requires.none_fresh c.requires.pages.1 c.requires.charges.there c.requires.charges.alive
       c.fill.ensures.nothing_booked (c.in_ok-try_charge.ensures.granted.0 refl)
-      _ _ _ _ refl c.in_ok-try_charge.ensures.charged (ap uncounted c.fill.ensures.seat) c.fill.ensures.cpu).consistent;
+      _ _ _ _ refl c.in_ok-try_charge.ensures.charged c.fill.ensures.seat c.fill.ensures.cpu).consistent;
   free = c.self.invariant.free;
 }
 
@@ -28,7 +27,7 @@ returns-clause-steps g c =
     (filled_all g.N.BootName.frames g.N.BootName.stocks _ _ c.args.cpu.now c.args.group c.args.pages c.self.view_is c.self.invariant.consistent c.tree-tree.ensures.legal
     c.number-number.ensures.tied c.requires.visit c.requires.none_fresh c.requires.pages.1 c.requires.charges.there c.requires.charges.alive
     c.fill.ensures.nothing_booked (c.in_ok-try_charge.ensures.granted.0 refl)
-    _ _ _ _ refl c.in_ok-try_charge.ensures.charged (ap uncounted c.fill.ensures.seat) c.fill.ensures.cpu).steps
+    _ _ _ _ refl c.in_ok-try_charge.ensures.charged c.fill.ensures.seat c.fill.ensures.cpu).steps
 
 pub returns-in_err-try_charge-clause-refused : goal.returns-in_err-try_charge-clause-refused
 returns-in_err-try_charge-clause-refused g c =

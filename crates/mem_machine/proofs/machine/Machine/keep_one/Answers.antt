@@ -1,5 +1,4 @@
-use Rattle.std.proofs.Common.{◌≡◌, ◌<◌, rules, ap}
-use Rattle.stock_word.specs.Calls.{uncounted}
+use Rattle.std.proofs.Common.{◌≡◌, ◌<◌, rules}
 use Rattle.mem_machine.proofs.Fresh.{keep_all, was_fresh, in_hand_then}
 use Rattle.mem_machine.proofs.machine.Machine.keep_one.Goals as goal
 
@@ -16,7 +15,7 @@ invariant_of-self g c =
     let a = c.join_list.ensures in
     let all = (keep_all g.N.BootName.frames g.N.BootName.stocks _ _ c.self.view_is c.args.cpu.now _ c.number-number.ensures.tied c.self.invariant.consistent
     c.requires.visit _ c.self.invariant.free _ c.args.group was e.cpu _ c.unwrap-order.result c.number-at.ensures k0 _ _
-    e.zone c.unfreeze.ensures.seat _ (ap uncounted e.seat) _ _
+    e.zone c.unfreeze.ensures.seat _ e.seat _ _
     (record { joins = a.joins; stand = a.lists.stand; frames = a.frames; groups = a.lists.groups })) in
     record { consistent = all.consistent; free = all.free_is }
 
@@ -30,6 +29,6 @@ returns g c =
     let a = c.join_list.ensures in
     let all = keep_all g.N.BootName.frames g.N.BootName.stocks _ _ c.self.view_is c.args.cpu.now _ c.number-number.ensures.tied c.self.invariant.consistent
     c.requires.visit _ c.self.invariant.free _ c.args.group was e.cpu _ c.unwrap-order.result c.number-at.ensures k0 _ _
-    e.zone c.unfreeze.ensures.seat _ (ap uncounted e.seat) _ _
+    e.zone c.unfreeze.ensures.seat _ e.seat _ _
     (record { joins = a.joins; stand = a.lists.stand; frames = a.frames; groups = a.lists.groups }) in
     record { keeps = all.keeps; visit = all.visit; steps = all.steps }

@@ -1,5 +1,4 @@
-use Rattle.std.proofs.Common.{◌≡◌, refl, rules, ap, ◌∙◌}
-use Rattle.stock_word.specs.Calls.{uncounted}
+use Rattle.std.proofs.Common.{◌≡◌, refl, rules, ◌∙◌}
 use Rattle.mem_machine.proofs.First.{starts, first_is}
 use Rattle.mem_machine.proofs.machine.Machine.new.Goals as goal
 
@@ -9,7 +8,7 @@ invariant_of-result g c =
     let kept = starts g.N.BootName.frames g.N.BootName.stocks _ _ c.frames.result
     (first_is g.N.BootName.frames g.N.BootName.stocks _ c.frames.result sized c.in_ok-zone.ensures.spots c.in_ok-charges.ensures.charges
     c.in_ok-zone.ensures.nowhere
-    c.requires.frame_seat (ap uncounted (c.new-2.ensures ∙ c.requires.stock_seat)) c.in_ok-charges.ensures.killed refl c.in_ok-notes.ensures)
+    c.requires.frame_seat (c.new-2.ensures ∙ c.requires.stock_seat) c.in_ok-charges.ensures.killed refl c.in_ok-notes.ensures)
     sized c.in_ok-zone.ensures.frames c.in_ok-charges.ensures.lists c.in_ok-zone.ensures.free
     c.in_ok-zone.ensures.areas c.requires.cpus in
     record { consistent = kept.0; free = kept.1 }
@@ -19,4 +18,4 @@ returns g c =
     let sized : c.frames.result ≡ g.N.BootName.frames.frames = search rules in
     first_is g.N.BootName.frames g.N.BootName.stocks _ c.frames.result sized c.in_ok-zone.ensures.spots c.in_ok-charges.ensures.charges
     c.in_ok-zone.ensures.nowhere
-    c.requires.frame_seat (ap uncounted (c.new-2.ensures ∙ c.requires.stock_seat)) c.in_ok-charges.ensures.killed refl c.in_ok-notes.ensures
+    c.requires.frame_seat (c.new-2.ensures ∙ c.requires.stock_seat) c.in_ok-charges.ensures.killed refl c.in_ok-notes.ensures

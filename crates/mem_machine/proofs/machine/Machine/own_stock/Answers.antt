@@ -1,4 +1,4 @@
-use Rattle.std.proofs.Common.{rules}
+use Rattle.mem_machine.proofs.Draining.{looked_consistent, looked_now}
 use Rattle.mem_machine.proofs.Fronts.{own_is}
 use Rattle.mem_machine.proofs.machine.Machine.own_stock.Goals as goal
 
@@ -8,7 +8,10 @@ returns-clause-stock g c =
     c.look.ensures.balanced c.look.ensures.group c.look.ensures.held
 
 pub invariant_of-self : goal.invariant_of-self
-invariant_of-self g c = search rules
+invariant_of-self g c = record {
+  consistent = looked_consistent g.N.BootName.frames g.N.BootName.stocks _ c.self.invariant.consistent _ c.look.ensures.seat;
+  free = c.self.invariant.free;
+}
 
 pub returns-clause-machine : goal.returns-clause-machine
-returns-clause-machine g c = search rules
+returns-clause-machine g c = looked_now _ _ c.self.view_is _ c.look.ensures.seat

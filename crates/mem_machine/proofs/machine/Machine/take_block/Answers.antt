@@ -1,16 +1,25 @@
-use Rattle.std.proofs.Common.{◌≤◌, ◌<◌, ◌∙◌, ap, refl, rules, arith}
+use Rattle.std.proofs.Common.{ℕ, ◌≤◌, ◌<◌, ◌^◌, ap, refl, sym, subst, ◌∙◌, rules, arith}
+use Rattle.group_tree.specs.Room.{IsLowestOver}
+use Rattle.group_charge.specs.Charges.{current_of}
+use Rattle.mem_machine.specs.Kept.{machine_of}
+use Rattle.mem_machine.specs.Machines.{KnownMachine}
+use Rattle.mem_machine.specs.Local.{MakesAs, side}
+use Rattle.mem_machine.specs.Steps.{over_steps}
+use Rattle.mem_machine.proofs.Prepaying.{refused_all}
 use Rattle.zone_buddy.specs.Zone.{Zone}
+use Rattle.mem_machine.proofs.Usage.{usage_seen, balanced_alone}
 use Rattle.mem_machine.proofs.TakesBlocks.{taken_all, none_all, taken_inside, head_inside, head_free, free_in_hand}
 use Rattle.mem_machine.proofs.machine.Machine.take_block.Goals as goal
 
 pub returns-in_default-take : goal.returns-in_default-take
 returns-in_default-take g c =
-    let all = none_all g.N.BootName.frames g.N.BootName.stocks _ _ (c.self.view_is ∙ c.see_usage.ensures.machine) c.args.cpu.now _ c.see_usage.ensures.cpu
+    let all = none_all g.N.BootName.frames g.N.BootName.stocks _ _ c.self.view_is c.args.cpu.now _ refl
     c.self.invariant.consistent c.tree-tree.ensures.legal c.args.group c.args.order _ c.frames-pages.ensures.frames
     (record {
       visit = c.requires.visit;
       none_back = c.requires.none_back;
-      usage = c.see_usage.ensures.usage;
+      usage = usage_seen g.N.BootName.frames g.N.BootName.stocks _ _ c.self.view_is c.args.cpu.now c.self.invariant.consistent c.tree-tree.ensures.legal
+          c.requires.visit.lent c.number-number.ensures.tied (balanced_alone _ _ c.requires.none_fresh);
       there = c.requires.charges.there;
       alive = c.requires.charges.alive;
     }) (c.in_default.ensures.granted.0 refl) _ _ c.in_default.ensures.charged c.uncharge.ensures.uncharged _
@@ -39,12 +48,13 @@ pub invariant_of-self-2 : goal.invariant_of-self-2
 invariant_of-self-2 g c =
     let fits : c.args.group < 64 = search rules in
     let j = c.join_list.ensures in
-    let all = taken_all g.N.BootName.frames g.N.BootName.stocks _ _ (c.self.view_is ∙ c.see_usage.ensures.machine) c.args.cpu.now _ c.see_usage.ensures.cpu
+    let all = taken_all g.N.BootName.frames g.N.BootName.stocks _ _ c.self.view_is c.args.cpu.now _ refl
     c.self.invariant.consistent c.tree-tree.ensures.legal c.args.group fits c.args.order _ c.frames-pages.ensures.frames
     (record {
       visit = c.requires.visit;
       none_back = c.requires.none_back;
-      usage = c.see_usage.ensures.usage;
+      usage = usage_seen g.N.BootName.frames g.N.BootName.stocks _ _ c.self.view_is c.args.cpu.now c.self.invariant.consistent c.tree-tree.ensures.legal
+          c.requires.visit.lent c.number-number.ensures.tied (balanced_alone _ _ c.requires.none_fresh);
       there = c.requires.charges.there;
       alive = c.requires.charges.alive;
     }) (c.in_default.ensures.granted.0 refl) _ c.in_default.ensures.charged c.in_default.ensures.pages _ _ c.in-Some.block _ c.self.invariant.free
@@ -57,12 +67,13 @@ pub returns : goal.returns
 returns g c =
     let fits : c.args.group < 64 = search rules in
     let j = c.join_list.ensures in
-    let all = taken_all g.N.BootName.frames g.N.BootName.stocks _ _ (c.self.view_is ∙ c.see_usage.ensures.machine) c.args.cpu.now _ c.see_usage.ensures.cpu
+    let all = taken_all g.N.BootName.frames g.N.BootName.stocks _ _ c.self.view_is c.args.cpu.now _ refl
     c.self.invariant.consistent c.tree-tree.ensures.legal c.args.group fits c.args.order _ c.frames-pages.ensures.frames
     (record {
       visit = c.requires.visit;
       none_back = c.requires.none_back;
-      usage = c.see_usage.ensures.usage;
+      usage = usage_seen g.N.BootName.frames g.N.BootName.stocks _ _ c.self.view_is c.args.cpu.now c.self.invariant.consistent c.tree-tree.ensures.legal
+          c.requires.visit.lent c.number-number.ensures.tied (balanced_alone _ _ c.requires.none_fresh);
       there = c.requires.charges.there;
       alive = c.requires.charges.alive;
     }) (c.in_default.ensures.granted.0 refl) _ c.in_default.ensures.charged c.in_default.ensures.pages _ _ c.in-Some.block _ c.self.invariant.free
@@ -76,3 +87,15 @@ invariant_of-self g c = search rules
 
 pub invariant_of-self-in_default-take : goal.invariant_of-self-in_default-take
 invariant_of-self-in_default-take g c = search rules
+
+pub returns-in-Err-clause-steps : goal.returns-in-Err-clause-steps
+returns-in-Err-clause-steps g c =
+    let t = g.N.BootName.frames in
+    let m = c.args.self.now in
+    let over = c.in-Err.over.group in
+    let low : IsLowestOver m.ledger.groups (current_of m.ledger) c.args.group c.frames-pages.result over = search rules in
+    let same = (λ i. record (machine_of c.self.inside) { ledger = c.in-Err.ensures.unchanged i }) ∙ c.self.view_is in
+    subst (λ (x : KnownMachine). MakesAs t c.args.cpu.now.number (side m c.args.cpu.now) (over_steps c.args.group (2 ^ c.args.order) over) (side x c.args.cpu.now)) (sym same)
+    (refused_all t g.N.BootName.stocks _ _ c.self.view_is c.args.cpu.now c.args.group (2 ^ c.args.order) over c.self.invariant.consistent c.tree-tree.ensures.legal
+    c.number-number.ensures.tied c.requires.visit c.requires.none_fresh c.requires.charges.there c.requires.charges.alive
+    (subst (λ (n : ℕ). IsLowestOver m.ledger.groups (current_of m.ledger) c.args.group n over) c.frames-pages.ensures.frames low))

@@ -1,5 +1,4 @@
-use Rattle.std.proofs.Common.{refl, ap}
-use Rattle.stock_word.specs.Calls.{uncounted}
+use Rattle.std.proofs.Common.{refl}
 use Rattle.mem_machine.proofs.Fronts.{has_page, front_paid}
 use Rattle.mem_machine.proofs.machine.Machine.take_front.Goals as goal
 
@@ -12,7 +11,7 @@ pub invariant_of-self : goal.invariant_of-self
 invariant_of-self g c = record {
   consistent = (front_paid g.N.BootName.frames g.N.BootName.stocks _ _ c.self.view_is c.args.cpu.now c.number-number.ensures.tied c.self.invariant.consistent c.requires.visit
       c.args.group c.take_front.result c.args.group refl c.requires.page c.requires.none_fresh c.take_front.ensures.frame
-      _ (ap uncounted c.take_front.ensures.seat) _ c.take_front.ensures.cpu).consistent;
+      _ c.take_front.ensures.seat _ c.take_front.ensures.cpu).consistent;
   free = c.self.invariant.free;
 }
 
@@ -20,5 +19,5 @@ pub returns : goal.returns
 returns g c =
     let all = front_paid g.N.BootName.frames g.N.BootName.stocks _ _ c.self.view_is c.args.cpu.now c.number-number.ensures.tied c.self.invariant.consistent
     c.requires.visit c.args.group c.take_front.result c.args.group refl c.requires.page c.requires.none_fresh
-    c.take_front.ensures.frame _ (ap uncounted c.take_front.ensures.seat) _ c.take_front.ensures.cpu in
+    c.take_front.ensures.frame _ c.take_front.ensures.seat _ c.take_front.ensures.cpu in
     record { pays = all.pays; frame = c.take_front.ensures.frame; visit = all.visit; steps = all.steps }

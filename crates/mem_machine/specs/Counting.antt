@@ -1,0 +1,58 @@
+-- What a list of steps makes of the machine's counts: how often units ended and came back, or were tried in vain.
+use Rattle.std.specs.Prelude.{ℕ, ◌==◌, Bool, true, false, [], ◌∷◌, if◌then◌else◌}
+use Rattle.group_tree.specs.Room.{one_more}
+use Rattle.step_rules.specs.declared.phase.Stage.{Stage}
+use Rattle.step_rules.specs.declared.phase.Stage.TheVariants.{BackPassing}
+use Rattle.step_rules.specs.declared.phase.Phase.{Phase}
+use Rattle.step_rules.specs.declared.phase.Phase.TheVariants.{Head}
+use Rattle.step_rules.specs.declared.step.Action.{Action}
+use Rattle.step_rules.specs.declared.step.Action.TheVariants.{Put, Freeze, Collect, Return}
+use Rattle.step_rules.specs.declared.step.Answer.{Answer}
+use Rattle.step_rules.specs.declared.step.Answer.TheVariants.{Done, Last, Missed}
+use Rattle.step_rules.specs.State.{State}
+use Rattle.step_rules.specs.Returns.{is_drop_phase}
+use Rattle.step_rules.specs.After.{Run, after}
+use Rattle.mem_machine.specs.declared.counts.Counts.{Counts}
+use Rattle.mem_machine.specs.Counts.{with_drop, with_miss}
+
+-- the unit's head passes back as a back frame
+abbrev pub is_stage_back_passing : Stage → Bool
+is_stage_back_passing (BackPassing cpu) = true
+is_stage_back_passing stage = false
+
+-- the frame passes back as a back frame
+abbrev pub is_back_passing : Phase → Bool
+is_back_passing (Head unit stage) = is_stage_back_passing stage
+is_back_passing phase = false
+
+-- one last put more
+abbrev pub with_one_put_last : Counts → Counts
+with_one_put_last counts = record counts { last_puts = one_more counts.last_puts }
+
+-- one freeze more
+abbrev pub with_one_frozen : Counts → Counts
+with_one_frozen counts = record counts { freezes = one_more counts.freezes }
+
+-- one unit more that came back
+abbrev pub with_one_returned : Counts → Counts
+with_one_returned counts = record counts { returns = one_more counts.returns }
+
+-- The counts after a step with its answer, by the state before it; each stays at its greatest. A last put is counted if
+-- the zone's own put was the last, and if it collects a back frame. A freeze, or a miss, is counted by the answer. A unit
+-- that comes back is counted, and as a drop too if it was a fresh frame of a killed group
+abbrev pub counts_after : State → (seat : ℕ) → Action → Answer → Counts → Counts
+counts_after state seat (Put frame) Last counts = if seat == 0 then with_one_put_last counts else counts
+counts_after state seat (Collect frame cpu) Done counts =
+    if is_back_passing (state.phases frame) then with_one_put_last counts else counts
+counts_after state seat (Freeze frame references) Done counts = with_one_frozen counts
+counts_after state seat (Freeze frame references) Missed counts = with_miss counts
+counts_after state seat (Return frame) Done counts =
+    if is_drop_phase state.killed (state.phases frame) then with_drop counts else with_one_returned counts
+counts_after state seat action answer counts = counts
+
+-- the counts after all steps of a list, the first of which is made in this state
+abbrev pub counts_over : State → Run → Counts → Counts
+counts_over state [] counts = counts
+counts_over state (made ∷ rest) counts =
+    counts_over (after state made.0.seat made.0.action made.1) rest
+    (counts_after state made.0.seat made.0.action made.1 counts)
