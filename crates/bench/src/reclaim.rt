@@ -8,7 +8,7 @@ use anyhow::{Context, Result, bail, ensure};
 use cpu_part::{BootName, Cpu};
 use frame_word::{Frame, Get};
 use group_tree::fault::Fault;
-use mem_system::{Boot, Cmd, Reply, System};
+use mem_system::{Boot, Cmd, Reply, System, boot};
 use std::alloc::Global;
 use std::marker::Brand;
 use std::sync::Wait;
@@ -247,7 +247,7 @@ fn time_first<N: BootName, R: Wait + Clock>(
 
 // The time of these units, in a system whose frames they are.
 fn time_kept<R: Wait + Clock + Alloc<A = Global>>(rt: &R, kept: Kept) -> Result<Duration> {
-    match Boot::new(rt.alloc(), sizes(kept.count)) {
+    match boot(rt.alloc(), sizes(kept.count)) {
         Ok(boot) => start::<Brand, R>(rt, boot, kept),
         Err(_) => bail!("no boot"),
     }
@@ -342,7 +342,7 @@ pub fn tell_reclaim<R: Wait + Print + Clock + Alloc<A = Global>>(rt: &R, pace: P
     for kept in ALL_KEPT {
         tell_kept(rt, pace, kept)?;
     }
-    match Boot::new(rt.alloc(), sizes(65_536)) {
+    match boot(rt.alloc(), sizes(65_536)) {
         Ok(boot) => live::<Brand, R>(rt, pace, boot),
         Err(_) => bail!("no boot"),
     }

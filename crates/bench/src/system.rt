@@ -10,7 +10,7 @@ use anyhow::{Context, Result, bail};
 use cpu_part::{BootName, Cpu};
 use frame_word::Frame;
 use group_tree::group::GroupId;
-use mem_system::{Boot, Cmd, Held, NoGate, Reply, System};
+use mem_system::{Boot, Cmd, Held, NoGate, Reply, System, boot};
 use std::alloc::Global;
 use std::marker::Brand;
 use std::sync::Wait;
@@ -303,7 +303,7 @@ pub fn tell_system<R: Threads + Wait + Print + Clock + Alloc<A = Global> + Sync>
     pace: Pace,
     table: Table,
 ) -> Result<()> {
-    match Boot::new(rt.alloc(), SIZES) {
+    match boot(rt.alloc(), SIZES) {
         Ok(boot) => live::<Brand, R>(rt, pace, table, boot),
         Err(_) => bail!("no boot"),
     }
@@ -326,7 +326,7 @@ fn start<N: BootName, R: Wait + Clock + Alloc<A = Global>>(
 // The time of a boot and its start.
 fn time_boot<R: Wait + Clock + Alloc<A = Global>>(rt: &R) -> Result<Duration> {
     let since = Instant::now(rt)?;
-    match Boot::new(rt.alloc(), BIG) {
+    match boot(rt.alloc(), BIG) {
         Ok(boot) => start::<Brand, R>(rt, boot, since),
         Err(_) => bail!("no boot"),
     }

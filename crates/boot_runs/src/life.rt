@@ -5,7 +5,7 @@ ghost use Rattle.mem_system.specs.Commands.{IsOfZone};
 use cpu_part::{BootName, Cpu};
 use group_tree::fault::Fault;
 use group_tree::group::GroupId;
-use mem_system::{Audit, Boot, Cmd, Gate, Reply, System};
+use mem_system::{Audit, Boot, Cmd, Gate, Reply, System, boot};
 use std::alloc::Global;
 use std::marker::Brand;
 use std::process::Abort;
@@ -105,7 +105,9 @@ fn makes_and_reads<N: BootName, R: Wait + Abort>(
     let value: &[u8] = b"8K";
     let group = GroupId::of(1).expect(rt, "a group");
     let exists = Reply::Refused(Fault::Exists);
+    holds(rt, system.find(rt, path).is_none());
     answers(rt, system, cpu, &Cmd::Mkdir { path }, &Reply::Group(group));
+    holds(rt, system.find(rt, path) == Some(group));
     answers(rt, system, cpu, &Cmd::Mkdir { path }, &exists);
     reads(rt, system, cpu, b"memory.max", b"max\n");
     let write = Cmd::Write { path, file, value };
@@ -137,9 +139,12 @@ fn tells<N: BootName, R: Wait + Abort>(
     cpu: &mut Cpu<N>,
 ) {
     let shown = system.show(rt, alloc, cpu).expect(rt, "memory");
-    holds(rt, shown.as_str() == "0-15 free\ncurrent /a 0\n");
+    holds(
+        rt,
+        shown.as_slice() == b"0-15 free\ncurrent /a 0\n".as_slice(),
+    );
     let blocks = system.blocks(rt, alloc, cpu).expect(rt, "memory");
-    holds(rt, blocks.as_str() == "4:0\n");
+    holds(rt, blocks.as_slice() == b"4:0\n".as_slice());
 }
 
 // Processor 2 finds the group and takes it out.
@@ -251,12 +256,12 @@ fn visits<N: BootName, R: Wait + Abort>(
 
 #[test]
 fn a_group_is_made_and_read(rt: HostRuntime) {
-    let boot = Boot::new(rt.alloc(), SIZES).expect(&rt, "a boot");
+    let boot = boot(rt.alloc(), SIZES).expect(&rt, "a boot");
     lives::<Brand, _>(&rt, rt.alloc(), boot);
 }
 
 #[test]
 fn bad_sizes_are_refused(rt: HostRuntime) {
     let sizes = Config { cpus: 65, ..SIZES };
-    holds(&rt, Boot::new(rt.alloc(), sizes).is_err());
+    holds(&rt, boot(rt.alloc(), sizes).is_err());
 }

@@ -5,7 +5,7 @@ use crate::life::{answers, ends, events_text, holds, reads, visit};
 use cpu_part::{BootName, Cpu};
 use frame_word::Frame;
 use group_tree::fault::Fault;
-use mem_system::{Boot, Cmd, Reply, System};
+use mem_system::{Boot, Cmd, Reply, System, boot};
 use std::alloc::Global;
 use std::marker::Brand;
 use std::process::Abort;
@@ -207,7 +207,7 @@ fn allocations_answer_as_the_rows_say(rt: HostRuntime) {
             high: 8,
             stock: 4,
         };
-        let boot = Boot::new(rt.alloc(), sizes).expect(&rt, "a boot");
+        let boot = boot(rt.alloc(), sizes).expect(&rt, "a boot");
         lives::<Brand, _>(&rt, rt.alloc(), boot, row);
     }
 }

@@ -3,7 +3,7 @@ ghost use Rattle.std.specs.Prelude.{◌≡◌};
 
 use crate::life::{SIZES, ends, nothing_was_charged};
 use cpu_part::{BootName, Cpu};
-use mem_system::{Audit, Boot, System};
+use mem_system::{Audit, Boot, System, boot};
 use std::alloc::Global;
 use std::marker::Brand;
 use std::process::Abort;
@@ -20,7 +20,7 @@ fn starts_and_ends<N: BootName, R: Abort>(rt: &R, alloc: Global, boot: Boot) -> 
 
 // A boot's whole life; None where memory is wanting.
 fn boots_and_ends<R: Abort>(rt: &R, alloc: Global) -> Option<Audit> {
-    let boot = Boot::new(alloc, SIZES).ok()?;
+    let boot = boot(alloc, SIZES).ok()?;
     starts_and_ends::<Brand, _>(rt, alloc, boot)
 }
 
@@ -42,7 +42,7 @@ fn tells_both<N: BootName, R: Wait>(
     alloc: Global,
     system: &System<N>,
     cpus: &mut [Cpu<N>],
-) -> Option<(String, String)> {
+) -> Option<(Vec<u8>, Vec<u8>)> {
     let cpu = cpus.first_mut()?;
     let frames = system.show(rt, alloc, cpu).ok()?;
     let blocks = system.blocks(rt, alloc, cpu).ok()?;
@@ -54,7 +54,7 @@ fn starts_and_tells<N: BootName, R: Wait + Abort>(
     rt: &R,
     alloc: Global,
     boot: Boot,
-) -> Option<(String, String)>
+) -> Option<(Vec<u8>, Vec<u8>)>
     requires { (boot.frames ≡ N.frames) × (boot.stocks ≡ N.stocks) }
 {
     let (system, mut cpus) = boot.start::<N>(alloc).ok()?;
@@ -64,8 +64,8 @@ fn starts_and_tells<N: BootName, R: Wait + Abort>(
 }
 
 // A boot's whole life with its texts; None where memory is wanting.
-fn boots_and_tells<R: Wait + Abort>(rt: &R, alloc: Global) -> Option<(String, String)> {
-    let boot = Boot::new(alloc, SIZES).ok()?;
+fn boots_and_tells<R: Wait + Abort>(rt: &R, alloc: Global) -> Option<(Vec<u8>, Vec<u8>)> {
+    let boot = boot(alloc, SIZES).ok()?;
     starts_and_tells::<Brand, _>(rt, alloc, boot)
 }
 
@@ -78,7 +78,7 @@ fn a_second_boot_tells_where_the_first_was_refused(rt: HostRuntime) -> Result<()
         told = boots_and_tells(&rt, rt.alloc());
     }
     let (frames, blocks) = told.expect(&rt, "texts");
-    assert!(&rt; frames.as_str() == "0-15 free\n");
-    assert!(&rt; blocks.as_str() == "4:0\n");
+    assert!(&rt; frames.as_slice() == b"0-15 free\n".as_slice());
+    assert!(&rt; blocks.as_slice() == b"4:0\n".as_slice());
     Ok(())
 }

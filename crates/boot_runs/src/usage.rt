@@ -6,7 +6,7 @@ use crate::rows::frame;
 use cpu_part::{BootName, Cpu};
 use frame_word::Get;
 use group_tree::fault::Fault;
-use mem_system::{Boot, Cmd, Reply, System};
+use mem_system::{Boot, Cmd, Reply, System, boot};
 use std::alloc::Global;
 use std::marker::Brand;
 use std::process::Abort;
@@ -267,7 +267,7 @@ fn usage_comes_down_as_the_rows_say(rt: HostRuntime) {
             high: 8,
             stock: 4,
         };
-        let boot = Boot::new(rt.alloc(), sizes).expect(&rt, "a boot");
+        let boot = boot(rt.alloc(), sizes).expect(&rt, "a boot");
         lives::<Brand, _>(&rt, rt.alloc(), boot, row);
     }
 }

@@ -23,7 +23,7 @@ use crate::writing::write_whole;
 use cpu_part::BootName;
 use load_options::command_line::options;
 use load_options::task::{Options, Task};
-use mem_system::{Boot, BootFault};
+use mem_system::{Boot, BootFault, boot};
 use script_lines::line::Line;
 use script_lines::script::parse_script;
 use std::alloc::{AllocError, Global};
@@ -118,7 +118,7 @@ fn answers_of<R: Threads + Wait + Sync>(
     ensures valid { OnOk result (IsValidConfig options.now.sizes) }
     ensures fault { IfErr result (IsBootFault options.now.sizes) }
 {
-    match Boot::new(alloc, options.sizes) {
+    match boot(alloc, options.sizes) {
         Ok(boot) => match answers_on_boot::<Brand, R>(rt, alloc, boot, options, lines) {
             Ok(answers) => Ok(answers),
             Err(error) => Err(ProgramFault::NoMemory(error)),

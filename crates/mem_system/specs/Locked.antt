@@ -4,7 +4,8 @@ use Rattle.frame_word.specs.Seats.{KnownTable, IsShut}
 use Rattle.stock_word.specs.Stock.{Words}
 use Rattle.zone_sizes.specs.declared.config.Config.{Config}
 use Rattle.zone_sizes.specs.Config.{IsValidConfig}
-use Rattle.mem_machine.specs.Machines.{KnownMachine}
+use Rattle.group_charge.specs.Charges.{AreCharges}
+use Rattle.mem_machine.specs.Machines.{IsConsistent, KnownMachine}
 use Rattle.mem_system.specs.Boots.{IsSizedAs}
 
 -- What lies behind the lock: the machine, and the sizes of the boot
@@ -22,11 +23,18 @@ pub record IsQuiet (table : KnownTable) (stock_table : Words) (locked : KnownLoc
   pub valid : IsValidConfig locked.sizes
   pub sized : IsSizedAs locked.sizes table stock_table
 
--- This is so of some value that lay behind the lock while no one held it: no clause can name that value, since none
--- looks through the lock
+-- What a call finds behind the lock, and leaves there: it is quiet, the machine is consistent, and the groups are those
+-- of a tree, each with its account
+pub record IsSound (table : KnownTable) (stock_table : Words) (locked : KnownLocked) : Type 0 where
+  pub quiet : IsQuiet table stock_table locked
+  pub consistent : IsConsistent table stock_table locked.machine
+  pub charges : AreCharges locked.machine.ledger
+
+-- This is so of some value that lay behind the lock while no one held it, and that was sound. No clause can name that
+-- value, since none looks through the lock
 pub record BehindLock (table : KnownTable) (stock_table : Words) (IsSo : KnownLocked → Type 0) : Type 0 where
   pub locked : KnownLocked
-  pub quiet : IsQuiet table stock_table locked
+  pub sound : IsSound table stock_table locked
   pub so : IsSo locked
 
 -- a vector for one kind of the processors' seats, which has none yet, and room for that of each

@@ -20,7 +20,7 @@ use Rattle.mem_system.specs.declared.command.Cmd.TheVariants.{Alloc}
 use Rattle.mem_system.specs.declared.command.Reply.{Reply}
 use Rattle.mem_system.specs.declared.outcome.Outcome.{Outcome}
 use Rattle.mem_system.specs.Outcomes.{reply_of}
-use Rattle.mem_system.specs.Locked.{KnownLocked, IsQuiet}
+use Rattle.mem_system.specs.Locked.{KnownLocked, IsSound}
 use Rattle.mem_system.specs.Asks.{MayAskFor}
 use Rattle.mem_system.specs.Commands.{Obeys, ListAndFreshStayWithin}
 
@@ -96,12 +96,13 @@ pub record EndsVisit (table : KnownTable) (before after : Holder) : Type 0 where
   pub still : NothingPasses table after.locked.machine.frame_seat after.cpu.frame_seat
   pub lent : LentIsBorrowed table after.locked.machine.frame_seat after.cpu.frame_seat
 
--- Through the lock: there was such a value behind it, with no visit open; the processor was served so in it; and what
--- it lends the processor then are the frames that the processor's seat has borrowed
+-- Through the lock: there was such a value behind it, the processor was served so in it, and this was left. Both were
+-- sound; and what is lent to the processor then are the frames that its seat has borrowed
 pub record IsVisited (table : KnownTable) (stock_table : Words) (Served : Holder → Holder → Type 0)
     (before after : KnownCpu) : Type 0 where
   pub found : KnownLocked
   pub left : KnownLocked
-  pub quiet : IsQuiet table stock_table found
+  pub sound_before : IsSound table stock_table found
   pub served : Served (holder found before) (holder left after)
+  pub sound_after : IsSound table stock_table left
   pub lent : LentIsBorrowed table left.machine.frame_seat after.frame_seat

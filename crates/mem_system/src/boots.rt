@@ -1,15 +1,14 @@
 //! A boot: its two tables with all their seats, and the machine, tables and processors' parts that it is taken apart
 //! into.
 
-ghost use Rattle.std.specs.Prelude.{◌≡◌, ◌↔◌, length, All, IfOk};
+ghost use Rattle.std.specs.Prelude.{◌≡◌, length, All, IfOk};
 ghost use Rattle.frame_word.specs.Seats.{first_cpu_seats};
 ghost use Rattle.stock_word.specs.Stock.{first_seats};
 ghost use Rattle.mem_machine.specs.Machines.{IsFirst};
 ghost use Rattle.cpu_part.specs.Cpus.{IsIdle};
 ghost use Rattle.mem_system.specs.Locked.{IsQuiet};
 ghost use Rattle.mem_system.specs.Boots.{IsSizedAs, first_cpus};
-ghost use Rattle.mem_system.specs.declared.boots.BootFault.TheVariants.{BadConfig, NoMemory};
-ghost use Rattle.zone_sizes.specs.Config.{IsValidConfig};
+ghost use Rattle.mem_system.specs.declared.boots.BootFault.TheVariants.{NoMemory};
 
 use crate::lock::Locked;
 use crate::system::System;
@@ -41,15 +40,15 @@ impl From<AllocError> for BootFault {
 /// The two tables of a boot with all their seats, of which none was used yet.
 #[derive(Drop)]
 pub struct Boot {
-    sizes: Config,
-    frames: FrameWords,
-    stocks: StockWords,
+    pub(crate) sizes: Config,
+    pub(crate) frames: FrameWords,
+    pub(crate) stocks: StockWords,
     // The zone's seats at the two tables.
-    frame_seat: FrameSeat,
-    stock_seat: StockSeat,
+    pub(crate) frame_seat: FrameSeat,
+    pub(crate) stock_seat: StockSeat,
     // Those of the processors, in order.
-    frame_seats: Vec<FrameSeat>,
-    stock_seats: Vec<StockSeat>,
+    pub(crate) frame_seats: Vec<FrameSeat>,
+    pub(crate) stock_seats: Vec<StockSeat>,
 }
 
 impl Model for Boot {
@@ -64,29 +63,6 @@ impl Model for Boot {
 }
 
 impl Boot {
-    /// Makes the two tables of a zone of these sizes, with all their seats. `BadConfig` comes exactly where a size is
-    /// out of its range, else `NoMemory` where memory is wanting.
-    pub fn new(alloc: Global, sizes: Config) -> Result<Boot, BootFault>
-        ensures sizes { IfOk result (λ boot. boot.sizes ≡ sizes) }
-        ensures sized { IfOk result (λ boot. IsSizedAs sizes boot.frames boot.stocks) }
-        ensures bad_config { (result ≡ Err BadConfig) ↔ (¬ IsValidConfig sizes) }
-    {
-        if !sizes.is_valid() {
-            return Err(BootFault::BadConfig);
-        }
-        let (frames, frame_seat, frame_seats) = FrameWords::new(alloc, sizes.frames, sizes.cpus)?;
-        let (stocks, stock_seat, stock_seats) = StockWords::new(alloc, sizes.cpus)?;
-        Ok(Boot {
-            sizes,
-            frames,
-            stocks,
-            frame_seat,
-            stock_seat,
-            frame_seats,
-            stock_seats,
-        })
-    }
-
     /// Makes what the boot consists of, under a name of its tables: what lies behind the lock, the tables, and a part
     /// for each processor, in order. All room that later calls need is reserved here. `AllocError` comes where memory
     /// is wanting; nothing stays then.

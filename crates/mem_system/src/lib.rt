@@ -9,12 +9,14 @@
 mod allocations;
 mod audit;
 mod boot_end;
+mod booting;
 mod boots;
 mod command;
 mod files;
 mod gates;
 mod groups;
 mod last_visits;
+pub mod laws;
 mod lock;
 mod outcome;
 mod owners;
@@ -28,6 +30,7 @@ mod visits;
 
 pub use audit::Audit;
 pub use boot_end::{Pinned, end};
+pub use booting::boot;
 pub use boots::{Boot, BootFault};
 pub use command::{Cmd, Reply};
 pub use gates::{Gate, NoGate};
@@ -37,3 +40,4 @@ pub use system::System;
 pub use system_end::Held;
 pub use texts::{blocks, show};
 pub use visits::{carry_out, carry_out_frame, serve, settle};
+pub use zone_sizes::config::Config;

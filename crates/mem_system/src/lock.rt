@@ -2,6 +2,7 @@
 
 ghost use Rattle.std.specs.Prelude.{◌≡◌};
 ghost use Rattle.group_tree.specs.Groups.{number_at};
+ghost use Rattle.group_charge.specs.Charges.{AreCharges};
 ghost use Rattle.mem_machine.specs.Machines.{IsConsistent};
 ghost use Rattle.mem_system.specs.Locked.{IsQuiet};
 
@@ -37,12 +38,14 @@ impl<N: BootName> Model for Locked<N> {
 
 impl<N: BootName> Locked<N> {
     /// Shows what always holds behind the lock: no visit is open, the sizes are in their ranges and are those of the
-    /// tables, and the machine is consistent. It does nothing.
+    /// tables, the machine is consistent, and the groups are those of a tree. It does nothing.
     pub fn see_quiet(&self)
         ensures quiet { IsQuiet N.frames N.stocks self.now }
         ensures consistent { IsConsistent N.frames N.stocks self.now.machine }
+        ensures charges { AreCharges self.now.machine.ledger }
     {
         let _spots = self.machine.spots(); // For the clauses.
+        let _tree = self.machine.charges().tree(); // For the clauses.
     }
 
     /// The machine, which is consistent.

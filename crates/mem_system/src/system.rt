@@ -2,6 +2,7 @@
 
 ghost use Rattle.std.specs.Prelude.{◌≡◌};
 ghost use Rattle.group_tree.specs.Groups.{number_at};
+ghost use Rattle.group_charge.specs.Charges.{AreCharges};
 ghost use Rattle.mem_machine.specs.Machines.{IsConsistent};
 ghost use Rattle.mem_system.specs.Locked.{BehindLock, IsQuiet};
 ghost use Rattle.mem_system.specs.Commands.{IsOfZone, IsSettledAfter};
@@ -43,11 +44,11 @@ impl<N: BootName> System<N> {
     }
 
     /// Takes the system apart again, once nobody shares it: what lies behind the lock, which is as the last visit left
-    /// it, and its tables. Of what lies behind the lock it is said what always holds there: no visit is open, and the
-    /// machine is consistent.
+    /// it, and its tables. Of what lies behind the lock the clauses say what always holds there.
     pub fn into_parts(self) -> (Locked<N>, Tables<N>)
         ensures quiet { IsQuiet N.frames N.stocks result.0 }
         ensures consistent { IsConsistent N.frames N.stocks result.0.machine }
+        ensures charges { AreCharges result.0.machine.ledger }
         ensures frames { result.1.frames ≡ self.frames }
         ensures stocks { result.1.stocks ≡ self.stocks }
     {
@@ -65,8 +66,8 @@ impl<N: BootName> System<N> {
         &self.tables
     }
 
-    /// The group of this path; None where no group has it. It takes the lock, and settles nothing. As with `visit`,
-    /// it is said that there was such a value behind the lock.
+    /// The group of this path; None if no group has it. It takes the lock, and settles nothing. As with `visit`, the
+    /// clause says that there was such a value behind the lock.
     pub fn find<R: Wait>(&self, rt: &R, path: &[u8]) -> Option<GroupId>
         ensures { BehindLock N.frames N.stocks (λ found. result ≡ number_at found.machine.ledger.groups path.now) }
     {
@@ -78,8 +79,9 @@ impl<N: BootName> System<N> {
 
     /// Serves one command of the processor: takes the lock, serves, and gives the lock back. A frame that the command
     /// names is one of the zone's. No clause can name what lies behind the lock, so it is said that there was such a
-    /// value: no visit was open in it, it was served as `serve` says, and what it lends the processor then are the
-    /// frames that its seat has borrowed.
+    /// value: it and what was left were sound, it was served as `serve` says, and what is lent to the processor then
+    /// are the frames that its seat has borrowed. It doesn't call `serve`, but the form of it that writes the reply in
+    /// place: to hand a reply on by value copies its room for a path.
     #[inline(always)]
     pub fn visit<R: Wait>(&self, rt: &R, cpu: &mut Cpu<N>, cmd: &Cmd<'_>) -> Reply
         requires { IsOfZone N.frames cmd.now }
@@ -129,5 +131,6 @@ impl<N: BootName> System<N> {
         let locked = &mut *guard;
         locked.see_quiet();
         serve_into(locked, &self.tables, cpu, cmd, reply);
+        locked.see_quiet();
     }
 }

@@ -21,7 +21,7 @@ pub struct Held<N: BootName> {
 impl<N: BootName> System<N> {
     /// Shuts the system down, with all its processors' parts in any order, as `end` does. `Held` comes exactly where
     /// a pin remains. No clause can name what lies behind the lock, so it is said that there was such a value, which
-    /// ended so.
+    /// was sound and ended so.
     pub fn shutdown(self, cpus: Vec<Cpu<N>>) -> Result<Audit, Held<N>>
         requires { length cpus.items ≡ N.frames.cpus }
         ensures ends { IfOk result (λ audit.
@@ -34,7 +34,9 @@ impl<N: BootName> System<N> {
         ensures cpus { IfErr result (λ held. held.cpus.items ≡ cpus.items) }
     {
         let System { locked, tables } = self;
-        match end(locked.into_inner(), tables, cpus) {
+        let locked = locked.into_inner();
+        locked.see_quiet();
+        match end(locked, tables, cpus) {
             Ok(audit) => Ok(audit),
             Err(pinned) => Err(Held::of(pinned)),
         }

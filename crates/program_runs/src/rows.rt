@@ -182,6 +182,27 @@ replay --cpus 1 --batch 1 --high 1 --stock 1
 1 owner 1 | /a
 1 read /a memory.current | 4096
 
+a group is aged when its turn comes
+replay --frames 2 --cpus 1 --batch 1 --high 1 --stock 1
+1 mkdir /a | group 1
+1 mkdir /b | group 2
+1 alloc /a 0 | frame 0
+1 alloc /b 0 | frame 1
+1 touch 1 | marked
+1 touch 1 | active
+1 alloc /a 0 | frame 0
+1 touch 1 | active
+
+a page is reclaimed for a frame and no batch
+replay --frames 4 --cpus 1 --batch 2 --high 2 --stock 1
+1 mkdir /a | group 1
+1 alloc /a 0 | frame 0
+1 alloc /a 0 | frame 1
+1 alloc /a 0 | frame 2
+1 alloc /a 0 | frame 3
+1 alloc /a 0 | frame 0
+1 owner 1 | /a
+
 a group goes with its units
 replay --audit
 1 mkdir /a | group 1
@@ -350,6 +371,41 @@ replay --cpus 1 --batch 1 --high 1 --stock 1
 1 read /a memory.current | 0
 1 alloc /a 0 | refused 15 OverLimit /a
 1 read /a memory.events | events 1 2 2 0
+
+of two groups with as many frames the path doesn't choose the victim
+replay
+1 mkdir /a | group 1
+1 mkdir /a/b | group 2
+1 mkdir /a/a | group 3
+1 alloc /a/b 1 | frame 0
+1 alloc /a/a 1 | frame 2
+1 dirty 0 | ok
+1 dirty 2 | ok
+1 write /a memory.max 8K | ok
+# limit /a 8192 usage 16384 need 0
+# round 1 tried 0 missed 0 returned 0 bytes 0 usage 16384
+# oom /a
+# victim /a/b frames 2 of 2 candidates, next /a/a frames 2
+# killed /a/b returned 1 bytes 8192 pinned 0 bytes 0 usage 8192
+1 owner 0 | free
+
+of two groups with as many frames that of the least number is the victim
+replay
+1 mkdir /a | group 1
+1 mkdir /b | group 2
+1 rmdir /a | ok
+1 mkdir /b/c | group 1
+1 alloc /b 1 | frame 0
+1 alloc /b/c 1 | frame 2
+1 dirty 0 | ok
+1 dirty 2 | ok
+1 write /b memory.max 8K | ok
+# limit /b 8192 usage 16384 need 0
+# round 1 tried 0 missed 0 returned 0 bytes 0 usage 16384
+# oom /b
+# victim /b/c frames 2 of 2 candidates, next /b frames 2
+# killed /b/c returned 1 bytes 8192 pinned 0 bytes 0 usage 8192
+1 owner 0 | /b
 
 a fresh frame of a killed group is dropped
 replay --batch 1 --high 1 --stock 1 --audit

@@ -9,7 +9,7 @@ use crate::streams::{
 };
 use crate::visits::visit_all;
 use load_run::{options, parse_script};
-use mem_system::Boot;
+use mem_system::boot;
 use std::alloc::{AllocError, Global};
 use std::marker::Brand;
 use std::process::Abort;
@@ -44,7 +44,7 @@ fn visits_told<R: AllocGlobal + Wait>(
 ) -> Option<Vec<u8>> {
     let alloc = rt.alloc();
     let lines = parse_script(alloc, script.as_bytes(), &sizes).ok()?;
-    let boot = Boot::new(alloc, sizes).ok()?;
+    let boot = boot(alloc, sizes).ok()?;
     visit_all::<Brand, _>(rt, alloc, boot, &lines, is_audited).ok()
 }
 

@@ -8,7 +8,7 @@ use Rattle.cpu_part.specs.Cpus.{KnownCpu}
 use Rattle.mem_system.specs.declared.command.Cmd.TheVariants as cmd
 use Rattle.mem_system.specs.declared.command.Reply.{Reply}
 use Rattle.mem_system.specs.declared.command.Reply.TheVariants.{Done}
-use Rattle.mem_system.specs.Locked.{KnownLocked, IsQuiet}
+use Rattle.mem_system.specs.Locked.{KnownLocked, IsSound}
 use Rattle.mem_system.specs.Visits.{holder}
 use Rattle.reply_texts.specs.Answer.{Answer, Served}
 use Rattle.script_lines.specs.declared.line.Command.{Command}
@@ -29,10 +29,10 @@ settled_done on c d reply is = subst (λ (r : Reply). IsServedByVisit on cmd.Set
 
 -- where there is no frame for the group, the command is served by a visit
 pub visited_after : (on : BootTables) (path : Bor (List ℕ)) (l : KnownLocked) (c seen d : KnownCpu) (said : Answer) →
-    IsQuiet on.frames on.stocks l → GetsNoneFast path.now (holder l c) seen → RepliesVisited on (cmd.Alloc path 0) seen d said → AnswersFrameByVisit on path c d said
-visited_after on path l c seen d (Served reply) quiet none served =
-    inr (record { seen = seen; none = record { locked = l; quiet = quiet; so = none }; visited = served })
-visited_after on path l c seen d said quiet none served = absurd served
+    IsSound on.frames on.stocks l → GetsNoneFast path.now (holder l c) seen → RepliesVisited on (cmd.Alloc path 0) seen d said → AnswersFrameByVisit on path c d said
+visited_after on path l c seen d (Served reply) sound none served =
+    inr (record { seen = seen; none = record { locked = l; sound = sound; so = none }; visited = served })
+visited_after on path l c seen d said sound none served = absurd served
 
 -- where the frame can't be listed again, the command is served by a visit
 pub released_after : (on : BootTables) (f : ℕ) (c seen d : KnownCpu) (said : Answer) →

@@ -16,7 +16,7 @@ use group_tree::fault::Fault;
 use mem_system::{Cmd, Gate, Reply, System};
 use reply_texts::{write_fast, write_listed, write_refusal, write_reply, write_settled};
 use script_lines::line::Command;
-use std::alloc::{AllocError, Global};
+use std::alloc::AllocError;
 use std::sync::Wait;
 
 /// What a thread makes its visits by.
@@ -24,8 +24,6 @@ use std::sync::Wait;
 pub struct Visitor<'a, N: BootName, R, G> {
     /// What it waits for the lock with.
     pub rt: &'a R,
-    /// The memory for texts.
-    pub alloc: Global,
     /// The system that it visits.
     pub system: &'a System<N>,
     /// What each visit of a command calls.
@@ -172,8 +170,7 @@ fn visit_blocks<N: BootName, R: Wait, G: Gate>(
 ) -> Result<(), AllocError>
     ensures { AddsText result text.old text.new (VisitsWork (boot_tables N.frames N.stocks) Blocks cpu.old cpu.new) }
 {
-    let told = visitor.system.blocks(visitor.rt, visitor.alloc, cpu)?;
-    text.push_str(told.as_str())
+    visitor.system.blocks_into(visitor.rt, cpu, text)
 }
 
 // Settles the processor, and adds the place of every frame and the usage of every group.
@@ -184,6 +181,5 @@ fn visit_show<N: BootName, R: Wait, G: Gate>(
 ) -> Result<(), AllocError>
     ensures { AddsText result text.old text.new (VisitsWork (boot_tables N.frames N.stocks) Show cpu.old cpu.new) }
 {
-    let told = visitor.system.show(visitor.rt, visitor.alloc, cpu)?;
-    text.push_str(told.as_str())
+    visitor.system.show_into(visitor.rt, cpu, text)
 }

@@ -35,7 +35,7 @@ pub fn replay_lines<N: BootName, R: Wait>(
 {
     let mut answers = String::new(alloc);
     for line in lines {
-        serve_by_visit(rt, alloc, system, cpus, line, &mut answers)?;
+        serve_by_visit(rt, system, cpus, line, &mut answers)?;
     }
     Ok(answers.into_bytes())
 }
@@ -43,7 +43,6 @@ pub fn replay_lines<N: BootName, R: Wait>(
 // Serves a line and adds its answer.
 fn serve_by_visit<N: BootName, R: Wait>(
     rt: &R,
-    alloc: Global,
     system: &System<N>,
     cpus: &mut [Cpu<N>],
     line: &Line<'_>,
@@ -63,7 +62,6 @@ fn serve_by_visit<N: BootName, R: Wait>(
             let at = (*processor - 1) as usize;
             let visitor = Visitor {
                 rt,
-                alloc,
                 system,
                 gate: &NoGate,
             };

@@ -28,12 +28,7 @@ pub(crate) fn serve_own<N: BootName, R: Wait, G: Gate>(
     ensures { IfOk result (λ text.
         ServesOwn (boot_tables N.frames N.stocks) (worker number cpu.old lines.now) cpu.new (string_bytes text)) }
 {
-    let visitor = Visitor {
-        rt,
-        alloc,
-        system,
-        gate,
-    };
+    let visitor = Visitor { rt, system, gate };
     let mut text = String::new(alloc);
     for line in lines {
         serve_own_line(&visitor, cpu, number, line, &mut text)?;

@@ -3,7 +3,7 @@
 use crate::stored_run::{Stored, live};
 use anyhow::{Context, Result, bail, ensure};
 use mem_core::zone::Core;
-use mem_system::Boot;
+use mem_system::boot;
 use std::alloc::Global;
 use std::marker::Brand;
 use std::sync::Wait;
@@ -54,7 +54,7 @@ fn run_of(alloc: Global, text: &str) -> Result<Stored<'_>> {
 /// Replays the run of this text, and tells how many turns it has. An error tells after how many it went another way.
 pub fn replay_run<R: Wait>(rt: &R, alloc: Global, text: &str) -> Result<u32> {
     let run = run_of(alloc, text)?;
-    match Boot::new(alloc, run.sizes) {
+    match boot(alloc, run.sizes) {
         Ok(boot) => live::<Brand, R>(rt, alloc, boot, run),
         Err(_) => bail!("no boot"),
     }

@@ -8,7 +8,7 @@ ghost use Rattle.mem_system.specs.Ends.{AddsUp};
 
 use anyhow::{Context, Result, anyhow};
 use cpu_part::{BootName, Cpu, Tables};
-use mem_system::{Audit, Boot, Cmd, Reply, System};
+use mem_system::{Audit, Boot, Cmd, Reply, System, boot};
 use reply_texts::{write_fast, write_get, write_put, write_reply};
 use std::alloc::Global;
 use std::marker::Brand;
@@ -24,7 +24,7 @@ const SIZES: Config = Config {
 };
 
 fn main(rt: HostRuntime) -> Result<()> {
-    let boot = Boot::new(rt.alloc(), SIZES).ok().context("no boot")?;
+    let boot = boot(rt.alloc(), SIZES).ok().context("no boot")?;
     let mut text = String::new(rt.alloc());
     let audit = live::<Brand, _>(&rt, rt.alloc(), boot, &mut text)?;
     let (free, charged) = (audit.free, audit.charged);

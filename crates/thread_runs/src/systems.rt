@@ -7,7 +7,7 @@ ghost use Rattle.script_replay.specs.Ranges.{LineIsThere};
 use cpu_part::{BootName, Cpu};
 use load_run::boot_end::end_boot;
 use load_run::{Line, parse_script, replay_lines, run_lines};
-use mem_system::{Audit, Boot, Gate, System};
+use mem_system::{Audit, Boot, Gate, System, boot};
 use std::alloc::{AllocError, Global};
 use std::marker::Brand;
 use std::process::Abort;
@@ -106,7 +106,7 @@ pub fn run_script<R: AllocGlobal + Threads + Wait + Abort + Sync, G: Gate + Sync
     let alloc = rt.alloc();
     let lines = parse_script(alloc, script.as_bytes(), &sizes).ok()?;
     let last = parse_script(alloc, last.as_bytes(), &sizes).ok()?;
-    let boot = Boot::new(alloc, sizes).ok()?;
+    let boot = boot(alloc, sizes).ok()?;
     live_by_threads::<Brand, _, _>(rt, alloc, boot, &lines, &last, gate).ok()
 }
 

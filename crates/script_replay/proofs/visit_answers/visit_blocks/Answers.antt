@@ -1,37 +1,18 @@
-use Rattle.std.proofs.Common.{refl, rules}
-use Rattle.std.specs.String.{string_bytes}
+use Rattle.std.proofs.Common.{refl}
 use Rattle.machine_texts.specs.Blocks.{blocks_text}
-use Rattle.script_replay.specs.declared.work.Work.TheVariants.{Blocks}
-use Rattle.script_replay.specs.Terms.{boot_tables}
-use Rattle.script_replay.specs.Visits.{VisitsWork}
-use Rattle.script_replay.proofs.Telling.{said_as}
 use Rattle.script_replay.proofs.visit_answers.visit_blocks.Goals as goal
 
-pub returns-in_err-told : goal.returns-in_err-told
-returns-in_err-told g c =
-    let told = c.in_err-told.ensures.told in record {
+pub returns : goal.returns
+returns g c =
+    let told = c.blocks_into.ensures.told in record {
       text = blocks_text told.left.machine.blocks;
       so = record {
         found = told.found;
         left = told.left;
-        quiet_before = told.quiet_before;
+        sound_before = told.sound_before;
         settles = told.settles;
-        quiet_after = told.quiet_after;
+        sound_after = told.sound_after;
         told = refl;
       };
-      added = search rules;
+      added = told.told;
     }
-
-pub returns : goal.returns
-returns g c =
-    let told = c.in_ok-told.ensures.told in
-    said_as (VisitsWork (boot_tables g.N.BootName.frames g.N.BootName.stocks) Blocks c.args.cpu.now c.blocks-2.new.cpu)
-    (string_bytes c.in_ok-told.told) c.args.text.now c.push_str.new.self c.push_str.result
-    (record {
-      found = told.found;
-      left = told.left;
-      quiet_before = told.quiet_before;
-      settles = told.settles;
-      quiet_after = told.quiet_after;
-      told = search rules;
-    }) (search rules)

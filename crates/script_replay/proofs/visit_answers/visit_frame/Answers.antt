@@ -19,7 +19,7 @@ returns-in_default g c =
     c.args.text.now c.write_refusal.new.text c.write_refusal.result
     (inl (record {
       locked = found.locked;
-      quiet = found.quiet;
+      sound = found.sound;
       so = record { none = sym found.so; refused = refl; same_locked = refl; same_cpu = refl };
     })) c.write_refusal.ensures
 
@@ -29,7 +29,7 @@ returns-in-Got g c =
     told (AnswersFrameByVisit (boot_tables g.N.BootName.frames g.N.BootName.stocks) c.args.path c.args.cpu.now c.alloc_fast.new.self)
     (answer.Fast (Got c.in-Got.frame)) c.args.text.now c.write_fast.new.text c.write_fast.result (record {
       locked = found.locked;
-      quiet = found.quiet;
+      sound = found.sound;
       so = record {
         group = c.in-Some.group;
         found = sym found.so;
@@ -44,7 +44,7 @@ returns-in_default-alloc_fast g c =
     (RepliesVisited (boot_tables g.N.BootName.frames g.N.BootName.stocks) (cmd.Alloc c.args.path 0) c.alloc_fast.new.self c.visit_and_reply.new.cpu)
     (AnswersFrameByVisit (boot_tables g.N.BootName.frames g.N.BootName.stocks) c.args.path c.args.cpu.now c.visit_and_reply.new.cpu)
     c.args.text.now c.visit_and_reply.new.text c.visit_and_reply.result
-    (λ said so. visited_after (boot_tables g.N.BootName.frames g.N.BootName.stocks) c.args.path found.locked c.args.cpu.now c.alloc_fast.new.self c.visit_and_reply.new.cpu said found.quiet (record {
+    (λ said so. visited_after (boot_tables g.N.BootName.frames g.N.BootName.stocks) c.args.path found.locked c.args.cpu.now c.alloc_fast.new.self c.visit_and_reply.new.cpu said found.sound (record {
       group = c.in-Some.group;
       found = sym found.so;
       fast = c.alloc_fast.result;

@@ -1,4 +1,12 @@
 use Rattle.mem_system.proofs.system.System.find.Goals as goal
 
 pub returns : goal.returns
-returns g c = record { locked = c.deref-locked.result.now; quiet = c.see_quiet.ensures.quiet; so = c.find.ensures.found }
+returns g c = record {
+  locked = c.deref-locked.result.now;
+  sound = record {
+    quiet = c.see_quiet.ensures.quiet;
+    consistent = c.see_quiet.ensures.consistent;
+    charges = c.see_quiet.ensures.charges;
+  };
+  so = c.find.ensures.found;
+}

@@ -1,11 +1,25 @@
+use Rattle.std.proofs.Common.{◌∙◌, ◌++◌, List, ℕ, ap, rules}
+use Rattle.machine_texts.specs.Show.{show_text}
 use Rattle.mem_system.proofs.system.System.show.Goals as goal
 
+pub returns-in_err-show_into-clause-told : goal.returns-in_err-show_into-clause-told
+returns-in_err-show_into-clause-told g c =
+    let tells = c.in_err-show_into.ensures.told in record {
+      found = tells.found;
+      left = tells.left;
+      sound_before = tells.sound_before;
+      settles = tells.settles;
+      sound_after = tells.sound_after;
+      told = search rules;
+    }
+
 pub returns-clause-told : goal.returns-clause-told
-returns-clause-told g c = record {
-  found = c.deref_mut-locked.result.now;
-  left = c.show-text.new.locked;
-  quiet_before = c.see_quiet.ensures.quiet;
-  settles = c.show-text.ensures.served;
-  quiet_after = c.see_quiet-2.ensures.quiet;
-  told = c.show-text.ensures.text;
-}
+returns-clause-told g c =
+    let tells = c.in_ok-show_into.ensures.told in record {
+      found = tells.found;
+      left = tells.left;
+      sound_before = tells.sound_before;
+      settles = tells.settles;
+      sound_after = tells.sound_after;
+      told = ap (λ v. v.items) c.into_bytes.ensures.value ∙ (tells.told ∙ ap (λ (l : List ℕ). l ++ show_text tells.left.machine) c.new-text.ensures.bytes);
+    }

@@ -5,8 +5,17 @@ returns g c = record {
   served = record {
     found = c.deref_mut-locked.result.now;
     left = c.serve_into.new.locked;
-    quiet = c.see_quiet.ensures.quiet;
+    sound_before = record {
+      quiet = c.see_quiet.ensures.quiet;
+      consistent = c.see_quiet.ensures.consistent;
+      charges = c.see_quiet.ensures.charges;
+    };
     served = c.serve_into.ensures.served;
+    sound_after = record {
+      quiet = c.see_quiet-2.ensures.quiet;
+      consistent = c.see_quiet-2.ensures.consistent;
+      charges = c.see_quiet-2.ensures.charges;
+    };
     lent = c.serve_into.ensures.ends.lent;
   };
   settled = c.serve_into.ensures.settled;

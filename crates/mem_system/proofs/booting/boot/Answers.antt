@@ -1,5 +1,5 @@
 use Rattle.std.proofs.Common.{rules}
-use Rattle.mem_system.proofs.boots.Boot.new.Goals as goal
+use Rattle.mem_system.proofs.booting.boot.Goals as goal
 
 pub returns-clause-bad_config : goal.returns-clause-bad_config
 returns-clause-bad_config c = search rules

@@ -1,0 +1,38 @@
+//! Commands that are served by value: whoever holds what lies behind the lock needs no lock.
+
+ghost use Rattle.std.specs.Prelude.{◌≡◌};
+
+use crate::life::{SIZES, holds, nothing_was_charged};
+use cpu_part::BootName;
+use group_tree::fault::Fault;
+use group_tree::group::GroupId;
+use mem_system::{Boot, Cmd, Reply, boot, end, serve};
+use std::alloc::Global;
+use std::marker::Brand;
+use std::process::Abort;
+
+// Processor 1 makes a group and is answered by value, and the boot ends.
+fn lives<N: BootName, R: Abort>(rt: &R, alloc: Global, boot: Boot)
+    requires { (boot.frames ≡ N.frames) × (boot.stocks ≡ N.stocks) }
+{
+    let (mut locked, tables, mut cpus) = boot.into_parts::<N>(alloc).expect(rt, "memory");
+    let path: &[u8] = b"/a";
+    holds(rt, locked.find(path).is_none());
+    if let Some(cpu) = cpus.first_mut() {
+        let made = serve(&mut locked, &tables, cpu, &Cmd::Mkdir { path });
+        holds(rt, GroupId::of(1).map(Reply::Group) == Some(made));
+        let again = serve(&mut locked, &tables, cpu, &Cmd::Mkdir { path });
+        holds(rt, again == Reply::Refused(Fault::Exists));
+    }
+    holds(rt, locked.find(path) == GroupId::of(1));
+    match end(locked, tables, cpus) {
+        Ok(audit) => holds(rt, audit == nothing_was_charged()),
+        Err(_pinned) => panic!(rt; "pins remain"),
+    }
+}
+
+#[test]
+fn a_command_is_served_by_value(rt: HostRuntime) {
+    let boot = boot(rt.alloc(), SIZES).expect(&rt, "a boot");
+    lives::<Brand, _>(&rt, rt.alloc(), boot);
+}

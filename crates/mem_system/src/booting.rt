@@ -1,0 +1,36 @@
+//! The call that boots a zone. It has a file of its own, since a function and a type whose names differ only in case
+//! aren't let into one.
+
+ghost use Rattle.std.specs.Prelude.{◌≡◌, ◌↔◌, IfOk};
+ghost use Rattle.mem_system.specs.Boots.{IsSizedAs};
+ghost use Rattle.mem_system.specs.declared.boots.BootFault.TheVariants.{BadConfig};
+ghost use Rattle.zone_sizes.specs.Config.{IsValidConfig};
+
+use crate::boots::{Boot, BootFault};
+use frame_word::FrameWords;
+use std::alloc::Global;
+use stock_word::StockWords;
+use zone_sizes::config::Config;
+
+/// Boots a zone of these sizes: makes its two tables, with all their seats. `BadConfig` is returned exactly if a size is
+/// out of its range, else `NoMemory` if memory runs out.
+pub fn boot(alloc: Global, sizes: Config) -> Result<Boot, BootFault>
+    ensures sizes { IfOk result (λ boot. boot.sizes ≡ sizes) }
+    ensures sized { IfOk result (λ boot. IsSizedAs sizes boot.frames boot.stocks) }
+    ensures bad_config { (result ≡ Err BadConfig) ↔ (¬ IsValidConfig sizes) }
+{
+    if !sizes.is_valid() {
+        return Err(BootFault::BadConfig);
+    }
+    let (frames, frame_seat, frame_seats) = FrameWords::new(alloc, sizes.frames, sizes.cpus)?;
+    let (stocks, stock_seat, stock_seats) = StockWords::new(alloc, sizes.cpus)?;
+    Ok(Boot {
+        sizes,
+        frames,
+        stocks,
+        frame_seat,
+        stock_seat,
+        frame_seats,
+        stock_seats,
+    })
+}
