@@ -1,0 +1,157 @@
+//! A system that is taken apart and put together again, or isn't shut down since a pin remains, is as it was.
+ghost use Rattle.std.specs.Prelude.{◌≡◌, length};
+
+use crate::life::{SIZES, answers, ends, holds, visit};
+use cpu_part::{BootName, Cpu};
+use frame_word::{Frame, Get};
+use group_tree::group::GroupId;
+use mem_system::{Boot, Cmd, Held, Reply, System, boot};
+use std::alloc::Global;
+use std::marker::Brand;
+use std::process::Abort;
+use std::sync::Wait;
+
+const FILES: [&[u8]; 6] = [
+    b"memory.current",
+    b"memory.max",
+    b"memory.peak",
+    b"memory.events",
+    b"memory.events.local",
+    b"memory.oom.group",
+];
+
+// What a host sees: all frames, the free blocks, the files of `/a`, and whether some groups are there.
+#[derive(Drop)]
+struct Seen {
+    frames: Vec<u8>,
+    blocks: Vec<u8>,
+    files: Vec<u8>,
+    group: Option<GroupId>,
+    other: Option<GroupId>,
+}
+
+// The files of `/a`, one after the other.
+fn read_files<N: BootName, R: Wait + Abort>(
+    rt: &R,
+    alloc: Global,
+    system: &System<N>,
+    cpu: &mut Cpu<N>,
+) -> Vec<u8> {
+    let path: &[u8] = b"/a";
+    let mut files = Vec::new(alloc);
+    for file in FILES {
+        match visit(rt, system, cpu, &Cmd::Read { path, file }) {
+            Reply::Text(found) => files
+                .extend_from_slice(found.as_bytes())
+                .expect(rt, "memory"),
+            _ => panic!(rt; "no text"),
+        }
+    }
+    files
+}
+
+// What the first CPU sees.
+fn sees<N: BootName, R: Wait + Abort>(
+    rt: &R,
+    alloc: Global,
+    system: &System<N>,
+    cpus: &mut [Cpu<N>],
+) -> Seen {
+    let cpu = cpus.first_mut().expect(rt, "a CPU");
+    let group: &[u8] = b"/a";
+    let other: &[u8] = b"/made";
+    Seen {
+        frames: system.show(rt, alloc, cpu).expect(rt, "memory"),
+        blocks: system.blocks(rt, alloc, cpu).expect(rt, "memory"),
+        files: read_files(rt, alloc, system, cpu),
+        group: system.find(rt, group),
+        other: system.find(rt, other),
+    }
+}
+
+// Both see the same.
+fn are_same(rt: &impl Abort, one: &Seen, other: &Seen) {
+    holds(rt, one.frames.as_slice() == other.frames.as_slice());
+    holds(rt, one.blocks.as_slice() == other.blocks.as_slice());
+    holds(rt, one.files.as_slice() == other.files.as_slice());
+    holds(rt, one.group == other.group && one.other == other.other);
+}
+
+// Frame 0.
+fn first_frame<N: BootName>(rt: &impl Abort, system: &System<N>) -> Frame {
+    system.tables().frames.frame(0).expect(rt, "a frame")
+}
+
+// The first CPU makes `/a`, charges frame 0 to it and pins the frame.
+fn charges_and_pins<N: BootName, R: Wait + Abort>(rt: &R, system: &System<N>, cpus: &mut [Cpu<N>]) {
+    let cpu = cpus.first_mut().expect(rt, "a CPU");
+    let path: &[u8] = b"/a";
+    let group = GroupId::of(1).expect(rt, "a group");
+    let frame = first_frame(rt, system);
+    answers(rt, system, cpu, &Cmd::Mkdir { path }, &Reply::Group(group));
+    answers(
+        rt,
+        system,
+        cpu,
+        &Cmd::Alloc { path, order: 0 },
+        &Reply::Frame(0),
+    );
+    answers(rt, system, cpu, &Cmd::Settle, &Reply::Done);
+    let got = cpu.get(system.tables(), frame);
+    holds(rt, got == Ok(Get::Held));
+}
+
+// The first CPU puts its reference on frame 0.
+fn unpins<N: BootName, R: Abort>(rt: &R, system: &System<N>, cpus: &mut [Cpu<N>]) {
+    let cpu = cpus.first_mut().expect(rt, "a CPU");
+    let frame = first_frame(rt, system);
+    assert!(rt; cpu.holds(frame));
+    let _ = cpu.put(system.tables(), frame);
+}
+
+// A pin keeps the system from its end.
+fn is_held<N: BootName>(
+    rt: &impl Abort,
+    system: System<N>,
+    cpus: Vec<Cpu<N>>,
+) -> (System<N>, Vec<Cpu<N>>)
+    requires { length cpus.items ≡ N.frames.cpus }
+    ensures { length result.1.items ≡ N.frames.cpus }
+{
+    match system.shutdown(cpus) {
+        Ok(_audit) => panic!(rt; "a pin remains"),
+        Err(held) => {
+            holds(rt, held.pins == 1);
+            let Held {
+                system,
+                cpus,
+                pins: _,
+            } = held;
+            (system, cpus)
+        }
+    }
+}
+
+// The life of a system that goes on twice.
+fn goes_on<N: BootName, R: Wait + Abort>(rt: &R, alloc: Global, boot: Boot)
+    requires { (boot.frames ≡ N.frames) × (boot.stocks ≡ N.stocks) }
+{
+    let (system, mut cpus) = boot.start::<N>(alloc).expect(rt, "memory");
+    charges_and_pins(rt, &system, &mut cpus);
+    let first = sees(rt, alloc, &system, &mut cpus);
+    let (locked, tables) = system.into_parts();
+    let system = System::of(locked, tables);
+    let again = sees(rt, alloc, &system, &mut cpus);
+    are_same(rt, &first, &again);
+    let (system, mut cpus) = is_held(rt, system, cpus);
+    let last = sees(rt, alloc, &system, &mut cpus);
+    are_same(rt, &first, &last);
+    unpins(rt, &system, &mut cpus);
+    holds(rt, ends(rt, system, cpus).charged == 1);
+}
+
+#[test]
+fn a_system_goes_on_as_it_was(rt: HostRuntime) {
+    let boot = boot(rt.alloc(), SIZES).expect(&rt, "a boot");
+    goes_on::<Brand, _>(&rt, rt.alloc(), boot);
+}
