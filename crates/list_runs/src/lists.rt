@@ -77,7 +77,7 @@ impl PlainLists {
         if let Some(entry) = self.take_off(unit) {
             self.active.push(unmarked(entry))?;
         }
-        Ok(Touched::Moved)
+        Ok(Touched::Active)
     }
 
     fn set_dirty(&mut self, unit: u32, is_dirty: bool) {
@@ -269,7 +269,7 @@ fn a_second_touch_moves_a_unit(rt: HostRuntime) {
     let mut lru = Lru::new(7);
     lru.add(&mut links, 3);
     touches_unit_3(&rt, &mut lru, &mut links, Touched::Marked);
-    touches_unit_3(&rt, &mut lru, &mut links, Touched::Moved);
+    touches_unit_3(&rt, &mut lru, &mut links, Touched::Active);
     zone_tells(&rt, lru.is_on(&links, 3) == Some(LruList::Active));
     lru.age(&mut links);
     zone_tells(&rt, lru.is_on(&links, 3) == Some(LruList::Inactive));

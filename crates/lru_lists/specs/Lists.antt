@@ -8,7 +8,7 @@ use Rattle.lru_lists.specs.declared.record.LruList.{LruList}
 use Rattle.lru_lists.specs.declared.record.LruList.TheVariants.{Inactive, Active}
 use Rattle.lru_lists.specs.declared.lru.Lru.{Lru}
 use Rattle.lru_lists.specs.declared.lru.Touched.{Touched}
-use Rattle.lru_lists.specs.declared.lru.Touched.TheVariants.{Marked, Moved}
+use Rattle.lru_lists.specs.declared.lru.Touched.TheVariants as touched
 use Rattle.lru_lists.specs.declared.queue.Queue.{Queue}
 use Rattle.lru_lists.specs.Queue.{link_at, units_of, IsLinked}
 
@@ -113,10 +113,10 @@ is_marked_by_touch list mark = false
 -- a touch marks a unit on the inactive list that isn't marked; it moves a marked one, and one on the active list, to
 -- the newest end of the active list, unmarked
 abbrev pub Touches : List Link → Lru → ℕ → Touched → List Link → Lru → Type 0
-Touches before old f Marked after new =
+Touches before old f touched.Marked after new =
     (list_of before old.owner f ≡ Some Inactive) × ((link_at before f).is_marked ≡ false)
     × (inactive_of after new ≡ changed_at f (marked true) (inactive_of before old)) × (active_of after new ≡ active_of before old)
-Touches before old f Moved after new =
+Touches before old f touched.Active after new =
     (list_of before old.owner f ≡ Some Inactive → (link_at before f).is_marked ≡ true)
     × (inactive_of after new ≡ entries_without f (inactive_of before old))
     × (active_of after new ≡ entries_without f (active_of before old) ++ marked false (entry_of before f) ∷ [])

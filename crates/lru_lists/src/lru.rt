@@ -18,8 +18,8 @@ use crate::record::{Entry, Home, LruList};
 pub enum Touched {
     /// The unit stays on the inactive list, and is marked now.
     Marked,
-    /// The unit stands at the newest end of the active list now, unmarked.
-    Moved,
+    /// The unit is at the newest end of the active list now, unmarked.
+    Active,
 }
 
 /// The ends and the lengths of an owner's two lists. The units themselves are linked through `Links`.
@@ -220,7 +220,7 @@ impl Lru {
             Touched::Marked
         } else {
             self.move_to(links, LruList::Active, unit);
-            Touched::Moved
+            Touched::Active
         }
     }
 

@@ -18,7 +18,7 @@ use Rattle.lru_lists.specs.Lists.{StandsIn, AllStand, OthersStand, ChangesOwn, T
 use Rattle.lru_lists.specs.Lists.{changed_at}
 use Rattle.lru_lists.specs.Lists.{entries_without, dirtied, marked}
 use Rattle.lru_lists.specs.declared.lru.Touched.{Touched}
-use Rattle.lru_lists.specs.declared.lru.Touched.TheVariants.{Marked, Moved}
+use Rattle.lru_lists.specs.declared.lru.Touched.TheVariants as touch
 use Rattle.mem_machine.specs.declared.spot.Spot.{Spot}
 use Rattle.mem_machine.specs.Machines.{FitsSpot, OthersStay, no_lists, group_lists}
 
@@ -213,13 +213,13 @@ units_numbers links lru list = sym (numbers links (units_of links (queue_of lru 
 touched_listed : (before after : List Link) (lru new : Lru) (f : ℕ) (touched : Touched) → StandsIn before lru → list_of before lru.owner f ≢ None
     → Touches before lru f touched after new → (g : ℕ) → is_listed after new g ≡ is_listed before lru g
 unfolding is_listed
-touched_listed before after lru new f Marked old on touches g =
+touched_listed before after lru new f touch.Marked old on touches g =
     let a : units_of after new.inactive ≡ units_of before lru.inactive = units_numbers after new Inactive ∙ ap (map (λ (e : Entry). e.number)) touches.2
     ∙ marked_numbers f true (inactive_of before lru) ∙ sym (units_numbers before lru Inactive) in
     let b : units_of after new.active ≡ units_of before lru.active = units_numbers after new Active ∙ ap (map (λ (e : Entry). e.number)) touches.3
     ∙ sym (units_numbers before lru Active) in
     λ i. is_among (a i) g || is_among (b i) g
-touched_listed before after lru new f Moved old on touches g =
+touched_listed before after lru new f touch.Active old on touches g =
     let a : units_of after new.inactive ≡ without f (units_of before lru.inactive) = units_numbers after new Inactive
     ∙ ap (map (λ (e : Entry). e.number)) touches.1
     ∙ without_numbers f (inactive_of before lru) ∙ ap (without f) (sym (units_numbers before lru Inactive)) in

@@ -22,7 +22,7 @@ pub record HeadsNoUnit (frame : ℕ) (way : Course KnownMachine) : Type 0 where
 -- is none
 abbrev pub TouchesFrame : (frame : ℕ) → Reply → Course KnownMachine → Type 0
 TouchesFrame frame Marked way = TouchesUnit frame touched.Marked way.before way.after × (way.steps ≡ [])
-TouchesFrame frame Active way = TouchesUnit frame touched.Moved way.before way.after × (way.steps ≡ [])
+TouchesFrame frame Active way = TouchesUnit frame touched.Active way.before way.after × (way.steps ≡ [])
 TouchesFrame frame (Refused NotKept) way = HeadsNoUnit frame way
 TouchesFrame frame other way = ⊥
 

@@ -45,7 +45,7 @@ pub(crate) fn touch_frame<N: BootName>(
     };
     match machine.touch(frame) {
         Touched::Marked => Outcome::Marked,
-        Touched::Moved => Outcome::Active,
+        Touched::Active => Outcome::Active,
     }
 }
 
