@@ -8,3 +8,4 @@ pub mod NoRash
 pub mod NoRashAllocs
 pub mod Missing
 pub mod CallerLemmas
+pub mod ComingLast

@@ -6,3 +6,4 @@ pub mod Rounds
 pub mod Frames
 pub mod Blocks
 pub mod NoRash
+pub mod Laws

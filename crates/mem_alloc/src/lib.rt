@@ -11,6 +11,7 @@ mod charging;
 mod faults;
 mod frames;
 mod kills;
+pub mod laws;
 mod reclaims;
 mod room;
 

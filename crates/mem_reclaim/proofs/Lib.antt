@@ -13,3 +13,4 @@ pub mod Alive
 pub mod KillSets
 pub mod Dying
 pub mod Rising
+pub mod Noted

@@ -1,10 +1,23 @@
--- What memory.oom.group promises of every kill (cgroup-v2.rst): a flagged group is killed as a whole, or no group of it is.
-use Rattle.std.specs.Prelude.{◌≡◌, ℕ, ◌⊎◌, true, Some, List, Contains}
+-- What holds of every kill and every reclaim. What memory.oom.group promises is cgroup-v2.rst's: a flagged group is killed
+-- as a whole, or no group of it is.
+use Rattle.std.specs.Prelude.{◌≡◌, ℕ, ◌-◌, ◌<◌, ◌≤◌, ◌⊎◌, true, false, Option, Some, List, Contains}
+use Rattle.frame_word.specs.Seats.{KnownTable}
 use Rattle.group_tree.specs.Groups.{AreGroups, in_subtree, is_oom_group}
-use Rattle.mem_machine.specs.Machines.{KnownMachine}
+use Rattle.group_tree.specs.Room.{max_count}
+use Rattle.group_charge.specs.Charges.{current_of}
+use Rattle.lru_lists.specs.declared.record.Home.{Home}
+use Rattle.lru_lists.specs.Queue.{link_at}
+use Rattle.step_rules.specs.After.{Run}
+use Rattle.kill_notes.specs.declared.note.Note.TheVariants as note
+use Rattle.mem_machine.specs.Machines.{KnownMachine, home_of, with_note}
 use Rattle.mem_reclaim.specs.declared.sets.Killed.{Killed}
+use Rattle.mem_reclaim.specs.Killing.{IsKilledBy, kept_units}
+use Rattle.mem_reclaim.specs.Moves.{Moves, all_missed_in, missed_in, returned_in}
+use Rattle.mem_reclaim.specs.Rounds.{MakesOneRound}
 use Rattle.mem_reclaim.specs.Sets.{IsHead, kill_set}
-use Rattle.mem_reclaim.specs.Victim.{IsVictim, may_be_killed}
+use Rattle.mem_reclaim.specs.Staying.{MissedAll}
+use Rattle.mem_reclaim.specs.Victim.{IsVictim, may_be_killed, own_frames}
+use Rattle.mem_reclaim.specs.Wanted.{Progress}
 
 -- in this machine these are a victim for the group `limited`, and its head
 pub record IsChosen (machine : KnownMachine) (limited : ℕ) (killed : Killed) : Type 0 where
@@ -36,3 +49,47 @@ abbrev pub OnlyTheLivingDie : Type 0
 OnlyTheLivingDie =
     (machine : KnownMachine) (limited : ℕ) (killed : Killed) → IsChosen machine limited killed
     → (group : ℕ) → Contains (kill_set machine killed) group → may_be_killed machine limited group ≡ true
+
+-- a group has one victim, or none
+abbrev pub TheVictimIsOne : Type 0
+TheVictimIsOne =
+    (machine : KnownMachine) (group : ℕ) (one two : Option ℕ) → IsVictim machine group one → IsVictim machine group two
+    → one ≡ two
+
+-- where all clean units of the subtree that are still kept count as missed, a freeze of each is among the steps
+abbrev pub MissedUnitsWereTried : Type 0
+MissedUnitsWereTried =
+    (table : KnownTable) (before : KnownMachine) (given : ℕ) (steps : Run) (after : KnownMachine) (group : ℕ)
+    → Moves table before given steps after → MissedAll group before after
+    → (frame : ℕ) (home : Home) → in_subtree after.ledger.groups group home.owner ≡ true
+    → home_of after.links frame ≡ Some home → (link_at after.links frame).is_dirty ≡ false → 1 ≤ missed_in frame steps
+
+-- the last note is of a round of this number: it reports the units that the steps return, the freezes among them that
+-- missed, the pages, and the usage
+pub record NotesRound (group number : ℕ) (done : Progress) : Type 0 where
+  pub reclaimed : KnownMachine
+  pub noted : done.after ≡ with_note reclaimed
+      (note.Round number (returned_in done.steps) (all_missed_in done.steps) done.given
+      (current_of reclaimed.ledger group))
+
+-- a round's note reports what its own steps did, as long as neither of the machine's two counts is at its greatest
+abbrev pub RoundsAreNotedAsMade : Type 0
+RoundsAreNotedAsMade =
+    (group number want : ℕ) (done : Progress) → MakesOneRound group number want done
+    → done.after.counts.freezes < max_count → done.after.counts.misses < max_count → NotesRound group number done
+
+-- the last note is of the kill of this group: of its units it reports those that the steps return, and as pinned the
+-- others
+pub record NotesKill (limited group : ℕ) (before : KnownMachine) (steps : Run) (after : KnownMachine) : Type 0 where
+  pub killed : KnownMachine
+  pub noted : after ≡ with_note killed
+      (note.Kill group (returned_in steps) (own_frames before group - own_frames killed group)
+      (kept_units before group - returned_in steps) (own_frames killed group) (current_of killed.ledger limited))
+
+-- the note of a victim that dies alone reports what the steps of its kill did, as long as the machine's count of last
+-- puts isn't at its greatest
+abbrev pub LoneKillsAreNotedAsMade : Type 0
+LoneKillsAreNotedAsMade =
+    (table : KnownTable) (limited : ℕ) (killed : Killed) (before after : KnownMachine)
+    → (kill : IsKilledBy table limited killed before after) → is_oom_group before.ledger.groups killed.head ≡ false
+    → after.counts.last_puts < max_count → NotesKill limited killed.victim before kill.steps after

@@ -6,6 +6,7 @@ pub mod Ends
 pub mod Files
 pub mod Groups
 pub mod Kept
+pub mod Laws
 pub mod Leaves
 pub mod Locked
 pub mod Outcomes

@@ -16,6 +16,7 @@ mod files;
 mod gates;
 mod groups;
 mod last_visits;
+pub mod laws;
 mod lock;
 mod outcome;
 mod owners;

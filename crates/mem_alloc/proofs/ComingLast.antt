@@ -1,0 +1,83 @@
+-- Laws of kills and refills. Serves `laws`, and those of the commands.
+use Rattle.std.proofs.Common.{◌≡◌, ℕ, ◌+◌, ◌⊎◌, Bool, true, false, List, Option, Some, None, length, refl, sym, ap, ◌∙◌, inl, inr, arith}
+use Rattle.std.proofs.Common.{length-append}
+use Rattle.std.proofs.lemmas.Bool.{cases_lt, false≢true}
+use Rattle.group_tree.specs.declared.group.Group.{Group}
+use Rattle.mem_machine.specs.Machines.{KnownMachine, is_killed}
+use Rattle.mem_alloc.specs.Kills.{IsAlive, KillsUntilRoom, has_room_at}
+use Rattle.mem_reclaim.specs.Victim.{IsVictim}
+use Rattle.mem_alloc.specs.Laws.{ChargesKillLast, KillsComeLast, KillsEndInTime, RefillsAreWhole}
+use Rattle.mem_alloc.specs.NoRash.{IsChargedBelow}
+use Rattle.mem_alloc.proofs.Filling.{lent_part}
+
+pub kills_come_last : (MayAsk : List Group → ℕ → ℕ → Type 0) → KillsComeLast MayAsk
+kills_come_last MayAsk t start cpu steps before rest made g none is kills =
+    let after = none before rest made g is kills in
+    let may = after.may in
+    record {
+      tried = after.tried;
+      since = after.since;
+      killed = after.killed;
+      left = after.left;
+      steps_are = after.steps_are;
+      last = record {
+        now = after.now;
+        leads = after.leads;
+        words = may.words;
+        consistent = may.consistent;
+        charges = may.charges;
+        limited = may.limited;
+        need = may.need;
+        asked = may.asked;
+        over = may.over;
+        noted = may.noted;
+        drained = may.drained;
+        frozen = λ f home below kept clean.
+            let rose = may.missed f home below kept clean in
+            let counted = may.tied.misses f in
+            omega (arith, rose, counted);
+        chosen = may.chosen;
+        head_is = may.head_is;
+      };
+      set_is = after.set_is;
+    }
+
+pub charges_kill_last : ChargesKillLast
+charges_kill_last g pages = kills_come_last (IsChargedBelow g pages)
+
+-- whoever asks is alive, or is killed
+alive_or_not : (requester : Option ℕ) (m : KnownMachine) → IsAlive requester m ⊎ (¬ IsAlive requester m)
+alive_or_not None m = inl tt
+alive_or_not (Some r) m = by_mark (is_killed m.killed r) refl
+  where
+    by_mark : (mark : Bool) → is_killed m.killed r ≡ mark → IsAlive (Some r) m ⊎ (¬ IsAlive (Some r) m)
+    by_mark true is = inr (λ alive. false≢true (sym alive ∙ is))
+    by_mark false is = inl is
+
+pub kills_end_in_time : KillsEndInTime
+kills_end_in_time requester g pages way kills = by_room (has_room_at way.before.ledger g pages) refl
+  where
+    Ended : Type 0
+    Ended = (has_room_at way.after.ledger g pages ≡ true) ⊎ ((¬ IsAlive requester way.after) ⊎ IsVictim way.after g None)
+
+    at_end : KillsUntilRoom requester g pages way → (room : Bool) → has_room_at way.after.ledger g pages ≡ room → Ended
+    at_end until true is = inl is
+    at_end until false is = elim (alive_or_not requester way.after) [
+      | inl alive ↦ inr (inr (until.ended (record { over = is; alive = alive })))
+      | inr dead ↦ inr (inl dead)
+    ]
+
+    by_room : (room : Bool) → has_room_at way.before.ledger g pages ≡ room → Ended
+    by_room true is = inl (ap (λ (m : KnownMachine). has_room_at m.ledger g pages) (kills.room is).machine ∙ is)
+    by_room false is = at_end (kills.over is) (has_room_at way.after.ledger g pages) refl
+
+pub refills_are_whole : RefillsAreWhole
+refills_are_whole batch way refill =
+    let part = lent_part refill.frames way.before.machine way.after.machine way.before.cpu way.after.cpu refill.lends in
+    let long : length way.after.cpu.list ≡ length way.before.cpu.list + length refill.frames =
+    ap length part.list ∙ length-append way.before.cpu.list refill.frames in
+    let most = refill.at_most in
+    elim (cases_lt (length refill.frames) batch) [
+      | inl fewer ↦ inr (refill.fewer fewer)
+      | inr all ↦ inl (omega (arith, long, most, all))
+    ]

@@ -1,0 +1,82 @@
+-- What holds of every charge that kills and of every refill, whatever function makes it.
+use Rattle.std.specs.Prelude.{◌≡◌, ℕ, ◌+◌, ◌≤◌, ◌⊎◌, true, false, Option, Some, None, List, ◌∷◌, ◌++◌, length}
+use Rattle.frame_word.specs.Seats.{KnownTable}
+use Rattle.stock_word.specs.Stock.{Words}
+use Rattle.group_tree.specs.declared.group.Group.{Group}
+use Rattle.group_tree.specs.Groups.{in_subtree}
+use Rattle.group_charge.specs.Charges.{AreCharges}
+use Rattle.lru_lists.specs.declared.record.Home.{Home}
+use Rattle.lru_lists.specs.Queue.{link_at}
+use Rattle.cpu_part.specs.Cpus.{KnownCpu}
+use Rattle.step_rules.specs.declared.step.Action.TheVariants.{Kill}
+use Rattle.step_rules.specs.declared.step.Answer.{Answer}
+use Rattle.step_rules.specs.declared.step.Step.{Step}
+use Rattle.step_rules.specs.After.{Run}
+use Rattle.mem_machine.specs.Machines.{IsConsistent, KnownMachine, home_of}
+use Rattle.mem_machine.specs.Local.{IsLocalRun, Side, local_of}
+use Rattle.mem_machine.specs.Stocks.{AreDrained}
+use Rattle.mem_reclaim.specs.declared.sets.Killed.{Killed}
+use Rattle.mem_reclaim.specs.Moves.{kills_in, missed_in}
+use Rattle.mem_reclaim.specs.Sets.{IsHead, kill_set}
+use Rattle.mem_reclaim.specs.Victim.{IsVictim}
+use Rattle.mem_alloc.specs.Frames.{HasNoFreeFrame, LendsBatch}
+use Rattle.mem_alloc.specs.Kills.{IsAlive, KillsFor, has_room_at}
+use Rattle.mem_alloc.specs.NoRash.{IsChargedBelow, NoRashKill, has_oom_note}
+use Rattle.mem_alloc.specs.Stepping.{Course}
+
+-- All else was tried for the limit of the group `limited` by these first steps of a call, and it has no room: they lead
+-- to this machine, which is consistent; a step notes `oom` there; no stock of the subtree is held; of each clean unit that
+-- the subtree still keeps, one of these steps is a freeze that missed; and this is the victim, with its head
+pub record WasLast (MayAsk : List Group → ℕ → ℕ → Type 0) (table : KnownTable) (start : KnownMachine) (cpu : KnownCpu)
+    (tried : Run) (killed : Killed) : Type 0 where
+  pub now : KnownMachine
+  pub leads : IsLocalRun cpu.number (local_of table start cpu) tried (local_of table now cpu)
+  pub words : Words
+  pub consistent : IsConsistent table words now
+  pub charges : AreCharges now.ledger
+  pub limited : ℕ
+  pub need : ℕ
+  pub asked : MayAsk now.ledger.groups limited need
+  pub over : has_room_at now.ledger limited need ≡ false
+  pub noted : has_oom_note limited tried ≡ true
+  pub drained : AreDrained limited table.cpus now
+  pub frozen : (frame : ℕ) (home : Home) → in_subtree now.ledger.groups limited home.owner ≡ true
+      → home_of now.links frame ≡ Some home → (link_at now.links frame).is_dirty ≡ false → 1 ≤ missed_in frame tried
+  pub chosen : IsVictim now limited (Some killed.victim)
+  pub head_is : IsHead now.ledger.groups limited killed
+
+-- The group dies with a victim, by these steps of a call and a kill of it then: `tried` are those before the first kill of
+-- the set, when all else was tried, and the groups killed since are a beginning of the set, with this group next
+pub record ComesLast (MayAsk : List Group → ℕ → ℕ → Type 0) (table : KnownTable) (start : KnownMachine) (cpu : KnownCpu)
+    (before : Run) (group : ℕ) : Type 0 where
+  pub tried : Run
+  pub since : Run
+  pub killed : Killed
+  pub left : List ℕ
+  pub steps_are : before ≡ tried ++ since
+  pub last : WasLast MayAsk table start cpu tried killed
+  pub set_is : kill_set last.now killed ≡ kills_in since ++ group ∷ left
+
+-- in the steps of a call without a rash kill, each kill comes last
+abbrev pub KillsComeLast : (List Group → ℕ → ℕ → Type 0) → Type 0
+KillsComeLast MayAsk =
+    (table : KnownTable) (start : KnownMachine) (cpu : KnownCpu) (steps before rest : Run) (made : Step × Answer)
+    (group : ℕ) → NoRashKill table MayAsk start cpu steps → steps ≡ before ++ made ∷ rest → made.0.action ≡ Kill group
+    → ComesLast MayAsk table start cpu before group
+
+-- so it is of each charge of so many pages to a group
+abbrev pub ChargesKillLast : Type 0
+ChargesKillLast = (group pages : ℕ) → KillsComeLast (IsChargedBelow group pages)
+
+-- kills for a limit end when it has room for the pages, or the group that asks for them is killed, or no victim is left
+abbrev pub KillsEndInTime : Type 0
+KillsEndInTime =
+    (requester : Option ℕ) (limited pages : ℕ) (way : Course KnownMachine) → KillsFor requester limited pages way
+    → (has_room_at way.after.ledger limited pages ≡ true)
+    ⊎ ((¬ IsAlive requester way.after) ⊎ IsVictim way.after limited None)
+
+-- a refill lists a whole batch, or no frame is free after it
+abbrev pub RefillsAreWhole : Type 0
+RefillsAreWhole =
+    (batch : ℕ) (way : Course Side) → LendsBatch batch way
+    → (length way.after.cpu.list ≡ length way.before.cpu.list + batch) ⊎ HasNoFreeFrame way.after

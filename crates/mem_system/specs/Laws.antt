@@ -1,0 +1,20 @@
+-- What holds of every command that was served, whatever function served it.
+use Rattle.std.specs.Prelude.{◌≡◌, ℕ, ◌∷◌, ◌++◌}
+use Rattle.step_rules.specs.declared.step.Action.TheVariants.{Kill}
+use Rattle.step_rules.specs.declared.step.Answer.{Answer}
+use Rattle.step_rules.specs.declared.step.Step.{Step}
+use Rattle.step_rules.specs.After.{Run}
+use Rattle.mem_alloc.specs.Laws.{ComesLast}
+use Rattle.mem_system.specs.declared.command.Cmd.{Cmd}
+use Rattle.mem_system.specs.declared.command.Reply.{Reply}
+use Rattle.mem_system.specs.Asks.{MayAskFor}
+use Rattle.mem_system.specs.Visits.{Course, Holder, Serves}
+
+-- each kill that a command makes once its processor is settled comes last: all else was tried for the limit that the
+-- command may ask for, before the first kill of the set that dies with the victim
+abbrev pub CommandsKillLast : Type 0
+CommandsKillLast =
+    (cmd : Cmd) (reply : Reply) (way : Course Holder) (served : Serves cmd reply way) (before rest : Run)
+    (made : Step × Answer) (group : ℕ) → served.inner ≡ before ++ made ∷ rest → made.0.action ≡ Kill group
+    → ComesLast (MayAskFor cmd served.settled.machine.ledger.groups) way.table served.settled.machine served.settled.cpu
+    before group
