@@ -1,7 +1,6 @@
 use Rattle.std.proofs.Common.{rules, ◌≡◌, ◌++◌, ap, sym, ◌∙◌, refl, subst, arith}
 use Rattle.group_charge.specs.Charges.{Ledger}
-use Rattle.cpu_part.specs.Cpus.{KnownCpu}
-use Rattle.mem_machine.specs.Machines.{KnownMachine, KeepsVisit}
+use Rattle.mem_machine.specs.Machines.{KnownMachine}
 use Rattle.mem_machine.specs.Local.{side}
 use Rattle.mem_machine.specs.Steps.{remove_steps}
 use Rattle.mem_system.specs.Leaves.{IsLeafAt}
