@@ -1,4 +1,4 @@
-//! The end of a boot: every pin that is still held is put, the boot ends, and what was counted is told.
+//! The end of a boot: every pin that is still held is put, the boot ends, and its counts are reported.
 
 ghost use Rattle.std.specs.Prelude.{◌≡◌, ◌++◌, OnOk, length};
 ghost use Rattle.std.specs.List.{AllZip};
@@ -11,7 +11,7 @@ use cpu_part::{BootName, Cpu, Tables};
 use mem_system::{Audit, Locked, Pinned, end};
 use std::alloc::AllocError;
 
-/// What a boot told at its end.
+/// What a boot reports at its end.
 #[derive(Clone, Copy, Debug, PartialEq, Eq)]
 pub struct Ended {
     /// The pins that were still held, and were put then.
@@ -20,7 +20,7 @@ pub struct Ended {
     pub audit: Audit,
 }
 
-// Puts every pin of the processor.
+// Puts every pin of the CPU.
 fn put_pins<N: BootName>(tables: &Tables<N>, cpu: &mut Cpu<N>)
     ensures { PutsAllPins cpu.old cpu.new }
 {
@@ -29,7 +29,7 @@ fn put_pins<N: BootName>(tables: &Tables<N>, cpu: &mut Cpu<N>)
     }
 }
 
-// Puts every pin of the processors.
+// Puts every pin of the CPUs.
 fn put_all_pins<N: BootName>(tables: &Tables<N>, cpus: &mut [Cpu<N>])
     ensures { AllZip PutsAllPins cpus.old cpus.new }
 {
@@ -38,7 +38,7 @@ fn put_all_pins<N: BootName>(tables: &Tables<N>, cpus: &mut [Cpu<N>])
     }
 }
 
-/// Ends a boot. Where pins are still held, they are put first.
+/// Ends a boot. Pins that are still held are put first.
 pub fn end_boot<N: BootName>(locked: Locked<N>, tables: Tables<N>, cpus: Vec<Cpu<N>>) -> Ended
     requires count { length cpus.items ≡ N.frames.cpus }
     ensures ends { EndsHeld N.frames N.stocks (standing locked cpus.items) result }
@@ -61,8 +61,8 @@ pub fn end_boot<N: BootName>(locked: Locked<N>, tables: Tables<N>, cpus: Vec<Cpu
     }
 }
 
-/// Adds what is told of the end: the pins that were held, where there were any, and what was counted. It fails only
-/// for want of memory.
+/// Adds the report of the end: the pins that were held, if there were any, and the counts. It fails only if memory runs
+/// out.
 pub fn write_end(ended: &Ended, text: &mut String) -> Result<(), AllocError>
     ensures told { OnOk result (string_bytes text.new
         ≡ string_bytes text.old ++ (held_text ended.now.held ++ audit_text ended.now.audit)) }
@@ -71,7 +71,7 @@ pub fn write_end(ended: &Ended, text: &mut String) -> Result<(), AllocError>
     write_audit(&ended.audit, text)
 }
 
-// A line with the pins that were held, where there were any.
+// A line with the pins that were held, if there were any.
 fn write_held(held: u64, text: &mut String) -> Result<(), AllocError>
     ensures { OnOk result (string_bytes text.new ≡ string_bytes text.old ++ held_text held) }
 {
@@ -100,7 +100,7 @@ fn write_places(audit: &Audit, text: &mut String) -> Result<(), AllocError>
     writeln!(text, "audit frames {frames} free {free} charged {charged}")
 }
 
-// The line of the units that ended, and that came back.
+// The line of the units that ended, and that were freed.
 fn write_counts(audit: &Audit, text: &mut String) -> Result<(), AllocError>
     ensures { OnOk result (string_bytes text.new ≡ string_bytes text.old ++ audit_counts_text audit.now) }
 {

@@ -1,4 +1,4 @@
-//! Each fault is told in a line of its own, or in clap's text of the words, as far as the writer takes it.
+//! Each fault is reported in a line of its own, or in clap's text of the words, as far as the writer takes it.
 
 ghost use Rattle.std.specs.Prelude.{◌≡◌, OnOk};
 ghost use Rattle.std.specs.Io.KnownBytes.{Appends};
@@ -13,7 +13,7 @@ use script_lines::fault::ScriptFault;
 use std::io;
 use std::io::Write;
 
-/// Tells a fault in its words, as far as the writer takes them, and gives the status to end with.
+/// Reports a fault in its words, as far as the writer takes them, and returns the status to end with.
 pub fn tell_fault<F: Write>(fault: &ProgramFault, faults: &mut F) -> u8
     ensures status { result ≡ status_of fault.now }
     ensures told { AppendsBeginning (F.contents faults.old) (F.contents faults.new) (fault_text fault.now) }

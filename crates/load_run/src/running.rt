@@ -1,5 +1,4 @@
-//! What a boot answers to lines: it replays them, one after the other, and ends, also where memory is wanting for an
-//! answer.
+//! What a boot answers to lines: it replays them, one after the other, and ends, also if memory runs out for an answer.
 
 ghost use Rattle.std.specs.Prelude.{◌≡◌, ◌++◌, All, IfOk, length};
 ghost use Rattle.script_replay.specs.History.{ReplaysOrStops};
@@ -16,9 +15,9 @@ use script_lines::line::Line;
 use script_replay::replay;
 use std::alloc::{AllocError, Global};
 
-/// Replays the lines on a boot under a name of its tables, and ends it; what they are answered, and what is told of
-/// kills and of the end where that is asked for. `AllocError` comes where memory is wanting: a boot that began has
-/// ended then too.
+/// Replays the lines on a boot under a name of its tables, and ends it. It returns what they are answered, with why groups
+/// were killed and the report of the end if these are asked for. `AllocError` means that memory ran out: a boot that
+/// began has ended then too.
 pub fn replay_on_boot<N: BootName>(
     alloc: Global,
     boot: Boot,
@@ -36,7 +35,7 @@ pub fn replay_on_boot<N: BootName>(
     tell_end(alloc, answers?, ended, is_audited)
 }
 
-// Replays the lines, and ends the boot, also where memory was wanting for what they are answered.
+// Replays the lines, and ends the boot, also if memory ran out for what they are answered.
 fn replay_and_end_boot<N: BootName>(
     alloc: Global,
     mut locked: Locked<N>,
@@ -55,8 +54,7 @@ fn replay_and_end_boot<N: BootName>(
     (answers, ended)
 }
 
-/// The answers, and after them what is told of the end, where that is asked for. `AllocError` comes where memory is
-/// wanting.
+/// The answers, and after them the report of the end if that is asked for. `AllocError` means that memory ran out.
 pub fn tell_end(
     alloc: Global,
     mut answers: Vec<u8>,

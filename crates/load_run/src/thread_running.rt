@@ -1,5 +1,5 @@
-//! The life of a boot under `run`: the lines before `go` one after the other, the others by a thread for each
-//! processor, and the end.
+//! The life of a boot under `run`: the lines before `go` one after the other, the others by a thread for each CPU, and
+//! the end.
 
 ghost use Rattle.std.specs.Prelude.{◌≡◌, ◌<◌, ◌^◌, All, IfOk, length};
 ghost use Rattle.script_replay.specs.Ranges.{LineIsThere};
@@ -19,11 +19,10 @@ use std::alloc::{AllocError, Global};
 use std::sync::Wait;
 use std::thread::Threads;
 
-/// Runs the lines on a boot under a name of its tables, and ends it; what they are answered, and what is told of the
-/// end where that is asked for. The lines before `go` are served one after the other, as `replay` does, and those from
-/// it on by a thread for each processor, as `run_each` does; where there is no `go`, all lines run in threads.
-/// `AllocError` comes where memory is wanting or a thread can't be made: the boot has ended then too, and each thread
-/// that was started before that.
+/// Runs the lines on a boot under a name of its tables, and ends it. It returns what they are answered, and the report of
+/// the end if that is asked for. The lines before `go` are served one after the other, as `replay` does, and those from
+/// it on by a thread for each CPU, as `run_each` does; if there is no `go`, all lines run in threads. `AllocError` means
+/// that memory ran out or a thread can't be started: the boot has ended then too, and each thread that was started.
 pub fn run_by_threads<N: BootName + Send + Sync, R: Threads + Wait + Sync>(
     rt: &R,
     alloc: Global,
@@ -45,7 +44,7 @@ pub fn run_by_threads<N: BootName + Send + Sync, R: Threads + Wait + Sync>(
     tell_end(alloc, answers, ended, is_audited)
 }
 
-// Serves the later lines by a thread for each processor, and ends the boot, also where memory was wanting.
+// Serves the later lines by a thread for each CPU, and ends the boot, also if memory ran out.
 fn serve_and_end<N: BootName + Send + Sync, R: Threads + Wait + Sync>(
     rt: &R,
     alloc: Global,
@@ -61,7 +60,7 @@ fn serve_and_end<N: BootName + Send + Sync, R: Threads + Wait + Sync>(
         TellsEach (boot_tables N.frames N.stocks) (workers_from 1 cpus.items lines.now) text.items) }
     ensures ends { EndsAfter N.frames N.stocks (StandsQuiet N.frames N.stocks) result.1 }
 {
-    locked.see_quiet(); // For the clauses: there are fewer than 2^31 processors, as `run_each` asks.
+    locked.see_quiet(); // For the clauses: there are fewer than 2^31 CPUs, as `run_each` asks.
     let system = System::of(locked, tables);
     let told = serve_later(rt, alloc, &system, &mut cpus, lines, has_memory);
     let (locked, tables) = system.into_parts();
@@ -69,7 +68,7 @@ fn serve_and_end<N: BootName + Send + Sync, R: Threads + Wait + Sync>(
     (told, ended)
 }
 
-// The answers of the later lines, by a thread for each processor. Where memory was wanting before, none is started.
+// The answers of the later lines, by a thread for each CPU. If memory ran out before, none is started.
 fn serve_later<N: BootName + Send + Sync, R: Threads + Wait + Sync>(
     rt: &R,
     alloc: Global,

@@ -8,7 +8,7 @@ use std::io;
 use std::io::{ErrorKind, Write};
 
 /// Writes all of the bytes. A write that was interrupted is made again, 2^64 - 1 times in all at most, so that the call
-/// returns also where each is; where the writer fails, a beginning of the bytes was written.
+/// returns even if each is. If the writer fails, or takes nothing, a beginning of the bytes was written.
 pub fn write_whole<W: Write>(bytes: &[u8], writer: &mut W) -> io::Result<()>
     ensures whole { OnOk result (Appends (W.contents writer.old) (W.contents writer.new) bytes.now) }
     ensures beginning { AppendsBeginning (W.contents writer.old) (W.contents writer.new) bytes.now }
