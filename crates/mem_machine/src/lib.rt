@@ -42,6 +42,5 @@ mod visits;
 pub use blocks::TakeFault;
 pub use counts::Counts;
 pub use machine::Machine;
-pub use places::Places;
 pub use releasing::Released;
 pub use spot::{Place, Spot};
