@@ -146,23 +146,6 @@ fn each_long_script_is_answered_or_refused(rt: HostRuntime) {
     }
 }
 
-// The greatest machine has 1,024 blocks, all of the greatest order: the first and the last, and the bytes of all.
-#[test]
-fn the_greatest_machine_lists_its_blocks(rt: HostRuntime) {
-    let words = ["replay", "--frames", "1048576", "--cpus", "64"];
-    let script = script_reader(b"64 blocks\n".as_slice());
-    let ended = run_program(&rt, &words, script, 20_000);
-    let told = ended.output.as_slice();
-    row_holds(&rt, ended.status == 0, "status");
-    row_holds(&rt, told.starts_with(b"10:0 10:1024 ".as_slice()), "begin");
-    row_holds(
-        &rt,
-        told.ends_with(b" 10:1046528 10:1047552\n".as_slice()),
-        "end",
-    );
-    row_holds(&rt, told.len() == 10_176, "bytes");
-}
-
 #[test]
 fn judges_the_words_then_the_script_then_the_configuration(rt: HostRuntime) {
     let clap = "error: invalid value '0' for '--frames <N>'";

@@ -4,14 +4,12 @@ use crate::streams::{
     ProgramRun, row_holds, run_is_refused, run_program, script_reader, words_of, writer_with_room,
 };
 use load_threads::program::drive_run;
-use std::alloc::{AllocError, Global};
 use std::process::Abort;
 use std::sync::Wait;
-use std::test::Fail;
 use std::thread::Threads;
 
 // Runs the program with these words over this script, in threads.
-fn run_by_threads<R: AllocGlobal + Threads + Wait + Abort + Sync>(
+pub fn run_by_threads<R: AllocGlobal + Threads + Wait + Abort + Sync>(
     rt: &R,
     words: &str,
     script: &str,
@@ -89,28 +87,6 @@ fn pins_that_threads_leave_are_put_at_the_end(rt: HostRuntime) {
     for (script, answers, ending) in PINS_LEFT {
         threads_end_as_a_replay(&rt, script, answers, ending);
     }
-}
-
-// A group, and from `go` on a frame for each of so many CPUs.
-fn frame_for_each(alloc: Global, cpus: u32) -> Result<String, AllocError> {
-    let mut script = String::new(alloc);
-    script.push_str("1 mkdir /a\ngo\n")?;
-    for before in 0..cpus {
-        let cpu = before + 1;
-        writeln!(script, "{cpu} alloc /a 0")?;
-    }
-    Ok(script)
-}
-
-#[test]
-fn the_greatest_machine_has_a_thread_for_each_cpu(rt: HostRuntime) -> Result<(), Fail> {
-    let script = frame_for_each(rt.alloc(), 64)?;
-    let words = "run --frames 1048576 --cpus 64 --audit";
-    let ended = run_by_threads(&rt, words, script.as_str());
-    let ending =
-        "audit frames 1048576 free 1048512 charged 64\naudit puts 0 freezes 0 drops 0 returns 0\n";
-    ends_with(&rt, &ended, ending);
-    Ok(())
 }
 
 // Faults of the words, of the script and of the sizes: the words, the script and how what is told of it begins.
