@@ -9,10 +9,10 @@ use std::marker::Model;
 /// How many groups there may be at once, the root counted.
 pub const MAX_GROUPS: usize = 64;
 
-/// The number of a group, 0 to 63. The root's is 0.
+/// The number of a group, 0 to 63. The root's is 0. It takes one byte, since the record of each frame holds one.
 #[derive(Clone, Copy, Debug, PartialEq, Eq, PartialOrd, Ord, Hash)]
 pub struct GroupId {
-    number: u32,
+    number: u8,
 }
 
 impl Model for GroupId {
@@ -35,7 +35,9 @@ impl GroupId {
         ensures { SomeIff result (number < most_groups) number }
     {
         if (number as usize) < MAX_GROUPS {
-            Some(GroupId { number })
+            Some(GroupId {
+                number: number as u8,
+            })
         } else {
             None
         }
@@ -53,7 +55,7 @@ impl GroupId {
         ensures value { result ≡ self }
         ensures below { result < most_groups }
     {
-        self.number
+        u32::from(self.number)
     }
 }
 

@@ -17,7 +17,7 @@ use std::test::Fail;
 
 const FRAMES: u32 = 256;
 
-const OWNERS: u32 = 16;
+const OWNERS: u8 = 16;
 
 // The two lists of one owner as plain vectors, each from the oldest unit to the newest.
 #[derive(Drop)]
@@ -190,7 +190,7 @@ fn call_one_owner(
 {
     let owner = match links.home(unit) {
         Some(home) => home.owner,
-        None => word / 64 % OWNERS,
+        None => (word / 64 % u32::from(OWNERS)) as u8,
     } as usize;
     if owner < lists.len() && owner < plain.len() {
         laws::one_of_all_changes();

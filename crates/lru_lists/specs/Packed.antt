@@ -3,6 +3,9 @@ use Rattle.std.specs.Prelude.{ℕ, ◌==◌, ◌<◌, Option, Some, None, IfSome
 use Rattle.lru_lists.specs.declared.record.Link.{Link}
 use Rattle.lru_lists.specs.declared.record.Home.{Home}
 use Rattle.lru_lists.specs.declared.record.LruList.{LruList}
+use Rattle.lru_lists.specs.declared.record.LruList.TheVariants.{Inactive, Active}
+use Rattle.lru_lists.specs.declared.packed.OnList.{OnList}
+use Rattle.lru_lists.specs.declared.packed.OnList.TheVariants as on_list
 use Rattle.lru_lists.specs.declared.packed.Packed.{Packed}
 
 -- the neighbour that a number stands for: the greatest of 32 bits stands for none
@@ -13,7 +16,13 @@ number_of n = if n == 4294967295 then None else Some n
 abbrev pub IsNumber : Option ℕ → Type 0
 IsNumber unit = IfSome unit (λ u. u < 4294967295)
 
--- the home of an owner's list, where there is one
+-- which of the two lists it is on; None for neither
+abbrev pub list_on : OnList → Option LruList
+list_on on_list.Neither = None
+list_on on_list.Inactive = Some Inactive
+list_on on_list.Active = Some Active
+
+-- the home of an owner's list, if there is one
 abbrev pub home_of_list : Option LruList → ℕ → Option Home
 home_of_list None owner = None
 home_of_list (Some list) owner = Some (record { owner = owner; list = list })
@@ -21,7 +30,7 @@ home_of_list (Some list) owner = Some (record { owner = owner; list = list })
 -- the record that is packed
 abbrev pub link_of : Packed → Link
 link_of p = record {
-  home = home_of_list p.list p.owner;
+  home = home_of_list (list_on p.list) p.owner;
   older = number_of p.older;
   newer = number_of p.newer;
   is_marked = p.is_marked;

@@ -26,7 +26,7 @@ pub enum Touched {
 #[derive(Clone, Copy, Debug, PartialEq, Eq)]
 pub struct Lru {
     /// The number by which a frame's record names the owner.
-    pub owner: u32,
+    pub owner: u8,
     /// The inactive list.
     pub inactive: Queue,
     /// The active list.
@@ -36,7 +36,7 @@ pub struct Lru {
 impl Lru {
     /// The empty lists of an owner. They stand in any records of which none names this owner as its home: in those that
     /// `Links::new` made, and where each of the owner's units was taken off.
-    pub fn new(owner: u32) -> Lru
+    pub fn new(owner: u8) -> Lru
         ensures owner { result.owner ≡ owner }
         ensures stands { (links : List Link) → HasNoUnits links owner → StandsIn links result }
         ensures empty { (links : List Link) (list : LruList) → entries_of links result list ≡ [] }

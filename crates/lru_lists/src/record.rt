@@ -13,7 +13,7 @@ pub enum LruList {
 #[derive(Clone, Copy, Debug, PartialEq, Eq)]
 pub struct Home {
     /// The number of the owner of both lists, as that of a group.
-    pub owner: u32,
+    pub owner: u8,
     /// Which of the owner's lists.
     pub list: LruList,
 }

@@ -1,1 +1,2 @@
 pub mod Keepers
+pub mod Runs

@@ -1,5 +1,6 @@
 -- The text of the places of the frames.
-use Rattle.std.specs.Prelude.{◌≡◌, ℕ, List, [], ◌∷◌, ◌++◌, codes, ◌+◌, ◌-◌, ◌==◌, Bool, true, false, if◌then◌else◌}
+use Rattle.std.specs.Prelude.{◌≡◌, ℕ, List, [], ◌∷◌, ◌++◌, codes, ◌+◌, ◌-◌, ◌<◌, ◌==◌, Bool, true, false, if◌then◌else◌, All, length, take}
+use Rattle.std.specs.List.{prefix_len}
 use Rattle.std.specs.Option.{option_map_or}
 use Rattle.std.specs.Fmt.{decimal}
 use Rattle.group_tree.specs.declared.group.Group.{Group}
@@ -7,7 +8,7 @@ use Rattle.group_tree.specs.Groups.{has_group, path_of}
 use Rattle.mem_machine.specs.declared.spot.Spot.{Spot}
 use Rattle.mem_machine.specs.declared.spot.Place.{Place}
 use Rattle.mem_machine.specs.declared.spot.Place.TheVariants.{Free, Lent, Charged}
-use Rattle.mem_machine.specs.Spots.{place_of}
+use Rattle.mem_machine.specs.Spots.{place_of, spot_at}
 use Rattle.machine_texts.specs.Characters.{characters}
 
 -- whether the two places are the same
@@ -21,6 +22,20 @@ is_same_place (Lent one) Free = false
 is_same_place (Lent one) (Charged other) = false
 is_same_place (Charged one) Free = false
 is_same_place (Charged one) (Lent other) = false
+
+-- the frame with this record is at this place
+abbrev pub IsAt : Place → Spot → Type 0
+IsAt place spot = is_same_place (place_of spot) place ≡ true
+
+-- how many frames from the first on are at this place
+abbrev pub run_length : Place → List Spot → ℕ
+run_length place spots = prefix_len (λ spot. is_same_place (place_of spot) place) spots
+
+-- all frames before this one are at the place, and this one isn't
+pub record IsFirstElsewhere (place : Place) (spots : List Spot) (at : ℕ) : Type 0 where
+  pub inside : at < length spots
+  pub here : is_same_place (place_of (spot_at spots at)) place ≡ false
+  pub before : All (IsAt place) (take at spots)
 
 -- the group that is charged for frames at this place, if any, exists
 abbrev pub KeeperIsThere : List Group → Place → Type 0

@@ -35,6 +35,7 @@ pub mod Releases
 pub mod Evicts
 pub mod OneGroup
 pub mod Booking
+pub mod ChargedFrames
 pub mod GivenFrames
 pub mod HandOvers
 pub mod Absorbs

@@ -26,6 +26,7 @@ impl<N: BootName> Machine<N> {
         ensures visit { Visits N.frames (side self.new cpu.new) }
     {
         let number = cpu.number();
+        let _few = tables.stocks.cpus(); // For the record: a number fits a byte.
         let Some(block) = self.zone.take(Order::of(0).unwrap()) else {
             return false;
         };
@@ -33,7 +34,7 @@ impl<N: BootName> Machine<N> {
             unreachable!()
         };
         tables.frames.pass_out(&mut self.frame_seat, frame, number);
-        self.spots[frame.number() as usize] = Spot::Lent(number);
+        self.spots[frame.number() as usize] = Spot::Lent(number as u8);
         cpu.accept(tables, &mut self.frame_seat, frame);
         true
     }
@@ -69,10 +70,11 @@ impl<N: BootName> Machine<N> {
             (lend_steps cpu.old.number frame) (side self.new cpu.new) }
     {
         let number = cpu.number();
+        let _few = tables.stocks.cpus(); // For the record: a number fits a byte.
         let at = frame.number();
         self.zone.take_frame(at);
         tables.frames.pass_out(&mut self.frame_seat, frame, number);
-        self.spots[at as usize] = Spot::Lent(number);
+        self.spots[at as usize] = Spot::Lent(number as u8);
         cpu.accept(tables, &mut self.frame_seat, frame);
     }
 

@@ -42,7 +42,6 @@ mod visits;
 pub use blocks::TakeFault;
 pub use counts::Counts;
 pub use machine::Machine;
-pub use places::Places;
 pub use releasing::Released;
 pub use spot::{Place, Spot};
 pub use step_rules::laws::{other_step, own_step};

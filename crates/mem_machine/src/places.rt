@@ -1,41 +1,27 @@
-//! How many frames are at each place.
+//! How many frames are charged, and that none is lent.
 
-ghost use Rattle.std.specs.Prelude.{◌≡◌, []};
+ghost use Rattle.std.specs.Prelude.{◌≡◌, ◌≤◌, []};
 ghost use Rattle.frame_word.specs.Seats.{LentIsBorrowed};
-ghost use Rattle.mem_machine.specs.Places.{frames_free, frames_in_groups, NoneLentTo};
+ghost use Rattle.mem_machine.specs.Places.{frames_in_groups, NoneLentTo};
 
 use crate::machine::Machine;
-use crate::spot::Spot;
 use cpu_part::{BootName, Cpu, Tables};
-
-/// How many frames are free, and how many are charged to a group.
-#[derive(Clone, Copy, Debug, PartialEq, Eq)]
-pub struct Places {
-    /// In the zone's free areas.
-    pub free: u32,
-    /// Charged to a group.
-    pub charged: u32,
-}
+use group_tree::group::{GroupId, MAX_GROUPS};
 
 impl<N: BootName> Machine<N> {
-    /// Counts the frames that are free and those that are charged. The others are lent to a processor.
-    pub fn count_places(&self, tables: &Tables<N>) -> Places
-        ensures free { result.free ≡ frames_free self.now.spots }
-        ensures charged { result.charged ≡ frames_in_groups self.now.spots }
+    /// How many frames are charged to a group. They are counted by what the groups are charged for, since a zone has up to
+    /// 1,048,576 frames and 64 groups.
+    pub fn count_charged(&self, tables: &Tables<N>) -> u32
+        ensures charged { result ≡ frames_in_groups self.now.spots }
+        ensures at_most { result ≤ N.frames.frames }
     {
         let _frames = tables.frames.frames(); // For the clauses.
-        let mut places = Places {
-            free: 0,
-            charged: 0,
-        };
-        for spot in &self.spots {
-            match spot {
-                Spot::Free => places.free += 1,
-                Spot::Lent(_) => {}
-                Spot::Head(_) | Spot::Tail(_) => places.charged += 1,
-            }
+        let _charges = self.charges.tree(); // For the clauses.
+        let mut charged = 0;
+        for number in 0..MAX_GROUPS as u32 {
+            charged += self.frames_of(GroupId::of(number).unwrap());
         }
-        places
+        charged as u32
     }
 
     /// Shows that no frame is lent to a processor which lists none and has none fresh. It does nothing.

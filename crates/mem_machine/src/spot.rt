@@ -6,13 +6,14 @@ ghost use Rattle.mem_machine.specs.Spots.{place_of};
 use group_tree::group::GroupId;
 use step_rules::phase::ChargedUnit;
 
-/// The record of one frame: where it stands, as the machine keeps it.
+/// The record of one frame: where it stands, as the machine keeps it. There is one for each frame, so it takes 3 bytes: one
+/// each for the variant, the CPU or the group, and the order.
 #[derive(Clone, Copy, Debug, PartialEq, Eq)]
 pub enum Spot {
     /// In the zone's free areas.
     Free,
-    /// Lent to this processor: on its list, or fresh there.
-    Lent(u32),
+    /// Lent to this processor, whose number is at most 64: on its list, or fresh there.
+    Lent(u8),
     /// The head of a charged unit.
     Head(ChargedUnit),
     /// In a charged unit of this group, and not its head.
@@ -37,7 +38,7 @@ impl Spot {
     {
         match *self {
             Spot::Free => Place::Free,
-            Spot::Lent(cpu) => Place::Lent(cpu),
+            Spot::Lent(cpu) => Place::Lent(u32::from(cpu)),
             Spot::Head(unit) => Place::Charged(unit.group),
             Spot::Tail(group) => Place::Charged(group),
         }

@@ -65,7 +65,7 @@ fn empty_lists(alloc: Global) -> Result<Vec<Lru>, AllocError>
     ensures { IfOk result (λ lists. AreEmpty lists.items most_groups) }
 {
     let mut lists = Vec::with_capacity(alloc, MAX_GROUPS)?;
-    for owner in 0..MAX_GROUPS as u32 {
+    for owner in 0..MAX_GROUPS as u8 {
         lists.push(Lru::new(owner))?;
     }
     Ok(lists)

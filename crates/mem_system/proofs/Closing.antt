@@ -186,12 +186,13 @@ drops_join a b c k most = omega arith
 pub all_ends : (t : KnownTable) (w : Words) (l : KnownLocked) (cpus : List KnownCpu) (x : KnownMachine) (rested : List KnownCpu) (y : KnownMachine)
     (spent : List KnownCpu) (a : Audit) (frame_seats : List KnownSeat) (stock_seats : List Seated) (drops : ℕ) → IsQuiet t w l → pins_of cpus ≡ 0
     → drops ≡ min (drops_of cpus) max_count
-    → ForEachCpu (BySteps t SettlesInVisit) l.machine cpus x rested → ForEachCpu (BySteps t Empties) x rested y spent → AllShut y → All (λ c. IsSpent t w y c) spent → IsAuditOf t y drops a
+    → ForEachCpu (BySteps t SettlesInVisit) l.machine cpus x rested → ForEachCpu (BySteps t Empties) x rested y spent → AllShut y → All (λ c. IsSpent t w y c) spent → (((p : ℕ) → NoneLentTo p y.spots) → IsAuditOf t y drops a)
     → IsClosed t w y frame_seats stock_seats → frame_seats ≡ map frame_seat_of spent → stock_seats ≡ map stock_seat_of spent → Ends t w l cpus a
-all_ends t w l cpus x rested y spent a frame_seats stock_seats drops quiet no_pin drops_are rests empties shut all tells closing frames stocks =
+all_ends t w l cpus x rested y spent a frame_seats stock_seats drops quiet no_pin drops_are rests empties shut all tells_then closing frames stocks =
     let closed : IsClosed t w y (map frame_seat_of spent) (map stock_seat_of spent) =
     subst (λ (z : List KnownSeat × List Seated). IsClosed t w y z.0 z.1) (λ i. (frames i, stocks i)) closing in
     let none = none_lent t w y spent shut all closed in
+    let tells = tells_then (λ p f is. none p f is) in
     let placed = each_is_placed y.spots (λ f p is. none p f is) in
     let sized = closed.consistent.sizes.spots in
     let free = tells.free in

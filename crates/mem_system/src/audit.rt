@@ -1,5 +1,7 @@
-//! What is counted where a system ends.
+//! What is counted when a system ends.
 
+ghost use Rattle.std.specs.Prelude.{ℕ};
+ghost use Rattle.mem_machine.specs.Places.{NoneLentTo};
 ghost use Rattle.mem_system.specs.Ends.{IsAuditOf};
 
 use cpu_part::{BootName, Tables};
@@ -24,16 +26,18 @@ pub struct Audit {
     pub returns: u64,
 }
 
-// Counts the frames by their places, and tells the counts of the machine, with so many drops of the processors' own.
+// The audit of a machine that lends no frame: all frames that aren't charged are free. `drops` are those of the CPUs' own.
 pub(crate) fn take_audit<N: BootName>(machine: &Machine<N>, tables: &Tables<N>, drops: u64) -> Audit
-    ensures { IsAuditOf N.frames machine.now drops result }
+    ensures { ((processor : ℕ) → NoneLentTo processor machine.now.spots) → IsAuditOf N.frames machine.now drops result }
 {
-    let places = machine.count_places(tables);
+    let _spots = machine.spots(); // For the clauses.
+    let frames = tables.frames.frames();
+    let charged = machine.count_charged(tables);
     let counts = machine.counts();
     Audit {
-        frames: tables.frames.frames(),
-        free: places.free,
-        charged: places.charged,
+        frames,
+        free: frames - charged,
+        charged,
         last_puts: counts.last_puts,
         freezes: counts.freezes,
         drops: counts.drops.saturating_add(drops),

@@ -5,6 +5,8 @@
 #[cfg(test)]
 mod faults;
 #[cfg(test)]
+mod greatest;
+#[cfg(test)]
 mod rows;
 #[cfg(test)]
 mod scripts;

@@ -279,13 +279,15 @@ replay --audit
 1 write /a memory.reclaim  0  | ok
 end | audit frames 16 free 15 charged 1; audit puts 0 freezes 2 drops 0 returns 2
 
-the greatest machine has 1,024 blocks of order ten
-replay --frames 1048576 --cpus 64
+the greatest machine is shown and counted
+replay --frames 1048576 --cpus 64 --audit
 64 mkdir /a | group 1
 64 alloc /a 0 | frame 0
 64 show | 0 /a; 1-3 cpu 64; 4-1048575 free; current /a 16384
 64 alloc /a 10 | frame 1024
-64 read /a memory.current | 4210688";
+64 read /a memory.current | 4210688
+64 show | 0 /a; 1-3 cpu 64; 4-1023 free; 1024-2047 /a; 2048-1048575 free; current /a 4210688
+end | audit frames 1048576 free 1047551 charged 1025; audit puts 0 freezes 0 drops 0 returns 0";
 
 /// Kills: before a limit, where reclaim makes no room, and why they came.
 pub const KILL_ROWS: &str = "\

@@ -4,10 +4,11 @@ ghost use Rattle.std.specs.Prelude.{◌≡◌, ◌^◌, ◌≤◌, ◌<◌, Matc
 
 use std::marker::Model;
 
-/// The order of a block, 0 to 10: a block of order k has 2^k frames. A contract sees the number.
+/// The order of a block, 0 to 10: a block of order k has 2^k frames. A contract sees the number. It takes one byte, since
+/// the record of a frame may hold one.
 #[derive(Clone, Copy, Debug, PartialEq, Eq, PartialOrd, Ord)]
 pub struct Order {
-    exponent: u32,
+    exponent: u8,
 }
 
 impl Model for Order {
@@ -34,7 +35,9 @@ impl Order {
         ensures { MatchOption result (10 < exponent) (λ order. (order ≡ exponent) × (exponent ≤ 10)) }
     {
         if exponent <= Order::GREATEST {
-            Some(Order { exponent })
+            Some(Order {
+                exponent: exponent as u8,
+            })
         } else {
             None
         }
@@ -45,7 +48,7 @@ impl Order {
         ensures exponent { result ≡ self }
         ensures at_most { result ≤ 10 }
     {
-        self.exponent
+        u32::from(self.exponent)
     }
 
     /// How many frames a block of this order has.

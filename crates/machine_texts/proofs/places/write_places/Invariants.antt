@@ -1,11 +1,14 @@
-use Rattle.std.proofs.Common.{◌≡◌, ◌<◌, ◌++◌, drop}
+use Rattle.std.proofs.Common.{◌≡◌, ◌-◌, ◌≤◌, ◌++◌, drop, length}
 use Rattle.std.specs.String.{string_bytes}
-use Rattle.machine_texts.specs.Places.{KeeperIsThere, places_text, runs_text}
+use Rattle.machine_texts.specs.Places.{places_text}
+use Rattle.machine_texts.proofs.Runs.{rest_text}
 use Rattle.machine_texts.proofs.places.write_places.Given as goal
 
-abbrev pub invariant-loop-frame : goal.invariant-loop-frame
-invariant-loop-frame l = record {
-  before : l.first < l.frame;
-  owner : KeeperIsThere l.tree l.place;
-  told : string_bytes l.text ++ runs_text l.tree l.first l.frame l.place (drop l.frame l.spots) ≡ string_bytes l.initial.text ++ places_text l.tree l.spots;
+abbrev pub decreases-loop-first : goal.decreases-loop-first
+decreases-loop-first l = length l.spots - l.first
+
+abbrev pub invariant-loop-first : goal.invariant-loop-first
+invariant-loop-first l = record {
+  within : l.first ≤ length l.spots;
+  told : string_bytes l.text ++ rest_text l.tree l.first (drop l.first l.spots) ≡ string_bytes l.initial.text ++ places_text l.tree l.spots;
 }

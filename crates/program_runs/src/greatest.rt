@@ -1,0 +1,54 @@
+//! The greatest machine: 1,048,576 frames and 64 CPUs.
+
+use crate::streams::{ProgramRun, row_holds, run_program, script_reader, words_of};
+use std::alloc::{AllocError, Global};
+use std::process::Abort;
+use std::test::Fail;
+
+// The run ended well.
+fn ends_well(rt: &impl Abort, ended: &ProgramRun) {
+    row_holds(rt, ended.status == 0, "status");
+    row_holds(rt, ended.faults.is_empty(), "faults");
+}
+
+// A group, and from `go` on a frame for each of so many CPUs.
+fn frame_for_each(alloc: Global, cpus: u32) -> Result<String, AllocError> {
+    let mut script = String::new(alloc);
+    script.push_str("1 mkdir /a\ngo\n")?;
+    for before in 0..cpus {
+        let cpu = before + 1;
+        writeln!(script, "{cpu} alloc /a 0")?;
+    }
+    Ok(script)
+}
+
+// A thread for each CPU. Which of them gets which frame isn't told, so the end alone is compared.
+#[test]
+fn each_cpu_has_a_thread(rt: HostRuntime) -> Result<(), Fail> {
+    let script = frame_for_each(rt.alloc(), 64)?;
+    let words = "run --frames 1048576 --cpus 64 --audit";
+    let reader = script_reader(script.as_bytes());
+    let ended = run_program(&rt, &words_of(&rt, words), reader, 10_000);
+    ends_well(&rt, &ended);
+    let ending =
+        "audit frames 1048576 free 1048512 charged 64\naudit puts 0 freezes 0 drops 0 returns 0\n";
+    row_holds(&rt, ended.output.ends_with(ending.as_bytes()), ending);
+    Ok(())
+}
+
+// There are 1,024 blocks, all of the greatest order: the first two and the last two, and the bytes of all.
+#[test]
+fn its_blocks_are_listed(rt: HostRuntime) {
+    let words = ["replay", "--frames", "1048576", "--cpus", "64"];
+    let script = script_reader(b"64 blocks\n".as_slice());
+    let ended = run_program(&rt, &words, script, 20_000);
+    ends_well(&rt, &ended);
+    let told = ended.output.as_slice();
+    row_holds(&rt, told.starts_with(b"10:0 10:1024 ".as_slice()), "begin");
+    row_holds(
+        &rt,
+        told.ends_with(b" 10:1046528 10:1047552\n".as_slice()),
+        "end",
+    );
+    row_holds(&rt, told.len() == 10_176, "bytes");
+}
