@@ -1,0 +1,6 @@
+pub mod Codecs
+pub mod Lines
+pub mod Numbers
+pub mod Rows
+pub mod Searches
+pub mod Texts

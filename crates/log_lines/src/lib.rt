@@ -1,0 +1,11 @@
+//! The text of a log: the steps that were made and what each was answered, a line each.
+#![tactic(auto)]
+
+pub mod line;
+mod name;
+mod parse;
+mod word;
+mod write;
+
+pub use parse::{one_line, parse_line};
+pub use write::{write_entry, write_zone};
