@@ -63,7 +63,7 @@ pub takes_both : (from : List (List ℕ)) (a : List Word) (middle : List (List �
     → Takes from a middle → Takes middle b rest → Takes from (a ++ b) rest
 takes_both from a middle b rest one two = record {
   parts = one.parts ∙ ap (λ (ts : List (List ℕ)). texts a ++ ts) two.parts ∙ sym (append_assoc (texts a) (texts b) rest)
-    ∙ ap (λ (ts : List (List ℕ)). ts ++ rest) (sym (texts_append a b));
+      ∙ ap (λ (ts : List (List ℕ)). ts ++ rest) (sym (texts_append a b));
   fit = fit_append a b one.fit two.fit;
 }
 
@@ -180,7 +180,6 @@ no_digits a = let bad = digit_from_value 109 a.0 in omega arith
 pub chosen : {A : Type 0} (b : Bool) (x y z : A) → cond b x y ≡ z → ((b ≡ true) × (x ≡ z)) ⊎ ((b ≡ false) × (y ≡ z))
 chosen true x y z e = inl (refl, e)
 chosen false x y z e = inr (refl, e)
-
 
 limit_is : (word : List ℕ) (n : Option ℕ) → limit_of word ≡ Some n → (word ≡ word_text (limit n)) × Fits (limit n)
 limit_is word n e =

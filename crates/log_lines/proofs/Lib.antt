@@ -1,5 +1,6 @@
 pub mod Codecs
 pub mod Lines
+pub mod Logs
 pub mod Numbers
 pub mod Rows
 pub mod Searches

@@ -10,7 +10,8 @@ use Rattle.std.proofs.lemmas.Str.Parse.{digit_from_value}
 use Rattle.step_rules.specs.declared.step.Step.{Step}
 use Rattle.step_rules.specs.declared.step.Answer.{Answer}
 use Rattle.log_lines.specs.declared.line.LogLine.{LogLine}
-use Rattle.log_lines.specs.declared.line.LogLine.TheVariants.{Skipped, Zone, Made}
+use Rattle.log_lines.specs.declared.line.LogLine.TheVariants.{Skipped, Zone}
+use Rattle.log_lines.specs.declared.line.LogLine.TheVariants as kinds
 use Rattle.log_lines.specs.Words.{Word, Fixed, Fits, number, action_words, answer_words, spaced}
 use Rattle.log_lines.specs.Line.{IsEntry, IsLineText, IsTextOf, IsZone, entry_text, is_skipped, longest_line, step_words, zone_text}
 use Rattle.log_lines.specs.Reading.{◌>>=◌, first_of, only_if, number_at, action_at, after_arrow, answer_at, is_end, entry_of, zone_of, line_of, words_of}
@@ -129,7 +130,7 @@ zone_is_no_number n lt = other_text (decimal n) (codes "zone") (λ same. let dig
 -- the reading of a line that is neither too long nor skipped, from its words
 abbrev said_by : List (List ℕ) → Option LogLine
 said_by words = first_of words >>= λ word.
-    cond (bytes_eq word.0 (codes "zone")) (zone_of word.1 >>= λ z. Some (Zone z.0 z.1)) (entry_of words >>= λ e. Some (Made e.0 e.1))
+    cond (bytes_eq word.0 (codes "zone")) (zone_of word.1 >>= λ z. Some (Zone z.0 z.1)) (entry_of words >>= λ e. Some (kinds.Step e.0 e.1))
 
 abbrev said : List ℕ → Option LogLine
 said text = said_by (words_of text)
@@ -147,12 +148,12 @@ said_is : (text : List ℕ) (line : LogLine) → said text ≡ Some line → IsT
 said_is text line e =
     let w = bind_is (first_of (words_of text)) _ line e in
     let cut = first_is (words_of text) w.0 w.1 in
-    elim (chosen (bytes_eq w.0.0 (codes "zone")) (zone_of w.0.1 >>= λ z. Some (Zone z.0 z.1)) (entry_of (words_of text) >>= λ e. Some (Made e.0 e.1)) (Some line) w.2) [
+    elim (chosen (bytes_eq w.0.0 (codes "zone")) (zone_of w.0.1 >>= λ z. Some (Zone z.0 z.1)) (entry_of (words_of text) >>= λ e. Some (kinds.Step e.0 e.1)) (Some line) w.2) [
       | inl h ↦ let z = bind_is (zone_of w.0.1) (λ z. Some (Zone z.0 z.1)) line h.1 in
           subst (IsTextOf text) (some_is (Zone z.0.0 z.0.1) line z.2) (zone_line text w.0 z.0 cut h.0 z.1)
-      | inr h ↦ let m = bind_is (entry_of (words_of text)) (λ e. Some (Made e.0 e.1)) line h.1 in
+      | inr h ↦ let m = bind_is (entry_of (words_of text)) (λ e. Some (kinds.Step e.0 e.1)) line h.1 in
           let is = entry_is (words_of text) m.0 m.1 in
-          subst (IsTextOf text) (some_is (Made m.0.0 m.0.1) line m.2) (is.fits, text_is text (number m.0.0.seat) (step_words m.0.0 m.0.1) is.parts)
+          subst (IsTextOf text) (some_is (kinds.Step m.0.0 m.0.1) line m.2) (is.fits, text_is text (number m.0.0.seat) (step_words m.0.0 m.0.1) is.parts)
     ]
 
 -- what is read from a text is a line that has it
@@ -162,9 +163,9 @@ line_is text line e =
     elim (chosen (ltb longest_line (length text)) None (cond (is_skipped text) (Some Skipped) (said text)) (Some line) e) [
       | inl h ↦ let bad : None ≡ Some line = h.1 in cc
       | inr long ↦ elim (chosen (is_skipped text) (Some Skipped) (said text) (Some line) long.1) [
-          | inl h ↦ record { short = ltb-false longest_line (length text) long.0; says = subst (IsTextOf text) (some_is Skipped line h.1) h.0 }
-          | inr h ↦ record { short = ltb-false longest_line (length text) long.0; says = said_is text line h.1 }
-        ]
+        | inl h ↦ record { short = ltb-false longest_line (length text) long.0; says = subst (IsTextOf text) (some_is Skipped line h.1) h.0 }
+        | inr h ↦ record { short = ltb-false longest_line (length text) long.0; says = said_is text line h.1 }
+      ]
     ]
 
 read_at : (text : List ℕ) (line : LogLine) → length text ≤ longest_line → is_skipped text ≡ false → said text ≡ Some line → line_of text ≡ Some line
@@ -183,13 +184,13 @@ line_again text (Zone frames cpus) is =
     = words_are (Fixed (codes "zone")) (number frames ∷ number cpus ∷ []) (refl, (narrow frames is.says.0.most_frames, (narrow_cpus cpus is.says.0.most_cpus, tt))) in
     let reads : said_by (texts (Fixed (codes "zone") ∷ number frames ∷ number cpus ∷ [])) ≡ Some (Zone frames cpus) = rw (zone_again frames cpus is.says.0) refl in
     read_at text (Zone frames cpus) is.short (ap is_skipped is.says.1) (ap said is.says.1 ∙ ap said_by words ∙ reads)
-line_again text (Made step answer) is =
+line_again text (kinds.Step step answer) is =
     let fits = is.says.0 in
     let small : step.seat < 2 ^ 64 = omega (arith, fits.0) in
     let words : words_of (entry_text step answer) ≡ texts (number step.seat ∷ step_words step answer) = words_are (number step.seat) (step_words step answer) fits in
-    let reads : said_by (texts (number step.seat ∷ step_words step answer)) ≡ Some (Made step answer) = rw (zone_is_no_number step.seat small, entry_again step answer fits) refl in
+    let reads : said_by (texts (number step.seat ∷ step_words step answer)) ≡ Some (kinds.Step step answer) = rw (zone_is_no_number step.seat small, entry_again step answer fits) refl in
     let asks = begins (decimal step.seat) (spaced (step_words step answer)) (decimal_is_IsNumeral step.seat small).0 in
-    read_at text (Made step answer) is.short (ap is_skipped is.says.1 ∙ asks) (ap said is.says.1 ∙ ap said_by words ∙ reads)
+    read_at text (kinds.Step step answer) is.short (ap is_skipped is.says.1 ∙ asks) (ap said is.says.1 ∙ ap said_by words ∙ reads)
 
 -- reading says which line has the text
 pub line_exact : (text : List ℕ) (found : Option LogLine) → found ≡ line_of text

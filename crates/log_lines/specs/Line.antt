@@ -4,7 +4,7 @@ use Rattle.std.specs.List.{AllByRecursion}
 use Rattle.step_rules.specs.declared.step.Step.{Step}
 use Rattle.step_rules.specs.declared.step.Answer.{Answer}
 use Rattle.log_lines.specs.declared.line.LogLine.{LogLine}
-use Rattle.log_lines.specs.declared.line.LogLine.TheVariants.{Skipped, Zone, Made}
+use Rattle.log_lines.specs.declared.line.LogLine.TheVariants as kinds
 use Rattle.log_lines.specs.Words.{Word, Fixed, Fits, number, action_words, answer_words, spaced}
 
 -- how many bytes a line may have, its line feed not counted
@@ -41,9 +41,9 @@ is_skipped (b ∷ bs) = b == 35
 
 -- the text is that of the line
 abbrev pub IsTextOf : List ℕ → LogLine → Type 0
-IsTextOf text Skipped = IsTrue (is_skipped text)
-IsTextOf text (Zone frames cpus) = IsZone frames cpus × (text ≡ zone_text frames cpus)
-IsTextOf text (Made step answer) = IsEntry step answer × (text ≡ entry_text step answer)
+IsTextOf text kinds.Skipped = IsTrue (is_skipped text)
+IsTextOf text (kinds.Zone frames cpus) = IsZone frames cpus × (text ≡ zone_text frames cpus)
+IsTextOf text (kinds.Step step answer) = IsEntry step answer × (text ≡ entry_text step answer)
 
 -- the text is that of the line, and not too long
 pub record IsLineText (text : List ℕ) (line : LogLine) : Type 0 where

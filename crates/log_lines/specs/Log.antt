@@ -1,16 +1,37 @@
 -- The text of a whole log.
-use Rattle.std.specs.Prelude.{◌≡◌, ◌≢◌, ℕ, ◌≤◌, not, List, [], ◌∷◌, ◌++◌, All, filter, flat_map, length, map}
+use Rattle.std.specs.Prelude.{◌≡◌, ◌≢◌, ℕ, Bool, true, false, List, [], ◌∷◌, ◌++◌, All, filter, flat_map, map}
+use Rattle.std.specs.List.{AllByRecursion, AllZip}
 use Rattle.step_rules.specs.declared.step.Step.{Step}
 use Rattle.step_rules.specs.declared.step.Answer.{Answer}
-use Rattle.log_lines.specs.Line.{IsEntry, IsZone, entry_text, is_skipped, longest_line, zone_text}
+use Rattle.log_lines.specs.declared.line.LogLine.{LogLine}
+use Rattle.log_lines.specs.declared.line.LogLine.TheVariants as kinds
+use Rattle.log_lines.specs.Line.{IsLineText}
 
--- the text has these lines, each with its line feed; without the empty ones and the comments they are the zone's sizes and
--- then the entries of the run, in order
-pub record IsLog (text : List ℕ) (frames cpus : ℕ) (run : List (Step × Answer)) : Type 0 where
-  pub lines : List (List ℕ)
+-- whether the line says something
+abbrev pub says_something : LogLine → Bool
+says_something kinds.Skipped = false
+says_something (kinds.Zone frames cpus) = true
+says_something (kinds.Step step answer) = true
+
+-- what a log says: the sizes of the zone, and the steps with their answers
+pub record WholeLog : Type 0 where
+  pub frames : ℕ
+  pub cpus : ℕ
+  pub run : List (Step × Answer)
+
+-- the lines are the zone's sizes and then the steps, with skipped lines anywhere
+abbrev pub SayInOrder : List LogLine → WholeLog → Type 0
+SayInOrder lines log = filter says_something lines ≡ kinds.Zone log.frames log.cpus ∷ map (λ e. kinds.Step e.0 e.1) log.run
+
+-- the lines of a text, each of which ends with a line feed
+pub record AreLinesOf (text : List ℕ) (lines : List (List ℕ)) : Type 0 where
   pub parts : text ≡ flat_map (λ line. line ++ 10 ∷ []) lines
-  pub no_feeds : All (λ line. All (λ b. b ≢ 10) line) lines
-  pub short : All (λ line. length line ≤ longest_line) lines
-  pub entries : filter (λ line. not (is_skipped line)) lines ≡ zone_text frames cpus ∷ map (λ e. entry_text e.0 e.1) run
-  pub zone : IsZone frames cpus
-  pub fits : All (λ e. IsEntry e.0 e.1) run
+  pub no_feeds : AllByRecursion (λ line. All (λ b. b ≢ 10) line) lines
+
+-- the text is that of the log
+pub record IsLog (text : List ℕ) (log : WholeLog) : Type 0 where
+  pub texts : List (List ℕ)
+  pub lines : List LogLine
+  pub cut : AreLinesOf text texts
+  pub says : AllZip IsLineText texts lines
+  pub in_order : SayInOrder lines log

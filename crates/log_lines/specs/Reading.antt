@@ -12,7 +12,7 @@ use Rattle.step_rules.specs.declared.step.Action.TheVariants as action
 use Rattle.step_rules.specs.declared.step.Answer.{Answer}
 use Rattle.step_rules.specs.declared.step.Answer.TheVariants as answer
 use Rattle.log_lines.specs.declared.line.LogLine.{LogLine}
-use Rattle.log_lines.specs.declared.line.LogLine.TheVariants as line
+use Rattle.log_lines.specs.declared.line.LogLine.TheVariants as kinds
 use Rattle.log_lines.specs.declared.name.ActionName.{ActionName}
 use Rattle.log_lines.specs.declared.name.ActionName.TheVariants.{Alone, Number, Numbers, Group, Pages, Fill, Place, Limit, Flag, Make}
 use Rattle.log_lines.specs.declared.name.AnswerName.{AnswerName}
@@ -170,7 +170,7 @@ zone_of words = do
 unfoldable pub line_of : List ℕ → Option LogLine
 line_of text =
     if nat_lt longest_line (length text) then None
-    else (if is_skipped text then Some line.Skipped
+    else (if is_skipped text then Some kinds.Skipped
     else (first_of (words_of text) >>= λ word.
-        if bytes_eq word.0 (codes "zone") then (zone_of word.1 >>= λ z. Some (line.Zone z.0 z.1))
-        else (entry_of (words_of text) >>= λ e. Some (line.Made e.0 e.1))))
+    if bytes_eq word.0 (codes "zone") then (zone_of word.1 >>= λ z. Some (kinds.Zone z.0 z.1))
+    else (entry_of (words_of text) >>= λ e. Some (kinds.Step e.0 e.1))))

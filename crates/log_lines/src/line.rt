@@ -8,13 +8,7 @@ pub enum LogLine {
     /// An empty line, or a comment.
     Skipped,
     /// The sizes of the zone, which are written once, before the first step.
-    Zone {
-        frames: u32,
-        cpus: u32,
-    },
+    Zone { frames: u32, cpus: u32 },
     /// A step, and what it was answered.
-    Made {
-        step: Step,
-        answer: Answer,
-    },
+    Step { step: Step, answer: Answer },
 }

@@ -228,8 +228,14 @@ impl OfNumbers {
         ensures { result ≡ action_of_numbers self frame number }
     {
         match self {
-            OfNumbers::Freeze => Action::Freeze { frame, count: number },
-            OfNumbers::Unfreeze => Action::Unfreeze { frame, count: number },
+            OfNumbers::Freeze => Action::Freeze {
+                frame,
+                count: number,
+            },
+            OfNumbers::Unfreeze => Action::Unfreeze {
+                frame,
+                count: number,
+            },
             OfNumbers::PassOut => Action::PassOut { frame, cpu: number },
             OfNumbers::Collect => Action::Collect { frame, cpu: number },
         }

@@ -3,6 +3,7 @@
 ghost use Rattle.std.specs.Prelude.{◌≡◌, ℕ, List, MatchOption};
 ghost use Rattle.log_lines.specs.declared.line.LogLine.{LogLine};
 ghost use Rattle.log_lines.specs.Line.{IsLineText, is_skipped};
+ghost use Rattle.log_lines.specs.Log.{IsLog, WholeLog};
 ghost use Rattle.log_lines.specs.Reading.{Gives, action_at, answer_at, arguments_at, entry_of, line_of, results_at, zone_of};
 
 use crate::line::LogLine;
@@ -27,6 +28,11 @@ pub fn one_line()
     ensures { (text : List ℕ) (one other : LogLine) → IsLineText text one → IsLineText text other → one ≡ other }
 {}
 
+/// A text is that of one run at most, and of one zone.
+pub fn one_run()
+    ensures { (text : List ℕ) (one other : WholeLog) → IsLog text one → IsLog text other → one ≡ other }
+{}
+
 // The line that has this text.
 #[tactic(auto, unfolding(crate::specs::Reading::line_of))]
 fn line_of(text: &[u8]) -> Option<LogLine>
@@ -44,7 +50,7 @@ fn line_of(text: &[u8]) -> Option<LogLine>
         return Some(LogLine::Zone { frames, cpus });
     }
     let (step, answer) = parse_entry(Words::of(text))?;
-    Some(LogLine::Made { step, answer })
+    Some(LogLine::Step { step, answer })
 }
 
 // Whether a line says nothing.

@@ -115,7 +115,11 @@ impl<'a> Words<'a> {
         ensures { Gives (λ p. (p, self.new)) result (path_at self.old) }
     {
         let word = self.word()?;
-        if is_path(word) { PathText::of(word) } else { None }
+        if is_path(word) {
+            PathText::of(word)
+        } else {
+            None
+        }
     }
 }
 

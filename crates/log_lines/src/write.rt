@@ -4,6 +4,7 @@ ghost use Rattle.std.specs.Prelude.{◌≡◌, ℕ, [], ◌∷◌, ◌++◌, IfO
 ghost use Rattle.log_lines.specs.Line.{entry_text, zone_text};
 ghost use Rattle.log_lines.specs.Words.{Fixed, action_words, answer_words, spaced};
 ghost use Rattle.log_lines.specs.Words as words;
+ghost use Rattle.step_rules.specs.declared.step.Action.TheVariants.{SetMax};
 
 use group_tree::group::GroupId;
 use itoa::Buffer;
@@ -55,7 +56,12 @@ fn push_of_number(name: &[u8], number: u32, text: &mut Vec<u8>) -> Result<(), Al
 }
 
 // Adds a name and two numbers.
-fn push_of_numbers(name: &[u8], first: u32, second: u32, text: &mut Vec<u8>) -> Result<(), AllocError>
+fn push_of_numbers(
+    name: &[u8],
+    first: u32,
+    second: u32,
+    text: &mut Vec<u8>,
+) -> Result<(), AllocError>
     ensures { IfOk result (λ _. text.new.items
         ≡ text.old.items ++ spaced (Fixed name.now ∷ words.number first ∷ words.number second ∷ [])) }
 {
@@ -68,6 +74,32 @@ fn push_of_group(name: &[u8], group: GroupId, text: &mut Vec<u8>) -> Result<(), 
     ensures { IfOk result (λ _. text.new.items ≡ text.old.items ++ spaced (Fixed name.now ∷ words.group group ∷ [])) }
 {
     push_of_number(name, group.number(), text)
+}
+
+// Adds a name, a group and a number.
+fn push_of_both(
+    name: &[u8],
+    group: GroupId,
+    number: u32,
+    text: &mut Vec<u8>,
+) -> Result<(), AllocError>
+    ensures { IfOk result (λ _. text.new.items
+        ≡ text.old.items ++ spaced (Fixed name.now ∷ words.group group ∷ words.number number ∷ [])) }
+{
+    push_of_numbers(name, group.number(), number, text)
+}
+
+// Adds the limit of a group.
+fn push_limit(group: GroupId, limit: Option<u32>, text: &mut Vec<u8>) -> Result<(), AllocError>
+    ensures { IfOk result (λ _. text.new.items ≡ text.old.items ++ spaced (action_words (SetMax group limit))) }
+{
+    match limit {
+        None => {
+            push_of_group(b"limit", group, text)?;
+            push_word(b"max", text)
+        }
+        Some(pages) => push_of_both(b"limit", group, pages, text),
+    }
 }
 
 // Adds an action.
@@ -103,14 +135,15 @@ fn push_action(action: &Action, text: &mut Vec<u8>) -> Result<(), AllocError>
             push_of_numbers(b"fill", cpu, group.number(), text)?;
             push_number(pages, text)
         }
-        Action::Grant { group, pages } => push_of_numbers(b"grant", group.number(), pages, text),
-        Action::Ungrant { group, pages } => push_of_numbers(b"ungrant", group.number(), pages, text),
-        Action::PlaceBlock { group, order } => push_of_numbers(b"place", group.number(), order.exponent(), text),
-        Action::SetMax { group, limit: None } => {
-            push_of_group(b"limit", group, text)?;
-            push_word(b"max", text)
-        }
-        Action::SetMax { group, limit: Some(pages) } => push_of_numbers(b"limit", group.number(), pages, text),
+        Action::Grant { group, pages } => push_of_both(b"grant", group, pages, text),
+        Action::Ungrant { group, pages } => push_of_both(b"ungrant", group, pages, text),
+        Action::PlaceBlock { group, order } => push_of_both(
+            b"place",
+            group,
+            order.exponent(),
+            text,
+        ),
+        Action::SetMax { group, limit } => push_limit(group, limit, text),
         Action::SetFlag { group, oom_group } => {
             push_of_group(b"flag", group, text)?;
             push_word(if oom_group { b"1" } else { b"0" }, text)
