@@ -55,13 +55,16 @@ same_run (x ∷ xs) (y ∷ ys) e =
     let tails : map line_of_entry xs ≡ map line_of_entry ys = cc in
     ap₂ (λ (l : Step × Answer) (ls : List (Step × Answer)). l ∷ ls) (same_entry x y heads) (same_run xs ys tails)
 
+whole : (f g c d : ℕ) (r s : List (Step × Answer)) → f ≡ g → c ≡ d → r ≡ s
+    → ◌≡◌ {A = WholeLog} (record { frames = f; cpus = c; run = r }) (record { frames = g; cpus = d; run = s })
+whole f g c d r s e h k = cc
+
 same_parts : (one other : WholeLog) → kinds.Zone one.frames one.cpus ∷ map line_of_entry one.run ≡ kinds.Zone other.frames other.cpus ∷ map line_of_entry other.run → one ≡ other
 same_parts one other e =
     let frames : one.frames ≡ other.frames = cc in
     let cpus : one.cpus ≡ other.cpus = cc in
     let tails : map line_of_entry one.run ≡ map line_of_entry other.run = cc in
-    let run = same_run one.run other.run tails in
-    cc
+    whole one.frames other.frames one.cpus other.cpus one.run other.run frames cpus (same_run one.run other.run tails)
 
 pub same_log : (text : List ℕ) (one other : WholeLog) → IsLog text one → IsLog text other → one ≡ other
 same_log text one other is_one is_other =

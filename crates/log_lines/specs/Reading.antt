@@ -14,14 +14,15 @@ use Rattle.step_rules.specs.declared.step.Answer.TheVariants as answer
 use Rattle.log_lines.specs.declared.line.LogLine.{LogLine}
 use Rattle.log_lines.specs.declared.line.LogLine.TheVariants as kinds
 use Rattle.log_lines.specs.declared.name.ActionName.{ActionName}
-use Rattle.log_lines.specs.declared.name.ActionName.TheVariants.{Alone, Number, Numbers, Group, Pages, Fill, Place, Limit, Flag, Make}
+use Rattle.log_lines.specs.declared.name.ActionName.TheVariants.{Lock, Unlock, Number, Numbers, Group, Pages, Fill, Place, Limit, Flag, Make}
 use Rattle.log_lines.specs.declared.name.AnswerName.{AnswerName}
 use Rattle.log_lines.specs.declared.name.AnswerName.TheVariants as reply
-use Rattle.log_lines.specs.Names.{action_alone, action_named, action_of_group, action_of_number, action_of_numbers, action_of_pages, answer_alone, answer_named}
+use Rattle.log_lines.specs.Names.{action_named, action_of_group, action_of_number, action_of_numbers, action_of_pages, answer_named}
 use Rattle.log_lines.specs.Words.{is_path}
 use Rattle.log_lines.specs.Line.{is_skipped, longest_line}
 
 infixl 10 ◌>>=◌
+-- a step that is taken if the one before gave something
 abbrev pub ◌>>=◌ : {A B : Type 0} → Option A → (A → Option B) → Option B
 None >>= f = None
 (Some x) >>= f = f x
@@ -105,7 +106,8 @@ path_at words = first_of words >>= λ word. only_if (is_path word.0) word.0 >>= 
 
 -- what follows the name of an action
 unfoldable pub arguments_at : ActionName → Reads Action
-arguments_at (Alone name) words = Some (action_alone name, words)
+arguments_at Lock words = Some (action.Lock, words)
+arguments_at Unlock words = Some (action.Unlock, words)
 arguments_at (Number name) words = number_at words >>= λ n. Some (action_of_number name n.0, n.1)
 arguments_at (Numbers name) words = number_at words >>= λ m. number_at m.1 >>= λ n. Some (action_of_numbers name m.0 n.0, n.1)
 arguments_at (Group name) words = group_at words >>= λ g. Some (action_of_group name g.0, g.1)
@@ -125,7 +127,7 @@ action_at words = do
 
 -- what follows the name of an answer
 unfoldable pub results_at : AnswerName → Reads Answer
-results_at (reply.Alone name) words = Some (answer_alone name, words)
+results_at (reply.Alone reached) words = Some (reached, words)
 results_at reply.Left words = number_at words >>= λ n. Some (answer.Left n.0, n.1)
 results_at reply.Pages words = wide_at words >>= λ n. Some (answer.Pages n.0, n.1)
 results_at reply.Over words = group_at words >>= λ g. Some (answer.Over g.0, g.1)

@@ -2,21 +2,13 @@
 
 ghost use Rattle.std.specs.Prelude.{◌≡◌, bytes_eq, map};
 ghost use Rattle.std.specs.Map.{lookup};
-ghost use Rattle.log_lines.specs.Names.{action_alone, action_named, action_of_group, action_of_number, action_of_numbers, action_of_pages};
-ghost use Rattle.log_lines.specs.Names.{answer_alone, answer_named};
+ghost use Rattle.log_lines.specs.Names.{action_named, action_of_group, action_of_number, action_of_numbers, action_of_pages, answer_named};
 
 use group_tree::group::GroupId;
 use step_rules::step::{Action, Answer};
 
-/// An action that is its name alone.
-#[derive(Clone, Copy, Debug, PartialEq, Eq)]
-pub(crate) enum ActionAlone {
-    Lock,
-    Unlock,
-}
-
 /// An action with a number: of a frame, a CPU or pages.
-#[derive(Clone, Copy, Debug, PartialEq, Eq)]
+#[derive(Clone, Copy)]
 pub(crate) enum OfNumber {
     Open,
     Shut,
@@ -33,7 +25,7 @@ pub(crate) enum OfNumber {
 }
 
 /// An action with a frame, and a count or a CPU.
-#[derive(Clone, Copy, Debug, PartialEq, Eq)]
+#[derive(Clone, Copy)]
 pub(crate) enum OfNumbers {
     Freeze,
     Unfreeze,
@@ -42,7 +34,7 @@ pub(crate) enum OfNumbers {
 }
 
 /// An action with a group.
-#[derive(Clone, Copy, Debug, PartialEq, Eq)]
+#[derive(Clone, Copy)]
 pub(crate) enum OfGroup {
     Consume,
     NoteMax,
@@ -53,16 +45,17 @@ pub(crate) enum OfGroup {
 }
 
 /// An action with a group and a number of pages.
-#[derive(Clone, Copy, Debug, PartialEq, Eq)]
+#[derive(Clone, Copy)]
 pub(crate) enum OfPages {
     Grant,
     Ungrant,
 }
 
 /// The name of an action, by what follows it.
-#[derive(Clone, Copy, Debug, PartialEq, Eq)]
+#[derive(Clone, Copy)]
 pub(crate) enum ActionName {
-    Alone(ActionAlone),
+    Lock,
+    Unlock,
     Number(OfNumber),
     Numbers(OfNumbers),
     Group(OfGroup),
@@ -74,29 +67,10 @@ pub(crate) enum ActionName {
     Make,
 }
 
-/// An answer that is its name alone.
-#[derive(Clone, Copy, Debug, PartialEq, Eq)]
-pub(crate) enum AnswerAlone {
-    Illegal,
-    Done,
-    Held,
-    Zero,
-    Full,
-    Last,
-    Missed,
-    Took,
-    Empty,
-    OtherGroup,
-    Drained,
-    Back,
-    Granted,
-    NoFreeBlock,
-}
-
 /// The name of an answer, by what follows it.
-#[derive(Clone, Copy, Debug, PartialEq, Eq)]
+#[derive(Clone, Copy)]
 pub(crate) enum AnswerName {
-    Alone(AnswerAlone),
+    Alone(Answer),
     Left,
     Pages,
     Over,
@@ -106,8 +80,8 @@ pub(crate) enum AnswerName {
 
 // The actions by their names.
 const ACTION_NAMES: [(&[u8], ActionName); 31] = [
-    (b"lock", ActionName::Alone(ActionAlone::Lock)),
-    (b"unlock", ActionName::Alone(ActionAlone::Unlock)),
+    (b"lock", ActionName::Lock),
+    (b"unlock", ActionName::Unlock),
     (b"open", ActionName::Number(OfNumber::Open)),
     (b"shut", ActionName::Number(OfNumber::Shut)),
     (b"get", ActionName::Number(OfNumber::Get)),
@@ -141,20 +115,20 @@ const ACTION_NAMES: [(&[u8], ActionName); 31] = [
 
 // The answers by their names.
 const ANSWER_NAMES: [(&[u8], AnswerName); 19] = [
-    (b"illegal", AnswerName::Alone(AnswerAlone::Illegal)),
-    (b"done", AnswerName::Alone(AnswerAlone::Done)),
-    (b"held", AnswerName::Alone(AnswerAlone::Held)),
-    (b"zero", AnswerName::Alone(AnswerAlone::Zero)),
-    (b"full", AnswerName::Alone(AnswerAlone::Full)),
-    (b"last", AnswerName::Alone(AnswerAlone::Last)),
-    (b"missed", AnswerName::Alone(AnswerAlone::Missed)),
-    (b"took", AnswerName::Alone(AnswerAlone::Took)),
-    (b"empty", AnswerName::Alone(AnswerAlone::Empty)),
-    (b"other-group", AnswerName::Alone(AnswerAlone::OtherGroup)),
-    (b"drained", AnswerName::Alone(AnswerAlone::Drained)),
-    (b"back", AnswerName::Alone(AnswerAlone::Back)),
-    (b"granted", AnswerName::Alone(AnswerAlone::Granted)),
-    (b"no-block", AnswerName::Alone(AnswerAlone::NoFreeBlock)),
+    (b"illegal", AnswerName::Alone(Answer::Illegal)),
+    (b"done", AnswerName::Alone(Answer::Done)),
+    (b"held", AnswerName::Alone(Answer::Held)),
+    (b"zero", AnswerName::Alone(Answer::Zero)),
+    (b"full", AnswerName::Alone(Answer::Full)),
+    (b"last", AnswerName::Alone(Answer::Last)),
+    (b"missed", AnswerName::Alone(Answer::Missed)),
+    (b"took", AnswerName::Alone(Answer::Took)),
+    (b"empty", AnswerName::Alone(Answer::Empty)),
+    (b"other-group", AnswerName::Alone(Answer::OtherGroup)),
+    (b"drained", AnswerName::Alone(Answer::Drained)),
+    (b"back", AnswerName::Alone(Answer::Back)),
+    (b"granted", AnswerName::Alone(Answer::Granted)),
+    (b"no-block", AnswerName::Alone(Answer::NoFreeBlock)),
     (b"left", AnswerName::Left),
     (b"pages", AnswerName::Pages),
     (b"over", AnswerName::Over),
@@ -186,18 +160,6 @@ fn named<T: Copy>(names: &[(&[u8], T)], word: &[u8]) -> Option<T>
         }
     }
     None
-}
-
-impl ActionAlone {
-    /// The action.
-    pub(crate) fn action(self) -> Action
-        ensures { result ≡ action_alone self }
-    {
-        match self {
-            ActionAlone::Lock => Action::Lock,
-            ActionAlone::Unlock => Action::Unlock,
-        }
-    }
 }
 
 impl OfNumber {
@@ -266,30 +228,6 @@ impl OfPages {
         match self {
             OfPages::Grant => Action::Grant { group, pages },
             OfPages::Ungrant => Action::Ungrant { group, pages },
-        }
-    }
-}
-
-impl AnswerAlone {
-    /// The answer.
-    pub(crate) fn answer(self) -> Answer
-        ensures { result ≡ answer_alone self }
-    {
-        match self {
-            AnswerAlone::Illegal => Answer::Illegal,
-            AnswerAlone::Done => Answer::Done,
-            AnswerAlone::Held => Answer::Held,
-            AnswerAlone::Zero => Answer::Zero,
-            AnswerAlone::Full => Answer::Full,
-            AnswerAlone::Last => Answer::Last,
-            AnswerAlone::Missed => Answer::Missed,
-            AnswerAlone::Took => Answer::Took,
-            AnswerAlone::Empty => Answer::Empty,
-            AnswerAlone::OtherGroup => Answer::OtherGroup,
-            AnswerAlone::Drained => Answer::Drained,
-            AnswerAlone::Back => Answer::Back,
-            AnswerAlone::Granted => Answer::Granted,
-            AnswerAlone::NoFreeBlock => Answer::NoFreeBlock,
         }
     }
 }

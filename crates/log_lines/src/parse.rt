@@ -112,7 +112,8 @@ fn next_arguments(name: ActionName, words: &mut Words<'_>) -> Option<Action>
     ensures { Gives (λ action. (action, words.new)) result (arguments_at name words.old) }
 {
     match name {
-        ActionName::Alone(name) => Some(name.action()),
+        ActionName::Lock => Some(Action::Lock),
+        ActionName::Unlock => Some(Action::Unlock),
         ActionName::Number(name) => Some(name.with(words.number()?)),
         ActionName::Numbers(name) => {
             let frame = words.number()?;
@@ -165,7 +166,7 @@ fn next_results(name: AnswerName, words: &mut Words<'_>) -> Option<Answer>
     ensures { Gives (λ answer. (answer, words.new)) result (results_at name words.old) }
 {
     match name {
-        AnswerName::Alone(name) => Some(name.answer()),
+        AnswerName::Alone(answer) => Some(answer),
         AnswerName::Left => Some(Answer::Left(words.number()?)),
         AnswerName::Pages => Some(Answer::Pages(u128::from(words.wide()?))),
         AnswerName::Over => Some(Answer::Over(words.group()?)),
