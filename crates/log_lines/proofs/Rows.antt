@@ -16,6 +16,11 @@ use Rattle.log_lines.specs.Reading.{◌>>=◌, Reads, first_of, number_at, group
 use Rattle.log_lines.proofs.Codecs.{AllFit, IsCodec, Takes, bind_is, first_is, gives, some_is, texts, one_takes, one_again, two_takes, two_again, takes_both, chosen}
 use Rattle.log_lines.proofs.Codecs.{wide_codec, number_codec, group_codec, order_codec, limit_codec, flag_codec, path_codec}
 
+infixr 4 ◌&◌
+-- a pair
+abbrev ◌&◌ : {A B : Type 0} → A → B → A × B
+a & b = (a, b)
+
 -- P holds of each row
 abbrev pub AllRows : {K : Type 0} → (List ℕ → K → Type 0) → List (List ℕ × K) → Type 0
 AllRows P [] = Unit {0}
@@ -71,164 +76,66 @@ fill_row from v rest e =
 
 action_rows : AllRows (λ name k. TakesRow action_words name (arguments_at k)) action_names
 unfolding arguments_at
-action_rows = (
-  row_alone action_words (codes "lock") refl action.Lock refl,
-  (
-    row_alone action_words (codes "unlock") refl action.Unlock refl,
-    (
-      row_one action_words (codes "open") refl number_codec action.OpenVisit (λ a. refl),
-      (
-        row_one action_words (codes "shut") refl number_codec action.ShutVisit (λ a. refl),
-        (
-          row_one action_words (codes "get") refl number_codec action.Get (λ a. refl),
-          (
-            row_one action_words (codes "put") refl number_codec action.Put (λ a. refl),
-            (
-              row_one action_words (codes "take-in") refl number_codec action.TakeIn (λ a. refl),
-              (
-                row_one action_words (codes "pass-back") refl number_codec action.PassBack (λ a. refl),
-                (
-                  row_one action_words (codes "credit") refl number_codec action.Credit (λ a. refl),
-                  (
-                    row_one action_words (codes "report") refl number_codec action.Report (λ a. refl),
-                    (
-                      row_one action_words (codes "absorb") refl number_codec action.Absorb (λ a. refl),
-                      (
-                        row_one action_words (codes "drain") refl number_codec action.DrainStock (λ a. refl),
-                        (
-                          row_one action_words (codes "publish") refl number_codec action.Publish (λ a. refl),
-                          (
-                            row_one action_words (codes "return") refl number_codec action.Return (λ a. refl),
-                            (
-                              row_two action_words (codes "freeze") refl number_codec number_codec action.Freeze (λ a b. refl),
-                              (
-                                row_two action_words (codes "unfreeze") refl number_codec number_codec action.Unfreeze (λ a b. refl),
-                                (
-                                  row_two action_words (codes "pass-out") refl number_codec number_codec action.PassOut (λ a b. refl),
-                                  (
-                                    row_two action_words (codes "collect") refl number_codec number_codec action.Collect (λ a b. refl),
-                                    (
-                                      row_one action_words (codes "consume") refl group_codec action.Consume (λ a. refl),
-                                      (
-                                        row_one action_words (codes "note-max") refl group_codec action.NoteMax (λ a. refl),
-                                        (
-                                          row_one action_words (codes "note-oom") refl group_codec action.NoteOom (λ a. refl),
-                                          (
-                                            row_one action_words (codes "group-kill") refl group_codec action.NoteGroupKill (λ a. refl),
-                                            (
-                                              row_one action_words (codes "remove") refl group_codec action.Remove (λ a. refl),
-                                              (
-                                                row_one action_words (codes "kill") refl group_codec action.Kill (λ a. refl),
-                                                (
-                                                  row_two action_words (codes "grant") refl group_codec number_codec action.Grant (λ a b. refl),
-                                                  (
-                                                    row_two action_words (codes "ungrant") refl group_codec number_codec action.Ungrant (λ a b. refl),
-                                                    (
-                                                      fill_row,
-                                                      (
-                                                        row_two action_words (codes "place") refl group_codec order_codec action.PlaceBlock (λ a b. refl),
-                                                        (
-                                                          row_two action_words (codes "limit") refl group_codec limit_codec action.SetMax (λ a b. refl),
-                                                          (
-                                                            row_two action_words (codes "flag") refl group_codec flag_codec action.SetFlag (λ a b. refl),
-                                                            (
-                                                              row_one action_words (codes "make") refl path_codec action.Make (λ a. refl),
-                                                              tt,
-                                                            ),
-                                                          ),
-                                                        ),
-                                                      ),
-                                                    ),
-                                                  ),
-                                                ),
-                                              ),
-                                            ),
-                                          ),
-                                        ),
-                                      ),
-                                    ),
-                                  ),
-                                ),
-                              ),
-                            ),
-                          ),
-                        ),
-                      ),
-                    ),
-                  ),
-                ),
-              ),
-            ),
-          ),
-        ),
-      ),
-    ),
-  ),
-)
+action_rows =
+    row_alone action_words (codes "lock") refl action.Lock refl
+    & row_alone action_words (codes "unlock") refl action.Unlock refl
+    & row_one action_words (codes "open") refl number_codec action.OpenVisit (λ a. refl)
+    & row_one action_words (codes "shut") refl number_codec action.ShutVisit (λ a. refl)
+    & row_one action_words (codes "get") refl number_codec action.Get (λ a. refl)
+    & row_one action_words (codes "put") refl number_codec action.Put (λ a. refl)
+    & row_one action_words (codes "take-in") refl number_codec action.TakeIn (λ a. refl)
+    & row_one action_words (codes "pass-back") refl number_codec action.PassBack (λ a. refl)
+    & row_one action_words (codes "credit") refl number_codec action.Credit (λ a. refl)
+    & row_one action_words (codes "report") refl number_codec action.Report (λ a. refl)
+    & row_one action_words (codes "absorb") refl number_codec action.Absorb (λ a. refl)
+    & row_one action_words (codes "drain") refl number_codec action.DrainStock (λ a. refl)
+    & row_one action_words (codes "publish") refl number_codec action.Publish (λ a. refl)
+    & row_one action_words (codes "return") refl number_codec action.Return (λ a. refl)
+    & row_two action_words (codes "freeze") refl number_codec number_codec action.Freeze (λ a b. refl)
+    & row_two action_words (codes "unfreeze") refl number_codec number_codec action.Unfreeze (λ a b. refl)
+    & row_two action_words (codes "pass-out") refl number_codec number_codec action.PassOut (λ a b. refl)
+    & row_two action_words (codes "collect") refl number_codec number_codec action.Collect (λ a b. refl)
+    & row_one action_words (codes "consume") refl group_codec action.Consume (λ a. refl)
+    & row_one action_words (codes "note-max") refl group_codec action.NoteMax (λ a. refl)
+    & row_one action_words (codes "note-oom") refl group_codec action.NoteOom (λ a. refl)
+    & row_one action_words (codes "group-kill") refl group_codec action.NoteGroupKill (λ a. refl)
+    & row_one action_words (codes "remove") refl group_codec action.Remove (λ a. refl)
+    & row_one action_words (codes "kill") refl group_codec action.Kill (λ a. refl)
+    & row_two action_words (codes "grant") refl group_codec number_codec action.Grant (λ a b. refl)
+    & row_two action_words (codes "ungrant") refl group_codec number_codec action.Ungrant (λ a b. refl)
+    & fill_row
+    & row_two action_words (codes "place") refl group_codec order_codec action.PlaceBlock (λ a b. refl)
+    & row_two action_words (codes "limit") refl group_codec limit_codec action.SetMax (λ a b. refl)
+    & row_two action_words (codes "flag") refl group_codec flag_codec action.SetFlag (λ a b. refl)
+    & row_one action_words (codes "make") refl path_codec action.Make (λ a. refl)
+    & tt
 
 abbrev placed : ℕ → ℕ → Answer
 placed f k = answer.Placed (record { at = f; order = k })
 
 answer_rows : AllRows (λ name k. TakesRow answer_words name (results_at k)) answer_names
 unfolding results_at
-answer_rows = (
-  row_alone answer_words (codes "illegal") refl answer.Illegal refl,
-  (
-    row_alone answer_words (codes "done") refl answer.Done refl,
-    (
-      row_alone answer_words (codes "held") refl answer.Held refl,
-      (
-        row_alone answer_words (codes "zero") refl answer.Zero refl,
-        (
-          row_alone answer_words (codes "full") refl answer.Full refl,
-          (
-            row_alone answer_words (codes "last") refl answer.Last refl,
-            (
-              row_alone answer_words (codes "missed") refl answer.Missed refl,
-              (
-                row_alone answer_words (codes "took") refl answer.Took refl,
-                (
-                  row_alone answer_words (codes "empty") refl answer.Empty refl,
-                  (
-                    row_alone answer_words (codes "other-group") refl answer.OtherGroup refl,
-                    (
-                      row_alone answer_words (codes "drained") refl answer.Drained refl,
-                      (
-                        row_alone answer_words (codes "back") refl answer.Back refl,
-                        (
-                          row_alone answer_words (codes "granted") refl answer.Granted refl,
-                          (
-                            row_alone answer_words (codes "no-block") refl answer.NoFreeBlock refl,
-                            (
-                              row_one answer_words (codes "left") refl number_codec answer.Left (λ a. refl),
-                              (
-                                row_one answer_words (codes "pages") refl wide_codec answer.Pages (λ a. refl),
-                                (
-                                  row_one answer_words (codes "over") refl group_codec answer.Over (λ a. refl),
-                                  (
-                                    row_two answer_words (codes "placed") refl number_codec order_codec placed (λ a b. refl),
-                                    (
-                                      row_one answer_words (codes "number") refl group_codec answer.Number (λ a. refl),
-                                      tt,
-                                    ),
-                                  ),
-                                ),
-                              ),
-                            ),
-                          ),
-                        ),
-                      ),
-                    ),
-                  ),
-                ),
-              ),
-            ),
-          ),
-        ),
-      ),
-    ),
-  ),
-)
+answer_rows =
+    row_alone answer_words (codes "illegal") refl answer.Illegal refl
+    & row_alone answer_words (codes "done") refl answer.Done refl
+    & row_alone answer_words (codes "held") refl answer.Held refl
+    & row_alone answer_words (codes "zero") refl answer.Zero refl
+    & row_alone answer_words (codes "full") refl answer.Full refl
+    & row_alone answer_words (codes "last") refl answer.Last refl
+    & row_alone answer_words (codes "missed") refl answer.Missed refl
+    & row_alone answer_words (codes "took") refl answer.Took refl
+    & row_alone answer_words (codes "empty") refl answer.Empty refl
+    & row_alone answer_words (codes "other-group") refl answer.OtherGroup refl
+    & row_alone answer_words (codes "drained") refl answer.Drained refl
+    & row_alone answer_words (codes "back") refl answer.Back refl
+    & row_alone answer_words (codes "granted") refl answer.Granted refl
+    & row_alone answer_words (codes "no-block") refl answer.NoFreeBlock refl
+    & row_one answer_words (codes "left") refl number_codec answer.Left (λ a. refl)
+    & row_one answer_words (codes "pages") refl wide_codec answer.Pages (λ a. refl)
+    & row_one answer_words (codes "over") refl group_codec answer.Over (λ a. refl)
+    & row_two answer_words (codes "placed") refl number_codec order_codec placed (λ a b. refl)
+    & row_one answer_words (codes "number") refl group_codec answer.Number (λ a. refl)
+    & tt
 
 -- the words of an action or an answer, its name first
 named_takes : {K V : Type 0} (words : V → List Word) (names : List (List ℕ × K)) (args : K → Reads V) → AllRows (λ name k. TakesRow words name (args k)) names
