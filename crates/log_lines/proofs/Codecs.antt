@@ -1,13 +1,12 @@
 -- Reading takes exactly the words of a value, and reads them again.
-use Rattle.std.proofs.Common.{◌≡◌, ◌≢◌, ℕ, zero, suc, ◌+◌, ◌^◌, ◌<◌, ◌≤◌, Bool, true, false, cond, ◌&&◌, ltb, List, [], ◌∷◌, ◌++◌, map, length, Option, Some, None, IsTrue}
+use Rattle.std.proofs.Common.{◌≡◌, ◌≢◌, ℕ, ◌^◌, ◌<◌, ◌≤◌, Bool, true, false, cond, ltb, List, [], ◌∷◌, ◌++◌, map, Option, Some, None}
 use Rattle.std.proofs.Common.{arith, refl, sym, ap, ap₂, ◌∙◌, append_assoc, subst, ◌⊎◌, inl, inr, bytes_eq, codes, decimal, ltb-true, lt-ltb}
 use Rattle.std.specs.List.{AllByRecursion}
 use Rattle.std.proofs.lemmas.Fmt.{decimal_is_IsNumeral}
 use Rattle.std.proofs.lemmas.Str.Parse.{digit_from_value}
 use Rattle.std.specs.Str.Parse.{AllDigits}
 use Rattle.std.proofs.lemmas.Slice.Eq.{bytes_eq-Decides}
-use Rattle.group_tree.specs.Bounds.{most_groups}
-use Rattle.log_lines.specs.Words.{Size, Wide, Narrow, OfGroup, OfOrder, bound_of, Word, Fixed, Numeral, Path, Fits, word_text, is_path, number, group, order, limit, flag}
+use Rattle.log_lines.specs.Words.{Size, Wide, OfGroup, OfOrder, bound_of, Word, Numeral, Path, Fits, word_text, is_path, number, group, order, limit, flag}
 use Rattle.log_lines.specs.Reading.{◌>>=◌, Reads, first_of, only_if, number_of, u32_of, wide_at, number_at, group_at, order_at, limit_of, limit_at, flag_of, flag_at, path_at}
 use Rattle.log_lines.proofs.Numbers.{number_again, number_is, only_if_is}
 
@@ -84,7 +83,8 @@ module _ {A V : Type 0} {ra : Reads A} {wa : A → List Word} (ca : IsCodec ra w
   pub one_again : (a : A) (rest : List (List ℕ)) → AllFit (wa a) → (ra (texts (wa a) ++ rest) >>= gives f) ≡ Some (f a, rest)
   one_again a rest fit = rw (ca.again a rest fit) refl
 
-module _ {A B V : Type 0} {ra : Reads A} {rb : Reads B} {wa : A → List Word} {wb : B → List Word} (ca : IsCodec ra wa) (cb : IsCodec rb wb) (f : A → B → V) where
+module _ {A B V : Type 0} {ra : Reads A} {rb : Reads B} {wa : A → List Word} {wb : B → List Word}
+    (ca : IsCodec ra wa) (cb : IsCodec rb wb) (f : A → B → V) where
   pub two_takes : (from : List (List ℕ)) (v : V) (rest : List (List ℕ)) → (ra from >>= λ a. rb a.1 >>= gives (f a.0)) ≡ Some (v, rest)
       → (a : A) × (b : B) × (f a b ≡ v) × Takes from (wa a ++ wb b) rest
   two_takes from v rest e =
@@ -118,7 +118,8 @@ keeps rest x = Some (x, rest)
 
 -- a word that a test on the word reads
 word_codec : {A : Type 0} (test : List ℕ → Option A) (word : A → Word)
-    → ((text : List ℕ) (x : A) → test text ≡ Some x → (text ≡ word_text (word x)) × Fits (word x)) → ((x : A) → Fits (word x) → test (word_text (word x)) ≡ Some x)
+    → ((text : List ℕ) (x : A) → test text ≡ Some x → (text ≡ word_text (word x)) × Fits (word x))
+    → ((x : A) → Fits (word x) → test (word_text (word x)) ≡ Some x)
     → IsCodec (λ from. first_of from >>= λ w. test w.0 >>= keeps w.1) (λ x. word x ∷ [])
 word_codec {A} test word is back = record {
   takes = λ from x rest e.

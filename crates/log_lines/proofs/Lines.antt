@@ -1,7 +1,6 @@
 -- A line is read exactly from its text.
-use Rattle.std.proofs.Common.{◌≡◌, ◌≢◌, ℕ, zero, suc, ◌^◌, ◌<◌, ◌≤◌, Bool, true, false, cond, not, ◌&&◌, ltb, leb, List, [], ◌∷◌, ◌++◌, ◌⊎◌, inl, inr, Option, Some, None, MatchOption, IsTrue}
-use Rattle.std.proofs.Common.{arith, refl, sym, ap, subst, ◌∙◌, append-nil, bytes_eq, codes, decimal, length, leb-true, le-leb, ltb-false, ltb-true, le-ltb, ne_eqb}
-use Rattle.std.specs.List.{AllByRecursion}
+use Rattle.std.proofs.Common.{◌≡◌, ◌≢◌, ℕ, ◌^◌, ◌<◌, ◌≤◌, true, false, cond, ◌&&◌, ltb, leb, List, [], ◌∷◌, ◌++◌, inl, inr, Option, Some, None, MatchOption}
+use Rattle.std.proofs.Common.{arith, refl, sym, ap, subst, ◌∙◌, append-nil, bytes_eq, codes, decimal, length, leb-true, le-leb, ltb-false, le-ltb, ne_eqb}
 use Rattle.std.specs.Str.Parse.{AllDigits, IsNumeral}
 use Rattle.std.proofs.lemmas.Bool.{and_parts}
 use Rattle.std.proofs.lemmas.Fmt.{decimal_is_IsNumeral}
@@ -12,13 +11,13 @@ use Rattle.step_rules.specs.declared.step.Answer.{Answer}
 use Rattle.log_lines.specs.declared.line.LogLine.{LogLine}
 use Rattle.log_lines.specs.declared.line.LogLine.TheVariants.{Skipped, Zone}
 use Rattle.log_lines.specs.declared.line.LogLine.TheVariants as kinds
-use Rattle.log_lines.specs.Words.{Word, Fixed, Fits, number, action_words, answer_words, spaced}
+use Rattle.log_lines.specs.Words.{Word, Fixed, number, action_words, answer_words, spaced}
 use Rattle.log_lines.specs.Line.{IsEntry, IsLineText, IsTextOf, IsZone, entry_text, is_skipped, longest_line, step_words, zone_text}
 use Rattle.log_lines.specs.Reading.{◌>>=◌, first_of, only_if, number_at, action_at, after_arrow, answer_at, is_end, entry_of, zone_of, line_of, words_of}
-use Rattle.log_lines.proofs.Numbers.{only_if_is, only_if_none}
-use Rattle.log_lines.proofs.Codecs.{AllFit, Takes, bind_is, chosen, first_is, fit_append, fit_parts, number_codec, other_text, some_is, takes_both, texts, texts_append}
+use Rattle.log_lines.proofs.Numbers.{only_if_is}
+use Rattle.log_lines.proofs.Codecs.{Takes, bind_is, chosen, first_is, fit_parts, number_codec, other_text, some_is, takes_both, texts, texts_append}
 use Rattle.log_lines.proofs.Rows.{action_codec, answer_codec}
-use Rattle.log_lines.proofs.Texts.{numeral_small, text_is, words_are}
+use Rattle.log_lines.proofs.Texts.{text_is, words_are}
 
 -- ---- a step and its answer
 
@@ -42,7 +41,8 @@ takes_all : (from : List (List ℕ)) (seat : ℕ) (a : List Word) (b : List Word
     → r2 ≡ codes ">" ∷ r3 → Takes r3 b r4 → r4 ≡ [] → Takes from (number seat ∷ (a ++ Fixed (codes ">") ∷ b)) []
 takes_all from seat a b r1 r2 r3 r4 one two arrow three end =
     let last : Takes r3 b [] = subst (λ (r : List (List ℕ)). Takes r3 b r) end three in
-    let behind : Takes r2 (Fixed (codes ">") ∷ b) [] = record { parts = arrow ∙ ap (λ (ts : List (List ℕ)). codes ">" ∷ ts) last.parts; fit = (refl, last.fit) } in
+    let behind : Takes r2 (Fixed (codes ">") ∷ b) []
+    = record { parts = arrow ∙ ap (λ (ts : List (List ℕ)). codes ">" ∷ ts) last.parts; fit = (refl, last.fit) } in
     takes_both from (number seat ∷ []) r1 (a ++ Fixed (codes ">") ∷ b) [] one (takes_both r1 a r2 (Fixed (codes ">") ∷ b) [] two behind)
 
 pub entry_is : (from : List (List ℕ)) (e : Step × Answer) → entry_of from ≡ Some e → IsEntryOf from e.0 e.1
@@ -68,7 +68,8 @@ entry_again step answer fits =
     = texts_append (action_words step.action) (Fixed (codes ">") ∷ answer_words answer) in
     let seat = number_codec.again step.seat (texts (step_words step answer)) (fits.0, tt) in
     let act = action_codec.again step.action (codes ">" ∷ texts (answer_words answer)) parts.0 in
-    let reached : answer_at (texts (answer_words answer)) ≡ Some (answer, []) = rw (append-nil (texts (answer_words answer))) at (answer_codec.again answer [] parts.1.1) in
+    let reached : answer_at (texts (answer_words answer)) ≡ Some (answer, [])
+    = rw (append-nil (texts (answer_words answer))) at (answer_codec.again answer [] parts.1.1) in
     rw (seat, cut, act, reached) refl
 
 -- ---- the sizes of the zone
@@ -88,10 +89,16 @@ zone_is from z is =
     let second = number_codec.takes frames.0.1 cpus.0.0 cpus.0.1 cpus.1 in
     let nothing : cpus.0.1 ≡ [] = no_more cpus.0.1 end.0 in
     let both = takes_both from (number frames.0.0 ∷ []) frames.0.1 (number cpus.0.0 ∷ []) cpus.0.1 first second in
-    let parts : from ≡ texts (number frames.0.0 ∷ number cpus.0.0 ∷ []) = both.parts ∙ ap (λ (r : List (List ℕ)). texts (number frames.0.0 ∷ number cpus.0.0 ∷ []) ++ r) nothing in
+    let parts : from ≡ texts (number frames.0.0 ∷ number cpus.0.0 ∷ [])
+    = both.parts ∙ ap (λ (r : List (List ℕ)). texts (number frames.0.0 ∷ number cpus.0.0 ∷ []) ++ r) nothing in
     rw (← passed.1) (
       rw (← end.1) parts,
-      record { some_frames = leb-true 1 frames.0.0 three.0; most_frames = leb-true frames.0.0 1048576 three.1; some_cpus = leb-true 1 last.0 two.1; most_cpus = leb-true last.0 64 one.1 },
+      record {
+        some_frames = leb-true 1 frames.0.0 three.0;
+        most_frames = leb-true frames.0.0 1048576 three.1;
+        some_cpus = leb-true 1 last.0 two.1;
+        most_cpus = leb-true last.0 64 one.1;
+      },
     )
 
 pub zone_again : (frames cpus : ℕ) → IsZone frames cpus → zone_of (texts (number frames ∷ number cpus ∷ [])) ≡ Some (frames, cpus)
@@ -148,7 +155,9 @@ said_is : (text : List ℕ) (line : LogLine) → said text ≡ Some line → IsT
 said_is text line e =
     let w = bind_is (first_of (words_of text)) _ line e in
     let cut = first_is (words_of text) w.0 w.1 in
-    elim (chosen (bytes_eq w.0.0 (codes "zone")) (zone_of w.0.1 >>= λ z. Some (Zone z.0 z.1)) (entry_of (words_of text) >>= λ e. Some (kinds.Step e.0 e.1)) (Some line) w.2) [
+    let zone = zone_of w.0.1 >>= λ z. Some (Zone z.0 z.1) in
+    let entry = entry_of (words_of text) >>= λ e. Some (kinds.Step e.0 e.1) in
+    elim (chosen (bytes_eq w.0.0 (codes "zone")) zone entry (Some line) w.2) [
       | inl h ↦ let z = bind_is (zone_of w.0.1) (λ z. Some (Zone z.0 z.1)) line h.1 in
           subst (IsTextOf text) (some_is (Zone z.0.0 z.0.1) line z.2) (zone_line text w.0 z.0 cut h.0 z.1)
       | inr h ↦ let m = bind_is (entry_of (words_of text)) (λ e. Some (kinds.Step e.0 e.1)) line h.1 in
@@ -181,14 +190,18 @@ pub line_again : (text : List ℕ) (line : LogLine) → IsLineText text line →
 line_again text Skipped is = skipped_at text is.short is.says
 line_again text (Zone frames cpus) is =
     let words : words_of (zone_text frames cpus) ≡ texts (Fixed (codes "zone") ∷ number frames ∷ number cpus ∷ [])
-    = words_are (Fixed (codes "zone")) (number frames ∷ number cpus ∷ []) (refl, (narrow frames is.says.0.most_frames, (narrow_cpus cpus is.says.0.most_cpus, tt))) in
-    let reads : said_by (texts (Fixed (codes "zone") ∷ number frames ∷ number cpus ∷ [])) ≡ Some (Zone frames cpus) = rw (zone_again frames cpus is.says.0) refl in
+    = words_are (Fixed (codes "zone")) (number frames ∷ number cpus ∷ [])
+    (refl, (narrow frames is.says.0.most_frames, (narrow_cpus cpus is.says.0.most_cpus, tt))) in
+    let reads : said_by (texts (Fixed (codes "zone") ∷ number frames ∷ number cpus ∷ [])) ≡ Some (Zone frames cpus)
+    = rw (zone_again frames cpus is.says.0) refl in
     read_at text (Zone frames cpus) is.short (ap is_skipped is.says.1) (ap said is.says.1 ∙ ap said_by words ∙ reads)
 line_again text (kinds.Step step answer) is =
     let fits = is.says.0 in
     let small : step.seat < 2 ^ 64 = omega (arith, fits.0) in
-    let words : words_of (entry_text step answer) ≡ texts (number step.seat ∷ step_words step answer) = words_are (number step.seat) (step_words step answer) fits in
-    let reads : said_by (texts (number step.seat ∷ step_words step answer)) ≡ Some (kinds.Step step answer) = rw (zone_is_no_number step.seat small, entry_again step answer fits) refl in
+    let words : words_of (entry_text step answer) ≡ texts (number step.seat ∷ step_words step answer)
+    = words_are (number step.seat) (step_words step answer) fits in
+    let reads : said_by (texts (number step.seat ∷ step_words step answer)) ≡ Some (kinds.Step step answer)
+    = rw (zone_is_no_number step.seat small, entry_again step answer fits) refl in
     let asks = begins (decimal step.seat) (spaced (step_words step answer)) (decimal_is_IsNumeral step.seat small).0 in
     read_at text (kinds.Step step answer) is.short (ap is_skipped is.says.1 ∙ asks) (ap said is.says.1 ∙ ap said_by words ∙ reads)
 

@@ -15,7 +15,8 @@ abbrev ended : List ℕ → List ℕ
 ended line = line ++ 10 ∷ []
 
 -- what stands between the line feeds is the lines, and nothing behind the last
-lines_split : (lines : List (List ℕ)) → AllByRecursion (λ line. All (λ b. b ≢ 10) line) lines → slice_split (λ b. b == 10) (flat_map ended lines) ≡ lines ++ [] ∷ []
+lines_split : (lines : List (List ℕ)) → AllByRecursion (λ line. All (λ b. b ≢ 10) line) lines
+    → slice_split (λ b. b == 10) (flat_map ended lines) ≡ lines ++ [] ∷ []
 lines_split [] fit = refl
 lines_split (line ∷ lines) fit =
     ap (slice_split (λ b. b == 10)) (append_assoc line (10 ∷ []) (flat_map ended lines))
@@ -59,7 +60,8 @@ whole : (f g c d : ℕ) (r s : List (Step × Answer)) → f ≡ g → c ≡ d �
     → ◌≡◌ {A = WholeLog} (record { frames = f; cpus = c; run = r }) (record { frames = g; cpus = d; run = s })
 whole f g c d r s e h k = cc
 
-same_parts : (one other : WholeLog) → kinds.Zone one.frames one.cpus ∷ map line_of_entry one.run ≡ kinds.Zone other.frames other.cpus ∷ map line_of_entry other.run → one ≡ other
+same_parts : (one other : WholeLog)
+    → kinds.Zone one.frames one.cpus ∷ map line_of_entry one.run ≡ kinds.Zone other.frames other.cpus ∷ map line_of_entry other.run → one ≡ other
 same_parts one other e =
     let frames : one.frames ≡ other.frames = cc in
     let cpus : one.cpus ≡ other.cpus = cc in

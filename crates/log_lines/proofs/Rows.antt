@@ -1,17 +1,14 @@
 -- The tables of names: what follows each name is read as its row says.
-use Rattle.std.proofs.Common.{◌≡◌, ℕ, Bool, true, false, cond, List, [], ◌∷◌, ◌++◌, ◌⊎◌, inl, inr, Option, Some, None, IsTrue, bytes_eq, codes, refl, sym, ap, subst, ◌∙◌}
+use Rattle.std.proofs.Common.{◌≡◌, ℕ, List, [], ◌∷◌, ◌++◌, inl, inr, Some, IsTrue, bytes_eq, codes, refl, sym, ap, subst, ◌∙◌}
 use Rattle.std.specs.List.{list_all}
 use Rattle.std.specs.Map.{lookup}
 use Rattle.std.proofs.lemmas.Slice.Eq.{bytes_eq-Decides}
-use Rattle.zone_blocks.specs.declared.block.Block.{Block}
 use Rattle.step_rules.specs.declared.step.Action.{Action}
 use Rattle.step_rules.specs.declared.step.Action.TheVariants as action
 use Rattle.step_rules.specs.declared.step.Answer.{Answer}
 use Rattle.step_rules.specs.declared.step.Answer.TheVariants as answer
-use Rattle.log_lines.specs.declared.name.ActionName.{ActionName}
-use Rattle.log_lines.specs.declared.name.AnswerName.{AnswerName}
-use Rattle.log_lines.specs.Words.{Word, Fixed, Fits, is_no_space, number, group, action_words, answer_words}
-use Rattle.log_lines.specs.Names.{action_named, action_names, answer_named, answer_names}
+use Rattle.log_lines.specs.Words.{Word, Fixed, is_no_space, number, group, action_words, answer_words}
+use Rattle.log_lines.specs.Names.{action_names, answer_names}
 use Rattle.log_lines.specs.Reading.{◌>>=◌, Reads, first_of, number_at, group_at, arguments_at, action_at, results_at, answer_at}
 use Rattle.log_lines.proofs.Codecs.{AllFit, IsCodec, Takes, bind_is, first_is, gives, some_is, texts, one_takes, one_again, two_takes, two_again, takes_both, chosen}
 use Rattle.log_lines.proofs.Codecs.{wide_codec, number_codec, group_codec, order_codec, limit_codec, flag_codec, path_codec}
@@ -45,7 +42,8 @@ TakesRow {V} words name read = (from : List (List ℕ)) (v : V) (rest : List (Li
 behind : {V : Type 0} (words : V → List Word) (name : List ℕ) (no_space : IsTrue (list_all is_no_space name)) (from : List (List ℕ)) (args : List Word)
     (rest : List (List ℕ)) (x v : V) → words x ≡ Fixed name ∷ args → x ≡ v → Takes from args rest → Takes (name ∷ from) (words v) rest
 behind words name no_space from args rest x v same is taken =
-    let whole : Takes (name ∷ from) (Fixed name ∷ args) rest = record { parts = ap (λ (ts : List (List ℕ)). name ∷ ts) taken.parts; fit = (no_space, taken.fit) } in
+    let whole : Takes (name ∷ from) (Fixed name ∷ args) rest
+    = record { parts = ap (λ (ts : List (List ℕ)). name ∷ ts) taken.parts; fit = (no_space, taken.fit) } in
     subst (λ (ws : List Word). Takes (name ∷ from) ws rest) (sym same ∙ ap words is) whole
 
 row_alone : {V : Type 0} (words : V → List Word) (name : List ℕ) → IsTrue (list_all is_no_space name) → (x : V) → words x ≡ Fixed name ∷ []
@@ -54,13 +52,15 @@ row_alone words name no_space x same from v rest e =
     let is = some_is (x, from) (v, rest) e in
     behind words name no_space from [] rest x v same (ap (λ p. p.0) is) (record { parts = ap (λ p. p.1) is; fit = tt })
 
-module _ {V A : Type 0} (words : V → List Word) (name : List ℕ) (no_space : IsTrue (list_all is_no_space name)) {ra : Reads A} {wa : A → List Word} (ca : IsCodec ra wa) where
+module _ {V A : Type 0} (words : V → List Word) (name : List ℕ) (no_space : IsTrue (list_all is_no_space name))
+    {ra : Reads A} {wa : A → List Word} (ca : IsCodec ra wa) where
   row_one : (f : A → V) → ((a : A) → words (f a) ≡ Fixed name ∷ wa a) → TakesRow words name (λ from. ra from >>= gives f)
   row_one f same from v rest e =
       let a = one_takes ca f from v rest e in
       behind words name no_space from (wa a.0) rest (f a.0) v (same a.0) a.1 a.2
 
-  row_two : {B : Type 0} {rb : Reads B} {wb : B → List Word} (cb : IsCodec rb wb) (f : A → B → V) → ((a : A) (b : B) → words (f a b) ≡ Fixed name ∷ (wa a ++ wb b))
+  row_two : {B : Type 0} {rb : Reads B} {wb : B → List Word} (cb : IsCodec rb wb) (f : A → B → V)
+      → ((a : A) (b : B) → words (f a b) ≡ Fixed name ∷ (wa a ++ wb b))
       → TakesRow words name (λ from. ra from >>= λ a. rb a.1 >>= gives (f a.0))
   row_two {B} {rb} {wb} cb f same from v rest e =
       let p = two_takes ca cb f from v rest e in
@@ -177,7 +177,8 @@ action_again (action.Kill a) rest fit = one_again group_codec action.Kill a rest
 action_again (action.Grant a b) rest fit = two_again group_codec number_codec action.Grant a b rest (fit.1.0, tt) fit.1.1
 action_again (action.Ungrant a b) rest fit = two_again group_codec number_codec action.Ungrant a b rest (fit.1.0, tt) fit.1.1
 action_again (action.Fill a b c) rest fit =
-    rw (number_codec.again a (texts (group b ∷ number c ∷ []) ++ rest) (fit.1.0, tt)) (two_again group_codec number_codec (action.Fill a) b c rest (fit.1.1.0, tt) fit.1.1.1)
+    rw (number_codec.again a (texts (group b ∷ number c ∷ []) ++ rest) (fit.1.0, tt))
+    (two_again group_codec number_codec (action.Fill a) b c rest (fit.1.1.0, tt) fit.1.1.1)
 action_again (action.PlaceBlock a b) rest fit = two_again group_codec order_codec action.PlaceBlock a b rest (fit.1.0, tt) fit.1.1
 action_again (action.SetMax a b) rest fit = two_again group_codec limit_codec action.SetMax a b rest (fit.1.0, tt) fit.1.1
 action_again (action.SetFlag a b) rest fit = two_again group_codec flag_codec action.SetFlag a b rest (fit.1.0, tt) fit.1.1

@@ -1,7 +1,7 @@
 -- A text and its words.
-use Rattle.std.proofs.Common.{◌≡◌, ◌≢◌, ℕ, zero, suc, ◌+◌, ◌-◌, ◌^◌, ◌<◌, ◌≤◌, ◌==◌, ◌&&◌, Bool, true, false, cond, not, eqb, ltb, leb, ◌⊎◌, List, [], ◌∷◌, ◌++◌, All, Option, Some, None, IsTrue, is_some, length, take, drop}
+use Rattle.std.proofs.Common.{◌≡◌, ◌≢◌, ℕ, zero, suc, ◌+◌, ◌-◌, ◌^◌, ◌<◌, ◌≤◌, ◌==◌, ◌&&◌, Bool, true, false, cond, not, ltb, leb, ◌⊎◌, List, [], ◌∷◌, ◌++◌, All, Option, Some, None, IsTrue, is_some, length, take, drop}
 use Rattle.std.proofs.Common.{arith, refl, sym, ap, ◌∙◌, append_assoc, inl, inr, leb-true, decimal, position, length-drop, take_all, ltb-false, ltb-true, ne_eqb, Bor}
-use Rattle.std.specs.List.{join_with_byte, list_all, onto_first, position_or_len, slice_split}
+use Rattle.std.specs.List.{join_with_byte, list_all, onto_first, position_or_len}
 use Rattle.std.proofs.lemmas.Bool.{and_parts}
 use Rattle.std.proofs.lemmas.Fmt.{decimal_is_IsNumeral}
 use Rattle.std.proofs.lemmas.List.{append-nil}
@@ -9,7 +9,7 @@ use Rattle.std.proofs.lemmas.List.Splits.{join_with_byte-slice_split, slice_spli
 use Rattle.std.proofs.lemmas.List.Sums.{fails_before_first}
 use Rattle.std.proofs.lemmas.Str.Parse.{digit_from_value}
 use Rattle.std.specs.Str.Parse.{AllDigits}
-use Rattle.log_lines.specs.Words.{Size, Wide, Narrow, OfGroup, OfOrder, bound_of, Word, Fixed, Numeral, Path, Fits, is_graphic, is_no_space, is_path, spaced, word_text}
+use Rattle.log_lines.specs.Words.{Size, Wide, Narrow, OfGroup, OfOrder, bound_of, Word, Fixed, Numeral, Path, Fits, is_graphic, is_no_space, spaced, word_text}
 use Rattle.group_tree.specs.Bounds.{longest_path}
 use Rattle.log_lines.specs.Reading.{is_end, words_left, words_of}
 use Rattle.log_lines.proofs.Codecs.{AllFit, not_true, texts}
@@ -54,7 +54,8 @@ pub first_word : (text : List ℕ) (end : ℕ) → position is_space text ≡ So
 first_word text end e =
     elim (found_at (ltb (position_or_len is_space text) (length text)) (position_or_len is_space text) (position is_space text) refl) [
       | inl h ↦ let same : position_or_len is_space text ≡ end = let both : Some (position_or_len is_space text) ≡ Some end = sym h.1 ∙ e in cc in
-          let whole : take (length text - (end + 1)) (drop (end + 1) text) ≡ drop (end + 1) text = take_all _ (drop (end + 1) text) (omega (arith, length-drop (end + 1) text)) in
+          let whole : take (length text - (end + 1)) (drop (end + 1) text) ≡ drop (end + 1) text
+          = take_all _ (drop (end + 1) text) (omega (arith, length-drop (end + 1) text)) in
           let cut = slice_split_first is_space text 0 (ltb-true (position_or_len is_space text) (length text) h.0) in
           rw (whole, ← same) cut
       | inr h ↦ let bad : None ≡ Some end = sym h.1 ∙ e in cc
@@ -121,4 +122,6 @@ text_is text word words e = sym (join_with_byte-slice_split 32 text) ∙ ap (joi
 
 pub spaced_append : (a b : List Word) → spaced (a ++ b) ≡ spaced a ++ spaced b
 spaced_append [] b = refl
-spaced_append (x ∷ a) b = ap (λ (t : List ℕ). 32 ∷ (word_text x ++ t)) (spaced_append a b) ∙ ap (λ (t : List ℕ). 32 ∷ t) (sym (append_assoc (word_text x) (spaced a) (spaced b)))
+spaced_append (x ∷ a) b =
+    ap (λ (t : List ℕ). 32 ∷ (word_text x ++ t)) (spaced_append a b)
+    ∙ ap (λ (t : List ℕ). 32 ∷ t) (sym (append_assoc (word_text x) (spaced a) (spaced b)))

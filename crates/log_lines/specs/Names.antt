@@ -1,9 +1,8 @@
 -- The names of actions and answers, each with what follows it.
-use Rattle.std.specs.Prelude.{◌≡◌, ℕ, List, [], ◌∷◌, Option, bytes_eq, codes}
+use Rattle.std.specs.Prelude.{ℕ, List, [], ◌∷◌, Option, bytes_eq, codes}
 use Rattle.std.specs.Map.{lookup}
 use Rattle.step_rules.specs.declared.step.Action.{Action}
 use Rattle.step_rules.specs.declared.step.Action.TheVariants as action
-use Rattle.step_rules.specs.declared.step.Answer.{Answer}
 use Rattle.step_rules.specs.declared.step.Answer.TheVariants as answer
 use Rattle.log_lines.specs.declared.name.OfNumber.{OfNumber}
 use Rattle.log_lines.specs.declared.name.OfNumber.TheVariants.{Open, Shut, Get, Put, TakeIn, PassBack, Credit, Report, Absorb, Drain, Publish, Return}

@@ -1,5 +1,4 @@
-use Rattle.std.proofs.Common.{◌≡◌, Some, None, decimal, arith, sym, ap, ◌∙◌, refl, rules}
-use Rattle.std.proofs.lemmas.Slice.Eq.{bytes_eq-Decides}
+use Rattle.std.proofs.Common.{◌≡◌, Some, None, decimal, arith, sym, ◌∙◌, rules}
 use Rattle.log_lines.proofs.Numbers.{no_number, number_again}
 use Rattle.log_lines.proofs.word.number_of.Goals as goal
 

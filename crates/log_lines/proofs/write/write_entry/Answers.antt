@@ -1,5 +1,4 @@
 use Rattle.std.proofs.Common.{rules, append_assoc}
-use Rattle.log_lines.specs.Words.{Fixed, action_words, answer_words}
 use Rattle.log_lines.proofs.Texts.{spaced_append}
 use Rattle.log_lines.proofs.write.write_entry.Goals as goal
 

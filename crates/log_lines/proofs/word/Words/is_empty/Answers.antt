@@ -1,4 +1,4 @@
-use Rattle.std.proofs.Common.{◌≡◌, ◌∙◌, sym, rules}
+use Rattle.std.proofs.Common.{◌≡◌, rules}
 use Rattle.log_lines.specs.Reading.{words_left}
 use Rattle.log_lines.proofs.Texts.{end_is}
 use Rattle.log_lines.proofs.word.Words.is_empty.Goals as goal

@@ -1,5 +1,4 @@
-use Rattle.std.proofs.Common.{◌≡◌, Some, ap, ◌∙◌, sym, rules}
-use Rattle.log_lines.specs.Reading.{words_left}
+use Rattle.std.proofs.Common.{sym, rules}
 use Rattle.log_lines.proofs.Texts.{first_word, one_word}
 use Rattle.log_lines.proofs.word.Words.word.Goals as goal
 
