@@ -1,3 +1,4 @@
+pub mod BadLines
 pub mod Codecs
 pub mod Lines
 pub mod Logs

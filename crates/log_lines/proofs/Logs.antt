@@ -11,7 +11,8 @@ use Rattle.log_lines.specs.Line.{IsLineText}
 use Rattle.log_lines.specs.Log.{AreLinesOf, IsLog, WholeLog, says_something}
 use Rattle.log_lines.proofs.Lines.{same_line}
 
-abbrev ended : List ℕ → List ℕ
+-- a line with its line feed
+abbrev pub ended : List ℕ → List ℕ
 ended line = line ++ 10 ∷ []
 
 -- what stands between the line feeds is the lines, and nothing behind the last
@@ -35,7 +36,8 @@ same_lines (t ∷ ts) [] ys a b = absurd a
 same_lines (t ∷ ts) (x ∷ xs) [] a b = absurd b
 same_lines (t ∷ ts) (x ∷ xs) (y ∷ ys) a b = ap₂ (λ (l : LogLine) (ls : List LogLine). l ∷ ls) (same_line t x y a.0 b.0) (same_lines ts xs ys a.1 b.1)
 
-abbrev line_of_entry : Step × Answer → LogLine
+-- the line of a step
+abbrev pub line_of_entry : Step × Answer → LogLine
 line_of_entry e = kinds.Step e.0 e.1
 
 both : (s t : Step) (a b : Answer) → s ≡ t → a ≡ b → ◌≡◌ {A = Step × Answer} (s, a) (t, b)

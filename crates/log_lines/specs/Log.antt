@@ -1,5 +1,5 @@
 -- The text of a whole log.
-use Rattle.std.specs.Prelude.{◌≡◌, ◌≢◌, ℕ, Bool, true, false, List, [], ◌∷◌, ◌++◌, All, filter, flat_map, map}
+use Rattle.std.specs.Prelude.{◌≡◌, ◌≢◌, ◌⊎◌, ℕ, ◌+◌, Bool, true, false, List, [], ◌∷◌, ◌++◌, All, filter, flat_map, length, map}
 use Rattle.std.specs.List.{AllByRecursion, AllZip}
 use Rattle.step_rules.specs.declared.step.Step.{Step}
 use Rattle.step_rules.specs.declared.step.Answer.{Answer}
@@ -35,3 +35,26 @@ pub record IsLog (text : List ℕ) (log : WholeLog) : Type 0 where
   pub cut : AreLinesOf text texts
   pub says : AllZip IsLineText texts lines
   pub in_order : SayInOrder lines log
+
+-- lines with which a log may begin
+abbrev pub MayBegin : List LogLine → Type 0
+MayBegin lines = (filter says_something lines ≡ []) ⊎ ((log : WholeLog) × SayInOrder lines log)
+
+-- nothing that follows these lines makes a log of them: no line was the zone's sizes, and the text ends; or the next line has
+-- no line feed, is that of no line, or stands where it may not
+pub record EndsBadly (lines : List LogLine) (rest : List ℕ) : Type 0 where
+  pub no_sizes : rest ≡ [] → filter says_something lines ≡ []
+  pub no_line : (next more : List ℕ) (line : LogLine) → rest ≡ next ++ 10 ∷ more → IsLineText next line → ¬ MayBegin (lines ++ line ∷ [])
+
+-- a log may begin with the lines before the n-th, counted from 1, but not with that one
+pub record IsFirstBadLine (text : List ℕ) (n : ℕ) : Type 0 where
+  pub front : List ℕ
+  pub rest : List ℕ
+  pub parts : text ≡ front ++ rest
+  pub texts : List (List ℕ)
+  pub lines : List LogLine
+  pub cut : AreLinesOf front texts
+  pub says : AllZip IsLineText texts lines
+  pub begins : MayBegin lines
+  pub place : n ≡ length texts + 1
+  pub bad : EndsBadly lines rest

@@ -3,7 +3,7 @@
 ghost use Rattle.std.specs.Prelude.{◌≡◌, ℕ, List, MatchOption};
 ghost use Rattle.log_lines.specs.declared.line.LogLine.{LogLine};
 ghost use Rattle.log_lines.specs.Line.{IsLineText, is_skipped};
-ghost use Rattle.log_lines.specs.Log.{IsLog, WholeLog};
+ghost use Rattle.log_lines.specs.Log.{IsFirstBadLine, IsLog, WholeLog};
 ghost use Rattle.log_lines.specs.Reading.{Gives, action_at, answer_at, arguments_at, entry_of, line_of, results_at, zone_of};
 
 use crate::line::LogLine;
@@ -31,6 +31,11 @@ pub fn one_line()
 /// A text is that of one run at most, and of one zone.
 pub fn one_run()
     ensures { (text : List ℕ) (one other : WholeLog) → IsLog text one → IsLog text other → one ≡ other }
+{}
+
+/// A text with a bad line is that of no log.
+pub fn bad_line_is_no_log()
+    ensures { (text : List ℕ) (n : ℕ) (log : WholeLog) → IsFirstBadLine text n → ¬ IsLog text log }
 {}
 
 // The line that has this text.

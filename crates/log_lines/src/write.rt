@@ -28,7 +28,38 @@ pub fn write_entry(step: &Step, answer: &Answer, text: &mut Vec<u8>) -> Result<(
     text.extend_from_slice(buffer.format(step.seat).as_bytes())?;
     push_action(&step.action, text)?;
     text.extend_from_slice(b" >")?;
-    push_answer(answer, text)
+    write_answer(answer, text)
+}
+
+/// Adds a space and an answer. It fails only if memory runs out.
+pub fn write_answer(answer: &Answer, text: &mut Vec<u8>) -> Result<(), AllocError>
+    ensures { IfOk result (λ _. text.new.items ≡ text.old.items ++ spaced (answer_words answer.now)) }
+{
+    match *answer {
+        Answer::Illegal => push_word(b"illegal", text),
+        Answer::Done => push_word(b"done", text),
+        Answer::Held => push_word(b"held", text),
+        Answer::Zero => push_word(b"zero", text),
+        Answer::Full => push_word(b"full", text),
+        Answer::Left(count) => push_of_number(b"left", count, text),
+        Answer::Last => push_word(b"last", text),
+        Answer::Missed => push_word(b"missed", text),
+        Answer::Took => push_word(b"took", text),
+        Answer::Empty => push_word(b"empty", text),
+        Answer::OtherGroup => push_word(b"other-group", text),
+        Answer::Drained => push_word(b"drained", text),
+        Answer::Back => push_word(b"back", text),
+        Answer::Pages(pages) => {
+            let mut buffer = Buffer::new();
+            push_word(b"pages", text)?;
+            push_word(buffer.format(pages).as_bytes(), text)
+        }
+        Answer::Granted => push_word(b"granted", text),
+        Answer::Over(group) => push_of_group(b"over", group, text),
+        Answer::Placed(block) => push_of_numbers(b"placed", block.at, block.order.exponent(), text),
+        Answer::NoFreeBlock => push_word(b"no-block", text),
+        Answer::Number(group) => push_of_group(b"number", group, text),
+    }
 }
 
 // Adds a space and a word.
@@ -152,36 +183,5 @@ fn push_action(action: &Action, text: &mut Vec<u8>) -> Result<(), AllocError>
             push_word(b"make", text)?;
             push_word(path.as_bytes(), text)
         }
-    }
-}
-
-// Adds an answer.
-fn push_answer(answer: &Answer, text: &mut Vec<u8>) -> Result<(), AllocError>
-    ensures { IfOk result (λ _. text.new.items ≡ text.old.items ++ spaced (answer_words answer.now)) }
-{
-    match *answer {
-        Answer::Illegal => push_word(b"illegal", text),
-        Answer::Done => push_word(b"done", text),
-        Answer::Held => push_word(b"held", text),
-        Answer::Zero => push_word(b"zero", text),
-        Answer::Full => push_word(b"full", text),
-        Answer::Left(count) => push_of_number(b"left", count, text),
-        Answer::Last => push_word(b"last", text),
-        Answer::Missed => push_word(b"missed", text),
-        Answer::Took => push_word(b"took", text),
-        Answer::Empty => push_word(b"empty", text),
-        Answer::OtherGroup => push_word(b"other-group", text),
-        Answer::Drained => push_word(b"drained", text),
-        Answer::Back => push_word(b"back", text),
-        Answer::Pages(pages) => {
-            let mut buffer = Buffer::new();
-            push_word(b"pages", text)?;
-            push_word(buffer.format(pages).as_bytes(), text)
-        }
-        Answer::Granted => push_word(b"granted", text),
-        Answer::Over(group) => push_of_group(b"over", group, text),
-        Answer::Placed(block) => push_of_numbers(b"placed", block.at, block.order.exponent(), text),
-        Answer::NoFreeBlock => push_word(b"no-block", text),
-        Answer::Number(group) => push_of_group(b"number", group, text),
     }
 }
