@@ -1,4 +1,4 @@
-//! The texts that the program reads and writes, as tests: limits and files of a group, why groups were killed, and scripts. Nothing but tests
+//! The texts that the program reads and writes, as tests: limits and files of a group, why groups were killed, scripts, and logs. Nothing but tests
 //! stands here.
 #![tactic(auto)]
 
@@ -8,3 +8,5 @@ mod files;
 mod kills;
 #[cfg(test)]
 mod lines;
+#[cfg(test)]
+mod logs;

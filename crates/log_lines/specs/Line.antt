@@ -1,0 +1,51 @@
+-- The lines of a log: the zone's sizes, and then a step and its answer each.
+use Rattle.std.specs.Prelude.{◌≡◌, ℕ, ◌≤◌, ◌==◌, Bool, true, IsTrue, List, [], ◌∷◌, ◌++◌, codes, decimal, length}
+use Rattle.std.specs.List.{AllByRecursion}
+use Rattle.step_rules.specs.declared.step.Step.{Step}
+use Rattle.step_rules.specs.declared.step.Answer.{Answer}
+use Rattle.log_lines.specs.declared.line.LogLine.{LogLine}
+use Rattle.log_lines.specs.declared.line.LogLine.TheVariants as kinds
+use Rattle.log_lines.specs.Words.{Word, Fixed, Fits, number, action_words, answer_words, spaced}
+
+-- how many bytes a line may have, its line feed not counted
+abbrev pub longest_line : ℕ
+longest_line = 1024
+
+-- the words behind the seat: an action, `>`, and the answer
+abbrev pub step_words : Step → Answer → List Word
+step_words step answer = action_words step.action ++ Fixed (codes ">") ∷ answer_words answer
+
+-- `SEAT ACTION > ANSWER`
+abbrev pub entry_text : Step → Answer → List ℕ
+entry_text step answer = decimal step.seat ++ spaced (step_words step answer)
+
+-- `zone FRAMES CPUS`
+abbrev pub zone_text : ℕ → ℕ → List ℕ
+zone_text frames cpus = codes "zone" ++ spaced (number frames ∷ number cpus ∷ [])
+
+-- the numbers of a step and its answer are in their ranges, and its path is one that a line can hold
+abbrev pub IsEntry : Step → Answer → Type 0
+IsEntry step answer = AllByRecursion Fits (number step.seat ∷ step_words step answer)
+
+-- the sizes of a zone
+pub record IsZone (frames cpus : ℕ) : Type 0 where
+  pub some_frames : 1 ≤ frames
+  pub most_frames : frames ≤ 1048576
+  pub some_cpus : 1 ≤ cpus
+  pub most_cpus : cpus ≤ 64
+
+-- an empty text, or a comment
+abbrev pub is_skipped : List ℕ → Bool
+is_skipped [] = true
+is_skipped (b ∷ bs) = b == 35
+
+-- the text is that of the line
+abbrev pub IsTextOf : List ℕ → LogLine → Type 0
+IsTextOf text kinds.Skipped = IsTrue (is_skipped text)
+IsTextOf text (kinds.Zone frames cpus) = IsZone frames cpus × (text ≡ zone_text frames cpus)
+IsTextOf text (kinds.Step step answer) = IsEntry step answer × (text ≡ entry_text step answer)
+
+-- the text is that of the line, and not too long
+pub record IsLineText (text : List ℕ) (line : LogLine) : Type 0 where
+  pub short : length text ≤ longest_line
+  pub says : IsTextOf text line

@@ -1,0 +1,14 @@
+//! The lines of a log.
+
+use step_rules::step::{Answer, Step};
+
+/// One line of a log.
+#[derive(Clone, Copy, Debug, PartialEq, Eq)]
+pub enum LogLine {
+    /// An empty line, or a comment.
+    Skipped,
+    /// The sizes of the zone, which are written once, before the first step.
+    Zone { frames: u32, cpus: u32 },
+    /// A step, and what it was answered.
+    Step { step: Step, answer: Answer },
+}
