@@ -1,5 +1,5 @@
 -- A frame that is found in use is one of the block's; at the end none was.
-use Rattle.std.proofs.Common.{◌≡◌, ◌+◌, ◌^◌, ◌<◌, ◌≤◌, true, false, refl, sym, ◌∙◌, ap, arith}
+use Rattle.std.proofs.Common.{◌≡◌, ◌+◌, ◌^◌, ◌<◌, ◌≤◌, false, refl, sym, ◌∙◌, ap, arith}
 use Rattle.std.proofs.lemmas.Bool.{true≢false}
 use Rattle.core_rows.specs.Shown.{state_in}
 use Rattle.step_rules.specs.Phases.{is_free}

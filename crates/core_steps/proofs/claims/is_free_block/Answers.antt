@@ -1,5 +1,5 @@
 -- A free block is one of the zone.
-use Rattle.std.proofs.Common.{◌≡◌, ℕ, sym, ◌∙◌, subst}
+use Rattle.std.proofs.Common.{ℕ, sym, ◌∙◌, subst}
 use Rattle.std.proofs.lemmas.Bool.{true≢false}
 use Rattle.zone_blocks.specs.Block.{IsBlock}
 use Rattle.core_rows.specs.Shown.{state_in}
