@@ -1,9 +1,6 @@
 -- Each step goes on the run, or is the first that isn't allowed.
-use Rattle.std.proofs.Common.{◌≡◌, refl}
-use Rattle.step_rules.specs.State.{Zone}
+use Rattle.std.proofs.Common.{refl}
 use Rattle.mem_core.specs.Shown.{zone_of}
-use Rattle.mem_core.specs.Checked.{IsFirstIllegal}
-use Rattle.step_rules.specs.After.{IsLegalRun}
 use Rattle.mem_core.proofs.Checking.{follows_on, first_illegal, all_legal, illegal_only}
 use Rattle.mem_core.proofs.Keeping.{always_keeps}
 use Rattle.mem_core.proofs.check.check.Goals as goal

@@ -1,5 +1,5 @@
 -- A step has one answer, but that any free block may be placed.
-use Rattle.std.proofs.Common.{◌≡◌, true, false, sym, ◌∙◌, inl, inr}
+use Rattle.std.proofs.Common.{sym, ◌∙◌, inl, inr}
 use Rattle.std.proofs.lemmas.Bool.{true≢false}
 use Rattle.core_rows.specs.Shown.{state_in}
 use Rattle.step_rules.proofs.Answering.{answers_alike}

@@ -6,7 +6,6 @@ use Rattle.step_rules.specs.Legal.{Allows}
 use Rattle.core_rows.specs.Shown as rows
 use Rattle.core_rows.specs.Rooms.{pages_asked}
 use Rattle.core_rows.proofs.Bounding.{IsBounded}
-use Rattle.mem_core.specs.declared.checker.Checker.TheInside.{Inside}
 use Rattle.mem_core.specs.Shown.{CoreState, state_in}
 use Rattle.mem_core.specs.Checked.{Leads}
 use Rattle.mem_core.specs.Ready.{checker_state}
