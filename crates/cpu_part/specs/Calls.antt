@@ -34,7 +34,8 @@ FastAnswers g ListEmpty c d = (length c.fresh < most_fresh) × (c.list ≡ []) �
 FastAnswers g OtherGroup c d = CanTake c × OnlyConsumes g consume.OtherGroup c d
 FastAnswers g Drained c d = CanTake c × OnlyConsumes g consume.Drained c d
 FastAnswers g NoStock c d = CanTake c × OnlyConsumes g consume.Empty c d
-FastAnswers g (Got f) c d = (length c.fresh < most_fresh) × (rest : List ℕ) × (c.list ≡ f ∷ rest) × (seen : StockView) × Consumed g consume.Took c.stock_seat.view seen
+FastAnswers g (Got f) c d = (length c.fresh < most_fresh) × (rest : List ℕ) × (c.list ≡ f ∷ rest)
+    × (seen : StockView) × Consumed g consume.Took c.stock_seat.view seen
     × (d ≡ record c { list = rest; fresh = c.fresh ++ f ∷ []; stock_seat = with_view c.stock_seat seen })
 
 -- this holds of the frame that an alloc_fast got, if it got one

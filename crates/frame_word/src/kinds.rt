@@ -204,7 +204,7 @@ impl FrameWords {
         requires table { seat.old.table ≡ self.now.table }
         requires frame { frame < self.now.frames }
         requires seen { (note_of seat.old.view frame).seen ≡ seen }
-        requires room { (1 ≤ seen) × (seen < MOST_REFERENCES) }
+        requires room { (1 ≤ seen) × (seen < most_references) }
         ensures table { seat.new.table ≡ seat.old.table }
         ensures kind { adds seat.old.view frame seen result seat.new.view }
     {

@@ -4,8 +4,7 @@ use Rattle.std.specs.Prelude.{List, [], ◌∷◌, ◌++◌, length, take, slice
 use Rattle.zone_blocks.specs.Areas.{AreMaximalBlocks, HasNoneFrom, IsFrontOfSmallest}
 use Rattle.frame_word.specs.Views.{passed_out_to, took_in, gave_back, collected_from}
 use Rattle.frame_word.specs.Seats.{KnownTable, seat_with}
-use Rattle.cpu_part.specs.declared.cpu.TheConstants.{MOST_LISTED}
-use Rattle.cpu_part.specs.Cpus.{KnownCpu}
+use Rattle.cpu_part.specs.Cpus.{KnownCpu, most_listed}
 use Rattle.step_rules.specs.After.{Run}
 use Rattle.mem_machine.specs.declared.spot.Spot.TheVariants.{Free, Lent}
 use Rattle.mem_machine.specs.Spots.{free_of}
@@ -37,9 +36,9 @@ pub record LendsNone (before after : Side) : Type 0 where
   pub none : HasNoneFrom before.machine.blocks 0
   pub stays : SideStays before after
 
--- so many frames more fit the processor's list: with those it has fresh it lists 256 at most
+-- so many frames more fit the processor's list: the list and the fresh frames are at most `most_listed` then
 abbrev pub HasListRoom : KnownCpu → ℕ → Type 0
-HasListRoom cpu count = length cpu.list + length cpu.fresh + count ≤ MOST_LISTED
+HasListRoom cpu count = length cpu.list + length cpu.fresh + count ≤ most_listed
 
 -- these frames are lent, one after the other
 abbrev pub LendsMany : List ℕ → Side → Side → Type 0

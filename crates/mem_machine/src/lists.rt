@@ -1,7 +1,7 @@
 //! The lists of all groups: units that come onto them, and that leave them.
 
 ghost use Rattle.std.specs.Prelude.{◌≡◌, ◌≢◌, ◌<◌, None, IfSome, length};
-ghost use Rattle.group_tree.specs.declared.group.TheConstants.{MAX_GROUPS};
+ghost use Rattle.group_tree.specs.Bounds.{most_groups};
 ghost use Rattle.mem_machine.specs.Lists.{JoinsList, LeavesList};
 ghost use Rattle.mem_machine.specs.Machines.{AreGroupLists, home_of, group_lists};
 
@@ -32,7 +32,7 @@ pub(crate) fn join_list(links: &mut Links, lists: &mut Vec<Lru>, group: GroupId,
 pub(crate) fn leave_list(links: &mut Links, lists: &mut Vec<Lru>, head: u32)
     requires frame { head < length links.old }
     requires kept { home_of links.old head ≢ None }
-    requires owner { IfSome (home_of links.old head) (λ home. home.owner < MAX_GROUPS) }
+    requires owner { IfSome (home_of links.old head) (λ home. home.owner < most_groups) }
     requires lists { AreGroupLists links.old lists.old.items }
     ensures leaves { LeavesList head (group_lists links.old lists.old.items) (group_lists links.new lists.new.items) }
     ensures lists { AreGroupLists links.new lists.new.items }

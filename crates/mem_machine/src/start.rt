@@ -6,7 +6,7 @@ ghost use Rattle.lru_lists.specs.Queue.{AreNowhere};
 ghost use Rattle.group_charge.specs.Charges.{initial_ledger};
 ghost use Rattle.mem_machine.specs.Start.{AreEmpty};
 ghost use Rattle.mem_machine.specs.declared.spot.Spot.TheVariants.{Free};
-ghost use Rattle.group_tree.specs.declared.group.TheConstants.{MAX_GROUPS};
+ghost use Rattle.group_tree.specs.Bounds.{most_groups};
 
 use crate::spot::Spot;
 use group_charge::charges::Charges;
@@ -37,8 +37,8 @@ pub(crate) fn frame_rooms(
 /// it is killed.
 pub(crate) fn group_rooms(alloc: Global) -> Result<(Charges, Vec<Lru>, Vec<bool>), AllocError>
     ensures charges { IfOk result (λ rooms. rooms.0 ≡ initial_ledger) }
-    ensures lists { IfOk result (λ rooms. AreEmpty rooms.1.items MAX_GROUPS) }
-    ensures killed { IfOk result (λ rooms. rooms.2.items ≡ replicate MAX_GROUPS false) }
+    ensures lists { IfOk result (λ rooms. AreEmpty rooms.1.items most_groups) }
+    ensures killed { IfOk result (λ rooms. rooms.2.items ≡ replicate most_groups false) }
 {
     let charges = Charges::new(alloc)?;
     let lists = empty_lists(alloc)?;
@@ -55,14 +55,14 @@ fn free_spots(alloc: Global, frames: u32) -> Result<Vec<Spot>, AllocError>
 
 // A mark for each group number, all false.
 fn no_marks(alloc: Global) -> Result<Vec<bool>, AllocError>
-    ensures { IfOk result (λ marks. marks.items ≡ replicate MAX_GROUPS false) }
+    ensures { IfOk result (λ marks. marks.items ≡ replicate most_groups false) }
 {
     vec![in alloc; false; MAX_GROUPS]
 }
 
 // Two empty lists for each group number.
 fn empty_lists(alloc: Global) -> Result<Vec<Lru>, AllocError>
-    ensures { IfOk result (λ lists. AreEmpty lists.items MAX_GROUPS) }
+    ensures { IfOk result (λ lists. AreEmpty lists.items most_groups) }
 {
     let mut lists = Vec::with_capacity(alloc, MAX_GROUPS)?;
     for owner in 0..MAX_GROUPS as u32 {
