@@ -26,7 +26,7 @@ fn is_checked(
     rt: &impl Abort,
     alloc: Global,
     rows: &[CoreRow],
-    verdict: Verdict,
+    verdict: &Verdict,
 ) -> Result<(), Fail> {
     let mut log = Vec::new(alloc);
     for (seat, action, answer) in rows {
@@ -36,7 +36,7 @@ fn is_checked(
         };
         log.push((step, *answer))?;
     }
-    core_tells(rt, check(alloc, TWO_FRAMES, log.as_slice())? == verdict);
+    core_tells(rt, check(alloc, TWO_FRAMES, log.as_slice())? == *verdict);
     Ok(())
 }
 
@@ -45,7 +45,7 @@ fn is_checked_after_grant(
     rt: &impl Abort,
     alloc: Global,
     rows: &[CoreRow],
-    verdict: Verdict,
+    verdict: &Verdict,
 ) -> Result<(), Fail> {
     let group = GroupId::root();
     let mut log = Vec::new(alloc);
@@ -130,66 +130,62 @@ fn the_life_of_a_frame_is_legal(rt: HostRuntime) -> Result<(), Fail> {
     for row in life_after() {
         rows.push(row)?;
     }
-    is_checked(&rt, rt.alloc(), rows.as_slice(), Verdict::Legal)
+    is_checked(&rt, rt.alloc(), rows.as_slice(), &Verdict::Legal)
 }
 
 // A step that may not be made, and is said to be refused, is part of a legal run.
 #[test]
 fn a_refused_step_is_legal(rt: HostRuntime) -> Result<(), Fail> {
     let rows = [(1, Action::Unlock, Answer::Illegal)];
-    is_checked_after_grant(&rt, rt.alloc(), &rows, Verdict::Legal)
+    is_checked_after_grant(&rt, rt.alloc(), &rows, &Verdict::Legal)
 }
 
-// A block may lie inside a greater free one, anywhere. One of another order, unaligned, or in use may not be placed.
+// The step at this place is the first that isn't allowed, and this answer was due.
+fn illegal_at(index: usize, expected: Answer) -> Verdict {
+    Verdict::IllegalAt { index, expected }
+}
+
+// A block may lie inside a greater free one, anywhere.
 #[test]
 fn any_free_block_is_placed(rt: HostRuntime) -> Result<(), Fail> {
-    let alloc = rt.alloc();
-    let second = [placing(0, block(1, 0)), placing(0, block(0, 0))];
-    is_checked_after_grant(&rt, alloc, &second, Verdict::Legal)?;
-    let smaller = [placing(1, block(0, 0))];
-    let expected = Answer::Placed(block(0, 1));
-    let verdict = Verdict::IllegalAt { index: 2, expected };
-    is_checked_after_grant(&rt, alloc, &smaller, verdict)?;
-    let unaligned = [placing(1, block(1, 1))];
-    is_checked_after_grant(&rt, alloc, &unaligned, verdict)?;
-    let used = [placing(0, block(0, 0)), placing(0, block(0, 0))];
-    let expected = Answer::Placed(block(1, 0));
-    is_checked_after_grant(&rt, alloc, &used, Verdict::IllegalAt { index: 3, expected })
+    let rows = [placing(0, block(1, 0)), placing(0, block(0, 0))];
+    is_checked_after_grant(&rt, rt.alloc(), &rows, &Verdict::Legal)
 }
 
-// A unit that comes back twice, an unlock while pages are pending, and a grant that is said to be refused.
+// A block of another order, one that isn't aligned, and one in use may not be placed.
+#[test]
+fn no_other_block_is_placed(rt: HostRuntime) -> Result<(), Fail> {
+    let alloc = rt.alloc();
+    let due = illegal_at(2, Answer::Placed(block(0, 1)));
+    is_checked_after_grant(&rt, alloc, &[placing(1, block(0, 0))], &due)?;
+    is_checked_after_grant(&rt, alloc, &[placing(1, block(1, 1))], &due)?;
+    let used = [placing(0, block(0, 0)), placing(0, block(0, 0))];
+    let due = illegal_at(3, Answer::Placed(block(1, 0)));
+    is_checked_after_grant(&rt, alloc, &used, &due)
+}
+
+// A unit comes back twice.
 #[test]
 fn the_first_illegal_step_is_named(rt: HostRuntime) -> Result<(), Fail> {
-    let alloc = rt.alloc();
-    let twice = [
+    let frame = 0;
+    let rows = [
         placing(0, block(0, 0)),
-        (0, Action::Unfreeze { frame: 0, count: 1 }, Answer::Done),
-        (0, Action::Freeze { frame: 0, count: 1 }, Answer::Done),
-        (0, Action::Return { frame: 0 }, Answer::Done),
-        (0, Action::Return { frame: 0 }, Answer::Done),
-        (0, Action::Return { frame: 0 }, Answer::Done),
+        (0, Action::Unfreeze { frame, count: 1 }, Answer::Done),
+        (0, Action::Freeze { frame, count: 1 }, Answer::Done),
+        (0, Action::Return { frame }, Answer::Done),
+        (0, Action::Return { frame }, Answer::Done),
+        (0, Action::Return { frame }, Answer::Done),
     ];
-    let expected = Answer::Illegal;
-    is_checked_after_grant(
-        &rt,
-        alloc,
-        &twice,
-        Verdict::IllegalAt { index: 6, expected },
-    )?;
-    let early = [(1, Action::Unlock, Answer::Done)];
-    is_checked_after_grant(
-        &rt,
-        alloc,
-        &early,
-        Verdict::IllegalAt { index: 2, expected },
-    )?;
+    is_checked_after_grant(&rt, rt.alloc(), &rows, &illegal_at(6, Answer::Illegal))
+}
+
+// The lock is given back while pages are pending, and a grant that has room is said to be refused.
+#[test]
+fn the_last_step_is_checked(rt: HostRuntime) -> Result<(), Fail> {
+    let alloc = rt.alloc();
     let group = GroupId::root();
+    let early = [(1, Action::Unlock, Answer::Done)];
+    is_checked_after_grant(&rt, alloc, &early, &illegal_at(2, Answer::Illegal))?;
     let refused = [(0, Action::Grant { group, pages: 1 }, Answer::Over(group))];
-    let expected = Answer::Granted;
-    is_checked_after_grant(
-        &rt,
-        alloc,
-        &refused,
-        Verdict::IllegalAt { index: 2, expected },
-    )
+    is_checked_after_grant(&rt, alloc, &refused, &illegal_at(2, Answer::Granted))
 }
