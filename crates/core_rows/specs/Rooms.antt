@@ -3,9 +3,9 @@
 use Rattle.std.specs.Prelude.{◌≡◌, ◌+◌, ◌^◌, ◌<◌, ◌≤◌, ℕ, true, false, List, All, replicate, length, vec_len, vec_capacity}
 use Rattle.group_tree.specs.Bounds.{most_groups}
 use Rattle.step_rules.specs.Phases.{Kind, has_as, is_live}
-use Rattle.step_rules.specs.State.{State, frames_of, front_of, visits}
+use Rattle.step_rules.specs.State.{State, frames_of, free_in, front_of, visits}
 use Rattle.zone_blocks.specs.declared.block.Block.{Block}
-use Rattle.zone_blocks.specs.Areas.{IsFrontOfSmallest}
+use Rattle.zone_blocks.specs.Areas.{IsFrontOfSmallest, AreMaximalBlocks}
 use Rattle.step_rules.specs.declared.step.Action.{Action}
 use Rattle.step_rules.specs.declared.step.Action.TheVariants.{Fill, Grant, PlaceBlock}
 use Rattle.step_rules.specs.declared.step.Answer.TheVariants.{Placed}
@@ -79,6 +79,11 @@ pub record HasRooms (old new : Seat) : Type 0 where
 abbrev pub PlacesFront : List Block → Action → Answer → Type 0
 PlacesFront areas (PlaceBlock g k) (Placed b) = IsFrontOfSmallest areas k b
 PlacesFront areas action answer = Unit {0}
+
+-- only a block that is to be placed is looked up in the areas, which then are the maximal blocks of the free frames (Knuth)
+abbrev pub AreasFor : State → Action → List Block → Type 0
+AreasFor s (PlaceBlock g k) areas = AreMaximalBlocks (free_in s.zone s.phases) areas
+AreasFor s action areas = Unit {0}
 
 -- the pages that a step asks for: to be granted, or filled into a stock
 abbrev pub pages_asked : Action → ℕ

@@ -1,5 +1,6 @@
 //! Runs that are worked by hand from the table of the steps, each answer compared.
 
+mod logs;
 mod plays;
 
 use group_tree::event::EventKey;

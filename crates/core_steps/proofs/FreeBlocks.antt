@@ -1,13 +1,17 @@
 -- Of the reading core, on which the program doesn't run.
--- Free blocks of an order, found by the maximal free blocks (for `Rows::free_block`).
-use Rattle.std.proofs.Common.{◌≡◌, ℕ, ◌+◌, ◌-◌, ◌%◌, ◌^◌, ◌≤◌, Bool, List, sym, ◌∙◌, ap, subst, arith}
+-- Free blocks of an order, found by the maximal free blocks (for `free_block`), or frame by frame (for `is_all_free`).
+use Rattle.std.proofs.Common.{◌≡◌, ℕ, ◌+◌, ◌-◌, ◌%◌, ◌^◌, ◌<◌, ◌≤◌, Bool, true, false, List, sym, ◌∙◌, ap, subst, arith}
 use Rattle.std.proofs.Math.Pow.{pow_mono, mod-mod-pow}
 use Rattle.std.proofs.Math.Nat.{zero-mod}
+use Rattle.std.proofs.lemmas.List.FromFn.{get_or-map-range_with_len}
 use Rattle.zone_blocks.specs.declared.block.Block.{Block}
 use Rattle.zone_blocks.specs.Block.{Covers}
-use Rattle.zone_blocks.specs.Areas.{IsFreeBlock, AreMaximalBlocks, HasNoneFrom}
+use Rattle.zone_blocks.specs.Areas.{IsFree, IsFreeBlock, AreMaximalBlocks, HasNoneFrom}
 use Rattle.zone_blocks.proofs.Nested.{free_inside, greater_denied}
 use Rattle.zone_blocks.proofs.Unique.{in_maximal}
+use Rattle.step_rules.specs.declared.phase.Phase.{Phase}
+use Rattle.step_rules.specs.Phases.{is_free}
+use Rattle.step_rules.specs.State.{Zone, free_in}
 
 -- the lower part of a free block is a free block
 pub lower_part_is_free : (free : List Bool) (b : Block) (k : ℕ) → IsFreeBlock free b → k ≤ b.order → IsFreeBlock free (record { at = b.at; order = k })
@@ -29,3 +33,7 @@ none_is_free free blocks k maximal none b order block =
     let in_one = in_maximal free b.at (block.all_free b.at first) in
     let less = none in_one.0 (maximal.all in_one.0 in_one.1) in
     greater_denied free in_one.0 b in_one.1 block b.at in_one.2 first (omega arith)
+
+-- a frame of the zone that is free by its phase is one of the set
+pub free_there : (zone : Zone) (phases : ℕ → Phase) (f : ℕ) → f < zone.frames → is_free (phases f) ≡ true → IsFree (free_in zone phases) f
+free_there zone phases f below e = get_or-map-range_with_len (λ x. is_free (phases x)) 0 zone.frames f f false below (omega arith) ∙ e

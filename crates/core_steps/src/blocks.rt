@@ -104,7 +104,7 @@ fn free_block(rows: &Rows, areas: &FreeAreas, order: Order) -> Option<Block>
 }
 
 /// Places pending pages of a group on a free block.
-fn charge_block(rows: &mut Rows, group: GroupId, block: &Block)
+pub(crate) fn charge_block(rows: &mut Rows, group: GroupId, block: &Block)
     requires fits { FitsZone rows.old }
     requires free { IsFreeBlock (free_in (state_in rows.old).zone (state_in rows.old).phases) block.now }
     requires enough { 2 ^ block.now.order ≤ (state_in rows.old).pending group }

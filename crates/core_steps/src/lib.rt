@@ -3,6 +3,7 @@
 #![tactic(auto)]
 
 pub mod blocks;
+pub mod claims;
 pub mod groups;
 pub mod hand_over;
 pub mod legal;

@@ -1,13 +1,11 @@
 //! Part of the reading core, on which the program doesn't run. Every step, made if it is legal.
 
 ghost use Rattle.std.specs.Prelude.{◌≡◌, ◌<◌, ◌^◌, true};
-ghost use Rattle.zone_blocks.specs.Areas.{AreMaximalBlocks};
-ghost use Rattle.step_rules.specs.State.{free_in};
 ghost use Rattle.step_rules.specs.declared.step.Answer.TheVariants.{Illegal};
 ghost use Rattle.step_rules.specs.Legal.{is_legal, Allows};
 ghost use Rattle.step_rules.specs.After.{after};
 ghost use Rattle.core_rows.specs.Shown.{state_in};
-ghost use Rattle.core_rows.specs.Rooms.{FitsZone, IsFew, Makes, PlacesFront, pages_asked};
+ghost use Rattle.core_rows.specs.Rooms.{AreasFor, FitsZone, IsFew, Makes, PlacesFront, pages_asked};
 
 use crate::blocks::{place_block, return_unit};
 use crate::groups::{
@@ -22,11 +20,12 @@ use core_rows::rows::Rows;
 use step_rules::step::{Action, Answer, Step};
 use zone_blocks::areas::FreeAreas;
 
-/// Makes one step, if it is legal, and answers it. A step that isn't legal is answered Illegal and changes nothing.
+/// Makes one step, if it is legal, and answers it. A step that isn't legal is answered Illegal and changes nothing. Only a
+/// block that is to be placed is looked up in the areas.
 pub fn serve(rows: &mut Rows, areas: &FreeAreas, step: &Step) -> Answer
     requires fits { FitsZone rows.old }
     requires few { IsFew (state_in rows.old) }
-    requires areas { AreMaximalBlocks (free_in (state_in rows.old).zone (state_in rows.old).phases) areas.now.blocks }
+    requires areas { AreasFor (state_in rows.old) step.now.action areas.now.blocks }
     ensures allowed { Allows (state_in rows.old) step.now.seat step.now.action result }
     ensures state { state_in rows.new ≡ after (state_in rows.old) step.now.seat step.now.action result }
     ensures fits { FitsZone rows.new }
@@ -43,7 +42,7 @@ pub fn serve(rows: &mut Rows, areas: &FreeAreas, step: &Step) -> Answer
 fn make_step(rows: &mut Rows, areas: &FreeAreas, step: &Step) -> Answer
     requires fits { FitsZone rows.old }
     requires few { IsFew (state_in rows.old) }
-    requires areas { AreMaximalBlocks (free_in (state_in rows.old).zone (state_in rows.old).phases) areas.now.blocks }
+    requires areas { AreasFor (state_in rows.old) step.now.action areas.now.blocks }
     requires legal { is_legal (state_in rows.old) step.now.seat step.now.action ≡ true }
     ensures made { Makes rows.old step.now.seat step.now.action result rows.new }
     ensures front { PlacesFront areas.now.blocks step.now.action result }

@@ -5,3 +5,4 @@ pub mod Playing
 pub mod AccountLemmas
 pub mod Accounting
 pub mod Keeping
+pub mod Checking

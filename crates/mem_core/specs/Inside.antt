@@ -1,37 +1,43 @@
 -- Of the reading core, on which the program doesn't run.
 -- What a core keeps, and how a contract sees it.
-use Rattle.std.specs.Prelude.{◌≡◌, ◌*◌, ◌^◌, ◌<◌, ◌≤◌, map, vec_len, vec_capacity}
+use Rattle.std.specs.Prelude.{◌≡◌, ℕ, ◌*◌, ◌^◌, ◌<◌, ◌≤◌, List, map, vec_len, vec_capacity}
 use Rattle.group_tree.specs.Bounds.{most_groups}
+use Rattle.zone_blocks.specs.declared.block.Block.{Block}
 use Rattle.zone_blocks.specs.Areas.{AreMaximalBlocks}
 use Rattle.step_rules.specs.State.{free_in}
 use Rattle.step_rules.proofs.Sound.{IsSound}
 use Rattle.step_rules.proofs.Homes.{IsHomed}
 use Rattle.core_rows.specs.declared.seat.Seat.{Seat}
+use Rattle.core_rows.specs.declared.rows.Rows.{Rows}
 use Rattle.core_rows.specs.Shown.{state_in, part_in}
 use Rattle.core_rows.specs.Rooms.{FitsZone}
 use Rattle.core_rows.proofs.Bounding.{IsBounded}
 use Rattle.mem_core.specs.declared.zone.Core.TheInside.{Inside}
-use Rattle.mem_core.specs.Accounts.{HaveSmallPeaks}
+use Rattle.mem_core.specs.Accounts.{Account, HaveSmallPeaks}
 use Rattle.mem_core.specs.Shown.{SeatState, CoreState}
 
 -- what is shown of a seat
 abbrev pub seat_shown : Seat → SeatState
 seat_shown s = record { references = s.references.items; part = part_in s }
 
+-- what rows show, with these accounts and areas after so many steps
+abbrev pub rows_shown : Rows → List Account → List Block → ℕ → CoreState
+rows_shown rows accounts areas steps = record {
+  zone = record { frames = rows.frames; cpus = rows.cpus };
+  hold = rows.hold;
+  groups = rows.tree;
+  killed = rows.killed.items;
+  phases = rows.phases.items;
+  seats = map seat_shown rows.seats.items;
+  pending = rows.pending.items;
+  accounts = accounts;
+  areas = areas;
+  steps = steps;
+}
+
 -- the state that a core shows
 abbrev pub core_state : Inside → CoreState
-core_state c = record {
-  zone = record { frames = c.rows.frames; cpus = c.rows.cpus };
-  hold = c.rows.hold;
-  groups = c.rows.tree;
-  killed = c.rows.killed.items;
-  phases = c.rows.phases.items;
-  seats = map seat_shown c.rows.seats.items;
-  pending = c.rows.pending.items;
-  accounts = c.accounts.items;
-  areas = c.areas.blocks;
-  steps = c.steps;
-}
+core_state c = rows_shown c.rows c.accounts.items c.areas.blocks c.steps
 
 -- the parts of a core agree: the rows are of the zone's size, and what they show is sound, of groups that are there, and
 -- bounded by so many steps

@@ -5,8 +5,11 @@
 
 pub mod account;
 mod accounts;
+pub mod check;
+pub mod checker;
 mod free_areas;
 pub mod run;
+pub mod verdict;
 pub mod zone;
 
 pub use step_rules::step::{Action, Answer, Step};

@@ -217,9 +217,10 @@ not_both s seat action a e ok legal = false≢true (sym (refused a e ok) ∙ leg
     refused : (x : Answer) → x ≡ Illegal → Allows s seat action x → is_legal s seat action ≡ false
     refused x d allows = subst (λ (y : Answer). Allows s seat action y) d allows
 
-pub answers_are_determined : AnswersAreDetermined
-answers_are_determined zone run legal seat action a b x y =
-    let s = state_of zone run in
+-- two answers that one step may get in one state
+pub answers_alike : (s : State) (seat : ℕ) (action : Action) (a b : Answer) → AreGroups s.groups → Allows s seat action a → Allows s seat action b
+    → (a ≡ b) ⊎ (IsPlacing a × IsPlacing b)
+answers_alike s seat action a b tree x y =
     elim (allowed s seat action a x) [
       | inl e ↦ elim (allowed s seat action b y) [
         | inl d ↦ inl (e ∙ sym d)
@@ -227,9 +228,13 @@ answers_are_determined zone run legal seat action a b x y =
       ]
       | inr made ↦ elim (allowed s seat action b y) [
         | inl d ↦ absurd (not_both s seat action b d y made.legal)
-        | inr too ↦ made_alike s seat action a b (keepers_are_there zone run legal).groups made too
+        | inr too ↦ made_alike s seat action a b tree made too
       ]
     ]
+
+pub answers_are_determined : AnswersAreDetermined
+answers_are_determined zone run legal seat action a b x y =
+    answers_alike (state_of zone run) seat action a b (keepers_are_there zone run legal).groups x y
 
 -- ---- who makes a step
 acts : (s : State) (seat : ℕ) (action : Action) → is_legal s seat action ≡ true → (is_cpu s.zone seat || may_zone_act s.hold seat) ≡ true

@@ -1,0 +1,100 @@
+-- A checker takes a step, and what follows of the log so far (for `Checker` and `check`).
+use Rattle.std.proofs.Common.{◌≡◌, ℕ, ◌+◌, ◌^◌, ◌<◌, ◌≤◌, ◌↔◌, Bool, true, false, Some, Result, Ok, Err, [], ◌∷◌, ◌++◌, length, take, get_or, sym, ◌∙◌}
+use Rattle.std.proofs.Common.{ap, subst}
+use Rattle.std.specs.Prelude.{IfErr, IfSome, OnOk}
+use Rattle.std.proofs.lemmas.Bool.{false≢true}
+use Rattle.std.proofs.lemmas.List.{take_more, take_all}
+use Rattle.std.proofs.lemmas.Option.{slice_get-get_or}
+use Rattle.step_rules.specs.declared.step.Step.{Step}
+use Rattle.step_rules.specs.declared.step.Answer.{Answer}
+use Rattle.step_rules.specs.State.{Zone, State}
+use Rattle.step_rules.specs.Legal.{Allows}
+use Rattle.step_rules.specs.After.{Run, after, state_of, IsLegalRun}
+use Rattle.step_rules.proofs.Sound.{IsSound}
+use Rattle.step_rules.proofs.Homes.{IsHomed}
+use Rattle.step_rules.proofs.Keeping.{homes_allowed}
+use Rattle.step_rules.proofs.Placed.{zone_kept}
+use Rattle.step_rules.proofs.Runs.{one_more, state_more, legal_more}
+use Rattle.core_rows.specs.Rooms.{pages_asked}
+use Rattle.core_rows.proofs.Bounding.{IsBounded}
+use Rattle.mem_core.specs.declared.verdict.Verdict.{Verdict}
+use Rattle.mem_core.specs.declared.verdict.Verdict.TheVariants.{Legal, IllegalAt}
+use Rattle.mem_core.specs.Shown.{CoreState, state_in}
+use Rattle.mem_core.specs.Checked.{Leads, IsFirstIllegal}
+use Rattle.mem_core.proofs.Advancing.{sound_after, bounded_after}
+
+-- accepted or not, the step was made with some answer that it may get
+pub led : {X : Type 0} (result : Result X Answer) (s t : State) (step : Step) (answer : Answer) → OnOk result (Leads s step answer t)
+    → IfErr result (λ expected. Leads s step expected t) → (made : Answer) × Leads s step made t
+led (Ok x) s t step answer accepted refused = (answer, accepted)
+led (Err expected) s t step answer accepted refused = (expected, refused)
+
+-- what a step keeps of a sound state, bounded by n pages
+pub record Kept (n : ℕ) (s t : State) : Type 0 where
+  pub sound : IsSound t
+  pub homed : IsHomed t
+  pub bounded : IsBounded (n + 2 ^ 32) t
+  pub zone : t.zone ≡ s.zone
+
+pub kept : (n : ℕ) (s t : State) (step : Step) (made : Answer) → IsSound s → IsHomed s → IsBounded n s → pages_asked step.action < 2 ^ 32
+    → Leads s step made t → Kept n s t
+kept n s t step made sound homed bounded small leads = record {
+  sound = subst IsSound (sym leads.state) (sound_after s step.seat step.action made sound leads.allowed);
+  homed = subst IsHomed (sym leads.state) (homes_allowed s step.seat step.action made sound homed leads.allowed);
+  bounded = subst (IsBounded (n + 2 ^ 32)) (sym leads.state) (bounded_after n s step.seat step.action made sound bounded leads.allowed small);
+  zone = ap (λ (x : State). x.zone) leads.state ∙ zone_kept s step.seat step.action made;
+}
+
+-- the first k steps of the log are a legal run, and led here
+pub record Follows (zone : Zone) (s : CoreState) (log : Run) (k : ℕ) : Type 0 where
+  pub steps : s.steps ≡ k
+  pub legal : IsLegalRun zone (take k log)
+  pub state : state_in s ≡ state_of zone (take k log)
+
+-- with the next step of the log
+taken : (log : Run) (k : ℕ) (e : Step × Answer) → k < length log → e ≡ get_or log k e → take (k + 1) log ≡ one_more (take k log) e.0 e.1
+taken log k e h is = take_more log k e h ∙ ap (λ (x : Step × Answer). take k log ++ x ∷ []) (sym is)
+
+pub follows_on : (zone : Zone) (s t : CoreState) (log : Run) (k : ℕ) (e : Step × Answer) → k < length log → e ≡ get_or log k e → Follows zone s log k
+    → Leads (state_in s) e.0 e.1 (state_in t) → t.steps ≡ s.steps + 1 → Follows zone t log (k + 1)
+follows_on zone s t log k e h is so_far leads one =
+    let more = taken log k e h is in
+    let here : Allows (state_of zone (take k log)) e.0.seat e.0.action e.1 =
+    subst (λ (x : State). Allows x e.0.seat e.0.action e.1) so_far.state leads.allowed in
+    record {
+      steps = one ∙ ap (λ n. n + 1) so_far.steps;
+      legal = subst (IsLegalRun zone) (sym more) (legal_more zone (take k log) e.0 e.1 so_far.legal here);
+      state = leads.state ∙ ap (λ (x : State). after x e.0.seat e.0.action e.1) so_far.state ∙ sym (state_more zone (take k log) e.0 e.1)
+          ∙ ap (state_of zone) (sym more);
+    }
+
+pub first_illegal : (zone : Zone) (s t : CoreState) (log : Run) (k : ℕ) (e : Step × Answer) (expected : Answer) → k < length log → e ≡ get_or log k e
+    → Follows zone s log k → ¬ Allows (state_in s) e.0.seat e.0.action e.1 → Leads (state_in s) e.0 expected (state_in t)
+    → IsFirstIllegal zone log k expected
+first_illegal zone s t log k e expected h is so_far denied leads = record {
+  before = so_far.legal;
+  step = e.0;
+  answer = e.1;
+  there = slice_get-get_or log k e h ∙ ap Some (sym is);
+  denied = subst (λ (x : State). ¬ Allows x e.0.seat e.0.action e.1) so_far.state denied;
+  allowed = subst (λ (x : State). Allows x e.0.seat e.0.action expected) so_far.state leads.allowed;
+}
+
+pub all_legal : (zone : Zone) (s : CoreState) (log : Run) (k : ℕ) → length log ≤ k → Follows zone s log k → IsLegalRun zone log
+all_legal zone s log k h so_far = subst (IsLegalRun zone) (take_all k log h) so_far.legal
+
+not_legal : (zone : Zone) (log : Run) (k : ℕ) (expected : Answer) → IsFirstIllegal zone log k expected → IsLegalRun zone log → ⊥
+not_legal zone log k expected first legal =
+    first.denied (subst (λ o. IfSome o (λ e. Allows (state_of zone (take k log)) e.0.seat e.0.action e.1)) first.there (legal k))
+
+abbrev says_legal : Verdict → Bool
+says_legal Legal = true
+says_legal (IllegalAt index expected) = false
+
+-- a log with such a step is no legal run
+pub illegal_only : (zone : Zone) (log : Run) (k : ℕ) (expected : Answer) → IsFirstIllegal zone log k expected
+    → (IllegalAt k expected ≡ Legal) ↔ IsLegalRun zone log
+illegal_only zone log k expected first = (
+  λ e. absurd (false≢true (ap says_legal e)),
+  λ legal. absurd (not_legal zone log k expected first legal),
+)

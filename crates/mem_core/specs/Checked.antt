@@ -1,0 +1,29 @@
+-- What a check says of a log.
+use Rattle.std.specs.Prelude.{◌≡◌, ℕ, Some, take}
+use Rattle.std.specs.List.{slice_get}
+use Rattle.step_rules.specs.declared.step.Step.{Step}
+use Rattle.step_rules.specs.declared.step.Answer.{Answer}
+use Rattle.step_rules.specs.State.{Zone, State}
+use Rattle.step_rules.specs.Legal.{Allows}
+use Rattle.step_rules.specs.After.{Run, after, state_of, IsLegalRun}
+use Rattle.mem_core.specs.declared.verdict.Verdict.{Verdict}
+use Rattle.mem_core.specs.declared.verdict.Verdict.TheVariants.{Legal, IllegalAt}
+
+-- the step may be answered so, and then leads from the one state to the other
+pub record Leads (s : State) (step : Step) (answer : Answer) (t : State) : Type 0 where
+  pub allowed : Allows s step.seat step.action answer
+  pub state : t ≡ after s step.seat step.action answer
+
+-- the step at this place is the first that may not be answered as it was; it may be answered so
+pub record IsFirstIllegal (zone : Zone) (run : Run) (index : ℕ) (expected : Answer) : Type 0 where
+  pub before : IsLegalRun zone (take index run)
+  pub step : Step
+  pub answer : Answer
+  pub there : slice_get run index ≡ Some (step, answer)
+  pub denied : ¬ Allows (state_of zone (take index run)) step.seat step.action answer
+  pub allowed : Allows (state_of zone (take index run)) step.seat step.action expected
+
+-- the verdict is right
+abbrev pub IsVerdict : Zone → Run → Verdict → Type 0
+IsVerdict zone run Legal = IsLegalRun zone run
+IsVerdict zone run (IllegalAt index expected) = IsFirstIllegal zone run index expected

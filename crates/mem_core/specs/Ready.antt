@@ -1,0 +1,25 @@
+-- What a checker keeps, and how a contract sees it.
+use Rattle.std.specs.Prelude.{◌≡◌, ◌*◌, ◌^◌, ◌<◌, ◌≤◌, [], vec_capacity}
+use Rattle.step_rules.proofs.Sound.{IsSound}
+use Rattle.step_rules.proofs.Homes.{IsHomed}
+use Rattle.core_rows.specs.Shown.{state_in}
+use Rattle.core_rows.specs.Rooms.{FitsZone}
+use Rattle.core_rows.proofs.Bounding.{IsBounded}
+use Rattle.mem_core.specs.declared.checker.Checker.TheInside.{Inside}
+use Rattle.mem_core.specs.Shown.{CoreState}
+use Rattle.mem_core.specs.Inside.{rows_shown}
+
+-- the state that a checker shows: it has no accounts, and shows no areas
+abbrev pub checker_state : Inside → CoreState
+checker_state c = rows_shown c.rows [] [] c.steps
+
+-- the parts of a checker agree: the rows are of the zone's size, what they show is sound, of groups that are there, and
+-- bounded by so many steps, and there is room for the areas
+pub record IsReady (c : Inside) : Type 0 where
+  pub fits : FitsZone c.rows
+  pub sound : IsSound (state_in c.rows)
+  pub homed : IsHomed (state_in c.rows)
+  pub bounded : IsBounded (c.steps * 2 ^ 32) (state_in c.rows)
+  pub few : c.steps < 2 ^ 64
+  pub frames : c.areas.frames ≡ c.rows.frames
+  pub room : c.rows.frames ≤ vec_capacity c.free

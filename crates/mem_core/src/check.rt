@@ -1,0 +1,34 @@
+//! The check of a whole log: whether it is a legal run.
+
+ghost use Rattle.std.specs.Prelude.{◌≡◌, ◌↔◌, IfOk};
+ghost use Rattle.step_rules.specs.After.{IsLegalRun};
+ghost use Rattle.mem_core.specs.Shown.{zone_of};
+ghost use Rattle.mem_core.specs.Promise.{AlwaysKeepsPromise};
+ghost use Rattle.mem_core.specs.Checked.{IsVerdict};
+ghost use Rattle.mem_core.specs.declared.verdict.Verdict.TheVariants.{Legal};
+ghost use Rattle.zone_sizes.specs.Config.{IsValidConfig};
+
+use crate::checker::Checker;
+use crate::verdict::Verdict;
+use std::alloc::{AllocError, Global};
+use step_rules::step::{Answer, Step};
+use zone_sizes::config::Config;
+
+/// Whether a log, the steps of any memory controller with their answers, is a legal run of a zone of these sizes. A log that
+/// is keeps the promise at each of its beginnings that leaves the lock free. Of any other log the first step is named
+/// that isn't allowed, with an answer that would have been. Who wrote the log doesn't matter. By reading, it fails only if
+/// memory runs out: no clause says so.
+pub fn check(alloc: Global, config: Config, log: &[(Step, Answer)]) -> Result<Verdict, AllocError>
+    requires { IsValidConfig config }
+    ensures verdict { IfOk result (IsVerdict (zone_of config) log.now) }
+    ensures legal { IfOk result (λ verdict. (verdict ≡ Legal) ↔ IsLegalRun (zone_of config) log.now) }
+    ensures promise { IfOk result (λ verdict. verdict ≡ Legal → AlwaysKeepsPromise (zone_of config) log.now) }
+{
+    let mut checker = Checker::new(alloc, config)?;
+    for (index, (step, answer)) in log.iter().enumerate() {
+        if let Err(expected) = checker.accept(step, answer) {
+            return Ok(Verdict::IllegalAt { index, expected });
+        }
+    }
+    Ok(Verdict::Legal)
+}

@@ -1,0 +1,195 @@
+//! The checker: takes the steps of a log, each with its answer, one after the other.
+
+ghost use Rattle.std.specs.Prelude.{◌≡◌, ◌+◌, ◌^◌, ◌<◌, ◌≤◌, ◌↔◌, IfErr, IfOk, IsTrue, OnErr, OnOk, vec_capacity};
+ghost use Rattle.step_rules.specs.State.{at_boot};
+ghost use Rattle.step_rules.specs.Legal.{Allows};
+ghost use Rattle.step_rules.specs.Answers.{IsPlacing};
+ghost use Rattle.step_rules.specs.declared.step.Answer.TheVariants.{Placed};
+ghost use Rattle.group_tree.specs.Groups.{AreGroups};
+ghost use Rattle.core_rows.specs.Shown as rows_shown;
+ghost use Rattle.core_rows.specs.Rooms.{FitsZone, IsFew};
+ghost use Rattle.mem_core.specs.Shown.{state_in, zone_of};
+ghost use Rattle.mem_core.specs.Checked.{Leads};
+ghost use Rattle.zone_sizes.specs.Config.{IsValidConfig};
+
+use crate::free_areas::set_areas;
+use core_rows::rows::Rows;
+use core_steps::claims::place_at;
+use core_steps::serve::{pages_asked, serve};
+use std::alloc::{AllocError, Global};
+use std::marker::Model;
+use step_rules::step::{Action, Answer, Step};
+use zone_blocks::areas::FreeAreas;
+use zone_blocks::block::Block;
+use zone_sizes::config::Config;
+
+/// The checker. It follows the state as `Core` does, but keeps no accounts, and counts the free areas only if the answer to
+/// a placing is in doubt. A contract sees it as a `CoreState` with no accounts and no areas.
+#[derive(Drop)]
+pub struct Checker {
+    rows: Rows,
+    // Whether each frame is free, as the areas want it told.
+    free: Vec<bool>,
+    areas: FreeAreas,
+    steps: u64,
+}
+
+impl Model for Checker {
+    ghost use Rattle.mem_core.specs.Shown.{CoreState};
+
+    ghost Value = { CoreState };
+
+    ghost use Rattle.mem_core.specs.Ready.{checker_state, IsReady};
+
+    ghost view = { checker_state };
+
+    ghost invariant = { IsReady };
+}
+
+// Whether the two answers are one.
+fn is_same(one: &Answer, other: &Answer) -> bool
+    ensures { IsTrue result ↔ (one.now ≡ other.now) }
+{
+    *one == *other
+}
+
+// Makes a step with an answer of the core's own choice. The areas are counted only for a placing.
+fn serve_anew(rows: &mut Rows, free: &mut Vec<bool>, areas: &mut FreeAreas, step: &Step) -> Answer
+    requires fits { FitsZone rows.old }
+    requires few { IsFew (rows_shown.state_in rows.old) }
+    requires frames { areas.old.frames ≡ rows.old.frames }
+    requires room { rows.old.frames ≤ vec_capacity free.old }
+    ensures leads { Leads (rows_shown.state_in rows.old) step.now result (rows_shown.state_in rows.new) }
+    ensures fits { FitsZone rows.new }
+    ensures frames { areas.new.frames ≡ areas.old.frames }
+    ensures room { vec_capacity free.new ≡ vec_capacity free.old }
+{
+    match &step.action {
+        Action::PlaceBlock { group: _, order: _ } => {
+            set_areas(rows, free, areas);
+            serve(rows, areas, step)
+        }
+        _ => serve(rows, areas, step),
+    }
+}
+
+// Takes a step that is said to have placed this block.
+fn take_placing(
+    rows: &mut Rows,
+    free: &mut Vec<bool>,
+    areas: &mut FreeAreas,
+    step: &Step,
+    block: &Block,
+) -> Result<(), Answer>
+    requires fits { FitsZone rows.old }
+    requires few { IsFew (rows_shown.state_in rows.old) }
+    requires frames { areas.old.frames ≡ rows.old.frames }
+    requires room { rows.old.frames ≤ vec_capacity free.old }
+    ensures accepted { OnOk result (Leads (rows_shown.state_in rows.old) step.now (Placed block.now) (rows_shown.state_in rows.new)) }
+    ensures refused { IfErr result (λ expected. Leads (rows_shown.state_in rows.old) step.now expected (rows_shown.state_in rows.new)) }
+    ensures denied { OnErr result (¬ Allows (rows_shown.state_in rows.old) step.now.seat step.now.action (Placed block.now)) }
+    ensures fits { FitsZone rows.new }
+    ensures frames { areas.new.frames ≡ areas.old.frames }
+    ensures room { vec_capacity free.new ≡ vec_capacity free.old }
+{
+    if place_at(rows, step, block) {
+        return Ok(());
+    }
+    Err(serve_anew(rows, free, areas, step))
+}
+
+// Takes a step that is said to be answered so, and to have placed no block.
+fn take_other(
+    rows: &mut Rows,
+    free: &mut Vec<bool>,
+    areas: &mut FreeAreas,
+    step: &Step,
+    answer: &Answer,
+) -> Result<(), Answer>
+    requires fits { FitsZone rows.old }
+    requires few { IsFew (rows_shown.state_in rows.old) }
+    requires groups { AreGroups rows.old.tree }
+    requires frames { areas.old.frames ≡ rows.old.frames }
+    requires room { rows.old.frames ≤ vec_capacity free.old }
+    requires other { ¬ IsPlacing answer.now }
+    ensures accepted { OnOk result (Leads (rows_shown.state_in rows.old) step.now answer.now (rows_shown.state_in rows.new)) }
+    ensures refused { IfErr result (λ expected. Leads (rows_shown.state_in rows.old) step.now expected (rows_shown.state_in rows.new)) }
+    ensures denied { OnErr result (¬ Allows (rows_shown.state_in rows.old) step.now.seat step.now.action answer.now) }
+    ensures fits { FitsZone rows.new }
+    ensures frames { areas.new.frames ≡ areas.old.frames }
+    ensures room { vec_capacity free.new ≡ vec_capacity free.old }
+{
+    let expected = serve_anew(rows, free, areas, step);
+    if is_same(&expected, answer) {
+        return Ok(());
+    }
+    Err(expected)
+}
+
+// Takes a step that is said to be answered so.
+fn take(
+    rows: &mut Rows,
+    free: &mut Vec<bool>,
+    areas: &mut FreeAreas,
+    step: &Step,
+    answer: &Answer,
+) -> Result<(), Answer>
+    requires fits { FitsZone rows.old }
+    requires few { IsFew (rows_shown.state_in rows.old) }
+    requires groups { AreGroups rows.old.tree }
+    requires frames { areas.old.frames ≡ rows.old.frames }
+    requires room { rows.old.frames ≤ vec_capacity free.old }
+    ensures accepted { OnOk result (Leads (rows_shown.state_in rows.old) step.now answer.now (rows_shown.state_in rows.new)) }
+    ensures refused { IfErr result (λ expected. Leads (rows_shown.state_in rows.old) step.now expected (rows_shown.state_in rows.new)) }
+    ensures denied { OnErr result (¬ Allows (rows_shown.state_in rows.old) step.now.seat step.now.action answer.now) }
+    ensures fits { FitsZone rows.new }
+    ensures frames { areas.new.frames ≡ areas.old.frames }
+    ensures room { vec_capacity free.new ≡ vec_capacity free.old }
+{
+    match answer {
+        Answer::Placed(block) => take_placing(rows, free, areas, step, block),
+        _ => take_other(rows, free, areas, step, answer),
+    }
+}
+
+impl Checker {
+    /// A checker of logs that begin with all frames free, the root alone and the lock free. All room that its steps need
+    /// is reserved here. Of the sizes only the frames and the CPUs matter.
+    pub fn new(alloc: Global, config: Config) -> Result<Checker, AllocError>
+        requires { IsValidConfig config }
+        ensures state { IfOk result (λ checker. state_in checker ≡ at_boot (zone_of config)) }
+        ensures steps { IfOk result (λ checker. checker.steps ≡ 0) }
+    {
+        let rows = Rows::new(alloc, config.frames, config.cpus)?;
+        let free = Vec::with_capacity(alloc, config.frames as usize)?;
+        let areas = FreeAreas::new(alloc, config.frames)?;
+        Ok(Checker {
+            rows,
+            free,
+            areas,
+            steps: 0,
+        })
+    }
+
+    /// Takes the next step of a log with its answer, if the rules allow it. Otherwise it returns an answer that the rules
+    /// allow, and goes on as if the step had been answered so. A block may be placed anywhere: each aligned block of the
+    /// order will do whose frames are all free. It may take 2^64 - 1 steps.
+    pub fn accept(&mut self, step: &Step, answer: &Answer) -> Result<(), Answer>
+        requires { self.old.steps + 1 < 2 ^ 64 }
+        ensures accepted { OnOk result (Leads (state_in self.old) step.now answer.now (state_in self.new)) }
+        ensures refused { IfErr result (λ expected. Leads (state_in self.old) step.now expected (state_in self.new)) }
+        ensures denied { OnErr result (¬ Allows (state_in self.old) step.now.seat step.now.action answer.now) }
+        ensures steps { self.new.steps ≡ self.old.steps + 1 }
+    {
+        // No more pages than a step can ask for.
+        let _ = pages_asked(&step.action);
+        self.steps += 1;
+        take(
+            &mut self.rows,
+            &mut self.free,
+            &mut self.areas,
+            step,
+            answer,
+        )
+    }
+}
