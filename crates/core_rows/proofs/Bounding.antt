@@ -1,6 +1,6 @@
 -- Of the reading core, on which the program doesn't run.
 -- What bounds the numbers, and that every allowed step keeps it.
-use Rattle.std.proofs.Common.{◌≡◌, ℕ, ◌+◌, ◌-◌, ◌^◌, ◌<◌, ◌≤◌, ◌==◌, Bool, true, false, Option, Some, None, length, refl, sym, ◌∙◌, ap}
+use Rattle.std.proofs.Common.{◌≡◌, ℕ, ◌+◌, ◌-◌, ◌^◌, ◌<◌, ◌≤◌, ◌==◌, Bool, true, false, Option, Some, None, length, refl, sym, ◌∙◌, ap, subst}
 use Rattle.std.proofs.Common.{arith, inl, inr, cond, zero, suc}
 use Rattle.std.specs.Prelude.{nat_le}
 use Rattle.std.proofs.lemmas.Bool.{cases_eq, cases_lt, and_parts, leb-true, eqb-true, false≢true}
@@ -23,6 +23,7 @@ use Rattle.step_rules.proofs.Lists.{times, count_length, front_stands, one_if_tr
 use Rattle.step_rules.proofs.PhaseLemmas.{free_is, listed_is, in_hand, WasCollected, WasBare, WasEnded}
 use Rattle.step_rules.proofs.Sound.{IsSound}
 use Rattle.step_rules.proofs.Few.{HaveFewPins, pins_made}
+use Rattle.step_rules.proofs.Placed.{zone_kept}
 use Rattle.core_rows.specs.Rooms.{IsFew, pages_asked}
 
 hand_not_live : (x : Phase) → is_head_in_hand x ≡ true → is_live x ≡ false
@@ -307,10 +308,12 @@ small_step n s seat action answer sound b legal ok counted small =
 pub bounded_step : (n : ℕ) (s : State) (seat : ℕ) (action : Action) (answer : Answer) → IsSound s → IsBounded n s → is_legal s seat action ≡ true →
     IsAnswer s seat action answer → IsCounted s action answer → pages_asked action < 2 ^ 32 → IsBounded (n + 2 ^ 32) (after s seat action answer)
 bounded_step n s seat action answer sound b legal ok counted small =
+    let t : State = after s seat action answer in
     let next = small_step n s seat action answer sound (record { references = b.references; pages = b.pages; holder = b.holder }) legal ok counted small in
     record {
       references = next.references;
       pages = next.pages;
       holder = next.holder;
-      pins = pins_made s 0 seat action answer sound b.pins (record { legal = legal; answered = ok; counted = counted });
+      pins = subst (λ (z : Zone). HaveFewPins z t.references t.parts) (sym (zone_kept s seat action answer))
+          (pins_made s 0 seat action answer sound b.pins (record { legal = legal; answered = ok; counted = counted }));
     }

@@ -5,17 +5,16 @@ use Rattle.std.specs.Prelude.{nat_le}
 use Rattle.std.proofs.lemmas.Bool.{leb-true, ltb-true, or_cases, and_parts, eqb-true, ne_eqb}
 use Rattle.step_rules.specs.declared.phase.Phase.{Phase}
 use Rattle.step_rules.specs.declared.step.Action.TheVariants.{Put, TakeIn, Credit, Consume}
-use Rattle.step_rules.specs.Phases.{Kind, ListFrame, FreshFrame, has_as, is_live, passes_out}
+use Rattle.step_rules.specs.Phases.{ListFrame, FreshFrame, has_as, passes_out}
 use Rattle.step_rules.specs.declared.phase.Stage.TheVariants.{BackAt, Ended}
 use Rattle.step_rules.specs.Phases.{at_stage}
 use Rattle.step_rules.specs.After.{with_part, with_phase, with_references, with_back, after_last}
 use Rattle.step_rules.specs.State.{with_at}
-use Rattle.step_rules.specs.Phases as kinds
 use Rattle.step_rules.specs.State.{State, is_cpu, is_frame, live_references, may_zone_act}
 use Rattle.step_rules.specs.Legal.{is_legal}
 use Rattle.step_rules.proofs.LegalTests.{consume_tests}
 use Rattle.step_rules.proofs.Sums.{sum_part}
-use Rattle.step_rules.proofs.PhaseLemmas.{out_is, fresh_is, live_is}
+use Rattle.step_rules.proofs.PhaseLemmas.{out_is, fresh_is}
 use Rattle.core_rows.specs.Rooms.{IsFew}
 
 pub out_unlisted : (p : ℕ) (x : Phase) → passes_out p x ≡ true → has_as ListFrame p x ≡ false
