@@ -1,6 +1,6 @@
 -- Of the reading core, on which the program doesn't run.
 -- What bounds the numbers, and that every allowed step keeps it.
-use Rattle.std.proofs.Common.{◌≡◌, ℕ, ◌+◌, ◌-◌, ◌^◌, ◌<◌, ◌≤◌, ◌==◌, Bool, true, false, Option, Some, None, length, refl, sym, ◌∙◌, ap}
+use Rattle.std.proofs.Common.{◌≡◌, ℕ, ◌+◌, ◌-◌, ◌^◌, ◌<◌, ◌≤◌, ◌==◌, Bool, true, false, Option, Some, None, length, refl, sym, ◌∙◌, ap, subst}
 use Rattle.std.proofs.Common.{arith, inl, inr, cond, zero, suc}
 use Rattle.std.specs.Prelude.{nat_le}
 use Rattle.std.proofs.lemmas.Bool.{cases_eq, cases_lt, and_parts, leb-true, eqb-true, false≢true}
@@ -22,6 +22,8 @@ use Rattle.step_rules.proofs.Sums.{sum_same, sum_part, sum_change}
 use Rattle.step_rules.proofs.Lists.{times, count_length, front_stands, one_if_true}
 use Rattle.step_rules.proofs.PhaseLemmas.{free_is, listed_is, in_hand, WasCollected, WasBare, WasEnded}
 use Rattle.step_rules.proofs.Sound.{IsSound}
+use Rattle.step_rules.proofs.Few.{HaveFewPins, pins_made}
+use Rattle.step_rules.proofs.Placed.{zone_kept}
 use Rattle.core_rows.specs.Rooms.{IsFew, pages_asked}
 
 hand_not_live : (x : Phase) → is_head_in_hand x ≡ true → is_live x ≡ false
@@ -43,6 +45,13 @@ pages_out s = sum_to 64 s.pending + sum_to (s.zone.cpus + 1) (λ p. (s.parts p).
 
 -- the numbers are bounded by so many pages
 pub record IsBounded (n : ℕ) (s : State) : Type 0 where
+  pub references : (seat f : ℕ) → s.references seat f ≤ 255
+  pub pages : pages_out s ≤ n
+  pub holder : HolderIsThere s.zone.cpus s.hold
+  pub pins : HaveFewPins s.zone s.references s.parts
+
+-- but for the pins
+record AreSmall (n : ℕ) (s : State) : Type 0 where
   pub references : (seat f : ℕ) → s.references seat f ≤ 255
   pub pages : pages_out s ≤ n
   pub holder : HolderIsThere s.zone.cpus s.hold
@@ -104,14 +113,6 @@ front_there s p sound some =
       | inr beyond ↦ absurd (false≢true (sym (ap (has_as ListFrame p) (free_is (s.phases f) ((sound.frames f).inside beyond))) ∙ listed))
     ]
 
-listed_not_fresh : (p : ℕ) (x : Phase) → has_as ListFrame p x ≡ true → has_as FreshFrame p x ≡ false
-listed_not_fresh p x e = ap (has_as FreshFrame p) (listed_is p x e)
-
-pub paying_room : (s : State) (p : ℕ) → IsSound s → 1 ≤ length (s.parts p).list → length (s.parts p).fresh < s.zone.frames
-paying_room s p sound some =
-    room_there s p FreshFrame (front_of (s.parts p).list) sound (front_there s p sound some)
-    (listed_not_fresh p (s.phases (front_of (s.parts p).list)) (front_listed s p sound some))
-
 visitor_there : (cpus p : ℕ) (hold : Hold) → HolderIsThere cpus hold → visits p hold ≡ true → p ≤ cpus
 visitor_there cpus p (Visiting q) there e = let same = eqb-true q p e in omega arith
 visitor_there cpus p Unheld there e = absurd (false≢true e)
@@ -139,7 +140,7 @@ few_from n s small beyond absent sound bounded = record {
   room = λ p kind f below other. room_there s p kind f sound below other;
   live = λ seat f some. referred_live s seat f sound some;
   front = λ p some. front_there s p sound some;
-  paying = λ p some. paying_room s p sound some;
+  pins = bounded.pins;
   visitor = λ p e. visitor_there s.zone.cpus p s.hold bounded.holder e;
 }
 
@@ -178,19 +179,19 @@ held_few live e = grind arith
 cpu_high : (zone : Zone) (p : ℕ) → is_cpu zone p ≡ true → p ≤ zone.cpus
 cpu_high zone p e = leb-true p zone.cpus (and_parts (nat_le 1 p) (nat_le p zone.cpus) e).1
 
-pub bounded_step : (n : ℕ) (s : State) (seat : ℕ) (action : Action) (answer : Answer) → IsSound s → IsBounded n s → is_legal s seat action ≡ true →
-    IsAnswer s seat action answer → IsCounted s action answer → pages_asked action < 2 ^ 32 → IsBounded (n + 2 ^ 32) (after s seat action answer)
-bounded_step n s seat Lock Done sound b legal ok counted small =
+small_step : (n : ℕ) (s : State) (seat : ℕ) (action : Action) (answer : Answer) → IsSound s → AreSmall n s → is_legal s seat action ≡ true →
+    IsAnswer s seat action answer → IsCounted s action answer → pages_asked action < 2 ^ 32 → AreSmall (n + 2 ^ 32) (after s seat action answer)
+small_step n s seat Lock Done sound b legal ok counted small =
     let cpu : is_cpu s.zone seat ≡ true = grind (arith, legal) in
     record { references = b.references; pages = wide n (pages_out s) b.pages; holder = cpu_high s.zone seat cpu }
-bounded_step n s seat Unlock Done sound b legal ok counted small = record { references = b.references; pages = wide n (pages_out s) b.pages; holder = tt }
-bounded_step n s seat (OpenVisit p) Done sound b legal ok counted small =
+small_step n s seat Unlock Done sound b legal ok counted small = record { references = b.references; pages = wide n (pages_out s) b.pages; holder = tt }
+small_step n s seat (OpenVisit p) Done sound b legal ok counted small =
     let held : is_held_by p s.hold ≡ true = grind (arith, legal) in
     record { references = b.references; pages = wide n (pages_out s) b.pages; holder = holder_there s.zone.cpus p s.hold b.holder held }
-bounded_step n s seat (ShutVisit p) Done sound b legal ok counted small =
+small_step n s seat (ShutVisit p) Done sound b legal ok counted small =
     let visit : visits p s.hold ≡ true = grind (arith, legal) in
     record { references = b.references; pages = wide n (pages_out s) b.pages; holder = visitor_there s.zone.cpus p s.hold b.holder visit }
-bounded_step n s seat (Get f) Held sound b legal ok counted small =
+small_step n s seat (Get f) Held sound b legal ok counted small =
     let cpu : is_cpu s.zone seat ≡ true = grind (arith, legal) in
     let high = cpu_high s.zone seat cpu in
     let part = sum_part (s.zone.cpus + 1) (λ k. s.references k f) seat (omega arith) in
@@ -201,7 +202,7 @@ bounded_step n s seat (Get f) Held sound b legal ok counted small =
           wide n (pages_out s) b.pages;
       holder = b.holder;
     }
-bounded_step n s seat (Put f) (Left m) sound b legal ok counted small =
+small_step n s seat (Put f) (Left m) sound b legal ok counted small =
     let was = b.references seat f in
     record {
       references = refs_with s.references seat f (s.references seat f - 1) b.references (omega arith);
@@ -209,7 +210,7 @@ bounded_step n s seat (Put f) (Left m) sound b legal ok counted small =
           wide n (pages_out s) b.pages;
       holder = b.holder;
     }
-bounded_step n s seat (Put f) Last sound b legal ok counted small =
+small_step n s seat (Put f) Last sound b legal ok counted small =
     let was = b.references seat f in
     record {
       references = refs_with s.references seat f (s.references seat f - 1) b.references (omega arith);
@@ -221,7 +222,7 @@ bounded_step n s seat (Put f) Last sound b legal ok counted small =
         (λ p. ((cond z s.parts (with_at s.parts seat (with_back (s.parts seat) f))) p).book) ≤ n + 2 ^ 32
     last true = wide n (pages_out s) b.pages
     last false = part_kept n s seat (with_back (s.parts seat) f) refl b.pages
-bounded_step n s seat (Freeze f m) Done sound b legal ok counted small =
+small_step n s seat (Freeze f m) Done sound b legal ok counted small =
     let was = b.references 0 f in
     record {
       references = refs_with s.references 0 f (s.references 0 f - m) b.references (omega arith);
@@ -229,7 +230,7 @@ bounded_step n s seat (Freeze f m) Done sound b legal ok counted small =
           wide n (pages_out s) b.pages;
       holder = b.holder;
     }
-bounded_step n s seat (Unfreeze f m) Done sound b legal ok counted small =
+small_step n s seat (Unfreeze f m) Done sound b legal ok counted small =
     let hand : is_head_in_hand (s.phases f) ≡ true = grind (arith, legal) in
     let top : nat_le m 255 ≡ true = grind (arith, legal) in
     let most = leb-true m 255 top in
@@ -240,31 +241,31 @@ bounded_step n s seat (Unfreeze f m) Done sound b legal ok counted small =
           wide n (pages_out s) b.pages;
       holder = b.holder;
     }
-bounded_step n s seat (PassOut f p) Done sound b legal ok counted small =
+small_step n s seat (PassOut f p) Done sound b legal ok counted small =
     record { references = b.references; pages = wide n (pages_out s) b.pages; holder = b.holder }
-bounded_step n s seat (TakeIn f) Done sound b legal ok counted small =
+small_step n s seat (TakeIn f) Done sound b legal ok counted small =
     record { references = b.references; pages = part_kept n s seat _ refl b.pages; holder = b.holder }
-bounded_step n s seat (PassBack f) Done sound b legal ok counted small =
+small_step n s seat (PassBack f) Done sound b legal ok counted small =
     record { references = b.references; pages = part_kept n s seat _ refl b.pages; holder = b.holder }
-bounded_step n s seat (Collect f p) Done sound b legal ok counted small =
+small_step n s seat (Collect f p) Done sound b legal ok counted small =
     record { references = b.references; pages = wide n (pages_out s) b.pages; holder = b.holder }
-bounded_step n s seat (Consume g) Took sound b legal ok counted small =
+small_step n s seat (Consume g) Took sound b legal ok counted small =
     record { references = b.references; pages = part_kept n s seat _ refl b.pages; holder = b.holder }
-bounded_step n s seat (Credit f) Back sound b legal ok counted small =
+small_step n s seat (Credit f) Back sound b legal ok counted small =
     record { references = b.references; pages = part_kept n s seat _ refl b.pages; holder = b.holder }
-bounded_step n s seat (Report m) Done sound b legal ok counted small =
+small_step n s seat (Report m) Done sound b legal ok counted small =
     record { references = b.references; pages = part_kept n s seat _ refl b.pages; holder = b.holder }
-bounded_step n s seat (Absorb p) (Pages m) sound b legal ok counted small =
+small_step n s seat (Absorb p) (Pages m) sound b legal ok counted small =
     let part : Part = record (s.parts p) { book = (s.parts p).book - m; reported = (s.parts p).reported - m } in
     let a = books_more (s.zone.cpus + 1) s.parts p part 0 (omega arith) in
     let few = b.pages in
     record { references = b.references; pages = omega arith; holder = b.holder }
-bounded_step n s seat (Fill p g m) Done sound b legal ok counted small =
+small_step n s seat (Fill p g m) Done sound b legal ok counted small =
     let a = books_more (s.zone.cpus + 1) s.parts p (filled (s.parts p) g m) m (omega arith) in
     let d = sum_more 64 s.pending g (s.pending g - m) 0 (omega arith) in
     let few = b.pages in
     record { references = b.references; pages = omega arith; holder = b.holder }
-bounded_step n s seat (DrainStock p) (Pages m) sound b legal ok counted small =
+small_step n s seat (DrainStock p) (Pages m) sound b legal ok counted small =
     let cpu : is_cpu s.zone p ≡ true = grind (arith, legal) in
     let high = cpu_high s.zone p cpu in
     let booked = sound.booked p in
@@ -277,29 +278,42 @@ bounded_step n s seat (DrainStock p) (Pages m) sound b legal ok counted small =
     more : (of : Option ℕ) → sum_to 64 (with_more s.pending of m) ≤ sum_to 64 s.pending + m
     more None = omega arith
     more (Some g) = sum_more 64 s.pending g (s.pending g + m) m (omega arith)
-bounded_step n s seat (Grant g m) Granted sound b legal ok counted small =
+small_step n s seat (Grant g m) Granted sound b legal ok counted small =
     let d = sum_more 64 s.pending g (s.pending g + m) m (omega arith) in
     let few = b.pages in
     record { references = b.references; pages = omega arith; holder = b.holder }
-bounded_step n s seat (Ungrant g m) Done sound b legal ok counted small =
+small_step n s seat (Ungrant g m) Done sound b legal ok counted small =
     let d = sum_more 64 s.pending g (s.pending g - m) 0 (omega arith) in
     let few = b.pages in
     record { references = b.references; pages = omega arith; holder = b.holder }
-bounded_step n s seat (PlaceBlock g k) (Placed x) sound b legal ok counted small =
+small_step n s seat (PlaceBlock g k) (Placed x) sound b legal ok counted small =
     let d = sum_more 64 s.pending g (s.pending g - 2 ^ k) 0 (omega arith) in
     let few = b.pages in
     record { references = b.references; pages = omega arith; holder = b.holder }
-bounded_step n s seat (Return f) Done sound b legal ok counted small =
+small_step n s seat (Return f) Done sound b legal ok counted small =
     record { references = b.references; pages = wide n (pages_out s) b.pages; holder = b.holder }
-bounded_step n s seat (SetMax g limit) Done sound b legal ok counted small =
+small_step n s seat (SetMax g limit) Done sound b legal ok counted small =
     record { references = b.references; pages = wide n (pages_out s) b.pages; holder = b.holder }
-bounded_step n s seat (SetFlag g flag) Done sound b legal ok counted small =
+small_step n s seat (SetFlag g flag) Done sound b legal ok counted small =
     record { references = b.references; pages = wide n (pages_out s) b.pages; holder = b.holder }
-bounded_step n s seat (Make path) (Number k) sound b legal ok counted small =
+small_step n s seat (Make path) (Number k) sound b legal ok counted small =
     record { references = b.references; pages = wide n (pages_out s) b.pages; holder = b.holder }
-bounded_step n s seat (Remove g) Done sound b legal ok counted small =
+small_step n s seat (Remove g) Done sound b legal ok counted small =
     record { references = b.references; pages = wide n (pages_out s) b.pages; holder = b.holder }
-bounded_step n s seat (Kill g) Done sound b legal ok counted small =
+small_step n s seat (Kill g) Done sound b legal ok counted small =
     record { references = b.references; pages = wide n (pages_out s) b.pages; holder = b.holder }
+small_step n s seat action answer sound b legal ok counted small =
+    record { references = b.references; pages = wide n (pages_out s) b.pages; holder = b.holder }
+
+pub bounded_step : (n : ℕ) (s : State) (seat : ℕ) (action : Action) (answer : Answer) → IsSound s → IsBounded n s → is_legal s seat action ≡ true →
+    IsAnswer s seat action answer → IsCounted s action answer → pages_asked action < 2 ^ 32 → IsBounded (n + 2 ^ 32) (after s seat action answer)
 bounded_step n s seat action answer sound b legal ok counted small =
-    record { references = b.references; pages = wide n (pages_out s) b.pages; holder = b.holder }
+    let t : State = after s seat action answer in
+    let next = small_step n s seat action answer sound (record { references = b.references; pages = b.pages; holder = b.holder }) legal ok counted small in
+    record {
+      references = next.references;
+      pages = next.pages;
+      holder = next.holder;
+      pins = subst (λ (z : Zone). HaveFewPins z t.references t.parts) (sym (zone_kept s seat action answer))
+          (pins_made s 0 seat action answer sound b.pins (record { legal = legal; answered = ok; counted = counted }));
+    }

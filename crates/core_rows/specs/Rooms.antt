@@ -3,7 +3,7 @@
 use Rattle.std.specs.Prelude.{◌≡◌, ◌+◌, ◌^◌, ◌<◌, ◌≤◌, ℕ, true, false, List, All, replicate, length, vec_len, vec_capacity}
 use Rattle.group_tree.specs.Bounds.{most_groups}
 use Rattle.step_rules.specs.Phases.{Kind, has_as, is_live}
-use Rattle.step_rules.specs.State.{State, frames_of, free_in, front_of, visits}
+use Rattle.step_rules.specs.State.{State, frames_of, free_in, front_of, is_cpu, pins_of, visits}
 use Rattle.zone_blocks.specs.declared.block.Block.{Block}
 use Rattle.zone_blocks.specs.Areas.{IsFrontOfSmallest, AreMaximalBlocks}
 use Rattle.step_rules.specs.declared.step.Action.{Action}
@@ -17,12 +17,13 @@ use Rattle.core_rows.specs.declared.rows.Rows.{Rows}
 use Rattle.step_rules.specs.State.{no_part}
 use Rattle.core_rows.specs.Shown.{state_in, part_in}
 
--- a seat has a number of references for each frame, and room for all frames in each of its lists
+-- a seat has a number of references for each frame, and room on its list for all frames; the rules let it have no more than
+-- 32 fresh frames and 256 back frames
 pub record HasRoom (frames : ℕ) (s : Seat) : Type 0 where
   pub references : vec_len s.references ≡ frames
   pub list : frames ≤ vec_capacity s.list
-  pub fresh : frames ≤ vec_capacity s.fresh
-  pub back : frames ≤ vec_capacity s.back
+  pub fresh : 32 ≤ vec_capacity s.fresh
+  pub back : 256 ≤ vec_capacity s.back
 
 -- the rows are of the zone's size: there is a phase for each frame, a seat for the zone and each CPU, and a place for
 -- each group number
@@ -35,10 +36,9 @@ pub record FitsZone (r : Rows) : Type 0 where
   pub pending : vec_len r.pending ≡ most_groups
   pub rooms : All (HasRoom r.frames) r.seats.items
 
--- No number is near its bound. A seat has at most 255 references on a frame, and only on a live one. A book is the
--- pages of the stock, the fresh frames, and the pages unreported and reported. Books and pending pages are at most
--- 2^96. A frame that isn't of a kind has room on the list of that kind. The front of a list is a frame of the zone, and
--- has room among the fresh frames. Only a CPU visits.
+-- No number is near its bound. A seat has at most 255 references on a frame, and only on a live one. There are no more
+-- pages than many steps can grant. A frame that isn't of a kind has room on the list of that kind. The front of a list is
+-- a frame of the zone. A CPU has at most 256 pins and back frames. Only a CPU visits.
 pub record IsFew (s : State) : Type 0 where
   pub references : (seat f : ℕ) → s.references seat f ≤ 255
   pub booked : (p : ℕ) → (s.parts p).book ≡ (s.parts p).stock.pages + length (s.parts p).fresh + (s.parts p).unreported + (s.parts p).reported
@@ -47,7 +47,7 @@ pub record IsFew (s : State) : Type 0 where
   pub room : (p : ℕ) (kind : Kind) (f : ℕ) → f < s.zone.frames → has_as kind p (s.phases f) ≡ false → length (frames_of (s.parts p) kind) < s.zone.frames
   pub live : (seat f : ℕ) → 1 ≤ s.references seat f → is_live (s.phases f) ≡ true
   pub front : (p : ℕ) → 1 ≤ length (s.parts p).list → front_of (s.parts p).list < s.zone.frames
-  pub paying : (p : ℕ) → 1 ≤ length (s.parts p).list → length (s.parts p).fresh < s.zone.frames
+  pub pins : (p : ℕ) → is_cpu s.zone p ≡ true → pins_of s p + length (s.parts p).back ≤ 256
   pub visitor : (p : ℕ) → visits p s.hold ≡ true → p ≤ s.zone.cpus
 
 -- a step that may be made gets this answer, and leaves these rows

@@ -321,7 +321,7 @@ impl Rows {
         requires cpu { cpu ≤ self.old.cpus }
         requires some { 1 ≤ length ((state_in self.old).parts cpu).list }
         requires page { 1 ≤ ((state_in self.old).parts cpu).stock.pages }
-        requires room { length ((state_in self.old).parts cpu).fresh < self.old.frames }
+        requires room { length ((state_in self.old).parts cpu).fresh < 32 }
         ensures state { state_in self.new ≡ with_part (state_in self.old) cpu (paid ((state_in self.old).parts cpu)) }
         ensures fits { FitsZone self.new }
     {
@@ -344,7 +344,7 @@ impl Rows {
     pub fn put_back(&mut self, cpu: u32, frame: u32)
         requires fits { FitsZone self.old }
         requires cpu { cpu ≤ self.old.cpus }
-        requires room { length ((state_in self.old).parts cpu).back < self.old.frames }
+        requires room { length ((state_in self.old).parts cpu).back < 256 }
         ensures state { state_in self.new ≡ with_part (state_in self.old) cpu (with_back ((state_in self.old).parts cpu) frame) }
         ensures fits { FitsZone self.new }
     {

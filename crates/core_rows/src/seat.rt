@@ -9,6 +9,12 @@ ghost use Rattle.core_rows.specs.Rooms.{HasRoom, HasRooms, KeepsRoom};
 use group_tree::group::GroupId;
 use std::alloc::{AllocError, Global};
 
+/// Fresh frames of a CPU, at most: the rules refuse a consume with as many.
+const MOST_FRESH: usize = 32;
+
+/// Back frames of a CPU, at most: each was a pin, of which the rules allow as many.
+const MOST_BACK: usize = 256;
+
 /// What is kept of one seat: the zone's own, or a CPU's.
 #[derive(Drop)]
 pub struct Seat {
@@ -161,7 +167,7 @@ pub(crate) fn drain_pages(seat: &mut Seat) -> u128
     pages
 }
 
-/// A seat that has nothing, with room for this many frames.
+/// A seat that has nothing, with room on its list for this many frames.
 pub(crate) fn new_seat(alloc: Global, frames: u32) -> Result<Seat, AllocError>
     ensures part { IfOk result (λ s. part_in s ≡ no_part) }
     ensures none { IfOk result (λ s. s.references.items ≡ replicate frames 0) }
@@ -170,8 +176,8 @@ pub(crate) fn new_seat(alloc: Global, frames: u32) -> Result<Seat, AllocError>
     let n = frames as usize;
     let references = vec![in alloc; 0; n]?;
     let list = Vec::with_capacity(alloc, n)?;
-    let fresh = Vec::with_capacity(alloc, n)?;
-    let back = Vec::with_capacity(alloc, n)?;
+    let fresh = Vec::with_capacity(alloc, MOST_FRESH)?;
+    let back = Vec::with_capacity(alloc, MOST_BACK)?;
     Ok(Seat {
         references,
         list,

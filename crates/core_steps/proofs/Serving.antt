@@ -5,16 +5,16 @@ use Rattle.std.specs.Prelude.{nat_le}
 use Rattle.std.proofs.lemmas.Bool.{leb-true, ltb-true, or_cases, and_parts, eqb-true, ne_eqb}
 use Rattle.step_rules.specs.declared.phase.Phase.{Phase}
 use Rattle.step_rules.specs.declared.step.Action.TheVariants.{Put, TakeIn, Credit, Consume}
-use Rattle.step_rules.specs.Phases.{Kind, ListFrame, FreshFrame, has_as, is_live, passes_out}
+use Rattle.step_rules.specs.Phases.{ListFrame, FreshFrame, has_as, passes_out}
 use Rattle.step_rules.specs.declared.phase.Stage.TheVariants.{BackAt, Ended}
 use Rattle.step_rules.specs.Phases.{at_stage}
 use Rattle.step_rules.specs.After.{with_part, with_phase, with_references, with_back, after_last}
 use Rattle.step_rules.specs.State.{with_at}
-use Rattle.step_rules.specs.Phases as kinds
 use Rattle.step_rules.specs.State.{State, is_cpu, is_frame, live_references, may_zone_act}
 use Rattle.step_rules.specs.Legal.{is_legal}
+use Rattle.step_rules.proofs.LegalTests.{consume_tests}
 use Rattle.step_rules.proofs.Sums.{sum_part}
-use Rattle.step_rules.proofs.PhaseLemmas.{out_is, fresh_is, live_is}
+use Rattle.step_rules.proofs.PhaseLemmas.{out_is, fresh_is}
 use Rattle.core_rows.specs.Rooms.{IsFew}
 
 pub out_unlisted : (p : ℕ) (x : Phase) → passes_out p x ≡ true → has_as ListFrame p x ≡ false
@@ -22,9 +22,6 @@ out_unlisted p x e = ap (has_as ListFrame p) (out_is p x e)
 
 pub fresh_unlisted : (p : ℕ) (x : Phase) → has_as FreshFrame p x ≡ true → has_as ListFrame p x ≡ false
 fresh_unlisted p x e = ap (has_as ListFrame p) (fresh_is p x e).1
-
-pub live_not_back : (p : ℕ) (x : Phase) → is_live x ≡ true → has_as kinds.BackFrame p x ≡ false
-live_not_back p x e = ap (has_as kinds.BackFrame p) (live_is x e).1
 
 pub take_in_room : (s : State) (p f : ℕ) → IsFew s → is_legal s p (TakeIn f) ≡ true → length (s.parts p).list < s.zone.frames
 take_in_room s p f few legal =
@@ -38,11 +35,20 @@ credit_room s p f few legal =
     let fresh : has_as FreshFrame p (s.phases f) ≡ true = grind (arith, legal) in
     few.room p ListFrame f (ltb-true f s.zone.frames frame) (fresh_unlisted p (s.phases f) fresh)
 
-pub put_room : (s : State) (p f : ℕ) → IsFew s → is_legal s p (Put f) ≡ true → length (s.parts p).back < s.zone.frames
-put_room s p f few legal =
+-- a processor that puts a frame has it for a pin
+pub put_room : (s : State) (p f : ℕ) → IsFew s → (p ≡ 0 → ⊥) → is_legal s p (Put f) ≡ true → length (s.parts p).back < 256
+put_room s p f few ne legal =
+    let seat : (is_cpu s.zone p || may_zone_act s.hold p) ≡ true = grind (arith, legal) in
     let frame : is_frame s.zone f ≡ true = grind (arith, legal) in
     let some : nat_le 1 (s.references p f) ≡ true = grind (arith, legal) in
-    few.room p kinds.BackFrame f (ltb-true f s.zone.frames frame) (live_not_back p (s.phases f) (few.live p f (leb-true 1 (s.references p f) some)))
+    let cpu : is_cpu s.zone p ≡ true = elim (or_cases (is_cpu s.zone p) (may_zone_act s.hold p) seat) [
+      | inl is ↦ is
+      | inr zone ↦ absurd (ne (let e : (p == 0) ≡ true = grind (arith, zone) in eqb-true p 0 e))
+    ] in
+    let one = leb-true 1 (s.references p f) some in
+    let part = sum_part s.zone.frames (s.references p) f (ltb-true f s.zone.frames frame) in
+    let most = few.pins p cpu in
+    omega arith
 
 -- a seat that puts is one of the sum
 pub put_counts : (s : State) (p f : ℕ) → is_legal s p (Put f) ≡ true → 1 ≤ live_references s f
@@ -87,6 +93,10 @@ after_last_zone s p f e =
       phases = with_at s.phases f (at_stage (cond (sym zone i) Ended (BackAt p)) (s.phases f));
       parts = cond (sym zone i) s.parts (with_at s.parts p (with_back (s.parts p) f));
     }
+
+-- a processor that pays has room for one more fresh frame
+pub consume_room : (s : State) (p g : ℕ) → is_legal s p (Consume g) ≡ true → length (s.parts p).fresh < 32
+consume_room s p g legal = ltb-true (length (s.parts p).fresh) 32 (consume_tests s p g legal).2
 
 pub consume_some : (s : State) (p g : ℕ) → is_legal s p (Consume g) ≡ true → 1 ≤ length (s.parts p).list
 consume_some s p g legal =

@@ -17,6 +17,7 @@ use Rattle.step_rules.specs.Peaks.{UsageMoves}
 use Rattle.step_rules.proofs.Homes.{IsHomed}
 use Rattle.step_rules.proofs.Moving.{usage_step, moves_illegal}
 use Rattle.step_rules.proofs.Sound.{IsSound}
+use Rattle.step_rules.proofs.Few.{pins_boot}
 use Rattle.step_rules.proofs.SoundSteps.{sound_step}
 use Rattle.step_rules.proofs.Runs.{after_illegal, allowed, state_more, legal_more}
 use Rattle.core_rows.specs.Rooms.{PlacesFront, pages_asked}
@@ -44,7 +45,7 @@ usage_after s seat action answer sound homed ok =
     ]
 
 pub widened : (n : ℕ) (s : State) → IsBounded n s → IsBounded (n + 2 ^ 32) s
-widened n s b = record { references = b.references; pages = let h = b.pages in omega arith; holder = b.holder }
+widened n s b = record { references = b.references; pages = let h = b.pages in omega arith; holder = b.holder; pins = b.pins }
 
 pub bounded_after : (n : ℕ) (s : State) (seat : ℕ) (action : Action) (answer : Answer) → IsSound s → IsBounded n s
     → Allows s seat action answer → pages_asked action < 2 ^ 32 → IsBounded (n + 2 ^ 32) (after s seat action answer)
@@ -94,4 +95,5 @@ bounded_boot n zone = record {
   references = λ seat f. omega arith;
   pages = let a = sum_none 64 (λ g. 0) (λ i b. refl) in let b = sum_none (zone.cpus + 1) (λ p. 0) (λ i b. refl) in omega arith;
   holder = tt;
+  pins = pins_boot zone;
 }

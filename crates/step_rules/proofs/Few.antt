@@ -59,10 +59,10 @@ few_fresh zone run legal =
     told_run (λ (x : ℕ) seat action answer. x) (λ s x. HaveFewFresh s.parts) (λ x seat action. refl) fresh_made zone 0 (λ p. omega arith) run legal
 
 -- ---- pins and back frames
-abbrev pins_in : (ℕ → ℕ → ℕ) → ℕ → ℕ → ℕ
+abbrev pub pins_in : (ℕ → ℕ → ℕ) → ℕ → ℕ → ℕ
 pins_in references frames p = sum_to frames (λ f. references p f)
 
-abbrev HaveFewPins : Zone → (ℕ → ℕ → ℕ) → (ℕ → Part) → Type 0
+abbrev pub HaveFewPins : Zone → (ℕ → ℕ → ℕ) → (ℕ → Part) → Type 0
 HaveFewPins zone references parts = (p : ℕ) → is_cpu zone p ≡ true → pins_in references zone.frames p + length (parts p).back ≤ 256
 
 -- other back frames, no more than before
@@ -122,7 +122,7 @@ zone_few s f n few p cpu =
     let b = few p cpu in
     omega arith
 
-pins_made : (s : State) (x : ℕ) (seat : ℕ) (action : Action) (answer : Answer) → IsSound s → HaveFewPins s.zone s.references s.parts → IsMade s seat action answer →
+pub pins_made : (s : State) (x : ℕ) (seat : ℕ) (action : Action) (answer : Answer) → IsSound s → HaveFewPins s.zone s.references s.parts → IsMade s seat action answer →
     HaveFewPins s.zone (after s seat action answer).references (after s seat action answer).parts
 pins_made s x seat action Illegal sound few made = absurd (no_illegal s seat action made.answered)
 pins_made s x seat (Get f) Held sound few made =
@@ -196,6 +196,9 @@ pins_made s x seat (DrainStock p) (Pages n) sound few made = back_few s.zone s.r
 pins_made s x seat Lock answer sound few made = few
 pins_made s x seat action answer sound few made = few
 
+pub pins_boot : (zone : Zone) → HaveFewPins zone (at_boot zone).references (at_boot zone).parts
+pins_boot zone q is = let none : pins_in (at_boot zone).references zone.frames q ≡ 0 = sum_none zone.frames (λ f. 0) (λ f below. refl) in omega arith
+
 pub few_pins : (zone : Zone) (run : Run) → IsLegalRun zone run → (p : ℕ) → is_cpu zone p ≡ true →
     pins_of (state_of zone run) p + length ((state_of zone run).parts p).back ≤ 256
 few_pins zone run legal p cpu =
@@ -205,10 +208,7 @@ few_pins zone run legal p cpu =
       subst (λ (z : Zone). HaveFewPins z (after t seat action answer).references (after t seat action answer).parts) few.1
           (pins_made t x seat action answer sound (subst (λ (z : Zone). HaveFewPins z t.references t.parts) (sym few.1) few.0) made),
       zone_kept t seat action answer ∙ few.1,
-    )) zone 0 (start, refl) run legal in
+    )) zone 0 (pins_boot zone, refl) run legal in
     let few = kept.0 p cpu in
     let size : pins_of s p ≡ pins_in s.references zone.frames p = ap (λ (z : Zone). pins_in s.references z.frames p) kept.1 in
     omega arith
-  where
-    start : HaveFewPins zone (at_boot zone).references (at_boot zone).parts
-    start q is = let none : pins_in (at_boot zone).references zone.frames q ≡ 0 = sum_none zone.frames (λ f. 0) (λ f below. refl) in omega arith

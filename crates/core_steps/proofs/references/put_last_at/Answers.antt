@@ -12,9 +12,9 @@ use Rattle.core_steps.proofs.references.put_last_at.Goals as goal
 
 pub put_back-requires-clause-room : goal.put_back-requires-clause-room
 put_back-requires-clause-room c =
-    subst (λ (t : State). length (t.parts c.args.seat).back < t.zone.frames) (sym c.set_phase.ensures.state)
-    (subst (λ (t : State). length (t.parts c.args.seat).back < t.zone.frames) (sym c.set_references.ensures.state)
-    (put_room (state_in c.args.rows.now) c.args.seat c.args.frame c.requires.few c.requires.legal))
+    subst (λ (t : State). length (t.parts c.args.seat).back < 256) (sym c.set_phase.ensures.state)
+    (subst (λ (t : State). length (t.parts c.args.seat).back < 256) (sym c.set_references.ensures.state)
+    (put_room (state_in c.args.rows.now) c.args.seat c.args.frame c.requires.few c.requires.cpu c.requires.legal))
 
 pub returns : goal.returns
 returns c =

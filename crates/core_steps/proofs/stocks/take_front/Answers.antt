@@ -7,7 +7,7 @@ use Rattle.step_rules.specs.State.{front_of}
 use Rattle.step_rules.specs.declared.phase.Phase.TheVariants.{Head}
 use Rattle.step_rules.specs.declared.phase.Stage.TheVariants.{FreshAt}
 use Rattle.step_rules.specs.After.{paid, consumed}
-use Rattle.core_steps.proofs.Serving.{consume_some}
+use Rattle.core_steps.proofs.Serving.{consume_room, consume_some}
 use Rattle.core_steps.proofs.stocks.take_front.Goals as goal
 
 pub pay-requires-clause-some : goal.pay-requires-clause-some
@@ -21,8 +21,8 @@ pay-requires-clause-page c = subst (λ (t : State). 1 ≤ (t.parts c.args.seat).
 pub pay-requires-clause-room : goal.pay-requires-clause-room
 pay-requires-clause-room c =
     let s = state_in c.args.rows.now in
-    subst (λ (t : State). length (t.parts c.args.seat).fresh < t.zone.frames) (sym c.set_phase.ensures.state)
-    (c.requires.few.paying c.args.seat (consume_some s c.args.seat c.args.group c.requires.legal))
+    subst (λ (t : State). length (t.parts c.args.seat).fresh < 32) (sym c.set_phase.ensures.state)
+    (consume_room s c.args.seat c.args.group c.requires.legal)
 
 pub returns : goal.returns
 returns c =
