@@ -286,7 +286,6 @@ replay --frames 1048576 --cpus 64 --audit
 64 show | 0 /a; 1-3 cpu 64; 4-1048575 free; current /a 16384
 64 alloc /a 10 | frame 1024
 64 read /a memory.current | 4210688
-64 show | 0 /a; 1-3 cpu 64; 4-1023 free; 1024-2047 /a; 2048-1048575 free; current /a 4210688
 end | audit frames 1048576 free 1047551 charged 1025; audit puts 0 freezes 0 drops 0 returns 0";
 
 /// Kills: before a limit, where reclaim makes no room, and why they came.
