@@ -36,9 +36,10 @@ pub record FitsZone (r : Rows) : Type 0 where
   pub pending : vec_len r.pending ≡ most_groups
   pub rooms : All (HasRoom r.frames) r.seats.items
 
--- No number is near its bound. A seat has at most 255 references on a frame, and only on a live one. There are no more
--- pages than many steps can grant. A frame that isn't of a kind has room on the list of that kind. The front of a list is
--- a frame of the zone. A CPU has at most 256 pins and back frames. Only a CPU visits.
+-- No number is near its bound. A seat has at most 255 references on a frame, and only on a live one. A book is the
+-- pages of the stock, the fresh frames, and the pages unreported and reported. Books and pending pages are at most
+-- 2^96. A frame that isn't of a kind has room on the list of that kind. The front of a list is a frame of the zone. A
+-- CPU has at most 256 pins and back frames. Only a CPU visits.
 pub record IsFew (s : State) : Type 0 where
   pub references : (seat f : ℕ) → s.references seat f ≤ 255
   pub booked : (p : ℕ) → (s.parts p).book ≡ (s.parts p).stock.pages + length (s.parts p).fresh + (s.parts p).unreported + (s.parts p).reported
