@@ -13,7 +13,7 @@ pub fn group_of_a_visit<N: BootName>(rt: &impl Abort, small: &mut SmallMachine<N
     requires { Visits N.frames (side small.old.machine small.old.cpu) }
 {
     let SmallMachine {
-        tables,
+        tables: _,
         machine,
         cpu,
     } = small;
@@ -26,7 +26,7 @@ pub fn group_of_a_visit<N: BootName>(rt: &impl Abort, small: &mut SmallMachine<N
     machine.note_group_kill(group);
     let is_leaf = !machine.charges().tree().has_child(group);
     assert!(rt; is_leaf && machine.current(group) == 0 && cpu.fresh_len() == 0);
-    machine.remove(tables, cpu, group);
+    machine.remove(cpu, group);
     row_tells(
         rt,
         !machine.charges().tree().contains(group),
