@@ -1,5 +1,5 @@
 //! A system that is taken apart and put together again, or isn't shut down since a pin remains, is as it was.
-ghost use Rattle.std.specs.Prelude.{◌≡◌, length};
+ghost use Rattle.std.specs.Prelude.{◌≡◌, ◌<◌, length};
 
 use crate::life::{SIZES, answers, ends, holds, visit};
 use cpu_part::{BootName, Cpu};
@@ -78,7 +78,9 @@ fn are_same(rt: &impl Abort, one: &Seen, other: &Seen) {
 }
 
 // Frame 0.
-fn first_frame<N: BootName>(rt: &impl Abort, system: &System<N>) -> Frame {
+fn first_frame<N: BootName>(rt: &impl Abort, system: &System<N>) -> Frame
+    ensures { result < N.frames.frames }
+{
     system.tables().frames.frame(0).expect(rt, "a frame")
 }
 
