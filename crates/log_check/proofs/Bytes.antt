@@ -2,6 +2,9 @@
 use Rattle.std.proofs.Common.{◌≡◌, ◌≢◌, ℕ, ◌+◌, ◌<◌, ◌≤◌, zero, suc, List, [], ◌∷◌, ◌++◌, Option, Some, None, All, flat_map, get_or, length, refl, sym, ap, subst, ◌∙◌}
 use Rattle.std.proofs.Common.{append_assoc, append-nil, arith, inl, inr, length-append}
 use Rattle.std.specs.List.{AllByRecursion, AllZip}
+use Rattle.std.specs.Prelude.{◌⊎◌, is_some, true, false, drop, take}
+use Rattle.std.proofs.lemmas.List.{take_more, take-append-drop}
+use Rattle.std.proofs.lemmas.Bool.{false≢true}
 use Rattle.std.proofs.lemmas.Grind.{flat_map-append}
 use Rattle.std.proofs.lemmas.List.Elements.{All-append}
 use Rattle.step_rules.specs.declared.step.Answer.{Answer}
@@ -9,13 +12,18 @@ use Rattle.mem_core.specs.Shown.{CoreState}
 use Rattle.mem_core.proofs.Keeping.{always_keeps}
 use Rattle.log_lines.specs.declared.line.LogLine.{LogLine}
 use Rattle.log_lines.specs.Line.{IsLineText}
-use Rattle.log_lines.specs.Log.{EndsBadly, IsFirstBadLine, IsLog, MayBegin}
+use Rattle.log_lines.specs.Log.{EndsBadly, IsFirstBadLine, MayBegin}
 use Rattle.log_lines.proofs.BadLines.{same_first}
 use Rattle.log_lines.proofs.Lines.{same_line}
 use Rattle.log_lines.proofs.Logs.{ended}
 use Rattle.log_check.specs.declared.reader.LogReader.{LogReader}
-use Rattle.log_check.specs.Ends.{BreaksRules, KeepsPromise, zone_in}
-use Rattle.log_check.specs.Taking.{AreWholeLines, EndsIllegally, HasChecked, HasRead, HasTaken}
+use Rattle.log_check.specs.declared.end.LogEnd.{LogEnd}
+use Rattle.log_check.specs.declared.end.LogEnd.TheVariants as kinds
+use Rattle.log_check.specs.declared.progress.Progress.{Progress}
+use Rattle.log_check.specs.declared.progress.Taken.{Taken}
+use Rattle.log_check.specs.declared.progress.Taken.TheVariants.{GoesOn, NotLegal, Bad}
+use Rattle.log_check.specs.Ends.{BreaksRules, IsEnd, KeepsPromise, zone_in}
+use Rattle.log_check.specs.Taking.{AreWholeLines, CountsSteps, EndsIllegally, HasChecked, HasRead, HasTaken, Reads, StepsAre, Takes}
 
 abbrev NoFeed : List ℕ → Type 0
 NoFeed line = All (λ b. b ≢ 10) line
@@ -239,3 +247,61 @@ pub end_legal : (before : List ℕ) (r : LogReader) (steps : ℕ) (s : CoreState
 end_legal before r steps s h empty some count =
     let all : h.front ≡ before = sym (h.parts ∙ ap (λ (x : List ℕ). h.front ++ x) empty ∙ append-nil h.front) in
     subst (λ (x : List ℕ). KeepsPromise x steps) all (end_well h.front r.progress.checker r.lines steps s h.taken some count)
+
+-- by what is known of the checker
+pub ends_well : (before : List ℕ) (r : LogReader) → HasRead before r → CountsSteps r.progress → r.line.items ≡ [] → is_some r.progress.checker ≡ true
+    → KeepsPromise before r.progress.steps
+ends_well before r h counts empty some = go r.progress.checker refl
+  where
+    go : (checker : Option CoreState) → r.progress.checker ≡ checker → KeepsPromise before r.progress.steps
+    go None is = absurd (false≢true (ap is_some (sym is) ∙ some))
+    go (Some s) is = end_legal before r r.progress.steps s h empty is (subst (λ c. StepsAre c r.progress.steps) is counts)
+
+pub ends_badly : (before : List ℕ) (r : LogReader) (line : ℕ) → HasRead before r → (r.line.items ≡ [] → is_some r.progress.checker ≡ false)
+    → line ≡ r.lines + 1 → IsFirstBadLine before line
+ends_badly before r line h none one = end_bad before r line h (λ empty. nothing r.progress.checker (none empty)) one
+  where
+    nothing : (checker : Option CoreState) → is_some checker ≡ false → checker ≡ None
+    nothing None e = refl
+    nothing (Some s) e = absurd (false≢true (sym e))
+
+-- ---- what came of a line
+
+-- the line that ended was taken so, or there is no line that has its text
+abbrev pub Judged : LogReader → Progress → Taken → Type 0
+Judged r now taken = ((l : LogLine) × IsLineText r.line.items l × ((lines : List LogLine) → HasChecked r.progress.checker lines → Takes lines l now taken))
+    ⊎ ((taken ≡ Bad) × ((l : LogLine) → ¬ IsLineText r.line.items l))
+
+-- what is known of the log then
+abbrev pub end_of : Taken → (line steps : ℕ) → Option LogEnd
+end_of GoesOn line steps = None
+end_of (NotLegal expected) line steps = Some (kinds.NotLegal line steps expected)
+end_of Bad line steps = Some (kinds.BadLine line)
+
+pub line_ended : (before : List ℕ) (r s : LogReader) (taken : Taken) (end : Option LogEnd) → HasRead before r → Judged r s.progress taken
+    → s.line.items ≡ [] → s.lines ≡ r.lines + 1 → end ≡ end_of taken s.lines s.progress.steps → Reads (before ++ 10 ∷ []) s end
+line_ended before r s GoesOn end h (inl j) empty one is =
+    subst (Reads (before ++ 10 ∷ []) s) (sym is) (read_line before r s j.0 h j.1 j.2 empty one)
+line_ended before r s GoesOn end h (inr none) empty one is = let wrong = none.0 in cc
+line_ended before r s (NotLegal expected) end h (inl j) empty one is =
+    subst (Reads (before ++ 10 ∷ []) s) (sym is) (λ rest. line_illegal before rest r j.0 s.lines s.progress.steps expected h j.1 j.2 one)
+line_ended before r s (NotLegal expected) end h (inr none) empty one is = let wrong = none.0 in cc
+line_ended before r s Bad end h (inl j) empty one is =
+    subst (Reads (before ++ 10 ∷ []) s) (sym is) (λ rest. line_bad before rest r s.lines h (only_line r j.0 j.1 j.2) one)
+line_ended before r s Bad end h (inr none) empty one is =
+    subst (Reads (before ++ 10 ∷ []) s) (sym is) (λ rest. line_bad before rest r s.lines h (λ lines l checked has. absurd (none.1 l has)) one)
+
+-- it is known before the bytes end
+pub stops : (before bytes : List ℕ) (i d : ℕ) (r : LogReader) (end : Option LogEnd) → i < length bytes → is_some end ≡ true
+    → Reads ((before ++ take i bytes) ++ get_or bytes i d ∷ []) r end → Reads (before ++ bytes) r end
+stops before bytes i d r None h some reads = absurd (false≢true some)
+stops before bytes i d r (Some end) h some reads = λ rest.
+    let more : take (i + 1) bytes ≡ take i bytes ++ get_or bytes i d ∷ [] = take_more bytes i d h in
+    let all : take (i + 1) bytes ++ drop (i + 1) bytes ≡ bytes = take-append-drop (i + 1) bytes in
+    let here : (before ++ take i bytes) ++ get_or bytes i d ∷ [] ≡ before ++ take (i + 1) bytes =
+    append_assoc before (take i bytes) (get_or bytes i d ∷ []) ∙ ap (λ (x : List ℕ). before ++ x) (sym more) in
+    let whole : ((before ++ take i bytes) ++ get_or bytes i d ∷ []) ++ (drop (i + 1) bytes ++ rest) ≡ (before ++ bytes) ++ rest =
+    ap (λ (x : List ℕ). x ++ (drop (i + 1) bytes ++ rest)) here
+    ∙ sym (append_assoc (before ++ take (i + 1) bytes) (drop (i + 1) bytes) rest)
+    ∙ ap (λ (x : List ℕ). x ++ rest) (append_assoc before (take (i + 1) bytes) (drop (i + 1) bytes) ∙ ap (λ (x : List ℕ). before ++ x) all) in
+    subst (λ (x : List ℕ). IsEnd x end) whole (reads (drop (i + 1) bytes ++ rest))

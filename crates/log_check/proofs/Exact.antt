@@ -1,6 +1,6 @@
 -- A check says `Legal` exactly of the legal logs.
-use Rattle.std.proofs.Common.{◌≡◌, ℕ, ◌-◌, ◌↔◌, List, [], ◌∷◌, ◌++◌, IsTrue, filter, flat_map, length, map, refl, sym, ap, ap₂, subst, ◌∙◌}
-use Rattle.std.specs.List.{AllZip}
+use Rattle.std.proofs.Common.{◌≡◌, ℕ, ◌-◌, ◌↔◌, List, [], ◌∷◌, ◌++◌, IfSome, IsTrue, None, Option, Some, filter, flat_map, length, map, refl, sym, ap, ap₂, subst, ◌∙◌}
+use Rattle.std.proofs.lemmas.Bool.{false≢true}
 use Rattle.std.proofs.lemmas.List.{take_at}
 use Rattle.step_rules.specs.declared.step.Step.{Step}
 use Rattle.step_rules.specs.declared.step.Answer.{Answer}
@@ -11,7 +11,6 @@ use Rattle.mem_core.specs.declared.verdict.Verdict.TheVariants as verdict
 use Rattle.mem_core.proofs.Checking.{illegal_only}
 use Rattle.log_lines.specs.declared.line.LogLine.{LogLine}
 use Rattle.log_lines.specs.declared.line.LogLine.TheVariants as kinds
-use Rattle.log_lines.specs.Line.{IsLineText}
 use Rattle.log_lines.specs.Log.{IsLog, WholeLog, says_something}
 use Rattle.log_lines.proofs.BadLines.{bad_line_is_no_log, continues, filter_append, says_both}
 use Rattle.log_lines.proofs.Logs.{ended, line_of_entry, same_entry}
@@ -74,5 +73,10 @@ breaks_rules text line step expected breaks legal =
 
 pub exact : (text : List ℕ) (end : LogEnd) → IsEnd text end → IsTrue (says_legal end) ↔ IsLegalLog text
 exact text (Legal steps) is = (λ yes. record { log = is.log; is = is.is; legal = is.legal }, λ legal. refl)
-exact text (NotLegal line step expected) is = (λ no. absurd no, λ legal. absurd (breaks_rules text line step expected is legal))
-exact text (BadLine line) is = (λ no. absurd no, λ legal. absurd (bad_line_is_no_log text line legal.log is legal.is))
+exact text (NotLegal line step expected) is = (λ no. absurd (false≢true no), λ legal. absurd (breaks_rules text line step expected is legal))
+exact text (BadLine line) is = (λ no. absurd (false≢true no), λ legal. absurd (bad_line_is_no_log text line legal.log is legal.is))
+
+pub exact_if : (input : Option (List ℕ)) (end : LogEnd) → IfSome input (λ text. IsEnd text end)
+    → IfSome input (λ text. IsTrue (says_legal end) ↔ IsLegalLog text)
+exact_if None end is = tt
+exact_if (Some text) end is = exact text end is

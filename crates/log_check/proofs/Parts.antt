@@ -1,5 +1,5 @@
 -- What was read of an input so far, piece by piece. Serves `check_log`.
-use Rattle.std.proofs.Common.{◌≡◌, ◌∙◌, ℕ, List, [], ◌++◌, Option, None, Some, IfSome, ap, append_assoc, append-nil, subst, sym, take}
+use Rattle.std.proofs.Common.{◌≡◌, ◌∙◌, ℕ, List, [], ◌++◌, Option, None, Some, IfSome, ap, append_assoc, append-nil, subst, sym}
 use Rattle.std.proofs.KnownBytes.{Consumes-kept, Consumes-nil, Consumes-trans}
 use Rattle.std.specs.Io.KnownBytes.{Consumes, IsAtEnd, Keeps}
 use Rattle.log_check.specs.declared.end.LogEnd.{LogEnd}

@@ -1,13 +1,15 @@
 -- One line more, and what it leads to. Serves `Progress`.
-use Rattle.std.proofs.Common.{◌≡◌, ◌≢◌, ℕ, ◌+◌, ◌-◌, List, [], ◌∷◌, ◌++◌, ◌⊎◌, Option, Some, None, inl, inr, filter, length, map, refl, sym, ap, subst, ◌∙◌, append_assoc, append-nil}
+use Rattle.std.proofs.Common.{◌≡◌, ℕ, ◌+◌, ◌-◌, List, [], ◌∷◌, ◌++◌, ◌⊎◌, Option, Some, None, inl, inr, filter, length, map, refl, sym, ap, subst, ◌∙◌, append-nil}
 use Rattle.std.proofs.Common.{arith, length-append, take}
 use Rattle.std.specs.List.{slice_get}
+use Rattle.std.specs.Prelude.{is_some, true, false}
+use Rattle.std.proofs.lemmas.Bool.{false≢true}
 use Rattle.std.proofs.lemmas.List.{map-append, take_at}
 use Rattle.step_rules.specs.declared.step.Step.{Step}
 use Rattle.step_rules.specs.declared.step.Answer.{Answer}
 use Rattle.step_rules.specs.State.{State, at_boot}
 use Rattle.step_rules.specs.Legal.{Allows}
-use Rattle.step_rules.specs.After.{IsLegalRun, Run, after, state_of}
+use Rattle.step_rules.specs.After.{IsLegalRun, after, state_of}
 use Rattle.step_rules.proofs.Runs.{legal_more, one_more, state_more}
 use Rattle.mem_core.specs.Shown.{CoreState, state_in}
 use Rattle.mem_core.specs.Checked.{IsFirstIllegal, Leads}
@@ -17,7 +19,7 @@ use Rattle.log_lines.specs.Log.{MayBegin, SayInOrder, WholeLog, says_something}
 use Rattle.log_lines.proofs.BadLines.{filter_append}
 use Rattle.log_lines.proofs.Logs.{line_of_entry}
 use Rattle.log_check.specs.Ends.{zone_in}
-use Rattle.log_check.specs.Taking.{EndsIllegally, HasChecked, LeadsTo}
+use Rattle.log_check.specs.Taking.{EndsIllegally, HasChecked}
 
 -- the log with one step more
 abbrev pub log_more : WholeLog → Step → Answer → WholeLog
@@ -78,6 +80,15 @@ pub refuses_zone : (lines : List LogLine) (frames cpus : ℕ) (s : CoreState) �
 refuses_zone lines frames cpus s checked begins =
     second_zone (filter says_something (lines ++ kinds.Zone frames cpus ∷ [])) checked.log frames cpus
     (filter_append lines (kinds.Zone frames cpus ∷ []) ∙ ap (λ (ls : List LogLine). ls ++ kinds.Zone frames cpus ∷ []) checked.order) begins
+
+pub second_sizes : (checker : Option CoreState) (lines : List LogLine) (frames cpus : ℕ) → is_some checker ≡ true → HasChecked checker lines
+    → ¬ MayBegin (lines ++ kinds.Zone frames cpus ∷ [])
+second_sizes None lines frames cpus some checked = absurd (false≢true some)
+second_sizes (Some s) lines frames cpus some checked = refuses_zone lines frames cpus s checked
+
+pub no_sizes : (checker : Option CoreState) (lines : List LogLine) → is_some checker ≡ false → HasChecked checker lines → HasChecked None lines
+no_sizes None lines none checked = checked
+no_sizes (Some s) lines none checked = absurd (false≢true (sym none))
 
 -- ---- a step
 

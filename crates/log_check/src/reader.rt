@@ -104,12 +104,12 @@ impl LogReader {
             (before : List ℕ) → HasRead before self.old → Reads (before ++ 10 ∷ []) self.new end) }
         ensures fits { Fits self.new }
     {
+        self.lines += 1;
         let taken = match parse_line(&self.line) {
             Some(line) => self.progress.take_line(alloc, &line)?,
             None => Taken::Bad,
         };
         self.line.clear();
-        self.lines += 1;
         Ok(match taken {
             Taken::GoesOn => None,
             Taken::NotLegal(expected) => Some(LogEnd::NotLegal {
