@@ -6,5 +6,7 @@ pub mod end;
 mod progress;
 mod reader;
 mod reading;
+mod text;
 
 pub use reading::check_log;
+pub use text::write_end;
