@@ -2,7 +2,7 @@
 
 ghost use Rattle.std.specs.Prelude.{◌≡◌, ◌++◌, IfOk, decimal};
 ghost use Rattle.log_check.specs.declared.end.LogEnd.TheVariants.{BadLine, Legal, NotLegal};
-ghost use Rattle.log_check.specs.Texts.{end_text};
+ghost use Rattle.log_check.specs.Texts.{due_text, end_text, place_text};
 
 use crate::end::LogEnd;
 use itoa::Buffer;
@@ -51,10 +51,24 @@ fn write_not_legal(
 ) -> Result<(), AllocError>
     ensures { IfOk result (λ _. text.new.items ≡ text.old.items ++ end_text (NotLegal line step expected.now)) }
 {
+    write_place(line, step, text)?;
+    write_due(expected, text)
+}
+
+// Adds where a step is.
+fn write_place(line: u64, step: u64, text: &mut Vec<u8>) -> Result<(), AllocError>
+    ensures { IfOk result (λ _. text.new.items ≡ text.old.items ++ place_text line step) }
+{
     text.extend_from_slice(b"line ")?;
     push_number(line, text)?;
     text.extend_from_slice(b": step ")?;
-    push_number(step, text)?;
+    push_number(step, text)
+}
+
+// Adds what was due there.
+fn write_due(expected: &Answer, text: &mut Vec<u8>) -> Result<(), AllocError>
+    ensures { IfOk result (λ _. text.new.items ≡ text.old.items ++ due_text expected.now) }
+{
     text.extend_from_slice(b" is not legal:")?;
     write_answer(expected, text)?;
     text.extend_from_slice(b" was due\n")
