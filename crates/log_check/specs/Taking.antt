@@ -40,6 +40,7 @@ abbrev pub StepsAre : Option CoreState → ℕ → Type 0
 StepsAre None steps = steps ≡ 0
 StepsAre (Some s) steps = s.steps ≡ steps
 
+-- so by the progress
 abbrev pub CountsSteps : Progress → Type 0
 CountsSteps p = StepsAre p.checker p.steps
 
