@@ -24,7 +24,7 @@ first_line : (x rest : List ℕ) → NoFeed x → feeds (x ++ 10 ∷ rest) ≡ x
 first_line x rest none = slice_split_at (λ b. b == 10) x 10 rest (λ k d h. ne_eqb _ 10 (none k d h)) refl
 
 -- a text has one first line
-same_first : (x y a b : List ℕ) → NoFeed x → NoFeed y → x ++ 10 ∷ a ≡ y ++ 10 ∷ b → (x ≡ y) × (a ≡ b)
+pub same_first : (x y a b : List ℕ) → NoFeed x → NoFeed y → x ++ 10 ∷ a ≡ y ++ 10 ∷ b → (x ≡ y) × (a ≡ b)
 same_first x y a b no_x no_y e =
     let split : x ∷ feeds a ≡ y ∷ feeds b = sym (first_line x a no_x) ∙ ap feeds e ∙ first_line y b no_y in
     let heads : x ≡ y = cc in
@@ -41,10 +41,11 @@ pub record Continues (all front : List (List ℕ)) (rest : List ℕ) : Type 0 wh
   pub back : List (List ℕ)
   pub lines : all ≡ front ++ back
   pub text : rest ≡ flat_map ended back
+  pub no_feeds : AllByRecursion NoFeed back
 
-continues : (all front : List (List ℕ)) (rest : List ℕ) → AllByRecursion NoFeed all → AllByRecursion NoFeed front
+pub continues : (all front : List (List ℕ)) (rest : List ℕ) → AllByRecursion NoFeed all → AllByRecursion NoFeed front
     → flat_map ended all ≡ flat_map ended front ++ rest → Continues all front rest
-continues all [] rest no_all no_front e = record { back = all; lines = refl; text = sym e }
+continues all [] rest no_all no_front e = record { back = all; lines = refl; text = sym e; no_feeds = no_all }
 continues [] (x ∷ front) rest no_all no_front e = absurd (some_text x (flat_map ended front) rest e)
 continues (y ∷ all) (x ∷ front) rest no_all no_front e =
     let left : flat_map ended (y ∷ all) ≡ y ++ 10 ∷ flat_map ended all = append_assoc y (10 ∷ []) (flat_map ended all) in
@@ -52,7 +53,12 @@ continues (y ∷ all) (x ∷ front) rest no_all no_front e =
     = append_assoc (ended x) (flat_map ended front) rest ∙ append_assoc x (10 ∷ []) (flat_map ended front ++ rest) in
     let same = same_first y x (flat_map ended all) (flat_map ended front ++ rest) no_all.0 no_front.0 (sym left ∙ e ∙ right) in
     let others = continues all front rest no_all.1 no_front.1 same.1 in
-    record { back = others.back; lines = ap₂ (λ (t : List ℕ) (ts : List (List ℕ)). t ∷ ts) same.0 others.lines; text = others.text }
+    record {
+      back = others.back;
+      lines = ap₂ (λ (t : List ℕ) (ts : List (List ℕ)). t ∷ ts) same.0 others.lines;
+      text = others.text;
+      no_feeds = others.no_feeds;
+    }
 
 -- ---- what the lines say
 
@@ -62,7 +68,7 @@ pub record Says (back : List (List ℕ)) (front all : List LogLine) : Type 0 whe
   pub parts : all ≡ front ++ lines
   pub says : AllZip IsLineText back lines
 
-says_both : (texts back : List (List ℕ)) (front all : List LogLine) → AllZip IsLineText texts front → AllZip IsLineText (texts ++ back) all → Says back front all
+pub says_both : (texts back : List (List ℕ)) (front all : List LogLine) → AllZip IsLineText texts front → AllZip IsLineText (texts ++ back) all → Says back front all
 says_both [] back [] all one two = record { lines = all; parts = refl; says = two }
 says_both [] back (x ∷ front) all one two = absurd one
 says_both (t ∷ texts) back [] all one two = absurd one
@@ -75,7 +81,7 @@ says_both (t ∷ texts) back (x ∷ front) (y ∷ all) one two =
       says = others.says;
     }
 
-filter_append : (a b : List LogLine) → filter says_something (a ++ b) ≡ filter says_something a ++ filter says_something b
+pub filter_append : (a b : List LogLine) → filter says_something (a ++ b) ≡ filter says_something a ++ filter says_something b
 filter_append [] b = refl
 filter_append (kinds.Skipped ∷ a) b = filter_append a b
 filter_append (kinds.Zone f c ∷ a) b = ap (λ (ls : List LogLine). kinds.Zone f c ∷ ls) (filter_append a b)
@@ -106,18 +112,18 @@ front_begins : (front back : List LogLine) (log : WholeLog) → SayInOrder (fron
 front_begins front back log e = begun (filter says_something front) (filter says_something back) log (sym (filter_append front back) ∙ e)
 
 -- what follows the front of a log isn't bad
-not_bad : (texts : List (List ℕ)) (said lines : List LogLine) (rest : List ℕ) (log : WholeLog) → EndsBadly lines rest → rest ≡ flat_map ended texts
-    → AllZip IsLineText texts said → SayInOrder (lines ++ said) log → ⊥
-not_bad [] [] lines rest log bad text says order =
+not_bad : (texts : List (List ℕ)) (said lines : List LogLine) (rest : List ℕ) (log : WholeLog) → EndsBadly lines rest → AllByRecursion NoFeed texts
+    → rest ≡ flat_map ended texts → AllZip IsLineText texts said → SayInOrder (lines ++ said) log → ⊥
+not_bad [] [] lines rest log bad no_feeds text says order =
     let nothing : filter says_something lines ≡ [] = bad.no_sizes text in
     let whole : filter says_something (lines ++ []) ≡ [] = ap (filter says_something) (append-nil lines) ∙ nothing in
     let wrong : [] ≡ kinds.Zone log.frames log.cpus ∷ map line_of_entry log.run = sym whole ∙ order in
     cc
-not_bad [] (x ∷ said) lines rest log bad text says order = absurd says
-not_bad (t ∷ texts) [] lines rest log bad text says order = absurd says
-not_bad (t ∷ texts) (x ∷ said) lines rest log bad text says order =
+not_bad [] (x ∷ said) lines rest log bad no_feeds text says order = absurd says
+not_bad (t ∷ texts) [] lines rest log bad no_feeds text says order = absurd says
+not_bad (t ∷ texts) (x ∷ said) lines rest log bad no_feeds text says order =
     let front : SayInOrder ((lines ++ x ∷ []) ++ said) log = ap (filter says_something) (append_assoc lines (x ∷ []) said) ∙ order in
-    bad.no_line t (flat_map ended texts) x (text ∙ append_assoc t (10 ∷ []) (flat_map ended texts)) says.0 (front_begins (lines ++ x ∷ []) said log front)
+    bad.no_line t (flat_map ended texts) x no_feeds.0 (text ∙ append_assoc t (10 ∷ []) (flat_map ended texts)) says.0 (front_begins (lines ++ x ∷ []) said log front)
 
 pub bad_line_is_no_log : (text : List ℕ) (n : ℕ) (log : WholeLog) → IsFirstBadLine text n → ¬ IsLog text log
 bad_line_is_no_log text n log bad is =
@@ -125,4 +131,4 @@ bad_line_is_no_log text n log bad is =
     = sym is.cut.parts ∙ bad.parts ∙ ap (λ (t : List ℕ). t ++ bad.rest) bad.cut.parts in
     let rest = continues is.texts bad.texts bad.rest is.cut.no_feeds bad.cut.no_feeds parts in
     let lines = says_both bad.texts rest.back bad.lines is.lines bad.says (rw rest.lines at is.says) in
-    not_bad rest.back lines.lines bad.lines bad.rest log bad.bad rest.text lines.says (ap (filter says_something) (sym lines.parts) ∙ is.in_order)
+    not_bad rest.back lines.lines bad.lines bad.rest log bad.bad rest.no_feeds rest.text lines.says (ap (filter says_something) (sym lines.parts) ∙ is.in_order)

@@ -43,7 +43,7 @@ line_of_entry e = kinds.Step e.0 e.1
 both : (s t : Step) (a b : Answer) → s ≡ t → a ≡ b → ◌≡◌ {A = Step × Answer} (s, a) (t, b)
 both s t a b e f = cc
 
-same_entry : (a b : Step × Answer) → line_of_entry a ≡ line_of_entry b → a ≡ b
+pub same_entry : (a b : Step × Answer) → line_of_entry a ≡ line_of_entry b → a ≡ b
 same_entry a b e =
     let step : a.0 ≡ b.0 = cc in
     let answer : a.1 ≡ b.1 = cc in

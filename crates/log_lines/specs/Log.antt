@@ -44,7 +44,8 @@ MayBegin lines = (filter says_something lines ≡ []) ⊎ ((log : WholeLog) × S
 -- no line feed, is that of no line, or stands where it may not
 pub record EndsBadly (lines : List LogLine) (rest : List ℕ) : Type 0 where
   pub no_sizes : rest ≡ [] → filter says_something lines ≡ []
-  pub no_line : (next more : List ℕ) (line : LogLine) → rest ≡ next ++ 10 ∷ more → IsLineText next line → ¬ MayBegin (lines ++ line ∷ [])
+  pub no_line : (next more : List ℕ) (line : LogLine) → All (λ b. b ≢ 10) next → rest ≡ next ++ 10 ∷ more → IsLineText next line
+      → ¬ MayBegin (lines ++ line ∷ [])
 
 -- a log may begin with the lines before the n-th, counted from 1, but not with that one
 pub record IsFirstBadLine (text : List ℕ) (n : ℕ) : Type 0 where

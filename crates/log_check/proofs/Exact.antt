@@ -1,0 +1,82 @@
+-- A check says `Legal` exactly of the legal logs.
+use Rattle.std.proofs.Common.{◌≡◌, ℕ, ◌-◌, ◌↔◌, List, [], ◌∷◌, ◌++◌, IfSome, IsTrue, None, Option, Some, filter, flat_map, length, map, refl, sym, ap, ap₂, subst, ◌∙◌}
+use Rattle.std.proofs.lemmas.Bool.{false≢true}
+use Rattle.std.proofs.lemmas.List.{take_at}
+use Rattle.step_rules.specs.declared.step.Step.{Step}
+use Rattle.step_rules.specs.declared.step.Answer.{Answer}
+use Rattle.step_rules.specs.State.{Zone}
+use Rattle.step_rules.specs.After.{IsLegalRun}
+use Rattle.step_rules.proofs.Runs.{legal_from}
+use Rattle.mem_core.specs.declared.verdict.Verdict.TheVariants as verdict
+use Rattle.mem_core.proofs.Checking.{illegal_only}
+use Rattle.log_lines.specs.declared.line.LogLine.{LogLine}
+use Rattle.log_lines.specs.declared.line.LogLine.TheVariants as kinds
+use Rattle.log_lines.specs.Log.{IsLog, WholeLog, says_something}
+use Rattle.log_lines.proofs.BadLines.{bad_line_is_no_log, continues, filter_append, says_both}
+use Rattle.log_lines.proofs.Logs.{ended, line_of_entry, same_entry}
+use Rattle.log_check.specs.declared.end.LogEnd.{LogEnd}
+use Rattle.log_check.specs.declared.end.LogEnd.TheVariants.{Legal, NotLegal, BadLine}
+use Rattle.log_check.specs.Ends.{BreaksRules, IsEnd, IsLegalLog, says_legal, zone_in}
+
+steps_begin : (run all : List (Step × Answer)) (back : List LogLine) → map line_of_entry run ++ back ≡ map line_of_entry all
+    → (more : List (Step × Answer)) × (all ≡ run ++ more)
+steps_begin [] all back e = (all, refl)
+steps_begin (x ∷ run) [] back e = cc
+steps_begin (x ∷ run) (y ∷ all) back e =
+    let heads : line_of_entry x ≡ line_of_entry y = cc in
+    let tails : map line_of_entry run ++ back ≡ map line_of_entry all = cc in
+    let others = steps_begin run all back tails in
+    (others.0, ap₂ (λ (z : Step × Answer) (zs : List (Step × Answer)). z ∷ zs) (sym (same_entry x y heads)) others.1)
+
+-- the run of a whole log goes on that of a front
+record GoesOn (log front : WholeLog) : Type 0 where
+  more : List (Step × Answer)
+  run : log.run ≡ front.run ++ more
+  zone : zone_in log ≡ zone_in front
+
+same_zone : (f g c d : ℕ) → f ≡ g → c ≡ d → ◌≡◌ {A = Zone} (record { frames = f; cpus = c }) (record { frames = g; cpus = d })
+same_zone f g c d e h = cc
+
+goes_on_from : (log front : WholeLog) (back : List LogLine)
+    → kinds.Zone front.frames front.cpus ∷ (map line_of_entry front.run ++ back) ≡ kinds.Zone log.frames log.cpus ∷ map line_of_entry log.run
+    → GoesOn log front
+goes_on_from log front back e =
+    let frames : log.frames ≡ front.frames = cc in
+    let cpus : log.cpus ≡ front.cpus = cc in
+    let tails : map line_of_entry front.run ++ back ≡ map line_of_entry log.run = cc in
+    let steps = steps_begin front.run log.run back tails in
+    record { more = steps.0; run = steps.1; zone = same_zone log.frames front.frames log.cpus front.cpus frames cpus }
+
+goes_on : (text front rest : List ℕ) (log start : WholeLog) → text ≡ front ++ rest → IsLog text log → IsLog front start → GoesOn log start
+goes_on text front rest log start parts is begin =
+    let all : flat_map ended is.texts ≡ flat_map ended begin.texts ++ rest
+    = sym is.cut.parts ∙ parts ∙ ap (λ (t : List ℕ). t ++ rest) begin.cut.parts in
+    let after = continues is.texts begin.texts rest is.cut.no_feeds begin.cut.no_feeds all in
+    let lines = says_both begin.texts after.back begin.lines is.lines begin.says (rw after.lines at is.says) in
+    goes_on_from log start (filter says_something lines.lines)
+    (sym (ap (λ (ls : List LogLine). ls ++ filter says_something lines.lines) begin.in_order) ∙ sym (filter_append begin.lines lines.lines)
+    ∙ ap (filter says_something) (sym lines.parts) ∙ is.in_order)
+
+legal_front : (zone : Zone) (run more : List (Step × Answer)) → IsLegalRun zone (run ++ more) → IsLegalRun zone run
+legal_front zone run more legal = subst (IsLegalRun zone) (take_at run more (length run) refl) (legal_from zone (run ++ more) (length run) legal)
+
+no_verdict : (k : ℕ) (expected : Answer) → verdict.IllegalAt k expected ≡ verdict.Legal → ⊥
+no_verdict k expected e = cc
+
+breaks_rules : (text : List ℕ) (line step : ℕ) (expected : Answer) → BreaksRules text line step expected → ¬ IsLegalLog text
+breaks_rules text line step expected breaks legal =
+    let on = goes_on text breaks.front breaks.rest legal.log breaks.log breaks.parts legal.is breaks.is in
+    let zone = zone_in breaks.log in
+    let whole : IsLegalRun zone legal.log.run = subst (λ z. IsLegalRun z legal.log.run) on.zone legal.legal in
+    let run : IsLegalRun zone breaks.log.run = legal_front zone breaks.log.run on.more (subst (IsLegalRun zone) on.run whole) in
+    no_verdict (step - 1) expected ((illegal_only zone breaks.log.run (step - 1) expected breaks.first).1 run)
+
+pub exact : (text : List ℕ) (end : LogEnd) → IsEnd text end → IsTrue (says_legal end) ↔ IsLegalLog text
+exact text (Legal steps) is = (λ yes. record { log = is.log; is = is.is; legal = is.legal }, λ legal. refl)
+exact text (NotLegal line step expected) is = (λ no. absurd (false≢true no), λ legal. absurd (breaks_rules text line step expected is legal))
+exact text (BadLine line) is = (λ no. absurd (false≢true no), λ legal. absurd (bad_line_is_no_log text line legal.log is legal.is))
+
+pub exact_if : (input : Option (List ℕ)) (end : LogEnd) → IfSome input (λ text. IsEnd text end)
+    → IfSome input (λ text. IsTrue (says_legal end) ↔ IsLegalLog text)
+exact_if None end is = tt
+exact_if (Some text) end is = exact text end is

@@ -1,0 +1,4 @@
+pub mod Bytes
+pub mod Exact
+pub mod Parts
+pub mod Steps

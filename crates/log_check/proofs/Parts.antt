@@ -1,0 +1,56 @@
+-- What was read of an input so far, piece by piece. Serves `check_log`.
+use Rattle.std.proofs.Common.{◌≡◌, ◌∙◌, ℕ, List, [], ◌++◌, Option, None, Some, IfSome, ap, append_assoc, append-nil, subst, sym}
+use Rattle.std.proofs.KnownBytes.{Consumes-kept, Consumes-nil, Consumes-trans}
+use Rattle.std.specs.Io.KnownBytes.{Consumes, IsAtEnd, Keeps}
+use Rattle.log_check.specs.declared.end.LogEnd.{LogEnd}
+use Rattle.log_check.specs.declared.reader.LogReader.{LogReader}
+use Rattle.log_check.specs.Ends.{IsEnd}
+use Rattle.log_check.specs.Taking.{HasRead, Reads}
+
+-- these bytes were read of the input, and are what the log is known to begin with
+pub record IsReadTo (input left : Option (List ℕ)) (log : LogReader) : Type 0 where
+  pub bytes : List ℕ
+  pub read : Consumes input left bytes
+  pub known : HasRead bytes log
+
+pub nothing : (input : Option (List ℕ)) (log : LogReader) → HasRead [] log → IsReadTo input input log
+nothing input log known = record { bytes = []; read = Consumes-nil input; known = known }
+
+-- a piece more was read, and the log goes on
+pub more : (input left after : Option (List ℕ)) (log new : LogReader) (piece : List ℕ) → IsReadTo input left log → Consumes left after piece
+    → ((before : List ℕ) → HasRead before log → HasRead (before ++ piece) new) → IsReadTo input after new
+more input left after log new piece so_far read goes_on = record {
+  bytes = so_far.bytes ++ piece;
+  read = Consumes-trans input left after so_far.bytes piece so_far.read read;
+  known = goes_on so_far.bytes so_far.known;
+}
+
+-- a read failed, and took nothing
+pub kept : (input left after : Option (List ℕ)) (log : LogReader) → IsReadTo input left log → Keeps left after → IsReadTo input after log
+kept input left after log so_far same = record {
+  bytes = so_far.bytes;
+  read = Consumes-kept input left after so_far.bytes so_far.read same;
+  known = so_far.known;
+}
+
+-- all was read
+pub all_read : (input left after : Option (List ℕ)) (log : LogReader) (end : LogEnd) → IsReadTo input left log → Consumes left after [] → IsAtEnd after
+    → ((before : List ℕ) → HasRead before log → IsEnd before end) → IfSome input (λ text. IsEnd text end)
+all_read None left after log end so_far read at_end is = tt
+all_read (Some all) None after log end so_far read at_end is = absurd so_far.read
+all_read (Some all) (Some rest) None log end so_far read at_end is = absurd read
+all_read (Some all) (Some rest) (Some last) log end so_far read at_end is =
+    let none : rest ≡ [] = read ∙ at_end in
+    let whole : all ≡ so_far.bytes = so_far.read ∙ ap (λ (l : List ℕ). so_far.bytes ++ l) none ∙ append-nil so_far.bytes in
+    subst (λ (l : List ℕ). IsEnd l end) (sym whole) (is so_far.bytes so_far.known)
+
+-- a piece more was read, and it is known what the log is
+pub ended : (input left after : Option (List ℕ)) (log new : LogReader) (piece : List ℕ) (end : LogEnd) → IsReadTo input left log → Consumes left after piece
+    → ((before : List ℕ) → HasRead before log → Reads (before ++ piece) new (Some end)) → IfSome input (λ text. IsEnd text end)
+ended None left after log new piece end so_far read is = tt
+ended (Some all) None after log new piece end so_far read is = absurd so_far.read
+ended (Some all) (Some rest) None log new piece end so_far read is = absurd read
+ended (Some all) (Some rest) (Some last) log new piece end so_far read is =
+    let whole : all ≡ (so_far.bytes ++ piece) ++ last
+    = so_far.read ∙ ap (λ (l : List ℕ). so_far.bytes ++ l) read ∙ sym (append_assoc so_far.bytes piece last) in
+    subst (λ (l : List ℕ). IsEnd l end) (sym whole) (is so_far.bytes so_far.known last)

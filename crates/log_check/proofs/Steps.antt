@@ -1,0 +1,153 @@
+-- One line more, and what it leads to. Serves `Progress`.
+use Rattle.std.proofs.Common.{◌≡◌, ℕ, ◌+◌, ◌-◌, List, [], ◌∷◌, ◌++◌, ◌⊎◌, Option, Some, None, inl, inr, filter, length, map, refl, sym, ap, subst, ◌∙◌, append-nil}
+use Rattle.std.proofs.Common.{arith, length-append, take}
+use Rattle.std.specs.List.{slice_get}
+use Rattle.std.specs.Prelude.{is_some, true, false}
+use Rattle.std.proofs.lemmas.Bool.{false≢true}
+use Rattle.std.proofs.lemmas.List.{map-append, take_at}
+use Rattle.step_rules.specs.declared.step.Step.{Step}
+use Rattle.step_rules.specs.declared.step.Answer.{Answer}
+use Rattle.step_rules.specs.State.{State, at_boot}
+use Rattle.step_rules.specs.Legal.{Allows}
+use Rattle.step_rules.specs.After.{IsLegalRun, after, state_of}
+use Rattle.step_rules.proofs.Runs.{legal_more, one_more, state_more}
+use Rattle.mem_core.specs.Shown.{CoreState, state_in}
+use Rattle.mem_core.specs.Checked.{IsFirstIllegal, Leads}
+use Rattle.log_lines.specs.declared.line.LogLine.{LogLine}
+use Rattle.log_lines.specs.declared.line.LogLine.TheVariants as kinds
+use Rattle.log_lines.specs.Log.{MayBegin, SayInOrder, WholeLog, says_something}
+use Rattle.log_lines.proofs.BadLines.{filter_append}
+use Rattle.log_lines.proofs.Logs.{line_of_entry}
+use Rattle.log_check.specs.Ends.{zone_in}
+use Rattle.log_check.specs.Taking.{EndsIllegally, HasChecked}
+
+-- the log with one step more
+abbrev pub log_more : WholeLog → Step → Answer → WholeLog
+log_more log step answer = record { frames = log.frames; cpus = log.cpus; run = one_more log.run step answer }
+
+-- ---- a skipped line
+
+skipped_says : (lines : List LogLine) → filter says_something (lines ++ kinds.Skipped ∷ []) ≡ filter says_something lines
+skipped_says lines = filter_append lines (kinds.Skipped ∷ []) ∙ append-nil (filter says_something lines)
+
+pub takes_skipped : (checker : Option CoreState) (lines : List LogLine) → HasChecked checker lines → HasChecked checker (lines ++ kinds.Skipped ∷ [])
+takes_skipped None lines checked = skipped_says lines ∙ checked
+takes_skipped (Some s) lines checked = record {
+  log = checked.log;
+  order = skipped_says lines ∙ checked.order;
+  legal = checked.legal;
+  state = checked.state;
+  count = checked.count;
+}
+
+-- ---- the sizes of the zone
+
+no_steps_legal : (frames cpus : ℕ) → IsLegalRun (record { frames = frames; cpus = cpus }) []
+no_steps_legal frames cpus k = tt
+
+pub takes_zone : (lines : List LogLine) (frames cpus : ℕ) (s : CoreState) → HasChecked None lines
+    → state_in s ≡ at_boot (record { frames = frames; cpus = cpus }) → s.steps ≡ 0 → HasChecked (Some s) (lines ++ kinds.Zone frames cpus ∷ [])
+takes_zone lines frames cpus s none state steps = record {
+  log = record { frames = frames; cpus = cpus; run = [] };
+  order = filter_append lines (kinds.Zone frames cpus ∷ []) ∙ ap (λ (ls : List LogLine). ls ++ kinds.Zone frames cpus ∷ []) none;
+  legal = no_steps_legal frames cpus;
+  state = state;
+  count = steps;
+}
+
+-- the steps of no log are followed by the sizes of a zone
+no_zone_among : (run more : List (Step × Answer)) (frames cpus : ℕ) → map line_of_entry run ++ kinds.Zone frames cpus ∷ [] ≡ map line_of_entry more → ⊥
+no_zone_among [] [] frames cpus e = cc
+no_zone_among [] (y ∷ more) frames cpus e = cc
+no_zone_among (x ∷ run) [] frames cpus e = cc
+no_zone_among (x ∷ run) (y ∷ more) frames cpus e =
+    let tails : map line_of_entry run ++ kinds.Zone frames cpus ∷ [] ≡ map line_of_entry more = cc in
+    no_zone_among run more frames cpus tails
+
+second_in_order : (log other : WholeLog) (frames cpus : ℕ)
+    → kinds.Zone log.frames log.cpus ∷ (map line_of_entry log.run ++ kinds.Zone frames cpus ∷ []) ≡ kinds.Zone other.frames other.cpus ∷ map line_of_entry other.run → ⊥
+second_in_order log other frames cpus e =
+    let tails : map line_of_entry log.run ++ kinds.Zone frames cpus ∷ [] ≡ map line_of_entry other.run = cc in
+    no_zone_among log.run other.run frames cpus tails
+
+second_zone : (said : List LogLine) (log : WholeLog) (frames cpus : ℕ)
+    → said ≡ kinds.Zone log.frames log.cpus ∷ (map line_of_entry log.run ++ kinds.Zone frames cpus ∷ [])
+    → ((said ≡ []) ⊎ ((other : WholeLog) × (said ≡ kinds.Zone other.frames other.cpus ∷ map line_of_entry other.run))) → ⊥
+second_zone said log frames cpus e (inl none) = cc
+second_zone said log frames cpus e (inr other) = second_in_order log other.0 frames cpus (sym e ∙ other.1)
+
+pub refuses_zone : (lines : List LogLine) (frames cpus : ℕ) (s : CoreState) → HasChecked (Some s) lines → ¬ MayBegin (lines ++ kinds.Zone frames cpus ∷ [])
+refuses_zone lines frames cpus s checked begins =
+    second_zone (filter says_something (lines ++ kinds.Zone frames cpus ∷ [])) checked.log frames cpus
+    (filter_append lines (kinds.Zone frames cpus ∷ []) ∙ ap (λ (ls : List LogLine). ls ++ kinds.Zone frames cpus ∷ []) checked.order) begins
+
+pub second_sizes : (checker : Option CoreState) (lines : List LogLine) (frames cpus : ℕ) → is_some checker ≡ true → HasChecked checker lines
+    → ¬ MayBegin (lines ++ kinds.Zone frames cpus ∷ [])
+second_sizes None lines frames cpus some checked = absurd (false≢true some)
+second_sizes (Some s) lines frames cpus some checked = refuses_zone lines frames cpus s checked
+
+pub no_sizes : (checker : Option CoreState) (lines : List LogLine) → is_some checker ≡ false → HasChecked checker lines → HasChecked None lines
+no_sizes None lines none checked = checked
+no_sizes (Some s) lines none checked = absurd (false≢true (sym none))
+
+-- ---- a step
+
+first_step : (said : List LogLine) (step : Step) (answer : Answer) → said ≡ kinds.Step step answer ∷ []
+    → ((said ≡ []) ⊎ ((other : WholeLog) × (said ≡ kinds.Zone other.frames other.cpus ∷ map line_of_entry other.run))) → ⊥
+first_step said step answer e (inl none) = cc
+first_step said step answer e (inr other) = let same = sym e ∙ other.1 in cc
+
+pub refuses_step : (lines : List LogLine) (step : Step) (answer : Answer) → HasChecked None lines → ¬ MayBegin (lines ++ kinds.Step step answer ∷ [])
+refuses_step lines step answer none begins =
+    first_step (filter says_something (lines ++ kinds.Step step answer ∷ [])) step answer
+    (filter_append lines (kinds.Step step answer ∷ []) ∙ ap (λ (ls : List LogLine). ls ++ kinds.Step step answer ∷ []) none) begins
+
+step_in_order : (lines : List LogLine) (log : WholeLog) (step : Step) (answer : Answer) → SayInOrder lines log
+    → SayInOrder (lines ++ kinds.Step step answer ∷ []) (log_more log step answer)
+step_in_order lines log step answer order =
+    filter_append lines (kinds.Step step answer ∷ []) ∙ ap (λ (ls : List LogLine). ls ++ kinds.Step step answer ∷ []) order
+    ∙ ap (λ (ls : List LogLine). kinds.Zone log.frames log.cpus ∷ ls) (sym (map-append line_of_entry log.run ((step, answer) ∷ [])))
+
+get_last : {X : Type 0} (xs : List X) (x : X) → slice_get (xs ++ x ∷ []) (length xs) ≡ Some x
+get_last [] x = refl
+get_last (y ∷ ys) x = get_last ys x
+
+pub takes_step : (lines : List LogLine) (step : Step) (answer : Answer) (s t : CoreState) → HasChecked (Some s) lines
+    → Leads (state_in s) step answer (state_in t) → t.steps ≡ s.steps + 1 → HasChecked (Some t) (lines ++ kinds.Step step answer ∷ [])
+takes_step lines step answer s t checked leads one =
+    let log = checked.log in
+    let here : Allows (state_of (zone_in log) log.run) step.seat step.action answer =
+    subst (λ (x : State). Allows x step.seat step.action answer) checked.state leads.allowed in
+    record {
+      log = log_more log step answer;
+      order = step_in_order lines log step answer checked.order;
+      legal = legal_more (zone_in log) log.run step answer checked.legal here;
+      state = leads.state ∙ ap (λ (x : State). after x step.seat step.action answer) checked.state ∙ sym (state_more (zone_in log) log.run step answer);
+      count = one ∙ ap (λ n. n + 1) checked.count ∙ sym (length-append log.run ((step, answer) ∷ []));
+    }
+
+pub ends_illegally : (lines : List LogLine) (step : Step) (answer expected : Answer) (s t : CoreState) (steps : ℕ) → HasChecked (Some s) lines
+    → ¬ Allows (state_in s) step.seat step.action answer → Leads (state_in s) step expected (state_in t) → steps ≡ s.steps + 1
+    → EndsIllegally (lines ++ kinds.Step step answer ∷ []) steps expected
+ends_illegally lines step answer expected s t steps checked denied leads one =
+    let log = checked.log in
+    let run = one_more log.run step answer in
+    let long : length run ≡ length log.run + 1 = length-append log.run ((step, answer) ∷ []) in
+    let counted = checked.count in
+    let index : length log.run ≡ steps - 1 = omega (arith, one, counted) in
+    let all : steps ≡ length run = omega (arith, one, counted, long) in
+    let front : log.run ≡ take (length log.run) run = sym (take_at log.run ((step, answer) ∷ []) (length log.run) refl) in
+    let first : IsFirstIllegal (zone_in log) run (length log.run) expected = record {
+      before = subst (IsLegalRun (zone_in log)) front checked.legal;
+      step = step;
+      answer = answer;
+      there = get_last log.run (step, answer);
+      denied = subst (λ (x : State). ¬ Allows x step.seat step.action answer) (checked.state ∙ ap (state_of (zone_in log)) front) denied;
+      allowed = subst (λ (x : State). Allows x step.seat step.action expected) (checked.state ∙ ap (state_of (zone_in log)) front) leads.allowed;
+    } in
+    record {
+      log = log_more log step answer;
+      order = step_in_order lines log step answer checked.order;
+      count = all;
+      first = subst (λ k. IsFirstIllegal (zone_in log) run k expected) index first;
+    }

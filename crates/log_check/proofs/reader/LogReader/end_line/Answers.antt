@@ -1,0 +1,35 @@
+-- Serves the contract of `end_line`: the log goes on with the line, or it is known what it is.
+use Rattle.std.proofs.Common.{◌≡◌, ◌∙◌, ◌+◌, ap, inl, inr, subst, sym, List, ℕ}
+use Rattle.log_lines.specs.Line.{IsLineText}
+use Rattle.log_check.specs.declared.reader.LogReader.{LogReader}
+use Rattle.log_check.specs.declared.progress.Taken.{Taken}
+use Rattle.log_check.proofs.Bytes.{Judged, end_of, line_ended}
+use Rattle.log_check.proofs.reader.LogReader.end_line.Goals.{in-Some+in_ok-taken-in-Some, in-None}
+use Rattle.log_check.proofs.reader.LogReader.end_line.Goals.{in-GoesOn, in-NotLegal, in-Bad}
+use Rattle.log_check.proofs.reader.LogReader.end_line.Goals as goal
+
+pub returns-clause-read : goal.returns-clause-read
+returns-clause-read c = λ before h.
+    let r = c.args.self.now in
+    let now = c.match-parse_line.self in
+    let taken = c.match-parse_line.taken in
+    let one : now.lines ≡ r.lines + 1 = elim c.match-parse_line.branch [
+      | in-Some+in_ok-taken-in-Some w ↦ ap (λ (x : LogReader). x.lines) w.self-is
+      | in-None w ↦ ap (λ (x : LogReader). x.lines) w.self-is
+    ] in
+    let judged : Judged r now.progress taken = elim c.match-parse_line.branch [
+      | in-Some+in_ok-taken-in-Some w ↦
+          let has : IsLineText r.line.items w.in-Some.line = subst (λ (x : List ℕ). IsLineText x w.in-Some.line) c.deref.ensures.value w.in-Some.ensures in
+          subst (λ (t : Taken). Judged r now.progress t) (sym w.taken-is)
+          (subst (λ (x : LogReader). Judged r x.progress w.in_ok-taken-in-Some.taken) (sym w.self-is)
+          (inl (w.in-Some.line, has, w.in_ok-taken-in-Some.ensures.taken)))
+      | in-None w ↦
+          inr (w.taken-is, λ l has. w.in-None.ensures l (subst (λ (x : List ℕ). IsLineText x l) (sym c.deref.ensures.value) has))
+    ] in
+    let known : c.match-taken.result ≡ end_of taken now.lines now.progress.steps = elim c.match-taken.branch [
+      | in-GoesOn w ↦ w.result-is ∙ sym (ap (λ (t : Taken). end_of t now.lines now.progress.steps) w.in-GoesOn.is)
+      | in-NotLegal w ↦ w.result-is ∙ sym (ap (λ (t : Taken). end_of t now.lines now.progress.steps) w.in-NotLegal.is)
+      | in-Bad w ↦ w.result-is ∙ sym (ap (λ (t : Taken). end_of t now.lines now.progress.steps) w.in-Bad.is)
+    ] in
+    line_ended before r (record { line = c.clear.new.self; lines = now.lines; progress = now.progress }) taken c.match-taken.result h judged
+    c.clear.ensures.items one known

@@ -1,0 +1,50 @@
+-- Serves the contract of `check_log`: each read takes a piece more, up to the end or to where it is known what the log is.
+use Rattle.std.proofs.Common.{◌<◌, ◌++◌, ℕ, Option, length, rules, subst, sym, take}
+use Rattle.std.specs.Io.KnownBytes.{Consumes}
+use Rattle.log_check.specs.declared.end.LogEnd.{LogEnd}
+use Rattle.log_check.specs.declared.reader.LogReader.{LogReader}
+use Rattle.log_check.specs.Taking.{Fits, Reads}
+use Rattle.log_check.proofs.Exact.{exact_if}
+use Rattle.log_check.proofs.Parts.{IsReadTo, all_read, ended, kept, more}
+use Rattle.log_check.proofs.reading.check_log.Goals.{in-Ok+in_ok-end-in-Ok+in_default, in-Err}
+use Rattle.log_check.proofs.reading.check_log.Goals as goal
+
+pub returns-in-Ok-eq0-clause-end : goal.returns-in-Ok-eq0-clause-end
+returns-in-Ok-eq0-clause-end g c =
+    let before = g.I.Read.remaining c.loop.input in
+    let after = g.I.Read.remaining c.read.new.self in
+    let buf = c.read.new.buf in
+    let some : 0 < length buf = search rules in
+    let bytes = rw c.in-Ok-eq0.is at c.read.ensures.bytes in
+    all_read (g.I.Read.remaining c.args.input.now) before after c.loop.log c.end.result c.loop.invariant.1
+    (subst (λ (n : ℕ). Consumes before after (take n buf)) c.in-Ok-eq0.field-0-test bytes.0) (bytes.1 c.in-Ok-eq0.field-0-test some) c.end.ensures
+
+pub returns-in-Ok-eq0-clause-exact : goal.returns-in-Ok-eq0-clause-exact
+returns-in-Ok-eq0-clause-exact g c = exact_if (g.I.Read.remaining c.args.input.now) c.end.result (returns-in-Ok-eq0-clause-end g c)
+
+pub returns-in-Some-clause-end : goal.returns-in-Some-clause-end
+returns-in-Some-clause-end g c =
+    let piece = take c.in-Ok.n c.read.new.buf in
+    ended (g.I.Read.remaining c.args.input.now) (g.I.Read.remaining c.loop.input) (g.I.Read.remaining c.read.new.self) c.loop.log c.take_bytes.new.self
+    piece c.in-Some.end c.loop.invariant.1 c.in-Ok.ensures.bytes.0
+    (λ before h. subst (λ (e : Option LogEnd). Reads (before ++ piece) c.take_bytes.new.self e) c.in-Some.is (c.in_ok-end-in-Ok.ensures.read before h))
+
+pub returns-in-Some-clause-exact : goal.returns-in-Some-clause-exact
+returns-in-Some-clause-exact g c = exact_if (g.I.Read.remaining c.args.input.now) c.in-Some.end (returns-in-Some-clause-end g c)
+
+pub loop-preserved : goal.loop-preserved
+loop-preserved g c =
+    let input = g.I.Read.remaining c.args.input.now in
+    let before = g.I.Read.remaining c.loop.input in
+    let after = g.I.Read.remaining c.read.new.self in
+    let So : LogReader → Type 0 = λ log. Fits log × IsReadTo input after log in
+    elim c.match-read.branch [
+      | in-Ok+in_ok-end-in-Ok+in_default w ↦
+          let piece = take w.in-Ok.n c.read.new.buf in
+          subst So (sym w.log-is) (
+            w.in_ok-end-in-Ok.ensures.fits,
+            more input before after c.loop.log w.take_bytes.new.self piece c.loop.invariant.1 w.in-Ok.ensures.bytes.0
+                (λ text h. subst (λ (e : Option LogEnd). Reads (text ++ piece) w.take_bytes.new.self e) w.in_default.is (w.in_ok-end-in-Ok.ensures.read text h)),
+          )
+      | in-Err w ↦ subst So (sym w.log-is) (c.loop.invariant.0, kept input before after c.loop.log c.loop.invariant.1 w.in-Err.ensures.bytes)
+    ]

@@ -1,0 +1,20 @@
+-- What a check says, as text.
+use Rattle.std.specs.Prelude.{ℕ, List, ◌++◌, codes, decimal}
+use Rattle.step_rules.specs.declared.step.Answer.{Answer}
+use Rattle.log_lines.specs.Words.{answer_words, spaced}
+use Rattle.log_check.specs.declared.end.LogEnd.{LogEnd}
+use Rattle.log_check.specs.declared.end.LogEnd.TheVariants.{Legal, NotLegal, BadLine}
+
+-- where a step is
+abbrev pub place_text : (line step : ℕ) → List ℕ
+place_text line step = codes "line " ++ decimal line ++ codes ": step " ++ decimal step
+
+-- what was due there
+abbrev pub due_text : Answer → List ℕ
+due_text expected = codes " is not legal:" ++ spaced (answer_words expected) ++ codes " was due\n"
+
+-- the line that says what a log is
+abbrev pub end_text : LogEnd → List ℕ
+end_text (Legal steps) = codes "legal: " ++ decimal steps ++ codes " steps, the promise holds\n"
+end_text (NotLegal line step expected) = place_text line step ++ due_text expected
+end_text (BadLine line) = codes "bad line " ++ decimal line ++ codes "\n"

@@ -1,0 +1,100 @@
+//! How far the run of a log was checked.
+
+ghost use Rattle.std.specs.Prelude.{◌≡◌, ◌+◌, ◌^◌, ◌<◌, ◌≤◌, IfOk, List};
+ghost use Rattle.log_lines.specs.declared.line.LogLine.{LogLine};
+ghost use Rattle.log_lines.specs.declared.line.LogLine.TheVariants as kinds;
+ghost use Rattle.log_lines.specs.Line.{IsZone};
+ghost use Rattle.log_check.specs.Taking.{CountsSteps, HasChecked, IsInRange, Takes};
+
+use crate::end::LogFault;
+use log_lines::line::LogLine;
+use mem_core::checker::Checker;
+use std::alloc::Global;
+use step_rules::step::{Answer, Step};
+use zone_sizes::config::Config;
+
+/// The checker, once the sizes of the zone are known, and how many steps it took.
+#[derive(Drop)]
+pub(crate) struct Progress {
+    pub(crate) checker: Option<Checker>,
+    pub(crate) steps: u64,
+}
+
+/// What came of a line.
+#[derive(Clone, Copy)]
+pub(crate) enum Taken {
+    /// The log goes on.
+    GoesOn,
+    /// The line is a step that is not allowed as it was answered, but may be answered so.
+    NotLegal(Answer),
+    /// No log goes on with this line.
+    Bad,
+}
+
+impl Progress {
+    /// Takes the next line of the log.
+    pub(crate) fn take_line(&mut self, alloc: Global, line: &LogLine) -> Result<Taken, LogFault>
+        requires in_range { IsInRange line.now }
+        requires counts { CountsSteps self.old }
+        requires few { self.old.steps + 1 < 2 ^ 64 }
+        ensures taken { IfOk result (λ taken.
+            (lines : List LogLine) → HasChecked self.old.checker lines → Takes lines line.now self.new taken) }
+        ensures counts { CountsSteps self.new }
+        ensures few { self.new.steps ≤ self.old.steps + 1 }
+    {
+        match line {
+            LogLine::Skipped => Ok(Taken::GoesOn),
+            LogLine::Zone { frames, cpus } => self.take_zone(alloc, *frames, *cpus),
+            LogLine::Step { step, answer } => Ok(self.take_step(step, answer)),
+        }
+    }
+
+    // Takes the sizes of the zone.
+    fn take_zone(&mut self, alloc: Global, frames: u32, cpus: u32) -> Result<Taken, LogFault>
+        requires sizes { IsZone frames cpus }
+        requires counts { CountsSteps self.old }
+        ensures taken { IfOk result (λ taken. (lines : List LogLine) → HasChecked self.old.checker lines
+            → Takes lines (kinds.Zone frames cpus) self.new taken) }
+        ensures counts { CountsSteps self.new }
+        ensures steps { self.new.steps ≡ self.old.steps }
+    {
+        if self.checker.is_some() {
+            return Ok(Taken::Bad);
+        }
+        let config = Config {
+            frames,
+            cpus,
+            batch: 1,
+            high: 1,
+            stock: 1,
+        };
+        match Checker::new(alloc, config) {
+            Ok(checker) => {
+                self.checker = Some(checker);
+                Ok(Taken::GoesOn)
+            }
+            Err(_) => Err(LogFault::NoMemory),
+        }
+    }
+
+    // Takes a step.
+    fn take_step(&mut self, step: &Step, answer: &Answer) -> Taken
+        requires counts { CountsSteps self.old }
+        requires few { self.old.steps + 1 < 2 ^ 64 }
+        ensures taken { (lines : List LogLine) → HasChecked self.old.checker lines
+            → Takes lines (kinds.Step step.now answer.now) self.new result }
+        ensures counts { CountsSteps self.new }
+        ensures few { self.new.steps ≤ self.old.steps + 1 }
+    {
+        match &mut self.checker {
+            None => Taken::Bad,
+            Some(checker) => {
+                self.steps += 1;
+                match checker.accept(step, answer) {
+                    Ok(()) => Taken::GoesOn,
+                    Err(expected) => Taken::NotLegal(expected),
+                }
+            }
+        }
+    }
+}

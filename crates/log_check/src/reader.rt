@@ -1,0 +1,123 @@
+//! The bytes of a log, one after the other.
+
+ghost use Rattle.std.specs.Prelude.{ℕ, ◌+◌, ◌^◌, ◌<◌, [], ◌∷◌, ◌++◌, IfOk, List};
+ghost use Rattle.log_check.specs.Taking.{Fits, HasRead, Reads};
+ghost use Rattle.log_check.specs.Ends.{IsEnd};
+
+use crate::end::{LogEnd, LogFault};
+use crate::progress::{Progress, Taken};
+use log_lines::parse_line;
+use std::alloc::Global;
+
+// The most bytes that a line has, its line feed not counted.
+const MOST_LINE: usize = 1_024;
+
+/// A log that is read: the line that has not ended, how many have, and what they led to.
+#[derive(Drop)]
+pub(crate) struct LogReader {
+    pub(crate) line: Vec<u8>,
+    pub(crate) lines: u64,
+    pub(crate) progress: Progress,
+}
+
+impl LogReader {
+    /// A log of which nothing is read.
+    pub(crate) fn new(alloc: Global) -> LogReader
+        ensures read { HasRead [] result }
+        ensures fits { Fits result }
+    {
+        LogReader {
+            line: Vec::new(alloc),
+            lines: 0,
+            progress: Progress {
+                checker: None,
+                steps: 0,
+            },
+        }
+    }
+
+    /// Takes the next bytes, up to where it is known what the log is.
+    pub(crate) fn take_bytes(
+        &mut self,
+        alloc: Global,
+        bytes: &[u8],
+    ) -> Result<Option<LogEnd>, LogFault>
+        requires fits { Fits self.old }
+        ensures read { IfOk result (λ end.
+            (before : List ℕ) → HasRead before self.old → Reads (before ++ bytes.now) self.new end) }
+        ensures fits { Fits self.new }
+    {
+        for byte in bytes {
+            let end = self.take_byte(alloc, *byte)?;
+            if end.is_some() {
+                return Ok(end);
+            }
+        }
+        Ok(None)
+    }
+
+    /// What the log is, now that its bytes have ended.
+    pub(crate) fn end(&self) -> LogEnd
+        requires fits { Fits self.now }
+        ensures { (before : List ℕ) → HasRead before self.now → IsEnd before result }
+    {
+        if self.line.is_empty() && self.progress.checker.is_some() {
+            LogEnd::Legal {
+                steps: self.progress.steps,
+            }
+        } else {
+            LogEnd::BadLine {
+                line: self.lines + 1,
+            }
+        }
+    }
+
+    // Takes a byte.
+    fn take_byte(&mut self, alloc: Global, byte: u8) -> Result<Option<LogEnd>, LogFault>
+        requires fits { Fits self.old }
+        ensures read { IfOk result (λ end.
+            (before : List ℕ) → HasRead before self.old → Reads (before ++ byte ∷ []) self.new end) }
+        ensures fits { Fits self.new }
+    {
+        if self.lines == u64::MAX - 1 {
+            return Err(LogFault::Input);
+        }
+        if byte == b'\n' {
+            return self.end_line(alloc);
+        }
+        if self.line.len() >= MOST_LINE {
+            return Ok(Some(LogEnd::BadLine {
+                line: self.lines + 1,
+            }));
+        }
+        match self.line.push(byte) {
+            Ok(()) => Ok(None),
+            Err(_) => Err(LogFault::NoMemory),
+        }
+    }
+
+    // Ends the line.
+    fn end_line(&mut self, alloc: Global) -> Result<Option<LogEnd>, LogFault>
+        requires fits { Fits self.old }
+        requires few { self.old.lines + 2 < 2 ^ 64 }
+        ensures read { IfOk result (λ end.
+            (before : List ℕ) → HasRead before self.old → Reads (before ++ 10 ∷ []) self.new end) }
+        ensures fits { Fits self.new }
+    {
+        self.lines += 1;
+        let taken = match parse_line(&self.line) {
+            Some(line) => self.progress.take_line(alloc, &line)?,
+            None => Taken::Bad,
+        };
+        self.line.clear();
+        Ok(match taken {
+            Taken::GoesOn => None,
+            Taken::NotLegal(expected) => Some(LogEnd::NotLegal {
+                line: self.lines,
+                step: self.progress.steps,
+                expected,
+            }),
+            Taken::Bad => Some(LogEnd::BadLine { line: self.lines }),
+        })
+    }
+}

@@ -1,0 +1,84 @@
+//! What a check says, as text.
+
+ghost use Rattle.std.specs.Prelude.{◌≡◌, ◌++◌, IfOk, decimal};
+ghost use Rattle.log_check.specs.declared.end.LogEnd.TheVariants.{BadLine, Legal, NotLegal};
+ghost use Rattle.log_check.specs.Texts.{due_text, end_text, place_text};
+
+use crate::end::LogEnd;
+use itoa::Buffer;
+use log_lines::write_answer;
+use std::alloc::AllocError;
+use step_rules::step::Answer;
+
+/// Adds the line that says what a log is. It fails only if memory runs out.
+pub fn write_end(end: &LogEnd, text: &mut Vec<u8>) -> Result<(), AllocError>
+    ensures { IfOk result (λ _. text.new.items ≡ text.old.items ++ end_text end.now) }
+{
+    match *end {
+        LogEnd::Legal { steps } => write_legal(steps, text),
+        LogEnd::NotLegal {
+            line,
+            step,
+            expected,
+        } => write_not_legal(line, step, &expected, text),
+        LogEnd::BadLine { line } => write_bad_line(line, text),
+    }
+}
+
+// Adds a number in decimal.
+fn push_number(number: u64, text: &mut Vec<u8>) -> Result<(), AllocError>
+    ensures { IfOk result (λ _. text.new.items ≡ text.old.items ++ decimal number) }
+{
+    let mut buffer = Buffer::new();
+    text.extend_from_slice(buffer.format(number).as_bytes())
+}
+
+// Adds the line of a legal log.
+fn write_legal(steps: u64, text: &mut Vec<u8>) -> Result<(), AllocError>
+    ensures { IfOk result (λ _. text.new.items ≡ text.old.items ++ end_text (Legal steps)) }
+{
+    text.extend_from_slice(b"legal: ")?;
+    push_number(steps, text)?;
+    text.extend_from_slice(b" steps, the promise holds\n")
+}
+
+// Adds the line of a log with a step that is not allowed.
+fn write_not_legal(
+    line: u64,
+    step: u64,
+    expected: &Answer,
+    text: &mut Vec<u8>,
+) -> Result<(), AllocError>
+    ensures { IfOk result (λ _. text.new.items ≡ text.old.items ++ end_text (NotLegal line step expected.now)) }
+{
+    write_place(line, step, text)?;
+    write_due(expected, text)
+}
+
+// Adds where a step is.
+fn write_place(line: u64, step: u64, text: &mut Vec<u8>) -> Result<(), AllocError>
+    ensures { IfOk result (λ _. text.new.items ≡ text.old.items ++ place_text line step) }
+{
+    text.extend_from_slice(b"line ")?;
+    push_number(line, text)?;
+    text.extend_from_slice(b": step ")?;
+    push_number(step, text)
+}
+
+// Adds what was due there.
+fn write_due(expected: &Answer, text: &mut Vec<u8>) -> Result<(), AllocError>
+    ensures { IfOk result (λ _. text.new.items ≡ text.old.items ++ due_text expected.now) }
+{
+    text.extend_from_slice(b" is not legal:")?;
+    write_answer(expected, text)?;
+    text.extend_from_slice(b" was due\n")
+}
+
+// Adds the line of a text that is no log.
+fn write_bad_line(line: u64, text: &mut Vec<u8>) -> Result<(), AllocError>
+    ensures { IfOk result (λ _. text.new.items ≡ text.old.items ++ end_text (BadLine line)) }
+{
+    text.extend_from_slice(b"bad line ")?;
+    push_number(line, text)?;
+    text.extend_from_slice(b"\n")
+}
