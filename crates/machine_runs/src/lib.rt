@@ -4,8 +4,6 @@
 #[cfg(test)]
 mod large;
 #[cfg(test)]
-mod life;
-#[cfg(test)]
 mod rows;
 #[cfg(test)]
 mod seats;

@@ -2,7 +2,6 @@
 ghost use Rattle.std.specs.Prelude.{◌≡◌};
 ghost use Rattle.mem_machine.specs.Machines.{Visits, side};
 
-use crate::life::{frames_of_a_visit, group_of_a_visit, stock_of_a_visit};
 use crate::sets::{
     flag_above_the_limit, flag_elsewhere, flagged_victim, highest_flag, killed_in_a_set,
     pin_in_a_set,
@@ -23,9 +22,6 @@ use std::process::Abort;
 
 // What is tried.
 enum MachineRow {
-    GroupOfAVisit,
-    StockOfAVisit,
-    FramesOfAVisit,
     SecondChance,
     DirtyStays,
     MissedByAPin,
@@ -260,9 +256,6 @@ fn make_row<N: BootName>(rt: &impl Abort, small: &mut SmallMachine<N>, row: Mach
     requires { Visits N.frames (side small.old.machine small.old.cpu) }
 {
     match row {
-        MachineRow::GroupOfAVisit => group_of_a_visit(rt, small),
-        MachineRow::StockOfAVisit => stock_of_a_visit(rt, small),
-        MachineRow::FramesOfAVisit => frames_of_a_visit(rt, small),
         MachineRow::SecondChance => second_chance(rt, small),
         MachineRow::DirtyStays => dirty_stays(rt, small),
         MachineRow::MissedByAPin => missed_by_a_pin(rt, small),
@@ -319,21 +312,6 @@ fn play_on<N: BootName>(rt: &impl Abort, alloc: Global, parts: SmallParts, row: 
 fn play_row(rt: &impl Abort, alloc: Global, row: MachineRow) {
     let parts = make_small_parts(rt, alloc);
     play_on::<Brand>(rt, alloc, parts, row);
-}
-
-#[test]
-fn a_group_is_made_and_removed(rt: HostRuntime) {
-    play_row(&rt, rt.alloc(), MachineRow::GroupOfAVisit);
-}
-
-#[test]
-fn a_stock_is_filled_and_drained(rt: HostRuntime) {
-    play_row(&rt, rt.alloc(), MachineRow::StockOfAVisit);
-}
-
-#[test]
-fn frames_are_listed_paid_for_and_released(rt: HostRuntime) {
-    play_row(&rt, rt.alloc(), MachineRow::FramesOfAVisit);
 }
 
 #[test]
