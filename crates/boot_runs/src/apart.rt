@@ -1,4 +1,5 @@
-//! A system that is taken apart and put together again, or isn't shut down since a pin remains, is as it was.
+//! A system that is taken apart and put together again is unchanged, and so is one that can't be shut down because of
+//! a pin.
 ghost use Rattle.std.specs.Prelude.{◌≡◌, ◌<◌, length};
 
 use crate::life::{SIZES, answers, ends, holds, visit};
@@ -20,7 +21,7 @@ const FILES: [&[u8]; 6] = [
     b"memory.oom.group",
 ];
 
-// What a host sees: all frames, the free blocks, the files of `/a`, and whether some groups are there.
+// What a host sees: all frames, the free blocks, the files of `/a`, and whether some groups exist.
 #[derive(Drop)]
 struct Seen {
     frames: Vec<u8>,
@@ -30,7 +31,7 @@ struct Seen {
     other: Option<GroupId>,
 }
 
-// The files of `/a`, one after the other.
+// The files of `/a`, one after another.
 fn read_files<N: BootName, R: Wait + Abort>(
     rt: &R,
     alloc: Global,
@@ -111,7 +112,7 @@ fn unpins<N: BootName, R: Abort>(rt: &R, system: &System<N>, cpus: &mut [Cpu<N>]
     let _ = cpu.put(system.tables(), frame);
 }
 
-// A pin keeps the system from its end.
+// A pin keeps the system from being shut down.
 fn is_held<N: BootName>(
     rt: &impl Abort,
     system: System<N>,
@@ -134,7 +135,7 @@ fn is_held<N: BootName>(
     }
 }
 
-// The life of a system that goes on twice.
+// The life of a system that continues twice.
 fn goes_on<N: BootName, R: Wait + Abort>(rt: &R, alloc: Global, boot: Boot)
     requires { (boot.frames ≡ N.frames) × (boot.stocks ≡ N.stocks) }
 {

@@ -1,4 +1,4 @@
-//! Commands that are served by value: whoever holds what lies behind the lock needs no lock.
+//! Commands that are served by value: a caller that owns what lies behind the lock needs no lock.
 
 ghost use Rattle.std.specs.Prelude.{◌≡◌};
 
@@ -11,7 +11,7 @@ use std::alloc::Global;
 use std::marker::Brand;
 use std::process::Abort;
 
-// Processor 1 makes a group and is answered by value, and the boot ends.
+// CPU 1 makes a group by value, and the boot ends.
 fn lives<N: BootName, R: Abort>(rt: &R, alloc: Global, boot: Boot)
     requires { (boot.frames ≡ N.frames) × (boot.stocks ≡ N.stocks) }
 {

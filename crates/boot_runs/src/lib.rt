@@ -1,4 +1,4 @@
-//! Boots of a system, their lives and their ends. Nothing but tests stands here.
+//! Boots of a system, their lives and their ends. This crate has nothing but tests.
 #![tactic(auto)]
 
 #[cfg(test)]

@@ -1,4 +1,4 @@
-//! Allocations of one processor for the group `/a`: what they answer, and what is charged then.
+//! Allocations of one CPU for the group `/a`: their answers, and what is charged afterwards.
 ghost use Rattle.std.specs.Prelude.{◌≡◌, ◌<◌};
 
 use crate::life::{answers, ends, events_text, holds, reads, visit};
@@ -12,14 +12,14 @@ use std::process::Abort;
 use std::sync::Wait;
 use zone_sizes::config::Config;
 
-// What an allocation answers.
+// The answer to an allocation.
 enum Told {
     Frame(u32),
     OverLimit,
     Refused(Fault),
 }
 
-// What the processor asks for.
+// The CPU's call.
 enum Line {
     Alloc(u32, Told),
     Dirty(u32),
@@ -27,8 +27,8 @@ enum Line {
     Settle,
 }
 
-// A zone of so many frames, the limit of the group, what is asked for, and what the group's files read then: of
-// memory.events the counts.
+// The size of the zone, the limit of the group, the calls, and what the group's files read afterwards: for
+// memory.events, the counts.
 struct Row {
     frames: u32,
     limit: &'static [u8],
@@ -79,7 +79,7 @@ const ROWS: [Row; 7] = [
         peak: b"4194304\n",
         events: NO_EVENT,
     },
-    // the charge of a stock was granted and taken back, since a dirty unit isn't reclaimed
+    // the stock's charge was granted and then returned, since a dirty unit isn't reclaimed
     Row {
         frames: 16,
         limit: b"max",
@@ -105,7 +105,7 @@ const ROWS: [Row; 7] = [
         peak: b"81920\n",
         events: NO_EVENT,
     },
-    // the processor's own list goes back for a block
+    // the CPU's own list is emptied to make a block
     Row {
         frames: 16,
         limit: b"max",
@@ -120,7 +120,7 @@ const ROWS: [Row; 7] = [
     },
 ];
 
-// Whether the reply is what is told.
+// Whether the reply is the expected one.
 fn is_told(reply: &Reply, told: &Told) -> bool {
     let asked: &[u8] = b"/a";
     match (reply, told) {
@@ -140,7 +140,7 @@ pub fn frame<N: BootName>(rt: &impl Abort, system: &System<N>, number: u32) -> F
     system.tables().frames.frame(number).expect(rt, "a frame")
 }
 
-// The processor asks for one thing.
+// The CPU makes one call.
 fn asks<N: BootName, R: Wait + Abort>(rt: &R, system: &System<N>, cpu: &mut Cpu<N>, line: &Line) {
     let path: &[u8] = b"/a";
     match line {
@@ -161,7 +161,7 @@ fn asks<N: BootName, R: Wait + Abort>(rt: &R, system: &System<N>, cpu: &mut Cpu<
     }
 }
 
-// The processor makes the group, limits it, asks for all of the row and reads the files.
+// The CPU makes the group, limits it, makes all calls of the row and reads the files.
 fn plays<N: BootName, R: Wait + Abort>(
     rt: &R,
     alloc: Global,
@@ -184,7 +184,7 @@ fn plays<N: BootName, R: Wait + Abort>(
     reads(rt, system, cpu, b"memory.events", events.as_bytes());
 }
 
-// The life of a system of one processor.
+// The life of a system of one CPU.
 fn lives<N: BootName, R: Wait + Abort>(rt: &R, alloc: Global, boot: Boot, row: &Row)
     requires { (boot.frames ≡ N.frames) × (boot.stocks ≡ N.stocks) }
 {

@@ -1,4 +1,4 @@
-//! A boot that fails for want of memory leaves nothing that keeps the next one from a whole life, nor do texts that do.
+//! If a boot fails because memory runs out, the next one lives a whole life all the same. The same holds of texts.
 ghost use Rattle.std.specs.Prelude.{◌≡◌};
 
 use crate::life::{SIZES, ends, nothing_was_charged};
@@ -10,7 +10,7 @@ use std::process::Abort;
 use std::sync::Wait;
 use std::test::Fail;
 
-// Starts the boot and shuts it down; None where memory is wanting.
+// Starts the boot and shuts it down; None if memory runs out.
 fn starts_and_ends<N: BootName, R: Abort>(rt: &R, alloc: Global, boot: Boot) -> Option<Audit>
     requires { (boot.frames ≡ N.frames) × (boot.stocks ≡ N.stocks) }
 {
@@ -18,13 +18,13 @@ fn starts_and_ends<N: BootName, R: Abort>(rt: &R, alloc: Global, boot: Boot) -> 
     Some(ends(rt, system, cpus))
 }
 
-// A boot's whole life; None where memory is wanting.
+// A boot's whole life; None if memory runs out.
 fn boots_and_ends<R: Abort>(rt: &R, alloc: Global) -> Option<Audit> {
     let boot = boot(alloc, SIZES).ok()?;
     starts_and_ends::<Brand, _>(rt, alloc, boot)
 }
 
-// `tests/refuse-memory` runs this with each of its calls for memory refused in turn, until the first life ends.
+// `tests/refuse-memory` runs this with each of its allocations refused in turn, until the first life ends.
 #[test]
 fn a_second_boot_lives_where_the_first_was_refused(rt: HostRuntime) -> Result<(), Fail> {
     let mut audit = boots_and_ends(&rt, rt.alloc());
@@ -36,7 +36,7 @@ fn a_second_boot_lives_where_the_first_was_refused(rt: HostRuntime) -> Result<()
     Ok(())
 }
 
-// What `show` and `blocks` tell the first processor under the lock; None where memory is wanting.
+// The texts of `show` and `blocks` for the first CPU, under the lock; None if memory runs out.
 fn tells_both<N: BootName, R: Wait>(
     rt: &R,
     alloc: Global,
@@ -49,7 +49,7 @@ fn tells_both<N: BootName, R: Wait>(
     Some((frames, blocks))
 }
 
-// Starts the boot, has both told, and shuts it down; None where memory is wanting.
+// Starts the boot, gets both texts, and shuts it down; None if memory runs out.
 fn starts_and_tells<N: BootName, R: Wait + Abort>(
     rt: &R,
     alloc: Global,
@@ -63,7 +63,7 @@ fn starts_and_tells<N: BootName, R: Wait + Abort>(
     told
 }
 
-// A boot's whole life with its texts; None where memory is wanting.
+// A boot's whole life with its texts; None if memory runs out.
 fn boots_and_tells<R: Wait + Abort>(rt: &R, alloc: Global) -> Option<(Vec<u8>, Vec<u8>)> {
     let boot = boot(alloc, SIZES).ok()?;
     starts_and_tells::<Brand, _>(rt, alloc, boot)

@@ -1,4 +1,4 @@
-//! Usage of the group `/a` brought down by Rmdir and by a write of memory.max: which units come back, and which stay.
+//! Rmdir and a write of memory.max bring down the usage of `/a`: which units are freed, and which stay.
 ghost use Rattle.std.specs.Prelude.{◌≡◌, ◌<◌};
 
 use crate::life::{ends as shut, holds, reads, visit};
@@ -13,7 +13,7 @@ use std::process::Abort;
 use std::sync::Wait;
 use zone_sizes::config::Config;
 
-// What the processor does: an allocation of an order is answered with a frame, and a group is taken out or is busy.
+// What the CPU does: an allocation of an order gets a frame, and a group is removed or is busy.
 enum Line {
     Alloc(u32, u32),
     Dirty(u32),
@@ -25,8 +25,8 @@ enum Line {
     Settle,
 }
 
-// What is done, where frames 0 to 7 are then ('c': charged, 'l': lent, '-': free), and what memory.current reads, where
-// the group is there still.
+// The lines; then where frames 0 to 7 are ('c': charged, 'l': lent, '-': free), and what memory.current reads, if the
+// group still exists.
 struct Row {
     lines: [Line; 6],
     places: &'static [u8],
@@ -34,7 +34,7 @@ struct Row {
 }
 
 const ROWS: [Row; 9] = [
-    // clean units come back, and the group goes
+    // clean units are freed, and the group is removed
     Row {
         lines: [
             Line::Alloc(2, 0),
@@ -47,7 +47,7 @@ const ROWS: [Row; 9] = [
         places: b"--------",
         current: None,
     },
-    // the stock's pages and the unit of a single frame come back
+    // the stock's pages and the unit of a single frame are returned
     Row {
         lines: [
             Line::Alloc(0, 0),
@@ -60,7 +60,7 @@ const ROWS: [Row; 9] = [
         places: b"-lll----",
         current: None,
     },
-    // a dirty unit keeps the group, and what was reclaimed stays so
+    // a dirty unit keeps the group; the units that were reclaimed stay free
     Row {
         lines: [
             Line::Alloc(2, 0),
@@ -73,7 +73,7 @@ const ROWS: [Row; 9] = [
         places: b"cccc----",
         current: Some(b"16384\n"),
     },
-    // so does a pinned one
+    // a pinned unit keeps it, too
     Row {
         lines: [
             Line::Alloc(2, 0),
@@ -86,7 +86,7 @@ const ROWS: [Row; 9] = [
         places: b"----cc--",
         current: Some(b"8192\n"),
     },
-    // until the pin is gone
+    // until the pin is put
     Row {
         lines: [
             Line::Alloc(2, 0),
@@ -99,7 +99,7 @@ const ROWS: [Row; 9] = [
         places: b"--------",
         current: None,
     },
-    // a limit below the usage: the oldest units come back, as many as it takes
+    // a limit below the usage: the oldest units are freed, as many as needed
     Row {
         lines: [
             Line::Alloc(1, 0),
@@ -112,7 +112,7 @@ const ROWS: [Row; 9] = [
         places: b"----cc--",
         current: Some(b"8192\n"),
     },
-    // a pinned unit is missed, and a younger one comes back
+    // a freeze misses a pinned unit, and a younger unit is freed
     Row {
         lines: [
             Line::Alloc(1, 0),
@@ -125,7 +125,7 @@ const ROWS: [Row; 9] = [
         places: b"cc------",
         current: Some(b"8192\n"),
     },
-    // a limit that the usage meets: nothing comes back
+    // the usage equals the limit: nothing is freed
     Row {
         lines: [
             Line::Alloc(1, 0),
@@ -138,7 +138,7 @@ const ROWS: [Row; 9] = [
         places: b"cccc----",
         current: Some(b"16384\n"),
     },
-    // a dirty unit stays, so that the group is killed, and it comes back
+    // a dirty unit stays, so the group is killed, and the unit is freed
     Row {
         lines: [
             Line::Alloc(1, 0),
@@ -153,14 +153,14 @@ const ROWS: [Row; 9] = [
     },
 ];
 
-/// The processor puts its pin of the frame.
+/// The CPU puts its pin of the frame.
 pub fn puts<N: BootName>(rt: &impl Abort, system: &System<N>, cpu: &mut Cpu<N>, number: u32) {
     let pinned = frame(rt, system, number);
     assert!(rt; cpu.holds(pinned));
     let _ = cpu.put(system.tables(), pinned);
 }
 
-// What the processor is answered to the line.
+// The reply to the line.
 fn answer<N: BootName, R: Wait + Abort>(
     rt: &R,
     system: &System<N>,
@@ -187,7 +187,7 @@ fn answer<N: BootName, R: Wait + Abort>(
     }
 }
 
-// The processor does what the line says.
+// The CPU does what the line says.
 fn does<N: BootName, R: Wait + Abort>(rt: &R, system: &System<N>, cpu: &mut Cpu<N>, line: &Line) {
     if let Line::Pin(number) = line {
         let pinned = frame(rt, system, *number);
@@ -204,7 +204,7 @@ fn does<N: BootName, R: Wait + Abort>(rt: &R, system: &System<N>, cpu: &mut Cpu<
     holds(rt, answer(rt, system, cpu, line) == told);
 }
 
-// The letter of the place where the frame is.
+// The letter for the frame's place.
 fn place<N: BootName, R: Wait + Abort>(
     rt: &R,
     system: &System<N>,
@@ -219,7 +219,7 @@ fn place<N: BootName, R: Wait + Abort>(
     }
 }
 
-// The processor makes the group and does all of the row.
+// The CPU makes the group and does all lines of the row.
 fn plays<N: BootName, R: Wait + Abort>(rt: &R, system: &System<N>, cpu: &mut Cpu<N>, row: &Row) {
     let path: &[u8] = b"/a";
     let _made = visit(rt, system, cpu, &Cmd::Mkdir { path });
@@ -228,7 +228,7 @@ fn plays<N: BootName, R: Wait + Abort>(rt: &R, system: &System<N>, cpu: &mut Cpu
     }
 }
 
-// The frames are where the row says, and memory.current reads so.
+// The frames' places and memory.current are those of the row.
 fn ends<N: BootName, R: Wait + Abort>(rt: &R, system: &System<N>, cpu: &mut Cpu<N>, row: &Row) {
     let path: &[u8] = b"/a";
     match row.current {
@@ -243,7 +243,7 @@ fn ends<N: BootName, R: Wait + Abort>(rt: &R, system: &System<N>, cpu: &mut Cpu<
     }
 }
 
-// The life of a system of one processor.
+// The life of a system of one CPU.
 fn lives<N: BootName, R: Wait + Abort>(rt: &R, alloc: Global, boot: Boot, row: &Row)
     requires { (boot.frames ≡ N.frames) × (boot.stocks ≡ N.stocks) }
 {

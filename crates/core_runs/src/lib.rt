@@ -1,4 +1,4 @@
-//! Runs of the core as tests, worked by hand from the table of the steps.
+//! Runs of the core as tests, worked by hand from the rules of `step_rules`.
 #![tactic(auto)]
 
 #[cfg(test)]

@@ -1,4 +1,4 @@
-//! Runs that are worked by hand from the table of the steps, each answer compared.
+//! Runs worked by hand from the rules of `step_rules`; each answer is compared.
 
 mod logs;
 mod plays;
@@ -26,7 +26,7 @@ const SIXTEEN_FRAMES: Config = Config {
     stock: 1,
 };
 
-// Processor 1 takes the lock, and /a is made as group 1.
+// CPU 1 takes the lock, and /a is made as group 1.
 fn with_group() -> [CoreRow; 2] {
     let path = PathText::of(b"/a").unwrap();
     [
@@ -56,7 +56,7 @@ fn placing(at: u32) -> [CoreRow; 4] {
     ]
 }
 
-// After /a is made processor 1 is visited; its stock has so many pages of /a, and frames 0 and 1 are on its list.
+// /a is made, then CPU 1 is visited: its stock gets this many pages of /a, and its list gets frames 0 and 1.
 fn with_stock(pages: u32) -> [CoreRow; 9] {
     let group = group_of(1);
     let cpu = 1;
@@ -74,14 +74,14 @@ fn with_stock(pages: u32) -> [CoreRow; 9] {
     ]
 }
 
-// After /a is made frame 0 is placed for it, and kept.
+// /a is made, then frame 0 is placed for it and kept.
 fn with_frame() -> [CoreRow; 6] {
     let [lock, make] = with_group();
     let [grant, place, unfreeze, publish] = placing(0);
     [lock, make, grant, place, unfreeze, publish]
 }
 
-// A page is granted and placed; the lock isn't given back while it is pending.
+// A page is granted and placed. The lock can't be released while the page is pending.
 fn with_pending_page() -> [CoreRow; 6] {
     let [lock, make] = with_group();
     let group = group_of(1);
@@ -101,7 +101,7 @@ fn with_pending_page() -> [CoreRow; 6] {
     ]
 }
 
-// The rows are the steps of a whole run, from a new core, each with its answer.
+// The rows are the steps of a whole run on a new core, each with its answer.
 fn runs_rows(rt: &impl Abort, alloc: Global, rows: &[CoreRow]) -> Result<(), Fail> {
     let mut steps = Vec::new(alloc);
     for (seat, action, _) in rows {
@@ -124,7 +124,7 @@ fn a_whole_run_is_answered(rt: HostRuntime) -> Result<(), Fail> {
     runs_rows(&rt, rt.alloc(), &with_pending_page())
 }
 
-// A frame is placed, kept, pinned by processor 2, put for the last time there, handed back, and returned once.
+// A frame is placed, kept, pinned by CPU 2, put there for the last time, handed over, and returned once.
 #[test]
 fn a_frame_lives_and_returns_once(rt: HostRuntime) -> Result<(), Fail> {
     let rows = [
@@ -151,7 +151,7 @@ fn a_frame_lives_and_returns_once(rt: HostRuntime) -> Result<(), Fail> {
     works_on_core(&rt, rt.alloc(), &with_frame(), &rows, &facts)
 }
 
-// A credit takes the frame out of the fresh ones and to the end of the list, and only once.
+// A credit moves the frame from the fresh frames to the end of the list, and only once.
 #[test]
 fn a_fresh_frame_is_credited_once(rt: HostRuntime) -> Result<(), Fail> {
     let root = GroupId::root();
@@ -178,7 +178,7 @@ fn a_fresh_frame_is_credited_once(rt: HostRuntime) -> Result<(), Fail> {
     works_on_core(&rt, rt.alloc(), &with_stock(2), &rows, &facts)
 }
 
-// A stock is drained between consume and credit: the frame stays fresh, is reported and absorbed, and kept.
+// A stock is drained between consume and credit. The frame stays fresh, is reported and absorbed, and is kept.
 #[test]
 fn a_stock_is_drained_before_a_credit(rt: HostRuntime) -> Result<(), Fail> {
     let group = group_of(1);
@@ -210,7 +210,7 @@ fn a_stock_is_drained_before_a_credit(rt: HostRuntime) -> Result<(), Fail> {
     works_on_core(&rt, rt.alloc(), &with_stock(2), &rows, &facts)
 }
 
-// A frame that passes to a processor has no reference; it is listed, and passed back in another visit.
+// A frame in transit to a CPU has no reference. It is listed, and passed back in another visit.
 #[test]
 fn a_frame_is_passed_to_a_list_and_back(rt: HostRuntime) -> Result<(), Fail> {
     let out = [
@@ -250,7 +250,7 @@ fn a_book_of_four_pages_falls_to_0(rt: HostRuntime) -> Result<(), Fail> {
     works_on_core(&rt, rt.alloc(), &with_stock(4), &rows, &facts)
 }
 
-// A fresh frame that was collected comes back where its group is killed, with no end of a use.
+// A fresh frame that was collected is returned only once its group is killed, and no use of it ends.
 #[test]
 fn a_killed_groups_fresh_frame_is_dropped(rt: HostRuntime) -> Result<(), Fail> {
     let group = group_of(1);
@@ -272,7 +272,7 @@ fn a_killed_groups_fresh_frame_is_dropped(rt: HostRuntime) -> Result<(), Fail> {
     works_on_core(&rt, rt.alloc(), &with_stock(2), &rows, &facts)
 }
 
-// A pin outlives the kill of its group, which can't be removed before the frame came back.
+// A pin outlives the kill of its group, which can't be removed before the frame is returned.
 #[test]
 fn a_pin_outlives_a_kill(rt: HostRuntime) -> Result<(), Fail> {
     let group = group_of(1);
@@ -294,7 +294,7 @@ fn a_pin_outlives_a_kill(rt: HostRuntime) -> Result<(), Fail> {
     works_on_core(&rt, rt.alloc(), &with_frame(), &rows, &facts)
 }
 
-// A step that names a group that was removed is illegal, also where it takes back no page.
+// A step that names a removed group is illegal, even if it ungrants no page.
 #[test]
 fn a_removed_group_is_not_named(rt: HostRuntime) -> Result<(), Fail> {
     let group = group_of(1);
@@ -309,7 +309,7 @@ fn a_removed_group_is_not_named(rt: HostRuntime) -> Result<(), Fail> {
     works_on_core(&rt, rt.alloc(), &with_group(), &rows, &[])
 }
 
-// A processor has 256 pins at most, and a frame 255 references.
+// A CPU has at most 256 pins, and a frame at most 255 references.
 #[test]
 fn the_257th_pin_is_illegal(rt: HostRuntime) -> Result<(), Fail> {
     let [grant, place, unfreeze, _] = placing(1);
@@ -331,7 +331,7 @@ fn the_257th_pin_is_illegal(rt: HostRuntime) -> Result<(), Fail> {
     Ok(())
 }
 
-// A grant over the limit is refused and noted; the peak and the events are told.
+// A grant over the limit is refused and noted; the peak and the events can be read.
 #[test]
 fn a_refused_grant_is_noted(rt: HostRuntime) -> Result<(), Fail> {
     let group = group_of(1);
@@ -357,14 +357,14 @@ fn a_refused_grant_is_noted(rt: HostRuntime) -> Result<(), Fail> {
     works_on_core(&rt, rt.alloc(), &with_group(), &rows, &facts)
 }
 
-// A seat sets the flag of a group, and is answered so.
+// A seat sets the flag of a group, with this answer.
 fn flagging(seat: u32, group: GroupId, answer: Answer) -> CoreRow {
     let oom_group = true;
     (seat, Action::SetFlag { group, oom_group }, answer)
 }
 
-// The flag of /a is set, /a is killed, and that is noted. Both steps are illegal for the root and for a group that isn't
-// there, and a processor can't set the flag.
+// The flag of /a is set, /a is killed, and that is noted. Both steps are illegal for the root and for a group that
+// doesn't exist, and a CPU can't set the flag.
 fn with_group_kill() -> [CoreRow; 10] {
     let (root, group, gone) = (GroupId::root(), group_of(1), group_of(2));
     let [lock, make] = with_group();
@@ -382,7 +382,7 @@ fn with_group_kill() -> [CoreRow; 10] {
     ]
 }
 
-// That a group was killed as a whole is counted once, at that group and above it.
+// The kill of a group as a whole is counted once, at that group and above it.
 #[test]
 fn a_group_kill_is_counted(rt: HostRuntime) -> Result<(), Fail> {
     let (root, group) = (GroupId::root(), group_of(1));
@@ -414,7 +414,7 @@ fn a_new_group_has_no_flag(rt: HostRuntime) -> Result<(), Fail> {
     works_on_core(&rt, rt.alloc(), &with_group_kill(), &rows, &facts)
 }
 
-// After /a is made four pages of it are placed on a block of four frames, which is kept.
+// /a is made, then four of its pages are placed on a block of four frames, which is kept.
 fn with_block() -> [CoreRow; 6] {
     let group = group_of(1);
     let order = Order::of(2).unwrap();
@@ -446,7 +446,7 @@ fn a_block_is_kept_whole(rt: HostRuntime) -> Result<(), Fail> {
     works_on_core(&rt, rt.alloc(), &with_block(), &[], &facts)
 }
 
-// A block of order 2 comes back whole, by its head alone.
+// A block of order 2 is returned whole, by its head alone.
 #[test]
 fn a_block_comes_back_whole(rt: HostRuntime) -> Result<(), Fail> {
     let rows = [
@@ -467,7 +467,8 @@ fn a_block_comes_back_whole(rt: HostRuntime) -> Result<(), Fail> {
     works_on_core(&rt, rt.alloc(), &with_block(), &rows, &facts)
 }
 
-// A unit that was placed is no fresh frame: where its group is killed, it comes back only once its last reference is gone.
+// A placed unit isn't a fresh frame: even if its group is killed, it is returned only once its last reference is
+// gone.
 #[test]
 fn a_placed_unit_is_not_dropped(rt: HostRuntime) -> Result<(), Fail> {
     let group = group_of(1);

@@ -11,12 +11,12 @@ use Rattle.group_tree.specs.Room.{at_group, on_path, peak_after}
 -- an account has a group's number, its own pages, its peak and its event counts
 pub use Rattle.group_charge.specs.declared.account.Account.{Account}
 
--- the groups of the tree, and an account for each, in order of making
+-- the groups of the tree, and an account for each, in the order in which the groups were made
 pub record Ledger : Type 0 where
   pub groups : List Group
   pub accounts : List Account
 
--- a new group has no page, peak 0 and all counts 0
+-- the account of a new group: no page, peak 0 and all counts 0
 abbrev pub empty_account : ℕ → Account
 empty_account n = record { group = n; pages = 0; peak = 0; events = no_events; events_local = no_events }
 
@@ -36,11 +36,11 @@ pages_of l g = option_map_or (λ a. a.pages) (account_at l g) 0
 unfoldable pub peak_of : Ledger → ℕ → ℕ
 peak_of l g = option_map_or (λ a. a.peak) (account_at l g) 0
 
--- memory.events: counts over the group and all below it
+-- memory.events: the counts of the group and of all groups below it
 unfoldable pub events_of : Ledger → ℕ → EventCounts
 events_of l g = option_map_or (λ a. a.events) (account_at l g) no_events
 
--- memory.events.local: counts of the group alone
+-- memory.events.local: the counts of the group itself
 unfoldable pub events_local_of : Ledger → ℕ → EventCounts
 events_local_of l g = option_map_or (λ a. a.events_local) (account_at l g) no_events
 
@@ -48,7 +48,7 @@ events_local_of l g = option_map_or (λ a. a.events_local) (account_at l g) no_e
 abbrev pub total_pages : List Account → ℕ
 total_pages accounts = sum_by (λ a. a.pages) accounts
 
--- the pages charged to a group and to all below it
+-- the pages charged to a group and to all groups below it
 unfoldable pub usage_of : List Group → List Account → ℕ → ℕ
 usage_of groups accounts g = sum_by (λ a. if in_subtree groups g a.group then a.pages else 0) accounts
 
@@ -56,58 +56,60 @@ usage_of groups accounts g = sum_by (λ a. if in_subtree groups g a.group then a
 abbrev pub current_of : Ledger → ℕ → ℕ
 current_of l g = usage_of l.groups l.accounts g
 
--- the account with n pages more, if it is the group's
+-- the account with n more pages, if it is the group's
 abbrev pub added : ℕ → ℕ → Account → Account
 added g n a = if a.group == g then record a { pages = a.pages + n } else a
 
--- the account with n pages less, if it is the group's
+-- the account with n fewer pages, if it is the group's
 abbrev pub taken : ℕ → ℕ → Account → Account
 taken g n a = if a.group == g then record a { pages = a.pages - n } else a
 
--- the account with a peak that is at least its usage, if it is the group's or an ancestor's
+-- the account with its peak raised to its usage, if it is the account of g or of an ancestor
 abbrev pub peaked : List Group → List Account → ℕ → Account → Account
 peaked groups accounts g a = record a { peak = peak_after groups (usage_of groups accounts) g a.group a.peak }
 
--- one more event of this key at the group itself, and at each group above it for all below that
+-- the account after an event of this key at g: one more in the local counts of g, and in the counts of g and each
+-- ancestor
 abbrev pub with_event_at : EventKey → List Group → ℕ → Account → Account
 with_event_at key groups g a = record a {
   events = on_path groups g (with_one_more key) a.group a.events;
   events_local = at_group g (with_one_more key) a.group a.events_local;
 }
 
--- one more `max` at the group itself, and at each group above it for all below that
+-- the account after a `max` event at g: one more in the local counts of g, and in the counts of g and each ancestor
 abbrev pub noted : List Group → ℕ → Account → Account
 noted groups g a = with_event_at Max groups g a
 
--- the accounts with n pages more for the group, where the peaks of it and of its ancestors follow
+-- the accounts after n more pages for the group, with the peaks of the group and of its ancestors raised to their
+-- usage
 unfoldable pub charged : List Group → List Account → ℕ → ℕ → List Account
 charged groups accounts g n = let more = map (added g n) accounts in map (peaked groups more g) more
 
--- the ledger after a charge that was granted: nothing else has changed
+-- the ledger after a granted charge: nothing else changes
 abbrev pub with_charge : Ledger → ℕ → ℕ → Ledger
 with_charge l g n = record l { accounts = charged l.groups l.accounts g n }
 
--- the ledger after n pages of the group were taken back: the peaks stand
+-- the ledger after n pages of the group were uncharged: the peaks stay
 abbrev pub with_uncharge : Ledger → ℕ → ℕ → Ledger
 with_uncharge l g n = record l { accounts = map (taken g n) l.accounts }
 
--- the ledger after an event of this key was noted at the group
+-- the ledger after an event of this key was counted at the group
 abbrev pub with_noted : EventKey → Ledger → ℕ → Ledger
 with_noted key l g = record l { accounts = map (with_event_at key l.groups g) l.accounts }
 
--- the ledger after one more note that usage was about to go over the group's limit
+-- the ledger after one more `max` event of the group: a charge was about to exceed its limit
 abbrev pub with_max_noted : Ledger → ℕ → Ledger
 with_max_noted l g = with_noted Max l g
 
--- the ledger after one more note that the group's limit couldn't be kept by reclaim
+-- the ledger after one more `oom` event of the group: reclaim couldn't keep its limit
 abbrev pub with_oom_noted : Ledger → ℕ → Ledger
 with_oom_noted l g = with_noted Oom l g
 
--- the ledger after one more note that the group was killed
+-- the ledger after one more `oom_kill` event of the group: it was killed
 abbrev pub with_kill_noted : Ledger → ℕ → Ledger
 with_kill_noted l g = with_noted OomKill l g
 
--- the ledger after one more note that the group was killed as a whole
+-- the ledger after one more `oom_group_kill` event of the group: it was killed as a whole
 abbrev pub with_group_kill_noted : Ledger → ℕ → Ledger
 with_group_kill_noted l g = with_noted OomGroupKill l g
 
@@ -115,27 +117,27 @@ with_group_kill_noted l g = with_noted OomGroupKill l g
 abbrev pub with_new_group : Ledger → ℕ → List ℕ → Ledger
 with_new_group l n path = record { groups = with_group l.groups n path; accounts = l.accounts ++ empty_account n ∷ [] }
 
--- the ledger without the group and its account: the counts of its ancestors stay as they are
+-- the ledger without the group and its account: the counts of its ancestors stay
 abbrev pub with_group_removed : Ledger → ℕ → Ledger
 with_group_removed l g = record { groups = without_group l.groups g; accounts = filter (λ a. not (a.group == g)) l.accounts }
 
--- the ledger with another limit of the group
+-- the ledger with this limit of the group
 abbrev pub with_group_limit : Ledger → ℕ → Option ℕ → Ledger
 with_group_limit l g limit = record l { groups = with_limit l.groups g limit }
 
--- the ledger in which the group is killed as a whole, or not
+-- the ledger with this flag of the group: whether it is killed as a whole
 abbrev pub with_oom_flag : Ledger → ℕ → Bool → Ledger
 with_oom_flag l g flag = record l { groups = with_oom_group l.groups g flag }
 
--- the second ledger has n pages more in the usage of g and of each of its ancestors, and the same in all others
+-- the second ledger has n more pages in the usage of g and of each of its ancestors, and all other usages are equal
 abbrev pub UsageRises : Ledger → Ledger → ℕ → ℕ → Type 0
 UsageRises l k g n = (m : ℕ) → current_of k m ≡ on_path l.groups g (λ pages. pages + n) m (current_of l m)
 
--- the second ledger has n pages more charged to g itself, and the same to each other group
+-- the second ledger has n more pages charged to g itself, and the own pages of all other groups are equal
 abbrev pub PagesRise : Ledger → Ledger → ℕ → ℕ → Type 0
 PagesRise l k g n = (m : ℕ) → pages_of k m ≡ pages_of l m + (if m == g then n else 0)
 
--- each group has the same pages of its own in both
+-- each group has the same own pages in both
 abbrev pub SamePages : Ledger → Ledger → Type 0
 SamePages l k = (m : ℕ) → pages_of k m ≡ pages_of l m
 
@@ -143,7 +145,8 @@ SamePages l k = (m : ℕ) → pages_of k m ≡ pages_of l m
 abbrev pub SameUsage : Ledger → Ledger → Type 0
 SameUsage l k = (m : ℕ) → current_of k m ≡ current_of l m
 
--- the peak of g and of each of its ancestors is the greater of the old peak and its usage now, and each other is the same
+-- the peak of g and of each of its ancestors is the greater of its old peak and its present usage; all other peaks
+-- are equal
 abbrev pub PeaksRise : Ledger → Ledger → ℕ → Type 0
 PeaksRise l k g = (m : ℕ) → peak_of k m ≡ peak_after l.groups (current_of k) g m (peak_of l m)
 
@@ -151,12 +154,12 @@ PeaksRise l k g = (m : ℕ) → peak_of k m ≡ peak_after l.groups (current_of 
 abbrev pub SamePeaks : Ledger → Ledger → Type 0
 SamePeaks l k = (m : ℕ) → peak_of k m ≡ peak_of l m
 
--- each group has the same counts in both, with and without what is below it
+-- each group has the same counts and the same local counts in both
 pub record SameEvents (l k : Ledger) : Type 0 where
   pub events : (m : ℕ) → events_of k m ≡ events_of l m
   pub events_local : (m : ℕ) → events_local_of k m ≡ events_local_of l m
 
--- one event of this key more in the events of g and of each of its ancestors, and in the local events of g alone
+-- one more event of this key in the counts of g and of each of its ancestors, and in the local counts of g
 pub record CountsEvent (key : EventKey) (l k : Ledger) (g : ℕ) : Type 0 where
   pub events : (m : ℕ) → events_of k m ≡ on_path l.groups g (with_one_more key) m (events_of l m)
   pub events_local : (m : ℕ) → events_local_of k m ≡ at_group g (with_one_more key) m (events_local_of l m)
@@ -177,8 +180,8 @@ CountsKill l k g = CountsEvent OomKill l k g
 abbrev pub CountsGroupKill : Ledger → Ledger → ℕ → Type 0
 CountsGroupKill l k g = CountsEvent OomGroupKill l k g
 
--- what holds of every ledger: the groups are a tree's, each has an account, all pages fit 32 bits, and no
--- peak is below the usage
+-- What holds of every ledger: the groups form a tree, each has an account, all pages together fit 32 bits, and no
+-- peak is below the usage.
 pub record AreCharges (l : Ledger) : Type 0 where
   pub groups : AreGroups l.groups
   pub numbers : map (λ a. a.group) l.accounts ≡ map (λ g. g.number) l.groups

@@ -1,4 +1,4 @@
-//! What is kept of one group.
+//! What is kept for one group.
 
 use group_tree::event::EventCounts;
 use group_tree::group::GroupId;
@@ -12,8 +12,8 @@ pub struct Account {
     pub pages: u32,
     /// The greatest usage since the group was made, in pages.
     pub peak: u32,
-    /// What happened to the group and to all below it.
+    /// The events of the group and of all groups below it.
     pub events: EventCounts,
-    /// What happened to the group itself.
+    /// The events of the group itself.
     pub events_local: EventCounts,
 }

@@ -27,14 +27,14 @@ pub struct Over {
     pub group: GroupId,
 }
 
-/// A tree of groups with its charges, in pages of 4,096 bytes. The usage of the root is at most
-/// 2^32 - 1 pages. No call but `new` takes memory.
+/// A tree of groups with its charges, in pages of 4,096 bytes. The usage of the root is at most 2^32 - 1 pages. Only
+/// `new` allocates.
 #[derive(Debug, Drop)]
 pub struct Charges {
     tree: Tree,
     // By number: the account of each group.
     accounts: [Account; MAX_GROUPS],
-    // By number: what is charged to each group and to all below it; 0 where there is no group.
+    // By number: the pages charged to each group and to all groups below it; 0 if no group has the number.
     usages: [u32; MAX_GROUPS],
 }
 
@@ -75,8 +75,8 @@ impl Charges {
         &self.tree
     }
 
-    /// Whether n pages more can be charged at all: the usage of the root with them is at most 2^32 - 1
-    /// pages, as `try_charge` asks.
+    /// Whether n more pages can be charged at all, as `try_charge` requires: the root's usage stays at most 2^32 - 1
+    /// pages.
     pub fn fits(&self, n: u32) -> bool
         ensures { IsTrue result ↔ (current_of self.now 0 + n < 2 ^ 32) }
     {
@@ -84,7 +84,7 @@ impl Charges {
         self.current(GroupId::root()) <= u32::MAX - n
     }
 
-    // The account of a group that is there.
+    // The account of an existing group.
     fn account(&self, g: GroupId) -> &Account
         requires { IsTrue (has_group self.now.groups g) }
         ensures { account_at self.now g ≡ Some result.now }
@@ -92,7 +92,7 @@ impl Charges {
         &self.accounts[g.number() as usize]
     }
 
-    /// Makes a group, as `Tree::make` does, with no page, peak 0 and all counts 0.
+    /// Makes a group, as `Tree::make` does. It has no page, peak 0 and all counts 0.
     pub fn make(&mut self, path: &[u8]) -> Result<GroupId, Fault>
         ensures made { IfOk result (λ n. self.new ≡ with_new_group self.old n path.now) }
         ensures least { IfOk result (λ n. IsLeastFreeNumber self.old.groups n) }
@@ -107,8 +107,8 @@ impl Charges {
         Ok(g)
     }
 
-    /// Gives a group that is there another limit, in pages; None for no limit. It binds later charges
-    /// alone.
+    /// Sets the limit of an existing group, in pages; None removes the limit. Only later charges are checked against
+    /// it.
     pub fn set_max(&mut self, g: GroupId, limit: Option<u32>)
         requires { IsTrue (has_group self.old.groups g) }
         ensures limited { self.new ≡ with_group_limit self.old g limit }
@@ -118,7 +118,7 @@ impl Charges {
         self.tree.set_max(g, limit);
     }
 
-    /// Says whether a group that is there, other than the root, is killed as a whole.
+    /// Sets whether an existing group other than the root is killed as a whole.
     pub fn set_oom_group(&mut self, g: GroupId, oom_group: bool)
         requires there { IsTrue (has_group self.old.groups g) }
         requires below_root { g ≢ 0 }
@@ -129,7 +129,7 @@ impl Charges {
         self.tree.set_oom_group(g, oom_group);
     }
 
-    /// Takes out a group that is there, other than the root, with no group below it and nothing charged.
+    /// Removes an existing group that isn't the root, has no group below it and no page charged.
     pub fn remove(&mut self, g: GroupId)
         requires there { IsTrue (has_group self.old.groups g) }
         requires leaf { has_child self.old.groups g ≡ false }
@@ -141,8 +141,7 @@ impl Charges {
         self.tree.remove(g);
     }
 
-    /// The usage of a group that is there, in pages (memory.current): what is charged to it and to all
-    /// below it.
+    /// The usage of an existing group, in pages (memory.current): the pages charged to it and to all groups below it.
     pub fn current(&self, g: GroupId) -> u32
         requires { IsTrue (has_group self.now.groups g) }
         ensures { result ≡ current_of self.now g }
@@ -168,7 +167,7 @@ impl Charges {
         self.account(g).peak
     }
 
-    /// The limit of the group, in pages (memory.max); None for no limit.
+    /// The limit of the group, in pages (memory.max), or None if it has no limit.
     pub fn max(&self, g: GroupId) -> Option<u32>
         requires { IsTrue (has_group self.now.groups g) }
         ensures { result ≡ limit_of self.now.groups g }
@@ -184,7 +183,7 @@ impl Charges {
         self.tree.oom_group(g)
     }
 
-    /// What happened to the group and to all below it (memory.events).
+    /// The events of the group and of all groups below it (memory.events).
     #[tactic(auto, unfolding(crate::specs::Charges::events_of))]
     pub fn events(&self, g: GroupId) -> EventCounts
         requires { IsTrue (has_group self.now.groups g) }
@@ -193,7 +192,7 @@ impl Charges {
         self.account(g).events
     }
 
-    /// What happened to the group itself (memory.events.local).
+    /// The events of the group itself (memory.events.local).
     #[tactic(auto, unfolding(crate::specs::Charges::events_local_of))]
     pub fn events_local(&self, g: GroupId) -> EventCounts
         requires { IsTrue (has_group self.now.groups g) }
@@ -203,8 +202,8 @@ impl Charges {
         account.events_local
     }
 
-    /// Charges n pages to the group, where it and each of its ancestors has room for all of them. Else
-    /// the error names the lowest that has none, and nothing has changed, peaks included.
+    /// Charges n pages to the group if the group and each ancestor has room for all of them. Otherwise the error
+    /// names the lowest one without room, and nothing changes, not even a peak.
     pub fn try_charge(&mut self, g: GroupId, n: u32) -> Result<(), Over>
         requires there { IsTrue (has_group self.old.groups g) }
         requires fits { current_of self.old 0 + n < 2 ^ 32 }
@@ -227,7 +226,7 @@ impl Charges {
         Ok(())
     }
 
-    /// Takes n pages back that were charged to the group itself. Its peak stands.
+    /// Uncharges n pages of the group itself. Its peak stays.
     pub fn uncharge(&mut self, g: GroupId, n: u32)
         requires there { IsTrue (has_group self.old.groups g) }
         requires charged { n ≤ pages_of self.old g }
@@ -242,7 +241,7 @@ impl Charges {
         walks::take_off(&self.tree, &mut self.usages, g, None, n);
     }
 
-    // Notes an event of a group: one more of its key for the group itself, and for it and each of its ancestors.
+    // Counts one event of this key: for the group itself, and for it and each of its ancestors.
     fn note(&mut self, key: EventKey, g: GroupId)
         requires { IsTrue (has_group self.old.groups g) }
         ensures noted { self.new ≡ with_noted key self.old g }
@@ -256,8 +255,8 @@ impl Charges {
         walks::count_local_event(&mut self.accounts, key, g);
     }
 
-    /// Notes that usage was about to go over the group's limit: one more `max` for the group itself, and
-    /// for it and each of its ancestors. A count stays at 2^64 - 1.
+    /// Counts that a charge was about to exceed the group's limit: one more `max` for the group itself, and for it
+    /// and each of its ancestors. A count that reaches 2^64 - 1 stays there.
     pub fn note_max(&mut self, g: GroupId)
         requires { IsTrue (has_group self.old.groups g) }
         ensures noted { self.new ≡ with_max_noted self.old g }
@@ -270,8 +269,8 @@ impl Charges {
         self.note(EventKey::Max, g);
     }
 
-    /// Notes that an allocation was about to fail at the group's limit, and that killing was an option: one more `oom`,
-    /// counted as `note_max` counts.
+    /// Counts that an allocation was about to fail at the group's limit and a kill was possible: one more `oom`,
+    /// counted as in `note_max`.
     pub fn note_oom(&mut self, g: GroupId)
         requires { IsTrue (has_group self.old.groups g) }
         ensures noted { self.new ≡ with_oom_noted self.old g }
@@ -284,7 +283,7 @@ impl Charges {
         self.note(EventKey::Oom, g);
     }
 
-    /// Notes that the group was killed: one more `oom_kill`, counted as `note_max` counts.
+    /// Counts that the group was killed: one more `oom_kill`, counted as in `note_max`.
     pub fn note_kill(&mut self, g: GroupId)
         requires { IsTrue (has_group self.old.groups g) }
         ensures noted { self.new ≡ with_kill_noted self.old g }
@@ -297,8 +296,8 @@ impl Charges {
         self.note(EventKey::OomKill, g);
     }
 
-    /// Notes that the group, which isn't the root, was killed as a whole: one more `oom_group_kill`, counted as `note_max`
-    /// counts.
+    /// Counts that the group, which isn't the root, was killed as a whole: one more `oom_group_kill`, counted as in
+    /// `note_max`.
     pub fn note_group_kill(&mut self, g: GroupId)
         requires there { IsTrue (has_group self.old.groups g) }
         requires below_root { g ≢ 0 }

@@ -1,5 +1,4 @@
-//! The walks from a group up to the root, over what is kept by the groups' numbers: usages, peaks and
-//! counts.
+//! The walks from a group up to the root, over usages, peaks and counts, which are kept by group number.
 
 ghost use Rattle.std.specs.Prelude.{◌≡◌, ℕ, ◌+◌, ◌-◌, ◌^◌, ◌<◌, ◌≤◌, IfSome, IsTrue, MatchOption, length};
 ghost use Rattle.group_tree.specs.Ancestors.{is_passed};
@@ -13,7 +12,7 @@ use group_tree::event::EventKey;
 use group_tree::group::GroupId;
 use group_tree::tree::Tree;
 
-// Whether so many pages are at most the limit, if there is one.
+// Whether the pages are at most the limit, if there is one.
 fn fits_limit(limit: Option<u32>, pages: u32) -> bool
     ensures { result ≡ fits_limit limit pages }
 {
@@ -23,8 +22,8 @@ fn fits_limit(limit: Option<u32>, pages: u32) -> bool
     }
 }
 
-/// Adds n pages to the usage of the group and of each group above it, until one would be over its limit: that one
-/// is the answer, and nothing is added to it.
+/// Adds n pages to the usage of the group and of each group above it, until one would exceed its limit. Returns that
+/// group, to which it adds nothing.
 pub fn add_until_over(tree: &Tree, usages: &mut [u32], g: GroupId, n: u32) -> Option<GroupId>
     requires legal { AreGroups tree.now }
     requires there { IsTrue (has_group tree.now g) }
@@ -45,8 +44,8 @@ pub fn add_until_over(tree: &Tree, usages: &mut [u32], g: GroupId, n: u32) -> Op
     None
 }
 
-/// Takes n pages off the usage of the group and of each group above it. Where an end is named, the walk
-/// stops there: that group and those above it keep theirs.
+/// Subtracts n pages from the usage of the group and of each group above it. If an end is given, the walk stops
+/// there: that group and those above it keep their usage.
 pub fn take_off(tree: &Tree, usages: &mut [u32], g: GroupId, end: Option<GroupId>, n: u32)
     requires legal { AreGroups tree.now }
     requires there { IsTrue (has_group tree.now g) }
@@ -64,7 +63,7 @@ pub fn take_off(tree: &Tree, usages: &mut [u32], g: GroupId, end: Option<GroupId
     }
 }
 
-/// The peaks of the group and of each group above it follow their usage.
+/// Raises the peaks of the group and of each group above it to their usage.
 pub fn raise_peaks(tree: &Tree, accounts: &mut [Account], usages: &[u32], g: GroupId)
     requires legal { AreGroups tree.now }
     requires there { IsTrue (has_group tree.now g) }
@@ -80,7 +79,7 @@ pub fn raise_peaks(tree: &Tree, accounts: &mut [Account], usages: &[u32], g: Gro
     }
 }
 
-/// Counts one more event of this key at the group and at each group above it, for all below that.
+/// Counts one more event of this key in the hierarchical counts of the group and of each group above it.
 pub fn count_event(tree: &Tree, accounts: &mut [Account], key: EventKey, g: GroupId)
     requires legal { AreGroups tree.now }
     requires there { IsTrue (has_group tree.now g) }
@@ -94,7 +93,7 @@ pub fn count_event(tree: &Tree, accounts: &mut [Account], key: EventKey, g: Grou
     }
 }
 
-/// Counts one more event of this key at the group itself.
+/// Counts one more event of this key in the local counts of the group.
 pub fn count_local_event(accounts: &mut [Account], key: EventKey, g: GroupId)
     requires size { length accounts.old ≡ most_groups }
     ensures counted { accounts.new ≡ with_local_event key g accounts.old }

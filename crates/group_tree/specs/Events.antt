@@ -3,15 +3,15 @@ use Rattle.std.specs.Prelude.{ℕ, ◌==◌, Bool, List, [], ◌∷◌, map, if�
 use Rattle.std.specs.List.{slice_index_or}
 use Rattle.group_tree.specs.declared.event.EventKey.TheVariants.{Max, Oom, OomKill, OomGroupKill}
 use Rattle.group_tree.specs.Room.{one_more}
--- usage was about to go over the limit, the limit could not be kept by reclaim, a group was killed, and a group was
--- killed as a whole
+-- a charge was about to exceed the limit; reclaim could not keep the limit; a group was killed; a group was killed as
+-- a whole
 pub use Rattle.group_tree.specs.declared.event.EventKey.{EventKey}
 
 -- all keys, in the order of the lines of memory.events
 abbrev pub all_keys : List EventKey
 all_keys = Max ∷ Oom ∷ OomKill ∷ OomGroupKill ∷ []
 
--- where a key stands among all
+-- the index of a key among all keys
 abbrev pub key_index : EventKey → ℕ
 key_index Max = 0
 key_index Oom = 1
@@ -25,15 +25,15 @@ key_name Oom = codes "oom"
 key_name OomKill = codes "oom_kill"
 key_name OomGroupKill = codes "oom_group_kill"
 
--- both are one key
+-- both are the same key
 abbrev pub is_same_key : EventKey → EventKey → Bool
 is_same_key j k = key_index j == key_index k
 
--- counts of events: one for each key, in the order of the keys
+-- counts of events: one for each key, in the order of `all_keys`
 abbrev pub EventCounts : Type 0
 EventCounts = List ℕ
 
--- nothing has happened
+-- all counts are 0
 abbrev pub no_events : EventCounts
 no_events = map (λ key. 0) all_keys
 
@@ -41,7 +41,7 @@ no_events = map (λ key. 0) all_keys
 unfoldable pub count_of : EventCounts → EventKey → ℕ
 count_of counts key = slice_index_or counts (key_index key) 0
 
--- one more event of this kind; the other counts stay
+-- the counts with one more event of this kind; the other counts stay
 unfoldable pub with_one_more : EventKey → EventCounts → EventCounts
 with_one_more kind counts =
     map (λ key. if is_same_key key kind then one_more (count_of counts key) else count_of counts key) all_keys

@@ -1,4 +1,4 @@
--- The tree of groups, as contracts see it: the list of its groups, in order of making.
+-- The tree of groups, as contracts see it: the list of its groups, in the order in which they were made.
 use Rattle.std.specs.Prelude.{◌≡◌, ◌≢◌, ℕ, ◌<◌, ◌≤◌, ◌==◌, ◌&&◌, ◌||◌, Bool, false, not, nat_le, nat_lt, IsTrue, IsSomeAnd, Option, Some, None, is_some}
 use Rattle.std.specs.Prelude.{is_none, List, [], ◌∷◌, ◌++◌, length, slice_get, map, filter, if◌then◌else◌, All, AllPairs}
 use Rattle.std.specs.List.{find, list_any, starts_with}
@@ -11,11 +11,11 @@ use Rattle.group_tree.specs.declared.fault.Fault.TheVariants.{NoParent, Exists, 
 -- a group has a number, a path, a limit in pages, and a flag: whether it is killed as a whole
 pub use Rattle.group_tree.specs.declared.group.Group.{Group}
 
--- a group as it is at first: with no limit, and its flag off
+-- a new group, which has no limit and its flag off
 abbrev pub new_row : ℕ → List ℕ → Group
 new_row n path = record { number = n; path = path; limit = None; oom_group = false }
 
--- the root, as it is before a limit is set
+-- the root of a new tree
 abbrev pub the_root : Group
 the_root = new_row 0 root_path
 
@@ -47,7 +47,7 @@ limit_of groups n = option_and_then (λ g. g.limit) (group_at groups n)
 unfoldable pub is_oom_group : List Group → ℕ → Bool
 is_oom_group groups n = option_map_or (λ g. g.oom_group) (group_at groups n) false
 
--- both are there, and the names of the first path begin the names of the second
+-- both paths exist, and the second begins with the names of the first
 abbrev pub begins : Option (List ℕ) → Option (List ℕ) → Bool
 begins (Some above) (Some below) = starts_with bytes_eq (names_of below) (names_of above)
 begins _ _ = false
@@ -56,21 +56,21 @@ begins _ _ = false
 unfoldable pub in_subtree : List Group → ℕ → ℕ → Bool
 in_subtree groups g h = begins (path_of groups g) (path_of groups h)
 
--- some other group lies below it
+-- another group lies below it
 unfoldable pub has_child : List Group → ℕ → Bool
 has_child groups n = list_any (λ g. not (g.number == n) && in_subtree groups n g.number) groups
 
--- the number of the group just above; the root has none
+-- the number of the group's parent; the root has none
 unfoldable pub parent_of : List Group → ℕ → Option ℕ
 parent_of groups n =
     if n == 0 then None else option_and_then (λ path. number_at groups (parent_path path)) (path_of groups n)
 
--- no group has this number, and each lesser one is some group's
+-- no group has this number, and each lesser number is a group's
 pub record IsLeastFreeNumber (groups : List Group) (n : ℕ) : Type 0 where
   pub free : has_group groups n ≡ false
   pub least : (k : ℕ) → k < n → IsTrue (has_group groups k)
 
--- why a group with this path cannot be made, the first cause that holds
+-- why a group with this path can't be made: the first cause that holds
 unfoldable pub make_fault : List Group → List ℕ → Option Fault
 make_fault groups path =
     if not (is_well_formed path) || is_root path then Some BadName
@@ -80,32 +80,33 @@ make_fault groups path =
     else (if nat_le most_groups (length groups) then Some TreeFull
     else None))))
 
--- one more group, with no limit and its flag off
+-- the groups, and behind them one more, with no limit and its flag off
 abbrev pub with_group : List Group → ℕ → List ℕ → List Group
 with_group groups n path = groups ++ new_row n path ∷ []
 
--- the others stay in their order
+-- the groups without the one of this number; the others keep their order
 unfoldable pub without_group : List Group → ℕ → List Group
 without_group groups n = filter (λ g. not (g.number == n)) groups
 
--- the group with another limit, if it has this number
+-- the group with this limit, if it has the number n
 abbrev pub limited : ℕ → Option ℕ → Group → Group
 limited n limit g = if g.number == n then record g { limit = limit } else g
 
--- one group has another limit, and all else stays
+-- the group of number n has this limit, and all else stays
 unfoldable pub with_limit : List Group → ℕ → Option ℕ → List Group
 with_limit groups n limit = map (limited n limit) groups
 
--- the group with another flag, if it has this number
+-- the group with this flag, if it has the number n
 abbrev pub flagged : ℕ → Bool → Group → Group
 flagged n flag g = if g.number == n then record g { oom_group = flag } else g
 
--- one group has another flag, and all else stays
+-- the group of number n has this flag, and all else stays
 unfoldable pub with_oom_group : List Group → ℕ → Bool → List Group
 with_oom_group groups n flag = map (flagged n flag) groups
 
--- what holds of the groups of every tree: at most `most_groups` of them, each with a number below that and a path of at most
--- `most_names` names, no two with one number or one path; the root is the first, and its flag is off; each one's parent is there
+-- What holds of the groups of every tree. There are at most `most_groups`, each with a number below that and a path
+-- of at most `most_names` names. No two have the same number or path. The root is the first, and its flag is off.
+-- Each group's parent exists.
 pub record AreGroups (groups : List Group) : Type 0 where
   pub few : length groups ≤ most_groups
   pub root : IsSomeAnd (slice_get groups 0) (λ g. (g.number ≡ 0) × (g.path ≡ root_path))

@@ -1,4 +1,5 @@
--- What a tree keeps by number beside its rows: whether a group has it, and that group's parent, depth and limit.
+-- What a tree keeps by number, beside its rows: whether a group has the number, and that group's parent, depth and
+-- limit.
 use Rattle.std.specs.Prelude.{◌≡◌, ℕ, false, None, List, length, Contains}
 use Rattle.std.specs.List.{slice_index_or}
 use Rattle.group_tree.specs.declared.group.Group.{Group}
@@ -15,8 +16,8 @@ no_link = record { is_there = false; parent = 0; depth = 0; limit = None }
 abbrev pub link_at : List Link → ℕ → Link
 link_at links g = slice_index_or links g no_link
 
--- a link tells whether a group has the number; a group's link has the number of the group with its parent's path (the
--- root's is its own), how many names its path has, and its limit
+-- Each link says whether a group has the number. A group's link has its parent's number (the root's has its own), the
+-- number of names in its path, and its limit.
 pub record AreLinks (groups : List Group) (links : List Link) : Type 0 where
   pub size : length links ≡ most_groups
   pub there : (n : ℕ) → (link_at links n).is_there ≡ has_group groups n

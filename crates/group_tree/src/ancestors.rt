@@ -9,7 +9,7 @@ use crate::group::GroupId;
 use crate::tree::Tree;
 use std::marker::Model;
 
-/// A walk up the tree, seen as the list of the groups that are left to be visited.
+/// A walk up the tree. A contract sees it as the list of the groups still to visit.
 #[derive(Drop)]
 pub struct Ancestors<'a> {
     tree: &'a Tree,
@@ -43,8 +43,8 @@ impl<'a> Iterator for Ancestors<'a> {
 }
 
 impl Tree {
-    /// The walk from a group that is there up to the root: the group first, then its parent, and the
-    /// root last. It is as long as the group is deep, and one more; no call of it takes memory.
+    /// The walk from an existing group up to the root: the group first, then each parent, the root last. It yields
+    /// one group more than the group's path has names. It allocates nothing.
     #[inline]
     pub fn ancestors(&self, g: GroupId) -> Ancestors<'_>
         requires { IsTrue (has_group self.now g) }

@@ -1,20 +1,20 @@
-//! The events that are counted for a group, and their counts.
+//! The events that the controller counts for each group, and their counts.
 
 ghost use Rattle.std.specs.Prelude.{◌≡◌, ◌<◌};
 ghost use Rattle.group_tree.specs.Events.{count_of, key_index, key_name, no_events, with_one_more};
 
 use std::marker::Model;
 
-// How many kinds of event there are.
+// The number of kinds of event.
 const KEYS: usize = 4;
 
-/// The kinds of event that are counted, by the keys of memory.events. There is no memory.low and no
-/// memory.high, so nothing is counted for them.
+/// The kinds of event that are counted: the keys of memory.events. This controller has no memory.low and no
+/// memory.high, so it counts no events for them.
 #[derive(Clone, Copy, Debug, PartialEq, Eq)]
 pub enum EventKey {
-    /// Usage was about to go over the limit.
+    /// A charge was about to exceed the limit.
     Max,
-    /// An allocation was about to fail at the limit, and killing was an option.
+    /// An allocation was about to fail at the limit, and a kill was possible.
     Oom,
     /// A group was killed.
     OomKill,
@@ -43,7 +43,7 @@ impl EventKey {
         }
     }
 
-    // Where the count of the key stands.
+    // The index of the key's count.
     fn index(self) -> usize
         ensures value { result ≡ key_index self }
         ensures below { result < 4 }
@@ -57,10 +57,10 @@ impl EventKey {
     }
 }
 
-/// How often each kind of event happened. A count stays at 2^64 - 1.
+/// How often each kind of event happened. A count that reaches 2^64 - 1 stays there.
 #[derive(Clone, Copy, Debug, PartialEq, Eq)]
 pub struct EventCounts {
-    // In the order of the keys.
+    // In the order of `EventKey::ALL`.
     counts: [u64; KEYS],
 }
 
@@ -77,7 +77,7 @@ impl Model for EventCounts {
 }
 
 impl EventCounts {
-    /// Nothing has happened.
+    /// All counts are 0.
     pub fn none() -> EventCounts
         ensures { result ≡ no_events }
     {

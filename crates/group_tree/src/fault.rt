@@ -9,40 +9,40 @@ use thiserror::Error;
 /// The refusals, in the order of their numbers, which begin at 1.
 #[derive(Clone, Copy, Debug, PartialEq, Eq, Error)]
 pub enum Fault {
-    /// The parent of the path that is to be made is not there.
+    /// The path to make has no parent group.
     #[error("the parent group is not there")]
     NoParent,
-    /// The path that is to be made is there.
+    /// A group with the path to make exists already.
     #[error("the group is there already")]
     Exists,
-    /// The path is malformed, or that of the root, which can neither be made nor removed.
+    /// The path is malformed, or it is the root's: the root can neither be made nor removed.
     #[error("the path is malformed or that of the root")]
     BadName,
-    /// There are 64 groups.
+    /// 64 groups exist, which is the most.
     #[error("there is no room for one more group")]
     TreeFull,
-    /// The path has more than 8 names, each well-formed.
+    /// The path is well-formed but has more than 8 names.
     #[error("the path has more than 8 names")]
     TooDeep,
     /// No group has the path.
     #[error("the group is not there")]
     NoGroup,
-    /// The group that is to be removed is the parent of another.
+    /// The group to remove has children.
     #[error("the group has children")]
     HasChildren,
-    /// Pages stay charged to the group that is to be removed.
+    /// Pages are still charged to the group to remove.
     #[error("the group still has pages")]
     Busy,
-    /// The processor holds as many references as it may.
+    /// The CPU holds as many references as it may.
     #[error("the processor holds too many references")]
     PinsFull,
-    /// The group has no file of that name, or is the root, which has none.
+    /// The group has no file of that name. The root has no files at all.
     #[error("the group has no such file")]
     NoFile,
     /// The file cannot be written.
     #[error("the file cannot be written")]
     ReadOnly,
-    /// The text is no limit.
+    /// The text is not a limit.
     #[error("the text is no limit")]
     BadLimit,
     /// The limit's value is above 2^64 - 1.
@@ -57,13 +57,13 @@ pub enum Fault {
         /// The group whose limit has no room.
         group: GroupId,
     },
-    /// The zone has no free block that is great enough.
+    /// The zone has no free block of the order or above.
     #[error("the zone has no free block that is great enough")]
     NoFrames,
-    /// Fewer pages were given back than asked.
+    /// Reclaim freed fewer pages than the caller asked for.
     #[error("fewer pages were given back than asked")]
     Again,
-    /// The group that asks was killed.
+    /// The group that the call is for was killed.
     #[error("the group was killed")]
     Killed,
     /// The order is above 10.
@@ -72,7 +72,7 @@ pub enum Fault {
     /// The frame is not the head of a kept unit.
     #[error("the frame is not the head of a kept unit")]
     NotKept,
-    /// The processor holds no reference on the frame.
+    /// The CPU holds no reference on the frame.
     #[error("the processor holds no reference on the frame")]
     NotPinned,
     /// The file cannot be read.
@@ -81,7 +81,7 @@ pub enum Fault {
 }
 
 impl Fault {
-    /// The number of the refusal, 1 to 22.
+    /// The number of the refusal, from 1 to 22.
     pub fn number(&self) -> u32
         ensures { result ≡ number_of self.now }
     {

@@ -6,10 +6,10 @@ ghost use Rattle.group_tree.specs.Bounds.{most_groups};
 use crate::path::PathText;
 use std::marker::Model;
 
-/// How many groups there may be at once, the root counted.
+/// The most groups that exist at once, the root included.
 pub const MAX_GROUPS: usize = 64;
 
-/// The number of a group, 0 to 63. The root's is 0. It takes one byte, since the record of each frame holds one.
+/// The number of a group, from 0 to 63; the root has 0. It takes one byte because the record of each frame holds one.
 #[derive(Clone, Copy, Debug, PartialEq, Eq, PartialOrd, Ord, Hash)]
 pub struct GroupId {
     number: u8,
@@ -30,7 +30,7 @@ impl Model for GroupId {
 }
 
 impl GroupId {
-    /// The group of this number; None where the number is 64 or above.
+    /// The group of this number, or None if the number is 64 or above.
     pub fn of(number: u32) -> Option<GroupId>
         ensures { SomeIff result (number < most_groups) number }
     {
@@ -50,7 +50,7 @@ impl GroupId {
         GroupId { number: 0 }
     }
 
-    /// The group's number, 0 to 63.
+    /// The group's number, from 0 to 63.
     pub fn number(self) -> u32
         ensures value { result ≡ self }
         ensures below { result < most_groups }
@@ -66,7 +66,7 @@ pub struct Group {
     pub number: GroupId,
     /// The group's path, from the root.
     pub path: PathText,
-    /// The limit of the group's usage (memory.max), in pages; None for no limit.
+    /// The limit of the group's usage (memory.max), in pages, or None if it has no limit.
     pub limit: Option<u32>,
     /// memory.oom.group: whether the group is killed as a whole.
     pub oom_group: bool,

@@ -1,8 +1,8 @@
-//! The tree of control groups: names, parents, limits and flags, the kinds of event that are
-//! counted, and the numbers of the refusals.
+//! The tree of control groups: paths, parents, limits and flags. Also the kinds of event that are counted, and the
+//! numbers of the refusals.
 //!
-//! A group has a path, as cgroup-v2.rst writes it, and a number below 64. The tree is seen by its
-//! callers as the list of its groups, in order of making.
+//! A group has a path, written as in cgroup-v2.rst, and a number below 64. Contracts see the tree as the list of its
+//! groups, in the order in which they were made.
 #![tactic(auto)]
 
 pub mod ancestors;

@@ -1,4 +1,4 @@
-//! Tests of paths, on their bytes.
+//! Checks of paths, on their bytes.
 
 ghost use Rattle.std.specs.Prelude.{◌≡◌, IsTrue, nat_eq};
 ghost use Rattle.std.specs.List.{count_by, list_all, slice_split, starts_with};
@@ -14,7 +14,7 @@ pub fn is_root(path: &[u8]) -> bool
     path == b"/".as_slice()
 }
 
-// Whether a name may have the byte.
+// Whether the byte may appear in a name.
 fn is_name_byte(byte: u8) -> bool
     ensures { result ≡ is_name_byte byte }
 {
@@ -28,14 +28,14 @@ fn is_dots(name: &[u8]) -> bool
     name == b".".as_slice() || name == b"..".as_slice()
 }
 
-// Whether a name may have each of the bytes.
+// Whether each of the bytes may appear in a name.
 fn has_name_bytes(name: &[u8]) -> bool
     ensures { result ≡ list_all is_name_byte name.now }
 {
     name.iter().all(|byte| is_name_byte(*byte))
 }
 
-// Whether a group below the root may have the name.
+// Whether this is a valid name of a group below the root.
 #[tactic(auto, unfolding(crate::specs::Path::is_name))]
 fn is_name(name: &[u8]) -> bool
     ensures { result ≡ is_name name.now }
@@ -43,14 +43,14 @@ fn is_name(name: &[u8]) -> bool
     1 <= name.len() && name.len() <= MAX_NAME && has_name_bytes(name) && !is_dots(name)
 }
 
-// Whether there are names alone between the slashes.
+// Whether each part between the slashes is a valid name.
 fn are_names(text: &[u8]) -> bool
     ensures { result ≡ list_all is_name (slice_split is_slash text.now) }
 {
     text.split(|byte| *byte == b'/').all(|name| is_name(name))
 }
 
-// Whether there are names alone behind the slash that the path begins with.
+// Whether each part after the leading slash is a valid name.
 fn has_names(path: &[u8]) -> bool
     requires { IsTrue (starts_with nat_eq path.now root_path) }
     ensures { result ≡ list_all is_name (names_of path.now) }
@@ -81,7 +81,7 @@ pub fn depth(path: &[u8]) -> usize
     if is_root(path) { 0 } else { slashes(path) }
 }
 
-/// The path without its last name; that of the root where one name or none is left out.
+/// The path without its last name. It is the root's path if there was at most one name.
 pub fn parent_path(path: &[u8]) -> &[u8]
     ensures { result.now ≡ parent_path path.now }
 {

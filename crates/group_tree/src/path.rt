@@ -5,16 +5,16 @@ ghost use Rattle.group_tree.specs.Bounds.{longest_path};
 
 use std::marker::Model;
 
-/// How many bytes a path may have.
+/// The most bytes of a path.
 pub const MAX_PATH: usize = 512;
 
-/// How many bytes a name may have (NAME_MAX of Linux).
+/// The most bytes of a name (NAME_MAX of Linux).
 pub const MAX_NAME: usize = 255;
 
-/// How many names a path may have.
+/// The most names of a path.
 pub const MAX_DEPTH: usize = 8;
 
-/// A text of at most 512 bytes, kept without memory of its own. Behind the text stand zeros.
+/// A text of at most 512 bytes, kept in an array without an allocation. Zeros follow the text.
 #[derive(Clone, Copy, Debug, PartialEq, Eq)]
 pub struct PathText {
     bytes: [u8; MAX_PATH],
@@ -38,7 +38,7 @@ impl Model for PathText {
 }
 
 impl PathText {
-    /// The text of these bytes; None exactly where there are more than 512.
+    /// The text of these bytes, or None if there are more than 512.
     pub fn of(text: &[u8]) -> Option<PathText>
         ensures { SomeIff result (length text.now ≤ longest_path) text.now }
     {

@@ -18,25 +18,25 @@ use crate::path::{MAX_DEPTH, PathText};
 use std::alloc::{AllocError, Global};
 use std::marker::Model;
 
-/// The groups of a controller, seen as their list in order of making. Room for 64 is reserved when
-/// the tree is made, so that no later call takes memory.
+/// The groups of a controller. A contract sees them as a list, in the order in which they were made. `new` reserves
+/// room for 64 groups, so that no later call allocates.
 #[derive(Debug, Drop)]
 pub struct Tree {
     rows: Vec<Group>,
-    // By number: whether a group has it, and what a walk to the root reads of that group.
+    // By number: whether a group has it, and what a walk to the root needs of that group.
     links: [Link; MAX_GROUPS],
 }
 
-// What is kept of a group by its number, beside its row.
+// What the tree keeps of a group by its number, beside its row.
 #[derive(Clone, Copy, Debug, PartialEq, Eq)]
 struct Link {
     // Whether a group has the number.
     is_there: bool,
-    // The group just above; the root's own number at the root.
+    // The group's parent. The root has its own number here.
     parent: GroupId,
     // How many names the path has.
     depth: usize,
-    // The limit, as the row has it.
+    // The same limit as in the row, so that a walk to the root reads one array.
     limit: Option<u32>,
 }
 
@@ -54,7 +54,7 @@ impl Model for Tree {
 }
 
 impl Tree {
-    /// The root alone, with no limit.
+    /// The root alone, without a limit.
     pub fn new(alloc: Global) -> Result<Tree, AllocError>
         ensures { IfOk result (λ tree. tree ≡ initial_groups) }
     {
@@ -65,7 +65,7 @@ impl Tree {
         Ok(Tree { rows, links })
     }
 
-    /// The groups, in order of making; the root is the first.
+    /// The groups, in the order in which they were made; the root is the first.
     pub fn groups(&self) -> &[Group]
         ensures groups { result.now ≡ self.now }
         ensures legal { AreGroups self.now }
@@ -81,7 +81,7 @@ impl Tree {
         self.rows.iter().find(|row| row.number == g)
     }
 
-    /// Whether there is a group of this number.
+    /// Whether a group of this number exists.
     pub fn contains(&self, g: GroupId) -> bool
         ensures { result ≡ has_group self.now g }
     {
@@ -90,7 +90,7 @@ impl Tree {
         link.is_there
     }
 
-    /// The group with this path; None where no group has it.
+    /// The group with this path, or None if no group has it.
     pub fn find(&self, path: &[u8]) -> Option<GroupId>
         ensures { result ≡ number_at self.now path.now }
     {
@@ -102,7 +102,7 @@ impl Tree {
         None
     }
 
-    /// The path of a group that is there.
+    /// The path of an existing group.
     #[tactic(auto, unfolding(crate::specs::Groups::has_group, crate::specs::Groups::path_of))]
     pub fn path_of(&self, g: GroupId) -> &PathText
         requires { IsTrue (has_group self.now g) }
@@ -113,7 +113,7 @@ impl Tree {
         &self.row(g).unwrap().path
     }
 
-    /// The limit of a group that is there, in pages; None for no limit.
+    /// The limit of an existing group, in pages, or None if it has no limit.
     #[inline]
     pub fn limit(&self, g: GroupId) -> Option<u32>
         requires { IsTrue (has_group self.now g) }
@@ -124,7 +124,7 @@ impl Tree {
         link.limit
     }
 
-    /// Whether a group that is there is killed as a whole (memory.oom.group); the root never is.
+    /// Whether an existing group is killed as a whole (memory.oom.group); the root never is.
     #[tactic(auto, unfolding(crate::specs::Groups::has_group, crate::specs::Groups::is_oom_group))]
     pub fn oom_group(&self, g: GroupId) -> bool
         requires { IsTrue (has_group self.now g) }
@@ -134,7 +134,7 @@ impl Tree {
         self.row(g).unwrap().oom_group
     }
 
-    /// The group just above one that is there; None exactly for the root.
+    /// The parent of an existing group; None exactly for the root.
     #[inline]
     pub fn parent(&self, g: GroupId) -> Option<GroupId>
         requires { IsTrue (has_group self.now g) }
@@ -149,7 +149,7 @@ impl Tree {
         Some(link.parent)
     }
 
-    /// How many names the path of a group that is there has; 0 exactly for the root, 8 at most.
+    /// How many names the path of an existing group has: 0 exactly for the root, and at most 8.
     pub fn depth(&self, g: GroupId) -> usize
         requires { IsTrue (has_group self.now g) }
         ensures { result ≡ depth_at self.now g }
@@ -159,7 +159,7 @@ impl Tree {
         link.depth
     }
 
-    /// Whether the second group is the first or lies below it; both are there.
+    /// Whether the second of two existing groups is the first or lies below it.
     pub fn in_subtree(&self, g: GroupId, h: GroupId) -> bool
         requires above { IsTrue (has_group self.now g) }
         requires below { IsTrue (has_group self.now h) }
@@ -169,7 +169,7 @@ impl Tree {
         self.ancestors(h).any(|above| above == g)
     }
 
-    // Whether the second group is another one that lies below the first.
+    // Whether the second group lies below the first and is not the first.
     fn lies_below(&self, g: GroupId, h: GroupId) -> bool
         requires above { IsTrue (has_group self.now g) }
         requires below { IsTrue (has_group self.now h) }
@@ -178,7 +178,7 @@ impl Tree {
         h != g && self.in_subtree(g, h)
     }
 
-    /// Whether some other group lies below one that is there.
+    /// Whether another group lies below an existing group.
     pub fn has_child(&self, g: GroupId) -> bool
         requires { IsTrue (has_group self.now g) }
         ensures { result ≡ has_child self.now g }
@@ -191,8 +191,8 @@ impl Tree {
         false
     }
 
-    /// Why a group with this path cannot be made, the first cause that holds: BadName, TooDeep, Exists,
-    /// NoParent, TreeFull. None where it can.
+    /// Why a group with this path can't be made: the first cause that holds of BadName, TooDeep, Exists, NoParent and
+    /// TreeFull. None if it can be made.
     #[tactic(auto, unfolding(crate::specs::Groups::make_fault))]
     pub fn make_fault(&self, path: &[u8]) -> Option<Fault>
         ensures { result ≡ make_fault self.now path.now }
@@ -232,8 +232,8 @@ impl Tree {
         GroupId::of(number).unwrap()
     }
 
-    /// Makes a group with the least free number and no limit, whose flag is off. It is refused as
-    /// `make_fault` says, and the tree is then as before.
+    /// Makes a group with the least free number, no limit and the flag off. If `make_fault` gives a cause, the call
+    /// returns that refusal and the tree doesn't change.
     pub fn make(&mut self, path: &[u8]) -> Result<GroupId, Fault>
         ensures made { IfOk result (λ n. self.new ≡ with_group self.old n path.now) }
         ensures least { IfOk result (λ n. IsLeastFreeNumber self.old n) }
@@ -265,7 +265,7 @@ impl Tree {
         Ok(number)
     }
 
-    /// Gives a group that is there another limit, in pages; None for no limit.
+    /// Sets the limit of an existing group, in pages; None removes the limit.
     pub fn set_max(&mut self, g: GroupId, limit: Option<u32>)
         requires { IsTrue (has_group self.old g) }
         ensures { self.new ≡ with_limit self.old g limit }
@@ -274,7 +274,7 @@ impl Tree {
         self.links[g.number() as usize].limit = limit;
     }
 
-    /// Says whether a group that is there, other than the root, is killed as a whole.
+    /// Sets whether an existing group other than the root is killed as a whole.
     pub fn set_oom_group(&mut self, g: GroupId, oom_group: bool)
         requires there { IsTrue (has_group self.old g) }
         requires below_root { g ≢ 0 }
@@ -283,8 +283,7 @@ impl Tree {
         set_flag(self.rows.as_mut_slice(), g, oom_group);
     }
 
-    /// Takes out a group that is there, other than the root, with no group below it. Its number is
-    /// free then.
+    /// Removes an existing group that isn't the root and has no group below it. Its number is free afterwards.
     pub fn remove(&mut self, g: GroupId)
         requires there { IsTrue (has_group self.old g) }
         requires leaf { has_child self.old g ≡ false }
@@ -297,7 +296,7 @@ impl Tree {
     }
 }
 
-// The root, as a tree begins with it.
+// The root, as in a new tree.
 fn root_group() -> Group
     ensures { result ≡ the_root }
 {

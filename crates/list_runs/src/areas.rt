@@ -1,4 +1,4 @@
-//! Free areas: the lines that the README of `zone_blocks` shows, and worked rows.
+//! Free areas: the example in the README of `zone_blocks`, and worked rows.
 
 ghost use Rattle.std.specs.Prelude.{◌≡◌};
 
@@ -31,7 +31,7 @@ fn orders_end_at_ten(rt: HostRuntime) {
     zone_tells(&rt, Order::of(11).is_none());
 }
 
-// The empty areas of a zone of so many frames.
+// The empty areas of a zone of this many frames.
 fn empty_areas(rt: &(impl Abort + AllocGlobal), frames: u32) -> FreeAreas
     ensures { result.frames ≡ frames }
 {
@@ -49,16 +49,16 @@ fn sixteen_frames_with_five_in_use(rt: HostRuntime) {
     walks_blocks(&rt, areas.walk(), &[(0, 1), (1, 2), (3, 8)]);
 }
 
-// What is done with free areas, and what they have to answer: a block by its first frame and the exponent of its order.
+// A call on free areas, and the answer that it must give: a block by its first frame and the exponent of its order.
 #[derive(Clone, Copy)]
 enum AreaRow {
     PutBlock(u32, u32),
     TakeBlock(u32, u32),
-    // The bit of the pair of the first block of this order.
+    // The pair bit of the first pair of blocks of this order.
     PairBit(u32, Option<bool>),
-    // The first block of exactly this order stands at this frame.
+    // The first block of exactly this order begins at this frame.
     FirstBlock(u32, u32),
-    // No block of this order or above is there.
+    // There is no block of this order or above.
     NoBlockFrom(u32),
 }
 
@@ -68,20 +68,20 @@ fn block_at(rt: &impl Abort, at: u32, exponent: u32) -> Block {
     Block { at, order }
 }
 
-// Puts in a block, which has to be one that may be.
+// Inserts a block, which must be allowed.
 fn put_block(rt: &impl Abort, areas: &mut FreeAreas, block: Block) {
     assert!(rt; block.is_block_of(areas.frames()) && !areas.overlaps(block));
     areas.insert(block);
 }
 
-// Takes out a block, which has to be there.
+// Removes a block, which must be there.
 fn take_block(rt: &impl Abort, areas: &mut FreeAreas, block: Block) {
     let taken = block;
     assert!(rt; areas.contains(block));
     areas.remove(taken);
 }
 
-// Makes a row; a block that is put in or taken out has to be one that may.
+// Makes a row. A block that it inserts or removes must be one that may be.
 fn play_row(rt: &impl Abort, areas: &mut FreeAreas, row: AreaRow) {
     match row {
         AreaRow::PutBlock(at, exponent) => put_block(rt, areas, block_at(rt, at, exponent)),
@@ -101,7 +101,7 @@ fn play_row(rt: &impl Abort, areas: &mut FreeAreas, row: AreaRow) {
     }
 }
 
-// Sixteen frames, of which a single frame is taken, and then four.
+// Sixteen frames, of which first one and then four are taken.
 #[test]
 fn bits_of_pairs(rt: HostRuntime) {
     let mut areas = empty_areas(&rt, 16);

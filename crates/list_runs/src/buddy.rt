@@ -1,4 +1,5 @@
-//! The buddy system: the lines that its README shows, worked runs, and random calls beside the definition of maximal blocks.
+//! The buddy system: the example in its README, worked runs, and random calls compared with the definition of maximal
+//! blocks.
 
 ghost use Rattle.std.specs.Prelude.{◌≡◌, replicate, true};
 
@@ -25,7 +26,7 @@ fn a_block_is_taken_and_given_back(rt: HostRuntime) {
     }
 }
 
-// Takes a block of this order, which has to begin at this frame, or there has to be none.
+// Takes a block of this order. It must begin at this frame, or there must be none.
 fn takes_block(rt: &impl Abort, zone: &mut Buddy, order: Order, at: Option<u32>) {
     match zone.take(order) {
         Some(block) => assert!(rt; at == Some(block.at) && block.order == order),
@@ -33,14 +34,14 @@ fn takes_block(rt: &impl Abort, zone: &mut Buddy, order: Order, at: Option<u32>)
     }
 }
 
-// Gives the block, which has to be in use.
+// Frees the block, which must be in use.
 fn gives_block(rt: &impl Abort, zone: &mut Buddy, block: Block) {
     let given = block;
     assert!(rt; zone.is_in_use(block));
     zone.give(given);
 }
 
-// A zone of so many frames.
+// A zone of this many frames.
 fn zone_of(rt: &(impl Abort + AllocGlobal), frames: u32) -> Buddy
     ensures { result.free ≡ replicate frames true }
 {
@@ -61,7 +62,7 @@ fn sixteen_frames_one_by_one(rt: HostRuntime) {
     walks_blocks(&rt, zone.blocks(), &[(4, 0)]);
 }
 
-// Takes and gives back a whole zone of 65,536 frames by blocks of 1,024.
+// Takes a whole zone of 65,536 frames by blocks of 1,024, and frees it.
 fn take_and_give_all(rt: &impl Abort, zone: &mut Buddy) {
     let order = order_of(rt, 10);
     for index in 0..64_u32 {
@@ -81,7 +82,8 @@ fn the_greatest_zone_is_taken_and_given_back(rt: HostRuntime) {
     walks_blocks(&rt, zone.blocks(), &greatest_blocks());
 }
 
-// A new zone of so many frames has the maximal free blocks of a set that is all free, and so have areas that are set so.
+// A new zone of this many frames has the same free blocks as areas that are set to all frames free, by `set_from` and
+// by `set_all_free`.
 fn begins_with_all_blocks(rt: &(impl Abort + AllocGlobal), frames: u32) {
     let free = vec![in rt.alloc(); true; frames as usize].expect(rt, "memory");
     let mut plain = FreeAreas::new(rt.alloc(), frames).expect(rt, "memory");
@@ -150,7 +152,7 @@ fn mark_frames(free: &mut [bool], block: &Block, is_free: bool) {
     }
 }
 
-// Takes one frame, which the word picks, of the last free block.
+// Takes one frame of the last free block; the word picks it.
 fn take_one(zone: &mut Buddy, word: u32) -> Option<Block> {
     let order = Order::of(0)?;
     let last = zone.blocks().last()?;
@@ -159,7 +161,7 @@ fn take_one(zone: &mut Buddy, word: u32) -> Option<Block> {
     Some(Block { at, order })
 }
 
-// Takes a block, or one frame, which the word picks.
+// Takes a block or one frame; the word picks it.
 fn take_some(zone: &mut Buddy, word: u32) -> Option<Block> {
     match Order::of(word / 2 % 8) {
         Some(order) if order.exponent() < 7 => zone.take(order),
@@ -167,8 +169,7 @@ fn take_some(zone: &mut Buddy, word: u32) -> Option<Block> {
     }
 }
 
-// By a random word takes a block, or one frame, or gives a block of those held, and notes which
-// frames are free.
+// Takes a block or one frame, or frees a held block, as a random word picks. Notes which frames are free.
 fn take_or_give(
     rt: &impl Abort,
     zone: &mut Buddy,
@@ -189,7 +190,7 @@ fn take_or_give(
     }
 }
 
-// Which blocks of the next order are free, where `free` tells of those of one order.
+// Which blocks of the next order are free, if `free` has that of one order.
 fn joined_pairs(rt: &(impl Abort + AllocGlobal), free: &[bool]) -> Vec<bool> {
     let mut larger = Vec::new(rt.alloc());
     for pair in free.chunks_exact(2) {
@@ -199,7 +200,7 @@ fn joined_pairs(rt: &(impl Abort + AllocGlobal), free: &[bool]) -> Vec<bool> {
     larger
 }
 
-// Adds the free blocks of this exponent that lie in no free block of the next.
+// Appends the free blocks of this exponent that lie in no free block of the next.
 fn add_maximal(
     rt: &impl Abort,
     pairs: &mut Vec<(u32, u32)>,
@@ -217,8 +218,8 @@ fn add_maximal(
     }
 }
 
-// The maximal free blocks of a set of free frames, as pairs of order and address, by the definition
-// alone: a free block that lies in no free block of the next order.
+// The maximal free blocks of a set of free frames, as pairs of order and address. They are by the definition alone:
+// free blocks that lie in no free block of the next order.
 fn maximal_of(rt: &(impl Abort + AllocGlobal), frames: &[bool]) -> Vec<(u32, u32)> {
     let mut pairs = Vec::new(rt.alloc());
     let mut free = Vec::from_slice(rt.alloc(), frames).expect(rt, "memory");
@@ -231,8 +232,8 @@ fn maximal_of(rt: &(impl Abort + AllocGlobal), frames: &[bool]) -> Vec<(u32, u32
     pairs
 }
 
-// A call on the zone. Then its blocks are the maximal free blocks of the frames that are free, and so are the areas that
-// are set from these.
+// Makes a call on the zone. Then its blocks must be the maximal free blocks of its free frames, and so must those of
+// `set_from`.
 fn compare_blocks(
     rt: &(impl Abort + AllocGlobal),
     zone: &mut Buddy,
@@ -250,8 +251,8 @@ fn compare_blocks(
     walks_blocks(rt, plain.walk(), wanted.as_slice());
 }
 
-// So many calls on a zone of so many frames, each compared with the maximal free blocks of the
-// frames that are free, and with the areas that are set from them.
+// Makes this many calls on a zone of this many frames. After each it compares the zone and `set_from` with the
+// maximal free blocks of the free frames.
 fn take_and_give_often(
     rt: &(impl Abort + AllocGlobal),
     free: &mut [bool],

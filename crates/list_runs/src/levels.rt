@@ -4,7 +4,7 @@ use crate::walks::zone_tells;
 use bit_levels::levels::BitLevels;
 use std::process::Abort;
 
-// A bound of which no proof knows the number.
+// A bound whose value no proof knows.
 fn bound() -> usize {
     1_000_000
 }
@@ -15,13 +15,13 @@ fn put(set: &mut BitLevels, number: usize, value: bool) {
     }
 }
 
-// The greatest member below the number has to be this one.
+// The greatest member below the number must be this one.
 fn tells_last_below(rt: &impl Abort, set: &BitLevels, number: usize, member: Option<usize>) {
     assert!(rt; number <= set.len());
     zone_tells(rt, set.last_below(number) == member);
 }
 
-// Asks for the members below numbers of a set that has three.
+// Asks for the members below some numbers, in a set of three.
 fn ask_each_bound(rt: &impl Abort, set: &BitLevels) {
     let members = [
         (bound(), Some(700_000)),

@@ -1,5 +1,5 @@
-//! Runs of the zone's crates as tests: sets of numbers, free areas, the buddy system and the two lists of each group,
-//! worked by hand and beside plain accounts. Nothing but tests stands here.
+//! Tests of the zone's crates: sets of numbers, free areas, the buddy system and the two lists of each group. Some
+//! are worked by hand, others compared with plain accounts. This crate has nothing but tests.
 #![tactic(auto)]
 
 #[cfg(test)]

@@ -1,4 +1,5 @@
-//! The inactive and the active list: the lines that the README of `lru_lists` shows, and random calls beside plain vectors.
+//! The inactive and the active list: the example in the README of `lru_lists`, and random calls compared with plain
+//! vectors.
 
 ghost use Rattle.std.specs.Prelude.{◌≡◌, ◌<◌, IfOk, length};
 ghost use Rattle.lru_lists.specs.Lists.{StandsIn, ChangesOwn, AllStand};
@@ -35,7 +36,7 @@ fn unmarked(entry: Entry) -> Entry {
     }
 }
 
-// Takes the unit out of a vector, and tells how it stood there.
+// Removes the unit from a vector, and returns its entry.
 fn take_entry(entries: &mut Vec<Entry>, unit: u32) -> Option<Entry> {
     for index in 0..entries.len() {
         if entries[index].number == unit {
@@ -137,7 +138,7 @@ fn call_on_lists(
     Ok(())
 }
 
-// Walks one list from the oldest unit to the newest beside the plain vector.
+// Walks one list from the oldest unit to the newest, and compares it with the plain vector.
 fn walk_list(rt: &impl Abort, lru: &Lru, links: &Links, list: LruList, plain: &[Entry])
     requires { StandsIn links.now lru.now }
 {
@@ -150,7 +151,7 @@ fn walk_list(rt: &impl Abort, lru: &Lru, links: &Links, list: LruList, plain: &[
     zone_tells(rt, next.is_none());
 }
 
-// The unit after this one, which has to stand on this list.
+// The unit after this one, which must be on this list.
 fn newer_unit(rt: &impl Abort, lru: &Lru, links: &Links, list: LruList, unit: u32) -> Option<Entry>
     requires { StandsIn links.now lru.now }
 {
@@ -202,7 +203,7 @@ fn call_one_owner(
     Ok(())
 }
 
-// The empty lists of so many owners, over records of which none stands on a list.
+// The empty lists of this many owners, over records of frames on no list.
 fn empty_lists(alloc: Global, links: &Links) -> Result<Vec<Lru>, AllocError>
     requires { AreNowhere links.now }
     ensures { IfOk result (λ lists. AllStand links.now lists.items) }
@@ -214,7 +215,7 @@ fn empty_lists(alloc: Global, links: &Links) -> Result<Vec<Lru>, AllocError>
     Ok(lists)
 }
 
-// So many pairs of empty vectors.
+// This many pairs of empty vectors.
 fn empty_plain(alloc: Global) -> Result<Vec<PlainLists>, AllocError> {
     let mut plain = Vec::new(alloc);
     for _ in 0..OWNERS {
@@ -226,7 +227,7 @@ fn empty_plain(alloc: Global) -> Result<Vec<PlainLists>, AllocError> {
     Ok(plain)
 }
 
-// Makes so many calls, and compares all lists at every fiftieth.
+// Makes this many calls, and compares all lists after every fiftieth.
 fn call_owners(
     rt: &impl Abort,
     links: &mut Links,
@@ -275,7 +276,7 @@ fn a_second_touch_moves_a_unit(rt: HostRuntime) {
     zone_tells(&rt, lru.is_on(&links, 3) == Some(LruList::Inactive));
 }
 
-// Unit 3, which has to be on a list, is touched with this answer.
+// Touches unit 3, which must be on a list and get this answer.
 fn touches_unit_3(rt: &impl Abort, lru: &mut Lru, links: &mut Links, answer: Touched)
     requires { (3 < length links.old) × StandsIn links.old lru.old }
     ensures stands { StandsIn links.new lru.new }

@@ -1,4 +1,4 @@
--- Why the words of a command line ask for nothing.
+-- Why the words of a command line are refused.
 use Rattle.std.specs.Prelude.{⊤}
 use Rattle.load_options.specs.declared.fault.LineFault.{LineFault}
 use Rattle.load_options.specs.declared.fault.LineFault.TheVariants.{BadWords, NoMemory}

@@ -1,4 +1,4 @@
--- What the words of a command line ask for: what clap finds in them by the options of the program.
+-- What the words of a command line ask for, in terms of what clap finds for the options of the program.
 use Rattle.std.specs.Prelude.{◌≡◌, ℕ, Bool, true, false, List, [], ◌∷◌, ◌++◌, Option, Some, None, Result, Ok, Err, ⊤, pos}
 use Rattle.std.specs.Prelude.{codes, if◌then◌else◌, nat_lt, option_and_then, ◌||◌}
 use Rattle.std.specs.Option.{option_map_or}
@@ -17,7 +17,7 @@ use Rattle.load_options.specs.declared.task.Task.TheVariants.{Replay, Run}
 use Rattle.load_options.specs.declared.fault.LineFault.{LineFault}
 use Rattle.load_options.specs.declared.fault.LineFault.TheVariants.{BadWords, NoMemory}
 
--- an option whose value is a whole number from 1 to `most`, and its value if it is left out
+-- an option whose value is a whole number from 1 to `most`, with a default
 abbrev pub size_rule : List ℕ → ℕ → List ℕ → Rule
 size_rule name most default = record (new_rule name) {
   long = Some name;
@@ -26,7 +26,7 @@ size_rule name most default = record (new_rule name) {
   defaults = default ∷ [];
 }
 
--- an option without a value: it is given or it isn't
+-- an option without a value, given or not
 abbrev pub flag_rule : List ℕ → Rule
 flag_rule name = record (new_rule name) {
   long = Some name;
@@ -48,11 +48,11 @@ task_rules =
 abbrev pub command_shape : List ℕ → Shape
 command_shape name = record (new_shape name) { rules = task_rules }
 
--- `replay`, which has one option more
+-- `replay`, which has one more option
 abbrev pub replay_shape : Shape
 replay_shape = record (command_shape (codes "replay")) { rules = task_rules ++ flag_rule (codes "explain") ∷ [] }
 
--- the program: it wants one of its subcommands, and its own name is not among the words
+-- the program: it requires one of its subcommands, and its own name is not among the words
 abbrev pub program : App
 program = record {
   top = record (new_shape (codes "memcg")) {
@@ -63,15 +63,15 @@ program = record {
   subs = replay_shape ∷ command_shape (codes "run") ∷ [];
 }
 
--- the number that a text writes, in decimal digits, perhaps after a plus, if it is from 1 to `most`
+-- the number that a text writes, in decimal digits and perhaps after a plus, if it is from 1 to `most`
 abbrev pub number_in : ℕ → List ℕ → Option ℕ
 number_in most text = if is_unsigned_in 1 most text then Some (digits_value 10 (without_leading_plus text)) else None
 
--- a number, if it is one from 1 to `most`
+-- the number, if it is from 1 to `most`
 abbrev pub number_kept : ℕ → ℕ → Option ℕ
 number_kept most n = if nat_lt n 1 || nat_lt most n then None else Some n
 
--- the value of an option, given or left out
+-- the value of an option, given or by default
 abbrev pub size_in : List ℕ → ℕ → List Row → Option ℕ
 size_in name most found = option_and_then (number_in most) (one_of name found)
 
@@ -79,7 +79,7 @@ size_in name most found = option_and_then (number_in most) (one_of name found)
 abbrev pub is_given : List ℕ → List Row → Bool
 is_given name found = option_map_or (λ text. bytes_eq text (codes "true")) (one_of name found) false
 
--- what f makes of the value, if there is one: by this the lines of a `do` follow each other
+-- f of the value, if there is one: this chains the lines of a `do`
 infixl 10 ◌>>=◌
 abbrev ◌>>=◌ : {A B : Type 0} → Option A → (A → Option B) → Option B
 o >>= f = option_and_then f o
@@ -94,13 +94,13 @@ sizes_in found = do
   stock ← size_in (codes "stock") 64 found
   Some (record { frames = frames; cpus = cpus; batch = batch; high = high; stock = stock })
 
--- the task of this name, with the options that it alone has
+-- the task of this name, with the options of this task alone
 abbrev pub task_in : List ℕ → List Row → Option Task
 task_in name found =
     if bytes_eq name (codes "replay") then Some (Replay (is_given (codes "explain") found))
     else if bytes_eq name (codes "run") then Some Run else None
 
--- the options that are found under the name of a subcommand
+-- the options that are given under the name of a subcommand
 abbrev pub options_under : List ℕ → List Row → Option Options
 options_under name found = do
   task ← task_in name found
@@ -117,7 +117,7 @@ unfoldable pub options_of : List (List ℕ) → Option Options
 options_of words =
     if_none (fault_of program words) (option_and_then (λ p. options_under p.0 p.1) (subcommand_of program words))
 
--- what the words are answered: the options that they ask for; a fault, if they ask for none; or that memory ran out
+-- the answer to the words: the options that they ask for; a fault, if they ask for none; or that memory ran out
 abbrev pub TellsOptions : Option Options → Result Options LineFault → Type 0
 TellsOptions asked (Ok options) = asked ≡ Some options
 TellsOptions asked (Err (BadWords text)) = asked ≡ None

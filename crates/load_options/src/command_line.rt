@@ -1,4 +1,4 @@
-//! The words of the command line.
+//! Parses the words of the command line.
 
 ghost use Rattle.std.specs.Prelude.{◌≡◌, IfOk, codes, false, map, pos};
 ghost use Rattle.clap.specs.Words.{app_of, kind_of, rule_of};
@@ -21,7 +21,7 @@ use std::convert::AsStr;
 use std::rt::Env;
 use std::{env, io};
 
-// What the help says of the program, of its subcommands, and of their options.
+// The help texts of the program, its subcommands and their options.
 const MEMCG_HELP: &str = "Charges page frames to the groups of a tree";
 
 const REPLAY_HELP: &str = "Runs the lines of a script, one after the other";
@@ -43,8 +43,8 @@ const AUDIT_HELP: &str = "Reports at the end which pins were held, and the count
 
 const EXPLAIN_HELP: &str = "Explains after an answer why groups were killed for it";
 
-/// The words of the command line that follow the program's name. A word that isn't UTF-8 is a fault of the
-/// words. It has no contract: no clause has a name for the words that a process was started with.
+/// The words of the command line after the program's name. A word that isn't UTF-8 is a fault of the words. It has no
+/// contract: no clause can name the words with which a process was started.
 pub fn words<R: Env + AllocGlobal>(rt: &R) -> Result<Vec<String>, LineFault> {
     match env::args(rt) {
         Ok(words) => Ok(words.skip(1).collect(rt.alloc())?),
@@ -58,11 +58,12 @@ pub fn words<R: Env + AllocGlobal>(rt: &R) -> Result<Vec<String>, LineFault> {
     }
 }
 
-/// Reads the words that follow the program's name: `replay` or `run`, and then any of `--frames`, `--cpus`,
-/// `--batch`, `--high`, `--stock` and `--audit`, and after `replay` `--explain`, each at most once. A size is a
-/// whole number in its own range: 1 to 1,048,576 frames, 1 to 64 CPUs, batch 1 to 64, high 1 to 256, stock 1 to 64.
-/// `Config::is_valid` asks more: high is at least batch. A size that is left out is 16, 2, 4, 8, 4 in turn.
-/// Anything else is a fault of the words, a request for help too.
+/// Parses the words after the program's name. They are `replay` or `run`, then any of `--frames`, `--cpus`,
+/// `--batch`, `--high`, `--stock` and `--audit`, and after `replay` also `--explain`, each at most once. Anything
+/// else is a fault of the words, even a request for help.
+///
+/// A size is a whole number in its own range: 1 to 1,048,576 frames, 1 to 64 CPUs, batch 1 to 64, high 1 to 256,
+/// stock 1 to 64. `Config::is_valid` requires more: high is at least batch. The defaults are 16, 2, 4, 8 and 4.
 pub fn options<S: AsStr>(alloc: Global, words: &[S]) -> Result<Options, LineFault>
     ensures asked { TellsOptions (options_of (map S.text words.now)) result }
     ensures in_range { IfOk result (λ o. HasSizesInRange o.sizes) }
@@ -74,8 +75,8 @@ pub fn options<S: AsStr>(alloc: Global, words: &[S]) -> Result<Options, LineFaul
     };
     match read_options(&found) {
         Some(options) => Ok(options),
-        // Clap refuses words without a subcommand of the program and each value out of its range, and every size has a
-        // default; but of what it found it promises neither, so what can't happen is answered as if it did.
+        // This can't happen: clap refuses words without a subcommand and values out of range, and every size has a
+        // default. But its contract says neither, so the case gets an answer.
         None => {
             let text = "there is no subcommand, or an option has no value in its range";
             let error = command
@@ -86,7 +87,7 @@ pub fn options<S: AsStr>(alloc: Global, words: &[S]) -> Result<Options, LineFaul
     }
 }
 
-// The fault that clap's error is to whoever gave the words: its text, or that memory ran out.
+// The fault for an error of clap: its text, or that memory ran out.
 fn fault_of(alloc: Global, error: &Error) -> LineFault
     ensures { kind_of error.now ≡ ErrorKind.OutOfMemory → IsNoMemory result }
 {
@@ -112,7 +113,7 @@ fn memcg<'a>(alloc: Global) -> Result<Command<'a>, AllocError>
         .subcommand(subcommand(alloc, "run", RUN_HELP)?)
 }
 
-// `replay`, which has one option more.
+// `replay`, which has one more option.
 fn replay_command<'a>(alloc: Global) -> Result<Command<'a>, AllocError>
     ensures shape { IfOk result (λ command. (app_of command).top ≡ replay_shape) }
     ensures local { IfOk result (λ command. (fields_of command).has_globals ≡ false) }
@@ -135,7 +136,7 @@ fn subcommand<'a>(alloc: Global, name: &'a str, about: &'a str) -> Result<Comman
         .arg(audit_option(alloc))
 }
 
-// Whether the end is reported.
+// The option that asks for a report of the end.
 fn audit_option<'a>(alloc: Global) -> Arg<'a>
     ensures rule { rule_of result ≡ flag_rule (codes "audit") }
     ensures local { result.global ≡ false }
@@ -146,7 +147,7 @@ fn audit_option<'a>(alloc: Global) -> Arg<'a>
         .action(ArgAction::SetTrue)
 }
 
-// Whether kills are explained.
+// The option that asks for an explanation of each kill.
 fn explain_option<'a>(alloc: Global) -> Arg<'a>
     ensures rule { rule_of result ≡ flag_rule (codes "explain") }
     ensures local { result.global ≡ false }
@@ -157,14 +158,14 @@ fn explain_option<'a>(alloc: Global) -> Arg<'a>
         .action(ArgAction::SetTrue)
 }
 
-// A whole number from 1 to `most`.
+// A parser of whole numbers from 1 to `most`.
 fn whole_number<'a>(most: u32) -> ValueParser<'a>
     ensures { result ≡ Signed (pos 1) (pos most) }
 {
     value_parser!(u32).range(1..=i64::from(most))
 }
 
-// A number option from 1 to `most`.
+// An option whose value is a whole number from 1 to `most`.
 fn size_option<'a>(
     alloc: Global,
     name: &'a str,

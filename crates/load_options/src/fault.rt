@@ -1,13 +1,13 @@
-//! Why the words of a command line ask for nothing.
+//! Why the words of a command line are refused.
 
 use std::alloc::AllocError;
 use thiserror::Error;
 
-/// Why the words of the command line ask for nothing.
+/// Why the words of a command line are refused.
 #[derive(Debug, Drop, Error)]
 pub enum LineFault {
-    /// The words aren't those of the program, or ask for help. It holds the text for the user, each line
-    /// with its line feed.
+    /// The words aren't those of the program, or ask for help. Holds the text for the user, each line with its line
+    /// feed.
     #[error("{0}")]
     BadWords(String),
     /// Memory ran out.

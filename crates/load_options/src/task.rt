@@ -1,4 +1,4 @@
-//! What the words of the command line ask for, read from what clap found in them.
+//! What the words of the command line ask for, read from clap's matches.
 
 ghost use Rattle.std.specs.Prelude.{◌≡◌, ◌≤◌, IfSome, option_and_then};
 ghost use Rattle.clap.specs.Words.{found_of, rows_of, subcommand_rows_of};
@@ -8,7 +8,7 @@ ghost use Rattle.load_options.specs.Words.{is_given, number_kept, options_under,
 use clap::ArgMatches;
 use zone_sizes::config::Config;
 
-// The greatest value that the option of each size takes.
+// The greatest value of each size's option.
 pub(crate) const MOST_FRAMES: u32 = 1_048_576;
 
 pub(crate) const MOST_CPUS: u32 = 64;
@@ -19,10 +19,10 @@ pub(crate) const MOST_HIGH: u32 = 256;
 
 pub(crate) const MOST_STOCK: u32 = 64;
 
-/// What the program does with the script, with the options that this task alone has.
+/// What the program does with the script, with the options of this task alone.
 #[derive(Clone, Copy, Debug, PartialEq, Eq)]
 pub enum Task {
-    /// The lines run one after the other.
+    /// The lines run one after another.
     Replay {
         /// Whether each kill is explained after the answer of its command.
         is_explained: bool,
@@ -34,11 +34,11 @@ pub enum Task {
 /// What the words of the command line ask for.
 #[derive(Clone, Copy, Debug, PartialEq, Eq)]
 pub struct Options {
-    /// What is done with the script.
+    /// What to do with the script.
     pub task: Task,
-    /// The sizes to boot with.
+    /// The sizes of the boot.
     pub sizes: Config,
-    /// Whether the end is reported: the pins that are still held, and the counts.
+    /// Whether to report the end: the pins that are still held, and the counts.
     pub is_audited: bool,
 }
 
@@ -102,7 +102,7 @@ fn size(given: &ArgMatches<'_>, name: &str, most: u32) -> Option<u32>
     in_range(size, most)
 }
 
-// The number, if it is one from 1 to `most`.
+// The number, if it is from 1 to `most`.
 fn in_range(number: u32, most: u32) -> Option<u32>
     ensures kept { result ≡ number_kept most number }
     ensures in_range { IfSome result (λ number. (1 ≤ number) × (number ≤ most)) }

@@ -13,13 +13,14 @@ use Rattle.log_check.specs.declared.end.LogEnd.TheVariants.{Legal, NotLegal, Bad
 abbrev pub zone_in : WholeLog → Zone
 zone_in log = record { frames = log.frames; cpus = log.cpus }
 
--- the text is that of a log whose run is legal
+-- the text is that of a log with a legal run
 pub record IsLegalLog (text : List ℕ) : Type 0 where
   pub log : WholeLog
   pub is : IsLog text log
   pub legal : IsLegalRun (zone_in log) log.run
 
--- the text is that of a legal run of so many steps, and the promise holds at each beginning of it that leaves the lock free
+-- the text is that of a legal run of this many steps, and each beginning of it that leaves the lock free keeps the
+-- promise
 pub record KeepsPromise (text : List ℕ) (steps : ℕ) : Type 0 where
   pub log : WholeLog
   pub is : IsLog text log
@@ -27,7 +28,8 @@ pub record KeepsPromise (text : List ℕ) (steps : ℕ) : Type 0 where
   pub legal : IsLegalRun (zone_in log) log.run
   pub promise : AlwaysKeepsPromise (zone_in log) log.run
 
--- the first lines of the text are a log, and their last step is the first of it that is not allowed; it may be answered so
+-- the first `line` lines of the text are a log; its last step is its first whose answer isn't allowed, and `expected`
+-- is allowed there
 pub record BreaksRules (text : List ℕ) (line step : ℕ) (expected : Answer) : Type 0 where
   pub front : List ℕ
   pub rest : List ℕ
@@ -38,7 +40,7 @@ pub record BreaksRules (text : List ℕ) (line step : ℕ) (expected : Answer) :
   pub step_is : step ≡ length log.run
   pub first : IsFirstIllegal (zone_in log) log.run (step - 1) expected
 
--- what a check says is so
+-- what a check says of the text is true
 abbrev pub IsEnd : List ℕ → LogEnd → Type 0
 IsEnd text (Legal steps) = KeepsPromise text steps
 IsEnd text (NotLegal line step expected) = BreaksRules text line step expected

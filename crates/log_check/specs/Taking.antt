@@ -22,7 +22,7 @@ IsInRange kinds.Skipped = ⊤
 IsInRange (kinds.Zone frames cpus) = IsZone frames cpus
 IsInRange (kinds.Step step answer) = ⊤
 
--- these lines are a log whose run is legal, and leads to what the checker shows
+-- these lines are a log with a legal run, and the checker shows the state that the run leads to
 pub record LeadsTo (lines : List LogLine) (s : CoreState) : Type 0 where
   pub log : WholeLog
   pub order : SayInOrder lines log
@@ -30,60 +30,60 @@ pub record LeadsTo (lines : List LogLine) (s : CoreState) : Type 0 where
   pub state : state_in s ≡ state_of (zone_in log) log.run
   pub count : s.steps ≡ length log.run
 
--- the checker took the steps of these lines; there is none before the sizes of the zone
+-- the checker has taken the steps of these lines; without a checker, all of them are empty or comments
 abbrev pub HasChecked : Option CoreState → List LogLine → Type 0
 HasChecked None lines = filter says_something lines ≡ []
 HasChecked (Some s) lines = LeadsTo lines s
 
--- the steps that were taken are counted
+-- the checker has taken this many steps
 abbrev pub StepsAre : Option CoreState → ℕ → Type 0
 StepsAre None steps = steps ≡ 0
 StepsAre (Some s) steps = s.steps ≡ steps
 
--- so by the progress
+-- the progress has the number of steps that its checker took
 abbrev pub CountsSteps : Progress → Type 0
 CountsSteps p = StepsAre p.checker p.steps
 
--- the last of these lines is a step that is not allowed as it was answered, but may be answered so; all before it are
+-- the last of these lines is the first step whose answer isn't allowed; `expected` is allowed there
 pub record EndsIllegally (lines : List LogLine) (steps : ℕ) (expected : Answer) : Type 0 where
   pub log : WholeLog
   pub order : SayInOrder lines log
   pub count : steps ≡ length log.run
   pub first : IsFirstIllegal (zone_in log) log.run (steps - 1) expected
 
--- what came of the next line is so
+-- what is said of the next line is true
 abbrev pub Takes : List LogLine → LogLine → Progress → Taken → Type 0
 Takes lines line now GoesOn = HasChecked now.checker (lines ++ line ∷ [])
 Takes lines line now (NotLegal expected) = EndsIllegally (lines ++ line ∷ []) now.steps expected
 Takes lines line now Bad = ¬ MayBegin (lines ++ line ∷ [])
 
--- the steps that were taken are counted, and so are the lines; one more can be
+-- the step count is the checker's, and at most the number of lines; one more line can be counted
 pub record Fits (r : LogReader) : Type 0 where
   pub counts : CountsSteps r.progress
   pub few : r.progress.steps ≤ r.lines
   pub room : r.lines + 1 < 2 ^ 64
 
--- the text is so many lines, which say this
+-- the text is this many lines, with these contents
 pub record AreWholeLines (text : List ℕ) (count : ℕ) (lines : List LogLine) : Type 0 where
   pub texts : List (List ℕ)
   pub cut : AreLinesOf text texts
   pub says : AllZip IsLineText texts lines
   pub count_is : count ≡ length texts
 
--- the text is so many lines, and their steps were taken
+-- the text is this many lines, and the checker has taken their steps
 pub record HasTaken (text : List ℕ) (count : ℕ) (checker : Option CoreState) : Type 0 where
   pub lines : List LogLine
   pub are : AreWholeLines text count lines
   pub checked : HasChecked checker lines
 
--- the text was read: whole lines, and then a beginning of the next one
+-- the text was read: whole lines, and then the beginning of the next one
 pub record HasRead (text : List ℕ) (r : LogReader) : Type 0 where
   pub front : List ℕ
   pub parts : text ≡ front ++ r.line.items
   pub no_feed : All (λ b. b ≢ 10) r.line.items
   pub taken : HasTaken front r.lines r.progress.checker
 
--- the text was read, or it is known what each text is that begins so
+-- the text was read; or the answer is known for every text that begins with it
 abbrev pub Reads : List ℕ → LogReader → Option LogEnd → Type 0
 Reads text r None = HasRead text r
 Reads text r (Some end) = (rest : List ℕ) → IsEnd (text ++ rest) end

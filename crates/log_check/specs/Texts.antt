@@ -1,15 +1,15 @@
--- What a check says, as text.
+-- The result of a check as text.
 use Rattle.std.specs.Prelude.{ℕ, List, ◌++◌, codes, decimal}
 use Rattle.step_rules.specs.declared.step.Answer.{Answer}
 use Rattle.log_lines.specs.Words.{answer_words, spaced}
 use Rattle.log_check.specs.declared.end.LogEnd.{LogEnd}
 use Rattle.log_check.specs.declared.end.LogEnd.TheVariants.{Legal, NotLegal, BadLine}
 
--- where a step is
+-- the line and the number of a step
 abbrev pub place_text : (line step : ℕ) → List ℕ
 place_text line step = codes "line " ++ decimal line ++ codes ": step " ++ decimal step
 
--- what was due there
+-- the answer that is allowed there
 abbrev pub due_text : Answer → List ℕ
 due_text expected = codes " is not legal:" ++ spaced (answer_words expected) ++ codes " was due\n"
 

@@ -1,4 +1,4 @@
-//! What a check says of a log, and why it may say nothing.
+//! What a check says of a log, and why it may fail.
 
 use step_rules::step::Answer;
 use thiserror::Error;
@@ -11,26 +11,26 @@ pub enum LogEnd {
         /// How many steps it has.
         steps: u64,
     },
-    /// A step is not allowed.
+    /// The rules don't allow the answer of some step.
     NotLegal {
         /// The line of the first such step.
         line: u64,
         /// Its number among the steps.
         step: u64,
-        /// An answer that it may get. `Illegal` if it may not be made at all.
+        /// An answer that the rules allow there: `Illegal` if the step may not be made at all.
         expected: Answer,
     },
-    /// The text is not that of a log.
+    /// The text is not the text of a log.
     BadLine {
-        /// The first line with which it stops being one.
+        /// The first line that no log continues with.
         line: u64,
     },
 }
 
-/// Why a check says nothing of a log.
+/// Why a check fails.
 #[derive(Clone, Copy, Debug, PartialEq, Eq, Error)]
 pub enum LogFault {
-    /// The reader failed, whatever its error says.
+    /// The reader failed, with any error.
     #[error("input failed")]
     Input,
     /// Memory ran out.

@@ -1,5 +1,5 @@
-//! The check of a log: whether its text is that of a legal run. It is read piece by piece, and each line is judged as
-//! soon as it ends.
+//! The check of a log: whether its text is that of a legal run. The text is read piece by piece, and each line is
+//! checked as soon as it ends.
 #![tactic(auto)]
 
 pub mod end;

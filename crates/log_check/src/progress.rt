@@ -13,21 +13,21 @@ use std::alloc::Global;
 use step_rules::step::{Answer, Step};
 use zone_sizes::config::Config;
 
-/// The checker, once the sizes of the zone are known, and how many steps it took.
+/// The checker, once the sizes of the zone are known, and how many steps it has taken.
 #[derive(Drop)]
 pub(crate) struct Progress {
     pub(crate) checker: Option<Checker>,
     pub(crate) steps: u64,
 }
 
-/// What came of a line.
+/// The result of a line.
 #[derive(Clone, Copy)]
 pub(crate) enum Taken {
     /// The log goes on.
     GoesOn,
-    /// The line is a step that is not allowed as it was answered, but may be answered so.
+    /// The line is a step whose answer the rules don't allow; they allow this one.
     NotLegal(Answer),
-    /// No log goes on with this line.
+    /// No log continues with this line.
     Bad,
 }
 

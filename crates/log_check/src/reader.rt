@@ -1,4 +1,4 @@
-//! The bytes of a log, one after the other.
+//! The bytes of a log, one after another.
 
 ghost use Rattle.std.specs.Prelude.{ℕ, ◌+◌, ◌^◌, ◌<◌, [], ◌∷◌, ◌++◌, IfOk, List};
 ghost use Rattle.log_check.specs.Taking.{Fits, HasRead, Reads};
@@ -9,10 +9,10 @@ use crate::progress::{Progress, Taken};
 use log_lines::parse_line;
 use std::alloc::Global;
 
-// The most bytes that a line has, its line feed not counted.
+// The most bytes of a line, without its line feed.
 const MOST_LINE: usize = 1_024;
 
-/// A log that is read: the line that has not ended, how many have, and what they led to.
+/// A log as far as it was read: the unfinished line, the number of finished ones, and what these led to.
 #[derive(Drop)]
 pub(crate) struct LogReader {
     pub(crate) line: Vec<u8>,
@@ -21,7 +21,7 @@ pub(crate) struct LogReader {
 }
 
 impl LogReader {
-    /// A log of which nothing is read.
+    /// A log of which nothing was read yet.
     pub(crate) fn new(alloc: Global) -> LogReader
         ensures read { HasRead [] result }
         ensures fits { Fits result }
@@ -36,7 +36,7 @@ impl LogReader {
         }
     }
 
-    /// Takes the next bytes, up to where it is known what the log is.
+    /// Takes the next bytes, up to the point where the answer is known.
     pub(crate) fn take_bytes(
         &mut self,
         alloc: Global,
@@ -56,7 +56,7 @@ impl LogReader {
         Ok(None)
     }
 
-    /// What the log is, now that its bytes have ended.
+    /// The answer for the log if no more bytes follow.
     pub(crate) fn end(&self) -> LogEnd
         requires fits { Fits self.now }
         ensures { (before : List ℕ) → HasRead before self.now → IsEnd before result }

@@ -1,4 +1,4 @@
-//! A log is read piece by piece.
+//! Reads a log piece by piece.
 
 ghost use Rattle.std.specs.Prelude.{◌↔◌, IfOk, IfSome, IsTrue};
 ghost use Rattle.log_check.specs.Ends.{IsEnd, IsLegalLog, says_legal};
@@ -8,15 +8,16 @@ use crate::reader::LogReader;
 use std::alloc::Global;
 use std::io::{ErrorKind, Read};
 
-// The most bytes that are read at once.
+// The most bytes of one read.
 const PIECE: usize = 4_096;
 
-/// Checks a log, whoever wrote it: whether it is a legal run. It is read up to where that is known, so to the end if it is
-/// legal. No more of the text than a line of 1,024 bytes is kept, and the number of lines has no limit.
+/// Checks whether a log, whoever wrote it, is a legal run. It reads up to the point where the answer is known: to the
+/// end if the log is legal. It keeps no more of the text than a line of 1,024 bytes, so the number of lines has no
+/// limit.
 ///
-/// A read that was interrupted is made again, 2^64 - 1 times in all at most, so that the call returns even if each is.
-/// Any other error of the reader is `Input`, also one that says that memory ran out: `NoMemory` comes only if there is
-/// no memory here.
+/// An interrupted read is repeated, at most 2^64 - 1 times in all, so that the call returns even if each one is
+/// interrupted. Any other error of the reader is `Input`, even if it says that memory ran out. `NoMemory` means that
+/// an allocation failed here.
 pub fn check_log<I: Read>(alloc: Global, input: &mut I) -> Result<LogEnd, LogFault>
     ensures end { IfOk result (λ end. IfSome (I.remaining input.old) (λ text. IsEnd text end)) }
     ensures exact { IfOk result (λ end. IfSome (I.remaining input.old) (λ text. IsTrue (says_legal end) ↔ IsLegalLog text)) }

@@ -1,4 +1,4 @@
-//! What a check says, as text.
+//! The result of a check as text.
 
 ghost use Rattle.std.specs.Prelude.{◌≡◌, ◌++◌, IfOk, decimal};
 ghost use Rattle.log_check.specs.declared.end.LogEnd.TheVariants.{BadLine, Legal, NotLegal};
@@ -10,7 +10,7 @@ use log_lines::write_answer;
 use std::alloc::AllocError;
 use step_rules::step::Answer;
 
-/// Adds the line that says what a log is. It fails only if memory runs out.
+/// Appends the line that says what a log is. It fails only if memory runs out.
 pub fn write_end(end: &LogEnd, text: &mut Vec<u8>) -> Result<(), AllocError>
     ensures { IfOk result (λ _. text.new.items ≡ text.old.items ++ end_text end.now) }
 {
@@ -25,7 +25,7 @@ pub fn write_end(end: &LogEnd, text: &mut Vec<u8>) -> Result<(), AllocError>
     }
 }
 
-// Adds a number in decimal.
+// Appends a number in decimal.
 fn push_number(number: u64, text: &mut Vec<u8>) -> Result<(), AllocError>
     ensures { IfOk result (λ _. text.new.items ≡ text.old.items ++ decimal number) }
 {
@@ -33,7 +33,7 @@ fn push_number(number: u64, text: &mut Vec<u8>) -> Result<(), AllocError>
     text.extend_from_slice(buffer.format(number).as_bytes())
 }
 
-// Adds the line of a legal log.
+// Appends the line for a legal log.
 fn write_legal(steps: u64, text: &mut Vec<u8>) -> Result<(), AllocError>
     ensures { IfOk result (λ _. text.new.items ≡ text.old.items ++ end_text (Legal steps)) }
 {
@@ -42,7 +42,7 @@ fn write_legal(steps: u64, text: &mut Vec<u8>) -> Result<(), AllocError>
     text.extend_from_slice(b" steps, the promise holds\n")
 }
 
-// Adds the line of a log with a step that is not allowed.
+// Appends the line for a log with a step that isn't allowed.
 fn write_not_legal(
     line: u64,
     step: u64,
@@ -55,7 +55,7 @@ fn write_not_legal(
     write_due(expected, text)
 }
 
-// Adds where a step is.
+// Appends the line and the number of a step.
 fn write_place(line: u64, step: u64, text: &mut Vec<u8>) -> Result<(), AllocError>
     ensures { IfOk result (λ _. text.new.items ≡ text.old.items ++ place_text line step) }
 {
@@ -65,7 +65,7 @@ fn write_place(line: u64, step: u64, text: &mut Vec<u8>) -> Result<(), AllocErro
     push_number(step, text)
 }
 
-// Adds what was due there.
+// Appends the answer that is allowed there.
 fn write_due(expected: &Answer, text: &mut Vec<u8>) -> Result<(), AllocError>
     ensures { IfOk result (λ _. text.new.items ≡ text.old.items ++ due_text expected.now) }
 {
@@ -74,7 +74,7 @@ fn write_due(expected: &Answer, text: &mut Vec<u8>) -> Result<(), AllocError>
     text.extend_from_slice(b" was due\n")
 }
 
-// Adds the line of a text that is no log.
+// Appends the line for a text that isn't a log.
 fn write_bad_line(line: u64, text: &mut Vec<u8>) -> Result<(), AllocError>
     ensures { IfOk result (λ _. text.new.items ≡ text.old.items ++ end_text (BadLine line)) }
 {

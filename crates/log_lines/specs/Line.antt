@@ -1,4 +1,4 @@
--- The lines of a log: the zone's sizes, and then a step and its answer each.
+-- The lines of a log: the zone's sizes, then one line for each step and its answer.
 use Rattle.std.specs.Prelude.{◌≡◌, ℕ, ◌≤◌, ◌==◌, Bool, true, IsTrue, List, [], ◌∷◌, ◌++◌, codes, decimal, length}
 use Rattle.std.specs.List.{AllByRecursion}
 use Rattle.step_rules.specs.declared.step.Step.{Step}
@@ -7,11 +7,11 @@ use Rattle.log_lines.specs.declared.line.LogLine.{LogLine}
 use Rattle.log_lines.specs.declared.line.LogLine.TheVariants as kinds
 use Rattle.log_lines.specs.Words.{Word, Fixed, Fits, number, action_words, answer_words, spaced}
 
--- how many bytes a line may have, its line feed not counted
+-- the most bytes of a line, without its line feed
 abbrev pub longest_line : ℕ
 longest_line = 1024
 
--- the words behind the seat: an action, `>`, and the answer
+-- the words after the seat: an action, `>`, and the answer
 abbrev pub step_words : Step → Answer → List Word
 step_words step answer = action_words step.action ++ Fixed (codes ">") ∷ answer_words answer
 
@@ -23,11 +23,11 @@ entry_text step answer = decimal step.seat ++ spaced (step_words step answer)
 abbrev pub zone_text : ℕ → ℕ → List ℕ
 zone_text frames cpus = codes "zone" ++ spaced (number frames ∷ number cpus ∷ [])
 
--- the numbers of a step and its answer are in their ranges, and its path is one that a line can hold
+-- the numbers of a step and its answer are in their ranges, and a line can contain its path
 abbrev pub IsEntry : Step → Answer → Type 0
 IsEntry step answer = AllByRecursion Fits (number step.seat ∷ step_words step answer)
 
--- the sizes of a zone
+-- the sizes of a zone are in their ranges
 pub record IsZone (frames cpus : ℕ) : Type 0 where
   pub some_frames : 1 ≤ frames
   pub most_frames : frames ≤ 1048576

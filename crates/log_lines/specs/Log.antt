@@ -7,19 +7,19 @@ use Rattle.log_lines.specs.declared.line.LogLine.{LogLine}
 use Rattle.log_lines.specs.declared.line.LogLine.TheVariants as kinds
 use Rattle.log_lines.specs.Line.{IsLineText}
 
--- whether the line says something
+-- the line is neither empty nor a comment
 abbrev pub says_something : LogLine → Bool
 says_something kinds.Skipped = false
 says_something (kinds.Zone frames cpus) = true
 says_something (kinds.Step step answer) = true
 
--- what a log says: the sizes of the zone, and the steps with their answers
+-- the contents of a log: the sizes of the zone, and the steps with their answers
 pub record WholeLog : Type 0 where
   pub frames : ℕ
   pub cpus : ℕ
   pub run : List (Step × Answer)
 
--- the lines are the zone's sizes and then the steps, with skipped lines anywhere
+-- the lines are the zone's sizes, then the steps, with empty lines and comments anywhere
 abbrev pub SayInOrder : List LogLine → WholeLog → Type 0
 SayInOrder lines log = filter says_something lines ≡ kinds.Zone log.frames log.cpus ∷ map (λ e. kinds.Step e.0 e.1) log.run
 
@@ -36,18 +36,18 @@ pub record IsLog (text : List ℕ) (log : WholeLog) : Type 0 where
   pub says : AllZip IsLineText texts lines
   pub in_order : SayInOrder lines log
 
--- lines with which a log may begin
+-- a log may begin with these lines
 abbrev pub MayBegin : List LogLine → Type 0
 MayBegin lines = (filter says_something lines ≡ []) ⊎ ((log : WholeLog) × SayInOrder lines log)
 
--- nothing that follows these lines makes a log of them: no line was the zone's sizes, and the text ends; or the next line has
--- no line feed, is that of no line, or stands where it may not
+-- The text can't continue as a log after these lines. If nothing follows, none of them gave the zone's sizes.
+-- Otherwise the next line has no line feed, is the text of no line, or may not come here.
 pub record EndsBadly (lines : List LogLine) (rest : List ℕ) : Type 0 where
   pub no_sizes : rest ≡ [] → filter says_something lines ≡ []
   pub no_line : (next more : List ℕ) (line : LogLine) → All (λ b. b ≢ 10) next → rest ≡ next ++ 10 ∷ more → IsLineText next line
       → ¬ MayBegin (lines ++ line ∷ [])
 
--- a log may begin with the lines before the n-th, counted from 1, but not with that one
+-- a log may begin with the lines before the n-th, counted from 1, but not with the n-th added
 pub record IsFirstBadLine (text : List ℕ) (n : ℕ) : Type 0 where
   pub front : List ℕ
   pub rest : List ℕ

@@ -1,4 +1,4 @@
--- The names of actions and answers, each with what follows it.
+-- The names of actions and answers, each with the kind of its arguments.
 use Rattle.std.specs.Prelude.{ℕ, List, [], ◌∷◌, Option, bytes_eq, codes}
 use Rattle.std.specs.Map.{lookup}
 use Rattle.step_rules.specs.declared.step.Action.{Action}

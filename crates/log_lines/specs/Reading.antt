@@ -1,4 +1,4 @@
--- How a line is read: functions on the list of its words.
+-- How a line is parsed: functions on the list of its words.
 use Rattle.std.specs.Prelude.{◌≡◌, ℕ, ◌^◌, ◌&&◌, ◌==◌, nat_le, nat_lt, Bool, true, false, List, [], ◌∷◌, Option, Some, None, bytes_eq, codes, decimal, length}
 use Rattle.std.specs.Prelude.{if◌then◌else◌}
 use Rattle.std.specs.Borrow.{Bor}
@@ -21,17 +21,17 @@ use Rattle.log_lines.specs.Words.{is_path}
 use Rattle.log_lines.specs.Line.{is_skipped, longest_line}
 
 infixl 10 ◌>>=◌
--- a step that is taken if the one before gave something
+-- continues with f if there is a value
 abbrev pub ◌>>=◌ : {A B : Type 0} → Option A → (A → Option B) → Option B
 None >>= f = None
 (Some x) >>= f = f x
 
--- what a function returned, seen by view, is what reading gives
+-- the result of a function, seen through view, is that of parsing
 abbrev pub Gives : {X Y : Type 0} → (X → Y) → Option X → Option Y → Type 0
 Gives view (Some x) read = read ≡ Some (view x)
 Gives view None read = read ≡ None
 
--- the words of a text: what stands between its spaces
+-- the words of a text: what its spaces separate
 abbrev pub words_of : List ℕ → List (List ℕ)
 words_of text = slice_split (λ b. b == 32) text
 
@@ -40,7 +40,7 @@ abbrev pub words_left : Option (Bor (List ℕ)) → List (List ℕ)
 words_left None = []
 words_left (Some text) = words_of text.now
 
--- reading takes words from the front, and gives a value and the words after them
+-- a parser takes words from the front, and gives a value and the words after it
 abbrev pub Reads : Type 0 → Type 0
 Reads A = List (List ℕ) → Option (A × List (List ℕ))
 
@@ -49,7 +49,7 @@ abbrev pub first_of : Reads (List ℕ)
 first_of [] = None
 first_of (word ∷ words) = Some (word, words)
 
--- n where the test passes
+-- x if the test passes
 abbrev pub only_if : {A : Type 0} → Bool → A → Option A
 only_if test x = if test then Some x else None
 
@@ -103,7 +103,7 @@ flag_at words = first_of words >>= λ word. flag_of word.0 >>= λ f. Some (f, wo
 unfoldable pub path_at : Reads (List ℕ)
 path_at words = first_of words >>= λ word. only_if (is_path word.0) word.0 >>= λ path. Some (path, word.1)
 
--- what follows the name of an action
+-- the action of this name, with the arguments that follow
 unfoldable pub arguments_at : ActionName → Reads Action
 arguments_at Lock words = Some (action.Lock, words)
 arguments_at Unlock words = Some (action.Unlock, words)
@@ -124,7 +124,7 @@ action_at words = do
   name ← action_named word.0
   arguments_at name word.1
 
--- what follows the name of an answer
+-- the answer of this name, with the arguments that follow
 unfoldable pub results_at : AnswerName → Reads Answer
 results_at (reply.Alone reached) words = Some (reached, words)
 results_at reply.Left words = number_at words >>= λ n. Some (answer.Left n.0, n.1)
@@ -149,7 +149,7 @@ abbrev pub is_end : List (List ℕ) → Bool
 is_end [] = true
 is_end (word ∷ words) = false
 
--- a step and its answer, all of the words
+-- a step and its answer, from all of the words
 unfoldable pub entry_of : List (List ℕ) → Option (Step × Answer)
 entry_of words = do
   seat ← number_at words
@@ -159,7 +159,7 @@ entry_of words = do
   reached ← only_if (is_end got.1) got.0
   Some (record { seat = seat.0; action = act.0 }, reached)
 
--- the sizes of a zone, all of the words
+-- the sizes of a zone, from all of the words
 unfoldable pub zone_of : List (List ℕ) → Option (ℕ × ℕ)
 zone_of words = do
   frames ← number_at words
@@ -167,7 +167,7 @@ zone_of words = do
   last ← only_if (is_end cpus.1) cpus.0
   only_if (nat_le 1 frames.0 && nat_le frames.0 1048576 && nat_le 1 last && nat_le last 64) (frames.0, last)
 
--- a line
+-- the line of a text
 unfoldable pub line_of : List ℕ → Option LogLine
 line_of text =
     if nat_lt longest_line (length text) then None

@@ -1,4 +1,4 @@
--- The words of a line: names, numbers and paths, with one space between two.
+-- The words of a line: names, numbers and paths, separated by single spaces.
 use Rattle.std.specs.Prelude.{ℕ, ◌^◌, ◌<◌, ◌==◌, ◌&&◌, nat_le, not, Bool, true, false, IsTrue, List, [], ◌∷◌, ◌++◌, Option, Some, None}
 use Rattle.std.specs.Prelude.{codes, decimal, length}
 use Rattle.std.specs.List.{list_all}
@@ -32,13 +32,13 @@ pub data Word : Type 0 where
   Numeral : Size → ℕ → Word
   Path : List ℕ → Word
 
--- how a word is written: a number in decimal, without a sign or a leading zero
+-- the text of a word; a number is in decimal, without a sign or a leading zero
 abbrev pub word_text : Word → List ℕ
 word_text (Fixed text) = text
 word_text (Numeral size n) = decimal n
 word_text (Path text) = text
 
--- the byte is no space
+-- the byte is not a space
 abbrev pub is_no_space : ℕ → Bool
 is_no_space b = not (b == 32)
 
@@ -46,17 +46,18 @@ is_no_space b = not (b == 32)
 abbrev pub is_graphic : ℕ → Bool
 is_graphic b = nat_le 33 b && nat_le b 126
 
--- a path that a line can hold: 1 to 512 bytes above 32 and below 127
+-- a path that a line can contain: 1 to 512 bytes above 32 and below 127
 abbrev pub is_path : List ℕ → Bool
 is_path text = nat_le 1 (length text) && nat_le (length text) longest_path && list_all is_graphic text
 
--- the word can be written: a fixed one has no space, a number is below the bound of its kind, a path is one that a line can hold
+-- the word can be written: a fixed one has no space, a number is below the bound of its kind, and a line can contain
+-- a path
 abbrev pub Fits : Word → Type 0
 Fits (Fixed text) = IsTrue (list_all is_no_space text)
 Fits (Numeral size n) = n < bound_of size
 Fits (Path text) = IsTrue (is_path text)
 
--- each word behind a space
+-- the words, each after a space
 abbrev pub spaced : List Word → List ℕ
 spaced [] = []
 spaced (word ∷ words) = 32 ∷ (word_text word ++ spaced words)

@@ -1,4 +1,4 @@
-//! The text of a log: the steps that were made and what each was answered, a line each.
+//! The text of a log: one line for each step and its answer.
 #![tactic(auto)]
 
 pub mod line;

@@ -7,8 +7,8 @@ use step_rules::step::{Answer, Step};
 pub enum LogLine {
     /// An empty line, or a comment.
     Skipped,
-    /// The sizes of the zone, which are written once, before the first step.
+    /// The sizes of the zone, given once, before the first step.
     Zone { frames: u32, cpus: u32 },
-    /// A step, and what it was answered.
+    /// A step and its answer.
     Step { step: Step, answer: Answer },
 }

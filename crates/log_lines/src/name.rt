@@ -1,4 +1,4 @@
-//! The names of actions and answers, and what follows each name.
+//! The names of actions and answers, and the arguments after each name.
 
 ghost use Rattle.std.specs.Prelude.{◌≡◌, bytes_eq, map};
 ghost use Rattle.std.specs.Map.{lookup};
@@ -7,7 +7,7 @@ ghost use Rattle.log_lines.specs.Names.{action_named, action_of_group, action_of
 use group_tree::group::GroupId;
 use step_rules::step::{Action, Answer};
 
-/// An action with a number: of a frame, a CPU or pages.
+/// An action with one number: a frame, a CPU or a number of pages.
 #[derive(Clone, Copy)]
 pub(crate) enum OfNumber {
     Open,
@@ -24,7 +24,7 @@ pub(crate) enum OfNumber {
     Return,
 }
 
-/// An action with a frame, and a count or a CPU.
+/// An action with two numbers: a frame, and a count or a CPU.
 #[derive(Clone, Copy)]
 pub(crate) enum OfNumbers {
     Freeze,
@@ -51,7 +51,7 @@ pub(crate) enum OfPages {
     Ungrant,
 }
 
-/// The name of an action, by what follows it.
+/// The name of an action, with the kind of its arguments.
 #[derive(Clone, Copy)]
 pub(crate) enum ActionName {
     Lock,
@@ -67,7 +67,7 @@ pub(crate) enum ActionName {
     Make,
 }
 
-/// The name of an answer, by what follows it.
+/// The name of an answer, with the kind of its arguments.
 #[derive(Clone, Copy)]
 pub(crate) enum AnswerName {
     Alone(Answer),
@@ -78,7 +78,7 @@ pub(crate) enum AnswerName {
     Number,
 }
 
-// The actions by their names.
+// The actions by name.
 const ACTION_NAMES: [(&[u8], ActionName); 31] = [
     (b"lock", ActionName::Lock),
     (b"unlock", ActionName::Unlock),
@@ -113,7 +113,7 @@ const ACTION_NAMES: [(&[u8], ActionName); 31] = [
     (b"make", ActionName::Make),
 ];
 
-// The answers by their names.
+// The answers by name.
 const ANSWER_NAMES: [(&[u8], AnswerName); 19] = [
     (b"illegal", AnswerName::Alone(Answer::Illegal)),
     (b"done", AnswerName::Alone(Answer::Done)),
@@ -150,7 +150,7 @@ pub(crate) fn answer_named(word: &[u8]) -> Option<AnswerName>
     named(&ANSWER_NAMES, word)
 }
 
-// What has this name in the table.
+// The entry of this name in the table.
 fn named<T: Copy>(names: &[(&[u8], T)], word: &[u8]) -> Option<T>
     ensures { result ≡ lookup (λ name. bytes_eq name word.now) (map (λ row. (row.0.now, row.1)) names.now) }
 {

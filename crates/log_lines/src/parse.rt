@@ -1,4 +1,4 @@
-//! How a line is read.
+//! Parses a line.
 
 ghost use Rattle.std.specs.Prelude.{◌≡◌, ℕ, List, MatchOption};
 ghost use Rattle.log_lines.specs.declared.line.LogLine.{LogLine};
@@ -12,28 +12,28 @@ use crate::word::Words;
 use step_rules::step::{Action, Answer, Step};
 use zone_blocks::block::Block;
 
-// The most bytes that a line has, its line feed not counted.
+// The most bytes of a line, without its line feed.
 const MOST_LINE: usize = 1_024;
 
-/// The line that has this text, which stands without its line feed. None exactly if no line has it, so if it is longer
-/// than 1,024 bytes or a number in it has a sign, a leading zero or is out of its range.
+/// The line that has this text, which has no line feed. None exactly if no line has it. That includes a text of more
+/// than 1,024 bytes, and a number with a sign, with a leading zero or out of its range.
 pub fn parse_line(text: &[u8]) -> Option<LogLine>
     ensures { MatchOption result ((line : LogLine) → ¬ IsLineText text.now line) (λ line. IsLineText text.now line) }
 {
     line_of(text)
 }
 
-/// A text is that of one line at most: no two steps, and no two answers, are written alike.
+/// A text is that of at most one line: no two steps and no two answers are written alike.
 pub fn one_line()
     ensures { (text : List ℕ) (one other : LogLine) → IsLineText text one → IsLineText text other → one ≡ other }
 {}
 
-/// A text is that of one run at most, and of one zone.
+/// A text is that of at most one zone and one run.
 pub fn one_run()
     ensures { (text : List ℕ) (one other : WholeLog) → IsLog text one → IsLog text other → one ≡ other }
 {}
 
-/// A text with a bad line is that of no log.
+/// A text with a bad line is the text of no log.
 pub fn bad_line_is_no_log()
     ensures { (text : List ℕ) (n : ℕ) (log : WholeLog) → IsFirstBadLine text n → ¬ IsLog text log }
 {}
@@ -58,7 +58,7 @@ fn line_of(text: &[u8]) -> Option<LogLine>
     Some(LogLine::Step { step, answer })
 }
 
-// Whether a line says nothing.
+// Whether a line is empty or a comment.
 fn is_skipped(text: &[u8]) -> bool
     ensures { result ≡ is_skipped text.now }
 {
@@ -85,7 +85,7 @@ fn parse_zone(mut words: Words<'_>) -> Option<(u32, u32)>
     }
 }
 
-// A step, and what it was answered.
+// A step and its answer.
 #[tactic(auto, unfolding(crate::specs::Reading::entry_of))]
 fn parse_entry(mut words: Words<'_>) -> Option<(Step, Answer)>
     ensures { result ≡ entry_of words.entry }
@@ -165,7 +165,7 @@ fn next_answer(words: &mut Words<'_>) -> Option<Answer>
     next_results(name, words)
 }
 
-// The answer of this name, with what it gives.
+// The answer of this name, with its arguments.
 #[tactic(auto, unfolding(crate::specs::Reading::results_at))]
 fn next_results(name: AnswerName, words: &mut Words<'_>) -> Option<Answer>
     ensures { Gives (λ answer. (answer, words.new)) result (results_at name words.old) }

@@ -1,4 +1,4 @@
-//! The words of a line, from the front.
+//! The words of a line, taken from the front.
 
 ghost use Rattle.std.specs.Prelude.{◌≡◌, ◌==◌, ℕ, ◌^◌, ◌<◌, Some, decimal};
 ghost use Rattle.std.specs.List.{list_all, position};
@@ -13,8 +13,8 @@ use std::marker::Model;
 use std::str;
 use zone_blocks::order::Order;
 
-/// The words that are left of a line: none, or those of what stands after a space. A contract sees their texts. After
-/// a `None` they are unknown.
+/// The words that are left of a line: none, or those of the text after a space. A contract sees their texts. After a
+/// `None` they are unspecified.
 #[derive(Drop)]
 pub(crate) struct Words<'a> {
     rest: Option<&'a [u8]>,
@@ -123,7 +123,7 @@ impl<'a> Words<'a> {
     }
 }
 
-// The place of the first space.
+// The index of the first space.
 fn space_of(text: &[u8]) -> Option<usize>
     ensures { result ≡ position (λ b. b == 32) text.now }
 {
@@ -150,7 +150,7 @@ fn flag_of(word: &[u8]) -> Option<bool>
     (word == b"1".as_slice()).then_some(true)
 }
 
-// Whether a line can hold the path.
+// Whether a line can contain the path.
 fn is_path(word: &[u8]) -> bool
     ensures { result ≡ is_path word.now }
 {
@@ -190,7 +190,7 @@ fn number_of(word: &[u8]) -> Option<u64>
     }
 }
 
-// The number that the text of a number writes.
+// The value of a number's text.
 fn value_of(word: &[u8]) -> Option<u64>
     ensures { (n : ℕ) → n < 2 ^ 64 → word.now ≡ decimal n → result ≡ Some n }
 {

@@ -1,4 +1,4 @@
-//! How a line is written.
+//! Writes a line.
 
 ghost use Rattle.std.specs.Prelude.{◌≡◌, ℕ, [], ◌∷◌, ◌++◌, IfOk, decimal};
 ghost use Rattle.log_lines.specs.Line.{entry_text, zone_text};
@@ -11,7 +11,7 @@ use itoa::Buffer;
 use std::alloc::AllocError;
 use step_rules::step::{Action, Answer, Step};
 
-/// Adds the sizes of the zone, without a line feed. It fails only if memory runs out.
+/// Appends the sizes of the zone, without a line feed. It fails only if memory runs out.
 pub fn write_zone(frames: u32, cpus: u32, text: &mut Vec<u8>) -> Result<(), AllocError>
     ensures { IfOk result (λ _. text.new.items ≡ text.old.items ++ zone_text frames cpus) }
 {
@@ -20,7 +20,7 @@ pub fn write_zone(frames: u32, cpus: u32, text: &mut Vec<u8>) -> Result<(), Allo
     push_number(cpus, text)
 }
 
-/// Adds a step and its answer, without a line feed. It fails only if memory runs out.
+/// Appends a step and its answer, without a line feed. It fails only if memory runs out.
 pub fn write_entry(step: &Step, answer: &Answer, text: &mut Vec<u8>) -> Result<(), AllocError>
     ensures { IfOk result (λ _. text.new.items ≡ text.old.items ++ entry_text step.now answer.now) }
 {
@@ -31,7 +31,7 @@ pub fn write_entry(step: &Step, answer: &Answer, text: &mut Vec<u8>) -> Result<(
     write_answer(answer, text)
 }
 
-/// Adds a space and an answer. It fails only if memory runs out.
+/// Appends a space and an answer. It fails only if memory runs out.
 pub fn write_answer(answer: &Answer, text: &mut Vec<u8>) -> Result<(), AllocError>
     ensures { IfOk result (λ _. text.new.items ≡ text.old.items ++ spaced (answer_words answer.now)) }
 {
@@ -62,7 +62,7 @@ pub fn write_answer(answer: &Answer, text: &mut Vec<u8>) -> Result<(), AllocErro
     }
 }
 
-// Adds a space and a word.
+// Appends a space and a word.
 fn push_word(word: &[u8], text: &mut Vec<u8>) -> Result<(), AllocError>
     ensures { IfOk result (λ _. text.new.items ≡ text.old.items ++ 32 ∷ word.now) }
 {
@@ -70,7 +70,7 @@ fn push_word(word: &[u8], text: &mut Vec<u8>) -> Result<(), AllocError>
     text.extend_from_slice(word)
 }
 
-// Adds a space and a number in decimal.
+// Appends a space and a number in decimal.
 fn push_number(number: u32, text: &mut Vec<u8>) -> Result<(), AllocError>
     ensures { IfOk result (λ _. text.new.items ≡ text.old.items ++ 32 ∷ decimal number) }
 {
@@ -78,7 +78,7 @@ fn push_number(number: u32, text: &mut Vec<u8>) -> Result<(), AllocError>
     push_word(buffer.format(number).as_bytes(), text)
 }
 
-// Adds a name and a number.
+// Appends a name and a number.
 fn push_of_number(name: &[u8], number: u32, text: &mut Vec<u8>) -> Result<(), AllocError>
     ensures { IfOk result (λ _. text.new.items ≡ text.old.items ++ spaced (Fixed name.now ∷ words.number number ∷ [])) }
 {
@@ -86,7 +86,7 @@ fn push_of_number(name: &[u8], number: u32, text: &mut Vec<u8>) -> Result<(), Al
     push_number(number, text)
 }
 
-// Adds a name and two numbers.
+// Appends a name and two numbers.
 fn push_of_numbers(
     name: &[u8],
     first: u32,
@@ -100,14 +100,14 @@ fn push_of_numbers(
     push_number(second, text)
 }
 
-// Adds a name and a group.
+// Appends a name and a group.
 fn push_of_group(name: &[u8], group: GroupId, text: &mut Vec<u8>) -> Result<(), AllocError>
     ensures { IfOk result (λ _. text.new.items ≡ text.old.items ++ spaced (Fixed name.now ∷ words.group group ∷ [])) }
 {
     push_of_number(name, group.number(), text)
 }
 
-// Adds a name, a group and a number.
+// Appends a name, a group and a number.
 fn push_of_both(
     name: &[u8],
     group: GroupId,
@@ -120,7 +120,7 @@ fn push_of_both(
     push_of_numbers(name, group.number(), number, text)
 }
 
-// Adds the limit of a group.
+// Appends the limit of a group.
 fn push_limit(group: GroupId, limit: Option<u32>, text: &mut Vec<u8>) -> Result<(), AllocError>
     ensures { IfOk result (λ _. text.new.items ≡ text.old.items ++ spaced (action_words (SetMax group limit))) }
 {
@@ -133,7 +133,7 @@ fn push_limit(group: GroupId, limit: Option<u32>, text: &mut Vec<u8>) -> Result<
     }
 }
 
-// Adds an action.
+// Appends an action.
 fn push_action(action: &Action, text: &mut Vec<u8>) -> Result<(), AllocError>
     ensures { IfOk result (λ _. text.new.items ≡ text.old.items ++ spaced (action_words action.now)) }
 {

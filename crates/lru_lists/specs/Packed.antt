@@ -1,4 +1,4 @@
--- The records as they are kept.
+-- The records as they are stored.
 use Rattle.std.specs.Prelude.{ℕ, ◌==◌, ◌<◌, Option, Some, None, IfSome, List, map, if◌then◌else◌}
 use Rattle.lru_lists.specs.declared.record.Link.{Link}
 use Rattle.lru_lists.specs.declared.record.Home.{Home}
@@ -8,15 +8,15 @@ use Rattle.lru_lists.specs.declared.packed.OnList.{OnList}
 use Rattle.lru_lists.specs.declared.packed.OnList.TheVariants as on_list
 use Rattle.lru_lists.specs.declared.packed.Packed.{Packed}
 
--- the neighbour that a number stands for: the greatest of 32 bits stands for none
+-- the neighbour for which a number is stored: the greatest number of 32 bits is stored for none
 abbrev pub number_of : ℕ → Option ℕ
 number_of n = if n == 4294967295 then None else Some n
 
--- a neighbour for which a number stands
+-- a neighbour for which a number can be stored, or none
 abbrev pub IsNumber : Option ℕ → Type 0
 IsNumber unit = IfSome unit (λ u. u < 4294967295)
 
--- which of the two lists it is on; None for neither
+-- which of the two lists holds the unit; None for neither
 abbrev pub list_on : OnList → Option LruList
 list_on on_list.Neither = None
 list_on on_list.Inactive = Some Inactive
@@ -27,7 +27,7 @@ abbrev pub home_of_list : Option LruList → ℕ → Option Home
 home_of_list None owner = None
 home_of_list (Some list) owner = Some (record { owner = owner; list = list })
 
--- the record that is packed
+-- the record that a packed one holds
 abbrev pub link_of : Packed → Link
 link_of p = record {
   home = home_of_list (list_on p.list) p.owner;
@@ -37,6 +37,6 @@ link_of p = record {
   is_dirty = p.is_dirty;
 }
 
--- the records that are packed
+-- the records that packed ones hold
 abbrev pub links_of : List Packed → List Link
 links_of records = map link_of records

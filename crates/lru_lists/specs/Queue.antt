@@ -1,4 +1,4 @@
--- One list that is linked through the records of its units.
+-- One list, linked through the records of its units.
 use Rattle.std.specs.Prelude.{◌≡◌, ℕ, zero, suc, ◌+◌, ◌-◌, ◌==◌, ◌||◌, ◌≢◌}
 use Rattle.std.specs.Prelude.{Bool, true, false, Option, Some, None, List, [], ◌∷◌, length, slice_index_or, slice_set, if◌then◌else◌}
 use Rattle.lru_lists.specs.declared.record.Link.{Link}
@@ -9,20 +9,20 @@ use Rattle.lru_lists.specs.declared.queue.Queue.{Queue}
 abbrev pub nowhere : Link
 nowhere = record { home = None; older = None; newer = None; is_marked = false; is_dirty = false }
 
--- the record of frame f; past the last frame that of a frame on no list
+-- the record of frame f; past the last frame, that of a frame on no list
 abbrev pub link_at : List Link → ℕ → Link
 link_at links f = slice_index_or links f nowhere
 
--- no frame stands on a list
+-- no frame is on a list
 abbrev pub AreNowhere : List Link → Type 0
 AreNowhere links = (f : ℕ) → link_at links f ≡ nowhere
 
--- the unit stands in the list
+-- the unit is in the list
 abbrev pub is_among : List ℕ → ℕ → Bool
 is_among [] f = false
 is_among (x ∷ xs) f = x == f || is_among xs f
 
--- no unit stands in the list twice
+-- no unit is in the list twice
 abbrev pub AreApart : List ℕ → Type 0
 AreApart [] = Unit {0}
 AreApart (x ∷ xs) = (is_among xs x ≡ false) × AreApart xs
@@ -43,7 +43,7 @@ abbrev pub after : List ℕ → ℕ → Option ℕ
 after [] f = None
 after (x ∷ xs) f = if x == f then oldest_of xs else after xs f
 
--- the unit just before f in the list that follows x
+-- the unit just before f in the list whose first unit is x
 abbrev pub before_from : ℕ → List ℕ → ℕ → Option ℕ
 before_from x [] f = None
 before_from x (y ∷ ys) f = if y == f then Some x else before_from y ys f
@@ -58,8 +58,9 @@ abbrev pub without : ℕ → List ℕ → List ℕ
 without f [] = []
 without f (x ∷ xs) = if x == f then xs else x ∷ without f xs
 
--- the records and the ends link this list of units at its home: they tell which units stand on it, its ends, its
--- length, and the two neighbours of each unit
+-- The records and the ends link exactly these units, in this order, as the list `home`. Exactly these units have that
+-- home. The queue has both ends and the length, and each unit's record has its two neighbours. No unit is there
+-- twice.
 pub record IsLinked (links : List Link) (home : Home) (queue : Queue) (units : List ℕ) : Type 0 where
   pub apart : AreApart units
   pub homes : (f : ℕ) → is_among units f ≡ true → (link_at links f).home ≡ Some home
@@ -70,7 +71,7 @@ pub record IsLinked (links : List Link) (home : Home) (queue : Queue) (units : L
   pub older : (f : ℕ) → is_among units f ≡ true → (link_at links f).older ≡ before units f
   pub newer : (f : ℕ) → is_among units f ≡ true → (link_at links f).newer ≡ after units f
 
--- so many units, from this one on to the newer
+-- up to n units, from this one on towards the newer
 abbrev pub units_from : List Link → Option ℕ → ℕ → List ℕ
 units_from links start zero = []
 units_from links None (suc n) = []
@@ -80,44 +81,44 @@ units_from links (Some x) (suc n) = x ∷ units_from links (link_at links x).new
 abbrev pub units_of : List Link → Queue → List ℕ
 units_of links queue = units_from links queue.oldest queue.length
 
--- the record of a unit that came onto the list behind this one
+-- the record of a unit that was just appended to the list behind this one
 abbrev pub newest_link : Home → Option ℕ → Bool → Link
 newest_link home older is_dirty = record { home = Some home; older = older; newer = None; is_marked = false; is_dirty = is_dirty }
 
--- the record of every other unit than f that doesn't stand on the list stays as it was
+-- the record of every unit other than f that isn't on the list stays
 abbrev pub StaysElsewhere : List Link → List Link → Home → ℕ → Type 0
 StaysElsewhere before after home f = (g : ℕ) → g ≢ f → (link_at before g).home ≢ Some home → link_at after g ≡ link_at before g
 
--- every other unit than f stands on the list that it stood on, marked and dirty as it was; there are as many records
+-- every unit other than f stays on its list, marked and dirty as it was; the number of records stays
 pub record SameUse (before after : List Link) (f : ℕ) : Type 0 where
   pub frames : length after ≡ length before
   pub home : (g : ℕ) → g ≢ f → (link_at after g).home ≡ (link_at before g).home
   pub marked : (g : ℕ) → g ≢ f → (link_at after g).is_marked ≡ (link_at before g).is_marked
   pub dirty : (g : ℕ) → g ≢ f → (link_at after g).is_dirty ≡ (link_at before g).is_dirty
 
--- the record of a unit that was taken out: it stands on no list, marked and dirty as it was
+-- the record of a unit that was removed: it is on no list, marked and dirty as it was
 abbrev pub unlinked : Link → Link
 unlinked k = record { home = None; older = None; newer = None; is_marked = k.is_marked; is_dirty = k.is_dirty }
 
--- the records once this unit, where there is one, has another next
+-- the records after this unit, if there is one, got another next unit
 abbrev pub with_newer : List Link → Option ℕ → Option ℕ → List Link
 with_newer links None newer = links
 with_newer links (Some u) newer = slice_set links u (record (link_at links u) { newer = newer })
 
--- the records once this unit, where there is one, has another previous
+-- the records after this unit, if there is one, got another previous unit
 abbrev pub with_older : List Link → Option ℕ → Option ℕ → List Link
 with_older links None older = links
 with_older links (Some u) older = slice_set links u (record (link_at links u) { older = older })
 
--- the first of two ends where there is one, else the other
+-- the second of these units, if the first is one; otherwise the third
 abbrev pub end_or : Option ℕ → Option ℕ → Option ℕ → Option ℕ
 end_or None there other = other
 end_or (Some _) there other = there
 
--- the ends and the length with one unit more behind the newest
+-- the ends and the length after one more unit joined at the newest end
 abbrev pub pushed_queue : Queue → ℕ → Queue
 pushed_queue q unit = record { oldest = end_or q.newest q.oldest (Some unit); newest = Some unit; length = q.length + 1 }
 
--- the ends and the length without the unit between these two
+-- the ends and the length after the unit between these two was removed
 abbrev pub queue_without : Queue → Option ℕ → Option ℕ → Queue
 queue_without q older newer = record { oldest = end_or older q.oldest newer; newest = end_or newer q.newest older; length = q.length - 1 }

@@ -1,15 +1,15 @@
-//! Laws: what each function ensures holds of all records and lists.
+//! Laws: each function's `ensures` clause is a statement about all records and lists.
 
 ghost use Rattle.lru_lists.specs.Lists.{OthersStand, OneOfAllChanges};
 
-/// A call on one owner's lists leaves the lists of every other owner as they were, marks and dirt included: what each
-/// such call says of the records is enough for that.
+/// A call on one owner's lists changes no other owner's lists, nor the marks and dirt of their units. The clause
+/// `ChangesOwn` of each such call implies it.
 pub fn others_stand()
     ensures { OthersStand }
 {}
 
-/// The lists of several owners over the same records, kept in the order of their numbers, all stand again after a call
-/// on those of one of them.
+/// If the lists of several owners, kept in the order of their numbers, are linked through the same records, then they
+/// still are after a call on the lists of one of them.
 pub fn one_of_all_changes()
     ensures { OneOfAllChanges }
 {}

@@ -1,5 +1,5 @@
-//! The two lists of each group: its units in the order in which they were used, on the inactive or the active
-//! list. All lists are linked through one record for each frame, so that no list is walked to find a unit.
+//! The two lists of each group: its units in the order of their last use, on the inactive or the active list. All
+//! lists are linked through one record for each frame, so finding a unit takes no walk.
 #![tactic(auto)]
 
 pub mod laws;

@@ -11,7 +11,7 @@ use crate::record::{Home, Link};
 use std::alloc::{AllocError, Global};
 use std::marker::Model;
 
-/// One record for each frame of a zone, seen as their list.
+/// One record for each frame of a zone. A contract sees them as a list.
 #[derive(Debug, Drop)]
 pub struct Links {
     records: Vec<Packed>,
@@ -31,7 +31,7 @@ impl Model for Links {
 }
 
 impl Links {
-    /// The records of this many frames, none of which stands on a list. No other call takes memory.
+    /// The records of this many frames, none of which is on a list. No other call allocates.
     pub fn new(alloc: Global, frames: u32) -> Result<Links, AllocError>
         ensures frames { IfOk result (λ links. length links ≡ frames) }
         ensures nowhere { IfOk result (λ links. AreNowhere links) }
@@ -47,8 +47,8 @@ impl Links {
         self.records.len() as u32
     }
 
-    /// The list that the frame stands on, whoever owns it; None exactly where the frame stands on none. By this a caller
-    /// learns whether a unit may be added.
+    /// The list that holds the frame, whoever owns it; None exactly if no list holds it. A unit may be added only
+    /// then.
     pub fn home(&self, frame: u32) -> Option<Home>
         requires { frame < length self.now }
         ensures { result ≡ (link_at self.now frame).home }
@@ -56,7 +56,7 @@ impl Links {
         self.records[frame as usize].home()
     }
 
-    // Puts a unit that stands on no list behind the newest of this one, unmarked.
+    // Appends a unit that is on no list at the newest end of this one, unmarked.
     pub(crate) fn push_newest(&mut self, queue: &mut Queue, home: Home, unit: u32)
         requires unit { unit < length self.old }
         requires away { (link_at self.old unit).home ≡ None }
@@ -67,12 +67,12 @@ impl Links {
         ensures others { StaysElsewhere self.old self.new home unit }
         ensures used { SameUse self.old self.new unit }
     {
-        // By this it is known that there are fewer than 2^32 records.
+        // This borrow brings in the invariant: there are fewer than 2^32 records.
         let _ = &self.records;
         queue::push_newest(self, queue, home, unit);
     }
 
-    // Takes a unit that stands on the list out of it.
+    // Removes a unit from the list that holds it.
     pub(crate) fn unlink(&mut self, queue: &mut Queue, home: Home, unit: u32)
         requires linked { IsLinked self.old home queue.old (units_of self.old queue.old) }
         requires unit { (link_at self.old unit).home ≡ Some home }
@@ -82,12 +82,12 @@ impl Links {
         ensures others { StaysElsewhere self.old self.new home unit }
         ensures used { SameUse self.old self.new unit }
     {
-        // By this it is known that there are fewer than 2^32 records.
+        // This borrow brings in the invariant: there are fewer than 2^32 records.
         let _ = &self.records;
         queue::unlink(self, queue, home, unit);
     }
 
-    // Forgets what was kept of a frame.
+    // Resets the record of a frame to that of a frame on no list.
     pub(crate) fn forget(&mut self, frame: u32)
         requires { frame < length self.old }
         ensures { self.new ≡ slice_set self.old frame nowhere }
@@ -95,7 +95,7 @@ impl Links {
         self.records[frame as usize] = Packed::NOWHERE;
     }
 
-    // Marks a unit, or not.
+    // Sets or clears the mark of a unit.
     pub(crate) fn mark(&mut self, unit: u32, is_marked: bool)
         requires { unit < length self.old }
         ensures { self.new ≡ slice_set self.old unit (record (link_at self.old unit) { is_marked = is_marked }) }
@@ -103,7 +103,7 @@ impl Links {
         self.records[unit as usize].is_marked = is_marked;
     }
 
-    // Notes that a unit is dirty, or not.
+    // Sets whether a unit is dirty.
     pub(crate) fn dirty(&mut self, unit: u32, is_dirty: bool)
         requires { unit < length self.old }
         ensures { self.new ≡ slice_set self.old unit (record (link_at self.old unit) { is_dirty = is_dirty }) }
@@ -111,7 +111,7 @@ impl Links {
         self.records[unit as usize].is_dirty = is_dirty;
     }
 
-    // What is kept of a frame.
+    // The record of a frame.
     pub(crate) fn link(&self, frame: u32) -> Link
         requires { frame < length self.now }
         ensures { result ≡ link_at self.now frame }
@@ -119,7 +119,7 @@ impl Links {
         self.records[frame as usize].link()
     }
 
-    // Keeps this of a frame.
+    // Replaces the record of a frame.
     pub(crate) fn put(&mut self, frame: u32, link: Link)
         requires frame { frame < length self.old }
         requires older { IsNumber link.older }
@@ -129,7 +129,7 @@ impl Links {
         self.records[frame as usize] = Packed::of(link);
     }
 
-    // The unit just before `newer` now has it as its next, where there is such a unit.
+    // If there is a unit just before `newer`, makes `newer` its next unit.
     pub(crate) fn set_newer(&mut self, unit: Option<u32>, newer: Option<u32>)
         requires unit { IfSome unit (λ u. u < length self.old) }
         requires newer { IsNumber newer }
@@ -140,7 +140,7 @@ impl Links {
         }
     }
 
-    // The unit just after `older` now has it as its previous, where there is such a unit.
+    // If there is a unit just after `older`, makes `older` its previous unit.
     pub(crate) fn set_older(&mut self, unit: Option<u32>, older: Option<u32>)
         requires unit { IfSome unit (λ u. u < length self.old) }
         requires older { IsNumber older }

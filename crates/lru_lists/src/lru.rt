@@ -1,4 +1,5 @@
-//! The two lists of one owner, as a group: its inactive and its active units, each from the oldest to the newest.
+//! The two lists of one owner, such as a group: its inactive and its active units, each from the oldest to the
+//! newest.
 
 ghost use Rattle.std.specs.Prelude.{◌≡◌, ◌≢◌, ◌<◌, ◌++◌, [], ◌∷◌, false, List, None, Some, IfSome, length, map, take, drop, option_map};
 ghost use Rattle.lru_lists.specs.Queue.{link_at, nowhere, unlinked, SameUse};
@@ -13,12 +14,12 @@ use crate::links::Links;
 use crate::queue::Queue;
 use crate::record::{Entry, Home, LruList};
 
-/// What a touch did.
+/// The effect of a touch.
 #[derive(Clone, Copy, Debug, PartialEq, Eq)]
 pub enum Touched {
-    /// The unit stays on the inactive list, and is marked now.
+    /// The unit stays on the inactive list and is now marked.
     Marked,
-    /// The unit is at the newest end of the active list now, unmarked.
+    /// The unit is now at the newest end of the active list, unmarked.
     Active,
 }
 
@@ -34,8 +35,8 @@ pub struct Lru {
 }
 
 impl Lru {
-    /// The empty lists of an owner. They stand in any records of which none names this owner as its home: in those that
-    /// `Links::new` made, and where each of the owner's units was taken off.
+    /// The empty lists of an owner, linked through any records that name this owner nowhere. Such are the records
+    /// from `Links::new`, and those from which each unit of the owner was removed.
     pub fn new(owner: u8) -> Lru
         ensures owner { result.owner ≡ owner }
         ensures stands { (links : List Link) → HasNoUnits links owner → StandsIn links result }
@@ -48,7 +49,7 @@ impl Lru {
         }
     }
 
-    // Where a unit of one of the lists stands.
+    // What the record of a unit on one of the lists says of its place.
     fn home(&self, list: LruList) -> Home
         ensures { result ≡ home_of self.now list }
     {
@@ -68,7 +69,7 @@ impl Lru {
         }
     }
 
-    // Gives one of the lists other ends.
+    // Replaces the ends and the length of one of the lists.
     fn set_queue(&mut self, list: LruList, queue: Queue)
         ensures { self.new ≡ with_queue self.old list queue }
     {
@@ -78,7 +79,7 @@ impl Lru {
         }
     }
 
-    // Puts a unit that stands on no list behind the newest of one of the two, unmarked.
+    // Appends a unit that is on no list at the newest end of one of the two, unmarked.
     fn push(&mut self, links: &mut Links, list: LruList, unit: u32)
         requires frame { unit < length links.old }
         requires away { IsOnNone links.old unit }
@@ -97,7 +98,7 @@ impl Lru {
         self.set_queue(list, queue);
     }
 
-    // Takes a unit out of the list of the two that it stands on.
+    // Removes a unit from the one of the two lists that holds it.
     fn pull(&mut self, links: &mut Links, list: LruList, unit: u32)
         requires stands { StandsIn links.old self.old }
         requires unit { (link_at links.old unit).home ≡ Some (home_of self.old list) }
@@ -114,7 +115,7 @@ impl Lru {
         self.set_queue(list, queue);
     }
 
-    /// Which of the two lists the frame stands on; None exactly where it stands on neither.
+    /// Which of the two lists holds the frame; None exactly if neither does.
     pub fn is_on(&self, links: &Links, frame: u32) -> Option<LruList>
         requires { frame < length links.now }
         ensures { result ≡ list_of links.now self.now.owner frame }
@@ -125,8 +126,9 @@ impl Lru {
         }
     }
 
-    /// Puts a unit that stands on no list of any owner behind the newest of the inactive list, clean and unmarked. The
-    /// unit goes by the number of its first frame, which is below `Links::frames`; `Links::home` tells whether it may come.
+    /// Appends a unit that is on no list of any owner at the newest end of the inactive list, clean and unmarked. The
+    /// unit is named by its first frame, which is below `Links::frames`. `Links::home` says whether a list already
+    /// holds it.
     pub fn add(&mut self, links: &mut Links, unit: u32)
         requires frame { unit < length links.old }
         requires away { IsOnNone links.old unit }
@@ -144,7 +146,7 @@ impl Lru {
         self.push(links, LruList::Inactive, unit);
     }
 
-    // The list of the two that the unit stands on.
+    // The one of the two lists that holds the unit.
     fn list(&self, links: &Links, unit: u32) -> LruList
         requires frame { unit < length links.now }
         requires on { list_of links.now self.now.owner unit ≢ None }
@@ -153,7 +155,7 @@ impl Lru {
         self.is_on(links, unit).unwrap()
     }
 
-    // Moves a unit from the list that it stands on to the newest end of one of the two, unmarked.
+    // Moves a unit from the list that holds it to the newest end of one of the two, unmarked.
     fn move_to(&mut self, links: &mut Links, list: LruList, unit: u32)
         requires frame { unit < length links.old }
         requires on { list_of links.old self.old.owner unit ≢ None }
@@ -171,7 +173,7 @@ impl Lru {
         self.push(links, list, unit);
     }
 
-    /// Takes a unit out of the list of the two that it stands on. Nothing of it is kept, neither its mark nor its dirt.
+    /// Removes a unit from the one of the two lists that holds it. Its mark and its dirt are forgotten.
     pub fn take_off(&mut self, links: &mut Links, unit: u32)
         requires frame { unit < length links.old }
         requires on { list_of links.old self.old.owner unit ≢ None }
@@ -190,7 +192,7 @@ impl Lru {
         links.forget(unit);
     }
 
-    // Whether a touch marks the unit, and doesn't move it.
+    // Whether a touch marks the unit and doesn't move it.
     fn is_marked_by_touch(&self, links: &Links, unit: u32) -> bool
         requires frame { unit < length links.now }
         requires on { list_of links.now self.now.owner unit ≢ None }
@@ -202,9 +204,9 @@ impl Lru {
         }
     }
 
-    /// Notes that a unit of the two lists was used. On the inactive list it is marked, if it isn't yet; else it moves to
-    /// the newest end of the active list, unmarked. In Linux (Gorman, "Understanding the Linux Virtual Memory Manager",
-    /// chapter 10) a unit comes from the inactive list to the active one by two touches, too.
+    /// Notes a use of a unit on one of the two lists. An unmarked unit on the inactive list becomes marked. Any other
+    /// moves to the newest end of the active list, unmarked. In Linux, too, a unit needs two touches to become active
+    /// (Gorman, "Understanding the Linux Virtual Memory Manager", chapter 10).
     pub fn touch(&mut self, links: &mut Links, unit: u32) -> Touched
         requires frame { unit < length links.old }
         requires on { list_of links.old self.old.owner unit ≢ None }
@@ -224,7 +226,7 @@ impl Lru {
         }
     }
 
-    /// Moves a unit of the inactive list to its newest end, unmarked: its second chance, where it was marked.
+    /// Moves a unit of the inactive list to its newest end, unmarked: the second chance of a marked unit.
     pub fn renew(&mut self, links: &mut Links, unit: u32)
         requires frame { unit < length links.old }
         requires on { list_of links.old self.old.owner unit ≡ Some Inactive }
@@ -240,7 +242,7 @@ impl Lru {
         self.move_to(links, LruList::Inactive, unit);
     }
 
-    /// Notes whether the pages of a unit of the two lists are dirty.
+    /// Sets whether the pages of a unit on one of the two lists are dirty.
     pub fn set_dirty(&self, links: &mut Links, unit: u32, is_dirty: bool)
         requires frame { unit < length links.old }
         requires on { list_of links.old self.now.owner unit ≢ None }
@@ -252,7 +254,7 @@ impl Lru {
         links.dirty(unit, is_dirty);
     }
 
-    // The unit of this number as it stands on a list.
+    // The entry of the unit of this number.
     fn entry(links: &Links, unit: Option<u32>) -> Option<Entry>
         requires { IfSome unit (λ u. u < length links.now) }
         ensures { result ≡ option_map (entry_of links.now) unit }
@@ -266,14 +268,14 @@ impl Lru {
         })
     }
 
-    /// How many units stand on one of the lists, by the records in which both lists stand.
+    /// How many units one of the lists holds. The number is right for all records that link both lists.
     pub fn len(&self, list: LruList) -> u32
         ensures { (links : List Link) → StandsIn links self.now → result ≡ length (entries_of links self.now list) }
     {
         self.queue(list).length
     }
 
-    /// The oldest unit of one of the lists; None exactly where that is empty.
+    /// The oldest unit of one of the lists; None exactly if the list is empty.
     pub fn oldest(&self, links: &Links, list: LruList) -> Option<Entry>
         requires { StandsIn links.now self.now }
         ensures { result ≡ first_entry (entries_of links.now self.now list) }
@@ -281,8 +283,8 @@ impl Lru {
         Lru::entry(links, self.queue(list).oldest)
     }
 
-    /// The unit just after this one on the list of the two that it stands on; None exactly where this is the newest.
-    /// A walk over a list is `oldest`, and then this from each unit to the next.
+    /// The unit just after this one on the list that holds it; None exactly if this is the newest. To walk a list,
+    /// call `oldest`, then `newer` until it returns None.
     pub fn newer(&self, links: &Links, unit: u32) -> Option<Entry>
         requires frame { unit < length links.now }
         requires on { list_of links.now self.now.owner unit ≢ None }
@@ -308,8 +310,8 @@ impl Lru {
         self.move_to(links, LruList::Inactive, oldest);
     }
 
-    /// Moves the oldest active unit to the newest end of the inactive list, unmarked, as long as the active list has more
-    /// units than the inactive one.
+    /// Moves the oldest active unit to the newest end of the inactive list, unmarked, as long as the active list has
+    /// more units than the inactive one.
     pub fn age(&mut self, links: &mut Links)
         requires { StandsIn links.old self.old }
         ensures stands { StandsIn links.new self.new }

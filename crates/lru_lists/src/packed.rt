@@ -1,21 +1,21 @@
-//! The record of one frame as it is kept: in 12 bytes, less than half of what a `Link` takes.
+//! The record of one frame as it is stored: in 12 bytes, less than half of what a `Link` takes.
 
 ghost use Rattle.std.specs.Prelude.{◌≡◌, ◌<◌, IfSome, Some};
 ghost use Rattle.lru_lists.specs.Packed.{number_of, link_of, list_on, IsNumber};
 
 use crate::record::{Home, Link, LruList};
 
-/// The number that no frame has: it stands for no neighbour.
+/// The number that no frame has: it means that there is no neighbour.
 pub const NO_FRAME: u32 = u32::MAX;
 
-/// Which of its owner's lists a unit is on. It takes one byte, an `Option<LruList>` two.
+/// Which of its owner's lists holds a unit. It takes one byte; an `Option<LruList>` would take two.
 #[derive(Clone, Copy, Debug, PartialEq, Eq)]
 pub enum OnList {
-    /// On neither.
+    /// Neither list.
     Neither,
-    /// On the inactive list.
+    /// The inactive list.
     Inactive,
-    /// On the active list.
+    /// The active list.
     Active,
 }
 
@@ -26,18 +26,18 @@ pub struct Packed {
     pub older: u32,
     /// The unit just after it on the list, or `NO_FRAME`.
     pub newer: u32,
-    /// The owner of the list that the unit is on, if it is on one.
+    /// The owner of the list that holds the unit, if one does.
     pub owner: u8,
-    /// Which of the owner's lists it is on.
+    /// Which of the owner's lists holds it.
     pub list: OnList,
-    /// Whether it was touched once since it came onto the inactive list.
+    /// Whether it was touched once since it joined the inactive list.
     pub is_marked: bool,
     /// Whether its pages are dirty.
     pub is_dirty: bool,
 }
 
 impl OnList {
-    /// On this list.
+    /// The variant for this list.
     #[inline]
     pub fn of(list: LruList) -> OnList
         ensures { list_on result ≡ Some list }
@@ -48,7 +48,7 @@ impl OnList {
         }
     }
 
-    /// The list; None for neither.
+    /// The list, or None for neither.
     #[inline]
     pub fn list(self) -> Option<LruList>
         ensures { result ≡ list_on self }
@@ -61,7 +61,7 @@ impl OnList {
     }
 }
 
-/// The number that stands for a neighbour.
+/// The number that is stored for a neighbour.
 #[inline]
 pub fn number(unit: Option<u32>) -> u32
     requires { IsNumber unit }
@@ -70,7 +70,7 @@ pub fn number(unit: Option<u32>) -> u32
     unit.unwrap_or(NO_FRAME)
 }
 
-/// The neighbour that a number stands for.
+/// The neighbour for which a number is stored.
 #[inline]
 pub fn unit(number: u32) -> Option<u32>
     ensures { result ≡ number_of number }
@@ -114,7 +114,7 @@ impl Packed {
         }
     }
 
-    /// The home that is packed.
+    /// The home in the packed record.
     #[inline]
     pub fn home(self) -> Option<Home>
         ensures { result ≡ (link_of self).home }
@@ -124,7 +124,7 @@ impl Packed {
         Some(Home { owner, list })
     }
 
-    /// The record that is packed.
+    /// The record that this one packs.
     #[inline]
     pub fn link(self) -> Link
         ensures { result ≡ link_of self }

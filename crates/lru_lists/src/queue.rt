@@ -10,9 +10,9 @@ use crate::record::{Home, Link};
 /// The ends and the length of one list.
 #[derive(Clone, Copy, Debug, PartialEq, Eq)]
 pub struct Queue {
-    /// The oldest unit; None where the list is empty.
+    /// The oldest unit, or None if the list is empty.
     pub oldest: Option<u32>,
-    /// The newest unit; None where the list is empty.
+    /// The newest unit, or None if the list is empty.
     pub newest: Option<u32>,
     /// How many units are on the list.
     pub length: u32,
@@ -28,7 +28,7 @@ impl Queue {
 }
 
 impl Queue {
-    // The ends once a unit stands behind the newest.
+    // The ends and the length after the unit was appended at the newest end.
     fn pushed(self, unit: u32) -> Queue
         requires { self.length < 2 ^ 32 - 1 }
         ensures { result ≡ pushed_queue self unit }
@@ -44,7 +44,7 @@ impl Queue {
         }
     }
 
-    // The ends once a unit between these two is out.
+    // The ends and the length after the unit between these two was removed.
     fn without(self, older: Option<u32>, newer: Option<u32>) -> Queue
         requires { 0 < self.length }
         ensures { result ≡ queue_without self older newer }
@@ -65,7 +65,7 @@ impl Queue {
     }
 }
 
-// Puts a unit that stands on no list behind the newest of this one, unmarked.
+// Appends a unit that is on no list at the newest end of this one, unmarked.
 pub(crate) fn push_newest(links: &mut Links, queue: &mut Queue, home: Home, unit: u32)
     requires frames { length links.old < 2 ^ 32 }
     requires unit { unit < length links.old }
@@ -90,7 +90,7 @@ pub(crate) fn push_newest(links: &mut Links, queue: &mut Queue, home: Home, unit
     *queue = queue.pushed(unit);
 }
 
-// Takes a unit that stands on the list out of it.
+// Removes a unit from the list that holds it.
 pub(crate) fn unlink(links: &mut Links, queue: &mut Queue, home: Home, unit: u32)
     requires frames { length links.old < 2 ^ 32 }
     requires linked { IsLinked links.old home queue.old (units_of links.old queue.old) }

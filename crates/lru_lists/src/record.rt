@@ -1,18 +1,18 @@
-//! What is kept of one frame: where it stands, and its two neighbours there.
+//! The record of one frame: the list that holds it, and its two neighbours on that list.
 
 /// One of a group's two lists.
 #[derive(Clone, Copy, Debug, PartialEq, Eq)]
 pub enum LruList {
-    /// Units that are looked at first when memory is wanted.
+    /// Units that reclaim tries first.
     Inactive,
     /// Units that were used again.
     Active,
 }
 
-/// The list that a unit stands on: whose it is, and which of the two.
+/// The list that holds a unit: its owner, and which of the owner's two.
 #[derive(Clone, Copy, Debug, PartialEq, Eq)]
 pub struct Home {
-    /// The number of the owner of both lists, as that of a group.
+    /// The number of the owner of both lists, such as a group's.
     pub owner: u8,
     /// Which of the owner's lists.
     pub list: LruList,
@@ -21,24 +21,24 @@ pub struct Home {
 /// The record of one frame.
 #[derive(Clone, Copy, Debug, PartialEq, Eq)]
 pub struct Link {
-    /// The list that the unit stands on; None where it stands on none.
+    /// The list that holds the unit, or None.
     pub home: Option<Home>,
     /// The unit just before it on the list.
     pub older: Option<u32>,
     /// The unit just after it on the list.
     pub newer: Option<u32>,
-    /// Whether it was touched once since it came onto the inactive list.
+    /// Whether the unit was touched once since it joined the inactive list.
     pub is_marked: bool,
     /// Whether its pages are dirty.
     pub is_dirty: bool,
 }
 
-/// A unit as it stands on a list.
+/// A unit on a list.
 #[derive(Clone, Copy, Debug, PartialEq, Eq)]
 pub struct Entry {
     /// The number of the unit: that of its first frame.
     pub number: u32,
-    /// Whether it was touched once since it came onto the inactive list.
+    /// Whether the unit was touched once since it joined the inactive list.
     pub is_marked: bool,
     /// Whether its pages are dirty.
     pub is_dirty: bool,

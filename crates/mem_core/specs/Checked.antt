@@ -9,12 +9,12 @@ use Rattle.step_rules.specs.After.{Run, after, state_of, IsLegalRun}
 use Rattle.mem_core.specs.declared.verdict.Verdict.{Verdict}
 use Rattle.mem_core.specs.declared.verdict.Verdict.TheVariants.{Legal, IllegalAt}
 
--- the step may be answered so, and then leads from the one state to the other
+-- the rules allow this answer to the step in state s, and the step then leads to state t
 pub record Leads (s : State) (step : Step) (answer : Answer) (t : State) : Type 0 where
   pub allowed : Allows s step.seat step.action answer
   pub state : t ≡ after s step.seat step.action answer
 
--- the step at this place is the first that may not be answered as it was; it may be answered so
+-- the step at this index is the first whose answer the rules don't allow; they allow `expected` there
 pub record IsFirstIllegal (zone : Zone) (run : Run) (index : ℕ) (expected : Answer) : Type 0 where
   pub before : IsLegalRun zone (take index run)
   pub step : Step
@@ -23,7 +23,7 @@ pub record IsFirstIllegal (zone : Zone) (run : Run) (index : ℕ) (expected : An
   pub denied : ¬ Allows (state_of zone (take index run)) step.seat step.action answer
   pub allowed : Allows (state_of zone (take index run)) step.seat step.action expected
 
--- the verdict is right
+-- the verdict is right: the run is legal, or this is the first step whose answer isn't allowed
 abbrev pub IsVerdict : Zone → Run → Verdict → Type 0
 IsVerdict zone run Legal = IsLegalRun zone run
 IsVerdict zone run (IllegalAt index expected) = IsFirstIllegal zone run index expected

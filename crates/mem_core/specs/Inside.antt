@@ -1,5 +1,4 @@
--- Of the reading core, on which the program doesn't run.
--- What a core keeps, and how a contract sees it.
+-- Part of the reading core, on which the program doesn't run. What a core stores, and how a contract sees it.
 use Rattle.std.specs.Prelude.{◌≡◌, ℕ, ◌*◌, ◌^◌, ◌<◌, ◌≤◌, List, map, vec_len, vec_capacity}
 use Rattle.group_tree.specs.Bounds.{most_groups}
 use Rattle.zone_blocks.specs.declared.block.Block.{Block}
@@ -16,11 +15,11 @@ use Rattle.mem_core.specs.declared.zone.Core.TheInside.{Inside}
 use Rattle.mem_core.specs.Accounts.{Account, HaveSmallPeaks}
 use Rattle.mem_core.specs.Shown.{SeatState, CoreState}
 
--- what is shown of a seat
+-- what a contract sees of a seat: its references and its part
 abbrev pub seat_shown : Seat → SeatState
 seat_shown s = record { references = s.references.items; part = part_in s }
 
--- what rows show, with these accounts and areas after so many steps
+-- the core state that these rows show, with these accounts and areas, after this many steps
 abbrev pub rows_shown : Rows → List Account → List Block → ℕ → CoreState
 rows_shown rows accounts areas steps = record {
   zone = record { frames = rows.frames; cpus = rows.cpus };
@@ -39,8 +38,8 @@ rows_shown rows accounts areas steps = record {
 abbrev pub core_state : Inside → CoreState
 core_state c = rows_shown c.rows c.accounts.items c.areas.blocks c.steps
 
--- the parts of a core agree: the rows are of the zone's size, and what they show is sound, of groups that are there, and
--- bounded by so many steps
+-- The parts of a core agree. The rows have the zone's size, and their state is sound, names only existing groups, and
+-- is bounded by the number of steps. The areas are the maximal blocks of the free frames.
 pub record IsWhole (c : Inside) : Type 0 where
   pub fits : FitsZone c.rows
   pub sound : IsSound (state_in c.rows)

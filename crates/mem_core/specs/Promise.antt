@@ -1,5 +1,5 @@
--- Of the reading core, on which the program doesn't run.
--- What a core keeps over a run: the promise of `step_rules`, and which free block it places.
+-- Part of the reading core, on which the program doesn't run. What a core guarantees over a run: the promise of
+-- `step_rules`, and which free block it places.
 use Rattle.std.specs.Prelude.{◌≡◌, ℕ, true, List, take, slice_get, IfSome}
 use Rattle.zone_blocks.specs.declared.block.Block.{Block}
 use Rattle.zone_blocks.specs.Areas.{AreMaximalBlocks, IsFrontOfSmallest}
@@ -14,7 +14,7 @@ use Rattle.step_rules.specs.After.{Run, state_of}
 use Rattle.step_rules.specs.Promise.{Shown, IsShown, Promise}
 use Rattle.mem_core.specs.Shown.{CoreState, state_in}
 
--- what a core shows, as the promise speaks of it; `current` is what its reader of that name tells
+-- what a core shows, in the terms of the promise; `current` is what its reader of that name returns
 abbrev pub shown_of : CoreState → Shown
 shown_of s = record {
   areas = s.areas;
@@ -25,21 +25,21 @@ shown_of s = record {
   current = usage_of (state_in s);
 }
 
--- the promise holds of what the core shows, where its lock is free
+-- if the core's lock is free, the promise holds of what the core shows
 abbrev pub KeepsPromise : CoreState → Run → Type 0
 KeepsPromise s run = is_unheld s.hold ≡ true → Promise s.zone run (shown_of s)
 
--- each beginning of the run that leaves the lock free keeps the promise, for whatever shows its state
+-- after each beginning of the run that leaves the lock free, the promise holds of whatever shows the state
 abbrev pub AlwaysKeepsPromise : Zone → Run → Type 0
 AlwaysKeepsPromise zone run = (k : ℕ) → is_unheld (state_of zone (take k run)).hold ≡ true →
     (shown : Shown) → IsShown (state_of zone (take k run)) shown → Promise zone (take k run) shown
 
--- the one at the start of the smallest maximal free block of its order or above (Knuth: the least sufficient order is
--- split)
+-- a placed block begins at the first frame of the smallest maximal free block of its order or above (Knuth: the least
+-- sufficient order is split)
 abbrev pub PlacesFirst : State → Action → Answer → Type 0
 PlacesFirst s (PlaceBlock g k) (Placed b) = (areas : List Block) → AreMaximalBlocks (free_in s.zone s.phases) areas → IsFrontOfSmallest areas k b
 PlacesFirst s action answer = Unit {0}
 
--- that block is placed in each step of the run
+-- each step of the run that places a block places that one
 abbrev pub AlwaysPlacesFirst : Zone → Run → Type 0
 AlwaysPlacesFirst zone run = (k : ℕ) → IfSome (slice_get run k) (λ e. PlacesFirst (state_of zone (take k run)) e.0.action e.1)

@@ -1,4 +1,4 @@
--- What a checker keeps, and how a contract sees it.
+-- What a checker stores, and how a contract sees it.
 use Rattle.std.specs.Prelude.{◌≡◌, ◌*◌, ◌^◌, ◌<◌, ◌≤◌, [], vec_capacity}
 use Rattle.step_rules.proofs.Sound.{IsSound}
 use Rattle.step_rules.proofs.Homes.{IsHomed}
@@ -9,12 +9,12 @@ use Rattle.mem_core.specs.declared.checker.Checker.TheInside.{Inside}
 use Rattle.mem_core.specs.Shown.{CoreState}
 use Rattle.mem_core.specs.Inside.{rows_shown}
 
--- the state that a checker shows: it has no accounts, and shows no areas
+-- the state that a checker shows, without accounts and areas
 abbrev pub checker_state : Inside → CoreState
 checker_state c = rows_shown c.rows [] [] c.steps
 
--- the parts of a checker agree: the rows are of the zone's size, what they show is sound, of groups that are there, and
--- bounded by so many steps, and there is room for the areas
+-- The parts of a checker agree. The rows have the zone's size, and their state is sound, names only existing groups,
+-- and is bounded by the number of steps. There is room for the areas.
 pub record IsReady (c : Inside) : Type 0 where
   pub fits : FitsZone c.rows
   pub sound : IsSound (state_in c.rows)

@@ -1,5 +1,4 @@
--- Of the reading core, on which the program doesn't run.
--- What a core shows, and of which runs it shows the state.
+-- Part of the reading core, on which the program doesn't run. What a core shows, and the state of which runs.
 use Rattle.std.specs.Prelude.{◌≡◌, ℕ, Bool, true, false, Option, Some, None, List, length}
 use Rattle.std.specs.List.{slice_get, slice_index_or}
 use Rattle.zone_blocks.specs.declared.block.Block.{Block}
@@ -18,7 +17,7 @@ use Rattle.step_rules.specs.Events.{events_of, events_local_of}
 use Rattle.zone_sizes.specs.declared.config.Config.{Config}
 use Rattle.mem_core.specs.Accounts.{Account, account_of}
 
--- the frames and the CPUs of a zone that is booted with these sizes
+-- the frames and the CPUs of a zone that boots with these sizes
 abbrev pub zone_of : Config → Zone
 zone_of config = record { frames = config.frames; cpus = config.cpus }
 
@@ -27,9 +26,9 @@ pub record SeatState : Type 0 where
   pub references : List ℕ
   pub part : Part
 
--- what a core shows: the sizes, who holds the lock, the groups, for each group number whether it is killed and the pages
--- that are pending, for each frame its phase, for each seat its references and its part, for each group number an
--- account, the free areas, and how many steps were made
+-- What a core shows: the sizes, who holds the lock, the groups, the free areas and the number of steps. Also, for
+-- each group number: whether it is killed, its pending pages and its account. For each frame: its phase. For each
+-- seat: its references and its part.
 pub record CoreState : Type 0 where
   pub zone : Zone
   pub hold : Hold
@@ -42,17 +41,17 @@ pub record CoreState : Type 0 where
   pub areas : List Block
   pub steps : ℕ
 
--- the references on a frame of a seat that may be there
+-- the references of this seat on a frame; 0 if there is no such seat
 abbrev pub reference_at : Option SeatState → ℕ → ℕ
 reference_at None f = 0
 reference_at (Some s) f = slice_index_or s.references f 0
 
--- the part of a seat that may be there
+-- the part of this seat; an empty one if there is no such seat
 abbrev pub part_at : Option SeatState → Part
 part_at None = no_part
 part_at (Some s) = s.part
 
--- the state of the rules that a core stands for; beyond the end of each list is what is there at first
+-- the state of the rules that a core represents; beyond the end of each list it has the values of a new boot
 abbrev pub state_in : CoreState → State
 state_in s = record {
   zone = s.zone;
@@ -65,14 +64,14 @@ state_in s = record {
   pending = λ g. slice_index_or s.pending g 0;
 }
 
--- the accounts tell what the run defines of each group that is there: its peak, and its events
+-- for each existing group the accounts have the peak and the event counts that the run defines
 pub record AccountsTell (zone : Zone) (run : Run) (accounts : List Account) : Type 0 where
   pub peaks : (g : ℕ) → has_group (state_of zone run).groups g ≡ true → IsPeak zone run g (account_of accounts g).peak
   pub events : (key : EventKey) (g : ℕ) → has_group (state_of zone run).groups g ≡ true → count_of (account_of accounts g).events key ≡ events_of key zone run g
   pub events_local : (key : EventKey) (g : ℕ) → has_group (state_of zone run).groups g ≡ true
       → count_of (account_of accounts g).events_local key ≡ events_local_of key zone run g
 
--- the core is what the run leads to
+-- the run is legal, and the core is what it leads to
 pub record Shows (s : CoreState) (run : Run) : Type 0 where
   pub legal : IsLegalRun s.zone run
   pub steps : s.steps ≡ length run

@@ -1,5 +1,4 @@
-//! Of the reading core, on which the program doesn't run.
-//! How the accounts of the groups follow a step.
+//! Part of the reading core, on which the program doesn't run: how a step changes the accounts of the groups.
 
 ghost use Rattle.std.specs.Prelude.{◌≡◌, ◌^◌, ◌<◌, ◌==◌, IfOk, vec_len, replicate};
 ghost use Rattle.step_rules.specs.Peaks.{peak_follows};
@@ -17,7 +16,7 @@ use group_tree::group::{GroupId, MAX_GROUPS};
 use std::alloc::{AllocError, Global};
 use step_rules::step::{Action, Answer};
 
-/// A new group's account for each group number.
+/// An account for each group number, each that of a new group.
 pub(crate) fn new_accounts(alloc: Global) -> Result<Vec<Account>, AllocError>
     ensures items { IfOk result (λ accounts. accounts.items ≡ replicate most_groups new_account) }
     ensures number { IfOk result (λ accounts. vec_len accounts ≡ most_groups) }
@@ -31,7 +30,7 @@ pub(crate) fn new_accounts(alloc: Global) -> Result<Vec<Account>, AllocError>
     vec![in alloc; account; MAX_GROUPS]
 }
 
-// The event that a step notes, and the group at which it notes it.
+// The event that a step counts, and the group at which it counts it.
 fn note_of(action: &Action, answer: &Answer) -> Option<(EventKey, GroupId)>
     ensures { result ≡ note_of action.now answer.now }
 {
@@ -47,7 +46,7 @@ fn note_of(action: &Action, answer: &Answer) -> Option<(EventKey, GroupId)>
     }
 }
 
-// The step makes this group.
+// Whether the step makes this group.
 fn makes_group(group: GroupId, action: &Action, answer: &Answer) -> bool
     ensures { result ≡ makes_group group action.now answer.now }
 {
@@ -60,7 +59,7 @@ fn makes_group(group: GroupId, action: &Action, answer: &Answer) -> bool
     }
 }
 
-// The events of a group and of those below it after a step.
+// The events of a group and of all groups below it after a step.
 fn events_below(
     rows: &Rows,
     action: &Action,
@@ -85,7 +84,7 @@ fn events_below(
     }
 }
 
-// The events of a group alone after a step.
+// The events of a group itself after a step.
 fn events_here(action: &Action, answer: &Answer, group: GroupId, events: EventCounts) -> EventCounts
     ensures { result ≡ events_after (λ h. h == group) group action.now answer.now events }
 {
@@ -155,7 +154,7 @@ fn account_after(
     }
 }
 
-/// The account of each group that is there follows the step that led to these rows.
+/// Updates the account of each existing group for the step that led to these rows.
 pub(crate) fn follow(rows: &Rows, action: &Action, answer: &Answer, accounts: &mut Vec<Account>)
     requires fits { FitsZone rows.now }
     requires few { IsFew (state_in rows.now) }

@@ -14,10 +14,12 @@ use std::alloc::{AllocError, Global};
 use step_rules::step::{Answer, Step};
 use zone_sizes::config::Config;
 
-/// Whether a log, the steps of any memory controller with their answers, is a legal run of a zone of these sizes. A log that
-/// is keeps the promise at each of its beginnings that leaves the lock free. Of any other log the first step is named
-/// that isn't allowed, with an answer that would have been. Who wrote the log doesn't matter. By reading, it fails only if
-/// memory runs out: no clause says so.
+/// Says whether a log is a legal run of a zone of these sizes. The log is the steps of any memory controller with
+/// their answers; who wrote it doesn't matter. A legal log keeps the promise after each of its beginnings that leaves
+/// the lock free.
+///
+/// For any other log it names the first step whose answer isn't allowed, and an answer that would have been. It fails
+/// only if memory runs out; no clause says so, it was read in the code.
 pub fn check(alloc: Global, config: Config, log: &[(Step, Answer)]) -> Result<Verdict, AllocError>
     requires { IsValidConfig config }
     ensures verdict { IfOk result (IsVerdict (zone_of config) log.now) }

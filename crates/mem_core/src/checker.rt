@@ -1,4 +1,4 @@
-//! The checker: takes the steps of a log, each with its answer, one after the other.
+//! The checker: it takes the steps of a log, each with its answer, one after another.
 
 ghost use Rattle.std.specs.Prelude.{◌≡◌, ◌+◌, ◌^◌, ◌<◌, ◌≤◌, ◌↔◌, IfErr, IfOk, IsTrue, OnErr, OnOk, vec_capacity};
 ghost use Rattle.step_rules.specs.State.{at_boot};
@@ -23,12 +23,13 @@ use zone_blocks::areas::FreeAreas;
 use zone_blocks::block::Block;
 use zone_sizes::config::Config;
 
-/// The checker. It follows the state as `Core` does, but keeps no accounts, and counts the free areas only if the answer to
-/// a placing is in doubt. A contract sees it as a `CoreState` with no accounts and no areas.
+/// The checker. It tracks the state as `Core` does, but keeps no accounts. It computes the free areas only for a
+/// placing whose answer in the log isn't a block that may be placed. A contract sees it as a `CoreState` without
+/// accounts and areas.
 #[derive(Drop)]
 pub struct Checker {
     rows: Rows,
-    // Whether each frame is free, as the areas want it told.
+    // Scratch space for `set_areas`: whether each frame is free.
     free: Vec<bool>,
     areas: FreeAreas,
     steps: u64,
@@ -46,14 +47,14 @@ impl Model for Checker {
     ghost invariant = { IsReady };
 }
 
-// Whether the two answers are one.
+// Whether the two answers are equal.
 fn is_same(one: &Answer, other: &Answer) -> bool
     ensures { IsTrue result ↔ (one.now ≡ other.now) }
 {
     *one == *other
 }
 
-// Makes a step with an answer of the core's own choice. The areas are counted only for a placing.
+// Makes a step with an answer of the core's own choice. It computes the free areas only for a placing.
 fn serve_anew(rows: &mut Rows, free: &mut Vec<bool>, areas: &mut FreeAreas, step: &Step) -> Answer
     requires fits { FitsZone rows.old }
     requires few { IsFew (rows_shown.state_in rows.old) }
@@ -73,7 +74,7 @@ fn serve_anew(rows: &mut Rows, free: &mut Vec<bool>, areas: &mut FreeAreas, step
     }
 }
 
-// Takes a step that is said to have placed this block.
+// Takes a step that the log says placed this block.
 fn take_placing(
     rows: &mut Rows,
     free: &mut Vec<bool>,
@@ -98,7 +99,7 @@ fn take_placing(
     Err(serve_anew(rows, free, areas, step))
 }
 
-// Takes a step that is said to be answered so, and to have placed no block.
+// Takes a step with the answer in the log, which isn't a placed block.
 fn take_other(
     rows: &mut Rows,
     free: &mut Vec<bool>,
@@ -126,7 +127,7 @@ fn take_other(
     Err(expected)
 }
 
-// Takes a step that is said to be answered so.
+// Takes a step with the answer in the log.
 fn take(
     rows: &mut Rows,
     free: &mut Vec<bool>,
@@ -153,8 +154,8 @@ fn take(
 }
 
 impl Checker {
-    /// A checker of logs that begin with all frames free, the root alone and the lock free. All room that its steps need
-    /// is reserved here. Of the sizes only the frames and the CPUs matter.
+    /// A checker of logs that begin with all frames free, the root alone and the lock free. It reserves here all room
+    /// that its steps need. Of the sizes only the frames and the CPUs matter.
     pub fn new(alloc: Global, config: Config) -> Result<Checker, AllocError>
         requires { IsValidConfig config }
         ensures state { IfOk result (λ checker. state_in checker ≡ at_boot (zone_of config)) }
@@ -171,9 +172,11 @@ impl Checker {
         })
     }
 
-    /// Takes the next step of a log with its answer, if the rules allow it. Otherwise it returns an answer that the rules
-    /// allow, and goes on as if the step had been answered so. A block may be placed anywhere: each aligned block of the
-    /// order will do whose frames are all free. It may take 2^64 - 1 steps.
+    /// Takes the next step of a log with its answer, if the rules allow it. Otherwise it returns an answer that the
+    /// rules allow, and continues as if the step had been answered so.
+    ///
+    /// A block may be placed on any aligned block of its order whose frames are all free. The checker may take 2^64 -
+    /// 1 steps.
     pub fn accept(&mut self, step: &Step, answer: &Answer) -> Result<(), Answer>
         requires { self.old.steps + 1 < 2 ^ 64 }
         ensures accepted { OnOk result (Leads (state_in self.old) step.now answer.now (state_in self.new)) }
@@ -181,7 +184,7 @@ impl Checker {
         ensures denied { OnErr result (¬ Allows (state_in self.old) step.now.seat step.now.action answer.now) }
         ensures steps { self.new.steps ≡ self.old.steps + 1 }
     {
-        // No more pages than a step can ask for.
+        // This borrow brings in the bound on the pages that a step can ask for.
         let _ = pages_asked(&step.action);
         self.steps += 1;
         take(

@@ -1,5 +1,4 @@
-//! Of the reading core, on which the program doesn't run.
-//! The free areas, told anew of the frames that are free.
+//! Part of the reading core, on which the program doesn't run: the free areas, computed anew from the free frames.
 
 ghost use Rattle.std.specs.Prelude.{◌≡◌, ◌≤◌, vec_capacity};
 ghost use Rattle.zone_blocks.specs.Areas.{AreMaximalBlocks};
@@ -9,7 +8,7 @@ ghost use Rattle.core_rows.specs.Shown.{state_in};
 use core_rows::rows::Rows;
 use zone_blocks::areas::FreeAreas;
 
-/// Makes the areas those of the frames that are free by the rows; `free` tells these one by one.
+/// Sets the areas to the maximal blocks of the frames that are free by the rows. `free` is scratch space.
 pub(crate) fn set_areas(rows: &Rows, free: &mut Vec<bool>, areas: &mut FreeAreas)
     requires frames { areas.old.frames ≡ rows.now.frames }
     requires room { rows.now.frames ≤ vec_capacity free.old }

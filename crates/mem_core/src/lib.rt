@@ -1,6 +1,5 @@
-//! Of the reading core, on which the program doesn't run.
-//! The core of the memory controller: a list of steps by processors, each legal or refused, under the rules of
-//! `step_rules`.
+//! The reading core, on which the program doesn't run. It makes the steps of CPUs one by one, and answers each as the
+//! rules of `step_rules` allow.
 #![tactic(auto)]
 
 pub mod account;

@@ -1,5 +1,4 @@
-//! Of the reading core, on which the program doesn't run.
-//! Whole runs: the promise of the core, for every list of steps.
+//! Part of the reading core, on which the program doesn't run: whole runs, and the promise for every list of steps.
 
 ghost use Rattle.std.specs.Prelude.{◌≡◌, ◌≤◌, IfOk, length};
 ghost use Rattle.std.specs.List.{zip};
@@ -16,18 +15,21 @@ use zone_sizes::config::Config;
 /// The core after a list of steps, and their answers.
 #[derive(Drop)]
 pub struct Played {
-    /// The core as the last step left it.
+    /// The core after the last step.
     pub core: Core,
-    /// The answer to each step, in their order.
+    /// The answer to each step, in order.
     pub answers: Vec<Answer>,
 }
 
-/// Makes the steps one after another, from a core on which none was made. The pairs of each step and its answer are a
-/// legal run, and the core shows that run: its state is the one that the run defines, and its free areas are the
-/// maximal blocks of the free frames. After each of its beginnings that leaves the lock free the promise holds of whatever
-/// shows the state, and at the end of what the core shows. A block that is placed is the first of the smallest. What
-/// else follows for any legal run is said in `step_rules::laws`. By reading, it fails only if memory runs out: no clause
-/// says so.
+/// Makes the steps one after another, on a new core. The steps with their answers are a legal run, and the core shows
+/// that run. Its state is the one that the run leads to, and its free areas are the maximal blocks of the free
+/// frames.
+///
+/// After each beginning of the run that leaves the lock free, the promise holds of whatever shows the state. At the
+/// end it holds of what the core shows. A placed block is the front of the smallest sufficient free block.
+/// `step_rules::laws` has what else follows for any legal run.
+///
+/// It fails only if memory runs out; no clause says so, it was read in the code.
 pub fn play(alloc: Global, config: Config, steps: &[Step]) -> Result<Played, AllocError>
     requires { IsValidConfig config }
     ensures one_each { IfOk result (λ p. length p.answers.items ≡ length steps.now) }
@@ -46,10 +48,12 @@ pub fn play(alloc: Global, config: Config, steps: &[Step]) -> Result<Played, All
     Ok(Played { core, answers })
 }
 
-/// The answers to the steps, made one after another from the beginning: one for each, with which the steps are a legal
-/// run. So the laws of `step_rules::laws` hold of them, and each beginning that leaves the lock free keeps the promise. A
-/// block that is placed is the first of the smallest, which legality leaves open. By reading, it fails only if memory runs
-/// out: no clause says so.
+/// Makes the steps one after another, on a new core, and returns an answer for each. The steps with these answers are
+/// a legal run. So the laws of `step_rules::laws` hold of it, and each beginning that leaves the lock free keeps the
+/// promise.
+///
+/// A placed block is the front of the smallest sufficient free block; the rules would allow others. It fails only if
+/// memory runs out; no clause says so, it was read in the code.
 pub fn run(alloc: Global, config: Config, steps: &[Step]) -> Result<Vec<Answer>, AllocError>
     requires { IsValidConfig config }
     ensures one_each { IfOk result (λ answers. length answers.items ≡ length steps.now) }

@@ -1,17 +1,17 @@
-//! What a check of a log says.
+//! The verdict of a check on a log.
 
 use step_rules::step::Answer;
 
-/// What a check says of a log.
+/// The verdict of a check on a log.
 #[derive(Clone, Copy, Debug, PartialEq, Eq)]
 pub enum Verdict {
     /// The log is a legal run.
     Legal,
-    /// A step of the log may not be answered as it was.
+    /// The rules don't allow the answer of some step of the log.
     IllegalAt {
-        /// The place of the first such step, counted from 0.
+        /// The index of the first such step, counted from 0.
         index: usize,
-        /// An answer that the step may get. `Illegal` if it may not be made at all.
+        /// An answer that the rules allow there: `Illegal` if the step may not be made at all.
         expected: Answer,
     },
 }

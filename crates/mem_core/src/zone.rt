@@ -1,5 +1,4 @@
-//! Of the reading core, on which the program doesn't run.
-//! The core: what stands behind the zone's lock, and how a step changes it.
+//! Part of the reading core, on which the program doesn't run: the core, and how a step changes it.
 
 ghost use Rattle.std.specs.Prelude.{◌≡◌, ℕ, ◌+◌, ◌^◌, ◌<◌, ◌≤◌, ◌++◌, ◌∷◌, [], IfOk};
 ghost use Rattle.step_rules.specs.declared.step.Answer.{Answer};
@@ -28,7 +27,7 @@ use zone_sizes::config::Config;
 #[derive(Drop)]
 pub struct Core {
     rows: Rows,
-    // Whether each frame is free, as the areas want it told.
+    // Scratch space for `set_areas`: whether each frame is free.
     free: Vec<bool>,
     accounts: Vec<Account>,
     areas: FreeAreas,
@@ -48,8 +47,8 @@ impl Model for Core {
 }
 
 impl Core {
-    /// A core with all frames free, the root alone, the lock free and no step made. All room that its steps need is
-    /// reserved here. Of the sizes only the frames and the CPUs matter here.
+    /// A core with all frames free, the root alone, the lock free and no step made. It reserves here all room that
+    /// its steps need. Of the sizes only the frames and the CPUs matter.
     pub fn new(alloc: Global, config: Config) -> Result<Core, AllocError>
         requires { IsValidConfig config }
         ensures zone { IfOk result (λ core. core.zone ≡ zone_of config) }
@@ -70,8 +69,8 @@ impl Core {
         })
     }
 
-    /// Makes one step, where it is legal, and answers it. A step that is not legal is answered Illegal and changes
-    /// nothing but the number of steps, of which 2^64 - 1 may be made.
+    /// Makes one step if it is legal, and answers it. A step that isn't legal is answered Illegal and changes only
+    /// the number of steps. 2^64 - 1 steps may be made.
     pub fn step(&mut self, step: Step) -> Answer
         requires { self.old.steps + 1 < 2 ^ 64 }
         ensures allowed { Allows (state_in self.old) step.seat step.action result }
@@ -85,7 +84,7 @@ impl Core {
         ensures illegal { result ≡ Illegal → self.new ≡ record self.old { steps = self.old.steps + 1 } }
         ensures usage { UsageMoves (state_in self.old) step.seat step.action result }
     {
-        // No more pages than a step can ask for.
+        // This borrow brings in the bound on the pages that a step can ask for.
         let _ = pages_asked(&step.action);
         let answer = serve(&mut self.rows, &self.areas, &step);
         self.steps += 1;

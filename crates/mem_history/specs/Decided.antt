@@ -1,4 +1,4 @@
--- What a legal run decides: the answers that all parts decide together are those of the run.
+-- What a legal run determines: its answers are those that all parts together determine.
 use Rattle.std.specs.Prelude.{◌≡◌, ◌≢◌, ℕ, true, Some, List, [], ◌∷◌, ◌++◌, slice_get}
 use Rattle.frame_word.specs.Seats.{KnownTable}
 use Rattle.cpu_part.specs.Cpus.{KnownCpu}
@@ -12,15 +12,16 @@ use Rattle.mem_machine.specs.Interleaving.{zone_of}
 use Rattle.mem_machine.specs.Steps.{cpu_makes}
 use Rattle.mem_history.specs.Whole.{ShowsAll, AreDecided, under_lock, is_fast}
 
--- If a run shows the whole, and goes on legally with the steps of a line under the lock, then each of these steps was
--- answered as all parts together decide
+-- Suppose a run shows the whole, and continues legally with the steps of a line under the lock. Then each of these
+-- steps was answered as all parts together determine.
 abbrev pub LegalLinesAreDecided : Type 0
 LegalLinesAreDecided = (table : KnownTable) (run : Run) (cpus : List KnownCpu) (index : ℕ) (before : Side) (steps : Run)
     (after : Side) → ShowsAll table run before.machine cpus → slice_get cpus index ≡ Some before.cpu
     → Makes table before steps after → IsLegalRun (zone_of table) (run ++ under_lock before.cpu.number steps)
     → AreDecided table cpus before steps
 
--- So is a step that takes no lock, if the run that goes on with it is legal and it was not answered Illegal
+-- The same holds for a step that takes no lock, if the run that continues with it is legal and it wasn't answered
+-- Illegal.
 abbrev pub LegalFastStepsAreDecided : Type 0
 LegalFastStepsAreDecided = (table : KnownTable) (run : Run) (cpus : List KnownCpu) (index : ℕ) (machine : KnownMachine)
     (cpu : KnownCpu) (action : Action) (answer : Answer) → ShowsAll table run machine cpus

@@ -1,4 +1,4 @@
--- Where the whole begins, and what holds wherever a run shows it.
+-- How the whole begins, and what holds whenever a run shows it.
 use Rattle.std.specs.Prelude.{◌≡◌, ℕ, ◌+◌, ◌≤◌, nat_le, zero, suc, Option, Some, None, List, [], ◌∷◌}
 use Rattle.std.specs.Prelude.{length, slice_get, if◌then◌else◌}
 use Rattle.std.specs.Option.{option_map_or}
@@ -23,7 +23,7 @@ use Rattle.mem_history.specs.Whole.{ShowsAll}
 
 -- ---- a new boot
 
--- the machine of a new boot, and the parts of its processors, in order, none of which did anything
+-- the machine of a new boot, and the parts of its CPUs in order, none of which has made a step
 pub record IsNewBoot (table : KnownTable) (words : Words) (first : KnownMachine) (cpus : List KnownCpu) : Type 0 where
   pub machine : IsFirst table words first
   pub count : length cpus ≡ table.cpus
@@ -31,12 +31,12 @@ pub record IsNewBoot (table : KnownTable) (words : Words) (first : KnownMachine)
       → cpu ≡ first_cpu (record { table = table.table; view = first_cpu_view (suc index) })
       (record { table = words.table; view = first_processor (suc index) })
 
--- a new boot shows the run of no step
+-- the run without steps shows a new boot
 abbrev pub ABootIsShown : Type 0
 ABootIsShown = (table : KnownTable) (words : Words) (first : KnownMachine) (cpus : List KnownCpu)
     → IsNewBoot table words first cpus → ShowsAll table [] first cpus
 
--- so the run of one Lock shows the first processor that takes it the machine of the new boot
+-- after a new boot, the run of one Lock shows the machine to the CPU that takes the lock first
 abbrev pub TheFirstHolderIsShown : Type 0
 TheFirstHolderIsShown = (table : KnownTable) (words : Words) (first : KnownMachine) (cpus : List KnownCpu) (index : ℕ)
     (cpu : KnownCpu) → IsNewBoot table words first cpus → slice_get cpus index ≡ Some cpu
@@ -44,21 +44,21 @@ TheFirstHolderIsShown = (table : KnownTable) (words : Words) (first : KnownMachi
 
 -- ---- what always holds of the parts
 
--- of each part, by its type: its lists and pins are what its seats know, and one that never saw a stock has no fresh
--- frame
+-- What the type of each part guarantees. Its lists and pins are what its seats know. If it has never seen a stock, it
+-- has no fresh frame.
 pub record IsTiedPart (table : KnownTable) (words : Words) (cpu : KnownCpu) : Type 0 where
   pub tied : IsTied table words cpu
   pub none_fresh : group_of cpu.stock_seat.view.last ≡ None → length cpu.fresh ≡ 0
 
--- so it is of all parts
+-- the same holds of all parts
 abbrev pub AreTied : KnownTable → Words → List KnownCpu → Type 0
 AreTied table words cpus =
     (index : ℕ) (cpu : KnownCpu) → slice_get cpus index ≡ Some cpu → IsTiedPart table words cpu
 
 -- ---- memory.current
 
--- wherever a run shows the whole, the ledger's number for a group is the frames that the group and those below it keep,
--- and the pages prepaid for them
+-- If a run shows the whole, then the ledger's usage of a group is the frames that the group and its descendants keep
+-- by the run, plus the pages prepaid for them.
 abbrev pub CurrentIsKept : Type 0
 CurrentIsKept = (table : KnownTable) (words : Words) (run : Run) (machine : KnownMachine) (cpus : List KnownCpu)
     → ShowsAll table run machine cpus → IsConsistent table words machine → AreCharges machine.ledger
@@ -69,17 +69,18 @@ CurrentIsKept = (table : KnownTable) (words : Words) (run : Run) (machine : Know
 
 -- ---- the promise
 
--- the listed and the fresh frames of the processor of this number, by its part; number 0 is nobody's
+-- the listed frames of the CPU of this number, by its part; CPUs count from 1, so number 0 has none
 abbrev pub list_by : List KnownCpu → ℕ → List ℕ
 list_by cpus zero = []
 list_by cpus (suc index) = option_map_or (λ cpu. cpu.list) (slice_get cpus index) []
 
--- its fresh frames, likewise
+-- the fresh frames of the CPU of this number, by its part
 abbrev pub fresh_frames_by : List KnownCpu → ℕ → List ℕ
 fresh_frames_by cpus zero = []
 fresh_frames_by cpus (suc index) = option_map_or (λ cpu. cpu.fresh) (slice_get cpus index) []
 
--- the group that keeps the frame, by its record: one that is lent and fresh there is kept by the group of that stock
+-- the group that keeps the frame, by the frame's record; the group of a CPU's stock keeps a frame that is lent to
+-- that CPU and fresh there
 abbrev pub keeper_by : KnownMachine → List KnownCpu → ℕ → Spot → Option ℕ
 keeper_by machine cpus frame Free = None
 keeper_by machine cpus frame (Lent processor) =
@@ -88,7 +89,7 @@ keeper_by machine cpus frame (Lent processor) =
 keeper_by machine cpus frame (Head unit) = Some unit.group
 keeper_by machine cpus frame (Tail group) = Some group
 
--- the stock of the processor: of its account's group, with the booked pages that are neither fresh nor noted
+-- the stock of the CPU: its account's group, with the booked pages that are neither fresh nor reported
 abbrev pub stock_by : KnownMachine → List KnownCpu → ℕ → Stock
 stock_by machine cpus processor =
     (part_with [] (fresh_frames_by cpus processor) [] (account_of machine.stock_seat.view processor)).stock
@@ -104,7 +105,7 @@ shown_of machine cpus = record {
   current = current_of machine.ledger;
 }
 
--- wherever a run shows the whole, the promise holds of what the machine and the parts show
+-- if a run shows the whole, then the promise holds of what the machine and the parts show
 abbrev pub TheWholeIsPromised : Type 0
 TheWholeIsPromised = (table : KnownTable) (words : Words) (run : Run) (machine : KnownMachine) (cpus : List KnownCpu)
     → ShowsAll table run machine cpus → IsConsistent table words machine → AreCharges machine.ledger

@@ -1,4 +1,4 @@
--- Which step a call is that takes no lock, and changes a list or a reference.
+-- Which step a call without the lock is, if it changes a list or a reference.
 use Rattle.std.specs.Prelude.{◌≡◌, ℕ, ◌+◌, ◌<◌, ◌≤◌, Some, List, [], ◌∷◌, length, slice_get}
 use Rattle.frame_word.specs.Seats.{KnownTable}
 use Rattle.frame_word.specs.declared.answers.Get.TheVariants as get
@@ -18,21 +18,21 @@ use Rattle.mem_machine.specs.Local.{Makes}
 use Rattle.mem_machine.specs.Steps.{cpu_makes}
 use Rattle.mem_history.specs.Whole.{ShowsAll, AreDecided}
 
--- what a put of the part answered, as the answer of the step
+-- the answer of the step Put, for what the part's put answered
 abbrev pub put_answer : Putted → Answer
 put_answer (put.Left left) = Left left
 put_answer put.Last = Last
 
--- the run shows the whole, and this is its part at this index, which its seats know
+-- the run shows the whole, and this is its part at this index, tied to its seats
 pub record IsPart (table : KnownTable) (words : Words) (run : Run) (machine : KnownMachine) (cpus : List KnownCpu)
     (index : ℕ) (cpu : KnownCpu) : Type 0 where
   pub shows : ShowsAll table run machine cpus
   pub is_part : slice_get cpus index ≡ Some cpu
   pub tied : IsTied table words cpu
 
--- Where a run shows the whole: a get that is answered Held is that step of the processor, by what the machine shows it;
--- so is a put; so is a fast allocation that gets a frame, a Consume, and a fresh frame that is listed again, a Credit,
--- where the stock is one that pays, as all parts decide
+-- If a run shows the whole, a fast call of a CPU is one step from what the machine shows that CPU. A get answered
+-- Held is a Get, and a put is a Put. A fast allocation that gets a frame is a Consume, and a drop that lists a fresh
+-- frame again is a Credit: these two if all parts together determine that answer.
 pub record FastCallsLead : Type 0 where
   pub held : (table : KnownTable) (words : Words) (run : Run) (machine : KnownMachine) (cpus : List KnownCpu)
       (index : ℕ) (cpu later : KnownCpu) → IsPart table words run machine cpus index cpu → (frame : ℕ)

@@ -1,4 +1,4 @@
--- One run of which the machine and every processor's part are what it shows, and how a line carries it on.
+-- One run that shows the machine and the part of every CPU, and how a line continues it.
 use Rattle.std.specs.Prelude.{◌≡◌, ℕ, ◌-◌, ◌==◌, zero, suc, Bool, true, false, Some, List, [], ◌∷◌, ◌++◌}
 use Rattle.std.specs.Prelude.{length, take, slice_get, slice_set, IfSome}
 use Rattle.std.specs.Prelude.{fold, if◌then◌else◌}
@@ -20,19 +20,19 @@ use Rattle.mem_machine.specs.Local.{local_of, Makes}
 use Rattle.mem_machine.specs.Interleaving.{zone_of, Shows}
 use Rattle.mem_machine.specs.Steps.{cpu_makes}
 
--- what the processor would see if it took the lock now, which is free
+-- what the CPU would see if it took the lock now, which is free
 abbrev pub seen_by : ℕ → State → State
 seen_by processor state = hide processor (record state { hold = HeldBy processor })
 
--- the part at this index is that of the processor with the next number, and what the machine shows this processor with
--- it is what it would see
+-- the part at this index is that of the CPU with the next number; what the machine and this part show is what the CPU
+-- would see if it took the lock
 pub record IsSeenAt (table : KnownTable) (machine : KnownMachine) (state : State)
     (index : ℕ) (cpu : KnownCpu) : Type 0 where
   pub number : cpu.number ≡ suc index
   pub sees : local_of table machine cpu ≡ seen_by cpu.number state
 
--- The run shows the whole: it is legal, it leaves the lock free, and the machine and the parts, one for each processor,
--- are what each processor would see if it took the lock
+-- The run shows the whole. It is legal and leaves the lock free. There is one part for each CPU. The machine and each
+-- part show what that part's CPU would see if it took the lock.
 pub record ShowsAll (table : KnownTable) (run : Run) (machine : KnownMachine) (cpus : List KnownCpu) : Type 0 where
   pub legal : IsLegalRun (zone_of table) run
   pub free : is_unheld (state_of (zone_of table) run).hold ≡ true
@@ -40,8 +40,8 @@ pub record ShowsAll (table : KnownTable) (run : Run) (machine : KnownMachine) (c
   pub each : (index : ℕ) (cpu : KnownCpu) → slice_get cpus index ≡ Some cpu
       → IsSeenAt table machine (state_of (zone_of table) run) index cpu
 
--- where a run shows the whole, a processor that takes the lock next is shown the machine and its part, from which its
--- calls then lead on
+-- if a run shows the whole and a CPU takes the lock next, the run with that Lock shows this CPU the machine and its
+-- part
 abbrev pub TheHolderIsShown : Type 0
 TheHolderIsShown = (table : KnownTable) (run : Run) (machine : KnownMachine) (cpus : List KnownCpu) (index : ℕ)
     (cpu : KnownCpu) → ShowsAll table run machine cpus → slice_get cpus index ≡ Some cpu
@@ -49,18 +49,18 @@ TheHolderIsShown = (table : KnownTable) (run : Run) (machine : KnownMachine) (cp
 
 -- ---- what all parts decide together
 
--- the references of a processor on the frame, by its part; number 0 is nobody's
+-- the references of the CPU of this number on the frame, by its part; CPUs count from 1, so number 0 has none
 abbrev pub references_by : List KnownCpu → ℕ → ℕ → ℕ
 references_by cpus zero frame = 0
 references_by cpus (suc index) frame = option_map_or (λ cpu. holds cpu.frame_seat frame) (slice_get cpus index) 0
 
--- how many fresh frames a processor has, by its part
+-- how many fresh frames the CPU of this number has, by its part
 abbrev pub fresh_by : List KnownCpu → ℕ → ℕ
 fresh_by cpus zero = 0
 fresh_by cpus (suc index) = option_map_or (λ cpu. length cpu.fresh) (slice_get cpus index) 0
 
--- what the processor sees, with the references and the stocks of the others as their parts have them: the pages that
--- aren't paid for their fresh frames
+-- What the CPU sees, completed from the parts of the other CPUs: with their references, and with their stocks less
+-- the pages that paid for their fresh frames.
 abbrev pub seen_together : List KnownCpu → ℕ → State → State
 seen_together cpus processor local = record local {
   references = λ seat frame.
@@ -70,7 +70,7 @@ seen_together cpus processor local = record local {
   };
 }
 
--- in this state the answer is the one that the words of the frame and of the stock decide
+-- in this state the answer is the one that the words of the frame and of the stock determine
 abbrev pub IsDecided : State → ℕ → Action → Answer → Type 0
 IsDecided state seat (Consume group) answer = IsAnswer state seat (Consume group) answer
 IsDecided state seat (Credit frame) answer = IsAnswer state seat (Credit frame) answer
@@ -80,8 +80,8 @@ IsDecided state seat action answer = IsCounted state action answer
 abbrev pub state_after : State → Run → State
 state_after state steps = fold (λ now made. after now made.0.seat made.0.action made.1) state steps
 
--- of a list of steps by the processor and the zone's seat, which starts from this side: each answer of a Get, a Put, a
--- Freeze, a drain, a Consume and a Credit is what all parts together decide where the step is made
+-- For a list of steps by the CPU and the zone's seat, starting from this side: each answer of a Get, Put, Freeze,
+-- DrainStock, Consume or Credit is what all parts together determine when the step is made.
 abbrev pub AreDecided : KnownTable → List KnownCpu → Side → Run → Type 0
 AreDecided table cpus before steps = (index : ℕ) → IfSome (slice_get steps index) (λ made. IsDecided
     (seen_together cpus before.cpu.number
@@ -89,11 +89,12 @@ AreDecided table cpus before steps = (index : ℕ) → IfSome (slice_get steps i
 
 -- ---- a line under the lock
 
--- the processor takes the lock, makes these steps with the zone's seat, and gives it back
+-- the CPU takes the lock, makes these steps with the zone's seat, and releases the lock
 abbrev pub under_lock : ℕ → Run → Run
 under_lock processor steps = cpu_makes processor Lock Done ∷ (steps ++ cpu_makes processor Unlock Done ∷ [])
 
--- the part at this index holds the lock and is served by these steps, which leave every visit shut
+-- the CPU whose part is at this index makes these steps under the lock, answered as all parts determine; afterwards
+-- every visit is shut
 pub record ServesAt (table : KnownTable) (cpus : List KnownCpu) (index : ℕ)
     (before : Side) (steps : Run) (after : Side) : Type 0 where
   pub is_part : slice_get cpus index ≡ Some before.cpu
@@ -101,7 +102,7 @@ pub record ServesAt (table : KnownTable) (cpus : List KnownCpu) (index : ℕ)
   pub decided : AreDecided table cpus before steps
   pub shut : (processor : ℕ) → IsShut after.machine.frame_seat processor
 
--- where a run shows the whole, it goes on with the line, and shows the whole after it
+-- if a run shows the whole, then the run that continues with the line shows the whole after the line
 abbrev pub LinesFollow : Type 0
 LinesFollow = (table : KnownTable) (run : Run) (cpus : List KnownCpu) (index : ℕ) (before : Side) (steps : Run)
     (after : Side) → ShowsAll table run before.machine cpus → ServesAt table cpus index before steps after
@@ -109,7 +110,7 @@ LinesFollow = (table : KnownTable) (run : Run) (cpus : List KnownCpu) (index : �
 
 -- ---- a call that takes no lock
 
--- the steps that a processor makes without the lock
+-- the steps that a CPU makes without the lock
 abbrev pub is_fast : Action → Bool
 is_fast (Get frame) = true
 is_fast (Put frame) = true
@@ -117,7 +118,8 @@ is_fast (Consume group) = true
 is_fast (Credit frame) = true
 is_fast _ = false
 
--- the part at this index makes one such step, and what lies behind the lock stays
+-- the CPU whose part is at this index makes one such step, answered as all parts determine; what lies behind the lock
+-- stays
 pub record ServesFast (table : KnownTable) (cpus : List KnownCpu) (index : ℕ)
     (before : Side) (action : Action) (answer : Answer) (after : Side) : Type 0 where
   pub is_part : slice_get cpus index ≡ Some before.cpu
@@ -127,7 +129,7 @@ pub record ServesFast (table : KnownTable) (cpus : List KnownCpu) (index : ℕ)
   pub leads : Makes table before (cpu_makes before.cpu.number action answer ∷ []) after
   pub decided : AreDecided table cpus before (cpu_makes before.cpu.number action answer ∷ [])
 
--- where a run shows the whole, it goes on with that step, and shows the whole after it
+-- if a run shows the whole, then the run that continues with that step shows the whole after the step
 abbrev pub FastLinesFollow : Type 0
 FastLinesFollow = (table : KnownTable) (run : Run) (cpus : List KnownCpu) (index : ℕ) (before : Side) (action : Action)
     (answer : Answer) (after : Side) → ShowsAll table run before.machine cpus

@@ -1,5 +1,5 @@
-//! The whole: one legal run of which the machine and every processor's part are what it shows. Laws of how a new boot,
-//! a line under the lock and a call that takes no lock carry it on, and of what holds wherever it does.
+//! The whole: one legal run that shows the machine and the part of every CPU. The laws say how a new boot, a line
+//! under the lock and a call without the lock continue such a run, and what holds whenever there is one.
 #![tactic(auto)]
 
 pub mod laws;

@@ -1,4 +1,4 @@
--- The answers of a thread for each processor.
+-- The answers of one thread for each CPU.
 use Rattle.std.specs.Prelude.{◌≡◌, ℕ, ◌+◌, List, [], ◌∷◌, ◌++◌, codes}
 use Rattle.std.specs.Fmt.{decimal}
 use Rattle.cpu_part.specs.Cpus.{KnownCpu}
@@ -6,22 +6,22 @@ use Rattle.script_lines.specs.declared.line.Line.{Line}
 use Rattle.script_replay.specs.Terms.{BootTables}
 use Rattle.script_threads.specs.Own.{KnownWorker, ServesOwn, worker}
 
--- a worker for each of these parts, of the processors from this number on
+-- a worker for each of these parts, whose CPUs are numbered from this number on
 abbrev pub workers_from : ℕ → List KnownCpu → List Line → List KnownWorker
 workers_from number [] lines = []
 workers_from number (cpu ∷ cpus) lines =
     worker number cpu lines ∷ workers_from (number + 1) cpus lines
 
--- the line that heads the answers of a processor
+-- the line that heads the answers of a CPU
 abbrev pub heading : ℕ → List ℕ
 heading number = codes "cpu " ++ decimal number ++ codes "\n"
 
--- the texts of the worker's own lines, from its part as it was to one that it left
+-- the text is the answers of the worker's own lines, from its part at the start to some part that it left
 pub record TellsOwn (tables : BootTables) (worker : KnownWorker) (text : List ℕ) : Type 0 where
   pub after : KnownCpu
   pub serves : ServesOwn tables worker after text
 
--- for each worker a heading, and behind it the texts of its own lines
+-- for each worker a heading, followed by the answers of its own lines
 abbrev pub TellsEach : BootTables → List KnownWorker → (text : List ℕ) → Type 0
 TellsEach tables [] text = text ≡ []
 TellsEach tables (worker ∷ workers) text =

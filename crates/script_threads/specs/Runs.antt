@@ -7,18 +7,18 @@ use Rattle.script_replay.specs.Terms.{BootTables}
 use Rattle.script_replay.specs.Visits.{VisitsAll}
 use Rattle.script_threads.specs.Each.{TellsEach, workers_from}
 
--- how many lines stand before the first `go`; `last`, where there is none
+-- the place of the first `go`, if the lines begin at `place`; `last` if there is no `go`
 abbrev pub go_or : ℕ → ℕ → List Line → ℕ
 go_or last place [] = last
 go_or last place (Go ∷ lines) = place
 go_or last place (At number processor command ∷ lines) = go_or last (place + 1) lines
 
--- how many lines stand before `go`; none where it isn't there
+-- how many lines precede `go`; 0 if there is no `go`
 abbrev pub lines_before_go : List Line → ℕ
 lines_before_go lines = go_or 0 0 lines
 
--- The lines before `go` are answered one after the other, and those from it on by a worker for each part as it was left
--- then. The texts of the first stand first
+-- The lines before `go` are answered one after another. Then a worker for each part, as it was left, answers those
+-- from `go` on. The answers of the early lines come first.
 pub record RunsLines (tables : BootTables) (lines : List Line) (cpus : List KnownCpu) (text : List ℕ) : Type 0 where
   pub early : List ℕ
   pub later : List ℕ

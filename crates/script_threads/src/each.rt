@@ -1,4 +1,4 @@
-//! A thread for each processor.
+//! A thread for each CPU.
 
 ghost use Rattle.std.specs.Prelude.{◌≡◌, ◌<◌, ◌^◌, All, IfOk, length};
 ghost use Rattle.std.specs.String.{string_bytes};
@@ -17,11 +17,12 @@ use std::sync::Wait;
 use std::thread;
 use std::thread::{Scope, Threads};
 
-/// Serves the lines by a thread for each processor, each of which serves the lines of its own processor in their
-/// order. All are started before any is joined. Gives the answers by processor, those of each behind a line `cpu P`,
-/// which a processor without lines has too. The gate stands around each line, and is told its number in the script;
-/// each visit of a command calls its `inside`. `AllocError` comes where memory is wanting, or a thread can't
-/// be made: those that were started have come to their ends then.
+/// Serves the lines by one thread for each CPU: each thread serves the lines of its own CPU in their order. All
+/// threads are started before any is joined. Returns the answers CPU by CPU, each CPU's behind a line `cpu P`, even
+/// if it has no lines.
+///
+/// The gate is called around each line, with the line's number in the script, and inside each visit of a command.
+/// `AllocError`: memory ran out, or a thread couldn't be started. The threads that were started have then ended.
 pub fn run_each<N: BootName + Send + Sync, R: Threads + Wait + Sync, G: Gate + Sync>(
     rt: &R,
     alloc: Global,
@@ -38,7 +39,8 @@ pub fn run_each<N: BootName + Send + Sync, R: Threads + Wait + Sync, G: Gate + S
     run_named(rt, alloc, system, cpus, lines, gate)
 }
 
-// Serves the lines as `run_each` does, where they name frames and groups in range, whichever their processors.
+// Serves the lines as `run_each` does. It requires only that the frames and groups in them are in range, not the
+// CPUs.
 fn run_named<N: BootName + Send + Sync, R: Threads + Wait + Sync, G: Gate + Sync>(
     rt: &R,
     alloc: Global,
@@ -52,7 +54,7 @@ fn run_named<N: BootName + Send + Sync, R: Threads + Wait + Sync, G: Gate + Sync
     ensures { IfOk result (λ text.
         TellsEach (boot_tables N.frames N.stocks) (workers_from 1 cpus.old lines.now) text.items) }
 {
-    // Shared borrows, which every thread may keep.
+    // Shared borrows, which every thread can hold.
     let rt = &*rt;
     let system = &*system;
     let lines = &*lines;
@@ -104,7 +106,7 @@ fn start_all<'s, E, N: BootName + Send + Sync, R: Wait + Sync, G: Gate + Sync>(
     Ok(workers)
 }
 
-// Waits for the workers, one after the other, and gives their answers.
+// Joins the workers one after another, and returns their answers.
 fn gather<'s, N: BootName, R: Threads>(
     rt: &R,
     alloc: Global,

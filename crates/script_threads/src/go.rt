@@ -1,4 +1,4 @@
-//! The lines before `go` one after the other, and those from it on by a thread for each processor.
+//! The lines before `go` in order, then the rest by one thread for each CPU.
 
 ghost use Rattle.std.specs.Prelude.{◌≡◌, ◌<◌, ◌^◌, All, IfOk, length};
 ghost use Rattle.script_replay.specs.Ranges.{LineIsThere};
@@ -14,10 +14,11 @@ use std::alloc::{AllocError, Global};
 use std::sync::Wait;
 use std::thread::Threads;
 
-/// Serves the lines before `go` in their order, as `replay_lines` does, with no gate, and then those from `go` on
-/// by a thread for each processor, as `run_each` does. Where there is no `go`, all lines run in threads. The answers of
-/// the lines before `go` stand first, without a heading. `AllocError` comes as with `replay_lines`, in which case
-/// no thread was started, and as with `run_each`.
+/// Serves the lines before `go` in order, as `replay_lines` does, without a gate. Then it serves those from `go` on
+/// by one thread for each CPU, as `run_each` does. Without a `go`, all lines run in threads.
+///
+/// The answers of the lines before `go` come first, without a heading. `AllocError` is as in `replay_lines`, and no
+/// thread was started then, or as in `run_each`.
 pub fn run_lines<N: BootName + Send + Sync, R: Threads + Wait + Sync, G: Gate + Sync>(
     rt: &R,
     alloc: Global,
@@ -37,7 +38,7 @@ pub fn run_lines<N: BootName + Send + Sync, R: Threads + Wait + Sync, G: Gate + 
     Ok(text)
 }
 
-/// How many lines stand before `go`; none where it isn't there.
+/// How many lines precede `go`; 0 if there is no `go`.
 pub fn before_go(lines: &[Line<'_>]) -> usize
     ensures { result ≡ lines_before_go lines.now }
 {

@@ -1,5 +1,5 @@
-//! The lines of a script, served by a thread for each processor: each thread serves the lines of its own processor, in
-//! their order, beside the others.
+//! The lines of a script, served by one thread for each CPU. Each thread serves the lines of its own CPU in order,
+//! concurrently with the others.
 #![tactic(auto)]
 
 mod each;

@@ -1,4 +1,4 @@
-//! The lines of one processor, served in their order. Those of others are left out.
+//! The lines of one CPU, served in order. Lines of other CPUs are skipped.
 
 ghost use Rattle.std.specs.Prelude.{All, IfOk};
 ghost use Rattle.std.specs.String.{string_bytes};
@@ -13,8 +13,8 @@ use script_replay::{Visitor, visit_line};
 use std::alloc::{AllocError, Global};
 use std::sync::Wait;
 
-// Serves the lines of the processor of this number, whose part this is, and gives their answers. The gate is told the
-// number of each of them in the script.
+// Serves the lines of the CPU of this number, which `cpu` is the part of, and returns their answers. The gate is
+// called with the number of each of these lines in the script.
 pub(crate) fn serve_own<N: BootName, R: Wait, G: Gate>(
     rt: &R,
     alloc: Global,
@@ -36,7 +36,7 @@ pub(crate) fn serve_own<N: BootName, R: Wait, G: Gate>(
     Ok(text)
 }
 
-// Serves the line, where it is one of the processor of this number, and adds its answer.
+// Serves the line if it is one of the CPU of this number, and appends its answer.
 fn serve_own_line<N: BootName, R: Wait, G: Gate>(
     visitor: &Visitor<'_, N, R, G>,
     cpu: &mut Cpu<N>,

@@ -1,4 +1,4 @@
-//! A worker: a thread that serves the lines of one processor, with what is promised of its answers.
+//! A worker: a thread that serves the lines of one CPU, and what is guaranteed of its answers.
 
 ghost use Rattle.std.specs.Prelude.{◌≡◌, ◌++◌, ℕ, All, IfOk, List, OnOk};
 ghost use Rattle.std.specs.String.{string_bytes};
@@ -16,14 +16,14 @@ use std::snapshot::Snapshot;
 use std::sync::Wait;
 use std::thread::{Promise, PromisedHandle, Scope, Threads};
 
-// What a worker was answered, and its part as it was left.
+// The answers of a worker, and the part as the worker left it.
 #[derive(Drop)]
 struct Told<N: BootName> {
     text: String,
     after: Snapshot<Cpu<N>>,
 }
 
-// What a worker is given: its part and its number, and what all workers share.
+// What a worker gets: its part and its number, and what all workers share.
 #[derive(Drop)]
 pub(crate) struct Job<'a, N: BootName, R, G> {
     pub(crate) rt: &'a R,
@@ -35,7 +35,7 @@ pub(crate) struct Job<'a, N: BootName, R, G> {
     pub(crate) gate: &'a G,
 }
 
-// The promise that the lines of the processor are answered, from what its part was.
+// What the thread's result guarantees: the lines of the CPU are answered, starting from its part as it was.
 #[derive(Drop)]
 struct Answers<'a, N: BootName> {
     before: Snapshot<Cpu<N>>,
@@ -48,7 +48,7 @@ impl<'a, N: BootName> Promise<Result<Told<N>, AllocError>> for Answers<'a, N> {
         (worker p.number p.before.value p.lines.now) told.after.value (string_bytes told.text)) };
 }
 
-// A worker that runs.
+// A running worker.
 #[derive(Drop)]
 pub(crate) struct Worker<'a, N: BootName> {
     number: u32,
@@ -65,7 +65,6 @@ impl<'a, N: BootName> Model for Worker<'a, N> {
 }
 
 impl<'a, N: BootName, R: Wait, G: Gate> Job<'a, N, R, G> {
-    // Serves the lines.
     fn run(self) -> Result<Told<N>, AllocError>
         requires { All (LineNames N.frames.frames) self.lines.now }
         ensures { IfOk result (λ told. ServesOwn (boot_tables N.frames N.stocks)
@@ -86,7 +85,7 @@ impl<'a, N: BootName, R: Wait, G: Gate> Job<'a, N, R, G> {
     }
 }
 
-// Starts a worker. `AllocError` comes where no thread can be made.
+// Starts a worker. `AllocError`: no thread could be started.
 pub(crate) fn start<'s, E, N: BootName + Send + Sync, R: Wait + Sync, G: Gate + Sync>(
     scope: &Scope<'s, E>,
     job: Job<'s, N, R, G>,
@@ -105,7 +104,7 @@ pub(crate) fn start<'s, E, N: BootName + Send + Sync, R: Wait + Sync, G: Gate + 
 }
 
 impl<'a, N: BootName> Worker<'a, N> {
-    // Waits for the worker's end, and adds its answers under its heading.
+    // Joins the worker and appends its answers under its heading.
     pub(crate) fn join<R: Threads>(self, rt: &R, text: &mut String) -> Result<(), AllocError>
         ensures { IfOk result (λ _. (own : List ℕ) × TellsOwn (boot_tables N.frames N.stocks) self.entry own
             × (string_bytes text.new ≡ string_bytes text.old ++ (heading self.entry.number ++ own))) }
@@ -117,7 +116,7 @@ impl<'a, N: BootName> Worker<'a, N> {
     }
 }
 
-// Adds the line that heads the answers of a processor.
+// Appends the line that heads the answers of a CPU.
 fn write_heading(number: u32, text: &mut String) -> Result<(), AllocError>
     ensures { OnOk result (string_bytes text.new ≡ string_bytes text.old ++ heading number) }
 {

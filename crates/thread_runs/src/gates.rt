@@ -1,15 +1,16 @@
-//! Gates that bring threads into an order: one is held inside its visit while another is answered its lines; they take
-//! turns, line by line; or both come to their first lines together. Others keep nobody, and note or count their calls.
+//! Gates that put threads into an order. One holds a thread inside its visit while another is answered its lines. One
+//! makes threads take turns, line by line. One lets both begin together. The others hold nobody, and note or count
+//! their calls.
 
 use mem_system::Gate;
 use std::alloc::{AllocError, Global};
 use std::sync::atomic::{AtomicBool, AtomicU64, Ordering};
 use std::thread;
 
-// The most turns of a thread's wait: a look and a yield each.
+// The longest wait of a thread, in turns: a turn is a look and a yield.
 const WAIT_TURNS: u32 = 1_000_000;
 
-/// CPU 1 stays inside its visit until CPU 2 was answered so many lines, and CPU 2 comes to its first line once CPU 1 is
+/// CPU 1 stays inside its visit until CPU 2 was answered this many lines. CPU 2 begins its first line once CPU 1 is
 /// inside.
 #[derive(Drop)]
 pub struct HeldVisit {
@@ -20,7 +21,7 @@ pub struct HeldVisit {
 }
 
 impl HeldVisit {
-    /// Nothing happened yet.
+    /// Nothing has happened yet.
     pub fn until(lines_awaited: u64) -> HeldVisit {
         HeldVisit {
             lines_awaited,
@@ -30,7 +31,7 @@ impl HeldVisit {
         }
     }
 
-    /// Whether a thread waited in vain, to its last turn.
+    /// Whether a thread's wait used up all its turns.
     pub fn thread_was_late(&self) -> bool {
         self.thread_is_late.load(Ordering::SeqCst)
     }
@@ -71,7 +72,7 @@ impl Gate for HeldVisit {
     }
 }
 
-/// A processor comes to a line when that line's turn has come.
+/// A CPU begins a line when it is that line's turn.
 #[derive(Drop)]
 pub struct LineTurns {
     lines_in_order: [usize; 7],
@@ -89,7 +90,7 @@ impl LineTurns {
         }
     }
 
-    /// Whether a thread waited in vain, to its last turn.
+    /// Whether a thread's wait used up all its turns.
     pub fn thread_was_late(&self) -> bool {
         self.thread_is_late.load(Ordering::SeqCst)
     }
@@ -114,7 +115,7 @@ impl Gate for LineTurns {
     }
 }
 
-/// The thread that comes first waits at its first line for the other one.
+/// The thread that arrives first waits at its first line for the other one.
 #[derive(Drop)]
 pub struct BothThreads {
     lines_begun: AtomicU64,
@@ -122,7 +123,7 @@ pub struct BothThreads {
 }
 
 impl BothThreads {
-    /// Where no thread has come yet.
+    /// No thread has arrived yet.
     pub fn new() -> BothThreads {
         BothThreads {
             lines_begun: AtomicU64::new(0),
@@ -130,7 +131,7 @@ impl BothThreads {
         }
     }
 
-    /// Whether the first thread waited in vain, to its last turn.
+    /// Whether the first thread's wait used up all its turns.
     pub fn thread_was_late(&self) -> bool {
         self.thread_is_late.load(Ordering::SeqCst)
     }
@@ -155,7 +156,7 @@ impl Gate for BothThreads {
     fn after(&self, _cpu: u32, _line: usize) {}
 }
 
-/// Counts the lines that were begun, and those that were answered.
+/// Counts the lines that were begun and those that were answered.
 #[derive(Drop)]
 pub struct CountedLines {
     lines_begun: AtomicU64,
@@ -236,7 +237,7 @@ impl CallsOfCpu {
         }
     }
 
-    // Whether the calls were these.
+    // Whether exactly these calls were made.
     fn are(&self, calls: &[GateCall]) -> bool {
         if self.count.load(Ordering::SeqCst) != calls.len() as u64 {
             return false;
@@ -250,7 +251,7 @@ impl CallsOfCpu {
     }
 }
 
-/// Notes the calls by CPU 1, and those by any other.
+/// Notes the calls by CPU 1, and separately those by any other CPU.
 #[derive(Drop)]
 pub struct NotedCalls {
     by_first: CallsOfCpu,
@@ -275,7 +276,7 @@ impl NotedCalls {
         }
     }
 
-    /// Whether the calls by CPU 1 were these, and those by the others these.
+    /// Whether exactly these calls were made by CPU 1, and these by the others.
     pub fn are(&self, by_first: &[GateCall], by_others: &[GateCall]) -> bool {
         self.by_first.are(by_first) && self.by_others.are(by_others)
     }

@@ -1,4 +1,4 @@
-//! Scripts of two and of four processors, each in a thread of its own, as tests. Nothing but tests stands here.
+//! Tests of scripts for two and for four CPUs, each in a thread. This crate has nothing but tests.
 #![tactic(auto)]
 
 #[cfg(test)]

@@ -1,5 +1,5 @@
-//! Races of two processors, each in a thread: processor 1 asks 500 times for more than `/a` may have, so that all stocks are
-//! drained and the units of `/a` are tried, while processor 2 makes 500 rounds of its own.
+//! Races of two CPUs, each in a thread. CPU 1 asks 500 times for more than the limit of `/a`, so that all stocks are
+//! drained and the units of `/a` are tried. Meanwhile CPU 2 makes 500 rounds of its own.
 
 use crate::gates::BothThreads;
 use crate::systems::{TWO_PROCESSORS, ThreadAnswers, add, events_text, holds, run_script};
@@ -8,7 +8,7 @@ use std::str;
 use std::sync::Wait;
 use std::thread::Threads;
 
-// Four rounds of both processors: processor 2 takes a frame and gives it back, to the end of its list of four.
+// Four rounds of both CPUs: CPU 2 takes a frame and releases it, to the end of its list of four.
 const FOUR_TAKES: &str = "\
 1 alloc /a 4
 2 alloc /a 0
@@ -24,7 +24,7 @@ const FOUR_TAKES: &str = "\
 2 release 3
 ";
 
-// Four rounds of both processors: processor 2 refers to frame 0 if it can, and lets go of it.
+// Four rounds of both CPUs: CPU 2 takes a reference on frame 0 if it can, and puts it.
 const FOUR_REFERENCES: &str = "\
 1 alloc /a 4
 2 get 0
@@ -50,7 +50,7 @@ fn race_script(rt: &(impl Abort + AllocGlobal), first: &str, four_rounds: &str) 
     script
 }
 
-// What both threads are answered in their rounds, which begin together, and what is told after them.
+// The answers of both threads to their rounds, which begin together, and those to the lines after them.
 fn race<R: AllocGlobal + Threads + Wait + Abort + Sync>(
     rt: &R,
     first: &str,
@@ -64,7 +64,7 @@ fn race<R: AllocGlobal + Threads + Wait + Abort + Sync>(
     raced.expect(rt, "a race")
 }
 
-// How many answers of the threads begin so.
+// How many answers of the threads begin with this text.
 fn answers_with(rt: &impl Abort, raced: &ThreadAnswers, begin: &str) -> usize {
     let mut count = 0usize;
     for answer in str::from_utf8(&raced.by_threads)
@@ -78,7 +78,7 @@ fn answers_with(rt: &impl Abort, raced: &ThreadAnswers, begin: &str) -> usize {
     count
 }
 
-// All allocations of processor 1 were refused, and nothing else; this is told after the race, and all frames came back.
+// All allocations of CPU 1 were refused, the last lines were answered like this, and all frames are free again.
 fn is_refused_and_free(rt: &impl Abort, raced: &ThreadAnswers, last: &str) {
     holds(
         rt,
@@ -103,8 +103,8 @@ fn a_stock_is_consumed_while_it_is_drained(rt: HostRuntime) {
     );
 }
 
-// A reference that is put is never the last, since the zone's own is frozen only where it stands alone. Where the freeze
-// comes between a get's look and its exchange, the get takes no reference, and says so.
+// No put of CPU 2 is the last, because the zone's own reference is frozen only while it is the only one. If the
+// freeze comes between a get's load and its exchange, the get takes no reference and reports that.
 #[test]
 fn a_unit_is_referred_to_while_it_is_reclaimed(rt: HostRuntime) {
     let first = "1 mkdir /a\n1 write /a memory.max 32K\n1 alloc /a 0\n1 settle\n";

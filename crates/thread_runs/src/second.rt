@@ -1,4 +1,4 @@
-//! A run by threads that fails for want of memory, or of a thread, leaves nothing that keeps the next one from being whole.
+//! If a run by threads fails because memory or a thread is refused, the next run is complete all the same.
 
 use crate::gates::CountedLines;
 use crate::systems::{TWO_PROCESSORS, ThreadAnswers, holds, run_script, threads_tell};
@@ -7,11 +7,11 @@ use std::sync::Wait;
 use std::test::Fail;
 use std::thread::Threads;
 
-// No answer of it hangs on the order of the threads.
+// None of its answers depends on the order of the threads.
 const SCRIPT: &str =
     "1 mkdir /a\n2 alloc /a 0\n2 settle\ngo\n1 get 0\n1 put 0\n2 settle\n2 read /a memory.current\n";
 
-// What the threads answer in a whole life, from a boot to its end; None if memory or a thread is refused.
+// The answers of the threads in a whole life, from boot to end; None if memory or a thread is refused.
 fn life_of_threads(
     rt: &(impl AllocGlobal + Threads + Wait + Abort + Sync),
     gate: &CountedLines,
@@ -19,8 +19,8 @@ fn life_of_threads(
     run_script(rt, TWO_PROCESSORS, SCRIPT, "1 owner 0\n", gate)
 }
 
-// `tests/refuse-memory` runs this with each of its calls for memory, and for a thread, refused in turn, until the first run
-// ends. A line for which memory ran out is cut off: its gate isn't called after it.
+// `tests/refuse-memory` runs this with each allocation and each thread start refused in turn, until the first run
+// completes. The gate isn't called after a line for which memory ran out.
 #[test]
 fn a_second_run_is_whole_where_the_first_was_refused(rt: HostRuntime) -> Result<(), Fail> {
     let gate = CountedLines::new();
@@ -36,7 +36,7 @@ fn a_second_run_is_whole_where_the_first_was_refused(rt: HostRuntime) -> Result<
     Ok(())
 }
 
-// The run is that of the script, to its end.
+// The run is that of the whole script.
 fn is_whole(rt: &impl Abort, told: &ThreadAnswers) {
     let answers = "group 1\nframe 0\nsettled\ncpu 1\nheld\nleft 1\ncpu 2\nsettled\n16384\n";
     threads_tell(rt, told, answers, "/a\n");

@@ -1,4 +1,4 @@
-//! Four processors beside each other, each with random lines, and what is asked of the zone after them.
+//! Four CPUs run concurrently, each with random lines. Afterwards the zone's state must add up.
 
 ghost use Rattle.std.specs.Prelude.{◌≡◌, ◌<◌, length};
 
@@ -14,7 +14,7 @@ use std::slice::Iter;
 use std::str;
 use zone_sizes::config::Config;
 
-// How many lines each processor has in a storm; by hand 20,000.
+// How many lines each CPU has in a storm; by hand 20,000.
 const STORM_LINES: u32 = 500;
 
 const FRAMES: u32 = 64;
@@ -27,13 +27,12 @@ const FOUR_PROCESSORS: Config = Config {
     stock: 4,
 };
 
-// The numbers of the frames, as they stand in a script. (An array of them, or a number that is formatted, costs a check
-// more.)
+// The numbers of the frames as text. (An array, or formatting, would make the check dearer.)
 const NUMBERS: &str = "\
 0 1 2 3 4 5 6 7 8 9 10 11 12 13 14 15 16 17 18 19 20 21 22 23 24 25 26 27 28 29 30 31 \
 32 33 34 35 36 37 38 39 40 41 42 43 44 45 46 47 48 49 50 51 52 53 54 55 56 57 58 59 60 61 62 63";
 
-// The groups and their limits, parents first. Together they may have more pages than there are frames, and each fewer.
+// The groups and their limits, parents first. Each limit is below the number of frames, and all together are above.
 const STORM_GROUPS: [(&str, &str); 8] = [
     ("/a", "64K"),
     ("/a/b", "32K"),
@@ -45,7 +44,8 @@ const STORM_GROUPS: [(&str, &str); 8] = [
     ("/h", "56K"),
 ];
 
-// The commands of a storm, each as often as it is to come among 32. A word in capitals stands for what a line picks.
+// The commands of a storm. A line picks one of the 32 entries, so a command that appears often is frequent. A word in
+// capitals is replaced by what the line picks.
 const STORM_COMMANDS: [&str; 32] = [
     "alloc PATH 0",
     "alloc PATH 0",
@@ -90,12 +90,12 @@ fn make_storm_groups(rt: &impl Abort, script: &mut String) {
     add(rt, script, &["go\n"]);
 }
 
-// The number as it stands in a script.
+// The number as text.
 fn text_of(number: u32) -> &'static str {
     NUMBERS.split(' ').nth(number as usize).unwrap_or("")
 }
 
-// What a line picks for this word of a command, or the word.
+// What a line picks for this word of a command, or the word itself.
 fn picked(word: &'static str, bits: u32) -> &'static str {
     let (path, limit) = STORM_GROUPS[(bits % 8) as usize];
     match word {
@@ -108,7 +108,7 @@ fn picked(word: &'static str, bits: u32) -> &'static str {
     }
 }
 
-// Adds a line of the processor with this command, which these bits pick the words of.
+// Adds a line of the CPU with this command; the bits pick its words.
 fn add_storm_line(
     rt: &impl Abort,
     script: &mut String,
@@ -138,8 +138,8 @@ fn storm_script(rt: &(impl Abort + AllocGlobal), seed: u64) -> String {
     script
 }
 
-// What is asked at the end: the blocks and each frame's owner, when all are settled; and each usage, when the groups at the
-// top have lost their prepaid pages and what can be reclaimed.
+// The lines after the storm. All CPUs settle, and the top groups get limit 0, so that their stocks are drained and
+// their units reclaimed or killed. Then the lines ask for the blocks, each frame's owner and each usage.
 fn ask_after_the_storm(rt: &(impl Abort + AllocGlobal)) -> String {
     let mut script = String::new(rt.alloc());
     add(
@@ -160,14 +160,14 @@ fn ask_after_the_storm(rt: &(impl Abort + AllocGlobal)) -> String {
     script
 }
 
-// The references that the processors' answers leave: of each processor, and on each frame.
+// The references that remain by the CPUs' answers: of each CPU, and on each frame.
 #[derive(Drop)]
 struct PinsLeft {
     of_processors: [u64; 4],
     on_frames: [u64; 64],
 }
 
-// Adds to the pins that are counted at this place.
+// Adds to the count of pins at this index.
 fn add_pins(pins: &mut [u64], place: u32, change: u64) {
     if let Some(count) = pins.get_mut(place as usize) {
         *count = count.wrapping_add(change);
@@ -175,7 +175,7 @@ fn add_pins(pins: &mut [u64], place: u32, change: u64) {
 }
 
 impl PinsLeft {
-    // Counts what a line of the processor was answered.
+    // Counts the answer to a line of the CPU.
     fn note_answer(&mut self, cpu: u32, command: &Command<'_>, answer: &str) {
         let (frame, change) = match command {
             Command::Get { frame } if answer == "held" => (*frame, 1),
@@ -187,7 +187,7 @@ impl PinsLeft {
     }
 }
 
-// Reads off the threads' answers which references are left.
+// Computes the remaining references from the threads' answers.
 fn read_pins_left(lines: &[Line<'_>], by_threads: &str) -> PinsLeft {
     let mut pins = PinsLeft {
         of_processors: [0; 4],
@@ -206,7 +206,7 @@ fn read_pins_left(lines: &[Line<'_>], by_threads: &str) -> PinsLeft {
     pins
 }
 
-// The processor's next command.
+// The CPU's next command.
 fn next_own_command<'a>(lines: &mut Iter<'a, Line<'a>>, cpu: u32) -> Option<&'a Command<'a>> {
     for line in lines {
         match line {
@@ -221,7 +221,7 @@ fn next_own_command<'a>(lines: &mut Iter<'a, Line<'a>>, cpu: u32) -> Option<&'a 
     None
 }
 
-// Whether the frames of this block are there, and free.
+// Whether the frames of this block exist and are free.
 fn block_is_free(owners: &[&str], at: u32, size: u32) -> bool {
     let Some(block) = owners.get(at as usize..at.wrapping_add(size) as usize) else {
         return false;
@@ -234,7 +234,7 @@ fn block_is_free(owners: &[&str], at: u32, size: u32) -> bool {
     true
 }
 
-// Whether the block of this order at this frame is free, and in no greater one that is.
+// Whether the block of this order at this frame is free, and lies in no greater free block.
 fn block_is_maximal(owners: &[&str], order: u32, at: u32) -> bool
     requires { order < 7 }
 {
@@ -245,7 +245,7 @@ fn block_is_maximal(owners: &[&str], order: u32, at: u32) -> bool
         && !block_is_free(owners, above, 1 << greater)
 }
 
-// Adds the free blocks that are in no greater one, as `blocks` tells them, each behind a space.
+// Appends the free blocks that lie in no greater one, as `blocks` prints them, each after a space.
 fn add_maximal_blocks(rt: &impl Abort, owners: &[&str], text: &mut String) {
     for order in 0..7u32 {
         for at in 0..64u32 {
@@ -256,7 +256,7 @@ fn add_maximal_blocks(rt: &impl Abort, owners: &[&str], text: &mut String) {
     }
 }
 
-// The blocks that were told are the greatest free ones of the frames whose owners were told.
+// The printed blocks are the maximal free blocks of the frames whose owners were printed.
 fn blocks_agree_with_owners(rt: &(impl Abort + AllocGlobal), blocks: &str, owners: &[&str]) {
     let mut told = String::new(rt.alloc());
     if blocks != "none" {
@@ -267,7 +267,7 @@ fn blocks_agree_with_owners(rt: &(impl Abort + AllocGlobal), blocks: &str, owner
     holds(rt, told.as_str() == maximal.as_str());
 }
 
-// A frame on which references are left is kept.
+// Each frame on which references remain is kept.
 fn pins_agree_with_owners(rt: &impl Abort, owners: &[&str], pins: &PinsLeft) {
     for (owner, left) in owners.iter().zip(pins.on_frames.iter()) {
         holds(rt, *left == 0 || owner.starts_with('/'));
@@ -282,7 +282,7 @@ fn is_below(owner: &str, path: &str) -> bool {
     }
 }
 
-// How many bytes are kept for the group or one below it, 4,096 for a frame.
+// How many bytes the group and the groups below it keep: 4,096 for each frame.
 fn bytes_kept_below(owners: &[&str], path: &str) -> u64 {
     let mut kept = 0u64;
     for owner in owners {
@@ -293,13 +293,13 @@ fn bytes_kept_below(owners: &[&str], path: &str) -> u64 {
     kept
 }
 
-// The usage that was told is what is kept, or the group is gone.
+// The printed usage is what is kept, or the group no longer exists and keeps nothing.
 fn usage_agrees_with_frames(rt: &impl Abort, kept: u64, current: &str) {
     let is_gone = current == "refused 6 NoGroup" && kept == 0;
     holds(rt, current.parse::<u64>() == Ok(kept) || is_gone);
 }
 
-// The answers to what is asked after the storm hold together, and go with the references that are left.
+// The answers after the storm agree with each other, and with the references that remain.
 fn answers_add_up(rt: &(impl Abort + AllocGlobal), answers: &[&str], pins: &PinsLeft)
     requires { length answers.now ≡ 82 }
 {
@@ -311,7 +311,7 @@ fn answers_add_up(rt: &(impl Abort + AllocGlobal), answers: &[&str], pins: &Pins
     }
 }
 
-// The references that the threads' answers to the script leave.
+// The references that remain by the threads' answers to the script.
 fn pins_after(rt: &(impl Abort + AllocGlobal), script: &str, by_threads: &[u8]) -> PinsLeft {
     let lines = parse_script(rt.alloc(), script.as_bytes(), &FOUR_PROCESSORS);
     let lines = lines.expect(rt, "a script");
@@ -320,7 +320,7 @@ fn pins_after(rt: &(impl Abort + AllocGlobal), script: &str, by_threads: &[u8]) 
     read_pins_left(in_threads, by_threads)
 }
 
-// What is told after the storm holds together.
+// The answers after the storm agree.
 fn the_storm_adds_up(rt: &(impl Abort + AllocGlobal), after_threads: &[u8], pins: &PinsLeft) {
     let told = str::from_utf8(after_threads).expect(rt, "a text");
     let answers: Vec<&str> = told.split('\n').collect(rt.alloc()).expect(rt, "memory");

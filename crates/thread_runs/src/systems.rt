@@ -1,4 +1,4 @@
-//! The life of a system whose lines run in a thread for each processor, from its boot to its audit.
+//! The life of a system whose lines run in one thread for each CPU, from its boot to its audit.
 
 ghost use Rattle.std.specs.Prelude.{◌≡◌, ◌<◌, ◌≤◌, ◌^◌, All, length};
 ghost use Rattle.mem_system.specs.Boots.{IsSizedAs};
@@ -15,7 +15,7 @@ use std::sync::Wait;
 use std::thread::Threads;
 use zone_sizes::config::Config;
 
-/// 16 frames and two processors.
+/// 16 frames and two CPUs.
 pub const TWO_PROCESSORS: Config = Config {
     frames: 16,
     cpus: 2,
@@ -24,8 +24,8 @@ pub const TWO_PROCESSORS: Config = Config {
     stock: 4,
 };
 
-/// What the lines in threads were answered, and those after them; how many pins each of the first four processors had
-/// then; and the audit of the end.
+/// The answers of the threads, those to the lines after them, the pins of each of the first four CPUs then, and the
+/// audit of the end.
 #[derive(Drop)]
 pub struct ThreadAnswers {
     pub by_threads: Vec<u8>,
@@ -34,7 +34,7 @@ pub struct ThreadAnswers {
     pub audit: Audit,
 }
 
-// How many pins each of the first four processors has.
+// How many pins each of the first four CPUs has.
 fn pins_of_each<N: BootName>(cpus: &[Cpu<N>]) -> [u64; 4] {
     let mut pins_of_each = [0; 4];
     for (pins, cpu) in pins_of_each.iter_mut().zip(cpus.iter()) {
@@ -62,8 +62,8 @@ fn run_and_replay<N: BootName + Send + Sync, R: Threads + Wait + Sync, G: Gate +
     Ok((by_threads, after_threads))
 }
 
-// Starts the boot under a name of its tables, runs the lines by threads and then the last ones by visits, and ends it,
-// also where memory or a thread was wanting; pins that are left are put then.
+// Starts the boot under a name of its tables, runs the lines by threads and then the last ones by visits, and ends
+// it. It ends it even if memory or a thread was refused. Pins that are left are put then.
 fn live_by_threads<N: BootName + Send + Sync, R: Threads + Wait + Sync, G: Gate + Sync>(
     rt: &R,
     alloc: Global,
@@ -92,8 +92,8 @@ fn live_by_threads<N: BootName + Send + Sync, R: Threads + Wait + Sync, G: Gate 
     })
 }
 
-/// What a boot of these sizes answers to a script in threads and to one after it, and its end; None where memory or a thread
-/// was wanting.
+/// The answers of a boot of these sizes to a script in threads and to one after it, and its end; None if memory or a
+/// thread was refused.
 pub fn run_script<R: AllocGlobal + Threads + Wait + Abort + Sync, G: Gate + Sync>(
     rt: &R,
     sizes: Config,
@@ -110,19 +110,19 @@ pub fn run_script<R: AllocGlobal + Threads + Wait + Abort + Sync, G: Gate + Sync
     live_by_threads::<Brand, _, _>(rt, alloc, boot, &lines, &last, gate).ok()
 }
 
-/// It is so of the threads, or the test ends here. A call is proved at less cost than the macro in its place.
+/// It holds, or the test fails. A call is cheaper to prove than the macro in its place.
 pub fn holds(rt: &impl Abort, is: bool) {
     assert!(rt; is);
 }
 
-/// Adds the parts to the text. Whoever adds by this has no error of memory to hand on.
+/// Appends the parts to the text. It panics if memory runs out, so a caller has no error to pass on.
 pub fn add(rt: &impl Abort, text: &mut String, parts: &[&str]) {
     for part in parts {
         text.push_str(part).expect(rt, "memory");
     }
 }
 
-/// The text of an events file with these counts, in the order of its lines behind `low` and `high`.
+/// The text of an events file with these counts, in the order of its lines after `low` and `high`.
 pub fn events_text(rt: &(impl Abort + AllocGlobal), counts: [u32; 4]) -> String {
     let [max, oom, kills, group_kills] = counts;
     let text = format!(in rt.alloc();
@@ -131,7 +131,7 @@ pub fn events_text(rt: &(impl Abort + AllocGlobal), counts: [u32; 4]) -> String 
     text.expect(rt, "memory")
 }
 
-/// The lines in threads were answered so, and those after them so.
+/// The lines in threads have these answers, and those after them these.
 pub fn threads_tell(rt: &impl Abort, told: &ThreadAnswers, by_threads: &str, after_threads: &str) {
     holds(rt, told.by_threads.as_slice() == by_threads.as_bytes());
     holds(

@@ -1,4 +1,4 @@
-//! Worked rows on a frame's word: what the answers are when calls of two seats meet, which no clause says.
+//! Worked rows on a frame's word: the answers when calls of two seats meet, which no clause gives.
 ghost use Rattle.std.specs.Prelude.{◌≡◌, ◌<◌};
 ghost use Rattle.frame_word.specs.Seats.{IsZoneSeat, first_cpu_view, first_zone_view};
 
@@ -8,14 +8,14 @@ use std::alloc::Global;
 use std::process::Abort;
 use std::thread::{Threads, join};
 
-// What is tried on frame 3 of eight, by the zone's seat and a processor's.
+// The trials on frame 3 of eight, by the zone's seat and a CPU's.
 enum FrameTrial {
     FullReferences,
     FreezeTooEarly,
     PutByBoth,
 }
 
-// Makes the words and the seats, and tries it.
+// Makes the words and the seats, and runs the trial.
 fn tries_on_frame_3(rt: &impl Abort, alloc: Global, trial: FrameTrial) {
     let (words, mut zone, mut cpus) = FrameWords::new(alloc, 8, 1).expect(rt, "memory");
     let mut cpu = cpus.pop().expect(rt, "a seat");
@@ -26,7 +26,7 @@ fn tries_on_frame_3(rt: &impl Abort, alloc: Global, trial: FrameTrial) {
     }
 }
 
-// The zone has all 255 references.
+// The zone takes all 255 references.
 fn fill_references(rt: &impl Abort, words: &FrameWords, zone: &mut FrameSeat)
     requires zone { IsZoneSeat words.now zone.old × (zone.old.view ≡ first_zone_view 8) }
     requires frames { words.now.frames ≡ 8 }
@@ -41,7 +41,7 @@ fn get_is_full_at_255_references(rt: HostRuntime) {
     tries_on_frame_3(&rt, rt.alloc(), FrameTrial::FullReferences);
 }
 
-// The zone and a processor have a reference each: the zone's freeze comes too early, and then in time.
+// The zone and a CPU have a reference each. The zone's first freeze misses; its second, after the CPU's put, doesn't.
 fn freeze_early(rt: &impl Abort, words: &FrameWords, zone: &mut FrameSeat, cpu: &mut FrameSeat)
     requires zone { IsZoneSeat words.now zone.old × (zone.old.view ≡ first_zone_view 8) }
     requires cpu { (cpu.old.table ≡ words.now.table) × (cpu.old.view ≡ first_cpu_view 1) }
@@ -61,7 +61,7 @@ fn freeze_waits_for_the_other_seat(rt: HostRuntime) {
     tries_on_frame_3(&rt, rt.alloc(), FrameTrial::FreezeTooEarly);
 }
 
-// The zone and a processor have a reference each, and the second put is the last.
+// The zone and a CPU have a reference each, and the second put is the last.
 fn put_by_both(rt: &impl Abort, words: &FrameWords, zone: &mut FrameSeat, cpu: &mut FrameSeat)
     requires zone { IsZoneSeat words.now zone.old × (zone.old.view ≡ first_zone_view 8) }
     requires cpu { (cpu.old.table ≡ words.now.table) × (cpu.old.view ≡ first_cpu_view 1) }
@@ -80,7 +80,7 @@ fn the_second_of_two_puts_is_the_last(rt: HostRuntime) {
     tries_on_frame_3(&rt, rt.alloc(), FrameTrial::PutByBoth);
 }
 
-// Gets the frame a thousand times, puts it where it was held, and tells whether a put was the last.
+// Gets the frame a thousand times and puts it whenever it was held. Returns whether a put was the last.
 fn any_put_was_last(words: &FrameWords, seat: &mut FrameSeat, frame: Frame) -> bool
     requires table { seat.old.table ≡ words.now.table }
     requires frame { frame < words.now.frames }
@@ -97,7 +97,7 @@ fn any_put_was_last(words: &FrameWords, seat: &mut FrameSeat, frame: Frame) -> b
     last
 }
 
-// Two seats get and put the frame side by side: whether a put of either was the last.
+// Two seats get and put the frame concurrently. Returns whether a put of either was the last.
 fn get_and_put_beside<R: Threads + Sync>(
     rt: &R,
     words: &FrameWords,

@@ -1,5 +1,5 @@
-//! Worked rows: who gets a frame that passes, a list that is as long as it may be, and the fronts of
-//! it that are paid for inside a visit.
+//! Worked rows on fronts: no seat gets a frame in transit, and fronts of a list of the greatest length are paid for
+//! inside a visit.
 ghost use Rattle.std.specs.Prelude.{◌≡◌, ◌≤◌, None};
 ghost use Rattle.frame_word.specs.Seats.{IsZoneSeat, first_zone_view};
 ghost use Rattle.stock_word.specs.Stock.{IsZoneStock};
@@ -16,7 +16,7 @@ use std::marker::Brand;
 use std::process::Abort;
 use stock_word::{Stock, StockSeat};
 
-// Frame 3 passes for processor 2: no seat gets it.
+// Frame 3 is in transit to CPU 2: no seat gets it.
 fn passes<N: BootName>(
     rt: &impl Abort,
     tables: &Tables<N>,
@@ -36,7 +36,7 @@ fn passes<N: BootName>(
     same(rt, second.get(tables, frame), Ok(Get::Zero));
 }
 
-// A boot, in which frame 3 passes.
+// A boot in which frame 3 is in transit.
 fn boot_of_passing<N: BootName>(rt: &impl Abort, alloc: Global, parts: WordParts<8>)
     requires { (parts.frames ≡ N.frames) × (parts.stocks ≡ N.stocks) }
 {
@@ -51,8 +51,8 @@ fn no_seat_gets_a_frame_that_passes(rt: HostRuntime) {
     boot_of_passing::<Brand>(&rt, rt.alloc(), parts);
 }
 
-// Takes the front of the list for the group of the stock, where the list has a frame, the fresh
-// frames have room, and the stock has a page by its word.
+// Takes the front of the list for the group of the stock, if the list has a frame, there is room for one more fresh
+// frame, and the stock has a page by its word.
 fn take_by_books<N: BootName>(
     tables: &Tables<N>,
     machine: &mut StockSeat,
@@ -63,7 +63,7 @@ fn take_by_books<N: BootName>(
     ensures books { machine.new.view.accounts ≡ machine.old.view.accounts }
     ensures none { result ≡ None → cpu.new ≡ cpu.old }
 {
-    // Whoever asks for the number learns what always holds of the processor's part.
+    // The call of `number` brings in the invariant of the CPU's part.
     let _ = cpu.number();
     if cpu.list_len() == 0 || cpu.fresh_len() == MOST_FRESH {
         return None;
@@ -74,8 +74,8 @@ fn take_by_books<N: BootName>(
     }
 }
 
-// The stock has 2 pages of group 1, which pay for the fronts 0 and 1. The page of frame 0, which is
-// dropped, pays for the front that is next then. What is left is drained.
+// The stock has 2 pages of group 1, which pay for the fronts 0 and 1. Frame 0 is dropped, and its page pays for the
+// next front. The rest is drained.
 fn takes_fronts<N: BootName>(
     rt: &impl Abort,
     tables: &Tables<N>,
@@ -99,7 +99,7 @@ fn takes_fronts<N: BootName>(
     takes(rt, tables, machine, cpu, None);
 }
 
-// Takes this front by the books, or none.
+// Takes this front, or none.
 fn takes<N: BootName>(
     rt: &impl Abort,
     tables: &Tables<N>,

@@ -1,5 +1,5 @@
-//! Runs of the frame words, the stock words and the processors' parts: worked rows, and threads beside
-//! each other. Nothing but tests stands here.
+//! Tests of the frame words, the stock words and the CPU parts: worked rows, and threads that run concurrently. This
+//! crate has nothing but tests.
 #![tactic(auto)]
 
 #[cfg(test)]

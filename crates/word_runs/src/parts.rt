@@ -1,4 +1,4 @@
-//! Worked rows on processors' parts: what the answers are when their calls meet, which no clause says.
+//! Worked rows on CPU parts: the answers when their calls meet, which no clause gives.
 ghost use Rattle.std.specs.Prelude.{◌≡◌, ◌≢◌, ◌+◌, ◌<◌, ◌≤◌, ℕ, [], length};
 ghost use Rattle.frame_word.specs.Seats.{IsInOwnHand, IsOpen, IsShut, IsZoneSeat, NothingPasses};
 ghost use Rattle.frame_word.specs.Seats.{first_cpu_view, first_zone_view, holds};
@@ -14,7 +14,7 @@ use std::process::Abort;
 use std::thread::{Threads, join};
 use stock_word::{StockSeat, StockWords};
 
-// The tables of F frames and 2 processors, and all seats, as they are at first.
+// The tables of F frames and 2 CPUs, and all new seats.
 #[derive(Drop)]
 pub(crate) struct WordParts<const F: u32> {
     pub frames: FrameWords,
@@ -50,7 +50,7 @@ pub(crate) fn make_word_parts<const F: u32>(rt: &impl Abort, alloc: Global) -> W
     }
 }
 
-// The two tables, the zone's two seats and both processors, as they are at first.
+// The two tables, the zone's two seats and both CPUs, all new.
 pub(crate) fn set_up<N: BootName, const F: u32>(
     rt: &impl Abort,
     alloc: Global,
@@ -89,7 +89,7 @@ pub(crate) fn frame_of<N: BootName>(rt: &impl Abort, tables: &Tables<N>, number:
     tables.frames.frame(number).expect(rt, "a frame")
 }
 
-// Takes a processor apart, which has nothing left.
+// Takes a CPU apart that has no frame, page or pin left.
 fn take_apart<N: BootName>(rt: &impl Abort, cpu: Cpu<N>) -> (FrameSeat, StockSeat)
     ensures { (result.0.table ≡ N.frames.table) × (result.1.table ≡ N.stocks.table) }
 {
@@ -98,7 +98,7 @@ fn take_apart<N: BootName>(rt: &impl Abort, cpu: Cpu<N>) -> (FrameSeat, StockSea
     cpu.into_seats()
 }
 
-// Gives the tables and the processors up, which have nothing left.
+// Takes the tables and both CPUs apart, which have nothing left.
 pub(crate) fn give_up<N: BootName>(
     rt: &impl Abort,
     tables: Tables<N>,
@@ -110,7 +110,7 @@ pub(crate) fn give_up<N: BootName>(
     let _ = tables.into_tables();
 }
 
-// Hands the front of the list over, and the zone collects it.
+// The CPU hands over the front of its list, and the zone collects it.
 fn take_back<N: BootName>(
     tables: &Tables<N>,
     zone: &mut FrameSeat,
@@ -122,14 +122,14 @@ fn take_back<N: BootName>(
     ensures still { NothingPasses N.frames zone.new cpu.new.frame_seat }
     ensures number { cpu.new.number ≡ cpu.old.number }
 {
-    // Whoever asks for the number learns what always holds of the processor's part.
+    // The call of `number` brings in the invariant of the CPU's part.
     let _ = cpu.number();
     let frame = cpu.hand_front(tables, zone)?;
     cpu.collect(tables, zone, frame);
     Some(frame)
 }
 
-// Frame 3 goes to processor 2 and comes back.
+// Frame 3 goes to CPU 2 and is returned.
 fn hands_over<N: BootName>(rt: &impl Abort, alloc: Global, parts: WordParts<8>)
     requires { (parts.frames ≡ N.frames) × (parts.stocks ≡ N.stocks) }
 {
@@ -158,7 +158,7 @@ fn frame_3_goes_to_processor_2_and_back(rt: HostRuntime) {
     hands_over::<Brand>(&rt, rt.alloc(), parts);
 }
 
-// Hands the oldest fresh frame over with its page, and the zone collects it.
+// The CPU hands over its oldest fresh frame with the page, and the zone collects it.
 fn take_fresh<N: BootName>(
     tables: &Tables<N>,
     zone: &mut FrameSeat,
@@ -175,7 +175,7 @@ fn take_fresh<N: BootName>(
     Some(frame)
 }
 
-// A frame is paid for on the fast path, and this is the answer.
+// A fast allocation gives this answer.
 pub(crate) fn pays_fast<N: BootName>(
     rt: &impl Abort,
     tables: &Tables<N>,
@@ -188,7 +188,7 @@ pub(crate) fn pays_fast<N: BootName>(
     same(rt, cpu.alloc_fast(tables, group), answer);
 }
 
-// The stock of processor 1 is drained of so many pages.
+// The drain of CPU 1's stock returns this many pages.
 pub(crate) fn drains_stock<N: BootName>(
     rt: &impl Abort,
     tables: &Tables<N>,
@@ -201,7 +201,7 @@ pub(crate) fn drains_stock<N: BootName>(
     same(rt, tables.stocks.drain(machine, 1), pages);
 }
 
-// A fresh frame is dropped, and this is the answer.
+// The drop of a fresh frame gives this answer.
 pub(crate) fn drops_fresh<N: BootName>(
     rt: &impl Abort,
     tables: &Tables<N>,
@@ -213,7 +213,7 @@ pub(crate) fn drops_fresh<N: BootName>(
     same(rt, cpu.drop_fresh(tables, frame), answer);
 }
 
-// Frames 0 and 1 are given to processor 1, whose stock is filled with 4 pages of group 1, and drained.
+// CPU 1 gets frames 0 and 1. Its stock is filled with 4 pages of group 1, and drained.
 fn pays<N: BootName>(rt: &impl Abort, alloc: Global, parts: WordParts<8>)
     requires { (parts.frames ≡ N.frames) × (parts.stocks ≡ N.stocks) }
 {
@@ -254,7 +254,7 @@ fn group_1_pays_and_is_drained(rt: HostRuntime) {
     pays::<Brand>(&rt, rt.alloc(), parts);
 }
 
-// Pins the frame so many times.
+// Pins the frame this many times.
 fn pin<N: BootName>(rt: &impl Abort, tables: &Tables<N>, cpu: &mut Cpu<N>, frame: Frame, count: u64)
     requires { frame < N.frames.frames }
 {
@@ -263,7 +263,7 @@ fn pin<N: BootName>(rt: &impl Abort, tables: &Tables<N>, cpu: &mut Cpu<N>, frame
     }
 }
 
-// Takes all pins, which are so many, from their frames.
+// Puts all pins, of which there are this many.
 fn unpin<N: BootName>(rt: &impl Abort, tables: &Tables<N>, cpu: &mut Cpu<N>, count: u64) {
     for _ in 0..count {
         let frame = cpu.first_pin().expect(rt, "a pin");
@@ -272,7 +272,7 @@ fn unpin<N: BootName>(rt: &impl Abort, tables: &Tables<N>, cpu: &mut Cpu<N>, cou
     assert!(rt; cpu.first_pin().is_none());
 }
 
-// Hands the oldest back frame over, and the zone collects it.
+// The CPU hands over its oldest back frame, and the zone collects it.
 fn take_last<N: BootName>(
     tables: &Tables<N>,
     zone: &mut FrameSeat,
@@ -305,7 +305,7 @@ fn pin_all<N: BootName>(
     assert!(rt; cpu.holds(used.0));
 }
 
-// Frames 1 and 2, of each of which the zone has a reference now.
+// Frames 1 and 2; the zone takes a reference on each.
 fn two_in_use<N: BootName>(
     rt: &impl Abort,
     tables: &Tables<N>,
@@ -323,7 +323,7 @@ fn two_in_use<N: BootName>(
     (one, other)
 }
 
-// The frame is pinned once and goes out of use: it is a back frame.
+// The frame is pinned once, and its last reference is put: it becomes a back frame.
 fn keeps_back<N: BootName>(
     rt: &impl Abort,
     tables: &Tables<N>,
@@ -342,7 +342,8 @@ fn keeps_back<N: BootName>(
     same(rt, cpu.back_len(), 1);
 }
 
-// 256 pins on two frames, of which the zone has a reference each; then one of them is a back frame, which is handed over.
+// 256 pins on two frames, on each of which the zone has a reference. Then one becomes a back frame, which is handed
+// over.
 fn pins_run_out<N: BootName>(rt: &impl Abort, alloc: Global, parts: WordParts<8>)
     requires { (parts.frames ≡ N.frames) × (parts.stocks ≡ N.stocks) }
 {
@@ -364,7 +365,7 @@ fn pins_are_full_at_256(rt: HostRuntime) {
     pins_run_out::<Brand>(&rt, rt.alloc(), parts);
 }
 
-// Processor 1 takes and drops a page of group 1 so many times, and tells how often the page came back.
+// CPU 1 takes and drops a page of group 1 a thousand times. Returns how often the drop listed the frame again.
 fn pages_put_back<N: BootName>(tables: &Tables<N>, cpu: &mut Cpu<N>) -> u64 {
     let mut listed = 0;
     for _ in 0..1000u64 {
@@ -377,7 +378,7 @@ fn pages_put_back<N: BootName>(tables: &Tables<N>, cpu: &mut Cpu<N>) -> u64 {
     listed
 }
 
-// Another processor gets and puts a frame so many times, and tells whether a put was the last.
+// The other CPU gets and puts a frame a thousand times. Returns whether a put was the last.
 fn pin_and_unpin<N: BootName>(tables: &Tables<N>, cpu: &mut Cpu<N>, frame: Frame) -> bool
     requires { frame < N.frames.frames }
 {
@@ -392,7 +393,7 @@ fn pin_and_unpin<N: BootName>(tables: &Tables<N>, cpu: &mut Cpu<N>, frame: Frame
     last
 }
 
-// What the two threads of the next test did: pages that came back, and whether a put was the last.
+// Runs both loops in two threads. Returns the count of the first and whether a put of the second was the last.
 fn pay_beside_pins<N: BootName + Send + Sync, R: Threads + Sync>(
     rt: &R,
     tables: &Tables<N>,
@@ -409,7 +410,7 @@ fn pay_beside_pins<N: BootName + Send + Sync, R: Threads + Sync>(
     )
 }
 
-// Frame 5 is in use by the zone; processor 1 has frame 6 and 4 pages of group 1.
+// The zone has a reference on frame 5. CPU 1 has frame 6 and 4 pages of group 1.
 fn begins<N: BootName>(
     rt: &impl Abort,
     tables: &Tables<N>,
@@ -441,7 +442,7 @@ fn begins<N: BootName>(
     used
 }
 
-// Processor 1 takes and drops a page beside the pins of processor 2 on a frame in use.
+// CPU 1 takes and drops a page while CPU 2 pins and unpins a frame in use.
 fn works_beside<N: BootName + Send + Sync, R: Threads + Abort + Sync>(
     rt: &R,
     alloc: Global,
@@ -469,7 +470,7 @@ fn drops_beside_pins(rt: HostRuntime) {
     works_beside::<Brand, _>(&rt, rt.alloc(), parts);
 }
 
-// Gives a frame of the zone's hand to a processor whose visit is open.
+// Gives a frame that the zone owns to a CPU whose visit is open.
 fn give<N: BootName>(tables: &Tables<N>, zone: &mut FrameSeat, cpu: &mut Cpu<N>, frame: Frame)
     requires zone { IsZoneSeat N.frames zone.old × IsOpen zone.old cpu.old.number }
     requires still { NothingPasses N.frames zone.old cpu.old.frame_seat }
@@ -486,7 +487,7 @@ fn give<N: BootName>(tables: &Tables<N>, zone: &mut FrameSeat, cpu: &mut Cpu<N>,
     cpu.accept(tables, zone, frame);
 }
 
-// Which frames a processor is given: those from `from` on, below `to`.
+// The frames that a CPU is given: from `from`, below `to`.
 #[derive(Clone, Copy)]
 pub(crate) struct GivenFrames {
     pub cpu: u32,
@@ -494,7 +495,7 @@ pub(crate) struct GivenFrames {
     pub to: u32,
 }
 
-// Gives the zone's frames to the processor, which has none.
+// Gives these frames of the zone to the CPU, which has none.
 pub(crate) fn give_some<N: BootName>(
     rt: &impl Abort,
     tables: &Tables<N>,
@@ -518,7 +519,7 @@ pub(crate) fn give_some<N: BootName>(
     cpu.shut(tables, zone);
 }
 
-// Hands over all listed frames, and the zone collects them.
+// The CPU hands over all listed frames, and the zone collects them.
 pub(crate) fn give_back<N: BootName>(tables: &Tables<N>, zone: &mut FrameSeat, cpu: &mut Cpu<N>)
     requires { IsZoneSeat N.frames zone.old × IsShut zone.old cpu.old.number }
     ensures zone { IsZoneSeat N.frames zone.new × IsOpen zone.new cpu.new.number }

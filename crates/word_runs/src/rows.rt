@@ -1,9 +1,9 @@
-//! How a row compares: by value, which costs a check less than a borrow of each side does.
+//! How a row compares: by value, because a borrow of each side would make the check dearer.
 ghost use Rattle.std.specs.Prelude.{IsTrue};
 
 use std::process::Abort;
 
-/// The answer is the one that is wanted.
+/// The answer is the expected one.
 pub(crate) fn same<T: PartialEq + Copy>(rt: &impl Abort, answer: T, wanted: T)
     ensures { IsTrue (T.eq answer wanted) }
 {

@@ -1,4 +1,4 @@
-//! Worked rows on a stock's word, and its drain beside the processor that pays from it.
+//! Worked rows on a stock's word, and its drain while the CPU pays from it.
 ghost use Rattle.std.specs.Prelude.{◌≡◌, ◌≤◌, ◌+◌, false, length};
 ghost use Rattle.stock_word.specs.Stock.{IsProcessor, IsZoneStock, IsSettled, account_of, first_zone_stock, first_processor};
 ghost use Rattle.stock_word.specs.Kinds.{draining, with_steps};
@@ -9,7 +9,7 @@ use std::process::Abort;
 use std::thread::{Threads, join};
 use stock_word::{Consume, Credit, Stock, StockSeat, StockWords};
 
-// A page of the stock is fresh when the other three are drained. It is reported and taken in.
+// One page of the stock is fresh while the other three are drained. It is then reported and absorbed.
 fn drained_beside_a_page(
     rt: &impl Abort,
     words: &StockWords,
@@ -36,7 +36,7 @@ fn drained_with_a_fresh_page(rt: HostRuntime) {
     drained_beside_a_page(&rt, &words, &mut machine, &mut seat);
 }
 
-// The stock has two pages: the third that is asked for isn't there.
+// The stock has two pages: the third consume finds it empty.
 fn takes_all_pages(
     rt: &impl Abort,
     words: &StockWords,
@@ -59,8 +59,8 @@ fn a_stock_runs_empty(rt: HostRuntime) {
     takes_all_pages(&rt, &words, &mut machine, &mut seat);
 }
 
-// Takes and gives back pages of group 1 until it is told that the stock is drained, or for 100
-// steps. Tells how many pages it kept.
+// Consumes and credits pages of group 1 until the stock is drained, or for 100 steps. Returns how many pages stayed
+// fresh.
 fn pay_and_credit(words: &StockWords, seat: &mut StockSeat) -> u32
     requires table { seat.old.table ≡ words.now.table }
     requires processor { IsProcessor words.now seat.old.view }
@@ -87,9 +87,9 @@ fn pay_and_credit(words: &StockWords, seat: &mut StockSeat) -> u32
     fresh
 }
 
-// A fill with 50 pages; then the processor works in one thread while the machine drains in
-// another; then, with both seats in one thread, what is left is drained, and what is fresh is
-// reported and taken in. Tells how many pages came back.
+// Fills 50 pages. Then the CPU consumes and credits in one thread while the zone drains in another. Afterwards, in
+// one thread, the rest is drained, and the fresh pages are reported and absorbed. Returns how many pages were
+// returned.
 fn fill_and_drain<R: Threads + Sync>(
     rt: &R,
     words: &StockWords,

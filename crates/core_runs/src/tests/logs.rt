@@ -1,5 +1,4 @@
-//! Logs: rows of steps with the answers that somebody says they got, on two frames and two CPUs, and what a check of
-//! them says.
+//! Logs on two frames and two CPUs: rows of steps with the answers that a log claims, and the verdict of a check.
 
 use super::plays::{CoreRow, core_tells};
 use group_tree::group::GroupId;
@@ -21,7 +20,7 @@ const TWO_FRAMES: Config = Config {
     stock: 1,
 };
 
-// The steps of the rows, with their answers, are checked so.
+// The check of these steps and answers gives this verdict.
 fn is_checked(
     rt: &impl Abort,
     alloc: Global,
@@ -40,7 +39,7 @@ fn is_checked(
     Ok(())
 }
 
-// After CPU 1 took the lock, and two pages were granted to the root, the rows are checked so.
+// The check gives this verdict on the rows, after CPU 1 took the lock and two pages were granted to the root.
 fn is_checked_after_grant(
     rt: &impl Abort,
     alloc: Global,
@@ -63,7 +62,7 @@ fn block(at: u32, exponent: u32) -> Block {
     Block { at, order }
 }
 
-// A block of 2^`exponent` frames is asked for the root, and said to be placed at this block.
+// A block of 2^`exponent` frames is requested for the root, and the log claims that this block was placed.
 fn placing(exponent: u32, placed: Block) -> CoreRow {
     let group = GroupId::root();
     let order = block(0, exponent).order;
@@ -74,7 +73,7 @@ fn placing(exponent: u32, placed: Block) -> CoreRow {
     )
 }
 
-// CPU 1 gets frame 0 to its list, and a stock of two pages of the root; then it pays for the frame.
+// CPU 1 gets frame 0 on its list and a stock of two pages of the root. Then it pays for the frame.
 fn first_visit() -> [CoreRow; 7] {
     let (cpu, group) = (1, GroupId::root());
     let fill = Action::Fill {
@@ -93,7 +92,7 @@ fn first_visit() -> [CoreRow; 7] {
     ]
 }
 
-// It hands the frame over, which is pinned and put, and comes back in a visit of CPU 2.
+// CPU 1 hands the frame over. The frame is pinned and put, and returned in a visit of CPU 2.
 fn life_after() -> [CoreRow; 22] {
     let group = GroupId::root();
     let frame = 0;
@@ -133,19 +132,19 @@ fn the_life_of_a_frame_is_legal(rt: HostRuntime) -> Result<(), Fail> {
     is_checked(&rt, rt.alloc(), rows.as_slice(), &Verdict::Legal)
 }
 
-// A step that may not be made, and is said to be refused, is part of a legal run.
+// A step that may not be made is part of a legal run if the log says that it was refused.
 #[test]
 fn a_refused_step_is_legal(rt: HostRuntime) -> Result<(), Fail> {
     let rows = [(1, Action::Unlock, Answer::Illegal)];
     is_checked_after_grant(&rt, rt.alloc(), &rows, &Verdict::Legal)
 }
 
-// The step at this place is the first that isn't allowed, and this answer was due.
+// The step at this index is the first whose answer isn't allowed, and this answer is allowed there.
 fn illegal_at(index: usize, expected: Answer) -> Verdict {
     Verdict::IllegalAt { index, expected }
 }
 
-// A block may lie inside a greater free one, anywhere.
+// A block may be placed anywhere inside a greater free one.
 #[test]
 fn any_free_block_is_placed(rt: HostRuntime) -> Result<(), Fail> {
     let rows = [placing(0, block(1, 0)), placing(0, block(0, 0))];
@@ -164,7 +163,7 @@ fn no_other_block_is_placed(rt: HostRuntime) -> Result<(), Fail> {
     is_checked_after_grant(&rt, alloc, &used, &due)
 }
 
-// A unit comes back twice.
+// A unit is returned twice.
 #[test]
 fn the_first_illegal_step_is_named(rt: HostRuntime) -> Result<(), Fail> {
     let frame = 0;
@@ -179,7 +178,7 @@ fn the_first_illegal_step_is_named(rt: HostRuntime) -> Result<(), Fail> {
     is_checked_after_grant(&rt, rt.alloc(), &rows, &illegal_at(6, Answer::Illegal))
 }
 
-// The lock is given back while pages are pending, and a grant that has room is said to be refused.
+// The lock is released while pages are pending; and a grant that has room is refused.
 #[test]
 fn the_last_step_is_checked(rt: HostRuntime) -> Result<(), Fail> {
     let alloc = rt.alloc();

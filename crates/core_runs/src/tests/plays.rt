@@ -1,4 +1,4 @@
-//! A run as data: rows of steps with the answers that they have to get, and facts that have to be so after them.
+//! A run as data: rows of steps with their required answers, and the facts required after them.
 
 use group_tree::event::EventKey;
 use group_tree::group::GroupId;
@@ -18,41 +18,41 @@ pub const EIGHT_FRAMES: Config = Config {
     stock: 1,
 };
 
-/// A seat, the step that it makes, and the answer that it has to get.
+/// A seat, its step, and the required answer.
 pub type CoreRow = (u32, Action, Answer);
 
-/// What has to be so after a run.
+/// A fact that is required after a run.
 #[derive(Clone, Copy)]
 pub enum CoreFact {
     /// The usage of a group.
     Current(GroupId, u128),
-    /// The highest usage of a group that is there.
+    /// The peak of an existing group.
     Peak(GroupId, u128),
     /// The pending pages of a group.
     Pending(GroupId, u128),
-    /// The limit of a group that is there.
+    /// The limit of an existing group.
     Max(GroupId, Option<u32>),
-    /// Whether a group that is there is killed as a whole.
+    /// Whether an existing group is killed as a whole.
     Flag(GroupId, bool),
-    /// How often an event was noted at a group that is there, or at one below it.
+    /// How often an event was noted at an existing group or at one below it.
     Events(GroupId, EventKey, u64),
-    /// How often an event was noted at a group that is there.
+    /// How often an event was noted at an existing group.
     LocalEvents(GroupId, EventKey, u64),
-    /// The group is there.
+    /// The group exists.
     IsThere(GroupId),
     /// The group is killed.
     IsKilled(GroupId),
-    /// The pins of a processor.
+    /// The pins of a CPU.
     Pins(u32, u32),
-    /// The book of a processor.
+    /// The book of a CPU.
     Book(u32, u128),
-    /// The pages in the stock of a processor.
+    /// The pages in the stock of a CPU.
     Stock(u32, u128),
-    /// The length of a processor's list.
+    /// The length of a CPU's list.
     Listed(u32, usize),
-    /// The frame at this place of a processor's fresh frames.
+    /// The frame at this index of a CPU's fresh frames.
     Fresh(u32, usize, Option<u32>),
-    /// The frame at this place of a processor's back frames.
+    /// The frame at this index of a CPU's back frames.
     Back(u32, usize, Option<u32>),
     /// The phase of a frame.
     Phase(u32, Phase),
@@ -60,12 +60,12 @@ pub enum CoreFact {
     IsHead(u32),
 }
 
-/// The group of this number, of 64.
+/// The group of this number, below 64.
 pub fn group_of(number: u32) -> GroupId {
     GroupId::of(number).unwrap_or(GroupId::root())
 }
 
-/// Makes a step, of the first million.
+/// Makes a step. At most a million are made.
 fn core_step(core: &mut Core, seat: u32, action: Action) -> Answer {
     if core.steps() < 1_000_000 {
         core.step(Step { seat, action })
@@ -74,12 +74,12 @@ fn core_step(core: &mut Core, seat: u32, action: Action) -> Answer {
     }
 }
 
-/// The core tells so, or the test ends here. A call is proved at less cost than the macro in its place.
+/// It holds of the core, or the test fails. A call is cheaper to prove than the macro in its place.
 pub fn core_tells(rt: &impl Abort, is: bool) {
     assert!(rt; is);
 }
 
-/// Makes the steps, each of which has to get its answer.
+/// Makes the steps, each of which must get its answer.
 pub fn plays_rows(rt: &impl Abort, core: &mut Core, rows: &[CoreRow]) {
     for (seat, action, wanted) in rows {
         let answer = core_step(core, *seat, *action);
@@ -87,7 +87,7 @@ pub fn plays_rows(rt: &impl Abort, core: &mut Core, rows: &[CoreRow]) {
     }
 }
 
-// Whether the fact about a group is so, and the group there.
+// Whether the group exists and the fact about it holds.
 fn is_so_of_group(core: &Core, fact: &CoreFact, group: GroupId) -> bool {
     if !core.tree().contains(group) {
         return false;
@@ -102,7 +102,7 @@ fn is_so_of_group(core: &Core, fact: &CoreFact, group: GroupId) -> bool {
     }
 }
 
-// Whether the fact is so.
+// Whether the fact holds.
 fn is_so(core: &Core, fact: &CoreFact) -> bool {
     match *fact {
         CoreFact::Current(group, pages) => core.current(group) == pages,
@@ -125,7 +125,7 @@ fn is_so(core: &Core, fact: &CoreFact) -> bool {
     }
 }
 
-/// Plays the rows, after those that they begin with, on eight frames and three processors; then each fact has to be so.
+/// Plays the rows, after their first ones, on eight frames and three CPUs. Then each fact must hold.
 pub fn works_on_core(
     rt: &impl Abort,
     alloc: Global,

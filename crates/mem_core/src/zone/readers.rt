@@ -1,5 +1,5 @@
-//! Of the reading core, on which the program doesn't run.
-//! What a core tells: of its state, and so of each run that it shows.
+//! Part of the reading core, on which the program doesn't run: what can be read of a core's state, and so of each run
+//! that it shows.
 
 ghost use Rattle.std.specs.Prelude.{◌≡◌, ℕ, ◌<◌, ◌^◌, Some, IsTrue, length, slice_get};
 ghost use Rattle.zone_blocks.specs.Areas.{AreMaximalBlocks};
@@ -27,7 +27,7 @@ use step_rules::step::FramePlace;
 use zone_blocks::areas::FreeAreas;
 
 impl Core {
-    /// How many steps were made, illegal ones included.
+    /// How many steps were made, with those that were answered Illegal.
     pub fn steps(&self) -> u64
         ensures now { result ≡ self.now.steps }
         ensures run { (run : Run) → Shows self.now run → result ≡ length run }
@@ -52,7 +52,7 @@ impl Core {
         &self.areas
     }
 
-    /// The limit of a group that is there (memory.max), in pages; None for no limit.
+    /// The limit of an existing group (memory.max), in pages, or None if it has no limit.
     pub fn max(&self, group: GroupId) -> Option<u32>
         requires { IsTrue (has_group self.now.groups group) }
         ensures now { result ≡ limit_of self.now.groups group }
@@ -61,7 +61,7 @@ impl Core {
         self.rows.tree.limit(group)
     }
 
-    /// Whether a group that is there is killed as a whole (memory.oom.group). A new group isn't.
+    /// Whether an existing group is killed as a whole (memory.oom.group). A new group isn't.
     pub fn oom_group(&self, group: GroupId) -> bool
         requires { IsTrue (has_group self.now.groups group) }
         ensures now { result ≡ is_oom_group self.now.groups group }
@@ -70,7 +70,7 @@ impl Core {
         self.rows.tree.oom_group(group)
     }
 
-    /// Where a frame of the zone is.
+    /// The place of a frame of the zone.
     pub fn place(&self, frame: u32) -> FramePlace
         requires { frame < self.now.zone.frames }
         ensures now { result ≡ place_in ((state_in self.now).phases frame) }
@@ -79,7 +79,7 @@ impl Core {
         place_in(self.phase(frame))
     }
 
-    /// Who holds the lock, and whether its visit is open.
+    /// Who holds the lock, and whether the holder's visit is open.
     pub fn hold(&self) -> Hold
         ensures now { result ≡ (state_in self.now).hold }
         ensures run { (run : Run) → Shows self.now run → result ≡ (state_of self.now.zone run).hold }
@@ -119,7 +119,7 @@ impl Core {
         self.rows.references(seat, frame)
     }
 
-    /// The front of a processor's list; of an empty one, 0.
+    /// The front of a CPU's list; 0 if the list is empty.
     pub fn front(&self, cpu: u32) -> u32
         ensures now { result ≡ front_of ((state_in self.now).parts cpu).list }
         ensures run { (run : Run) → Shows self.now run → result ≡ front_of ((state_of self.now.zone run).parts cpu).list }
@@ -127,7 +127,7 @@ impl Core {
         self.rows.front(cpu)
     }
 
-    /// How many frames are on a processor's list.
+    /// How many frames are on a CPU's list.
     pub fn list_len(&self, cpu: u32) -> usize
         ensures now { result ≡ length ((state_in self.now).parts cpu).list }
         ensures run { (run : Run) → Shows self.now run → result ≡ length ((state_of self.now.zone run).parts cpu).list }
@@ -135,7 +135,7 @@ impl Core {
         self.rows.list_len(cpu)
     }
 
-    /// The group of the last fill of a processor's stock.
+    /// The group of the last fill of a CPU's stock.
     pub fn stock_group(&self, cpu: u32) -> Option<GroupId>
         ensures now { result ≡ ((state_in self.now).parts cpu).stock.group }
         ensures run { (run : Run) → Shows self.now run → result ≡ ((state_of self.now.zone run).parts cpu).stock.group }
@@ -143,7 +143,7 @@ impl Core {
         self.rows.stock_group(cpu)
     }
 
-    /// The pages of a processor's stock.
+    /// The pages in a CPU's stock.
     pub fn stock_pages(&self, cpu: u32) -> u128
         ensures now { result ≡ ((state_in self.now).parts cpu).stock.pages }
         ensures run { (run : Run) → Shows self.now run → result ≡ ((state_of self.now.zone run).parts cpu).stock.pages }
@@ -151,7 +151,7 @@ impl Core {
         self.rows.stock_pages(cpu)
     }
 
-    /// Whether a processor's stock was drained since its last fill.
+    /// Whether a CPU's stock was drained since its last fill.
     pub fn is_drained(&self, cpu: u32) -> bool
         ensures now { result ≡ ((state_in self.now).parts cpu).stock.is_drained }
         ensures run { (run : Run) → Shows self.now run → result ≡ ((state_of self.now.zone run).parts cpu).stock.is_drained }
@@ -159,7 +159,7 @@ impl Core {
         self.rows.is_drained(cpu)
     }
 
-    /// A processor's book: the pages filled for it and neither drained nor absorbed.
+    /// A CPU's book: the pages that were filled into its stock, less those drained or absorbed.
     pub fn book(&self, cpu: u32) -> u128
         ensures now { result ≡ ((state_in self.now).parts cpu).book }
         ensures run { (run : Run) → Shows self.now run → result ≡ ((state_of self.now.zone run).parts cpu).book }
@@ -167,7 +167,7 @@ impl Core {
         self.rows.book(cpu)
     }
 
-    /// The pages of a processor's fresh frames that it passed back and didn't report.
+    /// The pages of fresh frames that a CPU passed back and hasn't reported.
     pub fn unreported(&self, cpu: u32) -> u128
         ensures now { result ≡ ((state_in self.now).parts cpu).unreported }
         ensures run { (run : Run) → Shows self.now run → result ≡ ((state_of self.now.zone run).parts cpu).unreported }
@@ -175,7 +175,7 @@ impl Core {
         self.rows.unreported(cpu)
     }
 
-    /// The pages that a processor reported and that aren't absorbed.
+    /// The pages that a CPU reported and that aren't absorbed yet.
     pub fn reported(&self, cpu: u32) -> u128
         ensures now { result ≡ ((state_in self.now).parts cpu).reported }
         ensures run { (run : Run) → Shows self.now run → result ≡ ((state_of self.now.zone run).parts cpu).reported }
@@ -183,7 +183,7 @@ impl Core {
         self.rows.reported(cpu)
     }
 
-    /// The references of a seat on all frames: a processor's are its pins.
+    /// The references of a seat on all frames; those of a CPU are its pins.
     pub fn pins(&self, seat: u32) -> u32
         ensures now { result ≡ pins_of (state_in self.now) seat }
         ensures run { (run : Run) → Shows self.now run → result ≡ pins_of (state_of self.now.zone run) seat }
@@ -191,7 +191,8 @@ impl Core {
         self.rows.pins(seat)
     }
 
-    /// The memory now used by a group and its descendants (memory.current), in pages: the frames that they keep, the pages prepaid for them and those pending.
+    /// The usage of a group (memory.current), in pages: the frames that it and its descendants keep, the pages
+    /// prepaid for them, and those pending.
     pub fn current(&self, group: GroupId) -> u128
         ensures now { result ≡ usage_of (state_in self.now) group }
         ensures shown { result ≡ (shown_of self.now).current group }
@@ -201,7 +202,7 @@ impl Core {
         self.rows.usage(group)
     }
 
-    /// The greatest usage of a group that is there since it was made (memory.peak), in pages, less than 2^104.
+    /// The greatest usage of an existing group since it was made (memory.peak), in pages; it is below 2^104.
     pub fn peak(&self, group: GroupId) -> u128
         requires { IsTrue (has_group self.now.groups group) }
         ensures now { result ≡ (account_of self.now.accounts group).peak }
@@ -211,7 +212,7 @@ impl Core {
         self.accounts[group.number() as usize].peak
     }
 
-    /// What was counted for a group that is there and all below it since it was made (memory.events).
+    /// The event counts of an existing group and all groups below it since it was made (memory.events).
     pub fn events(&self, group: GroupId) -> EventCounts
         requires { IsTrue (has_group self.now.groups group) }
         ensures now { result ≡ (account_of self.now.accounts group).events }
@@ -221,7 +222,7 @@ impl Core {
         account.events
     }
 
-    /// What was counted for a group that is there alone since it was made (memory.events.local).
+    /// The event counts of an existing group itself since it was made (memory.events.local).
     pub fn events_local(&self, group: GroupId) -> EventCounts
         requires { IsTrue (has_group self.now.groups group) }
         ensures now { result ≡ (account_of self.now.accounts group).events_local }
@@ -230,7 +231,7 @@ impl Core {
         self.accounts[group.number() as usize].events_local
     }
 
-    /// The frames on a processor's list, the front first.
+    /// The frames on a CPU's list, the front first.
     pub fn list(&self, cpu: u32) -> &[u32]
         ensures now { result.now ≡ ((state_in self.now).parts cpu).list }
         ensures run { (run : Run) → Shows self.now run → result.now ≡ ((state_of self.now.zone run).parts cpu).list }
@@ -238,7 +239,7 @@ impl Core {
         self.rows.list(cpu)
     }
 
-    /// A processor's fresh frames, the oldest first.
+    /// A CPU's fresh frames, the oldest first.
     pub fn fresh(&self, cpu: u32) -> &[u32]
         ensures now { result.now ≡ ((state_in self.now).parts cpu).fresh }
         ensures run { (run : Run) → Shows self.now run → result.now ≡ ((state_of self.now.zone run).parts cpu).fresh }
@@ -246,7 +247,7 @@ impl Core {
         self.rows.fresh(cpu)
     }
 
-    /// A processor's back frames, the oldest first.
+    /// A CPU's back frames, the oldest first.
     pub fn back(&self, cpu: u32) -> &[u32]
         ensures now { result.now ≡ ((state_in self.now).parts cpu).back }
         ensures run { (run : Run) → Shows self.now run → result.now ≡ ((state_of self.now.zone run).parts cpu).back }
