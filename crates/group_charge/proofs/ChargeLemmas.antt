@@ -28,7 +28,7 @@ list_any-over : {X Y : Type 0} (p : Y → Bool) (f : X → Y) (xs : List X) → 
 list_any-over p f [] = refl
 list_any-over p f (x ∷ xs) = ap (λ b. p (f x) || b) (list_any-over p f xs)
 
--- a group has an account exactly where it is there
+-- a group has an account exactly if it exists
 pub has_account : (l : Ledger) (g : ℕ) → AreCharges l → list_any (λ a. a.group == g) l.accounts ≡ has_group l.groups g
 has_account l g facts =
     sym (list_any-over (λ n. n == g) (λ (a : Account). a.group) l.accounts) ∙ ap (list_any (λ n. n == g)) facts.numbers

@@ -1,4 +1,5 @@
--- What the readers of a ledger tell after a change. Serves the clauses pages, peaks, events and counts of `Charges`.
+-- What the readers of a ledger return after a change. Serves the clauses pages, peaks, events and counts of
+-- `Charges`.
 use Rattle.std.proofs.Common.{◌≡◌, ℕ, ◌+◌, ◌-◌, ◌<◌, ◌≤◌, Bool, true, false, not, cond, max, ◌==◌, IsTrue, Option, Some, None, is_some, List, [], ◌∷◌}
 use Rattle.std.proofs.Common.{length, map, filter, get_or, refl, sym, ap, ◌∙◌, subst, arith, ⊎_elim}
 use Rattle.std.specs.List.{find}
@@ -23,7 +24,7 @@ use Rattle.group_charge.proofs.UsageLemmas.{usage-absent, usage-peaked, usage-re
 use Rattle.group_charge.proofs.ChargeLemmas.{account_at-there, has_account}
 
 -- ---- a change of each account
--- the account of m is changed, where there is one
+-- the account of m is changed, if there is one
 account_mapped : (l : Ledger) (f : Account → Account) (m : ℕ) → ((a : Account) → (f a).group ≡ a.group) →
     account_at (record l { accounts = map f l.accounts }) m ≡ option_map f (account_at l m)
 unfolding account_at
@@ -44,7 +45,7 @@ read_from : {X : Type 0} (r : Account → X) (d : X) (f : Account → Account) (
 read_from r d f h None some none = none refl
 read_from r d f h (Some a) some none = some a refl
 
--- what a reader tells of m after the change, by what the change does to the account of m
+-- what a reader returns for m after the change, in terms of the change of m's account
 read_mapped : {X : Type 0} (r : Account → X) (d : X) (l : Ledger) (f : Account → Account) (h : X → X) (m : ℕ) →
     ((a : Account) → (f a).group ≡ a.group) → ((a : Account) → a.group ≡ m → r (f a) ≡ h (r a)) → (account_at l m ≡ None → d ≡ h d) →
     option_map_or r (account_at (record l { accounts = map f l.accounts }) m) d ≡ h (option_map_or r (account_at l m) d)

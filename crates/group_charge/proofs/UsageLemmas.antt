@@ -141,7 +141,7 @@ PeaksCover groups xs = All (λ a. usage_of groups xs a.group ≤ a.peak) xs
 added-peak : (g n : ℕ) (a : Account) → (added g n a).peak ≡ a.peak
 added-peak g n a = cond_both (a.group == g) (record a { pages = a.pages + n }) a (λ (x : Account). x.peak ≡ a.peak) (λ _. refl) (λ _. refl)
 
--- and so do pages that are taken
+-- subtracted pages leave the peak
 taken-peak : (g n : ℕ) (a : Account) → (taken g n a).peak ≡ a.peak
 taken-peak g n a = cond_both (a.group == g) (record a { pages = a.pages - n }) a (λ (x : Account). x.peak ≡ a.peak) (λ _. refl) (λ _. refl)
 
@@ -214,7 +214,7 @@ cover_taken groups xs g n cover =
     omega (arith, less, own, cover k d lt, taken-peak g n a))
 
 -- ---- other trees
--- where the same accounts lie in the subtree, the usage is the same
+-- if the same accounts are in the subtree, the usage is the same
 usage_groups : (groups others : List Group) (xs : List Account) (m : ℕ) → All (λ a. in_subtree groups m a.group ≡ in_subtree others m a.group) xs →
     usage_of groups xs m ≡ usage_of others xs m
 unfolding usage_of

@@ -100,7 +100,7 @@ pub is_end : (end : Option ℕ) (m : ℕ) → option_eq nat_eq end (Some m) ≡ 
 is_end None m e = absurd (false≢true e)
 is_end (Some end) m e = ap Some (eqb-true end m e)
 
--- where the walk came to the root it had no end
+-- a walk that passed the root had no end
 pub no_end : (groups : List Group) (g : ℕ) (end : Option ℕ) → IfSome end (λ m. IsTrue (in_subtree groups m g)) →
     ((k : ℕ) → in_subtree groups k g ≡ true → goes_on end k ≡ true) → end ≡ None
 no_end groups g None on all = refl

@@ -24,7 +24,7 @@ parent-depth_at groups g p facts e =
     let w = parent_of-depth groups g p facts e in
     ap (λ o. option_map_or (λ q. depth_of q) o 0) w.2 ∙ w.4 ∙ add-one _ ∙ ap suc (sym (ap (λ o. option_map_or (λ q. depth_of q) o 0) w.3))
 
--- who has no parent is the root
+-- only the root has no parent
 pub parent_of-none_root : (groups : List Group) (g : ℕ) → AreGroups groups → IsTrue (has_group groups g) → parent_of groups g ≡ None → g ≡ 0
 parent_of-none_root groups g facts there none =
     ⊎_elim (λ zero. zero)
@@ -34,11 +34,11 @@ parent_of-none_root groups g facts there none =
     absurd (none-some s.0 (sym none ∙ parent_of-below groups g w.0 other w.1 ∙ s.1)))
     (cases_eq g 0)
 
--- the parent of a group is there
+-- the parent of a group exists
 pub parent_of-there : (groups : List Group) (g p : ℕ) → AreGroups groups → parent_of groups g ≡ Some p → IsTrue (has_group groups p)
 parent_of-there groups g p facts e = in_subtree-above groups p g (in_subtree-parent_of groups g p facts e)
 
--- a walk begins at its group, and goes on at the parent
+-- a walk begins at its group, then continues at the parent
 step_to : (groups : List Group) (g : ℕ) (o : Option ℕ) → AreGroups groups → IsTrue (has_group groups g) → parent_of groups g ≡ o →
     ancestors_of groups g ≡ g ∷ ancestors_from groups o
 unfolding ancestors_of
@@ -52,7 +52,7 @@ pub ancestors_of-step : (groups : List Group) (g : ℕ) → AreGroups groups →
     ancestors_of groups g ≡ g ∷ ancestors_from groups (parent_of groups g)
 ancestors_of-step groups g facts there = step_to groups g (parent_of groups g) facts there refl
 
--- where a walk goes on is there
+-- the next group of a walk exists
 there_at : (groups : List Group) (g : ℕ) (o : Option ℕ) → AreGroups groups → parent_of groups g ≡ o → IsTrue (is_there groups o)
 there_at groups g None facts e = refl
 there_at groups g (Some p) facts e = parent_of-there groups g p facts e
@@ -90,7 +90,7 @@ path_from groups (suc k) g (Some p) facts there depth e =
 pub ancestors_of-path : (groups : List Group) (g : ℕ) → AreGroups groups → IsTrue (has_group groups g) → IsPathUp groups g (ancestors_of groups g)
 ancestors_of-path groups g facts there = path_from groups (depth_at groups g) g (parent_of groups g) facts there refl refl
 
--- ---- the walk passes the groups in whose subtrees it began
+-- ---- the walk passes the groups whose subtrees have its first group
 -- the root lies in no other's subtree
 at_root : (groups : List Group) (g h : ℕ) → AreGroups groups → IsTrue (has_group groups h) → h ≡ 0 → (h == g) ≡ in_subtree groups g h
 at_root groups g h facts there root =
@@ -133,7 +133,7 @@ passes_from groups (suc k) g h (Some p) facts there depth e =
     ∙ ap (λ b. (h == g) || b) (passes_from groups k g p (parent_of groups p) facts (parent_of-there groups h p facts e) low refl)
     ∙ one_up groups g h p facts there e
 
--- a group is on the walk up from another exactly where that lies in its subtree
+-- a group is on the walk up from another exactly if that one is in its subtree
 pub ancestors_of-subtree : (groups : List Group) (g h : ℕ) → AreGroups groups → IsTrue (has_group groups h) →
     list_any (λ m. m == g) (ancestors_of groups h) ≡ in_subtree groups g h
 ancestors_of-subtree groups g h facts there = passes_from groups (depth_at groups h) g h (parent_of groups h) facts there refl refl

@@ -1,4 +1,4 @@
--- Laws of the tree's definitions. Serves the walks, and crates above: what they cite first stands here.
+-- Laws of the tree's definitions. Serves the walks and crates above: look here first for a law to cite.
 use Rattle.std.proofs.Common.{◌≡◌, ◌≢◌, ℕ, zero, suc, ◌+◌, ◌<◌, ◌≤◌, Bool, true, false, ◌==◌, IsTrue, Option, Some, None, is_some, List}
 use Rattle.std.proofs.Common.{[], ◌∷◌, ◌++◌, length, map, drop, slice_get, IsSomeAnd, Contains, refl, sym, ap, ◌∙◌, subst, arith, inl, inr, ⊎_elim}
 use Rattle.std.proofs.Common.{◌⊎◌, length-append}
@@ -21,7 +21,7 @@ use Rattle.group_tree.proofs.GroupLemmas.{number_at-contains, number_at-there, p
 use Rattle.group_tree.proofs.GroupLemmas.{parent_of-below, parent_of-root, group_at-without, KeepsNames, group_at-changed, limited-keeps}
 use Rattle.group_tree.proofs.GroupLemmas.{flagged-keeps, flagged-limit, is_oom_group-with}
 
--- ---- who is in a subtree
+-- ---- subtrees
 -- the two groups of a pair in the relation, with the names that the lower one has more
 pub record Subtree (groups : List Group) (g h : ℕ) : Type 0 where
   pub above : List ℕ
@@ -62,7 +62,7 @@ pub has_group-path : (groups : List Group) (g : ℕ) (path : List ℕ) → path_
 unfolding has_group
 has_group-path groups g path e = let w = path_of-is groups g path e in ap is_some w.1
 
--- both groups are there
+-- both groups exist
 pub in_subtree-above : (groups : List Group) (g h : ℕ) → in_subtree groups g h ≡ true → IsTrue (has_group groups g)
 in_subtree-above groups g h e = let s = in_subtree-is groups g h e in has_group-path groups g s.above s.path_above
 
@@ -165,7 +165,7 @@ front_front (n ∷ ns) (k ∷ ks) x y e h =
     let w = front_front ns ks x y tail (omega arith) in
     (w.0, ap (λ z. z ∷ ks) (sym head) ∙ ap (λ z. n ∷ z) w.1)
 
--- two groups above one: the first is above the second, or the second above the first
+-- of two groups above a third, one is above the other
 pub either_above : (groups : List Group) (f g h : ℕ) → in_subtree groups f h ≡ true → in_subtree groups g h ≡ true →
     (in_subtree groups f g ≡ true) ⊎ (in_subtree groups g f ≡ true)
 either_above groups f g h a b =
@@ -234,7 +234,7 @@ in_subtree-as : (groups others : List Group) (g h : ℕ) → path_of groups g �
 unfolding in_subtree
 in_subtree-as groups others g h a b = ap (λ o. begins o (path_of groups h)) a ∙ ap (begins (path_of others g)) b
 
--- making a group changes nothing of the others; `is_oom_group-with` of GroupLemmas says so of the flags
+-- making a group leaves all others; `is_oom_group-with` of GroupLemmas has the flags
 pub has_group-with : (groups : List Group) (n k : ℕ) (path : List ℕ) → k ≢ n → has_group (with_group groups n path) k ≡ has_group groups k
 has_group-with groups n k path other = has_group-as (with_group groups n path) groups k (group_at-with groups n k path other)
 
@@ -247,7 +247,7 @@ limit_of-with groups n k path other = limit_of-as (with_group groups n path) gro
 pub in_subtree-with : (groups : List Group) (n g h : ℕ) (path : List ℕ) → g ≢ n → h ≢ n → in_subtree (with_group groups n path) g h ≡ in_subtree groups g h
 in_subtree-with groups n g h path a b = in_subtree-as (with_group groups n path) groups g h (path_of-with groups n g path a) (path_of-with groups n h path b)
 
--- the new group is there, with its path and no limit
+-- the new group exists, with its path and no limit
 pub has_group-with_new : (groups : List Group) (n : ℕ) (path : List ℕ) → has_group groups n ≡ false → IsTrue (has_group (with_group groups n path) n)
 unfolding has_group
 has_group-with_new groups n path free = ap is_some (group_at-with_new groups n path free)
@@ -337,7 +337,7 @@ pub limit_of-flagged : (groups : List Group) (n k : ℕ) (flag : Bool) → limit
 unfolding with_oom_group
 limit_of-flagged groups n k flag = limit_of-changed (flagged n flag) (flagged-keeps n flag) groups k (flagged-limit n flag)
 
--- taking out a group changes nothing of the others
+-- removing a group leaves all others
 pub has_group-without : (groups : List Group) (n k : ℕ) → k ≢ n → has_group (without_group groups n) k ≡ has_group groups k
 has_group-without groups n k other = has_group-as (without_group groups n) groups k (group_at-without groups n k other)
 
@@ -355,7 +355,7 @@ no_flag : (o : Option Group) → is_some o ≡ false → option_map_or (λ (g : 
 no_flag None none = refl
 no_flag (Some g) none = absurd (true≢false none)
 
--- who isn't there has its flag off, and so has a group that is made
+-- a number without a group has its flag off, and so has a new group
 pub is_oom_group-none : (groups : List Group) (n : ℕ) → has_group groups n ≡ false → is_oom_group groups n ≡ false
 unfolding is_oom_group has_group
 is_oom_group-none groups n none = no_flag (group_at groups n) none
@@ -363,7 +363,7 @@ is_oom_group-none groups n none = no_flag (group_at groups n) none
 pub is_oom_group-with_new : (groups : List Group) (n : ℕ) (path : List ℕ) → has_group groups n ≡ false → is_oom_group (with_group groups n path) n ≡ false
 is_oom_group-with_new groups n path free = is_oom_group-with groups n n path ∙ is_oom_group-none groups n free
 
--- whose flag is on is there, and isn't the root
+-- a group whose flag is on exists and isn't the root
 pub is_oom_group-there : (groups : List Group) (n : ℕ) → is_oom_group groups n ≡ true → IsTrue (has_group groups n)
 is_oom_group-there groups n on =
     ⊎_elim (λ there. there)
@@ -373,7 +373,7 @@ is_oom_group-there groups n on =
 pub is_oom_group-below_root : (groups : List Group) (n : ℕ) → AreGroups groups → is_oom_group groups n ≡ true → n ≢ 0
 is_oom_group-below_root groups n facts on = λ root. both_ways (is_oom_group groups 0) facts.root_flag (ap (is_oom_group groups) (sym root) ∙ on)
 
--- ---- the parent, and where a new group lies
+-- ---- the parent, and the place of a new group
 above_last : (a b more front : List (List ℕ)) (name : List ℕ) → b ≡ a ++ more → b ≡ front ++ name ∷ [] →
     (a ≡ b) ⊎ ((rest : List (List ℕ)) × (front ≡ a ++ rest))
 above_last a b more front name x y =
@@ -411,7 +411,7 @@ in_subtree-parent_of groups h p facts e =
     let above : path_of groups p ≡ Some (parent_path w.0) = ap (path_of groups) (sym q.3) ∙ there ∙ ap Some q.2 in
     in_subtree-paths groups p h (parent_path w.0) w.0 above w.1 ∙ begins_parent w.0 (path_of-formed groups h w.0 facts.paths w.1)
 
--- who has a group in its subtree is the group or has its parent there
+-- a group with h in its subtree is h, or has h's parent in its subtree
 pub in_subtree-above_parent : (groups : List Group) (g h p : ℕ) → AreGroups groups → parent_of groups h ≡ Some p → in_subtree groups g h ≡ true →
     (g ≡ h) ⊎ (in_subtree groups g p ≡ true)
 in_subtree-above_parent groups g h p facts e t =
@@ -469,7 +469,7 @@ none_below groups path facts formed below fresh (suc k) r more here le e =
     none_below groups path facts formed below fresh k q.0 front.0 q.1 (omega arith) names)
     (above_last (names_of path) (names_of r.path) more (names_of (parent_path r.path)) n.0 e n.1)
 
--- a new group has itself alone in its subtree
+-- a new group alone is in its subtree
 pub in_subtree-with_new : (groups : List Group) (n h : ℕ) (path : List ℕ) → AreGroups groups → CanMake groups path → has_group groups n ≡ false →
     in_subtree (with_group groups n path) n h ≡ true → h ≡ n
 in_subtree-with_new groups n h path facts can free t =
@@ -500,11 +500,11 @@ parent_of-depth groups h p facts e =
     (w.0, parent_path w.0, w.1, above, ap length n.1 ∙ length-append (names_of (parent_path w.0)) (n.0 ∷ [])))
     (cases_Bool (is_root w.0))
 
--- the root is there
+-- the root exists
 pub root_there : (groups : List Group) → AreGroups groups → IsTrue (has_group groups 0)
 root_there groups facts = has_group-path groups 0 root_path (root_path_of groups facts)
 
--- whoever was there before a group was made is there still
+-- a group that existed before a group was made still exists
 pub has_group-with_kept : (groups : List Group) (n k : ℕ) (path : List ℕ) → has_group groups n ≡ false → IsTrue (has_group groups k) →
     IsTrue (has_group (with_group groups n path) k)
 has_group-with_kept groups n k path free there =

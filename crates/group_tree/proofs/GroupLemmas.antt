@@ -299,7 +299,7 @@ root-with : (groups : List Group) (g : Group) → IsSomeAnd (slice_get groups 0)
 root-with [] g h = absurd h
 root-with (x ∷ xs) g h = h
 
--- a new group's flag is off, as that of a group that isn't there
+-- a new group's flag is off, and so is that of a number without a group
 flag_or : (o more : Option Group) → option_map_or (λ (g : Group). g.oom_group) more false ≡ false →
     option_map_or (λ (g : Group). g.oom_group) (option_or o more) false ≡ option_map_or (λ (g : Group). g.oom_group) o false
 flag_or None more off = off
@@ -349,7 +349,7 @@ in_subtree-parent groups g n facts h above =
     let own = path_of-at groups g.number g (group_at-there groups g facts.numbers_distinct h) in
     in_subtree-paths groups n g.number (parent_path g.path) g.path above own ∙ begins_parent g.path formed
 
--- a path is that of a group still, where it isn't that of the group that was taken out
+-- a path other than that of the removed group still has its group
 pub number_at-without : (groups : List Group) (n : ℕ) (path : List ℕ) → AreGroups groups → (path_of groups n ≡ Some path → ⊥) →
     number_at (without_group groups n) path ≡ number_at groups path
 unfolding number_at without_group
@@ -371,7 +371,7 @@ root-without (x ∷ xs) n other h =
     subst (λ b. IsSomeAnd (slice_get (cond b (x ∷ filter (λ g. not (g.number == n)) xs) (filter (λ g. not (g.number == n)) xs)) 0)
     (λ y. (y.number ≡ 0) × (y.path ≡ root_path))) (sym kept) h
 
--- the parent of each other group stays, since the one that is taken out has no child
+-- the parent of each other group stays, because the removed one has no child
 parents-without : (groups : List Group) (n : ℕ) → AreGroups groups → has_child groups n ≡ false →
     All (λ x. IsTrue (is_some (number_at (without_group groups n) (parent_path x.path)))) (without_group groups n)
 unfolding without_group has_child
@@ -466,7 +466,7 @@ module _ (f : Group → Group) (keeps : KeepsNames f) where
   root-changed [] h = absurd h
   root-changed (x ∷ xs) h = (keeps.number x ∙ h.0, keeps.path x ∙ h.1)
 
-  -- the root's flag has to stay off besides
+  -- the root's flag must stay off as well
   pub AreGroups-changed : (groups : List Group) → AreGroups groups → is_oom_group (map f groups) 0 ≡ false → AreGroups (map f groups)
   AreGroups-changed groups facts off = record {
     few = omega (arith, facts.few, length-map groups f);
@@ -489,7 +489,7 @@ module _ (f : Group → Group) (keeps : KeepsNames f) where
         ∙ facts.parents k d lt);
   }
 
--- where the group's row keeps its flag, so does the group
+-- if the group's row keeps its flag, the group keeps it
 pub same_flag : (f : Group → Group) (groups : List Group) (k : ℕ) → KeepsNames f → ((g : Group) → group_at groups k ≡ Some g →
     (f g).oom_group ≡ g.oom_group) → is_oom_group (map f groups) k ≡ is_oom_group groups k
 unfolding is_oom_group
@@ -567,6 +567,6 @@ pub length-flagged : (groups : List Group) (n : ℕ) (flag : Bool) → length (w
 unfolding with_oom_group
 length-flagged groups n flag = length-map groups (flagged n flag)
 
--- a list that is written over all of another
+-- a list written over all of another
 pub take_new : {X : Type 0} (n : ℕ) (xs ys : List X) → length ys ≡ length xs → n ≡ length xs → take n (ys ++ drop (length ys) xs) ≡ ys
 take_new n xs ys size e = take_at ys (drop (length ys) xs) n (size ∙ sym e)

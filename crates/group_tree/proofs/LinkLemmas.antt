@@ -22,7 +22,7 @@ use Rattle.group_tree.proofs.GroupLemmas.{number_at-there, path_of-at, parent_of
 use Rattle.group_tree.proofs.GroupLemmas.{flagged-number, flagged-path, flagged-limit}
 use Rattle.group_tree.proofs.CallerLemmas.{has_group-with, has_group-with_new, has_group-limited, has_group-flagged, has_group-without}
 
--- ---- at first
+-- ---- a new tree
 one_number : (x : Group) → Contains initial_groups x → x.number ≡ 0
 one_number x h = All-contains (λ (y : Group). y.number ≡ 0) initial_groups x (All-one (λ (y : Group). y.number ≡ 0) the_root refl) h
 
@@ -79,7 +79,7 @@ AreLinks-initial links e =
 apart : (groups : List Group) (n : ℕ) (x : Group) → has_group groups n ≡ false → Contains groups x → x.number ≢ n
 apart groups n x free here = λ same. both_ways (has_group groups n) free (subst (λ m. IsTrue (has_group groups m)) same (has_group-contains groups x here))
 
--- no path is its own parent but the root's
+-- no path is its own parent except the root's
 no_own_parent : (groups : List Group) (path : List ℕ) → CanMake groups path → path ≡ parent_path path → ⊥
 no_own_parent groups path can e =
     let w = names_parent path can.formed can.below_root in
@@ -295,7 +295,7 @@ gone : (groups : List Group) (n : ℕ) → has_group (without_group groups n) n 
 unfolding without_group
 gone groups n = has_group-any (filter (λ (g : Group). not (g.number == n)) groups) n ∙ none_left (λ (g : Group). g.number == n) groups
 
--- who is still there has another number
+-- a group that remains has another number
 still_other : (groups : List Group) (n : ℕ) (x : Group) → Contains (without_group groups n) x → x.number ≢ n
 still_other groups n x h = λ same. both_ways (has_group (without_group groups n) n) (gone groups n)
     (subst (λ m. IsTrue (has_group (without_group groups n) m)) same (has_group-contains (without_group groups n) x h))
@@ -319,7 +319,7 @@ AreLinks-without groups links n below are =
       limits = λ x hx. ap (λ (l : Link). l.limit) (stays x hx) ∙ are.limits x (still_row groups n x hx);
     }
 
--- ---- what a link tells
+-- ---- what a link says
 pub parent-link : (groups : List Group) (links : List Link) (g : ℕ) → AreGroups groups → AreLinks groups links → IsTrue (has_group groups g) →
     (g ≡ 0 → ⊥) → parent_of groups g ≡ Some (link_at links g).parent
 parent-link groups links g facts are there other =

@@ -32,7 +32,7 @@ split-cons (x ∷ xs) =
     (λ e. (x ∷ h.0, h.1, slice_split-cons_no is_slash x xs e ∙ ap (onto_first x) h.2))
     (cases_Bool (is_slash x))
 
--- two texts parted by a slash have the parts of the one and then those of the other
+-- two texts joined by a slash have the parts of the first, then those of the second
 pub split-append : (xs ys : List ℕ) → slice_split is_slash (xs ++ 47 ∷ ys) ≡ slice_split is_slash xs ++ slice_split is_slash ys
 split-append [] ys = refl
 split-append (x ∷ xs) ys =
@@ -42,7 +42,7 @@ split-append (x ∷ xs) ys =
     (λ e. rw (slice_split-cons_no is_slash x (xs ++ 47 ∷ ys) e, slice_split-cons_no is_slash x xs e, split-append xs ys, h.2))
     (cases_Bool (is_slash x))
 
--- each name behind a slash
+-- each name after a slash
 abbrev pub slashed : List (List ℕ) → List ℕ
 slashed names = flat_map (λ name. 47 ∷ name) names
 
@@ -67,7 +67,7 @@ pub names-below : (path rest : List ℕ) → is_root path ≡ false → path ≡
 unfolding names_of
 names-below path rest e s = cond-false (is_root path) _ _ e ∙ ap (λ p. drop 1 (slice_split is_slash p)) s
 
--- the path below the root is its names, each behind a slash
+-- a path below the root is its names, each after a slash
 pub slashed-names : (path : List ℕ) → is_root path ≡ false → BeginsWithSlash path → slashed (names_of path) ≡ path
 slashed-names path e s = rw (names-below path s.0 e s.1, slashed-split) (sym s.1)
 
@@ -104,7 +104,7 @@ has_name path e s =
 pub begins_root : (above below : List ℕ) → is_root above ≡ true → starts_with bytes_eq (names_of below) (names_of above) ≡ true
 begins_root above below e = begins_from_names (names_of below) (names_of above) (names_of below) (sym (ap (λ x. x ++ names_of below) (names-root above e)))
 
--- what stands before the last slash, where that is found from the end
+-- the text before the last slash, if that is found from the end
 before_last-at : (path : List ℕ) (end : ℕ) → end ≤ length path → ((k : ℕ) → end ≤ k → k < length path → get_or path k 0 ≡ 47 → ⊥) →
     (0 < end → get_or path (end - 1) 0 ≡ 47) → before_last is_slash path ≡ take (end - 1) path
 before_last-at path end fits others found =
@@ -211,7 +211,7 @@ root_parent : parent_path root_path ≡ root_path
 unfolding parent_path
 root_parent = refl
 
--- a path is its parent's and one name more
+-- the names of a path are its parent's and one more
 pub names_parent : (path : List ℕ) → IsWellFormed path → is_root path ≡ false → (name : List ℕ) × (names_of path ≡ names_of (parent_path path) ++ name ∷ [])
 names_parent path formed e =
     let s = begins_from_well_formed path formed in

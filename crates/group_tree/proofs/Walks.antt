@@ -21,12 +21,12 @@ parent_depth groups m p facts e =
     let high : depth_at groups p ≡ depth_of w.1 = ap (λ o. option_map_or (λ q. depth_of q) o 0) w.3 in
     omega (arith, low, high, w.4)
 
--- the walk from g has come to m, and all that is below it on the path passes the test
+-- the walk from g has reached m, and all groups below m on the path pass the test
 pub record WalkedTo (groups : List Group) (test : ℕ → Bool) (g m : ℕ) : Type 0 where
   pub on_path : in_subtree groups m g ≡ true
   pub passed : (k : ℕ) → in_subtree groups k g ≡ true → (test k ≡ true) ⊎ (in_subtree groups k m ≡ true)
 
--- where m passes, the walk goes on to its parent
+-- if m passes, the walk continues at its parent
 pub walked_up : (groups : List Group) (test : ℕ → Bool) (g m p : ℕ) → AreGroups groups → WalkedTo groups test g m → test m ≡ true →
     parent_of groups m ≡ Some p → WalkedTo groups test g p
 walked_up groups test g m p facts w passes e = record {
@@ -40,7 +40,7 @@ walked_up groups test g m p facts w passes e = record {
       (w.passed k h);
 }
 
--- where the root passes, the whole path does
+-- if the root passes, the whole path passes
 pub walked_all : (groups : List Group) (test : ℕ → Bool) (g m : ℕ) → AreGroups groups → WalkedTo groups test g m → test m ≡ true → m ≡ 0 → (k : ℕ) →
     in_subtree groups k g ≡ true → test k ≡ true
 walked_all groups test g m facts w passes root k h =
@@ -51,13 +51,13 @@ walked_all groups test g m facts w passes root k h =
     ap test (in_subtree-antisym groups k 0 facts up down ∙ sym root) ∙ passes)
     (w.passed k h)
 
--- where m fails, each other group of the path that fails is an ancestor of m
+-- if m fails, each other group of the path that fails is an ancestor of m
 pub walked_lowest : (groups : List Group) (test : ℕ → Bool) (g m : ℕ) → WalkedTo groups test g m → (k : ℕ) → in_subtree groups k g ≡ true →
     test k ≡ false → in_subtree groups k m ≡ true
 walked_lowest groups test g m w k h fails = ⊎_elim (λ r. absurd (both_ways (test k) fails r)) (λ above. above) (w.passed k h)
 
 -- ---- the same walk, as a loop over `Tree::ancestors` makes it
--- k is where the walk goes on, or an ancestor of that
+-- k is the walk's next group, or an ancestor of it
 abbrev pub IsAhead : List Group → ℕ → Option ℕ → Type 0
 IsAhead groups k None = ⊥
 IsAhead groups k (Some m) = in_subtree groups k m ≡ true
@@ -79,7 +79,7 @@ left_start groups test g left there e = record {
   passed = λ k h. inr h;
 }
 
--- what comes next is where the walk has come to, and its parent is next
+-- the group that the walk has reached is next, followed by its parent
 pub record TurnAt (groups : List Group) (test : ℕ → Bool) (g m : ℕ) (rest : List ℕ) : Type 0 where
   pub walked : WalkedTo groups test g m
   pub there : has_group groups m ≡ true
@@ -104,7 +104,7 @@ pub left_turn : (groups : List Group) (test : ℕ → Bool) (g m : ℕ) (left re
     left ≡ m ∷ rest → TurnAt groups test g m rest
 left_turn groups test g m left rest facts w e = turn_from groups test g m left rest w.next facts w.left_is w.on_path w.passed e
 
--- where it passes, the walk goes on
+-- if it passes, the walk continues
 on_from : (groups : List Group) (test : ℕ → Bool) (g m : ℕ) (rest : List ℕ) (o : Option ℕ) → AreGroups groups → TurnAt groups test g m rest →
     test m ≡ true → parent_of groups m ≡ o → WalkLeft groups test g rest
 on_from groups test g m rest None facts turn passes e = record {
@@ -139,8 +139,9 @@ pub left_end : (groups : List Group) (test : ℕ → Bool) (g : ℕ) (left : Lis
     (k : ℕ) → in_subtree groups k g ≡ true → test k ≡ true
 left_end groups test g left facts w e = end_from groups test g w.next facts (sym w.left_is ∙ e) w.on_path w.passed
 
--- ---- the same walk, with where it goes on
--- the walk from g goes on at `next`, these are left of it, and all groups of the path below them pass the test
+-- ---- the same walk, with its next group
+-- the next group of the walk from g is `next`, these are left of it, and all groups of the path below them pass the
+-- test
 pub record WalkAt (groups : List Group) (test : ℕ → Bool) (g : ℕ) (next : Option ℕ) (left : List ℕ) : Type 0 where
   pub left_is : left ≡ ancestors_from groups next
   pub on_path : (m : ℕ) → next ≡ Some m → in_subtree groups m g ≡ true
@@ -158,7 +159,7 @@ pub at_turn : (groups : List Group) (test : ℕ → Bool) (g m : ℕ) (next : Op
     WalkAt groups test g next left → left ≡ m ∷ rest → TurnAt groups test g m rest
 at_turn groups test g m next left rest facts w e = turn_from groups test g m left rest next facts w.left_is w.on_path w.passed e
 
--- where something is left, its first is where the walk goes on
+-- if something is left, its first group is the walk's next
 next_from : (groups : List Group) (g m : ℕ) (left rest : List ℕ) (o : Option ℕ) → AreGroups groups → left ≡ ancestors_from groups o →
     ((k : ℕ) → o ≡ Some k → in_subtree groups k g ≡ true) → left ≡ m ∷ rest → o ≡ Some m
 next_from groups g m left rest None facts is on e = absurd (let bad : m ∷ rest ≡ [] = sym e ∙ is in cc)
@@ -205,8 +206,8 @@ pub at_end_passed : (groups : List Group) (test : ℕ → Bool) (g : ℕ) (next 
     WalkAt groups test g next left → left ≡ [] → (k : ℕ) → in_subtree groups k g ≡ true → test k ≡ true
 at_end_passed groups test g next left facts w e = end_from groups test g next facts (sym w.left_is ∙ e) w.on_path w.passed
 
--- ---- whom the walk has passed
--- at first nobody was passed
+-- ---- the groups that the walk has passed
+-- at first, none
 pub passed_none : (groups : List Group) (g k : ℕ) → is_passed groups g (Some g) k ≡ false
 passed_none groups g k =
     ⊎_elim
@@ -214,7 +215,7 @@ passed_none groups g k =
     (λ f. rw f refl)
     (cases_Bool (in_subtree groups k g))
 
--- at the end the whole path
+-- at the end, the whole path
 pub passed_all : (groups : List Group) (g k : ℕ) → is_passed groups g None k ≡ in_subtree groups k g
 passed_all groups g k =
     ⊎_elim
@@ -222,7 +223,7 @@ passed_all groups g k =
     (λ f. rw f refl)
     (cases_Bool (in_subtree groups k g))
 
--- who comes next was not passed
+-- the next group was not passed
 pub passed_here : (groups : List Group) (g m : ℕ) → has_group groups m ≡ true → is_passed groups g (Some m) m ≡ false
 passed_here groups g m there =
     ⊎_elim
@@ -230,7 +231,7 @@ passed_here groups g m there =
     (λ f. ap (λ b. b && not (in_subtree groups m m)) f)
     (cases_Bool (in_subtree groups m g))
 
--- and is passed then
+-- it is passed after its turn
 ahead_of_own_parent : (groups : List Group) (m : ℕ) (o : Option ℕ) → AreGroups groups → parent_of groups m ≡ o → is_ahead groups m o ≡ false
 ahead_of_own_parent groups m None facts e = refl
 ahead_of_own_parent groups m (Some p) facts e =
@@ -243,7 +244,7 @@ ahead_of_own_parent groups m (Some p) facts e =
 pub passed_on : (groups : List Group) (g m : ℕ) → AreGroups groups → in_subtree groups m g ≡ true → is_passed groups g (parent_of groups m) m ≡ true
 passed_on groups g m facts on = rw (on, ahead_of_own_parent groups m (parent_of groups m) facts refl) refl
 
--- and nobody else is
+-- and no other group is
 ahead_others : (groups : List Group) (m k : ℕ) (o : Option ℕ) → AreGroups groups → has_group groups m ≡ true → parent_of groups m ≡ o → k ≢ m →
     in_subtree groups k m ≡ is_ahead groups k o
 ahead_others groups m k None facts there e other =

@@ -1,4 +1,5 @@
--- The lists of several owners all stand again after those of one are written back, and with those of one owner more.
+-- The lists of several owners are all linked after those of one are written back, and after one more owner's are
+-- added.
 use Rattle.std.proofs.Common.{◌≡◌, ℕ, ◌+◌, ◌<◌, List, [], ◌∷◌, ◌++◌, length, slice_index_or, slice_set, ◌∙◌, inl, inr, arith}
 use Rattle.std.proofs.lemmas.Bool.{cases_lt}
 use Rattle.std.proofs.lemmas.List.{length-append, get_or_append_left, get_or_push}
@@ -14,7 +15,7 @@ one_written_back law before after lists k new any all lt same stands c =
     let e : new.owner ≡ k = same ∙ (all k any lt).0 in
     rw (← e) (law before after lists new all (rw e lt) stands (rw same c))
 
--- one more owner's lists behind those that stand
+-- one more owner's lists after those that are linked
 pub all_pushed : (links : List Link) (lists : List Lru) (new : Lru) → AllStand links lists → new.owner ≡ length lists
     → StandsIn links new → AllStand links (lists ++ new ∷ [])
 all_pushed links lists new all e stands k any lt = elim (cases_lt k (length lists)) [

@@ -136,7 +136,7 @@ pub answers_fault : (asked : Option Options) (fault : LineFault) → asked ≡ N
 answers_fault asked (BadWords text) none = none
 answers_fault asked (NoMemory e) none = tt
 
--- and want of memory is an answer to all words
+-- that memory ran out is an answer to all words
 pub answers_memory : (asked : Option Options) (fault : LineFault) → IsNoMemory fault → TellsOptions asked (Err fault)
 answers_memory asked (BadWords text) memory = absurd memory
 answers_memory asked (NoMemory e) memory = tt
@@ -153,7 +153,7 @@ asked_some asked o (Err e) is = tt
 
 -- ---- errors
 
--- what is well stays so where an error becomes another
+-- what holds of a value still holds if one error replaces another
 pub kept : {T D E : Type 0} (r : Result T E) (s : Result T D) (P : T → Type 0) (Q : E → D → Type 0)
     → MatchResult r (λ x. s ≡ Ok x) (λ e. IsErrAnd s (Q e)) → IfOk r P → IfOk s P
 kept (Ok x) s P Q cases is = subst (λ t. IfOk t P) (sym cases) is

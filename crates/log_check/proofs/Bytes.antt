@@ -184,7 +184,7 @@ only_line r known is bad lines l checked other =
 tail_of : (x : ℕ) (xs : List ℕ) → NoFeed (x ∷ xs) → NoFeed xs
 tail_of x xs all k d h = all (suc k) d (omega (arith, h))
 
--- what stands before a line feed is no shorter than what has none
+-- the text before a line feed is no shorter than one without
 longer : (long next rest more : List ℕ) → NoFeed long → long ++ rest ≡ next ++ 10 ∷ more → length long ≤ length next
 longer [] next rest more no_feed e = omega arith
 longer (x ∷ long) [] rest more no_feed e = let head : x ≡ 10 = cc in absurd (no_feed 0 0 (omega arith) head)

@@ -15,7 +15,7 @@ use Rattle.log_lines.proofs.Lines.{same_line}
 abbrev pub ended : List ℕ → List ℕ
 ended line = line ++ 10 ∷ []
 
--- what stands between the line feeds is the lines, and nothing behind the last
+-- the parts between the line feeds are the lines, and nothing follows the last
 lines_split : (lines : List (List ℕ)) → AllByRecursion (λ line. All (λ b. b ≢ 10) line) lines
     → slice_split (λ b. b == 10) (flat_map ended lines) ≡ lines ++ [] ∷ []
 lines_split [] fit = refl

@@ -105,7 +105,7 @@ word_no_space (Fixed text) fit = no_space text fit
 word_no_space (Numeral size n) fit = digits_no_space (decimal n) (decimal_is_IsNumeral n (numeral_small size n fit)).0.1
 word_no_space (Path text) fit = graphic_no_space text (and_parts (leb 1 (length text) && leb (length text) longest_path) (list_all is_graphic text) fit).1
 
--- the words of a text in which words stand with one space between two
+-- the words of a text that has one space between two words
 pub words_are : (word : Word) (words : List Word) → AllFit (word ∷ words) → words_of (word_text word ++ spaced words) ≡ texts (word ∷ words)
 words_are word [] fit = rw (append-nil (word_text word)) (slice_split_none is_space (word_text word) (word_no_space word fit.0))
 words_are word (next ∷ words) fit =

@@ -1,5 +1,4 @@
--- What the records link after a push behind the newest, and after a unit was taken out.
--- They serve the contracts of `queue::push_newest` and `queue::unlink`.
+-- What the records link after a push at the newest end, and after a unit was removed.
 use Rattle.std.proofs.Common.{◌≡◌, ◌≢◌, ℕ, ◌+◌, ◌<◌, ◌≤◌, ◌==◌, ◌⊎◌, true, false, Option, Some, None, List, [], ◌∷◌, ◌++◌, length, sym, ◌∙◌, ap}
 use Rattle.std.proofs.Common.{subst, inl, inr, arith, refl, eq-eqb}
 use Rattle.std.proofs.lemmas.Bool.{cases_eq, cases_lt, ne_eqb, eqb-true, cases_Bool, false≢true, or_parts, or_cases, both_ways}
@@ -33,7 +32,7 @@ walked links (y ∷ ys) apart h =
 pub units_are : (links : List Link) (home : Home) (queue : Queue) (units : List ℕ) → IsLinked links home queue units → units_of links queue ≡ units
 units_are links home queue units linked = rw (linked.oldest, linked.count) (walked links units linked.apart linked.newer)
 
--- ---- units are frames, and fewer than the frames where one frame isn't among them
+-- ---- units are frames, and fewer than the frames if one frame isn't among them
 
 pub within : (links : List Link) (home : Home) (queue : Queue) (units : List ℕ) (f : ℕ) → IsLinked links home queue units
     → is_among units f ≡ true → f < length links
@@ -159,7 +158,7 @@ links_pushed before after home q r unit xs l out p = record {
   ];
 }
 
--- ---- a unit taken out
+-- ---- a unit removed
 
 -- what taking a unit out leaves in the records and at the ends
 pub record Unlinked (before after : List Link) (home : Home) (q r : Queue) (unit : ℕ) (older newer : Option ℕ) : Type 0 where

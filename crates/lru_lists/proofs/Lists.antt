@@ -1,11 +1,10 @@
--- Lists of units without repetition: who stands where once a unit was taken out, or was put behind the newest.
--- They serve the contracts of `queue::push_newest` and `queue::unlink`.
+-- Lists of units without repetition: the neighbours after a unit was removed, or appended at the newest end.
 use Rattle.std.proofs.Common.{◌≡◌, ◌≢◌, ℕ, ◌+◌, ◌==◌, ◌||◌, true, false, Some, None, List, [], ◌∷◌, ◌++◌, length, sym, ◌∙◌, ap, subst, inl, inr}
 use Rattle.std.proofs.Common.{arith, refl, eq-eqb}
 use Rattle.std.proofs.lemmas.Bool.{cases_eq, ne_eqb, cases_Bool, false≢true, or_parts, both_ways}
 use Rattle.lru_lists.specs.Queue.{is_among, AreApart, oldest_of, newest_of, after, before_from, before, without}
 
--- ---- one taken out
+-- ---- one removed
 
 pub among_without : (f g : ℕ) (xs : List ℕ) → g ≢ f → is_among (without f xs) g ≡ is_among xs g
 among_without f g [] ne = refl
@@ -61,7 +60,7 @@ after_among (x ∷ y ∷ ys) f n h = elim (cases_eq x f) [
       elim (cases_Bool (x == n)) [ inl a ↦ rw a refl | inr a ↦ rw a i ]
 ]
 
--- whoever stands in a list whose first unit stands nowhere else in it is another unit than the first
+-- a unit of a list differs from one that isn't in the list
 pub other_than_first : (x : ℕ) (xs : List ℕ) (n : ℕ) → is_among xs x ≡ false → is_among xs n ≡ true → x ≢ n
 other_than_first x xs n out in_it e = both_ways (is_among xs n) (subst (λ (v : ℕ). is_among xs v ≡ false) e out) in_it
 
@@ -164,7 +163,7 @@ after_gone x (y ∷ ys) f p apart b = elim (cases_eq y f) [
       rw (t, u) (after_gone y ys f p (apart.1) k)
 ]
 
--- the unit after the first stays, where the first isn't just before f
+-- the unit after the first stays, if the first isn't just before f
 pub first_stays : (x : ℕ) (xs : List ℕ) (f : ℕ) → before_from x xs f ≢ Some x → oldest_of (without f xs) ≡ oldest_of xs
 first_stays x [] f nb = refl
 first_stays x (y ∷ ys) f nb = elim (cases_eq y f) [

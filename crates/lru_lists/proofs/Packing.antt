@@ -39,7 +39,7 @@ changed ps ls i p q f v lt at e =
     written ps ls i q (f (link_at ls i)) v
     (e ∙ ap f (sym (here ps i p (within_packed ps ls i v lt) at)) ∙ ap (λ (l : List Link). f (link_at l i)) v)
 
--- new records stand on no list
+-- new records are of frames on no list
 pub none_stand : (n : ℕ) (ps : List Packed) (i : ℕ) → ps ≡ replicate n packed_nowhere → link_at (links_of ps) i ≡ nowhere
 none_stand n ps i e = at_packed ps i ∙ ap link_of (ap (λ (l : List Packed). get_or l i packed_nowhere) e ∙ (elim (cases_lt i n) [
   | inl lt ↦ get_or-replicate n i packed_nowhere packed_nowhere lt

@@ -37,7 +37,7 @@ same_links before after home q xs l same homes = record {
   newer = λ f i. ap (λ (k : Link). k.newer) (same f i) ∙ l.newer f i;
 }
 
--- entries tell the marks alone
+-- records with the same mark and dirt give the same entry
 pub entry_same : (before after : List Link) (f : ℕ) → (link_at after f).is_marked ≡ (link_at before f).is_marked
     → (link_at after f).is_dirty ≡ (link_at before f).is_dirty
     → entry_of after f ≡ entry_of before f
@@ -144,7 +144,7 @@ other_entries before after lru list m unit stands ne stays used b a =
     ∙ entries_same before after xs (λ f i. ap
     (λ (k : Link). let e : Entry = record { number = f; is_marked = k.is_marked; is_dirty = k.is_dirty } in e) (same f i))
 
--- both lists stand after a change of one of them
+-- both lists stay linked after a change of one of them
 pub stands_after : (before after : List Link) (lru : Lru) (list : LruList) (q : Queue) (unit : ℕ) → StandsIn before lru
     → IsLinked after (home_of lru list) q (units_of after q)
     → StaysElsewhere before after (home_of lru list) unit → SameUse before after unit
@@ -200,7 +200,7 @@ pub entries_of_other : (links : List Link) (lru : Lru) (list m : LruList) (q : Q
     → entries_of links (with_queue lru list q) m ≡ entries_of links lru m
 entries_of_other links lru list m q ne = rw (queue_other lru list m q ne) refl
 
--- ---- a frame that is forgotten, and stood on no list
+-- ---- a frame on no list whose record is reset
 
 pub forgotten_linked : (links : List Link) (lru : Lru) (unit : ℕ) → StandsIn links lru → IsOnNone links unit → unit < length links
     → (m : LruList) → IsLinked (slice_set links unit nowhere) (home_of lru m) (queue_of lru m) (units_of links (queue_of lru m))
@@ -250,7 +250,7 @@ moves_both a b c owner unit p q = record {
   kept = λ g ne n. q.kept g ne (ap (λ (h : Option Home). place_of h owner) (p.home g ne) ∙ n) ∙ p.kept g ne n;
 }
 
--- the records after a change of one unit that stands on a list of the owner before or after, or both
+-- the records after a change of one unit that is on a list of the owner before or after, or both
 pub changed_own : (before after : List Link) (owner unit : ℕ) → MovesOnly before after owner unit
     → (list_of before owner unit ≡ None → list_of after owner unit ≡ None → ⊥) → (list_of before owner unit ≡ None → IsOnNone before unit)
     → (list_of after owner unit ≡ None → IsOnNone after unit) → ChangesOwn before after owner
@@ -270,12 +270,12 @@ changed_own before after owner unit m own came gone = record {
   ];
 }
 
--- whoever is at home on a list of the owner stands on it
+-- a unit whose home is a list of the owner is on that list
 pub list_at_home : (links : List Link) (lru : Lru) (list : LruList) (f : ℕ) → (link_at links f).home ≡ Some (home_of lru list)
     → list_of links lru.owner f ≡ Some list
 list_at_home links lru list f h = ap (λ (o : Option Home). place_of o lru.owner) h ∙ place_here lru.owner list
 
--- and whoever stands on it is at home there
+-- a unit on a list of the owner has that home
 pub home_of_list : (h : Option Home) (lru : Lru) (list : LruList) → place_of h lru.owner ≡ Some list → h ≡ Some (home_of lru list)
 home_of_list None lru list e = cc
 home_of_list (Some h) lru list e = elim (cases_eq h.owner lru.owner) [
@@ -524,7 +524,7 @@ pulled_each before after lru new list unit stands there own other m = elim (case
       other m ne ∙ sym (other_lacks before lru m unit stands away)
 ]
 
--- a unit that was taken out comes back as it was, unmarked
+-- a unit that was removed is added again as it was, unmarked
 pub entry_unlinked : (before after : List Link) (unit : ℕ) → link_at after unit ≡ unlinked (link_at before unit)
     → marked false (entry_of after unit) ≡ marked false (entry_of before unit)
 entry_unlinked before after unit e = ap (λ (k : Link). let w : Entry = record { number = unit; is_marked = false; is_dirty = k.is_dirty } in w) e
@@ -610,7 +610,7 @@ ages_step before mid after old cur new k ik one ak =
     sym (map-append (marked false) (take k xs) (take 1 (drop k xs))) ∙ ap (map (marked false)) (take_step k xs ∙ ap (λ (n : ℕ). take n xs) (sym (add-one k))) in
     rw (one, ik, ak, append_assoc (inactive_of before old) (map (marked false) (take k xs)) (map (marked false) (take 1 (drop k xs))), e) refl
 
--- ---- a unit taken out and forgotten
+-- ---- a unit removed, and its record reset
 
 -- what taking the unit out and forgetting it leaves
 pub record AfterTakeOff (before after : List Link) (lru new : Lru) (unit : ℕ) : Type 0 where
@@ -632,7 +632,7 @@ after_take_off before mid lru new list unit stands on mid_stands entries other g
           ∙ pulled_each before mid lru new list unit stands there entries other m;
     }
 
--- ---- whose lists the frames stand on, and their dirt
+-- ---- the owners of the frames' lists, and the frames' dirt
 
 pub use_both : (a b c : List Link) (unit : ℕ) → SameUse a b unit → SameUse b c unit → SameUse a c unit
 use_both a b c unit p q = record {

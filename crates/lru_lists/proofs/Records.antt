@@ -69,12 +69,12 @@ pub older_other : (links : List Link) (o n : Option ℕ) (g : ℕ) → o ≢ Som
 older_other links None n g ne = refl
 older_other links (Some u) n g ne = set_other links u g _ (λ e. ne (ap Some (sym e)))
 
--- a unit that stands on no list isn't among those of a list
+-- a unit on no list isn't among those of a list
 pub away_out : (links : List Link) (home : Home) (q : Queue) (xs : List ℕ) (unit : ℕ) → IsLinked links home q xs → (link_at links unit).home ≡ None
     → is_among xs unit ≡ false
 away_out links home q xs unit l away = false_from_ne_true (is_among xs unit) (λ i. let k : None ≡ Some home = sym away ∙ l.homes unit i in cc)
 
--- the newest unit is a frame, and stands on the list
+-- the newest unit is a frame on the list
 pub newest_within : (links : List Link) (home : Home) (q : Queue) (xs : List ℕ) (t : ℕ) → IsLinked links home q xs → q.newest ≡ Some t
     → (is_among xs t ≡ true) × (t < length links)
 newest_within links home q xs t l e =
@@ -121,12 +121,12 @@ push_use links home q unit dirty =
       dirty = λ g ne. ap (λ (k : Link). k.is_dirty) (set_other mid unit g _ ne) ∙ part_newer (λ k. k.is_dirty) (λ _ _. refl) links q.newest (Some unit) g;
     }
 
--- ---- the records after a unit was taken out
+-- ---- the records after a unit was removed
 
 abbrev pub after_unlink : List Link → ℕ → Option ℕ → Option ℕ → Link → List Link
 after_unlink links unit o n k = slice_set (with_older (with_newer links o n) n o) unit (unlinked k)
 
--- a neighbour is a frame, and stands on the list
+-- a neighbour is a frame on the list
 pub older_within : (links : List Link) (home : Home) (q : Queue) (xs : List ℕ) (unit t : ℕ) → IsLinked links home q xs → before xs unit ≡ Some t
     → (is_among xs t ≡ true) × (t < length links)
 older_within links home q [] unit t l e = cc
@@ -200,7 +200,7 @@ pub pushed_units : (links : List Link) (home : Home) (q : Queue) (unit : ℕ) (d
 pushed_units links home q unit dirty l lt away =
     units_are (after_push links home q unit dirty) home (pushed_queue q unit) (units_of links q ++ unit ∷ []) (pushed_linked links home q unit dirty l lt away)
 
--- the records that an unlink leaves, whose neighbours are those that the unit's record tells
+-- the records that an unlink leaves, if the neighbours are those in the unit's record
 abbrev pub after_out : List Link → ℕ → List Link
 after_out links unit = after_unlink links unit (link_at links unit).older (link_at links unit).newer (link_at links unit)
 
@@ -229,7 +229,7 @@ out_others links home q unit l h =
     unlink_others links home q (units_of links q) unit (link_at links unit).older (link_at links unit).newer (link_at links unit) l (l.older unit i)
     (l.newer unit i)
 
--- a neighbour that a record tells is a frame
+-- a neighbour in a record is a frame
 pub some_within : (links : List Link) (home : Home) (q : Queue) (xs : List ℕ) (o : Option ℕ) → IsLinked links home q xs
     → ((t : ℕ) → o ≡ Some t → is_among xs t ≡ true) → IfSome o (λ u. u < length links)
 some_within links home q xs None l h = tt

@@ -125,7 +125,7 @@ local_counted : (key : EventKey) (s : State) (seat : ℕ) (action : Action) (ans
 local_counted key s seat action answer g a =
     key_counted (λ h. h == g) (λ (o : Option ℕ). is_of_group o g) key g action answer a.events_local refl (λ h. refl)
 
--- two counts that follow one step are one, where they were or the group is made
+-- two counts that follow one step are equal, if they were or the group is made
 follow_alike : (test : List Group → Action → Answer → Bool) (g : ℕ) (groups : List Group) (action : Action) (answer : Answer) (x y : ℕ) →
     ((has : Bool) → has ≡ true → x ≡ y) ⊎ (makes_group g action answer ≡ true) → count_after test g groups action answer x
     ≡ count_after test g groups action answer y

@@ -82,7 +82,7 @@ shown_more s t run step answer shows ok zone steps state follow =
           (subst (λ (x : State). AccountsFollow (after x step.seat step.action answer) step.action answer s.accounts t.accounts) shows.state follow));
     }
 
--- the block that is placed is the one that any list of the maximal free blocks tells
+-- the placed block is the one that any list of the maximal free blocks gives
 pub first_from : (s : State) (areas : List Block) (action : Action) (answer : Answer)
     → AreMaximalBlocks (free_in s.zone s.phases) areas → PlacesFront areas action answer → PlacesFirst s action answer
 first_from s own (PlaceBlock g k) (Placed b) maximal front =

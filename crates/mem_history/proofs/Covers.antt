@@ -1,4 +1,4 @@
--- Phases that everyone sees alike, and what one processor sees beyond these. Serves `lines_follow`, `fast_lines_follow`.
+-- Phases that every CPU sees alike, and what one CPU sees beyond these. Serves `lines_follow`, `fast_lines_follow`.
 use Rattle.std.proofs.Common.{◌≡◌, ℕ, ◌==◌, ◌&&◌, Bool, true, false, cond, List, [], ◌∷◌, refl, sym, ◌∙◌, ap, arith, inl, inr}
 use Rattle.std.specs.Prelude.{nat_le}
 use Rattle.std.proofs.lemmas.Bool.{cases_Bool, cond-false, and_right}
@@ -54,7 +54,7 @@ cover_shown c f (Lent q) = lent_cover (q == c.number && nat_le 1 (parts.times f 
 cover_shown c f (Head unit) = head_cover (nat_le 1 (parts.times f c.back)) unit c.number
 cover_shown c f (Tail g) = refl
 
--- ---- what the processor sees of a frame that is neither fresh nor back there
+-- ---- what the CPU sees of a frame that is neither fresh nor back there
 
 pub hidden_plain : (q : ℕ) (y : Phase) → has_as FreshFrame q y ≡ false → has_as BackFrame q y ≡ false → hide_phase q y ≡ cover y
 hidden_plain q phase.InZone fresh back = refl
@@ -93,7 +93,7 @@ head_fresh : (b : Bool) (v u : ChargedUnit) (r q : ℕ) → cond b (phase.Head v
 head_fresh true v u r q e = cc
 head_fresh false v u r q e = cc
 
--- a frame that the machine shows as fresh is a unit of the group that its processor knows
+-- a frame that the machine shows as fresh is a unit of the group that its CPU knows
 pub fresh_unit_is : (c : KnownCpu) (f : ℕ) (x : Spot) (u : ChargedUnit) (q : ℕ) → phase_of c f x ≡ phase.Head u (FreshAt q) → u ≡ fresh_unit c
 fresh_unit_is c f Free u q e = cc
 fresh_unit_is c f (Lent r) u q e = lent_fresh (r == c.number && nat_le 1 (parts.times f c.fresh)) (fresh_unit c) u r q e
@@ -119,7 +119,7 @@ same_times f (x ∷ xs) =
     let rest = same_times f xs in
     omega arith
 
--- what everyone sees alike, with what is fresh and back there, is what the processor sees
+-- what every CPU sees alike, with the fresh and back frames of this CPU, is what this CPU sees
 pub phase_seen : (c : KnownCpu) (q f : ℕ) (x : Spot) (y : Phase) → c.number ≡ q → cover y ≡ plain x →
     parts.times f c.fresh ≡ one_if (has_as FreshFrame q y) → parts.times f c.back ≡ one_if (has_as BackFrame q y) →
     ((u : ChargedUnit) → y ≡ phase.Head u (FreshAt q) → u ≡ fresh_unit c) → phase_of c f x ≡ hide_phase q y

@@ -41,7 +41,7 @@ use Rattle.mem_history.proofs.Others.{HasOwn, has_own, own_shown}
 use Rattle.mem_history.proofs.Together.{there}
 use Rattle.mem_history.proofs.Wholes.{not_zone, whole_sound, locked, locked_is, takes}
 
--- the record tells the phase to who has nothing of the frame
+-- the record gives the phase to a CPU that has nothing of the frame
 pub spot_covers : (t : KnownTable) (m : KnownMachine) (c : KnownCpu) (s : State) → local_of t m c ≡ seen_by c.number s → (f : ℕ) →
     cover (s.phases f) ≡ plain (spot_at m.spots f)
 spot_covers t m c s sees f =
@@ -88,7 +88,7 @@ module _ (t : KnownTable) (w : Words) (run : Run) (m : KnownMachine) (cpus : Lis
   fresh_times : (f : ℕ) → parts.times f c.fresh ≡ one_if (has_as FreshFrame p (whole.phases f))
   fresh_times f = same_times f c.fresh ∙ ap (times f) (sym own.fresh) ∙ sound.lists p FreshFrame f
 
-  -- what is lent to the processor are its listed and its fresh frames
+  -- the frames lent to the CPU are its listed and its fresh frames
   pub lent_is_borrowed : LentIsBorrowed t m.frame_seat c.frame_seat
   lent_is_borrowed f inside = (λ lent. to_borrowed lent, λ borrowed. to_lent borrowed)
     where

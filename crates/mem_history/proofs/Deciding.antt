@@ -64,7 +64,7 @@ made_here s seat action answer allows legal = elim (allowed s seat action answer
 
 -- ---- steps of a line
 
--- local steps of p that go on from a run legally are each decided where they are made
+-- local steps of p that continue a run legally are each decided when they are made
 module _ (zone : Zone) (p : ℕ) (start : State) (D : State → ℕ → Action → Answer → Type 0)
     (decided : (s : State) (seat : ℕ) (action : Action) (answer : Answer) → s.zone ≡ start.zone → Stays p start s → (seat ≡ 0) ⊎ (seat ≡ p) →
     IsMade s seat action answer → D (hide p s) seat action answer) where
@@ -109,7 +109,7 @@ module _ (t : KnownTable) (run : Run) (m : KnownMachine) (cpus : List KnownCpu) 
       decides cpus c.number whole s (shows.count ∙ ap (λ (z : Zone). z.cpus) (sym (zoned ∙ zone_of_run zone run)))
       (others_have t run m cpus k c shows is_part) stays seat action answer own made.legal made.answered made.counted
 
-  -- the state once the processor took the lock
+  -- the state after the CPU took the lock
   abbrev held : State
   held = record whole { hold = HeldBy c.number }
 

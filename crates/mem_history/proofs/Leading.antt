@@ -65,7 +65,7 @@ stands_at f [] i inside at = absurd (omega arith)
 stands_at f (x ∷ xs) zero inside at = let one : one_if (x == f) ≡ 1 = ap one_if (eq-eqb x f at) in omega arith
 stands_at f (x ∷ xs) (suc i) inside at = let rest = stands_at f xs i (omega arith) at in omega arith
 
--- a frame that stands once is removed
+-- a frame that is in the list once is removed
 removed_once : (f : ℕ) (xs : List ℕ) (i : ℕ) → i < length xs → get_or xs i 0 ≡ f → times f xs ≡ 1 → remove xs i ≡ without f xs
 removed_once f [] i inside at once = absurd (omega arith)
 removed_once f (x ∷ xs) zero inside at once =
@@ -141,7 +141,7 @@ module _ (t : KnownTable) (w : Words) (run : Run) (m : KnownMachine) (cpus : Lis
   covers_at : (f : ℕ) → cover (whole.phases f) ≡ plain (spot_at m.spots f)
   covers_at = spot_covers t m c whole (is.shows.each k c is.is_part).sees
 
-  -- a listed or fresh frame is lent to the processor
+  -- a listed or fresh frame is lent to the CPU
   listed_lent : (f : ℕ) → 1 ≤ parts.times f c.list → spot_at m.spots f ≡ Lent q
   listed_lent f stands =
       let a : times f (whole.parts q).list ≡ one_if (has_as ListFrame q (whole.phases f)) = sound.lists q ListFrame f in

@@ -1,4 +1,5 @@
--- What another processor sees after steps of p, from what p sees then and from what it saw before. Serves `lines_follow`, `fast_lines_follow`.
+-- What another CPU sees after steps of p, from what p sees then and from what the other saw before. Serves
+-- `lines_follow`, `fast_lines_follow`.
 use Rattle.std.proofs.Common.{◌≡◌, ℕ, ◌+◌, ◌-◌, ◌==◌, ◌||◌, Some, List, [], length, refl, sym, ◌∙◌, ap, subst, arith, inl, inr, eq-eqb}
 use Rattle.std.proofs.lemmas.Bool.{cases_eq, ne_eqb, cond-true, cond-false, or_from}
 use Rattle.frame_word.specs.Seats.{KnownTable, holds}
@@ -99,7 +100,7 @@ pub own_references : (t : KnownTable) (m : KnownMachine) (c : KnownCpu) (q f : �
 own_references t m c q f ne e =
     cond-false (q == 0) _ _ (ne_eqb q 0 ne) ∙ cond-true (q == c.number) _ _ (eq-eqb q c.number e)
 
--- ---- what a processor that sees a state has of it
+-- ---- what a CPU that sees a state has of it
 
 pub record HasOwn (c : KnownCpu) (s : State) : Type 0 where
   pub references : (f : ℕ) → s.references c.number f ≡ holds c.frame_seat f
@@ -123,7 +124,7 @@ has_own t m c s ne sees =
           (ap (λ (x : State). x.phases f) sees ∙ ap (hide_phase q) is ∙ own_fresh u q);
     }
 
--- after steps of another processor, which leave its own
+-- after steps of another CPU, which leave its own
 pub own_stays : (c : KnownCpu) (p : ℕ) (s later : State) → (c.number ≡ 0 → ⊥) → (c.number ≡ p → ⊥) → IsSound s → IsSound later → Stays p s later →
     HasOwn c s → HasOwn c later
 own_stays c p s later ne other sound sound_later stays own =

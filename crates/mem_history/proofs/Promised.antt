@@ -46,7 +46,7 @@ use Rattle.mem_history.proofs.Together.{there}
 use Rattle.mem_history.proofs.Wholes.{whole_sound}
 use Rattle.mem_history.proofs.Currents.{spot_covers, current_is}
 
--- a list in which no frame stands is empty
+-- a list that has no frame is empty
 none_stands : (xs : List ℕ) → ((f : ℕ) → times f xs ≡ 0) → xs ≡ []
 none_stands [] none = refl
 none_stands (x ∷ xs) none = absurd (let a = none x in let b : one_if (x == x) ≡ 1 = ap one_if (eq-eqb x x refl) in omega arith)
@@ -121,7 +121,7 @@ module _ (t : KnownTable) (w : Words) (run : Run) (m : KnownMachine) (cpus : Lis
   has : (k : ℕ) (d : KnownCpu) → slice_get cpus k ≡ Some d → HasOwn d whole
   has k d at = has_own t m d whole (λ z. let named = (seen k d at).number in absurd (omega arith)) (seen k d at).sees
 
-  -- ---- who is nobody processor has nothing
+  -- ---- a number that is no CPU's has nothing
 
   nobody_listed : (p : ℕ) → is_cpu zone p ≡ false → (whole.parts p).list ≡ []
   nobody_listed p nobody = none_stands (whole.parts p).list (λ f. elim (cases_Bool (has_as ListFrame p (whole.phases f))) [
@@ -171,7 +171,7 @@ module _ (t : KnownTable) (w : Words) (run : Run) (m : KnownMachine) (cpus : Lis
     | inr past ↦ ap (λ o. option_map_or (λ (c : KnownCpu). c.fresh) o []) (slice_get_past cpus k past) ∙ sym (nobody_fresh (suc k) (past_no k past))
   ]
 
-  -- the stock of who is nobody processor
+  -- the stock of a number that is no CPU's
   nobody_stock : (p : ℕ) → is_cpu zone p ≡ false → (p ≡ first.0.number → ⊥) → stock_by m cpus p ≡ (whole.parts p).stock
   nobody_stock p nobody far =
       let fresh : fresh_frames_by cpus p ≡ [] = fresh_is_by p ∙ nobody_fresh p nobody in

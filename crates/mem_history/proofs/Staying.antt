@@ -1,4 +1,5 @@
--- What steps of p and of the zone's seat leave of all other processors, while p holds the lock. Serves `lines_follow`, `fast_lines_follow`.
+-- What steps of p and of the zone's seat leave of all other CPUs, while p holds the lock. Serves `lines_follow`,
+-- `fast_lines_follow`.
 use Rattle.std.proofs.Common.{◌≡◌, ℕ, ◌==◌, Bool, true, false, cond, Option, [], ◌∷◌, ◌++◌, take, List, refl, sym, ◌∙◌, ap, subst, arith, inl, inr, zero, suc}
 use Rattle.std.specs.Prelude.{IfSome}
 use Rattle.std.specs.List.{fold, slice_get}
@@ -21,7 +22,8 @@ use Rattle.step_rules.proofs.Runs.{next, state_more}
 use Rattle.step_rules.proofs.Seeing.{legality_is_seen}
 use Rattle.step_rules.proofs.LocalLaws.{own_step_is_legal}
 
--- what a processor alone changes of its part: its three lists, and, filled by whom it visits, the group of its stock
+-- what a CPU alone changes of its part: its three lists, and, filled by the CPU that it visits, the group of its
+-- stock
 pub record Owned : Type 0 where
   pub list : List ℕ
   pub fresh : List ℕ
@@ -31,7 +33,7 @@ pub record Owned : Type 0 where
 abbrev pub owned_of : Part → Owned
 owned_of part = record { list = part.list; fresh = part.fresh; back = part.back; group = part.stock.group }
 
--- all other processors' references, lists and groups are the same
+-- all other CPUs' references, lists and groups are the same
 pub record Stays (p : ℕ) (s t : State) : Type 0 where
   pub references : (q : ℕ) → (q ≡ 0 → ⊥) → (q ≡ p → ⊥) → (f : ℕ) → t.references q f ≡ s.references q f
   pub parts : (q : ℕ) → (q ≡ 0 → ⊥) → (q ≡ p → ⊥) → owned_of (t.parts q) ≡ owned_of (s.parts q)
@@ -115,12 +117,12 @@ stays_made s p seat (DrainStock r) (Pages n) own holds legal =
     record { references = λ q ne other f. refl; parts = λ q ne other. part_kept s.parts r _ refl q }
 stays_made s p seat action answer own holds legal = record { references = λ q ne other f. refl; parts = λ q ne other. refl }
 
--- a test of the steps of a list, each on the local state where it starts
+-- a test of the steps of a list, each on the local state before it
 abbrev pub Along : (State → ℕ → Action → Answer → Type 0) → State → Run → Type 0
 Along D a steps = (k : ℕ) → IfSome (slice_get steps k) (λ e. D (fold next a (take k steps)) e.0.seat e.0.action e.1)
 
--- local steps of p, each of which the whole counts where its local state decides it, go on from a run that shows p their first
--- local state, and leave all others as they were
+-- Local steps of p continue a run that shows p their first local state, if each is counted by the whole whenever its
+-- local state decides it. They leave all others as they were.
 module _ (zone : Zone) (p : ℕ) (start : State) (D : State → ℕ → Action → Answer → Type 0)
     (counts : (s : State) (seat : ℕ) (action : Action) (answer : Answer) → s.zone ≡ start.zone → Stays p start s → is_legal s seat action ≡ true →
     D (hide p s) seat action answer → IsCounted s action answer) where

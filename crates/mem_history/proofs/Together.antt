@@ -26,7 +26,7 @@ there [] k h = absurd (omega arith)
 there (x ∷ xs) zero h = (x, refl)
 there (x ∷ xs) (suc k) h = there xs k (omega arith)
 
--- a part has what the state has of its processor
+-- a part has what the state has of its CPU
 pub record HasPart (s : State) (k : ℕ) (d : KnownCpu) : Type 0 where
   pub references : (f : ℕ) → s.references (suc k) f ≡ holds d.frame_seat f
   pub fresh : (s.parts (suc k)).fresh ≡ d.fresh
@@ -65,7 +65,7 @@ consume_answer x y q g Drained same h = (
 consume_answer x y q g OtherGroup same h = λ e. h (ap (λ (part : Part). part.stock.group) same ∙ e)
 consume_answer x y q g answer same h = h
 
--- and so does it take a page
+-- it takes a page likewise
 credit_answer : (x y : State) (q f : ℕ) (answer : Answer) → x.parts q ≡ y.parts q → IsAnswer x q (Credit f) answer → IsAnswer y q (Credit f) answer
 credit_answer x y q f Back same h = ap (λ (part : Part). part.stock.is_drained) (sym same) ∙ h
 credit_answer x y q f Drained same h = ap (λ (part : Part). part.stock.is_drained) (sym same) ∙ h
@@ -123,7 +123,7 @@ module _ (cpus : List KnownCpu) (p : ℕ) (start s : State) (count : length cpus
   counts seat action answer legal decided =
       counted_same together s action answer live_is (pages_are seat action legal) (decided_counted together seat action answer decided)
 
-  -- the processor that makes a step which no seat of the zone's may make
+  -- the CPU that makes a step which the zone's seat may not make
   own_seat : (seat : ℕ) → (seat ≡ 0) ⊎ (seat ≡ p) → is_cpu s.zone seat ≡ true → seat ≡ p
   own_seat seat (inl z) cpu = absurd (let r = cpu_range s.zone seat cpu in let low = r.0 in omega arith)
   own_seat seat (inr e) cpu = e

@@ -59,7 +59,7 @@ last_allowed zone run step answer legal =
     subst (λ (z : Option (Step × Answer) × Run). IfSome z.0 (λ e. Allows (state_of zone z.1) e.0.seat e.0.action e.1))
     (λ i. (get_last run (step, answer) i, take-append_seam run ((step, answer) ∷ []) i)) (legal (length run))
 
--- the run goes on with it, and the ledger tells the same
+-- if the run continues with a step that changes no peak and no count, the ledger still has those of the run
 tells_still : (t : KnownTable) (run : Run) (l : Ledger) (step : Step) (answer : Answer) → IsLegalRun (zone_of t) run
     → IsLegalRun (zone_of t) (pushed run step answer) → is_still step.action answer ≡ true
     → l.groups ≡ (state_of (zone_of t) (pushed run step answer)).groups → TellsRun t run l → TellsRun t (pushed run step answer) l
@@ -83,7 +83,7 @@ own_is : (p seat : ℕ) → IsOwn p seat → is_own p seat ≡ true
 own_is p seat (inl z) = or_left (seat == 0) (seat == p) (eq-eqb seat 0 z)
 own_is p seat (inr e) = or_right (seat == 0) (seat == p) (eq-eqb seat p e)
 
--- local steps are the processor's own
+-- local steps are the CPU's own
 own_all : (p : ℕ) (a : State) (steps : Run) (b : State) → IsLocalRun p a steps b → own_steps p steps ≡ steps
 own_all p a [] b leads = refl
 own_all p a (e ∷ steps) b leads =

@@ -125,7 +125,7 @@ module _ (t : KnownTable) (run : Run) (m : KnownMachine) (cpus : List KnownCpu) 
   pub locked_is : state_of zone locked ≡ record whole { hold = HeldBy c.number }
   locked_is = state_more zone run (record { seat = c.number; action = Lock }) Done
 
-  -- the processor takes the lock, and sees what the machine shows it
+  -- the CPU takes the lock, and sees what the machine shows it
   pub takes : ShowsLocal zone locked c.number (local_of t m c)
   takes =
       let zoned : is_cpu whole.zone c.number ≡ true = ap (λ (z : Zone). is_cpu z c.number) (zone_of_run zone run) ∙ is_one in

@@ -1,4 +1,4 @@
--- What a legal run determines: its answers are those that all parts together determine.
+-- What a legal run decides: its answers are those that all parts together decide.
 use Rattle.std.specs.Prelude.{◌≡◌, ◌≢◌, ℕ, true, Some, List, [], ◌∷◌, ◌++◌, slice_get}
 use Rattle.frame_word.specs.Seats.{KnownTable}
 use Rattle.cpu_part.specs.Cpus.{KnownCpu}
@@ -13,7 +13,7 @@ use Rattle.mem_machine.specs.Steps.{cpu_makes}
 use Rattle.mem_history.specs.Whole.{ShowsAll, AreDecided, under_lock, is_fast}
 
 -- Suppose a run shows the whole, and continues legally with the steps of a line under the lock. Then each of these
--- steps was answered as all parts together determine.
+-- steps was answered as all parts together decide.
 abbrev pub LegalLinesAreDecided : Type 0
 LegalLinesAreDecided = (table : KnownTable) (run : Run) (cpus : List KnownCpu) (index : ℕ) (before : Side) (steps : Run)
     (after : Side) → ShowsAll table run before.machine cpus → slice_get cpus index ≡ Some before.cpu

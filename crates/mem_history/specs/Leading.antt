@@ -32,7 +32,7 @@ pub record IsPart (table : KnownTable) (words : Words) (run : Run) (machine : Kn
 
 -- If a run shows the whole, a fast call of a CPU is one step from what the machine shows that CPU. A get answered
 -- Held is a Get, and a put is a Put. A fast allocation that gets a frame is a Consume, and a drop that lists a fresh
--- frame again is a Credit: these two if all parts together determine that answer.
+-- frame again is a Credit: these two if all parts together decide that answer.
 pub record FastCallsLead : Type 0 where
   pub held : (table : KnownTable) (words : Words) (run : Run) (machine : KnownMachine) (cpus : List KnownCpu)
       (index : ℕ) (cpu later : KnownCpu) → IsPart table words run machine cpus index cpu → (frame : ℕ)

@@ -70,7 +70,7 @@ seen_together cpus processor local = record local {
   };
 }
 
--- in this state the answer is the one that the words of the frame and of the stock determine
+-- in this state the answer is the one that the words of the frame and of the stock decide
 abbrev pub IsDecided : State → ℕ → Action → Answer → Type 0
 IsDecided state seat (Consume group) answer = IsAnswer state seat (Consume group) answer
 IsDecided state seat (Credit frame) answer = IsAnswer state seat (Credit frame) answer
@@ -80,8 +80,8 @@ IsDecided state seat action answer = IsCounted state action answer
 abbrev pub state_after : State → Run → State
 state_after state steps = fold (λ now made. after now made.0.seat made.0.action made.1) state steps
 
--- For a list of steps by the CPU and the zone's seat, starting from this side: each answer of a Get, Put, Freeze,
--- DrainStock, Consume or Credit is what all parts together determine when the step is made.
+-- These steps of the CPU and the zone's seat begin at this side. Each answer of a Get, Put, Freeze, DrainStock,
+-- Consume or Credit is what all parts together decide when the step is made.
 abbrev pub AreDecided : KnownTable → List KnownCpu → Side → Run → Type 0
 AreDecided table cpus before steps = (index : ℕ) → IfSome (slice_get steps index) (λ made. IsDecided
     (seen_together cpus before.cpu.number
@@ -93,7 +93,7 @@ AreDecided table cpus before steps = (index : ℕ) → IfSome (slice_get steps i
 abbrev pub under_lock : ℕ → Run → Run
 under_lock processor steps = cpu_makes processor Lock Done ∷ (steps ++ cpu_makes processor Unlock Done ∷ [])
 
--- the CPU whose part is at this index makes these steps under the lock, answered as all parts determine; afterwards
+-- the CPU whose part is at this index makes these steps under the lock, answered as all parts decide; afterwards
 -- every visit is shut
 pub record ServesAt (table : KnownTable) (cpus : List KnownCpu) (index : ℕ)
     (before : Side) (steps : Run) (after : Side) : Type 0 where
@@ -118,7 +118,7 @@ is_fast (Consume group) = true
 is_fast (Credit frame) = true
 is_fast _ = false
 
--- the CPU whose part is at this index makes one such step, answered as all parts determine; what lies behind the lock
+-- the CPU whose part is at this index makes one such step, answered as all parts decide; what lies behind the lock
 -- stays
 pub record ServesFast (table : KnownTable) (cpus : List KnownCpu) (index : ℕ)
     (before : Side) (action : Action) (answer : Answer) (after : Side) : Type 0 where

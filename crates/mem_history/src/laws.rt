@@ -23,8 +23,8 @@ pub fn the_first_holder_is_shown()
 {}
 
 /// Suppose a run shows the machine and all parts, and a line is served under the lock. Each of its answers that other
-/// CPUs' words determine must be the one that all parts together determine. Then the run with Lock, the line's steps
-/// and Unlock is legal. It shows the machine and all parts after the line.
+/// CPUs' words decide must be the one that all parts together decide. Then the run with Lock, the line's steps and
+/// Unlock is legal. It shows the machine and all parts after the line.
 pub fn lines_follow()
     ensures { LinesFollow }
 {}
@@ -69,7 +69,7 @@ pub fn fast_lines_tell()
 {}
 
 /// If the run that continues with a line under the lock is legal, then each answer in the line is what all parts
-/// together determine.
+/// together decide.
 pub fn legal_lines_are_decided()
     ensures { LegalLinesAreDecided }
 {}

@@ -1,10 +1,10 @@
--- Where `go` stands. Serves `run_lines`.
+-- The place of `go`. Serves `run_lines`.
 use Rattle.std.proofs.Common.{ℕ, ◌+◌, ◌≤◌, List, [], ◌∷◌, length, arith}
 use Rattle.script_lines.specs.declared.line.Line.{Line}
 use Rattle.script_lines.specs.declared.line.Line.TheVariants.{Go, At}
 use Rattle.script_threads.specs.Runs.{go_or, lines_before_go}
 
--- `go` doesn't stand behind the last line
+-- `go` isn't after the last line
 go_within : (place : ℕ) (lines : List Line) → go_or 0 place lines ≤ place + length lines
 go_within place [] = omega arith
 go_within place (Go ∷ lines) = omega arith

@@ -1,4 +1,4 @@
--- What the lines name, whichever their processors. Serves `run_each`.
+-- What the lines name, whichever their CPUs. Serves `run_each`.
 use Rattle.std.proofs.Common.{ℕ, List, All, get_or}
 use Rattle.script_lines.specs.declared.line.Line.{Line}
 use Rattle.script_lines.specs.declared.line.Line.TheVariants.{Go, At}

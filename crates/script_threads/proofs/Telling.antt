@@ -19,7 +19,7 @@ workers_push p (x ∷ cs) c lines =
     (workers_push (p + 1) cs c lines
     ∙ ap (λ (n : ℕ). workers_from (p + 1) cs lines ++ worker n c lines ∷ []) e)
 
--- so it is where the parts are taken in order
+-- the same for parts that are taken in order
 pub started_more : (cs : List KnownCpu) (i : ℕ) (default : KnownCpu) (lines : List Line) → i < length cs →
     workers_from 1 (take (i + 1) cs) lines ≡ workers_from 1 (take i cs) lines ++ worker (i + 1) (get_or cs i default) lines ∷ []
 started_more cs i default lines inside =

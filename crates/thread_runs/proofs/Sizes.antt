@@ -8,7 +8,7 @@ use Rattle.script_lines.specs.declared.line.Line.{Line}
 use Rattle.script_replay.specs.Ranges.{LineIsThere}
 use Rattle.load_run.proofs.Answering.{sized_as}
 
--- what lines name is there, by so many parts as the name has processors
+-- what lines name is in range, for as many parts as the boot name has CPUs
 pub lines_there : (sizes : Config) (f t : KnownTable) (s w : Words) (n : ℕ) (lines : List Line) → IsSizedAs sizes f s → (f ≡ t) × (s ≡ w)
     → n ≡ t.cpus → All (LineIsThere sizes.frames sizes.cpus) lines → All (LineIsThere t.frames n) lines
 lines_there sizes f t s w n lines sized names long there =

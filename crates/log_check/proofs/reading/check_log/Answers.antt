@@ -1,4 +1,4 @@
--- Serves the contract of `check_log`: each read takes a piece more, up to the end or to where it is known what the log is.
+-- Serves the contract of `check_log`: each read takes one more piece, up to the end or until the answer is known.
 use Rattle.std.proofs.Common.{◌<◌, ◌++◌, ℕ, Option, length, rules, subst, sym, take}
 use Rattle.std.specs.Io.KnownBytes.{Consumes}
 use Rattle.log_check.specs.declared.end.LogEnd.{LogEnd}

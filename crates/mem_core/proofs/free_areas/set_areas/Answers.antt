@@ -1,4 +1,4 @@
--- The flags are as many as the frames, and tell which are free.
+-- There are as many flags as frames, and they say which are free.
 use Rattle.std.proofs.Common.{Bool, List, length, sym, ◌∙◌, ap, subst}
 use Rattle.zone_blocks.specs.Areas.{AreMaximalBlocks}
 use Rattle.core_rows.specs.Shown.{state_in}

@@ -1,4 +1,4 @@
--- What the rows tell is told of each run that is shown.
+-- What the rows show holds of each run that the core shows.
 use Rattle.std.proofs.Common.{◌≡◌, length, sym, ◌∙◌, ap}
 use Rattle.step_rules.specs.State.{State}
 use Rattle.core_rows.specs.Shown as rows

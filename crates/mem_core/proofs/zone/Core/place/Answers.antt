@@ -1,4 +1,4 @@
--- The phase of a frame tells its one place.
+-- The phase of a frame gives its one place.
 use Rattle.std.proofs.Common.{◌≡◌, ◌&&◌, true, sym, ◌∙◌, ap, arith}
 use Rattle.step_rules.specs.State.{State, is_frame}
 use Rattle.step_rules.specs.Places.{place_in, is_same_frame_place}
