@@ -175,8 +175,8 @@ impl Checker {
     /// Takes the next step of a log with its answer, if the rules allow it. Otherwise it returns an answer that the
     /// rules allow, and continues as if the step had been answered so.
     ///
-    /// A block may be placed on any aligned block of its order whose frames are all free. The checker may take 2^64 -
-    /// 1 steps.
+    /// A block may be placed on any aligned block of its order whose frames are all free. The checker may take
+    /// 2^64 - 1 steps.
     pub fn accept(&mut self, step: &Step, answer: &Answer) -> Result<(), Answer>
         requires { self.old.steps + 1 < 2 ^ 64 }
         ensures accepted { OnOk result (Leads (state_in self.old) step.now answer.now (state_in self.new)) }
