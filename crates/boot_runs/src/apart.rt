@@ -78,7 +78,6 @@ fn are_same(rt: &impl Abort, one: &Seen, other: &Seen) {
     holds(rt, one.group == other.group && one.other == other.other);
 }
 
-// Frame 0.
 fn first_frame<N: BootName>(rt: &impl Abort, system: &System<N>) -> Frame
     ensures { result < N.frames.frames }
 {
@@ -104,7 +103,6 @@ fn charges_and_pins<N: BootName, R: Wait + Abort>(rt: &R, system: &System<N>, cp
     holds(rt, got == Ok(Get::Held));
 }
 
-// The first CPU puts its reference on frame 0.
 fn unpins<N: BootName, R: Abort>(rt: &R, system: &System<N>, cpus: &mut [Cpu<N>]) {
     let cpu = cpus.first_mut().expect(rt, "a CPU");
     let frame = first_frame(rt, system);

@@ -224,7 +224,6 @@ pub fn nothing_was_charged() -> Audit {
     }
 }
 
-// The whole life of a system.
 fn lives<N: BootName, R: Wait + Abort>(rt: &R, alloc: Global, boot: Boot)
     requires { (boot.frames ≡ N.frames) × (boot.stocks ≡ N.stocks) }
 {

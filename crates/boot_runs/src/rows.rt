@@ -140,7 +140,6 @@ pub fn frame<N: BootName>(rt: &impl Abort, system: &System<N>, number: u32) -> F
     system.tables().frames.frame(number).expect(rt, "a frame")
 }
 
-// The CPU makes one call.
 fn asks<N: BootName, R: Wait + Abort>(rt: &R, system: &System<N>, cpu: &mut Cpu<N>, line: &Line) {
     let path: &[u8] = b"/a";
     match line {

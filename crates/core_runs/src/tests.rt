@@ -17,7 +17,6 @@ use step_rules::phase::Phase;
 use zone_blocks::block::Block;
 use zone_blocks::order::Order;
 
-// A zone of 16 frames and one CPU.
 const SIXTEEN_FRAMES: Config = Config {
     frames: 16,
     cpus: 1,

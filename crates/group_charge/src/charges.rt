@@ -84,7 +84,6 @@ impl Charges {
         self.current(GroupId::root()) <= u32::MAX - n
     }
 
-    // The account of an existing group.
     fn account(&self, g: GroupId) -> &Account
         requires { IsTrue (has_group self.now.groups g) }
         ensures { account_at self.now g ≡ Some result.now }
@@ -312,7 +311,6 @@ impl Charges {
     }
 }
 
-// The account of a new group.
 fn new_account(group: GroupId) -> Account
     ensures { result ≡ empty_account group }
 {

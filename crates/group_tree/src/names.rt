@@ -21,14 +21,12 @@ fn is_name_byte(byte: u8) -> bool
     32 < byte && byte < 127 && byte != b'/'
 }
 
-// Whether the name is `.` or `..`.
 fn is_dots(name: &[u8]) -> bool
     ensures { result ≡ is_dots name.now }
 {
     name == b".".as_slice() || name == b"..".as_slice()
 }
 
-// Whether each of the bytes may appear in a name.
 fn has_name_bytes(name: &[u8]) -> bool
     ensures { result ≡ list_all is_name_byte name.now }
 {
@@ -66,7 +64,6 @@ pub fn is_well_formed(path: &[u8]) -> bool
     path.len() <= MAX_PATH && path.starts_with(b"/") && has_names(path)
 }
 
-// How many slashes the path has.
 fn slashes(path: &[u8]) -> usize
     ensures { result ≡ count_by is_slash path.now }
 {

@@ -62,7 +62,6 @@ impl PathText {
     }
 }
 
-// Writes the text over the first bytes.
 fn write_front(bytes: &mut [u8], text: &[u8])
     requires { length text.now ≤ length bytes.old }
     ensures { bytes.new ≡ text.now ++ drop (length text.now) bytes.old }

@@ -74,7 +74,6 @@ impl Tree {
         self.rows.as_slice()
     }
 
-    // The group of this number.
     fn row(&self, g: GroupId) -> Option<&Group>
         ensures { option_copied result ≡ group_at self.now g }
     {
@@ -212,14 +211,13 @@ impl Tree {
         }
     }
 
-    // Whether a group has the number, which may be above 63.
+    // Takes a number, because a `GroupId` is below 64.
     fn is_taken(&self, number: u32) -> bool
         ensures { result ≡ has_group self.now number }
     {
         self.rows.iter().any(|row| row.number.number() == number)
     }
 
-    // The least number that no group has.
     fn least_free(&self) -> GroupId
         requires { length self.now < most_groups }
         ensures number { IsLeastFreeNumber self.now result }
@@ -308,7 +306,6 @@ fn root_group() -> Group
     }
 }
 
-// The link of a number that no group has.
 fn no_link() -> Link
     ensures { result ≡ no_link }
 {
@@ -320,7 +317,6 @@ fn no_link() -> Link
     }
 }
 
-// Writes the limit into the group's row.
 fn set_limit(rows: &mut [Group], g: GroupId, limit: Option<u32>)
     ensures { rows.new ≡ with_limit rows.old g limit }
 {
@@ -329,7 +325,6 @@ fn set_limit(rows: &mut [Group], g: GroupId, limit: Option<u32>)
     }
 }
 
-// Writes the limit into the row, if it is the group's.
 fn set_limit_of_row(row: &mut Group, g: GroupId, limit: Option<u32>)
     ensures { row.new ≡ limited g limit row.old }
 {
@@ -338,7 +333,6 @@ fn set_limit_of_row(row: &mut Group, g: GroupId, limit: Option<u32>)
     }
 }
 
-// Writes the flag into the group's row.
 fn set_flag(rows: &mut [Group], g: GroupId, oom_group: bool)
     ensures { rows.new ≡ with_oom_group rows.old g oom_group }
 {
@@ -347,7 +341,6 @@ fn set_flag(rows: &mut [Group], g: GroupId, oom_group: bool)
     }
 }
 
-// Writes the flag into the row, if it is the group's.
 fn set_flag_of_row(row: &mut Group, g: GroupId, oom_group: bool)
     ensures { row.new ≡ flagged g oom_group row.old }
 {

@@ -62,7 +62,6 @@ enum AreaRow {
     NoBlockFrom(u32),
 }
 
-// The block of this exponent at this frame.
 fn block_at(rt: &impl Abort, at: u32, exponent: u32) -> Block {
     let order = order_of(rt, exponent);
     Block { at, order }

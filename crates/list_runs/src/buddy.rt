@@ -41,7 +41,6 @@ fn gives_block(rt: &impl Abort, zone: &mut Buddy, block: Block) {
     zone.give(given);
 }
 
-// A zone of this many frames.
 fn zone_of(rt: &(impl Abort + AllocGlobal), frames: u32) -> Buddy
     ensures { result.free ≡ replicate frames true }
 {

@@ -27,7 +27,6 @@ struct PlainLists {
     active: Vec<Entry>,
 }
 
-// The entry, unmarked.
 fn unmarked(entry: Entry) -> Entry {
     Entry {
         number: entry.number,

@@ -100,7 +100,6 @@ fn fault_of(alloc: Global, error: &Error) -> LineFault
     }
 }
 
-// The program as clap reads it.
 fn memcg<'a>(alloc: Global) -> Result<Command<'a>, AllocError>
     ensures app { IfOk result (λ command. app_of command ≡ program) }
 {

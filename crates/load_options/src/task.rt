@@ -72,7 +72,6 @@ fn named_task(name: &str, given: &ArgMatches<'_>) -> Option<Task>
     }
 }
 
-// The five sizes.
 fn sizes(given: &ArgMatches<'_>) -> Option<Config>
     ensures asked { result ≡ sizes_in (rows_of (found_of given.now)) }
     ensures in_range { IfSome result HasSizesInRange }
@@ -86,7 +85,6 @@ fn sizes(given: &ArgMatches<'_>) -> Option<Config>
     })
 }
 
-// Whether an option without a value is given.
 fn is_set(given: &ArgMatches<'_>, name: &str) -> bool
     ensures { result ≡ is_given name.now (rows_of (found_of given.now)) }
 {
@@ -102,7 +100,6 @@ fn size(given: &ArgMatches<'_>, name: &str, most: u32) -> Option<u32>
     in_range(size, most)
 }
 
-// The number, if it is from 1 to `most`.
 fn in_range(number: u32, most: u32) -> Option<u32>
     ensures kept { result ≡ number_kept most number }
     ensures in_range { IfSome result (λ number. (1 ≤ number) × (number ≤ most)) }

@@ -49,7 +49,6 @@ impl Progress {
         }
     }
 
-    // Takes the sizes of the zone.
     fn take_zone(&mut self, alloc: Global, frames: u32, cpus: u32) -> Result<Taken, LogFault>
         requires sizes { IsZone frames cpus }
         requires counts { CountsSteps self.old }
@@ -77,7 +76,6 @@ impl Progress {
         }
     }
 
-    // Takes a step.
     fn take_step(&mut self, step: &Step, answer: &Answer) -> Taken
         requires counts { CountsSteps self.old }
         requires few { self.old.steps + 1 < 2 ^ 64 }

@@ -72,7 +72,6 @@ impl LogReader {
         }
     }
 
-    // Takes a byte.
     fn take_byte(&mut self, alloc: Global, byte: u8) -> Result<Option<LogEnd>, LogFault>
         requires fits { Fits self.old }
         ensures read { IfOk result (λ end.
@@ -96,7 +95,6 @@ impl LogReader {
         }
     }
 
-    // Ends the line.
     fn end_line(&mut self, alloc: Global) -> Result<Option<LogEnd>, LogFault>
         requires fits { Fits self.old }
         requires few { self.old.lines + 2 < 2 ^ 64 }

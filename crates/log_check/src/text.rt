@@ -25,7 +25,6 @@ pub fn write_end(end: &LogEnd, text: &mut Vec<u8>) -> Result<(), AllocError>
     }
 }
 
-// Appends a number in decimal.
 fn push_number(number: u64, text: &mut Vec<u8>) -> Result<(), AllocError>
     ensures { IfOk result (λ _. text.new.items ≡ text.old.items ++ decimal number) }
 {
@@ -33,7 +32,6 @@ fn push_number(number: u64, text: &mut Vec<u8>) -> Result<(), AllocError>
     text.extend_from_slice(buffer.format(number).as_bytes())
 }
 
-// Appends the line for a legal log.
 fn write_legal(steps: u64, text: &mut Vec<u8>) -> Result<(), AllocError>
     ensures { IfOk result (λ _. text.new.items ≡ text.old.items ++ end_text (Legal steps)) }
 {
@@ -74,7 +72,6 @@ fn write_due(expected: &Answer, text: &mut Vec<u8>) -> Result<(), AllocError>
     text.extend_from_slice(b" was due\n")
 }
 
-// Appends the line for a text that isn't a log.
 fn write_bad_line(line: u64, text: &mut Vec<u8>) -> Result<(), AllocError>
     ensures { IfOk result (λ _. text.new.items ≡ text.old.items ++ end_text (BadLine line)) }
 {

@@ -78,7 +78,6 @@ pub(crate) enum AnswerName {
     Number,
 }
 
-// The actions by name.
 const ACTION_NAMES: [(&[u8], ActionName); 31] = [
     (b"lock", ActionName::Lock),
     (b"unlock", ActionName::Unlock),
@@ -113,7 +112,6 @@ const ACTION_NAMES: [(&[u8], ActionName); 31] = [
     (b"make", ActionName::Make),
 ];
 
-// The answers by name.
 const ANSWER_NAMES: [(&[u8], AnswerName); 19] = [
     (b"illegal", AnswerName::Alone(Answer::Illegal)),
     (b"done", AnswerName::Alone(Answer::Done)),
@@ -150,7 +148,6 @@ pub(crate) fn answer_named(word: &[u8]) -> Option<AnswerName>
     named(&ANSWER_NAMES, word)
 }
 
-// The entry of this name in the table.
 fn named<T: Copy>(names: &[(&[u8], T)], word: &[u8]) -> Option<T>
     ensures { result ≡ lookup (λ name. bytes_eq name word.now) (map (λ row. (row.0.now, row.1)) names.now) }
 {

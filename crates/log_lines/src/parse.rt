@@ -58,7 +58,6 @@ fn line_of(text: &[u8]) -> Option<LogLine>
     Some(LogLine::Step { step, answer })
 }
 
-// Whether a line is empty or a comment.
 fn is_skipped(text: &[u8]) -> bool
     ensures { result ≡ is_skipped text.now }
 {
@@ -68,7 +67,6 @@ fn is_skipped(text: &[u8]) -> bool
     }
 }
 
-// The frames and the CPUs of a zone.
 #[tactic(auto, unfolding(crate::specs::Reading::zone_of))]
 fn parse_zone(mut words: Words<'_>) -> Option<(u32, u32)>
     ensures { result ≡ zone_of words.entry }
@@ -85,7 +83,6 @@ fn parse_zone(mut words: Words<'_>) -> Option<(u32, u32)>
     }
 }
 
-// A step and its answer.
 #[tactic(auto, unfolding(crate::specs::Reading::entry_of))]
 fn parse_entry(mut words: Words<'_>) -> Option<(Step, Answer)>
     ensures { result ≡ entry_of words.entry }
@@ -102,7 +99,6 @@ fn parse_entry(mut words: Words<'_>) -> Option<(Step, Answer)>
     Some((Step { seat, action }, answer))
 }
 
-// An action.
 #[tactic(auto, unfolding(crate::specs::Reading::action_at))]
 fn next_action(words: &mut Words<'_>) -> Option<Action>
     ensures { Gives (λ action. (action, words.new)) result (action_at words.old) }
@@ -156,7 +152,6 @@ fn next_arguments(name: ActionName, words: &mut Words<'_>) -> Option<Action>
     }
 }
 
-// An answer.
 #[tactic(auto, unfolding(crate::specs::Reading::answer_at))]
 fn next_answer(words: &mut Words<'_>) -> Option<Answer>
     ensures { Gives (λ answer. (answer, words.new)) result (answer_at words.old) }

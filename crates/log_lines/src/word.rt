@@ -123,7 +123,6 @@ impl<'a> Words<'a> {
     }
 }
 
-// The index of the first space.
 fn space_of(text: &[u8]) -> Option<usize>
     ensures { result ≡ position (λ b. b == 32) text.now }
 {
@@ -140,7 +139,6 @@ fn limit_of(word: &[u8]) -> Option<Option<u32>>
     Some(Some(u32_of(word)?))
 }
 
-// The flag that has this text.
 fn flag_of(word: &[u8]) -> Option<bool>
     ensures { result ≡ flag_of word.now }
 {
@@ -163,7 +161,6 @@ fn are_graphic(word: &[u8]) -> bool
     word.iter().all(|byte| is_graphic(*byte))
 }
 
-// Whether the byte is above 32 and below 127.
 fn is_graphic(byte: u8) -> bool
     ensures { result ≡ is_graphic byte }
 {

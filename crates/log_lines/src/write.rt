@@ -62,7 +62,6 @@ pub fn write_answer(answer: &Answer, text: &mut Vec<u8>) -> Result<(), AllocErro
     }
 }
 
-// Appends a space and a word.
 fn push_word(word: &[u8], text: &mut Vec<u8>) -> Result<(), AllocError>
     ensures { IfOk result (λ _. text.new.items ≡ text.old.items ++ 32 ∷ word.now) }
 {
@@ -70,7 +69,6 @@ fn push_word(word: &[u8], text: &mut Vec<u8>) -> Result<(), AllocError>
     text.extend_from_slice(word)
 }
 
-// Appends a space and a number in decimal.
 fn push_number(number: u32, text: &mut Vec<u8>) -> Result<(), AllocError>
     ensures { IfOk result (λ _. text.new.items ≡ text.old.items ++ 32 ∷ decimal number) }
 {
@@ -120,7 +118,6 @@ fn push_of_both(
     push_of_numbers(name, group.number(), number, text)
 }
 
-// Appends the limit of a group.
 fn push_limit(group: GroupId, limit: Option<u32>, text: &mut Vec<u8>) -> Result<(), AllocError>
     ensures { IfOk result (λ _. text.new.items ≡ text.old.items ++ spaced (action_words (SetMax group limit))) }
 {
@@ -133,7 +130,6 @@ fn push_limit(group: GroupId, limit: Option<u32>, text: &mut Vec<u8>) -> Result<
     }
 }
 
-// Appends an action.
 fn push_action(action: &Action, text: &mut Vec<u8>) -> Result<(), AllocError>
     ensures { IfOk result (λ _. text.new.items ≡ text.old.items ++ spaced (action_words action.now)) }
 {

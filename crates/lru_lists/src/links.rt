@@ -95,7 +95,6 @@ impl Links {
         self.records[frame as usize] = Packed::NOWHERE;
     }
 
-    // Sets or clears the mark of a unit.
     pub(crate) fn mark(&mut self, unit: u32, is_marked: bool)
         requires { unit < length self.old }
         ensures { self.new ≡ slice_set self.old unit (record (link_at self.old unit) { is_marked = is_marked }) }
@@ -111,7 +110,6 @@ impl Links {
         self.records[unit as usize].is_dirty = is_dirty;
     }
 
-    // The record of a frame.
     pub(crate) fn link(&self, frame: u32) -> Link
         requires { frame < length self.now }
         ensures { result ≡ link_at self.now frame }
@@ -119,7 +117,6 @@ impl Links {
         self.records[frame as usize].link()
     }
 
-    // Replaces the record of a frame.
     pub(crate) fn put(&mut self, frame: u32, link: Link)
         requires frame { frame < length self.old }
         requires older { IsNumber link.older }

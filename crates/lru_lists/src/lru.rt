@@ -59,7 +59,6 @@ impl Lru {
         }
     }
 
-    // The ends and the length of one of the lists.
     fn queue(&self, list: LruList) -> Queue
         ensures { result ≡ queue_of self.now list }
     {
@@ -69,7 +68,6 @@ impl Lru {
         }
     }
 
-    // Replaces the ends and the length of one of the lists.
     fn set_queue(&mut self, list: LruList, queue: Queue)
         ensures { self.new ≡ with_queue self.old list queue }
     {
@@ -254,7 +252,6 @@ impl Lru {
         links.dirty(unit, is_dirty);
     }
 
-    // The entry of the unit of this number.
     fn entry(links: &Links, unit: Option<u32>) -> Option<Entry>
         requires { IfSome unit (λ u. u < length links.now) }
         ensures { result ≡ option_map (entry_of links.now) unit }

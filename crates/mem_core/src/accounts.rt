@@ -46,7 +46,6 @@ fn note_of(action: &Action, answer: &Answer) -> Option<(EventKey, GroupId)>
     }
 }
 
-// Whether the step makes this group.
 fn makes_group(group: GroupId, action: &Action, answer: &Answer) -> bool
     ensures { result ≡ makes_group group action.now answer.now }
 {
@@ -103,7 +102,6 @@ fn events_here(action: &Action, answer: &Answer, group: GroupId, events: EventCo
     }
 }
 
-// The group to which a step grants pages.
 fn granted_to(action: &Action, answer: &Answer) -> Option<GroupId>
     ensures { result ≡ granted_to action.now answer.now }
 {
@@ -116,7 +114,6 @@ fn granted_to(action: &Action, answer: &Answer) -> Option<GroupId>
     }
 }
 
-// The peak of a group after a step.
 fn peak_after(rows: &Rows, action: &Action, answer: &Answer, group: GroupId, peak: u128) -> u128
     requires fits { FitsZone rows.now }
     requires few { IsFew (state_in rows.now) }
@@ -133,7 +130,6 @@ fn peak_after(rows: &Rows, action: &Action, answer: &Answer, group: GroupId, pea
     peak
 }
 
-// The account of a group after a step.
 fn account_after(
     rows: &Rows,
     action: &Action,

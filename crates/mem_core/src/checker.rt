@@ -47,7 +47,6 @@ impl Model for Checker {
     ghost invariant = { IsReady };
 }
 
-// Whether the two answers are equal.
 fn is_same(one: &Answer, other: &Answer) -> bool
     ensures { IsTrue result ↔ (one.now ≡ other.now) }
 {

@@ -48,7 +48,6 @@ impl<'a, N: BootName> Promise<Result<Told<N>, AllocError>> for Answers<'a, N> {
         (worker p.number p.before.value p.lines.now) told.after.value (string_bytes told.text)) };
 }
 
-// A running worker.
 #[derive(Drop)]
 pub(crate) struct Worker<'a, N: BootName> {
     number: u32,

@@ -90,7 +90,6 @@ fn make_storm_groups(rt: &impl Abort, script: &mut String) {
     add(rt, script, &["go\n"]);
 }
 
-// The number as text.
 fn text_of(number: u32) -> &'static str {
     NUMBERS.split(' ').nth(number as usize).unwrap_or("")
 }
@@ -206,7 +205,6 @@ fn read_pins_left(lines: &[Line<'_>], by_threads: &str) -> PinsLeft {
     pins
 }
 
-// The CPU's next command.
 fn next_own_command<'a>(lines: &mut Iter<'a, Line<'a>>, cpu: u32) -> Option<&'a Command<'a>> {
     for line in lines {
         match line {

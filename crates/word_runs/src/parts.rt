@@ -82,7 +82,6 @@ pub(crate) fn set_up<N: BootName, const F: u32>(
     )
 }
 
-// The frame of this number.
 pub(crate) fn frame_of<N: BootName>(rt: &impl Abort, tables: &Tables<N>, number: u32) -> Frame
     ensures { (result ≡ number) × (result < N.frames.frames) }
 {

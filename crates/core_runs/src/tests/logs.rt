@@ -11,7 +11,6 @@ use std::test::Fail;
 use zone_blocks::block::Block;
 use zone_blocks::order::Order;
 
-// A zone of two frames and two CPUs.
 const TWO_FRAMES: Config = Config {
     frames: 2,
     cpus: 2,
@@ -122,7 +121,6 @@ fn life_after() -> [CoreRow; 22] {
     ]
 }
 
-// The life of a frame.
 #[test]
 fn the_life_of_a_frame_is_legal(rt: HostRuntime) -> Result<(), Fail> {
     let mut rows = Vec::from_array(rt.alloc(), first_visit())?;
