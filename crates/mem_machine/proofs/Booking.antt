@@ -22,7 +22,7 @@ use Rattle.mem_machine.proofs.Draining.{booked_less, booked_within, charged_ther
 use Rattle.mem_machine.proofs.Prepaying.{booked_more}
 use Rattle.mem_machine.proofs.First.{repeated}
 
--- ---- the books of a group, where one processor has another account
+-- ---- the books of a group, where one CPU has another account
 
 module _ (t : KnownTable) (stock : Seated) (q : ℕ) (b : Account) (inside : q ≤ t.cpus) where
   abbrev changed : Seated
@@ -182,7 +182,7 @@ module _ (t : KnownTable) (w : Words) (m : Seated) (sums : List ℕ) (are : AreB
 
   module _ (q g k : ℕ) (inside : q ≤ t.cpus) (fits : g < 64) (group : (account_of m.view q).group ≡ Some g) (r : ℕ)
       (read : r ≡ get_or sums g 0) where
-    -- what is booked to one processor is in its group's count
+    -- what is booked to one CPU is in its group's count
     pub within_count : k ≤ (account_of m.view q).book → k ≤ r
     within_count enough = let a = booked_within t m q g inside group in let b = are.each g fits in omega (arith, a, b, read, enough)
 

@@ -125,7 +125,7 @@ booked_less h g k a group enough =
 booked_no_group : (h : ℕ) (a : Account) → a.group ≡ None → booked h a ≡ 0
 booked_no_group h a none = booked_is h a 0 (ap (count_of h) none)
 
--- what is booked to a processor's stock is charged to its group
+-- what is booked to a CPU's stock is charged to its group
 pub booked_within : (t : KnownTable) (stock : Seated) (q g : ℕ) → q ≤ t.cpus → (account_of stock.view q).group ≡ Some g
     → (account_of stock.view q).book ≤ pages_booked t stock g
 booked_within t stock q g inside group =
@@ -211,7 +211,7 @@ and_true : (b : Bool) → (b && true) ≡ b
 and_true true = refl
 and_true false = refl
 
--- a processor's part whose stock is drained
+-- a CPU's part whose stock is drained
 part_drained : (l f b : List ℕ) (a : Account) (n : ℕ) → part_with l f b (record a { book = a.book - n; filled = false }) ≡ drained (part_with l f b a) n
 part_drained l f b a n =
     let pages : a.book - n - length f - a.unabsorbed ≡ a.book - length f - a.unabsorbed - n = omega arith in

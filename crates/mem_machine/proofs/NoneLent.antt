@@ -16,7 +16,7 @@ use Rattle.mem_machine.specs.Spots.{spot_at, is_free, spot_group, some_cpu, lent
 use Rattle.mem_machine.specs.Machines.{KnownMachine, IsConsistent}
 use Rattle.mem_machine.specs.Places.{frames_free, frames_in_groups, NoneLentTo}
 
--- the record of a lent frame names the processor that the seat notes
+-- the record of a lent frame names the CPU that the seat notes
 pub lent_is : (n p : ℕ) → some_cpu n ≡ Some p → (n ≡ p) × (1 ≤ p)
 lent_is zero p is = absurd (none-some p is)
 lent_is (suc n) p is = let same : suc n ≡ p = number_is is in (same, omega (arith, same))
@@ -43,12 +43,12 @@ lent_noted t w m ok f p is = elim (cases_lt f t.frames) [
       absurd (past_free p (sym (get_or_past m.spots f Free (omega (arith, past, sized))) ∙ is))
 ]
 
--- who a frame is lent to is one of the processors
+-- who a frame is lent to is one of the CPUs
 pub lent_to_cpu : (t : KnownTable) (w : Words) (m : KnownMachine) → IsConsistent t w m → (f p : ℕ) → spot_at m.spots f ≡ Lent p → (1 ≤ p) × (p ≤ t.cpus)
 lent_to_cpu t w m ok f p is =
     subst (λ (x : Spot). IfSome (lent_to x) (λ q. (1 ≤ q) × (q ≤ t.cpus))) is (ok.spots f (lent_noted t w m ok f p is).0).borrower
 
--- a processor with no listed and no fresh frame has none that is lent to it
+-- a CPU with no listed and no fresh frame has none that is lent to it
 pub none_lent : (t : KnownTable) (w : Words) (m : KnownMachine) (c : KnownCpu) → IsConsistent t w m → IsTied t w c → LentIsBorrowed t m.frame_seat c.frame_seat
     → c.list ≡ [] → c.fresh ≡ [] → NoneLentTo c.number m.spots
 none_lent t w m c ok tied lent no_list no_fresh f is =

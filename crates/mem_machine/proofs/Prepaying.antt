@@ -1,4 +1,4 @@
--- Pages are charged and fill the processor's stock. Serves `fill_stock` and `prepay`.
+-- Pages are charged and fill the CPU's stock. Serves `fill_stock` and `prepay`.
 use Rattle.std.proofs.Common.{◌≡◌, ℕ, ◌++◌, ◌+◌, ◌-◌, ◌<◌, ◌≤◌, ◌==◌, ◌||◌, Bool, true, false, ◌^◌, Option, Some, None, List, [], ◌∷◌, length}
 use Rattle.std.proofs.Common.{map, refl, sym, ap, ◌∙◌, subst, inl, inr, arith, cond, eq-eqb}
 use Rattle.std.specs.Prelude.{nat_le, Result, Ok, Err, OnOk, OnErr, IfErr}
@@ -112,7 +112,7 @@ fill_consistent t w m q g k l ok inside empty small rise =
 
 -- ---- the steps
 
--- a processor's part whose stock is filled
+-- a CPU's part whose stock is filled
 part_filled : (l f b : List ℕ) (a : Account) (g n : ℕ) → length f ≡ 0 → a.unabsorbed ≡ 0 → a.book ≡ 0
     → part_with l f b (record a { book = a.book + n; group = Some g; filled = true }) ≡ filled (part_with l f b a) g n
 part_filled l f b a g n none noted empty =
@@ -262,7 +262,7 @@ pub if_err_both : {T E : Type 0} (r : Result T E) {P Q R : E → Type 0} {U : Ty
 if_err_both (Ok x) both u p q = tt
 if_err_both (Err e) both u p q = both e u p q
 
--- ---- after the processor's own stock was drained
+-- ---- after the CPU's own stock was drained
 
 less_if : (b : Bool) (p n : ℕ) → cond b (p - n) 0 ≤ cond b p 0
 less_if true p n = omega arith

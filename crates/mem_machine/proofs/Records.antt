@@ -103,7 +103,7 @@ abbrev lent_number : Option ℕ → ℕ
 lent_number None = 0
 lent_number (Some p) = p
 
--- a frame that is lent to a processor has the record of one
+-- a frame that is lent to a CPU has the record of one
 pub lent_spot : (x : Spot) (p : ℕ) → 1 ≤ p → some_cpu p ≡ lent_to x → x ≡ Lent p
 lent_spot Free p some is = absurd (none-some p (sym is ∙ some_cpu_is p some))
 lent_spot (Lent q) p some is = ap Lent (ap lent_number (sym is ∙ some_cpu_is p some))

@@ -176,7 +176,7 @@ module _ (t : KnownTable) (w : Words) (m : KnownMachine) (ok : IsConsistent t w 
     may_put : (c : KnownCpu) → is_legal (local_of t m c) 0 (Put f) ≡ true
     may_put c = may_put_one t m f inside held_once c
 
-    -- ---- references of processors are left
+    -- ---- references of CPUs are left
 
     module _ (left : ℕ) where
       abbrev left_seat : KnownSeat

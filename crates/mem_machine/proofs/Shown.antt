@@ -1,4 +1,4 @@
--- What the processor sees once a fresh or a back frame came into the zone's hand. Serves `settle`.
+-- What the CPU sees once a fresh or a back frame came into the zone's hand. Serves `settle`.
 use Rattle.std.proofs.Common.{◌≡◌, ℕ, ◌+◌, ◌-◌, ◌^◌, ◌<◌, ◌==◌, ◌&&◌, Bool, true, false, cond, List, [], ◌∷◌, length}
 use Rattle.std.proofs.Common.{refl, sym, ap, ◌∙◌, subst, arith, inl, inr, eq-eqb}
 use Rattle.std.specs.Prelude.{nat_le, slice_set}
@@ -61,7 +61,7 @@ pub back_phase : (c : KnownCpu) (f : ℕ) (x : Spot) (unit : ChargedUnit) → x 
     → phase_of c f x ≡ phase.Head unit (BackAt c.number)
 back_phase c f x unit is once = ap (phase_of c f) is ∙ cond-true (nat_le 1 (times f c.back)) _ _ (le-leb 1 (times f c.back) (omega (arith, once)))
 
--- ---- the processor after the frame was handed over
+-- ---- the CPU after the frame was handed over
 
 abbrev pub fresh_handed : KnownCpu → ℕ → List ℕ → KnownCpu
 fresh_handed c f rest = record c { fresh = rest; frame_seat = seat_with c.frame_seat f gave_back; stock_seat = with_view c.stock_seat (after_report c.stock_seat.view 1) }
@@ -135,7 +135,7 @@ module _ (stock : Seated) (c : KnownCpu) (f : ℕ) (rest : List ℕ) (front : c.
   abbrev handed : Part
   handed = without_frame part (phase.Head unit (FreshAt c.number)) c.number f
 
-  -- the processor's own part with the page reported and absorbed
+  -- the CPU's own part with the page reported and absorbed
   abbrev pub absorbed_part : Part
   absorbed_part = record handed {
     unreported = handed.unreported - 1;
@@ -180,7 +180,7 @@ module _ (stock : Seated) (c : KnownCpu) (f : ℕ) (rest : List ℕ) (front : c.
       ]
 
 module _ (stock : Seated) (c : KnownCpu) (f : ℕ) (rest : List ℕ) (front : c.back ≡ f ∷ rest) (at : IsBackFront c f rest) (unit : ChargedUnit) where
-  -- the processor's own part without the back frame
+  -- the CPU's own part without the back frame
   abbrev pub back_part : Part
   back_part = without_frame (part_with c.list c.fresh c.back (account_of stock.view c.number)) (phase.Head unit (BackAt c.number)) c.number f
 

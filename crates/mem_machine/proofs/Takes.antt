@@ -1,4 +1,4 @@
--- The front of the list of the processor that is visited goes back to the free areas. Serves `take_one_back`.
+-- The front of the list of the CPU that is visited goes back to the free areas. Serves `take_one_back`.
 use Rattle.std.proofs.Common.{◌≡◌, ℕ, ◌+◌, ◌<◌, ◌==◌, Bool, true, false, Option, Some, None, List, [], ◌∷◌, length, get_or, refl, sym, ap, ◌∙◌}
 use Rattle.std.proofs.Common.{subst, inl, inr, arith, eq-eqb}
 use Rattle.std.specs.Prelude.{slice_set, IfSome}
@@ -245,7 +245,7 @@ pub taken_none : (m now : KnownMachine) → m ≡ now → (c d : KnownCpu) (seat
     → TakesNoneBack (side now c) (side (record m { frame_seat = seat }) d)
 taken_none m now same c d seat none is = record { none = none.0; stays = record { machine = (λ i. record m { frame_seat = is i }) ∙ same; cpu = none.1 } }
 
--- the frame passes for the processor once it was handed
+-- the frame passes for the CPU once it was handed
 pub passes_back_to : (t : KnownTable) (w : Words) (m now : KnownMachine) → m ≡ now → (c h : KnownCpu) → IsTied t w c → Visits t (side now c)
     → (f : ℕ) (seat : KnownSeat)
     → f < t.frames → HandsFront f c h → seat ≡ m.frame_seat → Passes seat h.frame_seat f

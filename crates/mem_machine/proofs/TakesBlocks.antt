@@ -174,7 +174,7 @@ pub record AllTaken (t : KnownTable) (w : Words) (now : KnownMachine) (c : Known
   pub visit : Visits t (side n d)
   pub steps : MakesAs t c.number (side now c) (taken_steps g k at) (side n d)
 
--- what is asked of the processor and of the group
+-- what is asked of the CPU and of the group
 pub record MayTake (t : KnownTable) (m : KnownMachine) (c : KnownCpu) (g : ℕ) : Type 0 where
   pub visit : Visits t (side m c)
   pub none_back : c.back ≡ []
