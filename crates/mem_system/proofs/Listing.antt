@@ -1,4 +1,4 @@
--- Serves `release`: frames from the front of a processor's list go back, and one frame comes to its end.
+-- Serves `release`: frames from the front of a CPU's list go back, and one frame comes to its end.
 use Rattle.std.proofs.Common.{◌≡◌, ◌≢◌, ℕ, zero, suc, ◌+◌, ◌<◌, ◌≤◌, List, [], ◌∷◌, ◌++◌, length, take, sym, ap, ◌∙◌, refl, inl, inr, arith}
 use Rattle.std.specs.Prelude.{slice_set}
 use Rattle.std.proofs.lemmas.Bool.{cases_lt}

@@ -1,4 +1,4 @@
--- Serves the visits at the end of a system: a processor is settled, or its list is given back and its stock drained.
+-- Serves the visits at the end of a system: a CPU is settled, or its list is given back and its stock drained.
 use Rattle.std.proofs.Common.{◌≡◌, ℕ, zero, suc, ◌<◌, ◌≤◌, false, List, [], ◌∷◌, ◌++◌, length, take, refl, sym, ap, ◌∙◌, subst, inl, inr, arith}
 use Rattle.std.proofs.Common.{append-nil}
 use Rattle.std.specs.Prelude.{slice_set}
@@ -25,7 +25,7 @@ use Rattle.mem_system.specs.Ends.{SettlesInVisit, Empties, LendsAndFillsNone}
 use Rattle.mem_system.proofs.Listing.{left_over}
 use Rattle.mem_machine.proofs.Followed.{makes_both}
 
--- the whole visit in which a processor is settled, from its three parts
+-- the whole visit in which a CPU is settled, from its three parts
 pub rested : (t : KnownTable) (m n : KnownMachine) (c d : KnownCpu) (entered x : KnownMachine) (c1 c2 : KnownCpu)
     → entered ≡ with_visit_of m c.number 1 → c1 ≡ c → c2.number ≡ c1.number → n ≡ with_visit_of x c2.number 0 → d ≡ c2
     → MakesAs t c.number (side m c) (open_steps c.number) (side entered c1)
@@ -121,7 +121,7 @@ emptied_alone m entered x y n c1 c2 frames p q k opened takes drains shut =
       ];
     }
 
--- and the processor's own stock is drained
+-- and the CPU's own stock is drained
 pub emptied_drained : (x y n : KnownMachine) (p q k : ℕ) → Drains q k x y → n ≡ with_visit_of y p 0 → (account_of n.stock_seat.view q).filled ≡ false
 emptied_drained x y n p q k drains shut =
     ap (λ (z : KnownMachine). (account_of z.stock_seat.view q).filled) (shut ∙ ap (λ (z : KnownMachine). with_visit_of z p 0) drains.machine)
