@@ -17,7 +17,7 @@ use Rattle.mem_machine.proofs.Followed.{makes_both, makes_none}
 
 -- ---- what is kept where a try fails
 
--- the machine as after a note, a drain or a reclaim, with the stocks as they were; and the processor's part stays
+-- the machine as after a note, a drain or a reclaim, with the stocks as they were; and the CPU's part stays
 pub record Spares (t : KnownTable) (m : KnownMachine) (c : KnownCpu) (n : KnownMachine) (d : KnownCpu) : Type 0 where
   pub lowers : Lowers t m n
   pub killed : n.killed ≡ m.killed
