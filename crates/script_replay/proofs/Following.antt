@@ -73,7 +73,7 @@ drained_group stock_is.NoGroup = refl
 drained_group (stock_is.HeldBy g n) = refl
 drained_group (stock_is.DrainedOf g) = refl
 
--- a part that changed so that its processor sees the same
+-- a part that changed so that its CPU sees the same
 pub record IsUnseen (t : KnownTable) (m : KnownMachine) (c d : KnownCpu) : Type 0 where
   pub number : d.number ≡ c.number
   pub same : local_of t m d ≡ local_of t m c
