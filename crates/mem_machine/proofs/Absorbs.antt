@@ -19,7 +19,7 @@ use Rattle.mem_machine.specs.Local.{number_or_0}
 use Rattle.mem_machine.specs.Settling.{with_page_absorbed}
 use Rattle.mem_machine.proofs.Draining.{booked_is, counts_own, counts_other}
 
--- the group of a stock, where it has one, is one of 64
+-- the group of a stock, if it has one, is one of 64
 pub group_fits : (stock : Stock) (g : ℕ) → HasWord stock → group_of stock ≡ Some g → (g ≤ 63) × (number_or_0 (group_of stock) ≡ g)
 group_fits NoGroup g is e = absurd (none-some g e)
 group_fits (HeldBy h n) g is e = let same : h ≡ g = ap number_or_0 e in let low = is.0 in (omega (arith, same, low), same)

@@ -260,11 +260,11 @@ back_at g x k is h = elim (cases_eq h g) [
   | inr ne ↦ at_other (with_at nothing g x) g (with_at nothing g x g - k) h ne ∙ at_other nothing g x h ne
 ]
 
--- the pages that were pending for a group are taken back
+-- the pages that were pending for a group are ungranted
 pub pending_back : (g x k : ℕ) → x ≡ k → with_at (with_at nothing g x) g (with_at nothing g x g - k) ≡ nothing
 pending_back g x k is = λ i. λ h. back_at g x k is h i
 
--- pages that are pending alone are taken back
+-- only pending pages are ungranted
 ungrants : (p : ℕ) (s : State) (o : Option ℕ) (k : ℕ) → may_zone_act s.hold 0 ≡ true → ((g : ℕ) → o ≡ Some g → 1 ≤ k → has_group s.groups g ≡ true)
     → IsLocalRun p (record s { pending = with_more nothing o k }) (ungrant_steps o k) (record s { pending = nothing })
 ungrants p s None k acts there = refl
@@ -316,7 +316,7 @@ drain_runs t m n steps q k is some inside there c =
       counts = drain_counts s m.counts (stock_group m q) q k;
     })
 
--- what a drain by so many steps leaves, of the machine as it was seen before
+-- what a drain by this many steps leaves, of the machine as it was seen before
 pub record Drained (t : KnownTable) (w : Words) (m now : KnownMachine) (count q k : ℕ) (l : Ledger) (stock : Seated) : Type 0 where
   pub consistent : IsConsistent t w (record m { ledger = l; stock_seat = stock })
   pub drains : DrainsBy count q k now (record m { ledger = l; stock_seat = stock })
@@ -351,7 +351,7 @@ drained_all t w m now steps q k same ok facts some inside enough before o of non
 pub some_not_none : (g k : ℕ) → Some g ≡ None → k ≡ 0
 some_not_none g k e = absurd (none-some g (sym e))
 
--- where no page was in it the charges stay
+-- if it had no page, the charges stay
 pub drained_none : (l : Ledger) (o : Option ℕ) (k : ℕ) → k ≡ 0 → l ≡ uncharged l o k
 drained_none l o k none = sym (ap (uncharged l o) none ∙ uncharged_none l o)
 

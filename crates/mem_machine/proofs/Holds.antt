@@ -31,7 +31,7 @@ zone_acts : (b : Bool) (p : ℕ) → may_zone_act (cond b (Visiting p) (HeldBy p
 zone_acts true p = refl
 zone_acts false p = refl
 
--- the zone's seat acts where a CPU holds the lock
+-- the zone's seat may act while a CPU holds the lock
 pub zone_may_act : (seat : KnownSeat) (p : ℕ) → may_zone_act (hold_of seat p) 0 ≡ true
 zone_may_act seat p = zone_acts (get_or seat.view.opened p 0 == 1) p
 

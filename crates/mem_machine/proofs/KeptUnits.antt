@@ -32,7 +32,7 @@ use Rattle.mem_machine.proofs.BlockCharges.{charges_rise}
 use Rattle.mem_machine.proofs.Units.{units_placed}
 use Rattle.mem_machine.proofs.Joins.{AllJoin}
 
--- a frame that is charged to no group stands on no list
+-- a frame that is charged to no group is on no list
 homeless : (h : Option Home) (x : Spot) → spot_group x ≡ None → IfSome h (λ k. (k.owner < 64) × (head_group_of x ≡ Some k.owner)) → h ≡ None
 homeless None x none is = refl
 homeless (Some k) x none is = absurd (none-some k.owner (sym (no_head x none) ∙ is.1))
@@ -121,8 +121,8 @@ module _ (t : KnownTable) (w : Words) (m : KnownMachine) (ok : IsConsistent t w 
 
 -- ---- all of it
 
--- what else changed where a unit of so many frames joined its group: the free areas, the stocks, and the charges of all
--- groups, which fit the frames and the books
+-- what else changed when a unit of this many frames joined its group: the free areas, the stocks, and the charges of
+-- all groups, which fit the frames and the books
 pub record JoinsCharges (t : KnownTable) (w : Words) (m : KnownMachine) (g pages : ℕ) (spots : List Spot) (blocks : List Block) (ledger : Ledger)
     (stock : Seated) : Type 0 where
   pub areas : AreMaximalBlocks (free_of spots) blocks

@@ -66,7 +66,7 @@ lent_listed c f q none =
     ap (λ (n : ℕ). cond (q == c.number && nat_le 1 n) (phase.Head (record { group = fresh_group c; order = 0 }) (FreshAt q)) (phase.Lent q OnList)) none
     ∙ ap (λ (b : Bool). cond b (phase.Head (record { group = fresh_group c; order = 0 }) (FreshAt q)) (phase.Lent q OnList)) (and_no (q == c.number))
 
--- the phases where one frame's record changed, and no other frame's place at the CPU
+-- the phases after one frame's record changed, and no other frame's place at the CPU
 pub phases_changed : (c d : KnownCpu) (spots : List Spot) (f : ℕ) (x : Spot) (a b : Phase) → f < length spots → phase_of d f x ≡ b
     → ((g : ℕ) (y : Spot) → (g ≡ f → ⊥) → phase_of d g y ≡ phase_of c g y) → (g : ℕ)
     → phase_of d g (spot_at (slice_set spots f x) g) ≡ with_at (with_at (λ y. phase_of c y (spot_at spots y)) f a) f b g

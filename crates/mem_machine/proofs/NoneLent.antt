@@ -1,4 +1,5 @@
--- What is lent where the machine ends, and how many frames are free and charged. Serves `see_none_lent`, and the end of a system.
+-- What is lent when the machine ends, and how many frames are free and charged. Serves `see_none_lent`, and the end of
+-- a system.
 use Rattle.std.proofs.Common.{◌≡◌, ℕ, ◌+◌, ◌<◌, ◌≤◌, Option, Some, None, List, [], ◌∷◌, length, refl, sym, ap, ◌∙◌, subst, inl, inr, arith, zero, suc}
 use Rattle.std.specs.Prelude.{is_some, IfSome}
 use Rattle.std.proofs.lemmas.Bool.{cases_lt}
@@ -60,7 +61,7 @@ none_lent t w m c ok tied lent no_list no_fresh f is =
     let counted = (tied.noted f).borrowed_is in
     omega (arith, borrowed, listed, fresh, counted)
 
--- where no frame is lent, each is free or charged
+-- if no frame is lent, each is free or charged
 pub each_is_placed : (spots : List Spot) → ((f p : ℕ) → spot_at spots f ≡ Lent p → ⊥) → frames_free spots + frames_in_groups spots ≡ length spots
 each_is_placed [] none = refl
 each_is_placed (x ∷ xs) none =

@@ -1,4 +1,4 @@
--- What the CPU sees once a fresh or a back frame came into the zone's hand. Serves `settle`.
+-- What the CPU sees after a fresh or a back frame came into the zone's hand. Serves `settle`.
 use Rattle.std.proofs.Common.{◌≡◌, ℕ, ◌+◌, ◌-◌, ◌^◌, ◌<◌, ◌==◌, ◌&&◌, Bool, true, false, cond, List, [], ◌∷◌, length}
 use Rattle.std.proofs.Common.{refl, sym, ap, ◌∙◌, subst, arith, inl, inr, eq-eqb}
 use Rattle.std.specs.Prelude.{nat_le, slice_set}
@@ -92,7 +92,7 @@ module _ (c d : KnownCpu) (spots : List Spot) (f : ℕ) (others : (g : ℕ) (y :
   abbrev old : ℕ → Phase
   old g = phase_of c g (spot_at spots g)
 
-  -- where one record changed
+  -- after one record changed
   pub phases_set : (x : Spot) (b : Phase) → f < length spots → phase_of d f x ≡ b → (g : ℕ)
       → phase_of d g (spot_at (slice_set spots f x) g) ≡ with_at old f b g
   phases_set x b inside here g = elim (cases_eq g f) [
@@ -101,7 +101,7 @@ module _ (c d : KnownCpu) (spots : List Spot) (f : ℕ) (others : (g : ℕ) (y :
     | inr ne ↦ ap (phase_of d g) (get_or-set_other spots f g x Free ne) ∙ others g (spot_at spots g) ne ∙ sym (at_other old f b g ne)
   ]
 
-  -- where the frames of the unit came back
+  -- after the frames of the unit were freed
   pub phases_freed : (new : List Spot) (unit : ChargedUnit) (stage : Stage) → FreesFrames f (2 ^ unit.order) spots new → (g : ℕ)
       → phase_of d g (spot_at new g) ≡ without_unit (with_at old f (phase.Head unit stage)) f g
   phases_freed new unit stage frees g =

@@ -1,4 +1,4 @@
--- The ledger tells a run, and goes on telling it with each call. Serves `ledgers_tell`.
+-- The ledger has a run's peaks and event counts, and each call keeps this true. Serves `ledgers_tell`.
 use Rattle.std.proofs.Common.{◌≡◌, ◌≢◌, ℕ, ◌==◌, ◌&&◌, ◌++◌, Bool, true, false, [], ◌∷◌, cond, take, length, Option, Some, refl, sym, ap, ◌∙◌, subst, inl, inr, zero, suc, eq-eqb}
 use Rattle.std.specs.Prelude.{IfSome, max}
 use Rattle.std.specs.List.{slice_get}
@@ -92,7 +92,7 @@ module _ (zone : Zone) (p m : ℕ) where
   follows_seen t run shows (Make path) (Number n) x = refl
   follows_seen t run shows action answer x = refl
 
-  -- a number that goes on along own steps by its moves, and along others' as it is
+  -- a number that changes at own steps by its moves, and doesn't change at others' steps
   module _ (Tells : Run → ℕ → Type 0) (moves : Moves)
       (own_on : (run : Run) (a : State) (e : Step × Answer) (x : ℕ) → ShowsLocal zone run p a → IsLocalStep a p e.0.seat e.0.action e.1
       → Allows (state_of zone run) e.0.seat e.0.action e.1 → ShowsLocal zone (pushed run e.0 e.1) p (after a e.0.seat e.0.action e.1)

@@ -1,4 +1,4 @@
--- Serves the end of a system: what the closed tables tell, where each CPU has nothing left.
+-- What the closed tables say when each CPU has nothing left. Serves the end of a system.
 use Rattle.std.proofs.Common.{◌≡◌, ℕ, zero, suc, ◌+◌, ◌-◌, ◌<◌, ◌≤◌, ◌==◌, false, true, List, [], ◌∷◌, ◌++◌, length, map, take, drop, get_or, refl, sym, ap}
 use Rattle.std.proofs.Common.{◌∙◌, subst, inl, inr, arith, append-nil, eq-eqb}
 use Rattle.std.specs.Prelude.{All, is_some, min, slice_index}
@@ -162,7 +162,7 @@ module _ (t : KnownTable) (w : Words) (m : KnownMachine) (cpus : List KnownCpu) 
             (record { stock = words.stock; encoded = words.encoded; empty = empty; none_reported = noted; book = book }),
       )
 
-  -- the words tell each CPU's stock
+  -- the words are those of each CPU's stock
   told_each : All (λ c. IsStockOf closed.stock_words c.number m.stock_seat.view c.stock_seat.view) cpus
   told_each k any inside =
       let c = get_or cpus k any in

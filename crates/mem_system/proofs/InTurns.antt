@@ -26,7 +26,7 @@ pub same_next : (i : ℕ) (cpus now : List KnownCpu) (any : KnownCpu) → i < le
     → get_or now i any ∷ drop (i + 1) now ≡ get_or cpus i any ∷ drop (i + 1) cpus
 same_next i cpus now any inside long left = sym (drop_more now i any (omega (arith, inside, long))) ∙ left ∙ drop_more cpus i any inside
 
--- a CPU that was not visited yet is as it was
+-- a CPU that was not visited yet is unchanged
 pub same_at : (cpus now : List KnownCpu) (i : ℕ) (any : KnownCpu) → i < length now → length now ≡ length cpus → drop i now ≡ drop i cpus
     → get_or now i any ≡ get_or cpus i any
 same_at cpus now i any inside long left = ap (λ (l : List KnownCpu). get_or l 0 any) (same_next i cpus now any (omega (arith, inside, long)) long left)

@@ -15,7 +15,7 @@ pub stock_seats_left : (id : TableId) (i n : ℕ) → i < n
     → first_seats id (i + 1) (n - i) ≡ record { table = id; view = first_processor (i + 1) } ∷ first_seats id ((i + 1) + 1) (n - (i + 1))
 stock_seats_left id i n lt = ap (first_seats id (i + 1)) (let e : n - i ≡ suc (n - (i + 1)) = omega arith in e)
 
--- what `remove(0)` took out is the front
+-- what `remove(0)` returned is the front
 pub front_is : {A : Type 0} (xs : List A) (first : A) (rest : List A) (taken : A) → xs ≡ first ∷ rest → taken ≡ get_or xs 0 taken → taken ≡ first
 front_is xs first rest taken e is = is ∙ ap (λ l. get_or l 0 taken) e
 

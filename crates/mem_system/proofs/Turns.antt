@@ -1,4 +1,4 @@
--- Serves the visits at the end of a system: a CPU is settled, or its list is given back and its stock drained.
+-- A CPU is settled, or its list is returned and its stock drained. Serves the visits at the end of a system.
 use Rattle.std.proofs.Common.{◌≡◌, ℕ, zero, suc, ◌<◌, ◌≤◌, false, List, [], ◌∷◌, ◌++◌, length, take, refl, sym, ap, ◌∙◌, subst, inl, inr, arith}
 use Rattle.std.proofs.Common.{append-nil}
 use Rattle.std.specs.Prelude.{slice_set}
@@ -53,7 +53,7 @@ rested t m n c d entered x c1 c2 opened same second shut after first settles res
           (makes_both t p (settle_steps (side begins c)) (shut_steps p) (side begins c) (side x c2) (side n d) done ended);
     }
 
--- ---- a list that is given back whole
+-- ---- a list that is returned whole
 
 pub record WholeList (k : ℕ) (list left : List ℕ) : Type 0 where
   pub none_left : left ≡ []
@@ -72,7 +72,7 @@ whole_list k count list left listed all fewer split =
     ] in
     record { none_left = none; all_taken = sym (split ∙ ap (λ (l : List ℕ). take k list ++ l) none ∙ append-nil (take k list)) }
 
--- ---- what a visit that gives the list back and drains the stock leaves
+-- ---- what a visit leaves that returns the list and drains the stock
 
 -- a frame that is free now is lent to no one
 still_lent : (spots : List Spot) (f g p : ℕ) → spot_at (slice_set spots f Free) g ≡ Lent p → spot_at spots g ≡ Lent p
