@@ -132,8 +132,8 @@ pub record JoinsCharges (t : KnownTable) (w : Words) (m : KnownMachine) (g pages
   pub bounded : (p : ℕ) → (account_of stock.view p).book < 65536
   pub charged : (h : ℕ) → pages_of ledger h ≡ frames_charged m.spots h + cond (h == g) pages 0 + pages_booked t stock h
 
--- The frames of a block that were charged to no group (all but the first were free) are a unit of the group now, and its head
--- is on the group's inactive list, in use with one reference of the zone: the machine is consistent
+-- The frames of a block that were charged to no group (all but the first were free) are now a unit of the group. Its
+-- head is on the group's inactive list, in use with one reference of the zone. The machine is consistent.
 pub unit_kept : (t : KnownTable) (w : Words) (m : KnownMachine) → IsConsistent t w m → (g : ℕ) → g < 64 → (b : Block) → IsBlock (length m.spots) b
     → (spots : List Spot) → PlacesUnit g b m.spots spots → spot_group (spot_at m.spots b.at) ≡ None
     → ((x : ℕ) → b.at ≤ x → x < b.at + 2 ^ b.order → x ≢ b.at → spot_at m.spots x ≡ Free)
