@@ -26,8 +26,8 @@ use Rattle.mem_alloc.specs.Stepping.{Course}
 
 -- By these first steps of a call, everything else was tried for the limit of the group `limited`, which has no room.
 -- The steps lead to a consistent machine. One of them notes `oom` there, and each stock of the subtree is drained. For
--- each clean unit that the subtree still keeps, one of these steps is a freeze that missed. This is the victim, with
--- its head.
+-- each clean unit that the subtree still keeps, one of these steps is a freeze that missed. `killed` is the victim for
+-- this limit, with its head.
 pub record WasLast (MayAsk : List Group → ℕ → ℕ → Type 0) (table : KnownTable) (start : KnownMachine) (cpu : KnownCpu)
     (tried : Run) (killed : Killed) : Type 0 where
   pub now : KnownMachine

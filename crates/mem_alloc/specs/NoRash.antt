@@ -45,8 +45,8 @@ pub record IsLeftBySteps (way : Course KnownMachine) : Type 0 where
   pub dirt : (frame : ℕ) → HeadsKeptUnit way.after frame
       → (link_at way.after.links frame).is_dirty ≡ (link_at way.before.links frame).is_dirty
 
--- For which limit a call may kill, and for how many pages. If the call charges at most `most_killed_for` pages to a
--- group, that is the limit of the group or of an ancestor, for these pages.
+-- For which limit and need a call that charges `pages` pages to a group may kill. The limit is that of the group or of
+-- an ancestor, the need is these pages, and they are at most `most_killed_for`.
 pub record IsChargedBelow (group pages : ℕ) (groups : List Group) (limited need : ℕ) : Type 0 where
   pub on_path : in_subtree groups limited group ≡ true
   pub need_is : need ≡ pages
@@ -54,8 +54,9 @@ pub record IsChargedBelow (group pages : ℕ) (groups : List Group) (limited nee
 
 -- After these steps of a call, the victim and all groups that die with it may be killed for the limit of the group
 -- `limited`. The limit has no room for the needed pages, and a step noted `oom` there. Each stock of the subtree is
--- drained. Since the call began, a freeze of each clean unit that the subtree still keeps missed. The victim and the
--- head are the right ones. The machine is consistent, its charges add up, and it is the one that the steps left.
+-- drained. Since the call began, a freeze of each clean unit that the subtree still keeps missed. `killed` is the
+-- victim for this limit, with its head. The machine is consistent, its charges add up, and it is the one that the steps
+-- left.
 pub record MayKill (MayAsk : List Group → ℕ → ℕ → Type 0) (way : Course KnownMachine) (killed : Killed) : Type 0 where
   pub limited : ℕ
   pub need : ℕ

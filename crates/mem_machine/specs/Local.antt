@@ -34,8 +34,8 @@ number_or_0 (Some number) = number
 abbrev pub fresh_group : KnownCpu → ℕ
 fresh_group cpu = number_or_0 (stocks.group_of cpu.stock_seat.view.last)
 
--- The phase of a frame with this record, as the CPU sees it. A frame lent to it is fresh or listed. The head of a unit
--- is back if the CPU put its last reference, else live.
+-- The phase of a frame with this record, as the CPU sees it. A lent frame is fresh if it is one of the CPU's own fresh
+-- frames, else listed. The head of a unit is back if it is one of the CPU's back frames, else live.
 abbrev pub phase_of : KnownCpu → ℕ → Spot → Phase
 phase_of cpu frame Free = phase.InZone
 phase_of cpu frame (Lent processor) =

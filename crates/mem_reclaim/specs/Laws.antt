@@ -19,7 +19,7 @@ use Rattle.mem_reclaim.specs.Staying.{MissedAll}
 use Rattle.mem_reclaim.specs.Victim.{IsVictim, may_be_killed, own_frames}
 use Rattle.mem_reclaim.specs.Wanted.{Progress}
 
--- in this machine this is a victim for the group `limited`, with its head
+-- `killed` is the victim for the group `limited` in this machine, with its head
 pub record IsChosen (machine : KnownMachine) (limited : ℕ) (killed : Killed) : Type 0 where
   pub groups : AreGroups machine.ledger.groups
   pub chosen : IsVictim machine limited (Some killed.victim)

@@ -14,22 +14,24 @@ abbrev pub is_flagged_between : List Group → (limited victim : ℕ) → ℕ �
 is_flagged_between groups limited victim group =
     in_subtree groups limited group && in_subtree groups group victim && is_oom_group groups group
 
--- the highest of these flagged groups: all of them are in its subtree
+-- the highest flagged group on the path from the victim up to `limited`: all flagged groups of the path are in its
+-- subtree
 pub record IsHighestFlagged (groups : List Group) (limited victim head : ℕ) : Type 0 where
   pub between : is_flagged_between groups limited victim head ≡ true
   pub highest : (other : ℕ) → is_flagged_between groups limited victim other ≡ true
       → in_subtree groups head other ≡ true
 
--- there is no such flagged group
+-- no group on the path from the victim up to `limited` is flagged
 abbrev pub HasNoFlagged : List Group → (limited victim : ℕ) → Type 0
 HasNoFlagged groups limited victim = (other : ℕ) → is_flagged_between groups limited victim other ≡ false
 
--- the highest of these flagged groups; None if there is none
+-- the highest flagged group on the path from the victim up to `limited`; None if there is none
 abbrev pub IsFlaggedAbove : List Group → (limited victim : ℕ) → Option ℕ → Type 0
 IsFlaggedAbove groups limited victim (Some head) = IsHighestFlagged groups limited victim head
 IsFlaggedAbove groups limited victim None = HasNoFlagged groups limited victim
 
--- the head of a kill: the highest of these flagged groups, or the victim itself if there is none
+-- the head of a kill: the highest flagged group on the path from the victim up to `limited`, or the victim itself if
+-- there is none
 abbrev pub IsHead : List Group → (limited : ℕ) → Killed → Type 0
 IsHead groups limited killed =
     IsHighestFlagged groups limited killed.victim killed.head

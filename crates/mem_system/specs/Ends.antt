@@ -72,7 +72,7 @@ pub record IsSettledUnpinned (cpu : KnownCpu) : Type 0 where
   pub none_back : cpu.back ≡ []
   pub no_pin : cpu.pins ≡ []
 
--- the CPU has no frame on its list and no pin, no frame is lent to it, and its stock is drained
+-- the CPU has no frame on any of its lists and no pin, no frame is lent to it, and its stock is drained
 pub record IsSpent (table : KnownTable) (stock_table : Words) (machine : KnownMachine) (cpu : KnownCpu) : Type 0 where
   pub tied : IsTied table stock_table cpu
   pub idle : IsIdle cpu
@@ -153,7 +153,7 @@ pub record HasNoPage (machine : KnownMachine) (stock_words : List ℕ) (processo
 
 -- The end of a boot without pins. Each CPU is settled, then each CPU's list is returned and its stock drained, by steps
 -- that the machine's counts follow. Then no frame is lent to anyone, and no stock has a page. The closed words are what
--- the seats know, and the audit counts what the machine and the CPUs counted.
+-- the seats know. The audit counts what the machine and the CPUs counted, and it adds up.
 pub record Ends (table : KnownTable) (stock_table : Words) (locked : KnownLocked) (cpus : List KnownCpu)
     (audit : Audit) : Type 0 where
   pub quiet : IsQuiet table stock_table locked
