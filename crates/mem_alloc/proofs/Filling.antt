@@ -36,7 +36,7 @@ use Rattle.mem_machine.proofs.Followed.{makes_both, makes_stay}
 
 -- ---- what is kept
 
--- the visits, and the processor's number and lists
+-- the visits, and the CPU's number and lists
 pub record KeepsPart (m : KnownMachine) (c : KnownCpu) (n : KnownMachine) (d : KnownCpu) : Type 0 where
   pub opened : n.frame_seat.view.opened ≡ m.frame_seat.view.opened
   pub number : d.number ≡ c.number

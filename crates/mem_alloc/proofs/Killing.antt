@@ -180,7 +180,7 @@ kills_more r t g pages killed (u ∷ victims) m x n first last each one = record
   steps_are = ap (λ (k : Run). k ++ last) each.steps_are ∙ append_assoc each.earlier each.later last;
 }
 
--- these victims were killed so far, with all who die with them, and nothing else happened
+-- these victims have been killed so far, with all groups that die with them, and nothing else happened
 pub record KillsSoFar (r : Option ℕ) (t : KnownTable) (g pages : ℕ) (m n : KnownMachine) : Type 0 where
   pub victims : List Killed
   pub killing : Run

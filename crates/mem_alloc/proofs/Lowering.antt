@@ -40,7 +40,7 @@ pub record Lowers (t : KnownTable) (m n : KnownMachine) : Type 0 where
   pub falls : (h : ℕ) → current_of n.ledger h ≤ current_of m.ledger h
   pub emptied : (p : ℕ) → (account_of m.stock_seat.view p).filled ≡ false → (account_of n.stock_seat.view p).filled ≡ false
 
--- a visit stays where the zone's seat does
+-- a visit stays if the zone's seat does
 pub same_visit : (t : KnownTable) (m n : KnownMachine) → n.frame_seat ≡ m.frame_seat → (c : KnownCpu) → Visits t (side m c) → Visits t (side n c)
 same_visit t m n seat c v = record {
   is_open = subst (λ (s : KnownSeat). IsOpen s c.number) (sym seat) v.is_open;
@@ -170,7 +170,7 @@ lowered_there t m n g l there = ap (λ (x : List Group). has_group x g) l.groups
 pub lowered_fits : (t : KnownTable) (m n : KnownMachine) (pages : ℕ) → Lowers t m n → HasRoomFor m pages → HasRoomFor n pages
 lowered_fits t m n pages l fits = let a = l.falls 0 in omega (arith, a, fits)
 
--- ---- each try that is refused, where there is room then, lowers the sum of all usages
+-- ---- each refused try lowers the sum of all usages, if there is room after it
 
 sum_le : (n : ℕ) (f g : ℕ → ℕ) → ((i : ℕ) → f i ≤ g i) → sum_to n f ≤ sum_to n g
 unfolding sum_to
@@ -208,7 +208,7 @@ usages_fall t m n over pages l inside was now =
     (ap (λ (o : Option ℕ). fits_limit o (current_of n.ledger over + pages)) (sym limit) ∙ now) (l.falls over) in
     sum_less 64 (current_of n.ledger) (current_of m.ledger) over inside l.falls less
 
--- ---- a charge that is taken back leaves the usages as they were
+-- ---- a charge that is uncharged again leaves the usages as before
 
 charged_share : (groups : List Group) (all : List charge.Account) (g n m : ℕ) (x : charge.Account)
     → share groups m (taken g n (peaked groups all g (added g n x))) ≡ share groups m x

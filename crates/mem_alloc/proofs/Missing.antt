@@ -1,4 +1,4 @@
--- The misses that are noted are those among the steps. Serves whoever tells the steps of a command.
+-- The misses that are noted are those among the steps. Serves the calls that name a command's steps.
 use Rattle.std.proofs.Common.{◌≡◌, ℕ, zero, suc, ◌^◌, Bool, true, false, Option, Some, List, [], ◌∷◌, ◌++◌, refl, sym, ap, ◌∙◌, subst, inl, inr, arith}
 use Rattle.std.specs.Prelude.{Result, Ok, Err}
 use Rattle.std.proofs.lemmas.Bool.{cases_Bool, cases_lt}
@@ -36,7 +36,7 @@ counts_both t m x n one two a b f =
     let r = missed_both f one two in
     omega (arith, p, q, r)
 
--- by steps of which none is a freeze that missed, where none was noted
+-- steps without a freeze that missed, if no miss was noted
 pub counts_none : (t : KnownTable) (m n : KnownMachine) (steps : Run) → AreQuiet steps → ((f : ℕ) → misses_of n.frame_seat f ≡ misses_of m.frame_seat f)
     → CountsMisses (course t m steps n)
 counts_none t m n steps quiet same f =
@@ -44,11 +44,11 @@ counts_none t m n steps quiet same f =
     let q = same f in
     omega (arith, p, q)
 
--- so it is where the zone's seat stays
+-- the same if the zone's seat stays
 pub counts_same : (t : KnownTable) (m n : KnownMachine) (steps : Run) → AreQuiet steps → n.frame_seat ≡ m.frame_seat → CountsMisses (course t m steps n)
 counts_same t m n steps quiet same = counts_none t m n steps quiet (λ f. ap (λ (s : KnownSeat). misses_of s f) same)
 
--- and where the list of steps is told by another
+-- the same if the list of steps is given as another, equal list
 pub counts_as : (t : KnownTable) (m n : KnownMachine) (steps told : Run) → steps ≡ told → CountsMisses (course t m told n) → CountsMisses (course t m steps n)
 counts_as t m n steps told is h = subst (λ (k : Run). CountsMisses (course t m k n)) (sym is) h
 

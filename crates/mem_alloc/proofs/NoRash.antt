@@ -1,4 +1,4 @@
--- No kill comes before everything else was tried. Serves whoever tells the steps of a command.
+-- No kill comes before everything else was tried. Serves the calls that name a command's steps.
 use Rattle.std.proofs.Common.{◌≡◌, ◌≢◌, ℕ, zero, suc, ◌+◌, ◌≤◌, Bool, true, false, Option, Some, None, List, [], ◌∷◌, ◌++◌, refl, sym, ap, ◌∙◌}
 use Rattle.std.proofs.Common.{subst, inl, inr, arith, eq-eqb, ◌==◌, ◌||◌, ◌⊎◌}
 use Rattle.std.specs.Prelude.{Result, Ok, Err}
@@ -41,7 +41,7 @@ use Rattle.mem_alloc.specs.Room.{with_max_noted_at}
 use Rattle.mem_alloc.specs.declared.faults.AllocFault.{AllocFault}
 use Rattle.mem_alloc.specs.NoRash.{IsLeftBySteps, MayKill, MayKillAfter, begins_with_kill, has_oom_note, is_oom_note}
 
--- ---- where a pair of a list stands
+-- ---- the place of a pair in a list
 
 abbrev first_or : Step × Answer → Run → Step × Answer
 first_or d [] = d
@@ -65,7 +65,7 @@ nothing_stands : (before rest : Run) (e : Step × Answer) → [] ≡ before ++ e
 nothing_stands [] rest e is = false≢true (ap is_some_list is)
 nothing_stands (x ∷ before) rest e is = false≢true (ap is_some_list is)
 
--- a pair of the one list after the other stands in the one or in the other
+-- a pair of two lists joined is in the first or in the second
 stands_in : (one two before rest : Run) (e : Step × Answer) → one ++ two ≡ before ++ e ∷ rest
     → ((more : Run) × (one ≡ before ++ e ∷ more) × (more ++ two ≡ rest)) ⊎ ((later : Run) × (before ≡ one ++ later) × (two ≡ later ++ e ∷ rest))
 stands_in [] two before rest e is = inr (before, refl, is)
@@ -98,7 +98,7 @@ kills_there before rest e v kill =
     list_any-append (λ (x : Step × Answer). is_kill x.0.action) before (e ∷ rest)
     ∙ or_mid (has_kill before) (is_kill e.0.action) (has_kill rest) (ap is_kill kill)
 
--- ---- where kills come first
+-- ---- lists that begin with kills
 
 -- the first step kills a group, or none does
 abbrev KillsFirst : Run → Type 0
@@ -178,7 +178,7 @@ passes_both t c m x n one two a b = record {
   };
 }
 
--- where neither the zone's seat nor the lists changed, and no step is a freeze that missed
+-- steps without a freeze that missed, if neither the zone's seat nor the lists changed
 pub passes_same : (t : KnownTable) (c : KnownCpu) (m n : KnownMachine) (steps : Run) → IsLocalRun c.number (local_of t m c) steps (local_of t n c)
     → n.frame_seat ≡ m.frame_seat → n.links ≡ m.links → AreQuiet steps → Passes t c m steps n
 passes_same t c m n steps runs seat links quiet = record {
@@ -251,7 +251,7 @@ keeps_pass t c m n steps runs keeps misses = record {
 
 -- ---- no kill too early, in a part of a call's steps
 
--- each kill among these steps of a call, before which it made others, comes where its group may be killed
+-- each kill among these steps of a call, which made other steps before them, comes when its group may be killed
 abbrev pub RashFree : KnownTable → (List Group → ℕ → ℕ → Type 0) → KnownMachine → KnownCpu → Run → Run → Type 0
 RashFree t MayAsk start c made steps =
     (before rest : Run) (e : Step × Answer) (group : ℕ) → steps ≡ before ++ e ∷ rest → e.0.action ≡ Kill group
@@ -437,7 +437,7 @@ module _ (t : KnownTable) (MayAsk : List Group → ℕ → ℕ → Type 0) (s : 
       let rest = tame_each r g pages later (made ++ first) x each.later n still (ready_more r g pages killed made m first x ready each.first) each.second in
       subst (λ (k : Run). Tame made m k n) (sym each.steps_are) (tame_both made m x n first each.later one rest)
 
-  -- where everything was tried, and what is noted then is one more `oom`
+  -- everything was tried, and one more `oom` is noted after that
   tame_victims : (r : Option ℕ) (g pages : ℕ) (made : Run) (m : KnownMachine) (steps : Run) (n : KnownMachine) → MayAsk m.ledger.groups g pages
       → Passes t c s made m → AreDrained g t.cpus m → MissedAll g s m → KillsUntilRoom r g pages (course t m steps n) → Tame made m steps n
   tame_victims r g pages made m steps n asked since drained missed h =
@@ -463,7 +463,7 @@ module _ (t : KnownTable) (MayAsk : List Group → ℕ → ℕ → Type 0) (s : 
 
   -- ---- a limit without room
 
-  -- after reclaim no stock of the subtree is held, and where there is no room each clean unit was tried
+  -- after reclaim each stock of the subtree is drained; if there is no room, each clean unit was tried
   pub drained_on : (g : ℕ) (m n : KnownMachine) → n.ledger.groups ≡ m.ledger.groups → n.stock_seat ≡ m.stock_seat → AreDrained g t.cpus m → AreDrained g t.cpus n
   drained_on g m n groups stock drained q low high is =
       ap (λ (z : Seated). (account_of z.view q).filled) stock
@@ -513,10 +513,10 @@ module _ (t : KnownTable) (MayAsk : List Group → ℕ → ℕ → Type 0) (s : 
       (tame_both (made ++ h.earlier) x y n next.earlier next.later two three) in
       subst (λ (k : Run). Tame made m k n) (sym h.steps_are) (tame_both made m x n h.earlier h.later one rest)
 
-  -- ---- charges to the group, of so many pages, for which these may be asked
+  -- ---- charges of this many pages to the group, which may ask for these limits
 
   module _ (g pages : ℕ) (base : List Group) (asks : (over : ℕ) → in_subtree base over g ≡ true → pages ≤ 8 → MayAsk base over pages) where
-    -- where the charge is refused, and the group named has room afterwards or not
+    -- the charge is refused, and the named group has room afterwards or not
     refused_tame : (over : ℕ) (answer : Result (Unit {0}) AllocFault) (made : Run) (m : KnownMachine) (steps rest : Run) (n : KnownMachine) (z : State) → m.ledger.groups ≡ base → Passes t c s made m
         → IsLocalRun c.number (local_of t m c) (steps ++ rest) z → IsRefusedAt g over pages answer (course t m steps n) → Tame made m steps n
     refused_tame over answer made m steps rest n z is since whole h =
@@ -560,7 +560,7 @@ module _ (t : KnownTable) (MayAsk : List Group → ℕ → ℕ → Type 0) (s : 
         subst (λ (k : Run). RashFree t MayAsk s c made k) (sym h.steps_are) (rash_both made h.making h.later one.rash
         (free (made ++ h.making) h.later x (one.groups ∙ is) done on h.does))
 
-    -- so it is where what is done then makes no kill
+    -- the same if what is done after that kills nobody
     pub quiet_after_room : (Does : Course Side → Type 0) (made : Run) (m : KnownMachine) (steps rest : Run) (n : Side) (z : State) → m.ledger.groups ≡ base
         → Passes t c s made m → IsLocalRun c.number (local_of t m c) (steps ++ rest) z → ((way : Course Side) → Does way → has_kill way.steps ≡ false)
         → AfterRoom g pages Does (course t (side m c) steps n) → RashFree t MayAsk s c made steps
@@ -568,7 +568,7 @@ module _ (t : KnownTable) (MayAsk : List Group → ℕ → ℕ → Type 0) (s : 
         after_room_rash Does made m steps rest n z is since whole
         (λ done later x groups passes on does. rash_quiet done later (quiet (course t (side x c) later n) does)) h
 
-    -- and where the charge is refused for good
+    -- the same if the charge is refused for good
     pub refusal_rash : (cause : AllocFault) (made : Run) (m : KnownMachine) (steps rest : Run) (n : Side) (z : State) → m.ledger.groups ≡ base
         → Passes t c s made m → IsLocalRun c.number (local_of t m c) (steps ++ rest) z → IsRefusedFor g pages cause (course t (side m c) steps n)
         → RashFree t MayAsk s c made steps

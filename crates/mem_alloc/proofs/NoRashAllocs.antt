@@ -1,4 +1,4 @@
--- No kill of an allocation comes before everything else was tried. Serves whoever tells the steps of an Alloc.
+-- No kill of an allocation comes before everything else was tried. Serves the calls that name the steps of an Alloc.
 use Rattle.std.proofs.Common.{◌≡◌, ℕ, zero, suc, ◌≤◌, ◌^◌, Bool, true, false, List, [], ◌++◌, refl, sym, ap, ◌∙◌, subst, inl, inr, ◌||◌}
 use Rattle.std.specs.Prelude.{Result, Ok, Err}
 use Rattle.std.proofs.lemmas.List.{append_assoc, append-nil}

@@ -15,9 +15,9 @@ use Rattle.mem_alloc.specs.Rounds.{FailsInRounds, GivesInRound, MakesRound, Succ
 use Rattle.mem_alloc.proofs.Lowering.{Lowers, lowers_none, lowers_both, keeps_lower}
 use Rattle.mem_machine.proofs.Followed.{makes_both, makes_none}
 
--- ---- what is kept where a try fails
+-- ---- what a failed try keeps
 
--- the machine as after a note, a drain or a reclaim, with the stocks as they were; and the processor's part stays
+-- the machine as after a note, a drain or a reclaim, with the stocks as they were; and the CPU's part stays
 pub record Spares (t : KnownTable) (m : KnownMachine) (c : KnownCpu) (n : KnownMachine) (d : KnownCpu) : Type 0 where
   pub lowers : Lowers t m n
   pub killed : n.killed ≡ m.killed
@@ -52,14 +52,14 @@ FailureSpares t Fails =
     (m n : KnownMachine) (c d : KnownCpu) (steps : Run) → Fails (course t (side m c) steps (side n d)) → Spares t m c n d
 
 module _ (t : KnownTable) (want : ℕ) (Fails : Course Side → Type 0) (failure : FailureSpares t Fails) where
-  -- so does a round in which it fails
+  -- a round in which the try fails keeps it too
   round_spares : (given : ℕ) (m n : KnownMachine) (c d : KnownCpu) (steps : Run)
       → MakesRound want given Fails (course t (side m c) steps (side n d)) → Spares t m c n d
   round_spares given m n c d steps h =
       spares_both t m h.reclaimed n c c d (spares_reclaim t m h.reclaimed c h.keeps)
       (failure h.reclaimed n c d h.trying h.tries)
 
-  -- and so do all rounds
+  -- all such rounds keep it too
   pub fails_spare : (rounds : ℕ) (m n : KnownMachine) (c d : KnownCpu) (steps : Run)
       → FailsInRounds rounds want Fails (course t (side m c) steps (side n d)) → Spares t m c n d
   fails_spare zero m n c d steps h = spares_same t m n c d h.machine h.cpu
@@ -69,7 +69,7 @@ module _ (t : KnownTable) (want : ℕ) (Fails : Course Side → Type 0) (failure
       spares_both t m x.machine n c x.cpu d (round_spares h.first.given m x.machine c x.cpu h.earlier h.first.round)
       (fails_spare more x.machine n x.cpu d h.later h.second)
 
-  -- where it succeeds in a round, this was kept before the try that succeeds
+  -- if the try succeeds in a round, this was kept until then
   pub record InTheEnd (Succeeds : Course Side → Type 0) (m : KnownMachine) (c : KnownCpu) (n : Side) : Type 0 where
     pub before : KnownMachine
     pub cpu : KnownCpu
@@ -101,7 +101,7 @@ module _ (t : KnownTable) (want : ℕ) (Fails : Course Side → Type 0) (failure
 
 -- ---- the rounds of a loop
 
--- so many rounds were made, in which the try failed, so that whatever comes of those that are left comes of the whole
+-- this many rounds were made in which the try failed, so the result of the remaining rounds is the result of all
 pub record RoundsSoFar (t : KnownTable) (want : ℕ) (Fails : Course Side → Type 0) (Succeeds : ℕ → Course Side → Type 0)
     (m : KnownMachine) (c : KnownCpu) (made : ℕ) (now : KnownMachine) (d : KnownCpu) : Type 0 where
   pub steps : Run
@@ -180,7 +180,7 @@ module _ (t : KnownTable) (want : ℕ) (Fails : Course Side → Type 0) (Succeed
       }
 
       module _ (does : Fails (course t (side x d) trying (side then e))) where
-        -- in which it failed, and no page came back
+        -- the try failed, and no page was freed
         pub rounds_end : given ≡ 0 → BySteps t (FailsInRounds 16 want Fails) (side m c) (side then e)
         rounds_end none =
             let last : FailsInRounds (suc (16 - (made + 1))) want Fails (course t (side now d) first (side then e)) =
@@ -194,7 +194,7 @@ module _ (t : KnownTable) (want : ℕ) (Fails : Course Side → Type 0) (Succeed
         gave_pages : given ≢ 0 → GivesInRound want Fails (course t (side now d) first (side then e))
         gave_pages gave = record { given = given; some = omega (arith, gave); round = round Fails does }
 
-        -- in which it failed, and pages came back
+        -- the try failed, and pages were freed
         pub rounds_more : given ≢ 0 → Spares t x d then e → RoundsSoFar t want Fails Succeeds m c (made + 1) then e
         rounds_more gave spares = record {
           steps = so.steps ++ first;

@@ -112,7 +112,7 @@ over_not_none g k over r x n is why none =
     let same : x ≡ NoFrames = sym (ap fault_of is) ∙ ap fault_of none in
     subst (λ (z : AllocFault). TellsRoom g over (2 ^ k) (Err z) n) same why
 
--- ---- the list given back
+-- ---- the list that is returned to the zone
 
 pub record BackPart (frames : List ℕ) (m : KnownMachine) (c : KnownCpu) (n : KnownMachine) (d : KnownCpu) : Type 0 where
   pub split : c.list ≡ frames ++ d.list
@@ -146,7 +146,7 @@ back_part (f ∷ frames) m n c d h =
       killed = more.killed ∙ ap (λ (z : KnownMachine). z.killed) one.machine;
     }
 
--- where as many were asked for as the list has, all came back
+-- if as many frames were asked for as the list has, all were returned
 pub all_back : (k count : ℕ) (list left : List ℕ) → k ≤ count → count ≡ length list → (k < count → left ≡ []) → list ≡ take k list ++ left → take k list ≡ list
 all_back k count list left few counts rest split = elim (cases_lt k count) [
   | inl less ↦ sym (split ∙ ap (λ (l : List ℕ). take k list ++ l) (rest less) ∙ append-nil (take k list))

@@ -1,4 +1,4 @@
--- How single frames are allocated: from the processor's list.
+-- How single frames are allocated, from the CPU's list.
 use Rattle.std.specs.Prelude.{◌≡◌, ◌⊎◌, ℕ, ◌<◌, ◌≤◌, Bool, true, false, Result, Ok, Err}
 use Rattle.std.specs.Prelude.{List, [], ◌++◌, length}
 use Rattle.zone_blocks.specs.Areas.{HasNoneFrom}
@@ -20,7 +20,7 @@ use Rattle.mem_alloc.specs.Rounds.{FailsInRounds, SucceedsInRounds}
 abbrev pub HasNoFreeFrame : Side → Type 0
 HasNoFreeFrame now = HasNoneFrom now.machine.blocks 0
 
--- a batch of free frames comes to the end of the list, or all that are free where they are fewer; at least one
+-- a batch of free frames is added to the end of the list, or all free frames if they are fewer; at least one
 pub record LendsBatch (batch : ℕ) (way : Course Side) : Type 0 where
   pub frames : List ℕ
   pub some : 1 ≤ length frames
@@ -33,34 +33,33 @@ pub record LendsBatch (batch : ℕ) (way : Course Side) : Type 0 where
 abbrev pub LendsNoFrame : Course Side → Type 0
 LendsNoFrame way = Where HasNoFreeFrame Stays way
 
--- rounds of reclaim, each of which wants a page and is followed by a refill: free frames come to the list, or in no
--- round is any frame free
+-- rounds of reclaim, each of which wants one page and is followed by a refill: free frames are added to the list, or no
+-- round leaves a free frame
 abbrev pub RefillsInRounds : ℕ → Bool → Course Side → Type 0
 RefillsInRounds batch true way = SucceedsInRounds max_rounds 1 (LendsBatch batch) LendsNoFrame way
 RefillsInRounds batch false way = FailsInRounds max_rounds 1 LendsNoFrame way
 
--- free frames come to the list: at once, or where none is free, after rounds of reclaim
+-- free frames are added to the list: at once or, if none is free, after rounds of reclaim
 abbrev pub RefillsList : ℕ → Course Side → Type 0
 RefillsList batch way = LendsBatch batch way ⊎ Where HasNoFreeFrame (RefillsInRounds batch true) way
 
--- no frame is free, nor is one after any round of reclaim; then the processor's stock is drained
+-- no frame is free, not even after rounds of reclaim; then the CPU's stock is drained
 abbrev pub DrainsForNoFrame : ℕ → Course Side → Type 0
 DrainsForNoFrame batch way =
     Where HasNoFreeFrame (InTurn (RefillsInRounds batch false) (Where HasNoFreeFrame DrainsStock)) way
 
--- the processor's list holds no frame
+-- the CPU's list is empty
 abbrev pub HasEmptyList : Side → Type 0
 HasEmptyList now = now.cpu.list ≡ []
 
--- a frame stands on the processor's list: one did, or free frames come to it; or there is none
+-- the CPU's list has a frame: it had one before, or free frames are added to it; or no frame is free
 abbrev pub FillsList : Config → Result (Unit {0}) AllocFault → Course Side → Type 0
 FillsList sizes (Ok done) way =
     Where (λ now. 1 ≤ length now.cpu.list) Stays way ⊎ Where HasEmptyList (RefillsList sizes.batch) way
 FillsList sizes (Err NoFrames) way = Where HasEmptyList (DrainsForNoFrame sizes.batch) way
 FillsList sizes (Err other) way = ⊥
 
--- a page of the group is in the processor's stock, a frame on its list, and the front of the list is paid for with the
--- page
+-- The CPU's stock gets a page of the group, and its list a frame. The front of the list is paid for with that page.
 pub record GetsFrame (sizes : Config) (group frame : ℕ) (way : Course Side) : Type 0 where
   pub paid : Side
   pub filled : Side
@@ -71,7 +70,7 @@ pub record GetsFrame (sizes : Config) (group frame : ℕ) (way : Course Side) : 
   pub takes : PaysForFront group frame filled way.after
   pub steps_are : way.steps ≡ paying ++ (filling ++ take_front_steps way.before.cpu.number group)
 
--- the group isn't killed, and this is done for it
+-- the group isn't killed, and `Does` holds
 abbrev pub ForLiving : ℕ → (Course Side → Type 0) → Course Side → Type 0
 ForLiving group Does way = Where (λ now. is_killed now.machine.killed group ≡ false) Does way
 
@@ -79,8 +78,8 @@ ForLiving group Does way = Where (λ now. is_killed now.machine.killed group ≡
 abbrev pub RefusesKilled : ℕ → Course Side → Type 0
 RefusesKilled group way = Where (λ now. is_killed now.machine.killed group ≡ true) Stays way
 
--- Allocates one frame for the group, or tells why not: a charge is refused for good, or a page is paid but there is no
--- frame for it, or the group was killed before
+-- Allocates one frame for the group, or says why not. The group may have been killed before. A charge may be refused
+-- for good. Or a page is charged, but there is no frame for it.
 abbrev pub AllocatesFrame : Config → ℕ → Result ℕ AllocFault → Course Side → Type 0
 AllocatesFrame sizes group (Ok frame) way = ForLiving group (GetsFrame sizes group frame) way
 AllocatesFrame sizes group (Err (Over over)) way = ForLiving group (PaysForFrame sizes group (Err (Over over))) way

@@ -1,4 +1,4 @@
--- Victims that are killed if a limit has no room even after a reclaim.
+-- Which victims are killed if a limit has no room even after reclaim.
 use Rattle.std.specs.Prelude.{◌≡◌, ℕ, Bool, true, false, Option, Some, None, List, [], ◌∷◌, ◌++◌}
 use Rattle.group_tree.specs.Room.{has_room}
 use Rattle.group_charge.specs.Charges.{AreCharges, Ledger, current_of, with_oom_noted}
@@ -15,16 +15,15 @@ use Rattle.mem_reclaim.specs.Sets.{kill_set}
 use Rattle.mem_reclaim.specs.Victim.{IsVictim}
 use Rattle.mem_alloc.specs.Stepping.{Course, InTurn, MachineStays, course}
 
--- for how many pages of one charge groups are killed at most: those of an order of 3
+-- the most pages of one charge for which groups are killed: those of an order of 3
 abbrev pub most_killed_for : ℕ
 most_killed_for = 8
 
--- whether the limit of the group has room for so many pages more
+-- whether the limit of the group has room for this many more pages
 abbrev pub has_room_at : Ledger → ℕ → ℕ → Bool
 has_room_at ledger group pages = has_room ledger.groups (current_of ledger) group pages
 
--- the machine after it was noted that nothing but kills is left to keep the group's limit: as an event, and for whoever
--- reads the notes
+-- the machine after a note and an event `oom`: only kills are left to keep the group within its limit
 abbrev pub with_oom_noted_at : KnownMachine → ℕ → KnownMachine
 with_oom_noted_at machine group = record machine {
   ledger = with_oom_noted machine.ledger group;
@@ -36,14 +35,14 @@ abbrev pub IsAlive : Option ℕ → KnownMachine → Type 0
 IsAlive None machine = Unit {0}
 IsAlive (Some requester) machine = is_killed machine.killed requester ≡ false
 
--- the limit of the group has no room for so many pages, and the group that asks for them, if one does, isn't killed
+-- the limit of the group has no room for this many pages, and the group that asks for them, if any, isn't killed
 pub record IsWanting (requester : Option ℕ) (limited pages : ℕ) (machine : KnownMachine) : Type 0 where
   pub over : has_room_at machine.ledger limited pages ≡ false
   pub alive : IsAlive requester machine
 
--- One kill: the pages are wanted still, and the victim of the group is killed, with all that is killed with it, in a
--- machine that is consistent and whose usage is that of its accounts. These are marked as killed, no stock comes to be
--- held or changes its group, and of the kept units some are let go
+-- One kill. The pages are still wanted, the machine is consistent, and its charges add up. The victim of the group is
+-- killed with all groups that die with it. These are marked as killed. No stock is filled or changes its group, and
+-- some kept units are released.
 pub record KillsOne (requester : Option ℕ) (limited pages : ℕ) (killed : Killed) (way : Course KnownMachine) : Type 0 where
   pub wanting : IsWanting requester limited pages way.before
   pub chosen : IsVictim way.before limited (Some killed.victim)
@@ -56,15 +55,15 @@ pub record KillsOne (requester : Option ℕ) (limited pages : ℕ) (killed : Kil
   pub stocks : OnlyDrains way.before way.after
   pub keeps : OnlyLetsGo way.table way.before way.after
 
--- these victims are killed so, one after the other
+-- these victims are killed like this, one after the other
 abbrev pub KillsEach : Option ℕ → ℕ → ℕ → List Killed → Course KnownMachine → Type 0
 KillsEach requester limited pages [] way = MachineStays way
 KillsEach requester limited pages (killed ∷ others) way =
     InTurn (KillsOne requester limited pages killed) (KillsEach requester limited pages others) way
 
--- It is noted once as `oom` at the group, and then victims of it are killed, one after the other and each with all that
--- is killed with it, until its limit has room for so many pages, or the group that asks for them is killed, or no victim
--- is left
+-- One `oom` is noted at the group. Then victims of it are killed, one after the other, each with all groups that die
+-- with it. This ends when its limit has room for this many pages, when the group that asks for them is killed, or when
+-- no victim is left.
 pub record KillsUntilRoom (requester : Option ℕ) (limited pages : ℕ) (way : Course KnownMachine) : Type 0 where
   pub victims : List Killed
   pub killing : Run
@@ -74,7 +73,7 @@ pub record KillsUntilRoom (requester : Option ℕ) (limited pages : ℕ) (way : 
   pub ended : IsWanting requester limited pages way.after → IsVictim way.after limited None
   pub steps_are : way.steps ≡ note_oom_steps limited ++ killing
 
--- victims of the group are killed if its limit has no room for so many pages; if it has, nothing is done
+-- if the group's limit has no room for this many pages, victims of the group are killed; else nothing is done
 pub record KillsFor (requester : Option ℕ) (limited pages : ℕ) (way : Course KnownMachine) : Type 0 where
   pub room : has_room_at way.before.ledger limited pages ≡ true → MachineStays way
   pub over : has_room_at way.before.ledger limited pages ≡ false → KillsUntilRoom requester limited pages way

@@ -1,4 +1,4 @@
--- What holds of every charge that kills and of every refill, whatever function makes it.
+-- What holds of each charge that kills and of each refill, whichever function makes it.
 use Rattle.std.specs.Prelude.{◌≡◌, ℕ, ◌+◌, ◌≤◌, ◌⊎◌, true, false, Option, Some, None, List, ◌∷◌, ◌++◌, length}
 use Rattle.frame_word.specs.Seats.{KnownTable}
 use Rattle.stock_word.specs.Stock.{Words}
@@ -24,9 +24,10 @@ use Rattle.mem_alloc.specs.Kills.{IsAlive, KillsFor, has_room_at}
 use Rattle.mem_alloc.specs.NoRash.{IsChargedBelow, NoRashKill, has_oom_note}
 use Rattle.mem_alloc.specs.Stepping.{Course}
 
--- All else was tried for the limit of the group `limited` by these first steps of a call, and it has no room: they lead
--- to this machine, which is consistent; a step notes `oom` there; no stock of the subtree is held; of each clean unit that
--- the subtree still keeps, one of these steps is a freeze that missed; and this is the victim, with its head
+-- By these first steps of a call, everything else was tried for the limit of the group `limited`, which has no room.
+-- The steps lead to a consistent machine. One of them notes `oom` there, and each stock of the subtree is drained. For
+-- each clean unit that the subtree still keeps, one of these steps is a freeze that missed. `killed` is the victim for
+-- this limit, with its head.
 pub record WasLast (MayAsk : List Group → ℕ → ℕ → Type 0) (table : KnownTable) (start : KnownMachine) (cpu : KnownCpu)
     (tried : Run) (killed : Killed) : Type 0 where
   pub now : KnownMachine
@@ -45,8 +46,8 @@ pub record WasLast (MayAsk : List Group → ℕ → ℕ → Type 0) (table : Kno
   pub chosen : IsVictim now limited (Some killed.victim)
   pub head_is : IsHead now.ledger.groups limited killed
 
--- The group dies with a victim, by these steps of a call and a kill of it then: `tried` are those before the first kill of
--- the set, when all else was tried, and the groups killed since are a beginning of the set, with this group next
+-- The group dies with a victim, after these steps of a call. The steps `tried` came before the first kill of the set,
+-- when everything else was tried. The groups killed since are the beginning of the set, and this group is next.
 pub record ComesLast (MayAsk : List Group → ℕ → ℕ → Type 0) (table : KnownTable) (start : KnownMachine) (cpu : KnownCpu)
     (before : Run) (group : ℕ) : Type 0 where
   pub tried : Run
@@ -64,18 +65,19 @@ KillsComeLast MayAsk =
     (group : ℕ) → NoRashKill table MayAsk start cpu steps → steps ≡ before ++ made ∷ rest → made.0.action ≡ Kill group
     → ComesLast MayAsk table start cpu before group
 
--- so it is of each charge of so many pages to a group
+-- each kill of a charge comes last, for any group and any number of pages
 abbrev pub ChargesKillLast : Type 0
 ChargesKillLast = (group pages : ℕ) → KillsComeLast (IsChargedBelow group pages)
 
--- kills for a limit end when it has room for the pages, or the group that asks for them is killed, or no victim is left
+-- kills for a limit end when it has room for the pages, when the group that asks for them is killed, or when no victim
+-- is left
 abbrev pub KillsEndInTime : Type 0
 KillsEndInTime =
     (requester : Option ℕ) (limited pages : ℕ) (way : Course KnownMachine) → KillsFor requester limited pages way
     → (has_room_at way.after.ledger limited pages ≡ true)
     ⊎ ((¬ IsAlive requester way.after) ⊎ IsVictim way.after limited None)
 
--- a refill lists a whole batch, or no frame is free after it
+-- a refill adds a whole batch, or no frame is free after it
 abbrev pub RefillsAreWhole : Type 0
 RefillsAreWhole =
     (batch : ℕ) (way : Course Side) → LendsBatch batch way

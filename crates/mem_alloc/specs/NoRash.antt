@@ -1,4 +1,4 @@
--- No group is killed for a limit before everything else was tried. It is read from the steps of a call, and from the
+-- No group is killed for a limit before everything else was tried. This is read from a call's steps and from the
 -- machine to which they lead.
 use Rattle.std.specs.Prelude.{◌≡◌, ℕ, ◌≤◌, ◌==◌, ◌⊎◌, Bool, true, false, Some, List, [], ◌∷◌, ◌++◌}
 use Rattle.std.specs.List.{list_any}
@@ -26,18 +26,18 @@ use Rattle.mem_reclaim.specs.Victim.{IsVictim}
 use Rattle.mem_alloc.specs.Kills.{has_room_at, most_killed_for}
 use Rattle.mem_alloc.specs.Stepping.{CountsMisses, Course, course}
 
--- the step notes at the group that an allocation was about to fail at its limit
+-- the step notes that only kills are left at the group's limit (`oom`)
 abbrev pub is_oom_note : ℕ → Action → Bool
 is_oom_note group (NoteOom noted) = noted == group
 is_oom_note group action = false
 
--- one of the steps notes that at the group
+-- one of the steps is this note at the group
 abbrev pub has_oom_note : ℕ → Run → Bool
 has_oom_note group steps = list_any (λ entry. is_oom_note group entry.0.action) steps
 
--- The machine is the one that these steps of a call left, in what steps alone don't tell: each frame's misses are those
--- that were noted before the call and among the steps; and whoever is kept was kept for the same group when the call
--- began, and is as dirty as it was
+-- What these steps of a call say of the machine that they left. Each frame's misses are those from before the call and
+-- those among the steps. Each unit that is kept was kept for the same group when the call began, and is as dirty as it
+-- was then.
 pub record IsLeftBySteps (way : Course KnownMachine) : Type 0 where
   pub misses : CountsMisses way
   pub owners : (frame : ℕ) → HeadsKeptUnit way.after frame
@@ -45,18 +45,18 @@ pub record IsLeftBySteps (way : Course KnownMachine) : Type 0 where
   pub dirt : (frame : ℕ) → HeadsKeptUnit way.after frame
       → (link_at way.after.links frame).is_dirty ≡ (link_at way.before.links frame).is_dirty
 
--- which limit a call may kill for, and for how many pages: where it charges at most `most_killed_for` pages to a group,
--- the limit of the group or of one above it, for these pages
+-- For which limit and need a call that charges `pages` pages to a group may kill. The limit is that of the group or of
+-- an ancestor, the need is these pages, and they are at most `most_killed_for`.
 pub record IsChargedBelow (group pages : ℕ) (groups : List Group) (limited need : ℕ) : Type 0 where
   pub on_path : in_subtree groups limited group ≡ true
   pub need_is : need ≡ pages
   pub few : pages ≤ most_killed_for
 
--- After these steps of a call the victim may be killed, with all that is killed with it, for the limit of the group
--- `limited`: that has no room for the pages that are needed. A step notes that there as `oom`; no stock of the subtree is
--- held; since the call began a freeze of each clean unit that the subtree still keeps missed; the group is the victim;
--- and the head is that of what is killed with it. The machine is consistent, its usage that of its accounts, and it is
--- the one that the steps left
+-- After these steps of a call, the victim and all groups that die with it may be killed for the limit of the group
+-- `limited`. The limit has no room for the needed pages, and a step noted `oom` there. Each stock of the subtree is
+-- drained. Since the call began, a freeze of each clean unit that the subtree still keeps missed. `killed` is the
+-- victim for this limit, with its head. The machine is consistent, its charges add up, and it is the one that the steps
+-- left.
 pub record MayKill (MayAsk : List Group → ℕ → ℕ → Type 0) (way : Course KnownMachine) (killed : Killed) : Type 0 where
   pub limited : ℕ
   pub need : ℕ
@@ -77,10 +77,10 @@ abbrev pub begins_with_kill : Run → Bool
 begins_with_kill [] = false
 begins_with_kill (entry ∷ later) = is_kill entry.0.action
 
--- After these steps of a call, and before the others, the group may be killed. The first steps, `tried`, led to a machine
--- in which a victim might be killed, with all that is killed with it. The kill of the first of these groups comes right
--- after them. Of these groups, in their order, just those before this one were killed since; and the others, `left`, are
--- killed next, before any other group
+-- The group may be killed after the steps `before` of a call and before the steps `rest`. The first steps, `tried`, led
+-- to a machine in which a victim and all groups that die with it might be killed. The first kill of this set comes
+-- right after `tried`. Since then exactly the groups of the set before this one were killed, in order. The others of
+-- the set, `left`, are killed next, before any other group.
 pub record MayKillAfter (table : KnownTable) (MayAsk : List Group → ℕ → ℕ → Type 0) (start : KnownMachine)
     (cpu : KnownCpu) (before : Run) (group : ℕ) (rest : Run) : Type 0 where
   pub tried : Run
@@ -96,8 +96,8 @@ pub record MayKillAfter (table : KnownTable) (MayAsk : List Group → ℕ → �
   pub set_is : kill_set now killed ≡ kills_in since ++ group ∷ left
   pub others_die : kills_in rest ≡ left ++ later
 
--- Each kill among the steps of a call comes where its group may be killed: for each split of the list at a step that
--- kills a group, that may be killed after the steps before it, and before those after it
+-- Each kill among the steps of a call comes when its group may be killed. This holds for each place in the list: the
+-- kill there may follow the steps before it, and precede the steps after it.
 abbrev pub NoRashKill : KnownTable → (List Group → ℕ → ℕ → Type 0) → KnownMachine → KnownCpu → Run → Type 0
 NoRashKill table MayAsk start cpu steps =
     (before rest : Run) (made : Step × Answer) (group : ℕ)

@@ -1,4 +1,4 @@
--- What becomes of the machine where a limit has no room for a charge.
+-- What is done if a limit has no room for a charge.
 use Rattle.std.specs.Prelude.{◌≡◌, ℕ, ◌<◌, ◌≤◌, true, false, Option, Some, None, Result, Ok, Err}
 use Rattle.std.specs.Prelude.{List, [], ◌∷◌, ◌++◌}
 use Rattle.group_tree.specs.Groups.{limit_of}
@@ -21,27 +21,26 @@ use Rattle.mem_alloc.specs.Stepping.{Course, InTurn, OfMachineAlone, MachineStay
 -- what is killed, and whether there is room
 pub use Rattle.mem_alloc.specs.Kills.{IsWanting, KillsFor, has_room_at, most_killed_for}
 
--- the notes with one more, of the group's limit, if it has one: that it has no room for so many pages more
+-- the notes with one more, if the group has a limit: that the limit has no room for this many more pages
 abbrev pub limit_notes : Option ℕ → Ledger → ℕ → ℕ → List Note → List Note
 limit_notes None ledger group need notes = notes
 limit_notes (Some max) ledger group need notes = noted notes (Limit group max (current_of ledger group) need)
 
--- the machine after its group's limit was so noted
+-- the machine after this note of the group's limit
 abbrev pub with_limit_noted : KnownMachine → ℕ → ℕ → KnownMachine
 with_limit_noted machine group need = record machine {
   notes = limit_notes (limit_of machine.ledger.groups group) machine.ledger group need machine.notes;
 }
 
--- the machine after it was noted that so many pages more were about to take the group's usage over its limit: for
--- whoever reads the notes, and as an event
+-- the machine after a note and an event `max`: this many more pages were about to take the group's usage over its limit
 abbrev pub with_max_noted_at : KnownMachine → ℕ → ℕ → KnownMachine
 with_max_noted_at machine group pages = record machine {
   ledger = with_max_noted machine.ledger group;
   notes = limit_notes (limit_of machine.ledger.groups group) machine.ledger group pages machine.notes;
 }
 
--- it is noted that so many pages were about to take the group's usage over its limit, and then the stocks of its
--- subtree are drained, by these steps, whoever holds the lock
+-- It is noted that this many pages were about to take the group's usage over its limit. Then the stocks of its subtree
+-- are drained by these steps, whichever CPU holds the lock.
 pub record ClearsBelow (limited pages : ℕ) (way : Course KnownMachine) : Type 0 where
   pub drains : List Drain
   pub all : DrainsAllBelow limited way.table.cpus drains (with_max_noted_at way.before limited pages) way.after
@@ -49,14 +48,14 @@ pub record ClearsBelow (limited pages : ℕ) (way : Course KnownMachine) : Type 
   pub steps_are : way.steps ≡ note_max_steps limited ++ drain_stocks_steps drains
   pub runs : MakesForAny way.table way.before way.steps way.after
 
--- what is reclaimed from the group's subtree before this limit of it: nothing where it has none, else so many pages as
--- are missing, in at most `max_rounds` rounds
+-- what is reclaimed from the group's subtree for this limit: nothing if there is no limit, else as many pages as are
+-- missing, in at most `max_rounds` rounds
 abbrev pub ReclaimsBefore : Option ℕ → ℕ → ℕ → Reclaiming
 ReclaimsBefore None limited pages = GivesNothing
 ReclaimsBefore (Some limit) limited pages = MakesRounds limited (pages_missing limited pages limit) max_rounds
 
--- Clean units of the group's subtree come back in rounds, `given` pages in all, until its limit has room for so many
--- pages. Where it has none still, each clean unit that the subtree still keeps was tried, and missed
+-- Clean units of the group's subtree are freed in rounds, `given` pages in all, until its limit has room for this many
+-- pages. If it still has none, each clean unit that the subtree still keeps was tried and missed.
 pub record ReclaimsFor (limited pages : ℕ) (way : Course KnownMachine) : Type 0 where
   pub given : ℕ
   pub reclaims : ReclaimsBefore (limit_of way.before.ledger.groups limited) limited pages
@@ -65,25 +64,26 @@ pub record ReclaimsFor (limited pages : ℕ) (way : Course KnownMachine) : Type 
   pub keeps : Keeps way.table way.before way.after
   pub moves : Moves way.table way.before given way.steps way.after
 
--- what is done where reclaim makes no room: victims are killed for up to `most_killed_for` pages, and nobody for more
+-- what is done if reclaim makes no room: victims are killed for up to `most_killed_for` pages; for more, nobody is
+-- killed
 pub record KillsForFew (requester limited pages : ℕ) (way : Course KnownMachine) : Type 0 where
   pub few : pages ≤ most_killed_for → KillsFor (Some requester) limited pages way
   pub many : most_killed_for < pages → MachineStays way
 
--- The limit of the group `limited` had no room for so many pages: that is noted there as `max`, the stocks of its
--- subtree are drained, its units are reclaimed in rounds, and then its victims are killed
+-- The limit of the group `limited` had no room for this many pages. That is noted there as `max`, the stocks of its
+-- subtree are drained, its units are reclaimed in rounds, and then its victims are killed.
 abbrev pub RelievesLimit : ℕ → ℕ → ℕ → Course KnownMachine → Type 0
 RelievesLimit requester limited pages way =
     InTurn (ClearsBelow limited pages) (InTurn (ReclaimsFor limited pages) (KillsForFew requester limited pages)) way
 
--- the limit of the group `limited` has room for so many pages, and the requester, the group that asks for them, isn't
+-- the limit of the group `limited` has room for this many pages, and the requester, the group that asks for them, isn't
 -- killed
 pub record HasMadeRoom (requester limited pages : ℕ) (after : KnownMachine) : Type 0 where
   pub room : has_room_at after.ledger limited pages ≡ true
   pub alive : is_killed after.killed requester ≡ false
 
--- What the answer tells of the limit of the group `limited`, once it was relieved for the requester's pages. Ok: it has
--- room for them. Over: it has none still, and the requester isn't killed. RequesterKilled: the requester was killed
+-- What the answer says after the limit of the group `limited` was relieved for the requester's pages. Ok: the limit has
+-- room for them. Over: it still has none, and the requester isn't killed. RequesterKilled: the requester was killed.
 abbrev pub TellsRoom : ℕ → ℕ → ℕ → Result (Unit {0}) AllocFault → KnownMachine → Type 0
 TellsRoom requester limited pages (Ok done) after = HasMadeRoom requester limited pages after
 TellsRoom requester limited pages (Err (Over named)) after =
@@ -91,8 +91,8 @@ TellsRoom requester limited pages (Err (Over named)) after =
 TellsRoom requester limited pages (Err RequesterKilled) after = is_killed after.killed requester ≡ true
 TellsRoom requester limited pages (Err NoFrames) after = ⊥
 
--- A charge of so many pages to the group `requester` is refused at the group `limited`, the lowest of its path without
--- room. Its limit is relieved then, and this is the answer
+-- A charge of this many pages to the group `requester` is refused at the group `limited`, the lowest without room on
+-- its path. Then that limit is relieved, and this is the answer.
 pub record IsRefusedAt (requester limited pages : ℕ) (answer : Result (Unit {0}) AllocFault)
     (way : Course KnownMachine) : Type 0 where
   pub lowest : LacksRoom way.before requester pages limited
@@ -101,14 +101,14 @@ pub record IsRefusedAt (requester limited pages : ℕ) (answer : Result (Unit {0
   pub room : TellsRoom requester limited pages answer way.after
   pub steps_are : way.steps ≡ over_steps requester pages limited ++ relieving
 
--- a charge is refused at each of these groups, one after the other, and each has room for the pages then
+-- a charge is refused at each of these groups, one after the other, and each limit then gets room for the pages
 abbrev pub MakesRoom : ℕ → List ℕ → ℕ → Course KnownMachine → Type 0
 MakesRoom requester [] pages way = MachineStays way
 MakesRoom requester (limited ∷ others) pages way =
     InTurn (IsRefusedAt requester limited pages (Ok tt)) (MakesRoom requester others pages) way
 
--- A charge of so many pages to the requester may be refused first, at the groups `refused_at`, which have room then.
--- After that this is done
+-- A charge of this many pages to the requester may first be refused at the groups `refused_at`, which then get room.
+-- After that `Does` holds.
 pub record AfterRoom (requester pages : ℕ) (Does : Course Side → Type 0) (way : Course Side) : Type 0 where
   pub refused_at : List ℕ
   pub cleared : KnownMachine
@@ -118,11 +118,12 @@ pub record AfterRoom (requester pages : ℕ) (Does : Course Side → Type 0) (wa
   pub does : Does (course way.table (side cleared way.before.cpu) later way.after)
   pub steps_are : way.steps ≡ making ++ later
 
--- a charge is refused at some group, which has no room after that, or the requester was killed there: this is the cause
+-- a charge is refused at some group; after that the group still has no room, or the requester was killed: this is the
+-- cause
 abbrev pub IsRefusedAtSome : ℕ → ℕ → AllocFault → Course KnownMachine → Type 0
 IsRefusedAtSome requester pages cause way = (limited : ℕ) × IsRefusedAt requester limited pages (Err cause) way
 
--- a charge is refused for good, for this cause: other groups may have refused it before, and have room since
+-- a charge is refused for good, for this cause; other groups may have refused it before, and then got room
 abbrev pub IsRefusedFor : ℕ → ℕ → AllocFault → Course Side → Type 0
 IsRefusedFor requester pages cause way =
     AfterRoom requester pages (OfMachineAlone (IsRefusedAtSome requester pages cause)) way

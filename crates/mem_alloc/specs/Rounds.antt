@@ -9,9 +9,9 @@ use Rattle.mem_reclaim.specs.Passes.{Reclaims}
 use Rattle.mem_reclaim.specs.Staying.{Keeps, MissedAll}
 use Rattle.mem_alloc.specs.Stepping.{Course, InTurn, Stays, course}
 
--- One round: so many pages are wanted from the root's subtree, which is all groups, and `given` come back. Where they
--- are fewer, each clean unit that is still kept was tried, and missed. After that it is tried once more, also where
--- none came back
+-- One round: `want` pages are wanted from the root's subtree, which is all groups, and `given` are freed. If they are
+-- fewer than wanted, each clean unit that is still kept was tried and missed. Then the call tries once more, even if no
+-- page was freed.
 pub record MakesRound (want given : ℕ) (Tries : Course Side → Type 0) (way : Course Side) : Type 0 where
   pub reclaimed : KnownMachine
   pub reclaiming : Run
@@ -23,20 +23,20 @@ pub record MakesRound (want given : ℕ) (Tries : Course Side → Type 0) (way :
   pub tries : Tries (course way.table (side reclaimed way.before.cpu) trying way.after)
   pub steps_are : way.steps ≡ reclaiming ++ trying
 
--- a round in which pages came back
+-- a round that freed pages
 pub record GivesInRound (want : ℕ) (Tries : Course Side → Type 0) (way : Course Side) : Type 0 where
   pub given : ℕ
   pub some : 1 ≤ given
   pub round : MakesRound want given Tries way
 
--- the try fails in all rounds, of which there are at most so many; one that gave no page is the last
+-- the try fails in all rounds, of which there are at most this many; a round that freed no page is the last
 abbrev pub FailsInRounds : ℕ → ℕ → (Course Side → Type 0) → Course Side → Type 0
 FailsInRounds zero want Fails way = Stays way
 FailsInRounds (suc rounds) want Fails way =
     MakesRound want 0 Fails way ⊎ InTurn (GivesInRound want Fails) (FailsInRounds rounds want Fails) way
 
--- the try succeeds in one of the rounds, of which there are at most so many, and it fails in those before, each of
--- which gave pages
+-- The try succeeds in one of the rounds, of which there are at most this many. It fails in the rounds before, each of
+-- which freed pages.
 abbrev pub SucceedsInRounds : ℕ → ℕ → (Course Side → Type 0) → (Course Side → Type 0) → Course Side → Type 0
 SucceedsInRounds zero want Succeeds Fails way = ⊥
 SucceedsInRounds (suc rounds) want Succeeds Fails way =

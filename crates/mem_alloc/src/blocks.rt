@@ -1,4 +1,4 @@
-//! Blocks of frames: they come from the zone, and are kept units at once.
+//! Allocating blocks of frames: they are taken from the zone and are kept units at once.
 
 ghost use Rattle.std.specs.Prelude.{◌≡◌, ◌^◌, ◌≤◌, [], length, Err, IsTrue};
 ghost use Rattle.group_tree.specs.Groups.{has_group};
@@ -49,8 +49,8 @@ fn charge_block<N: BootName>(
     }
 }
 
-// No block is free: reclaims its pages from anywhere, and takes the block then, in rounds. The round that reclaims
-// nothing is the last.
+// No block is free: reclaims as many pages from all groups, in rounds, and tries to take the block after each. A round
+// that reclaims nothing is the last.
 fn take_in_rounds<N: BootName>(
     machine: &mut Machine<N>,
     tables: &Tables<N>,
@@ -80,8 +80,8 @@ fn take_in_rounds<N: BootName>(
     Err(AllocFault::NoFrames)
 }
 
-// Gives the processor's list back to the zone, and takes the block then, for which every limit has room. Where no block
-// is free still, its pages are reclaimed in rounds.
+// Returns the CPU's list to the zone, and then takes the block, for which every limit has room. If still no block is
+// free, its pages are reclaimed in rounds.
 fn take_after_drain<N: BootName>(
     machine: &mut Machine<N>,
     tables: &Tables<N>,
@@ -107,19 +107,19 @@ fn take_after_drain<N: BootName>(
     }
 }
 
-/// Allocates a block of this order for a group that is there, for the processor that is visited and was settled:
-/// 2^`order` pages are charged to the group, and the block is a kept unit of it at once, which goes by its head.
+/// Allocates a block of this order for an existing group, in the visit of this CPU, which has been settled. 2^`order`
+/// pages are charged to the group, and the block is a kept unit of it at once, named by its head.
 ///
-/// `RequesterKilled`: the group was killed before, and nothing changed. Else, if a limit has no room for the pages, the
-/// stocks of its subtree are drained, clean units of it are reclaimed in at most 16 rounds, and for up to 8 pages
-/// groups of it are killed, until there is room. `RequesterKilled` is also the answer if the group itself died so, as a
-/// victim or with one; else, if there is no room still, `Over` names the group of the limit.
+/// `RequesterKilled`: the group was killed before, and nothing changed. If a limit has no room for the pages, the
+/// stocks of its subtree are drained and its clean units reclaimed in at most 16 rounds. Then, for up to 8 pages,
+/// groups of it are killed until there is room. If the group itself died like this, as a victim or with one, the error
+/// is `RequesterKilled` too. Otherwise, if there is still no room, `Over` names the group of the limit.
 ///
-/// Where no block of the order or above is free, the processor's own list goes back to the zone, and the block is tried
-/// once more. Where there is none still, as many pages as it has are reclaimed from the units of all groups, and it is
-/// tried again: in at most 16 such rounds, of which one that gave no page is the last. `NoFrames`: there is none then;
-/// the pages went back, and the peaks and what was reclaimed stand. The zone has at most 1,048,576 frames and 64
-/// processors.
+/// If no block of the order or above is free, the CPU's own list is returned to the zone, and the call tries once more.
+/// If there still is none, it reclaims as many pages as the block has from the units of all groups, and tries again.
+/// There are at most 16 such rounds, and one that freed no page is the last. `NoFrames`: there is no block even then.
+/// The pages are uncharged, but the peaks and what was reclaimed stay. The zone has at most 1,048,576 frames and 64
+/// CPUs.
 pub fn alloc_block<N: BootName>(
     machine: &mut Machine<N>,
     tables: &Tables<N>,
@@ -140,7 +140,7 @@ pub fn alloc_block<N: BootName>(
     if machine.is_killed(group) {
         return Err(AllocFault::RequesterKilled);
     }
-    let _pages = order.frames(); // For the clauses.
+    let _pages = order.frames(); // Called for its contract.
     machine.see_room();
     match charge_block(machine, tables, cpu, group, order) {
         Ok(head) => Ok(head),

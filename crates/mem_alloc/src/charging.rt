@@ -1,4 +1,4 @@
-//! Pages charged for single frames: they come through the processor's stock.
+//! Charging pages for single frames, through the CPU's stock.
 
 ghost use Rattle.std.specs.Prelude.{◌≡◌, ◌↔◌, [], IsTrue, false, OnOk};
 ghost use Rattle.zone_sizes.specs.Config.{IsValidConfig};
@@ -18,7 +18,7 @@ use mem_machine::Machine;
 use stock_word::Stock;
 use zone_sizes::config::Config;
 
-// Whether the processor's stock holds a page of the group, as one look shows.
+// Whether the CPU's stock has a page of the group, as one look shows.
 fn holds_page<N: BootName>(
     machine: &mut Machine<N>,
     tables: &Tables<N>,
@@ -36,7 +36,7 @@ fn holds_page<N: BootName>(
     }
 }
 
-// Charges one page to the group and fills the processor's stock with it, as soon as every limit has room.
+// Charges one page to the group and fills the CPU's stock with it, as soon as every limit has room.
 fn fill_one<N: BootName>(
     machine: &mut Machine<N>,
     tables: &Tables<N>,
@@ -59,8 +59,8 @@ fn fill_one<N: BootName>(
     }
 }
 
-// Charges pages to the group and fills the processor's stock with them, which is drained: as many as it takes at once
-// where every limit has room for them, else one.
+// Charges pages to the group and fills the CPU's drained stock with them: `sizes.stock` pages if every limit has room
+// for them, else one.
 fn charge_frame<N: BootName>(
     machine: &mut Machine<N>,
     tables: &Tables<N>,
@@ -86,7 +86,7 @@ fn charge_frame<N: BootName>(
     fill_one(machine, tables, cpu, group)
 }
 
-// Sees to it that the processor's stock holds a page of the group.
+// Makes sure that the CPU's stock has a page of the group.
 pub(crate) fn pay_for_frame<N: BootName>(
     machine: &mut Machine<N>,
     tables: &Tables<N>,

@@ -1,4 +1,4 @@
-//! Single frames: they come from the processor's list.
+//! Allocating single frames, from the CPU's list.
 
 ghost use Rattle.std.specs.Prelude.{◌≡◌, ◌+◌, ◌<◌, ◌≤◌, [], ◌∷◌, length};
 ghost use Rattle.std.specs.Prelude.{IsTrue, false, MatchResult, OnOk, IfOk, OnErr};
@@ -21,8 +21,8 @@ use mem_machine::Machine;
 use mem_reclaim::MAX_ROUNDS;
 use zone_sizes::config::Config;
 
-// No frame is free: reclaims one page from anywhere, and lends free frames to the processor's list then, in rounds. The
-// round that reclaims nothing is the last. Whether frames came to the list.
+// No frame is free: reclaims one page from all groups, in rounds, and lends free frames to the CPU's list after each. A
+// round that reclaims nothing is the last. Returns whether frames were added to the list.
 fn refill_in_rounds<N: BootName>(
     machine: &mut Machine<N>,
     tables: &Tables<N>,
@@ -48,8 +48,8 @@ fn refill_in_rounds<N: BootName>(
     false
 }
 
-// Sees to it that a frame stands on the processor's list. Where none is free, also after rounds of reclaim, the
-// processor's stock is drained.
+// Makes sure that the CPU's list has a frame. If none is free, even after rounds of reclaim, the CPU's stock is
+// drained.
 fn fill_list<N: BootName>(
     machine: &mut Machine<N>,
     tables: &Tables<N>,
@@ -81,20 +81,19 @@ fn fill_list<N: BootName>(
     Err(AllocFault::NoFrames)
 }
 
-/// Allocates one frame for a group that is there, for the processor that is visited and was settled: it is the front of
-/// the processor's list, paid for with a page of its stock, and is fresh then.
+/// Allocates one frame for an existing group, in the visit of this CPU, which has been settled. The frame is the front
+/// of the CPU's list, is paid for with a page of its stock, and is fresh then.
 ///
-/// `RequesterKilled`: the group was killed before, and nothing changed. Else, if the stock holds no page of the group, it
-/// is drained and filled with `sizes.stock` pages if every limit has room for them, else with one page. If a limit has
-/// no room for that one, the stocks of its subtree are drained, clean units of it are reclaimed in at most 16 rounds,
-/// and groups of it are killed, until there is room. `RequesterKilled` is also the answer if the group itself died so, as
-/// a victim or with one; else, if there is no room still, `Over` names the group of the limit.
+/// `RequesterKilled`: the group was killed before, and nothing changed. If the stock has no page of the group, it is
+/// drained. Then it is filled with `sizes.stock` pages if every limit has room for them, else with one page. If a limit
+/// has no room for that one page, the stocks of its subtree are drained and its clean units reclaimed in at most 16
+/// rounds. Then groups of it are killed until there is room. If the group itself died like this, as a victim or with
+/// one, the error is `RequesterKilled` too. Otherwise, if there is still no room, `Over` names the group of the limit.
 ///
-/// Where the list is empty, up to `sizes.batch` free frames come to it. Where none is free, a page is reclaimed from
-/// the units of all groups, and free frames come to the list then: in at most 16 such rounds, of which one that gave
-/// no page is the last. `NoFrames`: none is free still, and the stock is drained again. The peaks, the notes, the
-/// drained stocks, the kills and what was reclaimed stand after a refusal. The zone has at most 1,048,576 frames and 64
-/// processors.
+/// If the list is empty, up to `sizes.batch` free frames are added to it. If none is free, a page is reclaimed from the
+/// units of all groups, and then free frames are added. There are at most 16 such rounds, and one that freed no page is
+/// the last. `NoFrames`: none is free even then, and the stock is drained again. After a refusal the peaks, the notes,
+/// the drains, the kills and what was reclaimed stay. The zone has at most 1,048,576 frames and 64 CPUs.
 pub fn alloc_frame<N: BootName>(
     machine: &mut Machine<N>,
     tables: &Tables<N>,

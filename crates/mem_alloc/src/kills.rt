@@ -1,4 +1,4 @@
-//! Kills: what is left to do where a limit has no room, and reclaim made none.
+//! Kills: the last thing to do if a limit has no room and reclaim made none.
 
 ghost use Rattle.std.specs.Prelude.{◌≡◌, ◌↔◌, IsTrue};
 ghost use Rattle.group_tree.specs.Groups.{has_group};
@@ -13,11 +13,11 @@ use kill_notes::note::Note;
 use mem_machine::Machine;
 use mem_reclaim::kill;
 
-// For how many pages groups are killed at most: those of an order of 3. Linux kills nobody for more either
+// The most pages for which groups are killed: those of an order of 3. Linux kills nobody for more either
 // (`PAGE_ALLOC_COSTLY_ORDER`).
 const MOST_KILLED_FOR: u32 = 8;
 
-// Whether the limit of the group has room for so many pages more.
+// Whether the limit of the group has room for this many more pages.
 pub(crate) fn has_room_at(charges: &Charges, group: GroupId, pages: u32) -> bool
     requires { IsTrue (has_group charges.now.groups group) }
     ensures { result ≡ has_room_at charges.now group pages }
@@ -28,8 +28,8 @@ pub(crate) fn has_room_at(charges: &Charges, group: GroupId, pages: u32) -> bool
     }
 }
 
-// Whether a victim of the group is to be killed: its limit has no room for so many pages more, and the group that asks
-// for them, if one does, isn't killed.
+// Whether a victim of the group is to be killed: its limit has no room for this many more pages, and the group that
+// asks for them, if any, isn't killed.
 fn is_wanting<N: BootName>(
     machine: &Machine<N>,
     requester: &Option<GroupId>,
@@ -45,12 +45,12 @@ fn is_wanting<N: BootName>(
     }
 }
 
-/// Kills for a limit: if the limit of `limited` has no room for so many pages more, that is noted once as `oom` at
-/// it, and then victims of it are killed, one after the other, until it has room, or the group that asks for the
-/// pages is killed, or no victim is left. All groups that are killed with a victim (memory.oom.group) die before the
-/// next look at the limit. For `requester` None no group asks, as for a limit that is written: with 0 `pages` there is
-/// room then if the usage is at most the limit. If there is room, nothing is done. Modelled on what Linux does at a
-/// limit that it can't keep otherwise (cgroup-v2.rst, memory.max, memory.oom.group and memory.events).
+/// Kills for a limit. If the limit of `limited` has no room for this many more pages, that is noted once as `oom` at
+/// it. Then victims of it are killed, one after the other, until it has room, the group that asks for the pages is
+/// killed, or no victim is left. All groups that die with a victim (memory.oom.group) are killed before the next look
+/// at the limit. If `requester` is None, no group asks, as when a limit is written: with 0 `pages` there is room if the
+/// usage is at most the limit. If there is room, nothing is done. Modelled on what Linux does at a limit that it can't
+/// keep otherwise (cgroup-v2.rst, memory.max, memory.oom.group and memory.events).
 pub fn kill_for<N: BootName>(
     machine: &mut Machine<N>,
     tables: &Tables<N>,
@@ -67,9 +67,9 @@ pub fn kill_for<N: BootName>(
     machine.note_oom(limited);
     machine.note(Note::Oom { group: limited });
     'kills: loop {
-        let _spots = machine.spots(); // For the clauses.
+        let _spots = machine.spots(); // Called for its contract.
         let charges = machine.charges();
-        let _tree = charges.tree(); // For the clauses.
+        let _tree = charges.tree(); // Called for its contract.
         if !is_wanting(machine, &requester, limited, pages) {
             return;
         }
@@ -79,7 +79,7 @@ pub fn kill_for<N: BootName>(
     }
 }
 
-// Kills for a limit as `kill_for` does, where `requester` asks for at most 8 pages; for more, nobody is killed.
+// Kills for a limit as `kill_for` does, if `requester` asks for at most 8 pages; for more, nobody is killed.
 pub(crate) fn kill_for_few<N: BootName>(
     machine: &mut Machine<N>,
     tables: &Tables<N>,

@@ -1,9 +1,8 @@
-//! Allocations that a processor makes under the zone's lock: pages are charged to a group, and frames are taken for it.
-//! One that is refused gives no frame and charges no page; what was noted, drained, reclaimed and killed for it
-//! stands.
+//! Allocations that a CPU makes under the zone's lock: pages are charged to a group, and frames are taken for it. A
+//! refused allocation takes no frame and charges no page; what was noted, drained, reclaimed and killed for it stays.
 //!
-//! A line that ends in 'For the clauses' calls a reader for what its contract tells, and changes nothing: what always
-//! holds of a type's values is known only where one of its calls says it.
+//! A line that ends in 'Called for its contract' calls a reader and changes nothing. A proof knows the invariant of a
+//! type only from the contract of such a call.
 #![tactic(auto)]
 
 mod blocks;

@@ -1,4 +1,4 @@
-//! Reclaim where no frame is free: from the units of all groups.
+//! Reclaim from the units of all groups, if no frame is free.
 
 ghost use Rattle.std.specs.Prelude.{◌<◌};
 ghost use Rattle.mem_reclaim.specs.Moves.{Leads};
@@ -10,8 +10,8 @@ use group_tree::group::GroupId;
 use mem_machine::Machine;
 use mem_reclaim::reclaim;
 
-// Reclaims so many pages from the units of all groups, and tells how many came back. Where that is fewer, each clean
-// unit that is still kept was tried, and missed.
+// Reclaims `want` pages from the units of all groups, and returns how many were freed. If they are fewer, each clean
+// unit that is still kept was tried and missed.
 pub(crate) fn reclaim_anywhere<N: BootName>(
     machine: &mut Machine<N>,
     tables: &Tables<N>,
@@ -21,6 +21,6 @@ pub(crate) fn reclaim_anywhere<N: BootName>(
     ensures missed { result < want → MissedAll 0 machine.old machine.new }
     ensures keeps { Keeps N.frames machine.old machine.new }
 {
-    let _tree = machine.charges().tree(); // For the clauses.
+    let _tree = machine.charges().tree(); // Called for its contract.
     reclaim(machine, tables, GroupId::root(), want).pages
 }

@@ -1,4 +1,4 @@
-//! What is done where a limit has no room for a charge.
+//! What is done if a limit has no room for a charge.
 
 ghost use Rattle.std.specs.Prelude.{◌≡◌, ◌<◌, IsTrue};
 ghost use Rattle.group_tree.specs.Bounds.{most_groups};
@@ -14,7 +14,7 @@ use kill_notes::note::Note;
 use mem_machine::Machine;
 use mem_reclaim::make_rounds;
 
-// Reclaims in rounds from the subtree of the group, until its limit has room for so many pages.
+// Reclaims in rounds from the subtree of the group, until its limit has room for this many pages.
 fn reclaim_for<N: BootName>(
     machine: &mut Machine<N>,
     tables: &Tables<N>,
@@ -29,8 +29,8 @@ fn reclaim_for<N: BootName>(
     }
 }
 
-/// Notes that the limit of the group, if it has one, has no room for `need` pages more; 0 where a limit was written
-/// below the usage. The note is for whoever reads the notes of a command; nothing else changes.
+/// Notes that the limit of the group, if it has one, has no room for `need` more pages; 0 if a limit was written below
+/// the usage. Only readers of a command's notes see it; nothing else changes.
 pub fn note_limit<N: BootName>(machine: &mut Machine<N>, group: GroupId, need: u32)
     requires { IsTrue (has_group machine.old.ledger.groups group) }
     ensures { machine.new ≡ with_limit_noted machine.old group need }
@@ -46,12 +46,12 @@ pub fn note_limit<N: BootName>(machine: &mut Machine<N>, group: GroupId, need: u
     }
 }
 
-// Relieves the limit of `limited`, the lowest on the path of `requester` without room for so many pages. That is noted
-// (`max`), and the stocks of the subtree are drained. Where there is no room still, clean units of the subtree are
-// reclaimed, in at most 16 rounds. Where that makes none either, for up to 8 pages, an order of at most 3, `oom` is
-// noted, and victims of the subtree are killed until there is room. If no victim is left, or for more pages, the charge
-// is refused as `Over`; if the requester was killed, as a victim or with one, as `RequesterKilled`, once all groups that
-// die with that victim were killed. What was done stands after that.
+// Relieves the limit of `limited`, the lowest on the path of `requester` without room for this many pages. That is
+// noted (`max`), and the stocks of the subtree are drained. If there is still no room, clean units of the subtree are
+// reclaimed, in at most 16 rounds. If that makes none either, and the charge is of up to 8 pages (an order of at most
+// 3), `oom` is noted. Then victims of the subtree are killed until there is room. If no victim is left, or for more
+// pages, the charge is refused as `Over`. If the requester was killed, as a victim or with one, it is refused as
+// `RequesterKilled`, after all groups that die with that victim were killed. All that was done stays.
 pub(crate) fn make_room<N: BootName>(
     machine: &mut Machine<N>,
     tables: &Tables<N>,
@@ -64,7 +64,7 @@ pub(crate) fn make_room<N: BootName>(
     ensures room { TellsRoom requester limited pages result machine.new }
     ensures below { limited < most_groups }
 {
-    let _number = limited.number(); // For the clauses.
+    let _number = limited.number(); // Called for its contract.
     note_limit(machine, limited, pages);
     machine.note_max(limited);
     machine.drain_stocks(tables, limited);

@@ -1,4 +1,4 @@
--- A page of the visited processor is reported and absorbed: its book and the books of its group fall by one. Serves `settle`.
+-- A page of the visited CPU is reported and absorbed: its book and the books of its group fall by one. Serves `settle`.
 use Rattle.std.proofs.Common.{◌≡◌, ℕ, ◌+◌, ◌-◌, ◌<◌, ◌≤◌, ◌==◌, cond, Some, refl, sym, ap, ◌∙◌, subst, arith, inl, inr, eq-eqb}
 use Rattle.std.proofs.lemmas.Bool.{cases_eq, ne_eqb, cond-true, cond-false}
 use Rattle.std.proofs.lemmas.Option.{none-some}
@@ -19,7 +19,7 @@ use Rattle.mem_machine.specs.Local.{number_or_0}
 use Rattle.mem_machine.specs.Settling.{with_page_absorbed}
 use Rattle.mem_machine.proofs.Draining.{booked_is, counts_own, counts_other}
 
--- the group of a stock, where it has one, is one of 64
+-- the group of a stock, if it has one, is one of 64
 pub group_fits : (stock : Stock) (g : ℕ) → HasWord stock → group_of stock ≡ Some g → (g ≤ 63) × (number_or_0 (group_of stock) ≡ g)
 group_fits NoGroup g is e = absurd (none-some g e)
 group_fits (HeldBy h n) g is e = let same : h ≡ g = ap number_or_0 e in let low = is.0 in (omega (arith, same, low), same)
@@ -66,7 +66,7 @@ module _ (view : StockView) (p : ℕ) where
       (let a = bounded p in omega (arith, a)) (λ j ne. bounded j) q in
       omega (arith, read, at)
 
--- the books of the processor's group have one page less, and those of the other groups as many
+-- the books of the CPU's group have one page less, and those of the other groups as many
 pub books_fall : (t : KnownTable) (stock : Seated) (p g : ℕ) → p ≤ t.cpus → (account_of stock.view p).group ≡ Some g → (account_of stock.view p).unabsorbed ≡ 0
     → 1 ≤ (account_of stock.view p).book → (h : ℕ) → pages_booked t stock h ≡ pages_booked t (with_page_absorbed stock p) h + cond (h == g) 1 0
 books_fall t stock p g inside group noted some h =

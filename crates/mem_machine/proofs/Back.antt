@@ -1,4 +1,4 @@
--- A back frame's unit comes back. Serves `return_one`.
+-- A back frame's unit is freed. Serves `return_one`.
 use Rattle.std.proofs.Common.{true, false, ◌≡◌, ℕ, ◌+◌, ◌^◌, ◌<◌, ◌≤◌, Bool, Option, Some, None, List, ◌∷◌, length, get_or}
 use Rattle.std.proofs.Common.{refl, sym, ap, ◌∙◌, subst, arith}
 use Rattle.std.specs.Prelude.{is_some, IfSome}
@@ -40,7 +40,7 @@ use Rattle.mem_machine.proofs.Followed.{follows_still}
 use Rattle.mem_machine.proofs.Counted.{comes_back}
 use Rattle.group_charge.proofs.CallerLemmas.{uncharge_peaks, uncharge_events}
 
--- what is told of a back frame that was handed over
+-- what is known of a back frame that was handed over
 pub record WasBack (t : KnownTable) (m : KnownMachine) (f : ℕ) : Type 0 where
   pub inside : f < t.frames
   pub nothing : HasNothingOf m.frame_seat f

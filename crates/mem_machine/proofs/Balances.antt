@@ -1,4 +1,4 @@
--- The counts of what came back balance. Serves `release`, `evict`, `drop_one` and `return_one`.
+-- The counts of freed units balance. Serves `release`, `evict`, `drop_one` and `return_one`.
 use Rattle.std.proofs.Common.{◌≡◌, ℕ, ◌+◌, arith}
 use Rattle.std.specs.Prelude.{min}
 use Rattle.group_tree.specs.Room.{max_count}

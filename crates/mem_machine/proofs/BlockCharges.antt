@@ -1,4 +1,4 @@
--- What is charged to each group where a block's frames become a unit of one. Serves all calls that charge a unit.
+-- What is charged to each group after a block's frames become its unit. Serves all calls that charge a unit.
 use Rattle.std.proofs.Common.{◌≡◌, ℕ, zero, suc, ◌+◌, ◌^◌, ◌≤◌, ◌<◌, ◌==◌, Bool, true, false, cond, Option, Some, None, List, length}
 use Rattle.std.proofs.Common.{refl, sym, ap, ◌∙◌, arith, inl, inr, eq-eqb}
 use Rattle.std.proofs.lemmas.Bool.{cases_eq, ne_eqb}
@@ -104,7 +104,7 @@ module _ (old new : List Spot) (g : ℕ) (b : Block) (placed : PlacesUnit g b ol
     | inr out ↦ same_out f out.0
   ]
 
-  -- the group has so many frames more as the block has, and every other group as many as it had
+  -- the group has as many more frames as the block has, and every other group has as many as before
   pub charges_rise : frames_charged new h ≡ frames_charged old h + cond (h == g) (2 ^ b.order) 0
   charges_rise =
       let long : sum_to (length new) after ≡ sum_to (length old) after = ap (λ (n : ℕ). sum_to n after) placed.frames in

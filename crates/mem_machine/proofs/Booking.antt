@@ -22,7 +22,7 @@ use Rattle.mem_machine.proofs.Draining.{booked_less, booked_within, charged_ther
 use Rattle.mem_machine.proofs.Prepaying.{booked_more}
 use Rattle.mem_machine.proofs.First.{repeated}
 
--- ---- the books of a group, where one processor has another account
+-- ---- the books of a group, after one CPU's account changed
 
 module _ (t : KnownTable) (stock : Seated) (q : ℕ) (b : Account) (inside : q ≤ t.cpus) where
   abbrev changed : Seated
@@ -78,7 +78,7 @@ counted_else t w stock new sums g x are seat inside here others = record {
   ];
 }
 
--- one group has so many pages less
+-- one group has this many pages less
 pub counted_less : (t : KnownTable) (w : Words) (stock new : Seated) (sums : List ℕ) (g k x : ℕ) → AreBooked t w stock sums → SameSeat stock new → g < 64
     → ((h : ℕ) → pages_booked t stock h ≡ pages_booked t new h + cond (h == g) k 0) → x + k ≡ pages_booked t stock g
     → AreBooked t w new (slice_set sums g x)
@@ -87,7 +87,7 @@ counted_less t w stock new sums g k x are seat inside less is =
     (let a = less g in let z : cond (g == g) k 0 ≡ k = cond-true (g == g) k 0 (eq-eqb g g refl) in omega (arith, a, z, is))
     (λ h ne. let a = less h in let z : cond (h == g) k 0 ≡ 0 = cond-false (h == g) k 0 (ne_eqb h g ne) in omega (arith, a, z))
 
--- one group has so many pages more
+-- one group has this many pages more
 pub counted_more : (t : KnownTable) (w : Words) (stock new : Seated) (sums : List ℕ) (g k x : ℕ) → AreBooked t w stock sums → SameSeat stock new → g < 64
     → ((h : ℕ) → pages_booked t new h ≡ pages_booked t stock h + cond (h == g) k 0) → x ≡ pages_booked t stock g + k
     → AreBooked t w new (slice_set sums g x)
@@ -182,11 +182,11 @@ module _ (t : KnownTable) (w : Words) (m : Seated) (sums : List ℕ) (are : AreB
 
   module _ (q g k : ℕ) (inside : q ≤ t.cpus) (fits : g < 64) (group : (account_of m.view q).group ≡ Some g) (r : ℕ)
       (read : r ≡ get_or sums g 0) where
-    -- what is booked to one processor is in its group's count
+    -- what is booked to one CPU is in its group's count
     pub within_count : k ≤ (account_of m.view q).book → k ≤ r
     within_count enough = let a = booked_within t m q g inside group in let b = are.each g fits in omega (arith, a, b, read, enough)
 
-    -- so many pages are drained, by however many steps
+    -- this many pages are drained, by any number of steps
     pub after_drain : k ≤ (account_of m.view q).book → (s : ℕ) (n : Seated) → n ≡ with_view m (with_steps s (draining m.view q k))
         → AreBooked t w n (slice_set sums g (r - k))
     after_drain enough s n is =
@@ -217,7 +217,7 @@ module _ (t : KnownTable) (w : Words) (m : Seated) (sums : List ℕ) (are : AreB
       (λ h. ap (λ (x : Seated). pages_booked t x h) is ∙ filled_books t m q g k inside empty h)
       (omega (arith, b, read))
 
--- the group of the stock stays where a page is noted
+-- the group of the stock stays when a page is noted
 pub noted_group : (m n : Seated) (p k : ℕ) → n ≡ with_view m (noting m.view p k) → (account_of n.view p).group ≡ (account_of m.view p).group
 noted_group m n p k is =
     ap (λ (x : Seated). (account_of x.view p).group) is

@@ -1,5 +1,5 @@
--- The machine's counts follow lists of steps in which units end and come back. Serves the `steps` clauses of `drain_list`, `settle`,
--- `let_go` and `evict`.
+-- The machine's counts follow lists of steps in which units end and are freed. Serves the `steps` clauses of
+-- `drain_list`, `settle`, `let_go` and `evict`.
 use Rattle.std.proofs.Common.{◌≡◌, ℕ, Bool, false, cond, refl, sym, ap, ◌∙◌}
 use Rattle.step_rules.specs.declared.phase.Stage.TheVariants.{Ended}
 use Rattle.step_rules.specs.declared.phase.Phase.{Phase}
@@ -16,7 +16,7 @@ use Rattle.mem_machine.specs.Counts.{with_drop}
 use Rattle.mem_machine.specs.Counting.{counts_after, is_back_passing, with_one_put_last, with_one_returned}
 
 module _ (s : State) (f : ℕ) (x : Phase) (is : s.phases f ≡ x) where
-  -- the phases once the frame was passed back
+  -- the phases after the frame was passed back
   abbrev passed : ℕ → Phase
   passed = with_at s.phases f (passed_back (s.phases f))
 

@@ -125,7 +125,7 @@ booked_less h g k a group enough =
 booked_no_group : (h : ℕ) (a : Account) → a.group ≡ None → booked h a ≡ 0
 booked_no_group h a none = booked_is h a 0 (ap (count_of h) none)
 
--- what is booked to a processor's stock is charged to its group
+-- what is booked to a CPU's stock is charged to its group
 pub booked_within : (t : KnownTable) (stock : Seated) (q g : ℕ) → q ≤ t.cpus → (account_of stock.view q).group ≡ Some g
     → (account_of stock.view q).book ≤ pages_booked t stock g
 booked_within t stock q g inside group =
@@ -211,7 +211,7 @@ and_true : (b : Bool) → (b && true) ≡ b
 and_true true = refl
 and_true false = refl
 
--- a processor's part whose stock is drained
+-- a CPU's part whose stock is drained
 part_drained : (l f b : List ℕ) (a : Account) (n : ℕ) → part_with l f b (record a { book = a.book - n; filled = false }) ≡ drained (part_with l f b a) n
 part_drained l f b a n =
     let pages : a.book - n - length f - a.unabsorbed ≡ a.book - length f - a.unabsorbed - n = omega arith in
@@ -260,11 +260,11 @@ back_at g x k is h = elim (cases_eq h g) [
   | inr ne ↦ at_other (with_at nothing g x) g (with_at nothing g x g - k) h ne ∙ at_other nothing g x h ne
 ]
 
--- the pages that were pending for a group are taken back
+-- the pages that were pending for a group are ungranted
 pub pending_back : (g x k : ℕ) → x ≡ k → with_at (with_at nothing g x) g (with_at nothing g x g - k) ≡ nothing
 pending_back g x k is = λ i. λ h. back_at g x k is h i
 
--- pages that are pending alone are taken back
+-- only pending pages are ungranted
 ungrants : (p : ℕ) (s : State) (o : Option ℕ) (k : ℕ) → may_zone_act s.hold 0 ≡ true → ((g : ℕ) → o ≡ Some g → 1 ≤ k → has_group s.groups g ≡ true)
     → IsLocalRun p (record s { pending = with_more nothing o k }) (ungrant_steps o k) (record s { pending = nothing })
 ungrants p s None k acts there = refl
@@ -316,7 +316,7 @@ drain_runs t m n steps q k is some inside there c =
       counts = drain_counts s m.counts (stock_group m q) q k;
     })
 
--- what a drain by so many steps leaves, of the machine as it was seen before
+-- what a drain by this many steps leaves, of the machine as it was seen before
 pub record Drained (t : KnownTable) (w : Words) (m now : KnownMachine) (count q k : ℕ) (l : Ledger) (stock : Seated) : Type 0 where
   pub consistent : IsConsistent t w (record m { ledger = l; stock_seat = stock })
   pub drains : DrainsBy count q k now (record m { ledger = l; stock_seat = stock })
@@ -351,7 +351,7 @@ drained_all t w m now steps q k same ok facts some inside enough before o of non
 pub some_not_none : (g k : ℕ) → Some g ≡ None → k ≡ 0
 some_not_none g k e = absurd (none-some g (sym e))
 
--- where no page was in it the charges stay
+-- if it had no page, the charges stay
 pub drained_none : (l : Ledger) (o : Option ℕ) (k : ℕ) → k ≡ 0 → l ≡ uncharged l o k
 drained_none l o k none = sym (ap (uncharged l o) none ∙ uncharged_none l o)
 

@@ -1,5 +1,5 @@
--- The stocks of a subtree, or of a group, are drained, one processor after the other. Serves `drain_if_below`, `drain_if_own` and the
--- loops of `drain_stocks` and `drain_group_stocks`.
+-- The stocks of a subtree, or of a group, are drained, one CPU after the other. Serves `drain_if_below`, `drain_if_own`
+-- and the loops of `drain_stocks` and `drain_group_stocks`.
 use Rattle.std.proofs.Common.{◌≡◌, ℕ, ◌+◌, ◌-◌, ◌*◌, ◌≤◌, ◌==◌, ◌&&◌, Bool, true, false, cond, Option, Some, None, List, [], ◌∷◌, ◌++◌, length, suc, refl}
 use Rattle.std.proofs.Common.{sym, ap, ◌∙◌, subst, inl, inr, arith}
 use Rattle.std.specs.Prelude.{not, is_some}
@@ -62,7 +62,7 @@ module _ (test : List Group → Option ℕ → Bool) (q : ℕ) (x n : KnownMachi
       ∙ ap (λ (a : Account). a.filled) (drained_at x.stock_seat.view q e.pages)
   below_filled (e ∷ f ∷ more) d below = absurd d
 
--- ---- one processor's stock
+-- ---- one CPU's stock
 
 -- it is of the subtree, and is drained
 pub drained_one : (t : KnownTable) (test : List Group → Option ℕ → Bool) (q pages : ℕ) (m n : KnownMachine) → test m.ledger.groups (stock_group m q) ≡ true
@@ -161,7 +161,7 @@ looked_never t m now same test q of none_chosen stock is =
 
 -- ---- all of them
 
--- what the loop of `drain_stocks` keeps after k processors
+-- what the loop of `drain_stocks` keeps after k CPUs
 pub record DrainedSoFar (t : KnownTable) (test : List Group → Option ℕ → Bool) (k pages : ℕ) (m n : KnownMachine) : Type 0 where
   pub drains : List Drain
   pub all : DrainsAllIf test k drains m n

@@ -1,4 +1,4 @@
--- A kept unit is tried: it misses, or it is frozen and comes back. Serves `evict`.
+-- A kept unit is tried: it is missed, or it is frozen and freed. Serves `evict`.
 use Rattle.std.proofs.Common.{◌≡◌, ◌≢◌, ℕ, ◌^◌, ◌<◌, ◌==◌, Bool, true, false, Option, Some, None, List, length, refl, sym, ap, ◌∙◌}
 use Rattle.std.proofs.Common.{subst, arith, cond}
 use Rattle.std.specs.Prelude.{IfSome}
@@ -40,7 +40,7 @@ use Rattle.mem_machine.proofs.Followed.{follows_same}
 frozen_in_hand : TakesInHand (frozen 1)
 frozen_in_hand = record { own = λ k. refl; lent = λ k. refl; references = λ k. refl; passed_out = λ k. refl; collected = λ k. refl }
 
--- a freeze is legal where the zone has the one reference that it asks for
+-- a freeze is legal if the zone has the one reference that it asks for
 may_freeze : (t : KnownTable) (m : KnownMachine) (f : ℕ) → f < t.frames → holds m.frame_seat f ≡ 1 → (c : KnownCpu) → is_legal (local_of t m c) 0 (Freeze f 1) ≡ true
 may_freeze t m f inside held c =
     and_from _ _ (and_from _ _ (and_from _ _ (zone_may_act m.frame_seat c.number) (lt-ltb f t.frames inside)) refl) (le-leb 1 (holds m.frame_seat f) (omega (arith, held)))
@@ -117,7 +117,7 @@ missed_all t w m now same ok f inside kept seat answered counts counted =
 some_same : (a b : ℕ) → Some a ≡ Some b → a ≡ b
 some_same a b e = cc
 
--- the unit's group is that of the list on which it stands
+-- the unit's group is that of its list
 same_group : (t : KnownTable) (w : Words) (m : KnownMachine) → IsConsistent t w m → (f : ℕ) → f < t.frames → (unit : ChargedUnit)
     → spot_at m.spots f ≡ Head unit → (h : Home) → home_of m.links f ≡ Some h → unit.group ≡ h.owner
 same_group t w m ok f inside unit heads h home =

@@ -54,7 +54,7 @@ only_made s seat (Remove g) Done m absent there =
 only_made s seat Lock answer m absent there = absurd (true≢false (sym there ∙ absent))
 only_made s seat action answer m absent there = absurd (true≢false (sym there ∙ absent))
 
--- a number of group m that begins anew where the group is made
+-- a number of group m that begins anew when the group is made
 abbrev pub Begins : Moves → ℕ → Type 0
 Begins moves m = (s : State) (e : Step × Answer) (x y : ℕ) → makes_group m e.0.action e.1 ≡ true → moves s e x ≡ moves s e y
 

@@ -1,4 +1,5 @@
--- A unit comes back: its frames are free, and its pages off the charge of its group. Serves `free_unit` and all calls made of it.
+-- A unit is freed: its frames are free, and its pages are uncharged from its group. Serves `free_unit` and all its
+-- callers.
 use Rattle.std.proofs.Common.{◌≡◌, ℕ, ◌+◌, ◌-◌, ◌^◌, ◌<◌, ◌≤◌, ◌==◌, Bool, true, false, Some, List, length, get_or, cond}
 use Rattle.std.proofs.Common.{zero, suc, refl, sym, ap, ◌∙◌, subst, arith, inl, inr, eq-eqb}
 use Rattle.std.specs.Prelude.{slice_set, min}
@@ -266,10 +267,10 @@ module _ (spots new : List Spot) (f : ℕ) (unit : ChargedUnit) (heads : spot_at
       let d = sum_of g l mine.block.inside in
       omega (arith, a, b, c, d)
 
--- ---- the machine after a unit came back
+-- ---- the machine after a unit was freed
 
--- a unit of whose head the zone has the hand now, and which stands on no list: its frames and its pages came back, and the machine
--- is consistent
+-- the zone has the unit's head in its hand, and the unit is on no list: its frames and its pages were freed, and the
+-- machine is consistent
 module _ (t : KnownTable) (w : Words) (m : KnownMachine) (ok : IsConsistent t w m) (f : ℕ) (unit : ChargedUnit) (heads : spot_at m.spots f ≡ Head unit) where
   -- the pages of the unit are charged to its group
   pub unit_charged : 2 ^ unit.order ≤ pages_of m.ledger unit.group

@@ -53,7 +53,7 @@ use Rattle.mem_machine.proofs.Balances.{balanced_drop}
 use Rattle.mem_machine.proofs.Followed.{follows_same, follows_still}
 use Rattle.mem_machine.proofs.Counted.{collects_none, comes_back}
 
--- what is told of a frame that was collected fresh, and of its page
+-- what is known of a frame that was collected fresh, and of its page
 pub record WasFresh (t : KnownTable) (m : KnownMachine) (c : KnownCpu) (f g : ℕ) : Type 0 where
   pub inside : f < t.frames
   pub nothing : HasNothingOf m.frame_seat f
@@ -89,7 +89,7 @@ placed_one spots g f inside =
       ];
     }
 
--- where one frame came back
+-- one frame was freed
 frees_one : (spots new : List Spot) (f k : ℕ) → k ≡ 0 → f < length spots → FreesFrames f (2 ^ k) spots new → new ≡ slice_set spots f Free
 frees_one spots new f k zero_is inside frees =
     let one : 2 ^ k ≡ 1 = ap (λ (j : ℕ). 2 ^ j) zero_is in
@@ -375,7 +375,7 @@ drop_all t w m now same c h tied ok visit_now before free free_was f g was kille
       sym hands.2 j,
     )) one
 
--- what the call that collects it tells of it
+-- what the call that collects it says of it
 pub was_fresh : (t : KnownTable) (w : Words) (m : KnownMachine) (c : KnownCpu) (f g : ℕ) → f < t.frames → HasNothingOf m.frame_seat f → IsLent m.frame_seat f c.number
     → 1 + (account_of m.stock_seat.view c.number).unabsorbed ≤ (account_of m.stock_seat.view c.number).book
     → group_of c.stock_seat.view.last ≡ (account_of m.stock_seat.view c.number).group → group_of c.stock_seat.view.last ≡ Some g → g < 64 → WasFresh t m c f g

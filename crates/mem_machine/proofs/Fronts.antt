@@ -119,7 +119,7 @@ and_no : (b : Bool) → (b && false) ≡ false
 and_no true = refl
 and_no false = refl
 
--- what the processor that is visited is once its front was paid for
+-- what the CPU that is visited is once its front was paid for
 abbrev paid_cpu : KnownMachine → KnownCpu → ℕ → ℕ → List ℕ → KnownCpu
 paid_cpu m c g f rest = record c { list = rest; fresh = c.fresh ++ f ∷ []; stock_seat = with_view c.stock_seat (after_took c.stock_seat.view g (pages_held (side m c) - 1)) }
 

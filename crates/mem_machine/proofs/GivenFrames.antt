@@ -1,4 +1,4 @@
--- A given free frame goes to the list of the processor that is visited. Serves `lend`.
+-- A given free frame goes to the list of the CPU that is visited. Serves `lend`.
 use Rattle.std.proofs.Common.{◌≡◌, ℕ, ◌<◌, Bool, false, List, [], ◌∷◌, ◌++◌, length, get_or, refl, sym, ap, ◌∙◌, subst, arith}
 use Rattle.std.specs.Prelude.{slice_set}
 use Rattle.zone_blocks.specs.declared.block.Block.{Block}

@@ -1,4 +1,5 @@
--- A charge of the ledger is a grant of the rules, and pages that were granted and not taken go back. Serves `take_block`.
+-- A charge of the ledger is a grant of the rules, and pages that were granted and not used are ungranted. Serves
+-- `take_block`.
 use Rattle.std.proofs.Common.{◌≡◌, ℕ, ◌+◌, ◌-◌, ◌^◌, ◌≤◌, ◌<◌, ◌==◌, ◌&&◌, Bool, true, false, cond, [], ◌∷◌, length, refl, sym}
 use Rattle.std.proofs.Common.{ap, ◌∙◌, subst, arith, inl, inr}
 use Rattle.std.specs.Prelude.{not, nat_le}
@@ -52,11 +53,11 @@ module _ (t : KnownTable) (m : KnownMachine) (c : KnownCpu) (g n : ℕ) (there :
   room_same : (h : ℕ) → room.has_room m.ledger.groups (usage_of s) h n ≡ room.has_room m.ledger.groups (current_of m.ledger) h n
   room_same h = ap (λ (k : ℕ). room.fits_limit (limit_of m.ledger.groups h) (k + n)) (usage h)
 
-  -- where the charges have room, the grant is answered so
+  -- if the charges have room, the grant succeeds
   pub is_granted : room.PathHasRoom m.ledger.groups (current_of m.ledger) g n → IsLocalStep s c.number 0 (Grant g n) Granted
   is_granted path = zone_step s c.number (Grant g n) Granted refl may_grant (λ h on. room_same h ∙ path h on)
 
-  -- where they have none, the grant names the same group
+  -- if they have none, the grant names the same group
   pub is_over : (h : ℕ) → room.IsLowestOver m.ledger.groups (current_of m.ledger) g n h → IsLocalStep s c.number 0 (Grant g n) (Over h)
   is_over h low = zone_step s c.number (Grant g n) (Over h) refl may_grant (record {
     on_path = low.on_path;
@@ -74,7 +75,7 @@ module _ (t : KnownTable) (m : KnownMachine) (c : KnownCpu) (g n : ℕ) (there :
   pub pending_is : with_granted.pending g ≡ n
   pending_is = let e : with_granted.pending g ≡ 0 + n = at_same s.pending g (s.pending g + n) in omega arith
 
-  -- they go back
+  -- they are ungranted
   pub is_taken_back : IsLocalStep with_granted c.number 0 (Ungrant g n) Done
   is_taken_back =
       zone_step with_granted c.number (Ungrant g n) Done refl
@@ -120,7 +121,7 @@ free_block t m c sized b is =
           free_at m.spots f below ∙ phase_free c f (spot_at m.spots f) both.1;
     }
 
--- where the machine has no block of the order or above, there is none to place
+-- if the machine has no block of the order or above, there is none to place
 pub none_to_place : (t : KnownTable) (m : KnownMachine) (c : KnownCpu) → length m.spots ≡ t.frames → AreMaximalBlocks (free_of m.spots) m.blocks
     → (k : ℕ) → HasNoneFrom m.blocks k → (b : Block) → b.order ≡ k
     → IsFreeBlock (free_in (local_of t m c).zone (local_of t m c).phases) b → ⊥
@@ -148,7 +149,7 @@ module _ (t : KnownTable) (m : KnownMachine) (c : KnownCpu) (g n : ℕ) (there :
       (le-leb (2 ^ k) (granted.pending g) (let e = pending_is t m c g n there alive usage in omega arith)))
       (none_to_place t m c sized areas k none)
 
-  -- the pages are granted, no block is there, and they go back: the local state is as it was
+  -- the pages are granted, there is no block, and they are ungranted: the local state is the same as before
   pub unplaced_run : AreCharges m.ledger → room.PathHasRoom m.ledger.groups (current_of m.ledger) g n → (x : KnownMachine) → x ≡ record m { ledger = x.ledger }
       → x.ledger.groups ≡ m.ledger.groups → SamePeaks (with_charge m.ledger g n) x.ledger → SameEvents (with_charge m.ledger g n) x.ledger → MakesAs t c.number (side m c)
       (zone_makes (Grant g n) Granted ∷ zone_makes (PlaceBlock g k) NoFreeBlock ∷ zone_makes (Ungrant g n) Done ∷ []) (side x c)

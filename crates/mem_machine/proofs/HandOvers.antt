@@ -1,5 +1,5 @@
--- A fresh or a back frame of the processor that is visited comes into the zone's hand: what it sees then, and the steps by which
--- it is kept, dropped or given back. Serves `settle`.
+-- A fresh or a back frame of the visited CPU moves into the zone's hand: what the CPU sees then, and the steps by which
+-- the frame is kept, dropped or freed. Serves `settle`.
 use Rattle.std.proofs.Common.{◌≡◌, ◌≢◌, ℕ, ◌+◌, ◌-◌, ◌<◌, ◌==◌, Bool, true, false, cond, List, [], ◌∷◌, ◌++◌, get_or}
 use Rattle.std.proofs.Common.{refl, sym, ap, ◌∙◌, subst, arith, inl, inr, eq-eqb}
 use Rattle.std.specs.Prelude.{nat_le}
@@ -34,11 +34,11 @@ use Rattle.mem_machine.proofs.Reaching.{zone_step, cpu_step}
 
 -- ---- the visit
 
--- what a note tells of hand-overs
+-- what a note says of hand-overs
 abbrev pub told : FrameNote → List ℕ × List ℕ × ℕ
 told k = (k.passed_out, k.collected, k.lent)
 
--- a frame that the processor had in a hand went to the zone, whose note of it tells of hand-overs what a collect leaves
+-- a frame in the CPU's hand went to the zone, whose note says of hand-overs what a collect leaves
 module _ (t : KnownTable) (w : Words) (m : KnownMachine) (c : KnownCpu) (tied : IsTied t w c) (visit : Visits t (side m c)) (f : ℕ)
     (change : FrameNote → FrameNote) (same : (k : FrameNote) → told (change k) ≡ told (collected_from c.number k)) where
   abbrev zone : KnownSeat
@@ -91,9 +91,9 @@ module _ (t : KnownTable) (w : Words) (m : KnownMachine) (c : KnownCpu) (tied : 
         (sym (told_same g)) (plain_lent g inside));
   }
 
--- ---- the frame was in one list of the processor alone
+-- ---- the frame was in one list of the CPU alone
 
--- it stands in front of the fresh frames
+-- the frame is the front of the fresh frames
 pub record IsFreshFront (c : KnownCpu) (f : ℕ) (rest : List ℕ) : Type 0 where
   pub once : times f c.fresh ≡ 1
   pub none_in_rest : times f rest ≡ 0
@@ -115,7 +115,7 @@ fresh_front t w c tied f rest front =
       none_back = omega (arith, a, b, r, o, h);
     }
 
--- it stands in front of the back frames
+-- the frame is the front of the back frames
 pub record IsBackFront (c : KnownCpu) (f : ℕ) (rest : List ℕ) : Type 0 where
   pub once : times f c.back ≡ 1
   pub none_in_rest : times f rest ≡ 0
@@ -137,7 +137,7 @@ back_front t w c tied f rest front =
       none_fresh = omega (arith, a, b, r, o, h);
     }
 
--- other frames stand in what is left as they stood before
+-- each other frame is as often in the rest as it was before
 pub times_rest : (g f : ℕ) (xs rest : List ℕ) → xs ≡ f ∷ rest → g ≢ f → times g rest ≡ times g xs
 times_rest g f xs rest front ne =
     let a : times g xs ≡ test g f + times g rest = ap (times g) front ∙ times_front g f rest in
@@ -159,11 +159,11 @@ pub at_again : {X : Type 0} (h : ℕ → X) (k : ℕ) (x : X) (change : X → X)
 at_again h k x change =
     ap (λ (y : _). with_at (with_at h k x) k (change y)) (at_same h k x) ∙ (λ i. λ m. again (m == k) x (change x) (h m) i)
 
--- frame f has this phase, processor p this part, and the references are these
+-- frame f has this phase, CPU p this part, and the references are these
 abbrev pub seen : State → ℕ → ℕ → Part → Phase → (ℕ → ℕ → ℕ) → State
 seen s p f part x references = record s { phases = with_at s.phases f x; parts = with_at s.parts p part; references = references }
 
--- processor p visits, and f is a frame
+-- CPU p visits, and f is a frame
 pub record IsVisited (s : State) (p f : ℕ) : Type 0 where
   pub acts : may_zone_act s.hold 0 ≡ true
   pub visiting : visits p s.hold ≡ true

@@ -31,7 +31,7 @@ zone_acts : (b : Bool) (p : ℕ) → may_zone_act (cond b (Visiting p) (HeldBy p
 zone_acts true p = refl
 zone_acts false p = refl
 
--- the zone's seat acts where a processor holds the lock
+-- the zone's seat may act while a CPU holds the lock
 pub zone_may_act : (seat : KnownSeat) (p : ℕ) → may_zone_act (hold_of seat p) 0 ≡ true
 zone_may_act seat p = zone_acts (get_or seat.view.opened p 0 == 1) p
 
@@ -44,7 +44,7 @@ hold_shut seat p shut = ap (λ (n : ℕ). cond (n == 1) (Visiting p) (HeldBy p))
 pub visits_open : (seat : KnownSeat) (p : ℕ) → IsOpen seat p → visits p (hold_of seat p) ≡ true
 visits_open seat p is = ap (visits p) (hold_open seat p is) ∙ eq-eqb p p refl
 
--- the processor is one of the table's
+-- the CPU is one of the table's
 pub record IsSeated (table : KnownTable) (cpu : KnownCpu) : Type 0 where
   pub some_number : 1 ≤ cpu.number
   pub cpus : cpu.number ≤ table.cpus
@@ -52,7 +52,7 @@ pub record IsSeated (table : KnownTable) (cpu : KnownCpu) : Type 0 where
 pub seated_cpu : (t : KnownTable) (c : KnownCpu) → IsSeated t c → is_cpu (record { frames = t.frames; cpus = t.cpus }) c.number ≡ true
 seated_cpu t c s = and_from (nat_le 1 c.number) (nat_le c.number t.cpus) (le-leb 1 c.number s.some_number) (le-leb c.number t.cpus s.cpus)
 
--- a phase does not pass for the processor
+-- a phase does not pass for the CPU
 resting : ℕ → Phase → Bool
 resting p x = not (passes_out p x) && not (passes_back p x)
 
@@ -74,7 +74,7 @@ no_pass c p f (Lent q) = lent_rests (q == c.number && nat_le 1 (times f c.fresh)
 no_pass c p f (Head unit) = head_rests (nat_le 1 (times f c.back)) p c.number unit
 no_pass c p f (Tail g) = refl
 
--- the processor's part is its own
+-- the CPU's part is its own
 pub own_part : (m : KnownMachine) (c : KnownCpu) → part_of m.stock_seat c c.number ≡ part_with c.list c.fresh c.back (account_of m.stock_seat.view c.number)
 own_part m c = cond-true (c.number == c.number) _ _ (eq-eqb c.number c.number refl)
 
@@ -114,7 +114,7 @@ shut_runs t m n c is was_open noted =
       counts = refl;
     })
 
--- the same, of the machine as it was seen before, and of a processor's part that stayed
+-- the same, of the machine as it was seen before, and of a CPU's part that stayed
 pub opens : (t : KnownTable) (m now : KnownMachine) → m ≡ now → (c d : KnownCpu) → d ≡ c → (seat : KnownSeat) → seat ≡ seat_with_visit m.frame_seat c.number 1
     → IsShut now.frame_seat c.number → MakesAs t c.number (side now c) (open_steps c.number) (side (record m { frame_seat = seat }) d)
 opens t m now same c d stays seat is shut =

@@ -1,4 +1,4 @@
--- The steps of a call among the steps of other processors. Serves `calls_interleave`.
+-- The steps of a call among the steps of other CPUs. Serves `calls_interleave`.
 use Rattle.std.proofs.Common.{ℕ, ◌++◌, sym, subst}
 use Rattle.step_rules.specs.After.{Run}
 use Rattle.step_rules.specs.Laws.{ShowsLocal}

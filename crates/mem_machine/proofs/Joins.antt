@@ -63,7 +63,7 @@ module _ (links : List Link) (lists : List Lru) (g f : ℕ) (fits : g < 64) (gro
           groups = length-set lists g new ∙ groups;
         }
 
--- so it is where the group's lists were read and written by its number
+-- the same if the group's lists were read and written by its number
 pub join_all : (links : List Link) (lists : List Lru) (g f o : ℕ) → o ≡ g → o < 64 → length lists ≡ 64 → AllStand links lists → (any lru : Lru)
     → lru ≡ get_or lists o any → (after : List Link) (new : Lru) → IsAdded links lru f after new → OthersStand → OneOfAllChanges
     → AllJoin links lists g f after (slice_set lists o new)

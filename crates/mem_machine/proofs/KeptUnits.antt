@@ -32,7 +32,7 @@ use Rattle.mem_machine.proofs.BlockCharges.{charges_rise}
 use Rattle.mem_machine.proofs.Units.{units_placed}
 use Rattle.mem_machine.proofs.Joins.{AllJoin}
 
--- a frame that is charged to no group stands on no list
+-- a frame that is charged to no group is on no list
 homeless : (h : Option Home) (x : Spot) → spot_group x ≡ None → IfSome h (λ k. (k.owner < 64) × (head_group_of x ≡ Some k.owner)) → h ≡ None
 homeless None x none is = refl
 homeless (Some k) x none is = absurd (none-some k.owner (sym (no_head x none) ∙ is.1))
@@ -121,8 +121,8 @@ module _ (t : KnownTable) (w : Words) (m : KnownMachine) (ok : IsConsistent t w 
 
 -- ---- all of it
 
--- what else changed where a unit of so many frames joined its group: the free areas, the stocks, and the charges of all
--- groups, which fit the frames and the books
+-- what else changed when a unit of this many frames joined its group: the free areas, the stocks, and the charges of
+-- all groups, which fit the frames and the books
 pub record JoinsCharges (t : KnownTable) (w : Words) (m : KnownMachine) (g pages : ℕ) (spots : List Spot) (blocks : List Block) (ledger : Ledger)
     (stock : Seated) : Type 0 where
   pub areas : AreMaximalBlocks (free_of spots) blocks
@@ -132,8 +132,8 @@ pub record JoinsCharges (t : KnownTable) (w : Words) (m : KnownMachine) (g pages
   pub bounded : (p : ℕ) → (account_of stock.view p).book < 65536
   pub charged : (h : ℕ) → pages_of ledger h ≡ frames_charged m.spots h + cond (h == g) pages 0 + pages_booked t stock h
 
--- The frames of a block that were charged to no group (all but the first were free) are a unit of the group now, and its head
--- is on the group's inactive list, in use with one reference of the zone: the machine is consistent
+-- The frames of a block that were charged to no group (all but the first were free) are now a unit of the group. Its
+-- head is on the group's inactive list, in use with one reference of the zone. The machine is consistent.
 pub unit_kept : (t : KnownTable) (w : Words) (m : KnownMachine) → IsConsistent t w m → (g : ℕ) → g < 64 → (b : Block) → IsBlock (length m.spots) b
     → (spots : List Spot) → PlacesUnit g b m.spots spots → spot_group (spot_at m.spots b.at) ≡ None
     → ((x : ℕ) → b.at ≤ x → x < b.at + 2 ^ b.order → x ≢ b.at → spot_at m.spots x ≡ Free)

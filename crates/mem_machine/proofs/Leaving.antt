@@ -36,7 +36,7 @@ module _ (links : List Link) (lists : List Lru) (f : ℕ) (h : Home) (home : Som
   own : lru.owner ≡ h.owner
   own = ap (λ (x : Lru). x.owner) read ∙ (all h.owner any bound).0
 
-  -- its lists stand, and it is on one of them
+  -- its lists agree with the links, and it is on one of them
   pub own_stands : StandsIn links lru
   own_stands = subst (StandsIn links) (sym read) (all h.owner any bound).1
 

@@ -148,7 +148,7 @@ none_is : {X : Type 0} (o : Option X) → is_some o ≡ false → o ≡ None
 none_is None e = refl
 none_is (Some x) e = absurd (true≢false e)
 
--- a number of an account, where there is one
+-- a number of an account, if there is one
 abbrev read : {X : Type 0} → (Account → X) → X → List Account → ℕ → X
 read r x accounts m = option_map_or r (find (λ (a : Account). a.group == m) accounts) x
 

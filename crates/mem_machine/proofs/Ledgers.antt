@@ -55,7 +55,7 @@ own_none (x ∷ xs) h none =
     (ne_eqb x.group h (none 0 x (omega arith)))
     ∙ own_none xs h (λ k d lt. none (suc k) d (omega arith))
 
--- the pages of the account, where it counts
+-- the pages of the account, if it counts
 abbrev counted : (ℕ → Bool) → Account → ℕ
 counted below a = cond (below a.group) a.pages 0
 

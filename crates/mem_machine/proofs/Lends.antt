@@ -1,4 +1,4 @@
--- One frame goes from the free areas to the list of the processor that is visited. Serves `lend_one`.
+-- One frame goes from the free areas to the list of the CPU that is visited. Serves `lend_one`.
 use Rattle.std.proofs.Common.{◌≡◌, ℕ, ◌<◌, ◌==◌, ◌&&◌, Bool, true, false, Option, Some, None, List, [], ◌∷◌, ◌++◌, length, refl, sym, ap, ◌∙◌, subst}
 use Rattle.std.proofs.Common.{inl, inr, arith, cond, eq-eqb}
 use Rattle.std.specs.Prelude.{slice_set, nat_le, IfSome}
@@ -66,7 +66,7 @@ lent_listed c f q none =
     ap (λ (n : ℕ). cond (q == c.number && nat_le 1 n) (phase.Head (record { group = fresh_group c; order = 0 }) (FreshAt q)) (phase.Lent q OnList)) none
     ∙ ap (λ (b : Bool). cond b (phase.Head (record { group = fresh_group c; order = 0 }) (FreshAt q)) (phase.Lent q OnList)) (and_no (q == c.number))
 
--- the phases where one frame's record changed, and no other frame's place at the processor
+-- the phases after one frame's record changed, and no other frame's place at the CPU
 pub phases_changed : (c d : KnownCpu) (spots : List Spot) (f : ℕ) (x : Spot) (a b : Phase) → f < length spots → phase_of d f x ≡ b
     → ((g : ℕ) (y : Spot) → (g ≡ f → ⊥) → phase_of d g y ≡ phase_of c g y) → (g : ℕ)
     → phase_of d g (spot_at (slice_set spots f x) g) ≡ with_at (with_at (λ y. phase_of c y (spot_at spots y)) f a) f b g
@@ -275,7 +275,7 @@ zone_hand t w m ok f g inside free is =
     let s = ok.sizes.spots in
     subst (λ (x : ℕ). IsInOwnHand m.frame_seat x) (sym is) ((ok.spots f (omega (arith, s, inside))).own ∙ ap (λ (x : Spot). one_if (is_in_hand x)) free)
 
--- and once it passed it out, it passes for the processor and is lent to it
+-- and once it passed it out, it passes for the CPU and is lent to it
 pub passes_to : (t : KnownTable) (w : Words) (m now : KnownMachine) → m ≡ now → (c : KnownCpu) → IsTied t w c → Visits t (side now c) → (f q : ℕ) (seat : KnownSeat)
     → f < t.frames → q ≡ c.number → seat ≡ seat_with m.frame_seat f (passed_out_to q) → Passes seat c.frame_seat f
 passes_to t w m now same c tied visit f q seat inside number is =

@@ -1,5 +1,5 @@
--- The lists of one group changed: where its units were marked, moved or dirtied each frame stands on a list of the group that it
--- stood on, and the lists of all other groups stay. Serves all calls that change a list.
+-- The lists of one group changed: its units were marked, moved or dirtied. Each frame is on a list of the same group as
+-- before, and the lists of all other groups stay. Serves all calls that change a list.
 use Rattle.std.proofs.Common.{◌≡◌, ◌≢◌, ℕ, ◌<◌, ◌==◌, ◌||◌, ◌⊎◌, Bool, true, false, Option, Some, None, List, [], ◌∷◌, ◌++◌, length, map, refl, sym, ap, ◌∙◌}
 use Rattle.std.proofs.Common.{subst, inl, inr, eq-eqb, cond, get_or, arith}
 use Rattle.std.specs.Prelude.{option_map, slice_set}
@@ -58,7 +58,7 @@ home_of_list (Some h) lru list is = elim (cases_eq h.owner lru.owner) [
 owner_of : Option Home → Option ℕ
 owner_of home = option_map (λ h. h.owner) home
 
--- a record fits as before where the frame is on a list of the same owner
+-- a record fits as before if the frame is on a list of the same owner
 pub fits_home : (cpus : ℕ) (note : FrameNote) (h k : Option Home) (spot : Spot) → option_map (λ (x : Home). x.owner) k ≡ option_map (λ (x : Home). x.owner) h
     → FitsSpot cpus note h spot → FitsSpot cpus note k spot
 fits_home cpus note None None spot same fits = fits
@@ -108,7 +108,7 @@ listed_where links lru f is = elim (or_cases (is_among (units_of links lru.inact
 module _ (before after : List Link) (lru new : Lru) (old_stands : StandsIn before lru) (new_stands : StandsIn after new) (owner : new.owner ≡ lru.owner)
     (changes : ChangesOwn before after lru.owner) (on : (f : ℕ) → is_listed before lru f ≡ true → is_listed after new f ≡ true)
     (off : (f : ℕ) → is_listed after new f ≡ true → is_listed before lru f ≡ true) where
-  -- each frame stands on a list of the owner of which it stood on one
+  -- each frame is on a list of the same owner as before
   pub owners_stay : (f : ℕ) → option_map (λ (x : Home). x.owner) (link_at after f).home ≡ option_map (λ (x : Home). x.owner) (link_at before f).home
   owners_stay f = elim (cases_none (list_of before lru.owner f)) [
     | inl none ↦ elim (cases_none (list_of after lru.owner f)) [
@@ -144,7 +144,7 @@ dirtied_numbers : (unit : ℕ) (d : Bool) (es : List Entry) → map (λ (e : Ent
 dirtied_numbers unit d [] = refl
 dirtied_numbers unit d (e ∷ es) = λ i. dirtied_number unit d (e.number == unit) e i ∷ dirtied_numbers unit d es i
 
--- the same units stand on the lists where one was dirtied
+-- the same units are on the lists after one was dirtied
 dirtied_units : (before after : List Link) (lru : Lru) (unit : ℕ) (d : Bool)
     → ((list : LruList) → entries_of after lru list ≡ changed_at unit (dirtied d) (entries_of before lru list))
     → (list : LruList) → units_of after (queue_of lru list) ≡ units_of before (queue_of lru list)
@@ -252,7 +252,7 @@ touched_owners before after lru new f touched old stands owner changes on touche
 
 -- ---- the lists of all other groups
 
--- where the lists of one group change, those of every other stand as they stood
+-- if the lists of one group change, those of every other group are unchanged
 pub others_stay : (before after : List Link) (lists : List Lru) (g : ℕ) (lru new : Lru) → AllStand before lists → length lists ≡ 64 → lru.owner ≡ g
     → ChangesOwn before after lru.owner → OthersStand → OthersStay g (group_lists before lists) (group_lists after (slice_set lists g new))
 others_stay before after lists g lru new all sized own changes others_stand h list within ne =

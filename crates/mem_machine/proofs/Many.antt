@@ -1,4 +1,4 @@
--- Frames that are lent, or taken back, one after the other. Serves the loops of `refill` and `drain_list`.
+-- Frames that are lent, or returned to the zone, one after the other. Serves the loops of `refill` and `drain_list`.
 use Rattle.std.proofs.Common.{◌≡◌, ℕ, ◌+◌, ◌≤◌, List, [], ◌∷◌, ◌++◌, take, length, refl, sym, ap, ◌∙◌, subst, arith, length-append}
 use Rattle.std.proofs.lemmas.List.{append_assoc, append-nil}
 use Rattle.std.proofs.Math.Seq.{take-append_seam}
@@ -88,9 +88,9 @@ lent_end t k m c x y n d before none = (
   subst (λ (z : KnownMachine). HasNoneFrom z.blocks 0) (sym none.stays.machine) none.none,
 )
 
--- ---- back
+-- ---- frames returned to the zone
 
--- frames that are taken back, and then one more
+-- frames that are returned to the zone, and then one more
 takes_more : (frames : List ℕ) (f : ℕ) (m : KnownMachine) (c : KnownCpu) (x : KnownMachine) (y : KnownCpu) (n : KnownMachine) (d : KnownCpu)
     → TakesManyBack frames (side m c) (side x y) → TakesOneBack f (side x y) (side n d) → TakesManyBack (frames ++ f ∷ []) (side m c) (side n d)
 takes_more [] f m c x y n d before one =
@@ -162,7 +162,7 @@ taken_front t k m c n d so_far =
       steps = subst (λ (l : List ℕ). MakesAs t c.number (side m c) (drain_list_steps c.number l) (side n d)) front so_far.steps;
     }
 
--- the same where all that were asked for were taken
+-- the same if all that were asked for were returned
 pub taken_whole : (t : KnownTable) (k count : ℕ) (m : KnownMachine) (c : KnownCpu) (n : KnownMachine) (d : KnownCpu) → TakenSoFar t k m c n d
     → k ≤ count → count ≤ k → TakesFront t count m c n d
 taken_whole t k count m c n d so_far at_most at_least =

@@ -1,4 +1,5 @@
--- What is lent where the machine ends, and how many frames are free and charged. Serves `see_none_lent`, and the end of a system.
+-- What is lent when the machine ends, and how many frames are free and charged. Serves `see_none_lent`, and the end of
+-- a system.
 use Rattle.std.proofs.Common.{◌≡◌, ℕ, ◌+◌, ◌<◌, ◌≤◌, Option, Some, None, List, [], ◌∷◌, length, refl, sym, ap, ◌∙◌, subst, inl, inr, arith, zero, suc}
 use Rattle.std.specs.Prelude.{is_some, IfSome}
 use Rattle.std.proofs.lemmas.Bool.{cases_lt}
@@ -16,7 +17,7 @@ use Rattle.mem_machine.specs.Spots.{spot_at, is_free, spot_group, some_cpu, lent
 use Rattle.mem_machine.specs.Machines.{KnownMachine, IsConsistent}
 use Rattle.mem_machine.specs.Places.{frames_free, frames_in_groups, NoneLentTo}
 
--- the record of a lent frame names the processor that the seat notes
+-- the record of a lent frame names the CPU that the seat notes
 pub lent_is : (n p : ℕ) → some_cpu n ≡ Some p → (n ≡ p) × (1 ≤ p)
 lent_is zero p is = absurd (none-some p is)
 lent_is (suc n) p is = let same : suc n ≡ p = number_is is in (same, omega (arith, same))
@@ -43,12 +44,12 @@ lent_noted t w m ok f p is = elim (cases_lt f t.frames) [
       absurd (past_free p (sym (get_or_past m.spots f Free (omega (arith, past, sized))) ∙ is))
 ]
 
--- who a frame is lent to is one of the processors
+-- who a frame is lent to is one of the CPUs
 pub lent_to_cpu : (t : KnownTable) (w : Words) (m : KnownMachine) → IsConsistent t w m → (f p : ℕ) → spot_at m.spots f ≡ Lent p → (1 ≤ p) × (p ≤ t.cpus)
 lent_to_cpu t w m ok f p is =
     subst (λ (x : Spot). IfSome (lent_to x) (λ q. (1 ≤ q) × (q ≤ t.cpus))) is (ok.spots f (lent_noted t w m ok f p is).0).borrower
 
--- a processor with no listed and no fresh frame has none that is lent to it
+-- a CPU with no listed and no fresh frame has none that is lent to it
 pub none_lent : (t : KnownTable) (w : Words) (m : KnownMachine) (c : KnownCpu) → IsConsistent t w m → IsTied t w c → LentIsBorrowed t m.frame_seat c.frame_seat
     → c.list ≡ [] → c.fresh ≡ [] → NoneLentTo c.number m.spots
 none_lent t w m c ok tied lent no_list no_fresh f is =
@@ -60,7 +61,7 @@ none_lent t w m c ok tied lent no_list no_fresh f is =
     let counted = (tied.noted f).borrowed_is in
     omega (arith, borrowed, listed, fresh, counted)
 
--- where no frame is lent, each is free or charged
+-- if no frame is lent, each is free or charged
 pub each_is_placed : (spots : List Spot) → ((f p : ℕ) → spot_at spots f ≡ Lent p → ⊥) → frames_free spots + frames_in_groups spots ≡ length spots
 each_is_placed [] none = refl
 each_is_placed (x ∷ xs) none =

@@ -38,7 +38,7 @@ lists_read t w m now same ok g i fits is any lru read =
       are = read_is t w m ok i fits any lru read;
     })
 
--- the unit stands on the list that its home tells
+-- the unit is on the list that its link names
 pub read_on : (now : KnownMachine) (g : ℕ) (lru : Lru) → AreRead now g lru → (f i : ℕ) → i ≡ f → (list : LruList)
     → home_of now.links f ≡ Some (record { owner = g; list = list }) → list_of now.links lru.owner i ≡ Some list
 read_on now g lru is f i at list home =
@@ -67,7 +67,7 @@ owner_mapped : (h : Option Home) → option_map (λ (x : Home). x.owner) h ≡ o
 owner_mapped None = refl
 owner_mapped (Some h) = refl
 
--- what else is as it was where the lists of one group changed
+-- what else is unchanged after the lists of one group changed
 pub record GroupChanged (t : KnownTable) (w : Words) (now : KnownMachine) (g : ℕ) (lru new : Lru) (n : KnownMachine) : Type 0 where
   pub consistent : IsConsistent t w n
   pub machine : n ≡ record now { links = n.links; lists = n.lists }

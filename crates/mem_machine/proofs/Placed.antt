@@ -32,7 +32,7 @@ use Rattle.mem_machine.proofs.Grants.{with_granted, is_granted, pending_is, none
 use Rattle.mem_machine.proofs.LedgerMoves.{follows_grant}
 use Rattle.mem_machine.specs.Steps.{zone_makes}
 
--- the block stands in the second machine, with one reference of the zone on its head, and all else that is seen is the same
+-- the second machine has the block, with one reference of the zone on its head, and all else that is seen is the same
 pub record IsPlaced (m : KnownMachine) (c : KnownCpu) (g : ℕ) (b : Block) (n : KnownMachine) : Type 0 where
   pub spots : (f : ℕ) → spot_at n.spots f ≡ placed_spot m.spots g b f
   pub references : (f : ℕ) → holds n.frame_seat f ≡ with_at (holds m.frame_seat) b.at (holds m.frame_seat b.at + 1) f
@@ -102,7 +102,7 @@ module _ (t : KnownTable) (m : KnownMachine) (c : KnownCpu) (g : ℕ) (b : Block
         ∙ ap (λ (x : Bool). cond x (Head unit) (Tail g)) (eq-eqb b.at b.at refl))
         ∙ ap (λ (k : ℕ). cond (nat_le 1 k) (phase.Head unit (BackAt c.number)) (phase.Head unit Live)) not_back
 
-    -- any other frame: a tail in the block, and as it was outside
+    -- any other frame: a tail if it is in the block, else unchanged
     other_phase : (f : ℕ) (x y : Bool) → y ≡ false
         → cond x (cond y (phase.Head unit Bare) (phase.Tail g)) (s.phases f) ≡ phase_of c f (cond x (cond y (Head unit) (Tail g)) (spot_at m.spots f))
     other_phase f true y e =

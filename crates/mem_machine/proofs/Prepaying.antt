@@ -1,4 +1,4 @@
--- Pages are charged and fill the processor's stock. Serves `fill_stock` and `prepay`.
+-- Pages are charged and fill the CPU's stock. Serves `fill_stock` and `prepay`.
 use Rattle.std.proofs.Common.{◌≡◌, ℕ, ◌++◌, ◌+◌, ◌-◌, ◌<◌, ◌≤◌, ◌==◌, ◌||◌, Bool, true, false, ◌^◌, Option, Some, None, List, [], ◌∷◌, length}
 use Rattle.std.proofs.Common.{map, refl, sym, ap, ◌∙◌, subst, inl, inr, arith, cond, eq-eqb}
 use Rattle.std.specs.Prelude.{nat_le, Result, Ok, Err, OnOk, OnErr, IfErr}
@@ -112,7 +112,7 @@ fill_consistent t w m q g k l ok inside empty small rise =
 
 -- ---- the steps
 
--- a processor's part whose stock is filled
+-- a CPU's part whose stock is filled
 part_filled : (l f b : List ℕ) (a : Account) (g n : ℕ) → length f ≡ 0 → a.unabsorbed ≡ 0 → a.book ≡ 0
     → part_with l f b (record a { book = a.book + n; group = Some g; filled = true }) ≡ filled (part_with l f b a) g n
 part_filled l f b a g n none noted empty =
@@ -151,7 +151,7 @@ module _ (stock : Seated) (c : KnownCpu) (g n : ℕ) (none : length c.fresh ≡ 
   pub parts_filled : part_of after_it c ≡ with_at (part_of stock c) c.number (filled (part_of stock c c.number) g n)
   parts_filled = λ i. λ p. part_filled_at p i
 
--- without fresh frames no phase tells the stock's group
+-- without fresh frames no phase depends on the stock's group
 phase_stays : (c : KnownCpu) (s : Seated) (f : ℕ) (x : Spot) → times f c.fresh ≡ 0 → phase_of (record c { stock_seat = s }) f x ≡ phase_of c f x
 phase_stays c s f Free none = refl
 phase_stays c s f (Lent q) none = lent_listed (record c { stock_seat = s }) f q none ∙ sym (lent_listed c f q none)
@@ -240,7 +240,7 @@ filled_all t w m now c g k same ok facts tied visit none small there alive empty
       sym cpu_is i,
     )) here
 
--- the grant is refused where a limit has no room, and nothing changes
+-- the grant is refused if a limit has no room, and nothing changes
 pub refused_all : (t : KnownTable) (w : Words) (m now : KnownMachine) → m ≡ now → (c : KnownCpu) (g k over : ℕ) → IsConsistent t w m → AreCharges m.ledger
     → IsTied t w c → Visits t (side now c) → c.fresh ≡ [] → has_group now.ledger.groups g ≡ true → is_killed now.killed g ≡ false
     → room.IsLowestOver now.ledger.groups (current_of now.ledger) g k over → MakesAs t c.number (side now c) (over_steps g k over) (side now c)
@@ -252,7 +252,7 @@ refused_all t w m now same c g k over ok facts tied visit none there alive low =
     (ap (λ (x : KnownMachine). is_killed x.killed g) same ∙ alive) usage
     over (subst (λ (x : KnownMachine). room.IsLowestOver x.ledger.groups (current_of x.ledger) g k over) (sym same) low))
 
--- what two clauses of an answer tell together
+-- what two clauses of an answer say together
 pub on_ok_both : {T E : Type 0} (r : Result T E) {P Q R : Type 0} → (P → Q → R) → OnOk r P → OnOk r Q → OnOk r R
 on_ok_both (Ok x) both p q = both p q
 on_ok_both (Err e) both p q = tt
@@ -262,7 +262,7 @@ pub if_err_both : {T E : Type 0} (r : Result T E) {P Q R : E → Type 0} {U : Ty
 if_err_both (Ok x) both u p q = tt
 if_err_both (Err e) both u p q = both e u p q
 
--- ---- after the processor's own stock was drained
+-- ---- after the CPU's own stock was drained
 
 less_if : (b : Bool) (p n : ℕ) → cond b (p - n) 0 ≤ cond b p 0
 less_if true p n = omega arith
@@ -317,7 +317,7 @@ module _ (m x : KnownMachine) (q p k : ℕ) (named : q ≡ p) (d : Drains q k m 
   pub emptied_own : Drains p k m x
   emptied_own = subst (λ (n : ℕ). Drains n k m x) named d
 
-  -- all of its pages came back, as a look at the stock shows
+  -- the drain took all its pages, as a look at the stock shows
   pub emptied_whole : (c : KnownCpu) (y : KnownMachine) (stock : Stock) → y ≡ x → c.number ≡ p → c.fresh ≡ [] → IsOwnStock (side y c) stock
       → k ≡ pages_held (side m c)
   emptied_whole c y stock same mine none looked =
@@ -365,7 +365,7 @@ module _ (m x : KnownMachine) (q p k : ℕ) (named : q ≡ p) (d : Drains q k m 
           (side n f) looked_own
           (subst (λ (z : KnownMachine × KnownCpu). Makes t (side z.0 z.1) (fill_steps z.1.number g pages) (side n f)) (λ i. (same i, stays i)) steps)
 
-      -- where the grant was refused, nothing changed since
+      -- the grant was refused, and nothing changed since
       module _ (over : ℕ) (kept : n ≡ y) (own_kept : f ≡ e) where
         pub is_refused : room.IsLowestOver y.ledger.groups (current_of y.ledger) g pages over → IsOver g pages over (side m c) (side n f)
         is_refused low = subst (λ (z : KnownMachine × KnownCpu). IsOver g pages over (side m c) (side z.0 z.1))

@@ -13,7 +13,7 @@ pub zone_step : (s : State) (p : ℕ) (action : Action) (answer : Answer) → is
     → IsLocalStep s p 0 action answer
 zone_step s p action answer inside legal answered = record { own = inl refl; inside = inside; legal = legal; answered = answered }
 
--- a step of the processor's own seat
+-- a step of the CPU's own seat
 pub cpu_step : (s : State) (p : ℕ) (action : Action) (answer : Answer) → is_of_lock action ≡ false → is_legal s p action ≡ true → IsAnswer s p action answer
     → IsLocalStep s p p action answer
 cpu_step s p action answer inside legal answered = record { own = inr refl; inside = inside; legal = legal; answered = answered }

@@ -51,7 +51,7 @@ covers_one f = record { from = omega arith; before = omega arith }
 pub one_covered : (f g : ℕ) → Covers (record { at = f; order = 0 }) g → g ≡ f
 one_covered f g h = let a = h.from in let b : g < f + 1 = h.before in omega (arith, a, b)
 
--- the free frames where two sets differ at one frame
+-- the free frames of two sets that differ at one frame
 pub free_set : (before after : List Bool) (spots : List Spot) (f : ℕ) (x : Spot) → f < length spots → before ≡ free_of spots → length after ≡ length before
     → (IsFree after f → is_free x ≡ true) → (is_free x ≡ true → IsFree after f)
     → ((g : ℕ) → (g ≡ f → ⊥) → (IsFree after g → IsFree before g) × (IsFree before g → IsFree after g))
@@ -82,7 +82,7 @@ free_taken before after spots f x inside was takes used =
     free_set before after spots f x inside was takes.same_length (λ a. absurd (takes.in_use f (covers_one f) a)) (λ a. absurd (false≢true (sym used ∙ a)))
     (λ g ne. let o = takes.others g (λ h. ne (one_covered f g h)) in (o.0, o.1))
 
--- after a frame was given back
+-- after a frame was freed
 pub free_given : (before after : List Bool) (spots : List Spot) (f : ℕ) (x : Spot) → f < length spots → before ≡ free_of spots
     → TakesFrames after (record { at = f; order = 0 }) before → is_free x ≡ true → after ≡ free_of (slice_set spots f x)
 free_given before after spots f x inside was gives free =
@@ -103,7 +103,7 @@ abbrev lent_number : Option ℕ → ℕ
 lent_number None = 0
 lent_number (Some p) = p
 
--- a frame that is lent to a processor has the record of one
+-- a frame that is lent to a CPU has the record of one
 pub lent_spot : (x : Spot) (p : ℕ) → 1 ≤ p → some_cpu p ≡ lent_to x → x ≡ Lent p
 lent_spot Free p some is = absurd (none-some p (sym is ∙ some_cpu_is p some))
 lent_spot (Lent q) p some is = ap Lent (ap lent_number (sym is ∙ some_cpu_is p some))
@@ -138,7 +138,7 @@ holds_same s f change same g = elim (cases_eq g f) [
   | inr ne ↦ ap (λ (k : FrameNote). k.references) (note_else s.view f g change ne)
 ]
 
--- ---- units and charges, where the frame is charged neither before nor after
+-- ---- units and charges, if the frame is charged neither before nor after
 
 module _ (spots : List Spot) (f : ℕ) (x : Spot) (inside : f < length spots) (was : spot_group (spot_at spots f) ≡ None) (now : spot_group x ≡ None) where
   -- another frame's record stays, and one that is charged is another's

@@ -68,7 +68,7 @@ module _ (s : KnownSeat) (f : ℕ) (change : FrameNote → FrameNote) where
     | inr ne ↦ ap read (note_else s.view f g change ne)
   ]
 
--- a visit stays open, with nothing passing, where the change leaves what was lent and handed over
+-- a visit stays open, with no frame in transit, if the change leaves what was lent and handed over
 pub visit_stays : (t : KnownTable) (m n : KnownMachine) (c : KnownCpu) (f : ℕ) (change : FrameNote → FrameNote) → n.frame_seat ≡ seat_with m.frame_seat f change
     → ((k : FrameNote) → (change k).lent ≡ k.lent) → ((k : FrameNote) → (change k).passed_out ≡ k.passed_out)
     → ((k : FrameNote) → (change k).collected ≡ k.collected) → Visits t (side m c) → Visits t (side n c)
@@ -104,7 +104,7 @@ references_less seat c f change less q x = elim (cases_eq q 0) [
 
 -- ---- what brings a frame into the zone's hand
 
--- the frame comes into the own hand, with one reference less
+-- the frame moves into the own hand of the seat, with one reference less
 pub record TakesInHand (change : FrameNote → FrameNote) : Type 0 where
   pub own : (k : FrameNote) → (change k).own ≡ 1
   pub lent : (k : FrameNote) → (change k).lent ≡ k.lent
@@ -121,7 +121,7 @@ may_put_one t m f inside held c =
 
 -- ---- the unit
 
--- the record of a head tells its unit
+-- the record of a head names its unit
 head_unit : (x : Spot) (g : ℕ) → head_group_of x ≡ Some g → (unit : ChargedUnit) × (x ≡ Head unit)
 head_unit (Head unit) g is = (unit, refl)
 head_unit x g is = absurd (none-some g is)
@@ -176,7 +176,7 @@ module _ (t : KnownTable) (w : Words) (m : KnownMachine) (ok : IsConsistent t w 
     may_put : (c : KnownCpu) → is_legal (local_of t m c) 0 (Put f) ≡ true
     may_put c = may_put_one t m f inside held_once c
 
-    -- ---- references of processors are left
+    -- ---- references of CPUs are left
 
     module _ (left : ℕ) where
       abbrev left_seat : KnownSeat
@@ -316,7 +316,7 @@ left_all t w m now same ok f i inside is kept_now links lists left_list stand li
     } in
     subst (λ (x : KnownMachine × KnownSeat). AllLeft t w x.0 f left (record m { links = links; lists = lists; frame_seat = x.1 })) (λ j. (same j, sym put j)) all
 
--- what is left where a kept unit came into the zone's hand by the step before the last one, and came back
+-- what is left after a kept unit came into the zone's hand by the step before the last one, and was freed
 pub record AllBack (t : KnownTable) (w : Words) (now : KnownMachine) (f : ℕ) (unit : ChargedUnit) (free : List Bool) (steps : Run) (n : KnownMachine) : Type 0 where
   pub consistent : IsConsistent t w n
   pub free_is : free ≡ free_of n.spots
@@ -327,7 +327,7 @@ pub record AllBack (t : KnownTable) (w : Words) (now : KnownMachine) (f : ℕ) (
   pub visit : (c : KnownCpu) → Visits t (side now c) → Visits t (side n c)
   pub runs : MakesForAny t now steps n
 
--- where the step before the last one leaves the state that the zone's last put leaves
+-- the step before the last one leaves the state that the zone's last put leaves
 pub back_all : (t : KnownTable) (w : Words) (m now : KnownMachine) → m ≡ now → IsConsistent t w m → (f i : ℕ)
     → f < t.frames → i ≡ f → home_of now.links f ≢ None → (links : List Link) (lists : List Lru) → LeavesList i (lists_of m) (group_lists links lists)
     → AllStand links lists → length links ≡ length m.links → length lists ≡ 64

@@ -204,7 +204,7 @@ back_end t m c x y n d so_far none = record {
 
 -- ---- both
 
--- the front of the back frames falls off at each step, and that of the fresh frames
+-- the front of the back frames leaves at each step, and that of the fresh frames
 pub fewer : (f : ℕ) (xs ys : List ℕ) → xs ≡ f ∷ ys → length ys < length xs
 fewer f xs ys is = let a : length xs ≡ length (f ∷ ys) = ap length is in omega (arith, a)
 

@@ -1,4 +1,4 @@
--- What the processor sees once a fresh or a back frame came into the zone's hand. Serves `settle`.
+-- What the CPU sees after a fresh or a back frame came into the zone's hand. Serves `settle`.
 use Rattle.std.proofs.Common.{◌≡◌, ℕ, ◌+◌, ◌-◌, ◌^◌, ◌<◌, ◌==◌, ◌&&◌, Bool, true, false, cond, List, [], ◌∷◌, length}
 use Rattle.std.proofs.Common.{refl, sym, ap, ◌∙◌, subst, arith, inl, inr, eq-eqb}
 use Rattle.std.specs.Prelude.{nat_le, slice_set}
@@ -61,7 +61,7 @@ pub back_phase : (c : KnownCpu) (f : ℕ) (x : Spot) (unit : ChargedUnit) → x 
     → phase_of c f x ≡ phase.Head unit (BackAt c.number)
 back_phase c f x unit is once = ap (phase_of c f) is ∙ cond-true (nat_le 1 (times f c.back)) _ _ (le-leb 1 (times f c.back) (omega (arith, once)))
 
--- ---- the processor after the frame was handed over
+-- ---- the CPU after the frame was handed over
 
 abbrev pub fresh_handed : KnownCpu → ℕ → List ℕ → KnownCpu
 fresh_handed c f rest = record c { fresh = rest; frame_seat = seat_with c.frame_seat f gave_back; stock_seat = with_view c.stock_seat (after_report c.stock_seat.view 1) }
@@ -92,7 +92,7 @@ module _ (c d : KnownCpu) (spots : List Spot) (f : ℕ) (others : (g : ℕ) (y :
   abbrev old : ℕ → Phase
   old g = phase_of c g (spot_at spots g)
 
-  -- where one record changed
+  -- after one record changed
   pub phases_set : (x : Spot) (b : Phase) → f < length spots → phase_of d f x ≡ b → (g : ℕ)
       → phase_of d g (spot_at (slice_set spots f x) g) ≡ with_at old f b g
   phases_set x b inside here g = elim (cases_eq g f) [
@@ -101,7 +101,7 @@ module _ (c d : KnownCpu) (spots : List Spot) (f : ℕ) (others : (g : ℕ) (y :
     | inr ne ↦ ap (phase_of d g) (get_or-set_other spots f g x Free ne) ∙ others g (spot_at spots g) ne ∙ sym (at_other old f b g ne)
   ]
 
-  -- where the frames of the unit came back
+  -- after the frames of the unit were freed
   pub phases_freed : (new : List Spot) (unit : ChargedUnit) (stage : Stage) → FreesFrames f (2 ^ unit.order) spots new → (g : ℕ)
       → phase_of d g (spot_at new g) ≡ without_unit (with_at old f (phase.Head unit stage)) f g
   phases_freed new unit stage frees g =
@@ -135,7 +135,7 @@ module _ (stock : Seated) (c : KnownCpu) (f : ℕ) (rest : List ℕ) (front : c.
   abbrev handed : Part
   handed = without_frame part (phase.Head unit (FreshAt c.number)) c.number f
 
-  -- the processor's own part with the page reported and absorbed
+  -- the CPU's own part with the page reported and absorbed
   abbrev pub absorbed_part : Part
   absorbed_part = record handed {
     unreported = handed.unreported - 1;
@@ -180,7 +180,7 @@ module _ (stock : Seated) (c : KnownCpu) (f : ℕ) (rest : List ℕ) (front : c.
       ]
 
 module _ (stock : Seated) (c : KnownCpu) (f : ℕ) (rest : List ℕ) (front : c.back ≡ f ∷ rest) (at : IsBackFront c f rest) (unit : ChargedUnit) where
-  -- the processor's own part without the back frame
+  -- the CPU's own part without the back frame
   abbrev pub back_part : Part
   back_part = without_frame (part_with c.list c.fresh c.back (account_of stock.view c.number)) (phase.Head unit (BackAt c.number)) c.number f
 

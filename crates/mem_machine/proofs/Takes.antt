@@ -1,4 +1,4 @@
--- The front of the list of the processor that is visited goes back to the free areas. Serves `take_one_back`.
+-- The front of the visited CPU's list is returned to the free areas. Serves `take_one_back`.
 use Rattle.std.proofs.Common.{◌≡◌, ℕ, ◌+◌, ◌<◌, ◌==◌, Bool, true, false, Option, Some, None, List, [], ◌∷◌, length, get_or, refl, sym, ap, ◌∙◌}
 use Rattle.std.proofs.Common.{subst, inl, inr, arith, eq-eqb}
 use Rattle.std.specs.Prelude.{slice_set, IfSome}
@@ -57,7 +57,7 @@ without_none f (x ∷ xs) none = elim (cases_eq x f) [
 without_here : (f : ℕ) (rest : List ℕ) → times f rest ≡ 0 → without f (f ∷ rest) ≡ rest
 without_here f rest none = let t : (f == f) ≡ true = eq-eqb f f refl in rw t (without_none f rest none)
 
--- the frame that stands in front alone is gone
+-- only the front frame is gone
 pub without_front : (f : ℕ) (xs rest : List ℕ) → xs ≡ f ∷ rest → times f rest ≡ 0 → without f xs ≡ rest
 without_front f xs rest front none =
     ap (without f) front ∙ without_here f rest none
@@ -70,7 +70,7 @@ module _ (t : KnownTable) (w : Words) (m : KnownMachine) (c : KnownCpu) (tied : 
   pub is_lent_spot : spot_at m.spots f ≡ Lent c.number
   is_lent_spot = lent_spot (spot_at m.spots f) c.number tied.seats.some_number (ap some_cpu (sym lent) ∙ (ok.spots f inside).lent)
 
-  -- the frame stands on the list once, and on no other list
+  -- the frame is once on the list, and on no other list
   listed_once : times f c.list ≡ 1 + times f rest
   listed_once = let a = ap (times f) front ∙ times_front f f rest in let b = test_here f in omega (arith, a, b)
 
@@ -245,7 +245,7 @@ pub taken_none : (m now : KnownMachine) → m ≡ now → (c d : KnownCpu) (seat
     → TakesNoneBack (side now c) (side (record m { frame_seat = seat }) d)
 taken_none m now same c d seat none is = record { none = none.0; stays = record { machine = (λ i. record m { frame_seat = is i }) ∙ same; cpu = none.1 } }
 
--- the frame passes for the processor once it was handed
+-- the frame passes for the CPU once it was handed
 pub passes_back_to : (t : KnownTable) (w : Words) (m now : KnownMachine) → m ≡ now → (c h : KnownCpu) → IsTied t w c → Visits t (side now c)
     → (f : ℕ) (seat : KnownSeat)
     → f < t.frames → HandsFront f c h → seat ≡ m.frame_seat → Passes seat h.frame_seat f
@@ -255,7 +255,7 @@ passes_back_to t w m now same c h tied visit f seat inside hands is =
     (sym same) visit.still) h.frame_seat
     (ap (λ (x : KnownCpu). x.frame_seat) hands.2) inside)
 
--- its frame may be given back
+-- its frame may be freed
 pub may_give : (t : KnownTable) (w : Words) (m : KnownMachine) (c : KnownCpu) → IsTied t w c → IsConsistent t w m → (before : List Bool) (f i k : ℕ)
     → before ≡ free_of m.spots → f < t.frames → IsLent m.frame_seat f c.number → i ≡ f → k ≡ 0 → IsInUse before (record { at = i; order = k })
 may_give t w m c tied ok before f i k was inside lent index zero_is =

@@ -166,7 +166,7 @@ free_in_hand t w m ok f g inside is named =
 
 -- ---- all of it
 
--- what `take_block` leaves where there is a block, of the machine as it was seen before
+-- what `take_block` leaves if there is a block, of the machine as it was seen before
 pub record AllTaken (t : KnownTable) (w : Words) (now : KnownMachine) (c : KnownCpu) (g k at : ℕ) (n : KnownMachine) (d : KnownCpu) (free : List Bool) : Type 0 where
   pub consistent : IsConsistent t w n
   pub free_is : free ≡ free_of n.spots
@@ -174,7 +174,7 @@ pub record AllTaken (t : KnownTable) (w : Words) (now : KnownMachine) (c : Known
   pub visit : Visits t (side n d)
   pub steps : MakesAs t c.number (side now c) (taken_steps g k at) (side n d)
 
--- what is asked of the processor and of the group
+-- what is asked of the CPU and of the group
 pub record MayTake (t : KnownTable) (m : KnownMachine) (c : KnownCpu) (g : ℕ) : Type 0 where
   pub visit : Visits t (side m c)
   pub none_back : c.back ≡ []
@@ -289,7 +289,7 @@ taken_all t w m now same c d stays ok facts g fits k pages size may room ledger 
 
 -- ---- no block
 
--- what it leaves where there is none
+-- what it leaves if there is none
 pub record NoneTaken (t : KnownTable) (now : KnownMachine) (c : KnownCpu) (g k : ℕ) (n : KnownMachine) (d : KnownCpu) : Type 0 where
   pub none : TakesNoBlock g k now n
   pub steps : MakesAs t c.number (side now c) (unplaced_steps g k) (side n d)

@@ -1,4 +1,4 @@
--- The ledger tells a run, and goes on telling it with each call. Serves `ledgers_tell`.
+-- The ledger has a run's peaks and event counts, and each call keeps this true. Serves `ledgers_tell`.
 use Rattle.std.proofs.Common.{◌≡◌, ◌≢◌, ℕ, ◌==◌, ◌&&◌, ◌++◌, Bool, true, false, [], ◌∷◌, cond, take, length, Option, Some, refl, sym, ap, ◌∙◌, subst, inl, inr, zero, suc, eq-eqb}
 use Rattle.std.specs.Prelude.{IfSome, max}
 use Rattle.std.specs.List.{slice_get}
@@ -33,7 +33,7 @@ use Rattle.mem_machine.specs.Interleaving.{zone_of}
 use Rattle.mem_machine.specs.Telling.{LedgersTell}
 use Rattle.mem_machine.proofs.Followed.{is_still, only_made, Stays, Test, still_peak, below_stays, at_stays, count_begins}
 
--- ---- steps of other processors
+-- ---- steps of other CPUs
 
 illegal_still : (action : Action) → is_still action Illegal ≡ true
 illegal_still (Grant g n) = refl
@@ -48,7 +48,7 @@ not_own p seat other = (
   λ e. true≢false (sym (or_right (seat == 0) (seat == p) (eq-eqb seat p e)) ∙ other),
 )
 
--- no step that moves a peak or a count is a processor's
+-- no step that moves a peak or a count is a CPU's
 cpu_still : (s : State) (seat : ℕ) (action : Action) (answer : Answer) → seat ≢ 0 → is_legal s seat action ≡ true → is_still action answer ≡ true
 cpu_still s seat (Grant g n) Granted ne legal = absurd (not_zone seat _ ne (grant_tests s seat g n legal).0)
 cpu_still s seat (NoteMax g) Done ne legal = absurd (not_zone seat _ ne (and_parts _ _ legal).0)
@@ -78,11 +78,11 @@ last_allowed zone run step answer legal =
     (λ i. (get_last run (step, answer) i, take-append_seam run ((step, answer) ∷ []) i)) (legal (length run))
 
 module _ (zone : Zone) (p m : ℕ) where
-  -- the groups that the processor sees are those of the whole
+  -- the groups that the CPU sees are those of the whole
   groups_seen : (run : Run) (a : State) → ShowsLocal zone run p a → has_group a.groups m ≡ has_group (state_of zone run).groups m
   groups_seen run a shows = ap (λ (s : State). has_group s.groups m) shows.sees
 
-  -- the peak follows by what the processor sees as by the whole
+  -- the peak follows by what the CPU sees as by the whole
   follows_seen : (t : State) (run : Run) → ShowsLocal zone run p t → (action : Action) (answer : Answer) (x : ℕ)
       → peak_follows t action answer m x ≡ peak_follows (state_of zone run) action answer m x
   follows_seen t run shows (Grant g n) Granted x =
@@ -92,7 +92,7 @@ module _ (zone : Zone) (p m : ℕ) where
   follows_seen t run shows (Make path) (Number n) x = refl
   follows_seen t run shows action answer x = refl
 
-  -- a number that goes on along own steps by its moves, and along others' as it is
+  -- a number that changes at own steps by its moves, and doesn't change at others' steps
   module _ (Tells : Run → ℕ → Type 0) (moves : Moves)
       (own_on : (run : Run) (a : State) (e : Step × Answer) (x : ℕ) → ShowsLocal zone run p a → IsLocalStep a p e.0.seat e.0.action e.1
       → Allows (state_of zone run) e.0.seat e.0.action e.1 → ShowsLocal zone (pushed run e.0 e.1) p (after a e.0.seat e.0.action e.1)

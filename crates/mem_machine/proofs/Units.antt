@@ -13,7 +13,7 @@ use Rattle.mem_machine.specs.Spots.{spot_at, spot_group, head_group_of, AreUnits
 use Rattle.mem_machine.specs.Blocks.{PlacesUnit}
 use Rattle.mem_machine.proofs.PlacesUnits.{head_of_block, tail_of_block, off_block}
 
--- the unit and the group that a record tells
+-- the unit and the group that a record names
 abbrev told_unit : Spot → ChargedUnit
 told_unit (Head unit) = unit
 told_unit x = record { group = 0; order = 0 }

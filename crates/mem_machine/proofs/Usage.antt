@@ -44,8 +44,8 @@ as_steps f (x ∷ xs) =
     let rest = as_steps f xs in
     omega arith
 
--- what a look at the caller's stock shows, and what is so where no frame is fresh: its book is of the group of the stock that it
--- saw last, if there is a fresh frame, and has its fresh pages
+-- What a look at the caller's stock shows. The book covers the fresh frames. If a frame is fresh, the stock that the
+-- CPU saw last has a group, and the book is of that group.
 pub record IsBalanced (m : KnownMachine) (c : KnownCpu) : Type 0 where
   pub group : (length c.fresh ≡ 0) ⊎ ((account_of m.stock_seat.view c.number).group ≡ stocks.group_of c.stock_seat.view.last)
   pub covers : length c.fresh ≤ (account_of m.stock_seat.view c.number).book
@@ -113,7 +113,7 @@ module _ (t : KnownTable) (w : Words) (m : KnownMachine) (c : KnownCpu) (is : Is
         omega arith
   ]
 
-  -- the fresh pages, where they count
+  -- the fresh pages, if they count
   abbrev fresh_pages : ℕ
   fresh_pages = cond (in_subtree groups g (fresh_group c)) (length c.fresh) 0
 
@@ -131,7 +131,7 @@ module _ (t : KnownTable) (w : Words) (m : KnownMachine) (c : KnownCpu) (is : Is
       let d = fresh_counted in
       omega arith
 
-  -- the fresh pages of a stock of this group, where it counts
+  -- the fresh pages of a stock of this group, if it counts
   fresh_of : (account_of m.stock_seat.view c.number).group ≡ stocks.group_of c.stock_seat.view.last → (o : Option ℕ) → (account_of m.stock_seat.view c.number).group ≡ o
       → cond (is_below groups g o) (length c.fresh) 0 ≡ cond (in_subtree groups g (number_or_0 o)) (length c.fresh) 0
   fresh_of group None e =

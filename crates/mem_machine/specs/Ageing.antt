@@ -1,13 +1,13 @@
--- The lists of one group, aged and renewed, and what is read of them.
+-- How the two lists of a group are aged and renewed, and how they are read.
 use Rattle.std.specs.Prelude.{◌≡◌, ℕ, false, [], ◌∷◌, ◌++◌}
 use Rattle.lru_lists.specs.Lists.{SameOwners, Ages, entries_without, entry_of, marked}
 use Rattle.mem_machine.specs.Machines.{KnownMachine, OthersStay, LooseStay, lists_at, lists_of, inactive_in, active_in}
 -- one of the two lists of the group, from the oldest unit to the newest
 pub use Rattle.mem_machine.specs.Machines.{entries_in}
 
--- The group's oldest active units, as few as leave its active list no longer than the inactive one, are at the newest
--- end of that, unmarked, and each frame stands on a list of the group on whose lists it stood, as dirty as it was;
--- nothing else changed
+-- The group's oldest active units move, unmarked, to the newest end of its inactive list. They are as few as leave the
+-- active list no longer than the inactive one. Each frame is on a list of the same group as before and as dirty as
+-- before. Nothing else changed.
 pub record AgesGroup (group : ℕ) (before after : KnownMachine) : Type 0 where
   pub machine : after ≡ record before { links = after.links; lists = after.lists }
   pub ages : Ages before.links (lists_at before.lists group) after.links (lists_at after.lists group)
@@ -15,8 +15,8 @@ pub record AgesGroup (group : ℕ) (before after : KnownMachine) : Type 0 where
   pub owners : SameOwners before.links after.links
   pub loose : LooseStay before.links after.links
 
--- The unit is at the newest end of the group's inactive list, unmarked, and each frame stands on a list of the group on
--- whose lists it stood, as dirty as it was; nothing else changed
+-- The unit moves, unmarked, to the newest end of the group's inactive list. Each frame is on a list of the same group
+-- as before and as dirty as before. Nothing else changed.
 pub record RenewsUnit (group frame : ℕ) (before after : KnownMachine) : Type 0 where
   pub machine : after ≡ record before { links = after.links; lists = after.lists }
   pub inactive : inactive_in after group

@@ -1,4 +1,4 @@
--- Blocks that are charged to a group and taken.
+-- How blocks are taken and charged to a group.
 use Rattle.std.specs.Prelude.{◌≡◌, ℕ, ◌^◌, ◌==◌, Result, Ok, Err}
 use Rattle.std.specs.Prelude.{List, [], ◌∷◌, length, if◌then◌else◌}
 use Rattle.zone_blocks.specs.declared.block.Block.{Block}
@@ -19,21 +19,21 @@ use Rattle.mem_machine.specs.Lists.{ListsUnit}
 use Rattle.mem_machine.specs.Machines.{KnownMachine, LacksRoom}
 use Rattle.mem_machine.specs.Steps.{over_steps, zone_makes}
 
--- the record of a frame once the block is a unit of the group: the first frame heads it, and the rest are tails
+-- the record of a frame after the block became a unit of the group: the block's first frame is the head, its other
+-- frames are tails
 abbrev pub placed_spot : List Spot → ℕ → Block → ℕ → Spot
 placed_spot spots group block frame =
     if is_within block.at (2 ^ block.order) frame
     then (if frame == block.at then Head (record { group = group; order = block.order }) else Tail group)
     else spot_at spots frame
 
--- the block is a unit of the group, and all other frames have the records that they had
+-- the block is a unit of the group, and all other frames keep their records
 pub record PlacesUnit (group : ℕ) (block : Block) (before after : List Spot) : Type 0 where
   pub frames : length after ≡ length before
   pub records : (frame : ℕ) → spot_at after frame ≡ placed_spot before group block frame
 
--- The group is charged for a block of this order, and has it: the front of the free block of the least sufficient order
--- that has the least address. Its head is in use, with one reference of the zone, and stands on the group's inactive
--- list
+-- The group is charged for a block of this order and gets it. It is the front of the free block of the least sufficient
+-- order with the least address. The head is in use, has one reference of the zone, and is on the group's inactive list.
 pub record TakesBlock (group order at : ℕ) (before after : KnownMachine) : Type 0 where
   pub room : PathHasRoom before.ledger.groups (current_of before.ledger) group (2 ^ order)
   pub front : IsFrontOfSmallest before.blocks order (record { at = at; order = order })
@@ -49,8 +49,7 @@ pub record TakesBlock (group order at : ℕ) (before after : KnownMachine) : Typ
     frame_seat = seat_with before.frame_seat at (unfrozen 1);
   }
 
--- there is no free block of the order or above: the pages were charged and went back, so that the peaks alone may be
--- higher
+-- there is no free block of the order or above: the pages were charged and uncharged, so only the peaks may be higher
 pub record TakesNoBlock (group order : ℕ) (before after : KnownMachine) : Type 0 where
   pub room : PathHasRoom before.ledger.groups (current_of before.ledger) group (2 ^ order)
   pub none : HasNoneFrom before.blocks order
@@ -58,14 +57,14 @@ pub record TakesNoBlock (group order : ℕ) (before after : KnownMachine) : Type
     ledger = with_uncharge (with_charge before.ledger group (2 ^ order)) group (2 ^ order);
   }
 
--- The machine where no block was taken. A limit had no room for it, that of the named group the lowest, and nothing
--- changed; or no free block of the order or above is there
+-- What a refusal leaves. If a limit has no room for the block, the error names the lowest such group, and nothing
+-- changed. Else there is no free block of the order or above, and only the peaks may be higher.
 abbrev pub RefusesBlock : ℕ → ℕ → TakeFault → KnownMachine → KnownMachine → Type 0
 RefusesBlock group order (fault.Over over) before after =
     LacksRoom before group (2 ^ order) over.group × (after ≡ before)
 RefusesBlock group order fault.NoBlock before after = TakesNoBlock group order before after
 
--- the steps of a block of this order that is charged to the group and begins at this frame
+-- the steps of a block of this order, charged to the group, that begins at frame `at`
 abbrev pub taken_steps : ℕ → ℕ → ℕ → Run
 taken_steps group order at =
     zone_makes (Grant group (2 ^ order)) Granted
@@ -74,7 +73,7 @@ taken_steps group order at =
     ∷ zone_makes (Publish at) Done
     ∷ []
 
--- the steps where no free block of the order or above is there
+-- the steps if there is no free block of the order or above
 abbrev pub unplaced_steps : ℕ → ℕ → Run
 unplaced_steps group order =
     zone_makes (Grant group (2 ^ order)) Granted
@@ -82,7 +81,7 @@ unplaced_steps group order =
     ∷ zone_makes (Ungrant group (2 ^ order)) Done
     ∷ []
 
--- the steps of a call that takes a block, by its answer
+-- the steps of a call that takes a block, by its result
 abbrev pub block_steps : ℕ → ℕ → Result ℕ TakeFault → Run
 block_steps group order (Ok at) = taken_steps group order at
 block_steps group order (Err (fault.Over over)) = over_steps group (2 ^ order) over.group

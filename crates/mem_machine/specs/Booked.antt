@@ -1,4 +1,4 @@
--- The pages that are booked to the stocks of each group, as they are counted.
+-- The pages booked to the stocks of each group, and the sums that count them.
 use Rattle.std.specs.Prelude.{◌≡◌, ℕ, ◌<◌, List, length}
 use Rattle.std.specs.List.{slice_index_or}
 use Rattle.frame_word.specs.Seats.{KnownTable}
@@ -6,8 +6,8 @@ use Rattle.stock_word.specs.Stock.{Words, Seated, IsZoneStock}
 use Rattle.group_tree.specs.Bounds.{most_groups}
 use Rattle.mem_machine.specs.Machines.{pages_booked}
 
--- The seat is the zone's at the table of the stocks, which has as many processors as that of the frames. There is a sum
--- for each group number: what is booked to the stocks of that group
+-- The seat is the zone's at the stock table, which has as many CPUs as the frame table. For each group number there is
+-- a sum: how many pages are booked to the stocks of that group.
 pub record AreBooked (frame_table : KnownTable) (words : Words) (stock : Seated) (sums : List ℕ) : Type 0 where
   pub table : stock.table ≡ words.table
   pub zone : IsZoneStock stock.view

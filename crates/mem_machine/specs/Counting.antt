@@ -1,4 +1,4 @@
--- What a list of steps makes of the machine's counts: how often units ended and came back, or were tried in vain.
+-- How a list of steps changes the machine's counts of units that ended, were freed or were missed.
 use Rattle.std.specs.Prelude.{ℕ, ◌==◌, Bool, true, false, [], ◌∷◌, if◌then◌else◌}
 use Rattle.group_tree.specs.Room.{one_more}
 use Rattle.step_rules.specs.declared.phase.Stage.{Stage}
@@ -15,31 +15,31 @@ use Rattle.step_rules.specs.After.{Run, after}
 use Rattle.mem_machine.specs.declared.counts.Counts.{Counts}
 use Rattle.mem_machine.specs.Counts.{with_drop, with_miss}
 
--- the unit's head passes back as a back frame
+-- the unit's head is being passed back as a back frame
 abbrev pub is_stage_back_passing : Stage → Bool
 is_stage_back_passing (BackPassing cpu) = true
 is_stage_back_passing stage = false
 
--- the frame passes back as a back frame
+-- the frame is being passed back as a back frame
 abbrev pub is_back_passing : Phase → Bool
 is_back_passing (Head unit stage) = is_stage_back_passing stage
 is_back_passing phase = false
 
--- one last put more
+-- one more last put
 abbrev pub with_one_put_last : Counts → Counts
 with_one_put_last counts = record counts { last_puts = one_more counts.last_puts }
 
--- one freeze more
+-- one more freeze
 abbrev pub with_one_frozen : Counts → Counts
 with_one_frozen counts = record counts { freezes = one_more counts.freezes }
 
--- one unit more that came back
+-- one more unit freed
 abbrev pub with_one_returned : Counts → Counts
 with_one_returned counts = record counts { returns = one_more counts.returns }
 
--- The counts after a step with its answer, by the state before it; each stays at its greatest. A last put is counted if
--- the zone's own put was the last, and if it collects a back frame. A freeze, or a miss, is counted by the answer. A unit
--- that comes back is counted, and as a drop too if it was a fresh frame of a killed group
+-- The counts after a step with its answer, by the state before it; a count stays at its greatest value. A last put
+-- counts if the zone made it, or when the zone collects the back frame. A freeze counts as done or as missed, by its
+-- answer. A freed unit counts, and also as a drop if it was a fresh frame of a killed group.
 abbrev pub counts_after : State → (seat : ℕ) → Action → Answer → Counts → Counts
 counts_after state seat (Put frame) Last counts = if seat == 0 then with_one_put_last counts else counts
 counts_after state seat (Collect frame cpu) Done counts =

@@ -1,28 +1,28 @@
--- How often units ended and came back, or were tried in vain.
+-- How many units ended, were freed, or were missed.
 use Rattle.std.specs.Prelude.{◌≡◌, ◌+◌, min}
 use Rattle.group_tree.specs.Room.{max_count, one_more}
 use Rattle.mem_machine.specs.declared.counts.Counts.{Counts}
 
--- nothing ended, nothing came back, and nothing was tried in vain
+-- all counts are 0
 abbrev pub no_counts : Counts
 no_counts = record { last_puts = 0; freezes = 0; drops = 0; returns = 0; misses = 0 }
 
--- each unit that came back was put last, frozen or dropped, as far as the counts go, which stay at their greatest
+-- the units freed are the last puts, the freezes and the drops together, or the greatest count if that is less
 abbrev pub BalancesCounts : Counts → Type 0
 BalancesCounts counts = counts.returns ≡ min (counts.last_puts + counts.freezes + counts.drops) max_count
 
--- one more unit of which someone had the last put, and which came back
+-- one more unit freed after its last reference was put
 abbrev pub with_last_put : Counts → Counts
 with_last_put counts = record counts { last_puts = one_more counts.last_puts; returns = one_more counts.returns }
 
--- one more unit that was frozen, and which came back
+-- one more unit frozen and freed
 abbrev pub with_freeze : Counts → Counts
 with_freeze counts = record counts { freezes = one_more counts.freezes; returns = one_more counts.returns }
 
--- one more fresh frame that was dropped, and came back
+-- one more fresh frame dropped and freed
 abbrev pub with_drop : Counts → Counts
 with_drop counts = record counts { drops = one_more counts.drops; returns = one_more counts.returns }
 
--- one more unit that was tried in vain
+-- one more unit missed
 abbrev pub with_miss : Counts → Counts
 with_miss counts = record counts { misses = one_more counts.misses }

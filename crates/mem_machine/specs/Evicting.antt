@@ -1,4 +1,4 @@
--- Kept units that are tried: frozen and given back where nobody else has a reference, and missed else.
+-- How reclaim tries a kept unit: the unit is frozen and freed if only the zone has a reference, else it is missed.
 use Rattle.std.specs.Prelude.{◌≡◌, ◌≢◌, ℕ, ◌^◌, Option, Some, None, [], ◌∷◌}
 use Rattle.zone_blocks.specs.Areas.{AreMaximalBlocks}
 use Rattle.frame_word.specs.Views.{frozen, missed}
@@ -16,7 +16,7 @@ use Rattle.mem_machine.specs.Freeing.{FreesFrames}
 use Rattle.mem_machine.specs.Lists.{LeavesList}
 use Rattle.mem_machine.specs.Steps.{zone_makes}
 
--- someone else has a reference: the zone's seat noted one miss more on the frame, which is counted, and nothing else
+-- someone else has a reference on the frame: the zone's seat notes one more miss, which is counted, and nothing else
 -- changed
 pub record MissesUnit (frame : ℕ) (before after : KnownMachine) : Type 0 where
   pub word : ℕ
@@ -26,8 +26,8 @@ pub record MissesUnit (frame : ℕ) (before after : KnownMachine) : Type 0 where
     counts = with_miss before.counts;
   }
 
--- the unit was frozen and came back: it is off its list, its frames are free, and its pages, so many, off the charge of
--- its group, whose list it stood on; nothing else changed
+-- The unit was frozen and freed. It left its list, its frames are free, and its pages, this many, left the charge of
+-- its group. Nothing else changed.
 pub record EvictsUnit (frame pages : ℕ) (before after : KnownMachine) : Type 0 where
   pub unit : ChargedUnit
   pub heads : spot_at before.spots frame ≡ Head unit
@@ -47,12 +47,12 @@ pub record EvictsUnit (frame pages : ℕ) (before after : KnownMachine) : Type 0
     counts = with_freeze before.counts;
   }
 
--- what a try leaves, by what it tells: the pages that came back, or none where it missed
+-- what a try leaves, by its result: the number of pages freed, or None for a miss
 abbrev pub Evicts : ℕ → Option ℕ → KnownMachine → KnownMachine → Type 0
 Evicts frame None before after = MissesUnit frame before after
 Evicts frame (Some pages) before after = EvictsUnit frame pages before after
 
--- the steps of a try: the zone freezes the frame, and where that is done the unit comes back
+-- the steps of a try: the zone freezes the frame and, if that succeeds, the unit is freed
 abbrev pub evict_steps : ℕ → Option ℕ → Run
 evict_steps frame None = zone_makes (Freeze frame 1) Missed ∷ []
 evict_steps frame (Some pages) = zone_makes (Freeze frame 1) Done ∷ zone_makes (Return frame) Done ∷ []

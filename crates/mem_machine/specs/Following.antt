@@ -1,5 +1,5 @@
--- What a list of steps makes of the peaks and the event counts that the ledger keeps (memory.peak, memory.events and
--- memory.events.local of cgroup-v2.rst).
+-- How a list of steps changes the ledger's peaks and event counts (memory.peak, memory.events and memory.events.local
+-- of cgroup-v2.rst).
 use Rattle.std.specs.Prelude.{◌≡◌, ℕ, Bool, true, List, [], ◌∷◌}
 use Rattle.group_tree.specs.declared.event.EventKey.{EventKey}
 use Rattle.group_tree.specs.declared.group.Group.{Group}
@@ -14,7 +14,7 @@ use Rattle.step_rules.specs.After.{Run, after}
 use Rattle.step_rules.specs.Peaks.{peak_follows}
 use Rattle.step_rules.specs.Events.{count_after, is_noted_at, is_noted_below}
 
--- how a step, with its answer, moves a number, by the state before it
+-- how a step with its answer changes a number, by the state before it
 abbrev pub Moves : Type 0
 Moves = State → Step × Answer → ℕ → ℕ
 
@@ -24,12 +24,12 @@ moved_over moves state [] number = number
 moved_over moves state (made ∷ rest) number =
     moved_over moves (after state made.0.seat made.0.action made.1) rest (moves state made number)
 
--- how a step moves the peak of the group: it follows the state that the step leads to
+-- how a step changes the group's peak, by the state after the step
 abbrev pub moves_peak : ℕ → Moves
 moves_peak group state made peak =
     peak_follows (after state made.0.seat made.0.action made.1) made.0.action made.1 group peak
 
--- how a step moves a count of the group: it is tested with the groups before the step
+-- how a step changes a count of the group, tested with the groups before the step
 abbrev pub moves_count : (List Group → Action → Answer → Bool) → ℕ → Moves
 moves_count test group state made count = count_after test group state.groups made.0.action made.1 count
 
@@ -41,8 +41,8 @@ peak_over group state steps peak = moved_over (moves_peak group) state steps pea
 abbrev pub count_over : (List Group → Action → Answer → Bool) → ℕ → State → Run → ℕ → ℕ
 count_over test group state steps count = moved_over (moves_count test group) state steps count
 
--- Of each group that is there after the steps, the peak and the counts are what the steps make of those before. A group
--- that the steps make begins with 0, whatever its number had before
+-- For each group that exists after the steps, the peak and the counts follow the steps from their values before. A
+-- group that the steps make starts at 0, whatever its number had before.
 pub record FollowsSteps (state : State) (before : Ledger) (steps : Run) (after : Ledger) : Type 0 where
   pub peak : (group : ℕ) → has_group after.groups group ≡ true
       → peak_of after group ≡ peak_over group state steps (peak_of before group)

@@ -1,4 +1,4 @@
--- What a contract sees of the machine's fields, and what always holds of them.
+-- What contracts see of the machine's fields, and what always holds of them.
 use Rattle.std.specs.Prelude.{◌≡◌}
 use Rattle.frame_word.specs.Seats.{KnownTable}
 use Rattle.stock_word.specs.Stock.{Words}
@@ -6,7 +6,7 @@ use Rattle.mem_machine.specs.declared.machine.Machine.TheInside.{Inside}
 use Rattle.mem_machine.specs.Spots.{free_of}
 use Rattle.mem_machine.specs.Machines.{KnownMachine, IsConsistent}
 
--- what a contract sees of these fields
+-- what contracts see of these fields
 abbrev pub machine_of : {N : Type 0} → Inside N → KnownMachine
 machine_of fields = record {
   blocks = fields.zone.blocks;

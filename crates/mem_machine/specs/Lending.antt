@@ -1,4 +1,4 @@
--- Frames that go between the free areas and a processor's list.
+-- How frames move between the free areas and a CPU's list.
 use Rattle.std.specs.Prelude.{◌≡◌, ℕ, ◌+◌, ◌≤◌, Bool, true, false}
 use Rattle.std.specs.Prelude.{List, [], ◌∷◌, ◌++◌, length, take, slice_set}
 use Rattle.zone_blocks.specs.Areas.{AreMaximalBlocks, HasNoneFrom, IsFrontOfSmallest}
@@ -12,7 +12,7 @@ use Rattle.mem_machine.specs.Machines.{OneByOne, SideStays}
 use Rattle.mem_machine.specs.Local.{Side, Makes}
 use Rattle.mem_machine.specs.Steps.{lend_steps, unlist_steps, refill_steps, drain_list_steps}
 
--- the frame, which was free, is at the end of the processor's list; nothing else changed
+-- the frame was free and is now at the end of the CPU's list; nothing else changed
 pub record LendsFrame (frame : ℕ) (before after : Side) : Type 0 where
   pub areas : AreMaximalBlocks (free_of after.machine.spots) after.machine.blocks
   pub machine : after.machine ≡ record before.machine {
@@ -25,8 +25,8 @@ pub record LendsFrame (frame : ℕ) (before after : Side) : Type 0 where
     frame_seat = seat_with before.cpu.frame_seat frame took_in;
   }
 
--- the frame, the free one of the least sufficient order that has the least address, is at the end of the processor's
--- list
+-- of the free blocks of the least order, the one with the least address gave its first frame, which is now at the end
+-- of the CPU's list
 pub record LendsOne (frame : ℕ) (before after : Side) : Type 0 where
   pub front : IsFrontOfSmallest before.machine.blocks 0 (record { at = frame; order = 0 })
   pub lends : LendsFrame frame before after
@@ -36,7 +36,7 @@ pub record LendsNone (before after : Side) : Type 0 where
   pub none : HasNoneFrom before.machine.blocks 0
   pub stays : SideStays before after
 
--- so many frames more fit the processor's list: the list and the fresh frames are at most `most_listed` then
+-- the CPU's list has room for this many more frames: with them, listed and fresh frames are at most `most_listed`
 abbrev pub HasListRoom : KnownCpu → ℕ → Type 0
 HasListRoom cpu count = length cpu.list + length cpu.fresh + count ≤ most_listed
 
@@ -50,19 +50,19 @@ pub record LendsByStep (table : KnownTable) (before after : Side) : Type 0 where
   pub lends : LendsOne frame before after
   pub steps : Makes table before (lend_steps before.cpu.number frame) after
 
--- what lending one frame leaves, by what it tells: one is lent; or none is free
+-- what lending one frame leaves, by its result: true if a frame is lent, false if none is free
 abbrev pub LendsIfFree : KnownTable → Bool → Side → Side → Type 0
 LendsIfFree table true before after = LendsByStep table before after
 LendsIfFree table false before after = LendsNone before after
 
--- so many frames are lent, one after the other, by their steps
+-- this many frames are lent, one after the other, by their steps
 pub record Refills (table : KnownTable) (count : ℕ) (before after : Side) : Type 0 where
   pub frames : List ℕ
   pub all : count ≡ length frames
   pub lends : LendsMany frames before after
   pub steps : Makes table before (refill_steps before.cpu.number frames) after
 
--- the frame, the front of the processor's list, is free again
+-- the frame was at the front of the CPU's list and is free again
 pub record TakesOneBack (frame : ℕ) (before after : Side) : Type 0 where
   pub rest : List ℕ
   pub front : before.cpu.list ≡ frame ∷ rest
@@ -79,21 +79,22 @@ pub record TakesNoneBack (before after : Side) : Type 0 where
   pub none : before.cpu.list ≡ []
   pub stays : SideStays before after
 
--- these frames are taken back, one after the other
+-- these frames are returned to the zone, one after the other
 abbrev pub TakesManyBack : List ℕ → Side → Side → Type 0
 TakesManyBack frames before after = OneByOne TakesOneBack frames before after
 
--- one frame is taken back, by its steps
+-- one frame is returned to the zone, by its steps
 pub record TakesBackByStep (table : KnownTable) (before after : Side) : Type 0 where
   pub frame : ℕ
   pub takes : TakesOneBack frame before after
   pub steps : Makes table before (unlist_steps before.cpu.number frame) after
 
--- what taking one frame back leaves, by what it tells: the front of the list is free again; or the list is empty
+-- what returning one frame to the zone leaves, by its result: true if the front of the list is free again, false if the
+-- list is empty
 abbrev pub TakesBackIfListed : KnownTable → Bool → Side → Side → Type 0
 TakesBackIfListed table true before after = TakesBackByStep table before after
 TakesBackIfListed table false before after = TakesNoneBack before after
 
--- the steps by which so many frames are taken back from the front of the processor's list
+-- the steps that return this many frames from the front of the CPU's list to the zone
 abbrev pub unlist_front_steps : ℕ → Side → Run
 unlist_front_steps count now = drain_list_steps now.cpu.number (take count now.cpu.list)

@@ -1,4 +1,4 @@
--- Units that come onto the lists of their groups, and that leave them.
+-- How units join the lists of their groups and leave them.
 use Rattle.std.specs.Prelude.{◌≡◌, ◌≢◌, ℕ, Some, None, [], ◌∷◌, ◌++◌, false}
 use Rattle.lru_lists.specs.declared.record.LruList.{LruList}
 use Rattle.lru_lists.specs.declared.record.LruList.TheVariants.{Inactive}
@@ -6,8 +6,8 @@ use Rattle.lru_lists.specs.Queue.{link_at, nowhere, SameUse}
 use Rattle.lru_lists.specs.Lists.{inactive_of, active_of, entries_without}
 use Rattle.mem_machine.specs.Machines.{KnownMachine, GroupLists, OthersStay, LooseStay, home_of, lists_at, lists_of}
 
--- the unit comes to the newest end of its group's inactive list, clean and unmarked; every other frame and the lists of
--- all other groups are as they were, and each other frame on no list has the record that it had
+-- The unit joins the newest end of its group's inactive list, clean and unmarked. Every other frame is on the list that
+-- it was on, if any. The lists of all other groups are the same, and each other frame on no list keeps its link.
 pub record JoinsList (group frame : ℕ) (before after : GroupLists) : Type 0 where
   pub stands : home_of after.links frame ≡ Some (record { owner = group; list = Inactive })
   pub homes : (other : ℕ) → other ≢ frame → home_of after.links other ≡ home_of before.links other
@@ -20,12 +20,12 @@ pub record JoinsList (group frame : ℕ) (before after : GroupLists) : Type 0 wh
   pub loose : (other : ℕ) → other ≢ frame → home_of before.links other ≡ None
       → link_at after.links other ≡ link_at before.links other
 
--- the unit comes onto its group's inactive list, in the machine
+-- the unit joins its group's inactive list, in the machine
 abbrev pub ListsUnit : ℕ → ℕ → KnownMachine → KnownMachine → Type 0
 ListsUnit group frame before after = JoinsList group frame (lists_of before) (lists_of after)
 
--- the unit is off the list that it stood on, of the group of this number; every other unit stands on the list that it
--- stood on, at its place there, marked and dirty as it was, and each frame on no list has the record that it had
+-- The unit leaves its list. Every other unit keeps its list, its place there, its mark and its dirt. Each frame on no
+-- list keeps its link.
 pub record LeavesList (frame : ℕ) (before after : GroupLists) : Type 0 where
   pub group : ℕ
   pub list : LruList

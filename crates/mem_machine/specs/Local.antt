@@ -1,4 +1,4 @@
--- The local state: what stands where, as the processor that holds the lock sees it from the machine and its own part.
+-- The local state: what the CPU that holds the lock sees of the machine and its own part, in the words of the rules.
 use Rattle.std.specs.Prelude.{◌≡◌, ℕ, ◌-◌, ◌==◌, ◌&&◌, nat_le, not, Option, Some, None, is_some}
 use Rattle.std.specs.Prelude.{List, [], length, slice_index, if◌then◌else◌}
 use Rattle.frame_word.specs.Seats.{KnownTable, KnownSeat, holds}
@@ -16,7 +16,7 @@ use Rattle.step_rules.specs.State.{State, Part}
 use Rattle.step_rules.specs.After.{Run}
 -- the lists of local steps that lead from one local state to another
 pub use Rattle.step_rules.specs.Reaches.{IsLocalRun}
--- the machine, and the part of the processor that holds its lock
+-- the machine, and the part of the CPU that holds its lock
 pub use Rattle.mem_machine.specs.Machines.{Side, side}
 use Rattle.mem_machine.specs.declared.spot.Spot.{Spot}
 use Rattle.mem_machine.specs.declared.spot.Spot.TheVariants.{Free, Lent, Head, Tail}
@@ -25,17 +25,17 @@ use Rattle.mem_machine.specs.Machines.{KnownMachine, is_killed}
 use Rattle.mem_machine.specs.Following.{FollowsSteps}
 use Rattle.mem_machine.specs.Counting.{counts_over}
 
--- the number, 0 where there is none
+-- the number, or 0 if there is none
 abbrev pub number_or_0 : Option ℕ → ℕ
 number_or_0 None = 0
 number_or_0 (Some number) = number
 
--- the group that the processor's fresh frames are of
+-- the group of the CPU's fresh frames
 abbrev pub fresh_group : KnownCpu → ℕ
 fresh_group cpu = number_or_0 (stocks.group_of cpu.stock_seat.view.last)
 
--- the phase of the frame with this record, to the processor: a frame lent to it is fresh or listed, and a unit with its
--- own last put is in its hand
+-- The phase of a frame with this record, as the CPU sees it. A lent frame is fresh if it is one of the CPU's own fresh
+-- frames, else listed. The head of a unit is back if it is one of the CPU's back frames, else live.
 abbrev pub phase_of : KnownCpu → ℕ → Spot → Phase
 phase_of cpu frame Free = phase.InZone
 phase_of cpu frame (Lent processor) =
@@ -46,7 +46,7 @@ phase_of cpu frame (Head unit) =
     if nat_le 1 (times frame cpu.back) then phase.Head unit (BackAt cpu.number) else phase.Head unit Live
 phase_of cpu frame (Tail group) = phase.Tail group
 
--- the part of a processor with these lists and this account: its stock has the booked pages that are neither fresh nor
+-- the part of a CPU with these lists and this account: its stock has the booked pages that are neither fresh nor
 -- unabsorbed
 abbrev pub part_with : List ℕ → List ℕ → List ℕ → Account → Part
 part_with list fresh back account = record {
@@ -63,24 +63,25 @@ part_with list fresh back account = record {
   reported = account.unabsorbed;
 }
 
--- the part of the processor of this number, as `cpu` sees it: its own lists, and of the others the account alone
+-- the part of the CPU of this number, as `cpu` sees it: with its lists if it is `cpu` itself, else with the account
+-- alone
 abbrev pub part_of : Seated → KnownCpu → ℕ → Part
 part_of stock cpu processor =
     if processor == cpu.number
     then part_with cpu.list cpu.fresh cpu.back (account_of stock.view processor)
     else part_with [] [] [] (account_of stock.view processor)
 
--- the references of a seat on the frame, as `cpu` sees them: those of the zone, whose number is 0, and its own
+-- the references of a seat on the frame, as `cpu` sees them: those of the zone (seat 0) and its own
 abbrev pub references_of : KnownSeat → KnownCpu → ℕ → ℕ → ℕ
 references_of zone_seat cpu seat frame =
     if seat == 0 then holds zone_seat frame else (if seat == cpu.number then holds cpu.frame_seat frame else 0)
 
--- the processor holds the lock; its visit may be open
+-- the CPU of this number holds the lock, and is visited if its visit is open
 abbrev pub hold_of : KnownSeat → ℕ → Hold
 hold_of seat processor = if slice_index seat.view.opened processor == 1 then Visiting processor else HeldBy processor
 
--- The local state of a side: what the machine shows the processor that holds the lock, in the words of the rules. No
--- page is pending between two calls
+-- The local state of a side: what the machine shows to the CPU that holds the lock, in the words of the rules. No page
+-- is pending between two calls.
 abbrev pub local_of : KnownTable → KnownMachine → KnownCpu → State
 local_of table machine cpu = record {
   zone = record { frames = table.frames; cpus = table.cpus };
@@ -97,21 +98,21 @@ local_of table machine cpu = record {
 abbrev pub local_at : KnownTable → Side → State
 local_at table now = local_of table now.machine now.cpu
 
--- These steps, of the processor of this number and of the zone's seat, lead from one side to another: by what the
--- processor sees, by the peaks and the event counts of the ledger, and by the machine's counts
+-- These steps, of the CPU of this number and of the zone's seat, lead from one side to another. They are local steps
+-- between the two local states. The ledger's peaks and event counts follow them, and so do the machine's counts.
 pub record MakesAs (table : KnownTable) (number : ℕ) (before : Side) (steps : Run) (after : Side) : Type 0 where
   pub leads : IsLocalRun number (local_at table before) steps (local_at table after)
   pub follows : FollowsSteps (local_at table before) before.machine.ledger steps after.machine.ledger
   pub counts : after.machine.counts ≡ counts_over (local_at table before) steps before.machine.counts
 
--- these steps lead the processor that holds the lock from one side to another
+-- these steps lead the CPU that holds the lock from one side to the other
 abbrev pub Makes : KnownTable → Side → Run → Side → Type 0
 Makes table before steps after = MakesAs table before.cpu.number before steps after
 
--- the steps that the side before tells lead the processor that holds the lock from this side to the other
+-- the steps that a function gives for the side before lead the CPU that holds the lock from that side to the other
 abbrev pub MakesBy : KnownTable → (Side → Run) → Side → Side → Type 0
 MakesBy table steps before after = Makes table before (steps before) after
 
--- whichever processor holds the lock, these steps lead it from one machine to another, and its own part stays
+-- for each CPU that may hold the lock, these steps lead from one machine to the other, and its part stays the same
 abbrev pub MakesForAny : KnownTable → KnownMachine → Run → KnownMachine → Type 0
 MakesForAny table before steps after = (cpu : KnownCpu) → Makes table (side before cpu) steps (side after cpu)

@@ -1,4 +1,4 @@
--- What a contract sees of the machine, and what always holds of it.
+-- What contracts see of the machine, and what always holds of it.
 use Rattle.std.specs.Prelude.{◌≡◌, ◌≢◌, ℕ, ◌+◌, ◌<◌, ◌≤◌, ◌==◌, Bool, false, Option, Some, None}
 use Rattle.std.specs.Prelude.{is_some, IfSome, List, [], ◌∷◌, length, replicate, slice_set, if◌then◌else◌}
 use Rattle.std.specs.List.{slice_index_or}
@@ -30,15 +30,16 @@ use Rattle.mem_machine.specs.declared.spot.Spot.TheVariants.{Free}
 use Rattle.mem_machine.specs.declared.counts.Counts.{Counts}
 use Rattle.kill_notes.specs.declared.note.Note.{Note}
 use Rattle.kill_notes.specs.Notes.{noted}
--- each unit that came back was put last, frozen or dropped
+-- the units freed are the last puts, the freezes and the drops together, or the greatest count if that is less
 pub use Rattle.mem_machine.specs.Counts.{BalancesCounts}
 use Rattle.mem_machine.specs.Counts.{no_counts}
 use Rattle.mem_machine.specs.Spots.{AreUnits, spot_at, free_of, is_in_hand, some_cpu, lent_to}
 use Rattle.mem_machine.specs.Spots.{spot_group, head_group_of, count_of}
 
--- The machine: the free areas, a record for each frame, the groups and their charges, the records through which the
--- units' lists are linked and two lists for each group number, the zone's seats at the two tables, which group numbers
--- are killed, how often units ended and came back, and what was noted since `forget_notes` was called last
+-- The machine holds the free areas, a record for each frame, and the groups with their charges. It holds the links of
+-- all kept units, and two lists for each group number. It holds the zone's seats at the two tables, and which group
+-- numbers are killed. It counts how units ended, how many were freed and how many were missed. It holds the notes since
+-- the last `forget_notes`.
 pub record KnownMachine : Type 0 where
   pub blocks : List Block
   pub spots : List Spot
@@ -51,7 +52,7 @@ pub record KnownMachine : Type 0 where
   pub counts : Counts
   pub notes : List Note
 
--- the machine with one note more
+-- the machine after one more note
 abbrev pub with_note : KnownMachine → Note → KnownMachine
 with_note machine note = record machine { notes = noted machine.notes note }
 
@@ -59,7 +60,7 @@ with_note machine note = record machine { notes = noted machine.notes note }
 abbrev pub no_queue : Queue
 no_queue = record { oldest = None; newest = None; length = 0 }
 
--- two empty lists, of no owner that is there
+-- two empty lists whose owner is no group number
 abbrev pub no_lists : Lru
 no_lists = record { owner = most_groups; inactive = no_queue; active = no_queue }
 
@@ -79,20 +80,20 @@ inactive_in machine group = entries_in machine group Inactive
 abbrev pub active_in : KnownMachine → ℕ → List Entry
 active_in machine group = entries_in machine group Active
 
--- the list that the frame stands on, if it heads a kept unit
+-- the list that the frame is on, if it heads a kept unit
 abbrev pub home_of : List Link → ℕ → Option Home
 home_of links frame = (link_at links frame).home
 
--- in this machine the frame heads a kept unit: it stands on a list
+-- the frame heads a kept unit of this machine: it is on a list
 abbrev pub HeadsKeptUnit : KnownMachine → ℕ → Type 0
 HeadsKeptUnit machine frame = home_of machine.links frame ≢ None
 
--- the lists of all groups: the records through which the units are linked, and by number the two lists of each group
+-- the lists of all groups: the links between units, and by number the two lists of each group
 pub record GroupLists : Type 0 where
   pub links : List Link
   pub lists : List Lru
 
--- the lists that these records and these ends make up
+-- the lists that these links and these list ends make up
 abbrev pub group_lists : List Link → List Lru → GroupLists
 group_lists links lists = record { links = links; lists = lists }
 
@@ -100,18 +101,19 @@ group_lists links lists = record { links = links; lists = lists }
 abbrev pub lists_of : KnownMachine → GroupLists
 lists_of machine = group_lists machine.links machine.lists
 
--- the lists of all groups but this one stand as they stood: the same units in the same order, with their marks and dirt
+-- the lists of every other group are unchanged: they have the same units in the same order, with the same marks and
+-- dirt
 abbrev pub OthersStay : ℕ → GroupLists → GroupLists → Type 0
 OthersStay group before after = (other : ℕ) (list : LruList) → other < most_groups → other ≢ group
     → entries_of after.links (lists_at after.lists other) list
     ≡ entries_of before.links (lists_at before.lists other) list
 
--- each frame on no list has the record that it had, mark and dirt included
+-- each frame that is on no list keeps its link, mark and dirt included
 abbrev pub LooseStay : List Link → List Link → Type 0
 LooseStay before after =
     (frame : ℕ) → home_of before frame ≡ None → link_at after frame ≡ link_at before frame
 
--- each group number has its two lists, and these stand in the records through which they are linked
+-- each group number has its two lists, and all of them agree with the links
 pub record AreGroupLists (links : List Link) (lists : List Lru) : Type 0 where
   pub groups : length lists ≡ most_groups
   pub stand : AllStand links lists
@@ -120,22 +122,22 @@ pub record AreGroupLists (links : List Link) (lists : List Lru) : Type 0 where
 abbrev pub is_killed : List Bool → ℕ → Bool
 is_killed killed group = slice_index_or killed group false
 
--- the frames that are charged to the group itself
+-- how many frames are charged to the group itself
 abbrev pub frames_charged : List Spot → ℕ → ℕ
 frames_charged spots group = sum_to (length spots) (λ frame. count_of group (spot_group (spot_at spots frame)))
 
--- the pages of a processor's book, where its stock is of the group
+-- the pages of a CPU's book if its stock is of the group, else 0
 abbrev pub booked : ℕ → Account → ℕ
 booked group account = if count_of group account.group == 0 then 0 else account.book
 
--- the pages booked to the stocks of the group itself
+-- how many pages are booked to the stocks of the group itself
 abbrev pub pages_booked : KnownTable → Seated → ℕ → ℕ
 pages_booked table stock group =
     sum_to (table.cpus + 1) (λ processor. booked group (account_of stock.view processor))
 
--- The zone's seat notes of a frame what its record says. It is in the zone's hand where it is free or a tail. It is
--- lent to whom the record says, who is one of so many processors. The zone has one reference on it exactly where it
--- stands on a list, which is one of the group of the unit that it heads
+-- The zone's seat and the lists agree with the frame's record. The frame is in the zone's hand exactly if it is free or
+-- a tail. It is lent to the CPU that its record names, whose number is between 1 and `cpus`. The zone has one reference
+-- on it if it is on a list, else none. That list is of the group whose unit the frame heads.
 pub record FitsSpot (cpus : ℕ) (note : FrameNote) (home : Option Home) (spot : Spot) : Type 0 where
   pub own : note.own ≡ one_if (is_in_hand spot)
   pub lent : some_cpu note.lent ≡ lent_to spot
@@ -143,7 +145,7 @@ pub record FitsSpot (cpus : ℕ) (note : FrameNote) (home : Option Home) (spot :
   pub references : note.references ≡ one_if (is_some home)
   pub kept : IfSome home (λ list. (list.owner < most_groups) × (head_group_of spot ≡ Some list.owner))
 
--- the parts have the sizes of the tables, which agree
+-- the parts have the sizes of the tables, and both tables have the same number of CPUs
 pub record AreSized (table : KnownTable) (words : Words) (machine : KnownMachine) : Type 0 where
   pub spots : length machine.spots ≡ table.frames
   pub links : length machine.links ≡ table.frames
@@ -151,16 +153,17 @@ pub record AreSized (table : KnownTable) (words : Words) (machine : KnownMachine
   pub killed : length machine.killed ≡ most_groups
   pub cpus : words.cpus ≡ table.cpus
 
--- the seats are the zone's, at these tables
+-- the two seats are the zone's, at these tables
 pub record AreZoneSeats (frame_table : KnownTable) (words : Words) (seat : KnownSeat) (stock : Seated) : Type 0 where
   pub frames : IsZoneSeat frame_table seat
   pub table : stock.table ≡ words.table
   pub stocks : IsZoneStock stock.view
 
--- The machine is consistent. Its free areas are the maximal blocks of the free frames. Each frame is what its record
--- says, to the zone's seat and to the lists. The charged frames are units of their groups. The lists stand. Nothing
--- that was reported is unabsorbed. Each book fits a stock's word. What is charged to a group itself are the frames
--- charged to it and the books of its stocks. Each unit that came back was put last, frozen or dropped
+-- The machine is consistent. Its sizes are those of the tables, and its seats are the zone's. The free areas are the
+-- maximal blocks of the free frames. Each frame's record agrees with the zone's seat and the lists. The charged frames
+-- make up units. All lists agree with the links. No reported page is unabsorbed, and each book fits a stock word. The
+-- own charge of a group is the frames charged to it and the books of its stocks. The units freed are the last puts,
+-- freezes and drops together, or the greatest count if that is less.
 pub record IsConsistent (table : KnownTable) (words : Words) (machine : KnownMachine) : Type 0 where
   pub sizes : AreSized table words machine
   pub seats : AreZoneSeats table words machine.frame_seat machine.stock_seat
@@ -176,7 +179,7 @@ pub record IsConsistent (table : KnownTable) (words : Words) (machine : KnownMac
       → pages_of machine.ledger group ≡ frames_charged machine.spots group + pages_booked table machine.stock_seat group
   pub balances : BalancesCounts machine.counts
 
--- a group of this path was made, and got the least free number
+-- a group of this path was made: it has the least free number, and it isn't killed
 pub record AddsGroup (number : ℕ) (path : List ℕ) (before after : KnownMachine) : Type 0 where
   pub least : IsLeastFreeNumber before.ledger.groups number
   pub machine : after ≡ record before {
@@ -184,13 +187,13 @@ pub record AddsGroup (number : ℕ) (path : List ℕ) (before after : KnownMachi
     killed = slice_set before.killed number false;
   }
 
--- group `lowest` is the lowest of the group's path whose limit has no room for so many pages more
+-- group `lowest` is the lowest on the group's path whose limit has no room for this many more pages
 abbrev pub LacksRoom : KnownMachine → ℕ → ℕ → ℕ → Type 0
 LacksRoom machine group pages lowest =
     IsLowestOver machine.ledger.groups (current_of machine.ledger) group pages lowest
 
--- A side: the machine, and the part of the processor that holds its lock. A call of the machine finds one, and leaves
--- one
+-- A side is the machine with the part of the CPU that holds its lock. A call of the machine leads from one side to
+-- another.
 pub record Side : Type 0 where
   pub machine : KnownMachine
   pub cpu : KnownCpu
@@ -204,42 +207,43 @@ pub record SideStays (before after : Side) : Type 0 where
   pub machine : after.machine ≡ before.machine
   pub cpu : after.cpu ≡ before.cpu
 
--- something first leads from one side to another, and the rest goes on from there
+-- `First` leads from the side before to a side between, and `Rest` leads from there to the side after
 pub record FirstThen (First Rest : Side → Side → Type 0) (before after : Side) : Type 0 where
   pub between : Side
   pub first : First before between
   pub rest : Rest between after
 
--- the same is done with each of these frames, one after the other, in this order
+-- the relation leads on from side to side, once for each of these frames, in this order
 abbrev pub OneByOne : (ℕ → Side → Side → Type 0) → List ℕ → Side → Side → Type 0
 OneByOne IsDone [] before after = SideStays before after
 OneByOne IsDone (frame ∷ others) before after = FirstThen (IsDone frame) (OneByOne IsDone others) before after
 
--- The processor is visited: its visit was opened and not shut yet, no frame passes between it and the zone, and what is
--- lent to it are the frames that its seat has borrowed, which are its listed and fresh ones
+-- The CPU is visited. Its visit is open, and no frame is in transit between it and the zone. The frames lent to it are
+-- those that its seat has borrowed: its listed and its fresh frames.
 pub record Visits (table : KnownTable) (now : Side) : Type 0 where
   pub is_open : IsOpen now.machine.frame_seat now.cpu.number
   pub still : NothingPasses table now.machine.frame_seat now.cpu.frame_seat
   pub lent : LentIsBorrowed table now.machine.frame_seat now.cpu.frame_seat
 
--- whichever processor was visited before, is visited after
+-- each CPU that was visited before is visited after
 abbrev pub StaysVisited : KnownTable → KnownMachine → KnownMachine → Type 0
 StaysVisited table before after =
     (cpu : KnownCpu) → Visits table (side before cpu) → Visits table (side after cpu)
 
--- What stays of a side while a visit goes on: it is open still, no other was opened or shut, and the processor has its
--- number and its back frames
+-- What a visit keeps. The CPU is still visited, no visit was opened or shut, and the CPU has the same number and the
+-- same back frames.
 pub record KeepsVisit (table : KnownTable) (before after : Side) : Type 0 where
   pub visit : Visits table after
   pub opened : after.machine.frame_seat.view.opened ≡ before.machine.frame_seat.view.opened
   pub number : after.cpu.number ≡ before.cpu.number
   pub back : after.cpu.back ≡ before.cpu.back
 
--- a processor of this number is there
+-- a CPU of this number exists
 abbrev pub IsCpuOf : KnownTable → ℕ → Type 0
 IsCpuOf table processor = (1 ≤ processor) × (processor ≤ table.cpus)
 
--- no frame is lent or charged, there is the root alone, no group is killed, and nothing came back or was noted yet
+-- The machine of a new boot. All frames are free and on no list, only the root exists, and no group is killed. All
+-- counts are 0, there are no notes, and the zone's seats have done nothing yet.
 pub record IsFirst (table : KnownTable) (words : Words) (machine : KnownMachine) : Type 0 where
   pub spots : machine.spots ≡ replicate table.frames Free
   pub ledger : machine.ledger ≡ initial_ledger

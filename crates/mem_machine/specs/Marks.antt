@@ -6,7 +6,7 @@ use Rattle.lru_lists.specs.declared.lru.Touched.{Touched}
 use Rattle.mem_machine.specs.Machines.{KnownMachine, OthersStay, LooseStay}
 use Rattle.mem_machine.specs.Machines.{home_of, lists_at, lists_of, inactive_in, active_in}
 
--- the unit is noted as dirty, or not, on the list of its group that it stands on, and nothing else changed
+-- the unit is dirty or clean as `is_dirty` says, at the same place of its list, and nothing else changed
 pub record Dirties (frame : ℕ) (is_dirty : Bool) (before after : KnownMachine) : Type 0 where
   pub group : ℕ
   pub list : LruList
@@ -17,7 +17,7 @@ pub record Dirties (frame : ℕ) (is_dirty : Bool) (before after : KnownMachine)
   pub others : OthersStay group (lists_of before) (lists_of after)
   pub loose : LooseStay before.links after.links
 
--- the unit was touched on the list of its group that it stands on, and nothing else changed
+-- the unit was touched on its list, and nothing else changed
 pub record TouchesUnit (frame : ℕ) (touched : Touched) (before after : KnownMachine) : Type 0 where
   pub group : ℕ
   pub list : LruList

@@ -1,4 +1,4 @@
--- What a processor's stock holds, the frame that is paid for with a page of it, and what may be charged.
+-- What a CPU's stock holds, how a page of it pays for a frame, and what may be charged.
 use Rattle.std.specs.Prelude.{◌≡◌, ℕ, ◌+◌, ◌-◌, ◌^◌, ◌<◌, ◌≤◌, Some, true, false, IsTrue}
 use Rattle.frame_word.specs.Seats.{KnownTable}
 use Rattle.stock_word.specs.declared.view.Stock.{Stock}
@@ -8,37 +8,37 @@ use Rattle.group_tree.specs.Groups.{has_group}
 use Rattle.group_charge.specs.Charges.{current_of}
 use Rattle.mem_machine.specs.Machines.{KnownMachine, Side, is_killed}
 use Rattle.mem_machine.specs.Stocks.{stock_group}
--- the pages that the processor's stock holds
+-- how many pages are in the CPU's stock
 pub use Rattle.mem_machine.specs.Stocks.{pages_held}
 
--- what the processor's stock is
+-- this is the CPU's own stock: its group, its pages, and whether it is held
 pub record IsOwnStock (now : Side) (stock : Stock) : Type 0 where
   pub group : group_of stock ≡ stock_group now.machine now.cpu.number
   pub held : is_held stock ≡ (account_of now.machine.stock_seat.view now.cpu.number).filled
   pub pages : pages_of stock ≡ pages_held now
 
--- the processor's stock is held, and holds a page of this group
+-- the CPU's stock is of this group, isn't drained, and has a page
 pub record HoldsPage (now : Side) (owner : ℕ) : Type 0 where
   pub group : stock_group now.machine now.cpu.number ≡ Some owner
   pub held : (account_of now.machine.stock_seat.view now.cpu.number).filled ≡ true
   pub some : 1 ≤ pages_held now
 
--- the frame, the front of the processor's list, is fresh now, and its stock of the group holds a page less
+-- the frame at the front of the CPU's list is fresh now, and the stock of the group has one page less
 pub record PaysForFront (group frame : ℕ) (before after : Side) : Type 0 where
   pub takes : TakesFront group (pages_held before - 1) frame before.cpu after.cpu
   pub machine : after.machine ≡ before.machine
 
--- the zone of the table has at most 1,048,576 frames and 64 processors
+-- the zone has at most 1,048,576 frames and 64 CPUs
 pub record IsOfSize (table : KnownTable) : Type 0 where
   pub frames : table.frames ≤ 1048576
   pub cpus : table.cpus ≤ 64
 
--- with so many pages more, fewer than 2^32 pages are charged in all
+-- with this many more pages, fewer than 2^32 pages are charged in all
 abbrev pub HasRoomFor : KnownMachine → ℕ → Type 0
 HasRoomFor now pages = current_of now.ledger 0 + pages < 2 ^ 32
 
--- so many pages may be charged to the group where its limits have room: it is there, isn't killed, and the count of all
--- pages that are charged holds them too
+-- This many pages may be charged to the group if its limits have room for them. The group exists and isn't killed, and
+-- the count of all charged pages doesn't overflow.
 pub record MayCharge (now : KnownMachine) (group pages : ℕ) : Type 0 where
   pub there : IsTrue (has_group now.ledger.groups group)
   pub alive : is_killed now.killed group ≡ false

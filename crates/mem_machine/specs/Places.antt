@@ -13,6 +13,6 @@ frames_free spots = sum_by (λ spot. one_if (is_free spot)) spots
 abbrev pub frames_in_groups : List Spot → ℕ
 frames_in_groups spots = sum_by (λ spot. one_if (is_some (spot_group spot))) spots
 
--- no frame is lent to the processor
+-- no frame is lent to the CPU
 abbrev pub NoneLentTo : ℕ → List Spot → Type 0
 NoneLentTo processor spots = (frame : ℕ) → spot_at spots frame ≢ Lent processor

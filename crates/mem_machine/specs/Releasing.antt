@@ -1,4 +1,4 @@
--- Kept units that are released: off their list, and back where nobody else has a reference.
+-- How a kept unit is released: it leaves its list, and is freed if nobody else has a reference.
 use Rattle.std.specs.Prelude.{◌≡◌, ℕ, ◌^◌, ◌≤◌, [], ◌∷◌}
 use Rattle.zone_blocks.specs.Areas.{AreMaximalBlocks}
 use Rattle.frame_word.specs.Views.{let_go, let_go_last}
@@ -18,7 +18,7 @@ use Rattle.mem_machine.specs.Counts.{with_last_put}
 use Rattle.mem_machine.specs.Freeing.{FreesFrames}
 use Rattle.mem_machine.specs.Steps.{zone_makes}
 
--- the unit is off its list, and so many references of processors are left; nothing else changed
+-- the unit left its list, and this many references of CPUs are left; nothing else changed
 pub record LeavesReferences (frame left : ℕ) (before after : KnownMachine) : Type 0 where
   pub list : LeavesList frame (lists_of before) (lists_of after)
   pub some : 1 ≤ left
@@ -28,7 +28,7 @@ pub record LeavesReferences (frame left : ℕ) (before after : KnownMachine) : T
     frame_seat = seat_with before.frame_seat frame (let_go left);
   }
 
--- the unit is off its list and came back: its frames are free, and its pages off the charge of its group; nothing else
+-- the unit left its list and was freed: its frames are free, and its pages left the charge of its group; nothing else
 -- changed
 pub record ReturnsUnit (frame : ℕ) (before after : KnownMachine) : Type 0 where
   pub unit : ChargedUnit
@@ -46,12 +46,12 @@ pub record ReturnsUnit (frame : ℕ) (before after : KnownMachine) : Type 0 wher
     counts = with_last_put before.counts;
   }
 
--- what a release leaves, by what it tells
+-- what a release leaves, by its result
 abbrev pub Releases : ℕ → Released → KnownMachine → KnownMachine → Type 0
 Releases frame (Left left) before after = LeavesReferences frame left before after
 Releases frame Returned before after = ReturnsUnit frame before after
 
--- the steps of a release: the zone puts its reference, and where it was the last one the unit comes back
+-- the steps of a release: the zone puts its reference and, if that was the last one, the unit is freed
 abbrev pub release_steps : ℕ → Released → Run
 release_steps frame (Left left) = zone_makes (Put frame) (answer.Left left) ∷ []
 release_steps frame Returned = zone_makes (Put frame) answer.Last ∷ zone_makes (Return frame) answer.Done ∷ []

@@ -1,4 +1,4 @@
--- Fresh and back frames of the processor that is visited, settled one after the other.
+-- How the fresh and back frames of the visited CPU are settled, one after the other.
 use Rattle.std.specs.Prelude.{◌≡◌, ℕ, ◌+◌, ◌^◌, ◌<◌, ◌≤◌, Bool, true, false, Option, Some, None, IfSome}
 use Rattle.std.specs.Prelude.{List, [], ◌∷◌, ◌++◌, slice_set, if◌then◌else◌}
 use Rattle.std.specs.List.{flat_map}
@@ -26,23 +26,23 @@ use Rattle.mem_machine.specs.Lists.{ListsUnit}
 use Rattle.mem_machine.specs.Counts.{with_drop, with_last_put}
 use Rattle.mem_machine.specs.Freeing.{FreesFrames}
 
--- the zone's seat at the stocks after it absorbed, by one step, a page that the processor reported
+-- the zone's seat at the stocks, after it absorbed in one step a page that the CPU reported
 abbrev pub with_page_absorbed : Seated → ℕ → Seated
 with_page_absorbed seat processor = with_view seat (with_steps 1 (absorbing (noting seat.view processor 1) processor))
 
--- a page of the account's book isn't noted yet
+-- at least one page of the account's book isn't reported yet
 abbrev pub HasUnreportedPage : Account → Type 0
 HasUnreportedPage account = 1 + account.unabsorbed ≤ account.book
 
--- the seat is the zone's at the frames' table, the visit of the processor is open there, and no frame passes between
--- the two
+-- the seat is the zone's at the frames' table, the CPU's visit is open, and no frame is in transit between the two
 pub record IsVisitedAt (table : KnownTable) (seat : KnownSeat) (cpu : KnownCpu) : Type 0 where
   pub zone : IsZoneSeat table seat
   pub is_open : IsOpen seat cpu.number
   pub still : NothingPasses table seat cpu.frame_seat
 
--- What the zone's seats know of a fresh frame of the processor. They have nothing of it, and lent it to the processor;
--- its page is booked to the processor's stock, and they know of which group that is
+-- What the zone's seats know of a fresh frame of the CPU. The zone has no reference on it and doesn't own it; it is
+-- lent to the CPU. A page for it is in the book of the CPU's stock, and the CPU and the zone agree on the stock's
+-- group.
 pub record KnowsFresh (table : KnownTable) (seat : KnownSeat) (stock : Seated)
     (cpu : KnownCpu) (frame : ℕ) : Type 0 where
   pub inside : frame < table.frames
@@ -51,7 +51,7 @@ pub record KnowsFresh (table : KnownTable) (seat : KnownSeat) (stock : Seated)
   pub booked : HasUnreportedPage (account_of stock.view cpu.number)
   pub group : group_of cpu.stock_seat.view.last ≡ (account_of stock.view cpu.number).group
 
--- the frame, the oldest fresh one, is handed over, and its page reported
+-- the CPU passes its oldest fresh frame back and reports its page
 pub record HandsOver (frame : ℕ) (before after : KnownCpu) : Type 0 where
   pub front : before.fresh ≡ frame ∷ after.fresh
   pub cpu : after ≡ record before {
@@ -60,8 +60,8 @@ pub record HandsOver (frame : ℕ) (before after : KnownCpu) : Type 0 where
     stock_seat = with_view before.stock_seat (after_report before.stock_seat.view 1);
   }
 
--- The oldest fresh frame is a kept unit of one frame, of the group: in use, with one reference of the zone, and on the
--- group's inactive list. Its page, which was booked, is charged for it
+-- The oldest fresh frame becomes a kept unit of one frame, of this group. It is in use, has one reference of the zone,
+-- and is on the group's inactive list. Its page leaves the book and stays charged, now for the frame.
 pub record KeepsFresh (group frame : ℕ) (before after : Side) : Type 0 where
   pub listed : ListsUnit group frame before.machine after.machine
   pub machine : after.machine ≡ record before.machine {
@@ -73,7 +73,7 @@ pub record KeepsFresh (group frame : ℕ) (before after : Side) : Type 0 where
   }
   pub cpu : HandsOver frame before.cpu after.cpu
 
--- the oldest fresh frame is free again, and its page, which was booked, is off the charge of the group: a drop
+-- a drop: the oldest fresh frame is free again, and its page leaves the book and the group's charge
 pub record DropsFresh (group frame : ℕ) (before after : Side) : Type 0 where
   pub frees : FreesFrames frame 1 before.machine.spots after.machine.spots
   pub areas : AreMaximalBlocks (free_of after.machine.spots) after.machine.blocks
@@ -87,7 +87,7 @@ pub record DropsFresh (group frame : ℕ) (before after : Side) : Type 0 where
   }
   pub cpu : HandsOver frame before.cpu after.cpu
 
--- the oldest back frame headed a unit, whose frames are free again, and whose pages are off the charge of its group
+-- the unit that the oldest back frame heads is freed, and its pages leave the charge of its group
 pub record ReturnsBack (frame : ℕ) (before after : Side) : Type 0 where
   pub unit : ChargedUnit
   pub heads : spot_at before.machine.spots frame ≡ Head unit
@@ -106,31 +106,31 @@ pub record ReturnsBack (frame : ℕ) (before after : Side) : Type 0 where
     frame_seat = seat_with before.cpu.frame_seat frame gave_back;
   }
 
--- the group that the processor's fresh frames are of is killed
+-- the group of the CPU's fresh frames is killed
 abbrev pub is_fresh_killed : Side → Bool
 is_fresh_killed now = is_killed now.machine.killed (fresh_group now.cpu)
 
--- the oldest fresh frame is kept for the group that it is of, or dropped where that is killed
+-- the oldest fresh frame is kept for its group, or dropped if that group is killed
 pub record SettlesFresh (frame : ℕ) (before after : Side) : Type 0 where
   pub keeps : is_fresh_killed before ≡ false → KeepsFresh (fresh_group before.cpu) frame before after
   pub drops : is_fresh_killed before ≡ true → DropsFresh (fresh_group before.cpu) frame before after
 
--- no frame of the processor is fresh, and nothing changed
+-- no frame of the CPU is fresh, and nothing changed
 pub record FindsNoneFresh (before after : Side) : Type 0 where
   pub none_fresh : before.cpu.fresh ≡ []
   pub stays : SideStays before after
 
--- no frame of the processor is back, and nothing changed
+-- the CPU has no back frame, and nothing changed
 pub record FindsNoneBack (before after : Side) : Type 0 where
   pub none_back : before.cpu.back ≡ []
   pub stays : SideStays before after
 
--- what settling the oldest fresh frame leaves, by what it tells: the frame; or that there is none
+-- what settling the oldest fresh frame leaves, by its result: that frame, or None if there is no fresh frame
 abbrev pub SettlesNext : Option ℕ → Side → Side → Type 0
 SettlesNext None before after = FindsNoneFresh before after
 SettlesNext (Some frame) before after = SettlesFresh frame before after
 
--- what returning the oldest back frame leaves, by what it tells: the frame; or that there is none
+-- what freeing the unit of the oldest back frame leaves, by its result: that frame, or None if there is no back frame
 abbrev pub ReturnsNext : Option ℕ → Side → Side → Type 0
 ReturnsNext None before after = FindsNoneBack before after
 ReturnsNext (Some frame) before after = ReturnsBack frame before after
@@ -139,18 +139,18 @@ ReturnsNext (Some frame) before after = ReturnsBack frame before after
 abbrev pub SettlesAllFresh : List ℕ → Side → Side → Type 0
 SettlesAllFresh frames before after = OneByOne SettlesFresh frames before after
 
--- these back frames come back, one after the other
+-- the units of these back frames are freed, one after the other
 abbrev pub ReturnsAllBack : List ℕ → Side → Side → Type 0
 ReturnsAllBack frames before after = OneByOne ReturnsBack frames before after
 
--- the processor has the number, the list and the pins that it had
+-- the CPU keeps its number, its list and its pins
 pub record LeavesOthers (before after : KnownCpu) : Type 0 where
   pub number : after.number ≡ before.number
   pub list : after.list ≡ before.list
   pub pins : after.pins ≡ before.pins
 
--- all fresh frames are settled, in the order in which they were taken, and then all back frames, in the order of their
--- last puts
+-- all fresh frames are settled, in the order in which they were taken; then the units of all back frames are freed, in
+-- the order of their last puts
 pub record Settles (before after : Side) : Type 0 where
   pub mid : Side
   pub fresh : SettlesAllFresh before.cpu.fresh before mid
@@ -158,7 +158,7 @@ pub record Settles (before after : Side) : Type 0 where
 
 -- ---- the steps
 
--- the steps by which a fresh frame of the processor comes into the zone's hand, and its page off the book
+-- the steps by which the zone takes over a fresh frame, and its page leaves the book
 abbrev pub collect_steps : ℕ → ℕ → Run
 collect_steps processor frame =
     cpu_makes processor (PassBack frame) Done
@@ -176,7 +176,7 @@ keep_steps processor frame =
 abbrev pub drop_steps : ℕ → ℕ → Run
 drop_steps processor frame = collect_steps processor frame ++ zone_makes (Return frame) Done ∷ []
 
--- the steps of a back frame
+-- the steps of a back frame, whose unit is freed
 abbrev pub return_steps : ℕ → ℕ → Run
 return_steps processor frame =
     cpu_makes processor (PassBack frame) Done
@@ -184,7 +184,7 @@ return_steps processor frame =
     ∷ zone_makes (Return frame) Done
     ∷ []
 
--- the steps of a fresh frame, whose group is killed or not
+-- the steps of a fresh frame: dropped if its group is killed, else kept
 abbrev pub fresh_steps : Bool → ℕ → ℕ → Run
 fresh_steps is_killed processor frame =
     if is_killed then drop_steps processor frame else keep_steps processor frame
@@ -201,12 +201,12 @@ return_all_steps now = flat_map (return_steps now.cpu.number) now.cpu.back
 abbrev pub settle_steps : Side → Run
 settle_steps now = all_fresh_steps now ++ return_all_steps now
 
--- where a fresh frame was settled, it was by its steps
+-- if a fresh frame was settled, its steps lead from the side before to the side after
 abbrev pub MakesFreshSteps : KnownTable → Option ℕ → Side → Side → Type 0
 MakesFreshSteps table next before after =
     IfSome next (λ frame. Makes table before (fresh_steps (is_fresh_killed before) before.cpu.number frame) after)
 
--- where a back frame was returned, it was by its steps
+-- if the unit of a back frame was freed, its steps lead from the side before to the side after
 abbrev pub MakesReturnSteps : KnownTable → Option ℕ → Side → Side → Type 0
 MakesReturnSteps table next before after =
     IfSome next (λ frame. Makes table before (return_steps before.cpu.number frame) after)

@@ -6,8 +6,8 @@ use Rattle.lru_lists.specs.declared.lru.Lru.{Lru}
 use Rattle.lru_lists.specs.Queue.{AreNowhere}
 use Rattle.lru_lists.specs.Lists.{StandsIn}
 
--- Pairs of lists, so many in all, those of owner 0 first, each of them empty: they stand in any records in which no
--- frame is on a list
+-- These are the pairs of lists of this many owners, from owner 0 on. Each is empty: it agrees with any links in which
+-- no frame is on a list.
 pub record AreEmpty (lists : List Lru) (owners : ℕ) : Type 0 where
   pub count : length lists ≡ owners
   pub owned : (owner : ℕ) (any : Lru) → owner < length lists → (slice_index_or lists owner any).owner ≡ owner

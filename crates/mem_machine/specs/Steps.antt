@@ -1,4 +1,4 @@
--- The list of core steps that each call makes, with the answer of each step.
+-- The list of steps of each call, with the answer of each step.
 use Rattle.std.specs.Prelude.{ℕ, zero, suc, Bool, Option, Some, None, List, [], ◌∷◌, sum_by}
 use Rattle.std.specs.List.{flat_map}
 use Rattle.step_rules.specs.declared.step.Step.{Step}
@@ -14,52 +14,52 @@ use Rattle.step_rules.specs.After.{Run}
 abbrev pub zone_makes : Action → Answer → Step × Answer
 zone_makes action answer = (record { seat = 0; action = action }, answer)
 
--- a step of the processor's own seat, and its answer
+-- a step of the CPU's own seat, and its answer
 abbrev pub cpu_makes : ℕ → Action → Answer → Step × Answer
 cpu_makes processor action answer = (record { seat = processor; action = action }, answer)
 
--- the processor's visit begins
+-- the CPU's visit begins
 abbrev pub open_steps : ℕ → Run
 open_steps processor = zone_makes (OpenVisit processor) Done ∷ []
 
--- the processor's visit ends
+-- the CPU's visit ends
 abbrev pub shut_steps : ℕ → Run
 shut_steps processor = zone_makes (ShutVisit processor) Done ∷ []
 
--- the frame goes from the free areas to the end of the processor's list
+-- the zone passes the free frame to the CPU, which adds it to the end of its list
 abbrev pub lend_steps : ℕ → ℕ → Run
 lend_steps processor frame = zone_makes (PassOut frame processor) Done ∷ cpu_makes processor (TakeIn frame) Done ∷ []
 
--- these frames go to the end of the processor's list, one after the other
+-- these frames are added to the end of the CPU's list, one after the other
 abbrev pub refill_steps : ℕ → List ℕ → Run
 refill_steps processor frames = flat_map (lend_steps processor) frames
 
--- the frame goes back from the processor to the free areas
+-- the CPU passes the frame back, and the zone collects it
 abbrev pub unlist_steps : ℕ → ℕ → Run
 unlist_steps processor frame =
     cpu_makes processor (PassBack frame) Done ∷ zone_makes (Collect frame processor) Done ∷ []
 
--- these frames go back to the free areas, one after the other
+-- these frames are returned to the free areas, one after the other
 abbrev pub drain_list_steps : ℕ → List ℕ → Run
 drain_list_steps processor frames = flat_map (unlist_steps processor) frames
 
--- so many pages come off the group's charge; with none, or no group, nothing is done
+-- this many pages leave the group's charge; if there are none, or there is no group, there is no step
 abbrev pub ungrant_steps : Option ℕ → ℕ → Run
 ungrant_steps None pages = []
 ungrant_steps (Some group) zero = []
 ungrant_steps (Some group) (suc more) = zone_makes (Ungrant group (suc more)) Done ∷ []
 
--- the processor's stock, which is of this group, is drained of so many pages, and these come off the group's charge
+-- the stock of the CPU, which is of this group, is drained of this many pages, and they leave the group's charge
 abbrev pub drain_steps : ℕ → Option ℕ → ℕ → Run
 drain_steps processor group pages = zone_makes (DrainStock processor) (Pages pages) ∷ ungrant_steps group pages
 
--- a drain: whose stock it was, the group that the stock is of, and how many pages were in it
+-- a drain: whose stock it was, the stock's group, and how many pages were in it
 pub record Drain : Type 0 where
   pub cpu : ℕ
   pub group : Option ℕ
   pub pages : ℕ
 
--- the pages of these drains
+-- how many pages these drains took
 abbrev pub pages_drained : List Drain → ℕ
 pages_drained drains = sum_by (λ drain. drain.pages) drains
 
@@ -67,32 +67,32 @@ pages_drained drains = sum_by (λ drain. drain.pages) drains
 abbrev pub drain_stocks_steps : List Drain → Run
 drain_stocks_steps drains = flat_map (λ drain. drain_steps drain.cpu drain.group drain.pages) drains
 
--- so many pages are granted to the group and fill the processor's stock
+-- this many pages are granted to the group and fill the CPU's stock
 abbrev pub fill_steps : ℕ → ℕ → ℕ → Run
 fill_steps processor group pages =
     zone_makes (Grant group pages) Granted ∷ zone_makes (Fill processor group pages) Done ∷ []
 
--- the grant of so many pages is refused, since group `over` has no room for them
+-- the grant of this many pages is refused, because group `over` has no room for them
 abbrev pub over_steps : ℕ → ℕ → ℕ → Run
 over_steps group pages over = zone_makes (Grant group pages) (Over over) ∷ []
 
--- the front of the processor's list becomes fresh, paid for with a page of its stock, which is of the group
+-- the front of the CPU's list becomes fresh, paid for with a page of its stock, which is of the group
 abbrev pub take_front_steps : ℕ → ℕ → Run
 take_front_steps processor group = cpu_makes processor (Consume group) Took ∷ []
 
--- it is noted that the group's usage was about to go over its limit
+-- an event: the group's usage was about to exceed its limit
 abbrev pub note_max_steps : ℕ → Run
 note_max_steps group = zone_makes (NoteMax group) Done ∷ []
 
--- it is noted that nothing but kills is left to keep the group's limit
+-- an event: only kills are left to keep the group within its limit
 abbrev pub note_oom_steps : ℕ → Run
 note_oom_steps group = zone_makes (NoteOom group) Done ∷ []
 
--- the group is killed, which is an event at it
+-- the group is killed, which is an event of the group
 abbrev pub kill_steps : ℕ → Run
 kill_steps group = zone_makes (Kill group) Done ∷ []
 
--- it is noted that the group was killed as a whole
+-- an event: the group was killed as a whole
 abbrev pub note_group_kill_steps : ℕ → Run
 note_group_kill_steps group = zone_makes (NoteGroupKill group) Done ∷ []
 
@@ -100,7 +100,7 @@ note_group_kill_steps group = zone_makes (NoteGroupKill group) Done ∷ []
 abbrev pub make_steps : List ℕ → ℕ → Run
 make_steps path number = zone_makes (Make path) (Number number) ∷ []
 
--- the group is taken out
+-- the group is removed
 abbrev pub remove_steps : ℕ → Run
 remove_steps group = zone_makes (Remove group) Done ∷ []
 
@@ -108,6 +108,6 @@ remove_steps group = zone_makes (Remove group) Done ∷ []
 abbrev pub set_max_steps : ℕ → Option ℕ → Run
 set_max_steps group limit = zone_makes (SetMax group limit) Done ∷ []
 
--- the group is to be killed as a whole, or not
+-- the group's flag says whether it is to be killed as a whole
 abbrev pub set_oom_group_steps : ℕ → Bool → Run
 set_oom_group_steps group flag = zone_makes (SetFlag group flag) Done ∷ []

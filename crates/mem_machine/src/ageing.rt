@@ -1,4 +1,4 @@
-//! The lists of one group: aged, renewed, and walked over.
+//! The two lists of a group: ageing, renewing and walking them.
 
 ghost use Rattle.std.specs.Prelude.{◌≡◌, ◌<◌, [], Some, length};
 ghost use Rattle.lru_lists.specs.declared.record.LruList.TheVariants.{Inactive};
@@ -15,8 +15,8 @@ use lru_lists::laws as list_laws;
 use lru_lists::record::{Entry, LruList};
 
 impl<N: BootName> Machine<N> {
-    /// Moves the oldest active units of a group, as few as leave its active list no longer than the inactive one, to
-    /// the newest end of that, unmarked.
+    /// Moves the oldest active units of a group, unmarked, to the newest end of its inactive list. They are as few as
+    /// leave the active list no longer than the inactive one.
     pub fn age(&mut self, group: GroupId)
         ensures ages { AgesGroup group self.old self.new }
         ensures steps { MakesForAny N.frames self.old [] self.new }
@@ -27,8 +27,8 @@ impl<N: BootName> Machine<N> {
         self.lists[owner].age(&mut self.links);
     }
 
-    /// Moves an inactive unit of a group to the newest end of the group's inactive list, unmarked. The unit goes by its
-    /// head.
+    /// Moves an inactive unit of a group, unmarked, to the newest end of the group's inactive list. `head` is the
+    /// unit's head.
     pub fn renew(&mut self, group: GroupId, head: Frame)
         requires frame { head < N.frames.frames }
         requires stands { home_of self.old.links head ≡ Some (record { owner = group; list = Inactive }) }
@@ -42,22 +42,22 @@ impl<N: BootName> Machine<N> {
         self.lists[owner].renew(&mut self.links, at);
     }
 
-    /// How many units stand on one of a group's lists.
+    /// How many units are on one of a group's lists.
     pub fn listed(&self, group: GroupId, list: LruList) -> u32
         ensures { result ≡ length (entries_in self.now group list) }
     {
         self.lists[group.number() as usize].len(list)
     }
 
-    /// The oldest unit of one of a group's lists; None exactly where that is empty.
+    /// The oldest unit of one of a group's lists; None exactly if that list is empty.
     pub fn oldest(&self, group: GroupId, list: LruList) -> Option<Entry>
         ensures { result ≡ first_entry (entries_in self.now group list) }
     {
         self.lists[group.number() as usize].oldest(&self.links, list)
     }
 
-    /// The unit just after this one on the list of a group on which it stands; None exactly where this is the newest. A
-    /// walk over a list is `oldest`, and then `newer` from each unit to the next.
+    /// The next newer unit on the list of the group that holds this one; None exactly if this is the newest. A walk
+    /// over a list calls `oldest` first, and then `newer` from each unit to the next.
     pub fn newer(&self, group: GroupId, list: LruList, head: Frame) -> Option<Entry>
         requires frame { head < N.frames.frames }
         requires stands { home_of self.now.links head ≡ Some (record { owner = group; list = list }) }

@@ -1,4 +1,4 @@
-//! Blocks of frames that are charged to a group and taken.
+//! Taking blocks of frames and charging them to a group.
 
 ghost use Rattle.std.specs.Prelude.{◌≡◌, ◌+◌, ◌^◌, ◌≤◌, IfOk, IfErr, [], length};
 ghost use Rattle.mem_machine.specs.Machines.{Visits};
@@ -22,11 +22,11 @@ use zone_blocks::order::Order;
 pub enum TakeFault {
     /// A limit has no room for the block. It names the lowest such group.
     Over(Over),
-    /// No free block of that order or above is there.
+    /// There is no free block of this order or above.
     NoBlock,
 }
 
-// Notes that the block is a unit of the group: its first frame heads it, and the others are tails.
+// Records the block as a unit of the group: its first frame is the head, the others are tails.
 fn place_unit(spots: &mut Vec<Spot>, block: Block, group: GroupId)
     requires { block.at + 2 ^ block.order ≤ length spots.old.items }
     ensures { PlacesUnit group block spots.old.items spots.new.items }
@@ -41,11 +41,11 @@ fn place_unit(spots: &mut Vec<Spot>, block: Block, group: GroupId)
 }
 
 impl<N: BootName> Machine<N> {
-    /// Charges 2^`order` pages to a group that isn't killed, and gives it a block of that order, in use: its head,
-    /// which is returned, has one reference of the zone and stands at the newest end of the group's inactive list.
-    /// Where a limit has no room, the error names the lowest such group, and nothing is charged. Where no block is
-    /// there, the pages go back, and the peaks alone may be higher. In all, at most 2^32 - 1 pages can be charged, as
-    /// `see_room` tells. The processor has no fresh frame and no back frame, as once it was settled.
+    /// Charges 2^`order` pages to a group that isn't killed, and takes a block of that order for it. The block is in
+    /// use: its head, which is returned, has one reference of the zone and is at the newest end of the group's inactive
+    /// list. If a limit has no room, the error names the lowest such group, and nothing is charged. If no block is
+    /// free, the pages are uncharged again, so only the peaks may be higher. At most 2^32 - 1 pages can be charged in
+    /// all; `see_room` shows that there is room. The CPU has been settled: it has no fresh and no back frame.
     pub fn take_block(
         &mut self,
         tables: &Tables<N>,
@@ -65,8 +65,8 @@ impl<N: BootName> Machine<N> {
             (block_steps group order result) (side self.new cpu.new) }
     {
         let pages = order.frames();
-        let _number = cpu.number(); // For the clauses.
-        let _tree = self.charges.tree(); // For the clauses.
+        let _number = cpu.number(); // Called for its contract.
+        let _tree = self.charges.tree(); // Called for its contract.
         if let Err(over) = self.charges.try_charge(group, pages) {
             return Err(TakeFault::Over(over));
         }

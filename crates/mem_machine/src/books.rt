@@ -19,12 +19,12 @@ use group_tree::group::{GroupId, MAX_GROUPS};
 use std::marker::{Model, PhantomData};
 use stock_word::{Stock, StockSeat};
 
-/// The zone's seat at the stocks. The books of the processors are what the seat is known to be, for proofs alone; their
-/// sums by group are kept beside it. A contract sees the seat.
+/// The zone's seat at the stocks, which contracts see. Each CPU's book exists only in proofs, as a part of what the
+/// seat knows. The code keeps the sums of the books by group.
 #[derive(Drop)]
 pub(crate) struct Books<N: BootName> {
     seat: StockSeat,
-    // By group number: the pages of the books of the stocks that are of the group, 0 to 2^32 - 1.
+    // By group number: the sum of the books of the group's stocks, 0 to 2^32 - 1 pages.
     sums: [u32; MAX_GROUPS],
     of: PhantomData<N>,
 }
@@ -41,7 +41,7 @@ impl<N: BootName> Model for Books<N> {
 }
 
 impl<N: BootName> Books<N> {
-    /// The books of a new boot, where nothing is booked: the seat is the zone's at the boot's table.
+    /// The books of a new boot, in which nothing is booked. The seat is the zone's at the boot's table.
     pub(crate) fn new(seat: StockSeat) -> Books<N>
         requires first { seat.view ≡ first_zone_stock }
         requires table { seat.table ≡ N.stocks.table }
@@ -55,7 +55,7 @@ impl<N: BootName> Books<N> {
         }
     }
 
-    /// The seat, at its end.
+    /// The seat, for its end.
     pub(crate) fn into_seat(self) -> StockSeat
         ensures { result ≡ self }
     {
@@ -74,7 +74,7 @@ impl<N: BootName> Books<N> {
         self.sums[group.number() as usize]
     }
 
-    /// The group of the processor's stock, as `StockWords::group` tells it.
+    /// The group of the CPU's stock, as `StockWords::group` returns it.
     pub(crate) fn group(&mut self, tables: &Tables<N>, processor: u32) -> Option<GroupId>
         requires processor { IsCpuOf N.frames processor }
         ensures group { result ≡ (account_of self.old.view processor).group }
@@ -84,7 +84,7 @@ impl<N: BootName> Books<N> {
         Some(GroupId::of(number).unwrap())
     }
 
-    /// Drains the stock of the processor, which is of this group, as `StockWords::drain` does: by a look and a swap.
+    /// Drains the stock of the CPU, which is of this group, as `StockWords::drain` does: by a look and a swap.
     pub(crate) fn drain(&mut self, tables: &Tables<N>, processor: u32, group: GroupId) -> u32
         requires processor { IsCpuOf N.frames processor }
         requires group { (account_of self.old.view processor).group ≡ Some group }
@@ -98,7 +98,7 @@ impl<N: BootName> Books<N> {
         pages
     }
 
-    /// Fills the processor's stock, as `Cpu::fill` does. The pages booked to the group stay below 2^32.
+    /// Fills the CPU's stock, as `Cpu::fill` does. The pages booked to the group stay below 2^32.
     pub(crate) fn fill(&mut self, tables: &Tables<N>, cpu: &mut Cpu<N>, group: GroupId, pages: u32)
         requires pages { FitsStock pages }
         requires fits { pages_booked N.frames self.old group + pages < 2 ^ 32 }
@@ -111,13 +111,13 @@ impl<N: BootName> Books<N> {
           stock_seat = with_view cpu.old.stock_seat (after_fill cpu.old.stock_seat.view group pages);
         } }
     {
-        let _number = cpu.number(); // For the clauses.
+        let _number = cpu.number(); // Called for its contract.
         let owner = group.number();
         cpu.fill(tables, &mut self.seat, owner, pages);
         self.sums[owner as usize] += pages;
     }
 
-    /// The processor's stock, as `Cpu::look` tells it.
+    /// The CPU's stock, as `Cpu::look` returns it.
     pub(crate) fn look(&mut self, tables: &Tables<N>, cpu: &mut Cpu<N>) -> Stock
         ensures balanced { (account_of self.old.view cpu.old.number).book
             ≡ pages_of result + cpu.old.stock_seat.view.fresh + (account_of self.old.view cpu.old.number).unabsorbed }
@@ -131,7 +131,7 @@ impl<N: BootName> Books<N> {
         cpu.look(tables, &mut self.seat)
     }
 
-    /// Takes the front of the processor's list, as `Cpu::take_front` does.
+    /// Takes the front of the CPU's list, as `Cpu::take_front` does.
     pub(crate) fn take_front(
         &mut self,
         tables: &Tables<N>,
@@ -148,8 +148,8 @@ impl<N: BootName> Books<N> {
         cpu.take_front(tables, &mut self.seat, group.number())
     }
 
-    /// Takes the oldest fresh frame of the processor that is visited into the zone's hand, and its page off the book of
-    /// the processor's stock, which is of this group.
+    /// Moves the oldest fresh frame of the visited CPU into the zone's hand. Its page leaves the book of the CPU's
+    /// stock, which is of this group.
     pub(crate) fn collect_fresh(
         &mut self,
         tables: &Tables<N>,

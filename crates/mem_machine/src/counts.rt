@@ -1,26 +1,26 @@
-//! How often units ended and came back, or were tried in vain.
+//! How many units ended, were freed, or were missed.
 
 ghost use Rattle.std.specs.Prelude.{◌≡◌};
 ghost use Rattle.mem_machine.specs.Counts.{with_last_put, with_freeze, with_drop, with_miss};
 
-/// How often units ended and came back, or were tried in vain, since the boot. A count stays at 2^64 - 1. The returns
-/// are the last puts, freezes and drops together, or 2^64 - 1 where that is less.
+/// How many units ended, were freed, or were missed since the boot. A count stays at 2^64 - 1. The returns are the last
+/// puts, freezes and drops together, or 2^64 - 1 if that is less.
 #[derive(Clone, Copy, Debug, PartialEq, Eq)]
 pub struct Counts {
-    /// The last puts: of the zone itself, and of processors as they were settled.
+    /// The last puts: those of the zone itself, and those of CPUs, counted when the CPU is settled.
     pub last_puts: u64,
     /// The freezes that took a unit out of use.
     pub freezes: u64,
-    /// The fresh frames of killed groups that came back.
+    /// The fresh frames of killed groups that were freed.
     pub drops: u64,
-    /// The units that came back.
+    /// The units that were freed.
     pub returns: u64,
-    /// The freezes that missed: someone else had a reference.
+    /// The freezes that missed, because someone else had a reference.
     pub misses: u64,
 }
 
 impl Counts {
-    // One more unit of which someone had the last put, and which came back.
+    // One more unit that was freed after its last put.
     pub(crate) fn with_last_put(self) -> Counts
         ensures { result ≡ with_last_put self }
     {
@@ -31,7 +31,7 @@ impl Counts {
         }
     }
 
-    // One more unit that was frozen, and which came back.
+    // One more unit that was frozen and freed.
     pub(crate) fn with_freeze(self) -> Counts
         ensures { result ≡ with_freeze self }
     {
@@ -42,7 +42,7 @@ impl Counts {
         }
     }
 
-    // One more fresh frame that was dropped, and came back.
+    // One more fresh frame that was dropped and freed.
     pub(crate) fn with_drop(self) -> Counts
         ensures { result ≡ with_drop self }
     {
@@ -53,7 +53,7 @@ impl Counts {
         }
     }
 
-    // One freeze more that missed.
+    // One more freeze that missed.
     pub(crate) fn with_miss(self) -> Counts
         ensures { result ≡ with_miss self }
     {

@@ -1,4 +1,4 @@
-//! Kept units that are tried: frozen and given back where nobody else has a reference.
+//! Trying kept units: a unit is frozen and freed if nobody else has a reference.
 
 ghost use Rattle.std.specs.Prelude.{◌<◌};
 ghost use Rattle.mem_machine.specs.Machines.{HeadsKeptUnit, StaysVisited};
@@ -13,9 +13,9 @@ use cpu_part::{BootName, Tables};
 use frame_word::Frame;
 
 impl<N: BootName> Machine<N> {
-    /// Tries to take a kept unit out of use. Where the zone's reference is the only one, no one can get the unit any
-    /// more: it comes back, and the answer is its pages. Else the answer is None, a miss: the unit stays kept. The unit
-    /// goes by its head, which stands on a list of its group.
+    /// Tries to take a kept unit out of use. If the zone's reference is the only one, nobody can get the unit any more:
+    /// it is freed, and the result is its number of pages. Else the result is None, a miss, and the unit stays kept.
+    /// `head` is the unit's head.
     pub fn evict(&mut self, tables: &Tables<N>, head: Frame) -> Option<u32>
         requires frame { head < N.frames.frames }
         requires kept { HeadsKeptUnit self.old head }

@@ -1,4 +1,4 @@
-//! Units that come back.
+//! Freeing units.
 
 ghost use Rattle.std.specs.Prelude.{◌≡◌, ◌+◌, ◌^◌, ◌≤◌, length};
 ghost use Rattle.zone_blocks.specs.Areas.{AreMaximalBlocks};
@@ -12,7 +12,7 @@ use step_rules::phase::ChargedUnit;
 use zone_blocks::block::Block;
 use zone_buddy::buddy::Buddy;
 
-// Notes so many frames from this one on as free.
+// Records this many frames from `at` on as free.
 fn free_frames(spots: &mut Vec<Spot>, at: u32, frames: u32)
     requires { at + frames ≤ length spots.old.items }
     ensures { FreesFrames at frames spots.old.items spots.new.items }
@@ -22,7 +22,7 @@ fn free_frames(spots: &mut Vec<Spot>, at: u32, frames: u32)
     }
 }
 
-/// Gives the frames of a charged unit back to the zone, and takes its pages off the charge of its group.
+/// Returns the frames of a charged unit to the zone, and uncharges its pages from its group.
 pub(crate) fn free_unit(
     zone: &mut Buddy,
     spots: &mut Vec<Spot>,
@@ -39,7 +39,7 @@ pub(crate) fn free_unit(
     ensures charges { charges.new ≡ with_uncharge charges.old unit.group (2 ^ unit.order) }
     ensures usage { UsageRises charges.new charges.old unit.group (2 ^ unit.order) }
 {
-    let _tree = charges.tree(); // For the clauses.
+    let _tree = charges.tree(); // Called for its contract.
     let order = unit.order;
     free_frames(spots, at, order.frames());
     zone.give(Block { at, order });

@@ -1,4 +1,4 @@
-//! The groups: made, removed, limited, noted and killed.
+//! The groups: making, removing, limiting and killing them, and noting their events.
 
 ghost use Rattle.std.specs.Prelude.{◌≡◌, ◌≢◌, IsTrue, IfOk, OnErr, false, true, slice_set, []};
 ghost use Rattle.std.specs.Result.{result_err};
@@ -16,8 +16,8 @@ use group_tree::fault::Fault;
 use group_tree::group::GroupId;
 
 impl<N: BootName> Machine<N> {
-    /// Notes that the usage of a group was about to go over its limit: one more `max` in its events and in those of
-    /// each of its ancestors, and in its local events.
+    /// Notes that a group's usage was about to exceed its limit: one more `max` in its events and its ancestors'
+    /// events, and in its local events.
     pub fn note_max(&mut self, group: GroupId)
         requires { IsTrue (has_group self.old.ledger.groups group) }
         ensures machine { self.new ≡ record self.old { ledger = with_max_noted self.old.ledger group } }
@@ -26,8 +26,8 @@ impl<N: BootName> Machine<N> {
         self.charges.note_max(group);
     }
 
-    /// Notes that nothing but kills is left to keep the limit of a group: one more `oom` in its events and in those of
-    /// each of its ancestors, and in its local events.
+    /// Notes that only kills are left to keep a group within its limit: one more `oom` in its events and its ancestors'
+    /// events, and in its local events.
     pub fn note_oom(&mut self, group: GroupId)
         requires { IsTrue (has_group self.old.ledger.groups group) }
         ensures machine { self.new ≡ record self.old { ledger = with_oom_noted self.old.ledger group } }
@@ -37,9 +37,9 @@ impl<N: BootName> Machine<N> {
         self.charges.note_oom(group);
     }
 
-    /// Kills a group that isn't killed: nothing can be charged to it any more, until it is removed. That is one more
-    /// `oom_kill` in its events and in those of each of its ancestors, and in its local events. Its stocks and its kept
-    /// units stay as they are.
+    /// Kills a group that isn't killed: nothing can be charged to it until it is removed. That is one more `oom_kill`
+    /// in its events and its ancestors' events, and in its local events. Its stocks and its kept units stay as they
+    /// are.
     pub fn mark_killed(&mut self, group: GroupId)
         requires there { IsTrue (has_group self.old.ledger.groups group) }
         requires alive { is_killed self.old.killed group ≡ false }
@@ -54,8 +54,8 @@ impl<N: BootName> Machine<N> {
         self.killed[group.number() as usize] = true;
     }
 
-    /// Notes that a group other than the root was killed as a whole, with all groups below it: one more `oom_group_kill` in
-    /// its events and in those of each of its ancestors, and in its local events.
+    /// Notes that a group other than the root was killed as a whole, with all groups below it. That is one more
+    /// `oom_group_kill` in its events and its ancestors' events, and in its local events.
     pub fn note_group_kill(&mut self, group: GroupId)
         requires there { IsTrue (has_group self.old.ledger.groups group) }
         requires below_root { group ≢ 0 }
@@ -66,22 +66,22 @@ impl<N: BootName> Machine<N> {
         self.charges.note_group_kill(group);
     }
 
-    /// Makes a group, as `Tree::make` does. It has no page, peak 0 and all counts 0, and isn't killed.
+    /// Makes a group, as `Tree::make` does. It has no pages, peak 0 and all counts 0, and isn't killed.
     pub fn make(&mut self, path: &[u8]) -> Result<GroupId, Fault>
         ensures made { IfOk result (λ number. AddsGroup number path.now self.old self.new) }
         ensures refused { result_err result ≡ make_fault self.old.ledger.groups path.now }
         ensures unchanged { OnErr result (self.new ≡ self.old) }
         ensures steps { IfOk result (λ number. MakesForAny N.frames self.old (make_steps path.now number) self.new) }
     {
-        let _tree = self.charges.tree(); // For the clauses.
+        let _tree = self.charges.tree(); // Called for its contract.
         let group = self.charges.make(path)?;
         let number = group.number();
         self.killed[number as usize] = false;
         Ok(group)
     }
 
-    /// Removes a group that is there, other than the root, with no group below it and nothing charged. The processor has
-    /// no fresh frame, as once it was settled.
+    /// Removes an existing group other than the root, if it has no child and nothing charged. The CPU has been settled:
+    /// it has no fresh frame.
     pub fn remove(&mut self, cpu: &Cpu<N>, group: GroupId)
         requires visit { Visits N.frames (side self.old cpu.now) }
         requires there { IsTrue (has_group self.old.ledger.groups group) }
@@ -92,12 +92,12 @@ impl<N: BootName> Machine<N> {
         ensures machine { self.new ≡ record self.old { ledger = with_group_removed self.old.ledger group } }
         ensures steps { Makes N.frames (side self.old cpu.now) (remove_steps group) (side self.new cpu.now) }
     {
-        let _number = cpu.number(); // For the clauses.
-        let _tree = self.charges.tree(); // For the clauses.
+        let _number = cpu.number(); // Called for its contract.
+        let _tree = self.charges.tree(); // Called for its contract.
         self.charges.remove(group);
     }
 
-    /// Gives a group other than the root another limit, in pages; None for no limit. It binds later charges alone.
+    /// Gives a group other than the root another limit, in pages; None means no limit. Only later charges obey it.
     pub fn set_max(&mut self, group: GroupId, limit: Option<u32>)
         requires there { IsTrue (has_group self.old.ledger.groups group) }
         requires below_root { group ≢ 0 }
@@ -107,8 +107,7 @@ impl<N: BootName> Machine<N> {
         self.charges.set_max(group, limit);
     }
 
-    /// Says of a group other than the root whether it is to be killed as a whole (memory.oom.group). Only later kills read
-    /// it.
+    /// Sets whether a group other than the root is killed as a whole (memory.oom.group). Only later kills read it.
     pub fn set_oom_group(&mut self, group: GroupId, oom_group: bool)
         requires there { IsTrue (has_group self.old.ledger.groups group) }
         requires below_root { group ≢ 0 }

@@ -1,23 +1,23 @@
-//! Laws: what each function ensures holds of every run, machine and processor.
+//! Laws of every run, machine and CPU: each function ensures one.
 
 ghost use Rattle.mem_machine.specs.Interleaving.{CallsInterleave};
 ghost use Rattle.mem_machine.specs.Telling.{LedgersTell};
 
 use step_rules::laws as rules;
 
-/// What the list of steps of a call means whatever other processors do meanwhile. Where a run shows the processor the
-/// machine before the call, the run goes on with the call's steps, with any allowed steps of other processors between
-/// them, and then shows the processor the machine after it. Each answer in the list is the one that the whole state
-/// decides.
+/// What a call's list of steps means, whatever other CPUs do meanwhile. Suppose that a run shows the CPU the machine
+/// before the call. The run goes on with the call's steps, with any allowed steps of other CPUs between them. Then it
+/// shows the CPU the machine after the call. Each answer in the list is the one that the whole state decides.
 pub fn calls_interleave()
     ensures { CallsInterleave }
 {
     rules::local_runs_interleave();
 }
 
-/// What a call does to peaks and event counts. Where a run shows the processor the machine before the call, and the
-/// ledger has each group's peak and event counts of that run, then after the call it has those of the run that went on
-/// with the call's steps, and with any allowed steps of other processors between them.
+/// What a call does to peaks and event counts. Suppose that a run shows the CPU the machine before the call, and that
+/// the ledger has each group's peak and event counts of that run. The run goes on with the call's steps, with any
+/// allowed steps of other CPUs between them. Then the ledger after the call has the peaks and event counts of the
+/// longer run.
 pub fn ledgers_tell()
     ensures { LedgersTell }
 {}

@@ -1,4 +1,4 @@
-//! Frames that go between the free areas and the list of the processor that is visited.
+//! Moving frames between the free areas and the list of the visited CPU.
 
 ghost use Rattle.std.specs.Prelude.{◌≡◌, ◌<◌, ◌≤◌, [], length, take};
 ghost use Rattle.zone_blocks.specs.Areas.{HasNoneFrom};
@@ -18,7 +18,7 @@ use zone_blocks::block::Block;
 use zone_blocks::order::Order;
 
 impl<N: BootName> Machine<N> {
-    // Lends one free frame to the processor, if there is one: it comes to the end of the list.
+    // Lends one free frame to the CPU, if there is one, at the end of its list.
     fn lend_one(&mut self, tables: &Tables<N>, cpu: &mut Cpu<N>) -> bool
         requires visit { Visits N.frames (side self.old cpu.old) }
         requires room { HasListRoom cpu.old 1 }
@@ -26,7 +26,7 @@ impl<N: BootName> Machine<N> {
         ensures visit { Visits N.frames (side self.new cpu.new) }
     {
         let number = cpu.number();
-        let _few = tables.stocks.cpus(); // For the record: a number fits a byte.
+        let _few = tables.stocks.cpus(); // Its contract bounds CPU numbers, so one fits a byte.
         let Some(block) = self.zone.take(Order::of(0).unwrap()) else {
             return false;
         };
@@ -39,8 +39,8 @@ impl<N: BootName> Machine<N> {
         true
     }
 
-    /// Lends up to `batch` free frames to the processor that is visited, one after the other, and tells how many there
-    /// were. They come to the end of its list. It has room for all of them: listed and fresh frames are 256 at most.
+    /// Lends up to `batch` free frames to the visited CPU, one after the other, and returns how many it lent. They are
+    /// added to the end of its list, which has room for them: listed and fresh frames are at most 256.
     pub fn refill(&mut self, tables: &Tables<N>, cpu: &mut Cpu<N>, batch: u32) -> u32
         requires visit { Visits N.frames (side self.old cpu.old) }
         requires room { HasListRoom cpu.old batch }
@@ -57,8 +57,8 @@ impl<N: BootName> Machine<N> {
         batch
     }
 
-    /// Lends this frame, which is free, to the processor that is visited: it comes to the end of its list. There is
-    /// room for it: listed and fresh frames are 256 at most.
+    /// Lends this free frame to the visited CPU, at the end of its list. The list has room for it: listed and fresh
+    /// frames are at most 256.
     pub fn lend(&mut self, tables: &Tables<N>, cpu: &mut Cpu<N>, frame: Frame)
         requires visit { Visits N.frames (side self.old cpu.old) }
         requires frame { frame < N.frames.frames }
@@ -70,7 +70,7 @@ impl<N: BootName> Machine<N> {
             (lend_steps cpu.old.number frame) (side self.new cpu.new) }
     {
         let number = cpu.number();
-        let _few = tables.stocks.cpus(); // For the record: a number fits a byte.
+        let _few = tables.stocks.cpus(); // Its contract bounds CPU numbers, so one fits a byte.
         let at = frame.number();
         self.zone.take_frame(at);
         tables.frames.pass_out(&mut self.frame_seat, frame, number);
@@ -78,13 +78,13 @@ impl<N: BootName> Machine<N> {
         cpu.accept(tables, &mut self.frame_seat, frame);
     }
 
-    // Takes the front of the processor's list back, if there is one: it is free again.
+    // Frees the front of the CPU's list, if there is one.
     fn take_one_back(&mut self, tables: &Tables<N>, cpu: &mut Cpu<N>) -> bool
         requires { Visits N.frames (side self.old cpu.old) }
         ensures takes { TakesBackIfListed N.frames result (side self.old cpu.old) (side self.new cpu.new) }
         ensures visit { Visits N.frames (side self.new cpu.new) }
     {
-        let _number = cpu.number(); // For the clauses.
+        let _number = cpu.number(); // Called for its contract.
         let Some(frame) = cpu.hand_front(tables, &mut self.frame_seat) else {
             return false;
         };
@@ -98,8 +98,8 @@ impl<N: BootName> Machine<N> {
         true
     }
 
-    /// Takes up to `count` frames back from the front of the list of the processor that is visited, one after the
-    /// other, and tells how many there were. They are free again.
+    /// Returns up to `count` frames from the front of the visited CPU's list to the zone, one after the other, and
+    /// reports how many. They are free again.
     pub fn drain_list(&mut self, tables: &Tables<N>, cpu: &mut Cpu<N>, count: u32) -> u32
         requires { Visits N.frames (side self.old cpu.old) }
         ensures at_most { result ≤ count }

@@ -1,19 +1,24 @@
-//! What stands behind the zone's lock: the free areas, one record for each frame, the groups with their charges and
-//! their lists of kept units, and the zone's own seats at the two tables. Each call is a list of steps of the core.
+//! All that lies behind the zone's lock: the free areas, one record for each frame, the groups with their charges and
+//! lists of kept units, and the zone's seats at the two tables. Each call is a list of steps of the rules
+//! (`step_rules`).
 //!
-//! Contracts name the machine's seats at the two tables: a seat is the right to step there, and it is by these steps
-//! that other processors meet a call.
+//! Contracts name the machine's two seats. A seat is the right to make steps at a table, and other CPUs see a call only
+//! through these steps.
 //!
-//! Some words recur. A `Spot` is the record of one frame: free, lent, or in a charged unit. A frame that is lent
-//! is fresh once it was taken and paid for, until the processor is settled; a back frame heads a unit of which the
-//! processor had the last put. A stock's book is all that was charged for it: the pages in it, those that fresh
-//! frames were paid with, and those that were reported and not absorbed yet. A `Side` is the machine together with the
-//! part of the processor that holds its lock. `Visits` says of a side that the visit of that processor is open: it
-//! lasts from `open` to `shut`, and frames are handed over only inside it. `local_of` is what a side shows in the
-//! words of the rules (`step_rules`). `Makes` says that a list of steps leads from one side to another.
+//! Some terms of the contracts:
 //!
-//! A line that ends in 'For the clauses' calls a reader for what its contract tells, and changes nothing: what always
-//! holds of a type's values is known only where one of its calls says it. So does a call of `list_laws::..`.
+//! - A `Spot` is the record of one frame: free, lent, or in a charged unit.
+//! - A lent frame is fresh from the time it is taken and paid for until the CPU is settled. A back frame heads a unit
+//!   whose last reference the CPU put.
+//! - A stock's book is all that was charged through it: the pages in it, those that paid for fresh frames, and those
+//!   that are reported and not absorbed yet.
+//! - A `Side` is the machine with the part of the CPU that holds its lock. `Visits` says that this CPU's visit is open.
+//!   A visit lasts from `open` to `shut`, and frames are handed over only inside it.
+//! - `local_of` is what a side shows, in the words of the rules. `Makes` says that a list of steps leads from one side
+//!   to another.
+//!
+//! A line that ends in 'Called for its contract' calls a reader and changes nothing. A proof knows the invariant of a
+//! type only from the contract of such a call. The calls of `list_laws` are made for the same reason.
 #![tactic(auto)]
 
 mod ageing;

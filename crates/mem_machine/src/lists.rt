@@ -1,4 +1,4 @@
-//! The lists of all groups: units that come onto them, and that leave them.
+//! The lists of all groups: how units join and leave them.
 
 ghost use Rattle.std.specs.Prelude.{◌≡◌, ◌≢◌, ◌<◌, None, IfSome, length};
 ghost use Rattle.group_tree.specs.Bounds.{most_groups};
@@ -10,7 +10,7 @@ use lru_lists::laws as list_laws;
 use lru_lists::links::Links;
 use lru_lists::lru::Lru;
 
-/// Puts a unit behind the newest of its group's inactive list. The unit goes by its head, which stands on no list.
+/// Adds a unit to the newest end of its group's inactive list. `head` is the unit's head, which is on no list.
 pub(crate) fn join_list(links: &mut Links, lists: &mut Vec<Lru>, group: GroupId, head: u32)
     requires frame { head < length links.old }
     requires away { home_of links.old head ≡ None }
@@ -28,7 +28,7 @@ pub(crate) fn join_list(links: &mut Links, lists: &mut Vec<Lru>, group: GroupId,
     lists[owner] = own;
 }
 
-/// Takes a kept unit off its list. The unit goes by its head.
+/// Removes a kept unit from its list. `head` is the unit's head.
 pub(crate) fn leave_list(links: &mut Links, lists: &mut Vec<Lru>, head: u32)
     requires frame { head < length links.old }
     requires kept { home_of links.old head ≢ None }

@@ -20,32 +20,30 @@ use std::marker::{Model, PhantomData};
 use stock_word::StockSeat;
 use zone_buddy::buddy::Buddy;
 
-/// What stands behind the zone's lock. What always holds of its parts together is `IsConsistent`.
+/// All that lies behind the zone's lock. `IsConsistent` says what always holds of its parts together.
 #[derive(Drop)]
 pub struct Machine<N: BootName> {
     // The free areas: the maximal blocks of the frames whose record is Free.
     pub(crate) zone: Buddy,
     // A record for each frame, by its number.
     pub(crate) spots: Vec<Spot>,
-    // The groups, and for each the pages charged to it: its frames, and the books of the stocks that are of it.
+    // The groups, with the pages charged to each: its frames, and the books of its stocks.
     pub(crate) charges: Charges,
-    // A link for each frame, by its number. The heads of kept units are linked into their groups' lists, no other frame
-    // is.
+    // A link for each frame, by its number. Only the heads of kept units are linked into their groups' lists.
     pub(crate) links: Links,
     // The ends and lengths of the two lists of each of the 64 group numbers, by the number.
     pub(crate) lists: Vec<Lru>,
-    // The zone's seat at the frames' table: which frames are in its hand, to whom it lent which, and its references,
-    // one on the head of each kept unit.
+    // The zone's seat at the frames' table: which frames are in its hand, which frames it lent to which CPU, and its
+    // references, one on the head of each kept unit.
     pub(crate) frame_seat: FrameSeat,
-    // The zone's seat at the stocks' table: of each processor's stock its group and its book, 0 to 65,535 pages.
-    // Between two calls nothing that a processor reported is unabsorbed.
+    // The zone's seat at the stocks' table: the group and the book of each CPU's stock, 0 to 65,535 pages. Between two
+    // calls no reported page is unabsorbed.
     pub(crate) stock_seat: Books<N>,
     // Whether each of the 64 group numbers is killed, by the number.
     pub(crate) killed: Vec<bool>,
-    // How often units ended and came back, or were tried in vain, since the boot.
+    // How many units ended, were freed, or were missed since the boot.
     pub(crate) counts: Counts,
-    // What was noted since `forget_notes` was called last: the limits without room, what was tried there, and who was
-    // killed.
+    // The notes since the last `forget_notes`: limits without room, what was tried there, and who was killed.
     pub(crate) notes: Notes,
     // The boot whose tables these are.
     pub(crate) of: PhantomData<N>,
@@ -64,9 +62,9 @@ impl<N: BootName> Model for Machine<N> {
 }
 
 impl<N: BootName> Machine<N> {
-    /// The machine of a new boot, from the zone's seats at its two tables, which did nothing yet: all frames are free,
-    /// and there is the root alone. All room that its calls need is reserved here. `AllocError` comes where memory is
-    /// wanting.
+    /// The machine of a new boot, from the zone's two seats, which have done nothing yet. All frames are free, and only
+    /// the root exists. This call reserves all memory that later calls need; it returns `AllocError` if memory runs
+    /// out.
     pub fn new(
         alloc: Global,
         tables: &Tables<N>,
@@ -102,8 +100,8 @@ impl<N: BootName> Machine<N> {
         })
     }
 
-    /// Takes the machine apart, for the end of the two tables: the zone's seats at the frames' table and at the
-    /// stocks'.
+    /// Takes the machine apart, so that the two tables can end: returns the zone's seats at the frames' and the stocks'
+    /// tables.
     pub fn into_seats(self) -> (FrameSeat, StockSeat)
         ensures frame_seat { result.0 ≡ self.frame_seat }
         ensures stock_seat { result.1 ≡ self.stock_seat }

@@ -1,4 +1,4 @@
-//! The use of kept units: what is noted of them on the lists of their groups.
+//! Noting the use of kept units on the lists of their groups.
 
 ghost use Rattle.std.specs.Prelude.{◌<◌, []};
 ghost use Rattle.mem_machine.specs.Machines.{HeadsKeptUnit};
@@ -12,8 +12,8 @@ use lru_lists::laws as list_laws;
 use lru_lists::lru::Touched;
 
 impl<N: BootName> Machine<N> {
-    /// Notes that a kept unit was used: an inactive unit that isn't marked is marked; each other moves to the newest
-    /// end of the active list of its group, unmarked. The unit goes by its head, which stands on a list of its group.
+    /// Notes that a kept unit was used. An inactive unit that isn't marked is marked. Any other unit moves, unmarked,
+    /// to the newest end of its group's active list. `head` is the unit's head.
     pub fn touch(&mut self, head: Frame) -> Touched
         requires frame { head < N.frames.frames }
         requires kept { HeadsKeptUnit self.old head }
@@ -32,8 +32,7 @@ impl<N: BootName> Machine<N> {
         touched
     }
 
-    /// Notes whether the pages of a kept unit are dirty. The unit goes by its head, which stands on a list of its
-    /// group.
+    /// Notes whether the pages of a kept unit are dirty. `head` is the unit's head.
     pub fn set_dirty(&mut self, head: Frame, is_dirty: bool)
         requires frame { head < N.frames.frames }
         requires kept { HeadsKeptUnit self.old head }

@@ -1,4 +1,4 @@
-//! Notes of what was tried at limits, for whoever explains it.
+//! Notes of what was tried at limits, for explanations of kills.
 
 ghost use Rattle.std.specs.Prelude.{◌≡◌, []};
 ghost use Rattle.mem_machine.specs.Machines.{with_note};
@@ -8,15 +8,15 @@ use cpu_part::BootName;
 use kill_notes::note::Note;
 
 impl<N: BootName> Machine<N> {
-    /// What was noted since `forget_notes` was called last: the limits without room, what was tried there, and who was
-    /// killed, the oldest first. Of more than 2,048 notes it is the first 2,048.
+    /// The notes since the last `forget_notes`, the oldest first: limits without room, what was tried there, and who
+    /// was killed. If there were more than 2,048, only the first 2,048 are kept.
     pub fn notes(&self) -> &[Note]
         ensures { result.now ≡ self.now.notes }
     {
         self.notes.as_slice()
     }
 
-    /// Notes something. Nothing else changes, and no step is made.
+    /// Adds a note. Nothing else changes, and no step is made.
     pub fn note(&mut self, note: Note)
         ensures { self.new ≡ with_note self.old note }
     {

@@ -1,4 +1,4 @@
-//! What the lock's holder pays for: the pages of its own stock, and the room for more.
+//! What the lock's holder can pay with: the pages of its own stock, and the room for more charges.
 
 ghost use Rattle.std.specs.Prelude.{◌≡◌, ℕ, ◌<◌, ◌≤◌, [], length};
 ghost use Rattle.mem_machine.specs.Machines.{Visits};
@@ -14,29 +14,28 @@ use group_tree::group::GroupId;
 use stock_word::Stock;
 
 impl<N: BootName> Machine<N> {
-    /// The processor's own stock: its group, the pages that it holds, and whether it was drained. One look, which the
-    /// zone's seat counts.
+    /// The CPU's own stock: its group, its pages, and whether it was drained. This is one look, which the zone's seat
+    /// counts as a step.
     pub fn own_stock(&mut self, tables: &Tables<N>, cpu: &mut Cpu<N>) -> Stock
         ensures stock { IsOwnStock (side self.old cpu.old) result }
         ensures machine { self.new ≡ with_look self.old }
         ensures cpu { cpu.new ≡ cpu.old }
     {
-        let _number = cpu.number(); // For the clauses.
+        let _number = cpu.number(); // Called for its contract.
         self.stock_seat.look(tables, cpu)
     }
 
-    /// Shows that 65,535 pages more can be charged in a zone of this size: so many frames, and so many pages in the
-    /// stocks, stay far below 2^32. It does nothing.
+    /// Shows that 65,535 more pages can be charged in a zone of this size: all frames and all stocks together are far
+    /// below 2^32 pages. It does nothing.
     pub fn see_room(&self)
         requires size { IsOfSize N.frames }
         ensures room { (pages : ℕ) → pages < 65536 → HasRoomFor self.now pages }
     {
-        let _tree = self.charges.tree(); // For the clauses.
+        let _tree = self.charges.tree(); // Called for its contract.
     }
 
-    /// Takes the front of the list of the processor that is visited for `group`, and pays for it with a page of its
-    /// stock, which is of that group. The frame is fresh then. No frame was fresh before, as once the processor was
-    /// settled.
+    /// Takes the front of the visited CPU's list for `group`, and pays with a page of the CPU's stock, which is of that
+    /// group. The frame is fresh now. The CPU has been settled, so no frame was fresh before.
     pub fn take_front(&mut self, tables: &Tables<N>, cpu: &mut Cpu<N>, group: GroupId) -> Frame
         requires visit { Visits N.frames (side self.old cpu.old) }
         requires page { HoldsPage (side self.old cpu.old) group }
@@ -48,7 +47,7 @@ impl<N: BootName> Machine<N> {
         ensures steps { Makes N.frames (side self.old cpu.old)
             (take_front_steps cpu.old.number group) (side self.new cpu.new) }
     {
-        let _number = cpu.number(); // For the clauses.
+        let _number = cpu.number(); // Called for its contract.
         self.stock_seat.take_front(tables, cpu, group)
     }
 }

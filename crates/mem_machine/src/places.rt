@@ -9,14 +9,14 @@ use cpu_part::{BootName, Cpu, Tables};
 use group_tree::group::{GroupId, MAX_GROUPS};
 
 impl<N: BootName> Machine<N> {
-    /// How many frames are charged to a group. They are counted by what the groups are charged for, since a zone has up to
-    /// 1,048,576 frames and 64 groups.
+    /// How many frames are charged to a group. The sum is taken over the groups' charges: a zone has at most 64 groups,
+    /// but up to 1,048,576 frames.
     pub fn count_charged(&self, tables: &Tables<N>) -> u32
         ensures charged { result ≡ frames_in_groups self.now.spots }
         ensures at_most { result ≤ N.frames.frames }
     {
-        let _frames = tables.frames.frames(); // For the clauses.
-        let _charges = self.charges.tree(); // For the clauses.
+        let _frames = tables.frames.frames(); // Called for its contract.
+        let _charges = self.charges.tree(); // Called for its contract.
         let mut charged = 0;
         for number in 0..MAX_GROUPS as u32 {
             charged += self.frames_of(GroupId::of(number).unwrap());
@@ -24,14 +24,14 @@ impl<N: BootName> Machine<N> {
         charged as u32
     }
 
-    /// Shows that no frame is lent to a processor which lists none and has none fresh. It does nothing.
+    /// Shows that no frame is lent to a CPU that has no listed and no fresh frame. It does nothing.
     pub fn see_none_lent(&self, cpu: &Cpu<N>)
         requires lent { LentIsBorrowed N.frames self.now.frame_seat cpu.now.frame_seat }
         requires none_listed { cpu.now.list ≡ [] }
         requires none_fresh { cpu.now.fresh ≡ [] }
         ensures { NoneLentTo cpu.now.number self.now.spots }
     {
-        let _ = &self.frame_seat; // For the clauses.
-        let _number = cpu.number(); // For the clauses.
+        let _ = &self.frame_seat; // Called for its contract.
+        let _number = cpu.number(); // Called for its contract.
     }
 }

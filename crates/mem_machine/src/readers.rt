@@ -1,4 +1,4 @@
-//! What the machine tells of itself.
+//! Readers of the machine.
 
 ghost use Rattle.std.specs.Prelude.{◌≡◌, ◌<◌, ◌↔◌, IsTrue};
 ghost use Rattle.group_tree.specs.Groups.{has_group};
@@ -18,7 +18,7 @@ use step_rules::phase::ChargedUnit;
 use zone_blocks::walk::Walk;
 
 impl<N: BootName> Machine<N> {
-    /// Where the frame is: free, lent to a processor, or charged to a group.
+    /// The place of the frame: free, lent to a CPU, or charged to a group.
     pub fn place(&self, frame: Frame) -> Place
         requires { frame < N.frames.frames }
         ensures place { result ≡ place_of (spot_at self.now.spots frame) }
@@ -43,7 +43,7 @@ impl<N: BootName> Machine<N> {
         self.zone.blocks()
     }
 
-    /// The unit that the frame heads; None exactly where it heads none.
+    /// The unit that the frame heads; None exactly if it heads none.
     pub fn unit(&self, frame: Frame) -> Option<ChargedUnit>
         requires { frame < N.frames.frames }
         ensures { result ≡ unit_of (spot_at self.now.spots frame) }
@@ -54,7 +54,7 @@ impl<N: BootName> Machine<N> {
         }
     }
 
-    /// Whether the frame heads a kept unit, which stands on a list of its group.
+    /// Whether the frame heads a kept unit, which is on a list of its group.
     pub fn is_kept(&self, frame: Frame) -> bool
         requires { frame < N.frames.frames }
         ensures { IsTrue result ↔ HeadsKeptUnit self.now frame }
@@ -69,7 +69,7 @@ impl<N: BootName> Machine<N> {
         self.killed[group.number() as usize]
     }
 
-    /// The memory now used by the group and its descendants, in pages (memory.current).
+    /// The memory that the group and its descendants use now, in pages (memory.current).
     pub fn current(&self, group: GroupId) -> u32
         requires { IsTrue (has_group self.now.ledger.groups group) }
         ensures { result ≡ current_of self.now.ledger group }
@@ -84,15 +84,15 @@ impl<N: BootName> Machine<N> {
         &self.charges
     }
 
-    /// How often units ended and came back.
+    /// How many units ended, were freed, or were missed since the boot.
     pub fn counts(&self) -> Counts
         ensures { result ≡ self.now.counts }
     {
         self.counts
     }
 
-    /// How many frames are charged to the group itself, those of units that aren't kept any more among them: its pages
-    /// less those that are booked to its stocks.
+    /// How many frames are charged to the group itself, those of units that aren't kept any more included. These are
+    /// its pages without those booked to its stocks.
     pub fn frames_of(&self, group: GroupId) -> u64
         ensures { result ≡ frames_charged self.now.spots group }
     {

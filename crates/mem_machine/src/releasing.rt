@@ -1,4 +1,4 @@
-//! Kept units that are released.
+//! Releasing kept units.
 
 ghost use Rattle.std.specs.Prelude.{◌<◌};
 ghost use Rattle.mem_machine.specs.Machines.{HeadsKeptUnit, StaysVisited, Visits};
@@ -15,17 +15,16 @@ use frame_word::{Frame, Put};
 /// What a release left.
 #[derive(Clone, Copy, Debug, PartialEq, Eq)]
 pub enum Released {
-    /// So many references of processors are left: the unit stays charged, and isn't kept any more. It comes back after
-    /// the last put of a processor, when that one is settled.
+    /// This many references of CPUs are left. The unit stays charged and isn't kept any more. After a CPU puts the last
+    /// reference, the unit is freed when that CPU is settled.
     Left(u64),
-    /// It came back: its frames are free, and its pages off the charge of its group.
+    /// The unit was freed: its frames are free, and its pages are uncharged from its group.
     Returned,
 }
 
 impl<N: BootName> Machine<N> {
-    /// Takes a kept unit off its list, and gives up the zone's reference on it. Where that was the last one, the unit
-    /// comes back. The unit goes by its head, which stands on a list of its group. It may be called in any processor's
-    /// visit.
+    /// Removes a kept unit from its list, and puts the zone's reference on it. If that was the last reference, the unit
+    /// is freed. `head` is the unit's head. The call may be made in any CPU's visit.
     pub fn let_go(&mut self, tables: &Tables<N>, head: Frame) -> Released
         requires frame { head < N.frames.frames }
         requires kept { HeadsKeptUnit self.old head }
@@ -48,8 +47,7 @@ impl<N: BootName> Machine<N> {
         }
     }
 
-    /// Takes a kept unit off its list, and gives up the zone's reference on it, as `let_go` does, in the visit of this
-    /// processor.
+    /// Releases a kept unit as `let_go` does, in the visit of this CPU.
     pub fn release(&mut self, tables: &Tables<N>, cpu: &Cpu<N>, head: Frame) -> Released
         requires visit { Visits N.frames (side self.old cpu.now) }
         requires frame { head < N.frames.frames }

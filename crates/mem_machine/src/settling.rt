@@ -1,4 +1,4 @@
-//! Settling: what the visited processor paid for is kept, and what it put last comes back.
+//! Settling the visited CPU: its fresh frames are kept, and the units of its back frames are freed.
 
 ghost use Rattle.std.specs.Prelude.{◌≡◌, ◌≢◌, ◌<◌, [], true, Some};
 ghost use Rattle.stock_word.specs.Stock.{group_of};
@@ -30,7 +30,7 @@ impl<N: BootName> Machine<N> {
         ensures steps { Makes N.frames (side self.old cpu.old)
             (keep_steps cpu.old.number result) (side self.new cpu.new) }
     {
-        let _number = cpu.number(); // For the clauses.
+        let _number = cpu.number(); // Called for its contract.
         let frame = self
             .stock_seat
             .collect_fresh(tables, cpu, &mut self.frame_seat, group);
@@ -42,7 +42,7 @@ impl<N: BootName> Machine<N> {
         frame
     }
 
-    // Gives the oldest fresh frame back, whose group is killed: its page comes off the group's charge.
+    // Frees the oldest fresh frame, whose group is killed, and uncharges its page from the group.
     fn drop_one(&mut self, tables: &Tables<N>, cpu: &mut Cpu<N>, group: GroupId) -> Frame
         requires visit { Visits N.frames (side self.old cpu.old) }
         requires fresh { cpu.old.fresh ≢ [] }
@@ -53,7 +53,7 @@ impl<N: BootName> Machine<N> {
         ensures steps { Makes N.frames (side self.old cpu.old)
             (drop_steps cpu.old.number result) (side self.new cpu.new) }
     {
-        let _number = cpu.number(); // For the clauses.
+        let _number = cpu.number(); // Called for its contract.
         let frame = self
             .stock_seat
             .collect_fresh(tables, cpu, &mut self.frame_seat, group);
@@ -70,14 +70,14 @@ impl<N: BootName> Machine<N> {
         frame
     }
 
-    // Takes the oldest back frame, if there is one, into the zone's hand: its unit comes back.
+    // Takes the oldest back frame, if there is one, into the zone's hand, and frees its unit.
     fn return_one(&mut self, tables: &Tables<N>, cpu: &mut Cpu<N>) -> Option<Frame>
         requires { Visits N.frames (side self.old cpu.old) }
         ensures returns { ReturnsNext result (side self.old cpu.old) (side self.new cpu.new) }
         ensures visit { Visits N.frames (side self.new cpu.new) }
         ensures steps { MakesReturnSteps N.frames result (side self.old cpu.old) (side self.new cpu.new) }
     {
-        let _number = cpu.number(); // For the clauses.
+        let _number = cpu.number(); // Called for its contract.
         let Some(frame) = cpu.hand_back(tables, &mut self.frame_seat) else {
             return None;
         };
@@ -91,7 +91,7 @@ impl<N: BootName> Machine<N> {
         Some(frame)
     }
 
-    // Settles the oldest fresh frame, if there is one: it is kept for its group, or dropped where that is killed.
+    // Settles the oldest fresh frame, if there is one: it is kept for its group, or dropped if that group is killed.
     fn settle_one(&mut self, tables: &Tables<N>, cpu: &mut Cpu<N>) -> Option<Frame>
         requires { Visits N.frames (side self.old cpu.old) }
         ensures settles { SettlesNext result (side self.old cpu.old) (side self.new cpu.new) }
@@ -125,7 +125,7 @@ impl<N: BootName> Machine<N> {
         while let Some(_frame) = self.settle_one(tables, cpu) {}
     }
 
-    // Takes all back frames back, in the order of their last puts.
+    // Frees the units of all back frames, in the order of their last puts.
     fn settle_back(&mut self, tables: &Tables<N>, cpu: &mut Cpu<N>)
         requires { Visits N.frames (side self.old cpu.old) }
         ensures returns { ReturnsAllBack cpu.old.back (side self.old cpu.old) (side self.new cpu.new) }
@@ -138,10 +138,9 @@ impl<N: BootName> Machine<N> {
         while let Some(_frame) = self.return_one(tables, cpu) {}
     }
 
-    /// Settles the processor that is visited. Each fresh frame, in the order in which they were taken, is now a kept
-    /// unit of the group that paid for it; where that group was killed meanwhile, it goes back, and its page comes off
-    /// the group's charge, which counts as a drop. Then the unit of each back frame goes back, in the order of their
-    /// last puts.
+    /// Settles the visited CPU. Each fresh frame, in the order in which they were taken, becomes a kept unit of the
+    /// group that paid for it. If that group has been killed, the frame is freed and its page uncharged, which counts
+    /// as a drop. Then the units of the back frames are freed, in the order of their last puts.
     pub fn settle(&mut self, tables: &Tables<N>, cpu: &mut Cpu<N>)
         requires { Visits N.frames (side self.old cpu.old) }
         ensures settles { Settles (side self.old cpu.old) (side self.new cpu.new) }

@@ -1,4 +1,4 @@
-//! What is kept of one frame.
+//! What the machine records of one frame.
 
 ghost use Rattle.std.specs.Prelude.{◌≡◌};
 ghost use Rattle.mem_machine.specs.Spots.{place_of};
@@ -6,13 +6,13 @@ ghost use Rattle.mem_machine.specs.Spots.{place_of};
 use group_tree::group::GroupId;
 use step_rules::phase::ChargedUnit;
 
-/// The record of one frame: where it stands, as the machine keeps it. There is one for each frame, so it takes 3 bytes: one
+/// The record of one frame: what the machine uses it for. There is one for each frame, so it takes only 3 bytes: one
 /// each for the variant, the CPU or the group, and the order.
 #[derive(Clone, Copy, Debug, PartialEq, Eq)]
 pub enum Spot {
     /// In the zone's free areas.
     Free,
-    /// Lent to this processor, whose number is at most 64: on its list, or fresh there.
+    /// Lent to this CPU, whose number is at most 64: on its list, or fresh there.
     Lent(u8),
     /// The head of a charged unit.
     Head(ChargedUnit),
@@ -20,12 +20,12 @@ pub enum Spot {
     Tail(GroupId),
 }
 
-/// Where a frame is, for those who don't ask which frame heads its unit.
+/// Where a frame is, for callers that don't need the head of its unit.
 #[derive(Clone, Copy, Debug, PartialEq, Eq)]
 pub enum Place {
     /// In the zone's free areas.
     Free,
-    /// Lent to this processor.
+    /// Lent to this CPU.
     Lent(u32),
     /// Charged to this group.
     Charged(GroupId),

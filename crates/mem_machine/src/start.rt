@@ -16,7 +16,7 @@ use lru_lists::lru::Lru;
 use std::alloc::{AllocError, Global};
 use zone_buddy::buddy::Buddy;
 
-/// What is there for each frame, which is free: the zone, a record, and a place on no list.
+/// The parts that have a place for each frame: the zone, the records and the links. All frames are free and on no list.
 pub(crate) fn frame_rooms(
     alloc: Global,
     frames: u32,
@@ -33,8 +33,8 @@ pub(crate) fn frame_rooms(
     Ok((zone, spots, links))
 }
 
-/// What is there for each group number, of which the root alone has a group: its charges, two empty lists, and whether
-/// it is killed.
+/// The parts that have a place for each group number: charges, two empty lists each, and the marks of killed groups.
+/// Only the root exists.
 pub(crate) fn group_rooms(alloc: Global) -> Result<(Charges, Vec<Lru>, Vec<bool>), AllocError>
     ensures charges { IfOk result (λ rooms. rooms.0 ≡ initial_ledger) }
     ensures lists { IfOk result (λ rooms. AreEmpty rooms.1.items most_groups) }

@@ -1,4 +1,4 @@
-//! The processors' stocks: drained, and filled.
+//! Draining and filling the CPUs' stocks.
 
 ghost use Rattle.std.specs.Prelude.{◌≡◌, ◌<◌, [], Some, IsTrue, OnOk, OnErr, IfErr};
 ghost use Rattle.group_tree.specs.Groups.{has_group, in_subtree};
@@ -18,7 +18,7 @@ use group_tree::group::GroupId;
 use kill_notes::note::Note;
 
 impl<N: BootName> Machine<N> {
-    // Drains the stock of the processor, which a look found to be of this group, and reports how many pages were in it.
+    // Drains the stock of the CPU, which a look found to be of this group, and returns how many pages were in it.
     fn drain_of(&mut self, tables: &Tables<N>, processor: u32, group: GroupId) -> u32
         requires processor { IsCpuOf N.frames processor }
         requires group { stock_group self.old processor ≡ Some group }
@@ -26,7 +26,7 @@ impl<N: BootName> Machine<N> {
         ensures steps { MakesForAny N.frames self.old
             (drain_steps processor (stock_group self.old processor) result) self.new }
     {
-        let _tree = self.charges.tree(); // For the clauses.
+        let _tree = self.charges.tree(); // Called for its contract.
         let pages = self.stock_seat.drain(tables, processor, group);
         if pages > 0 {
             self.charges.uncharge(group, pages);
@@ -34,7 +34,7 @@ impl<N: BootName> Machine<N> {
         pages
     }
 
-    // Drains the stock of the processor, which a look found to be of this group, notes that, and reports how many pages
+    // Drains the stock of the CPU, which a look found to be of this group, notes the drain, and returns how many pages
     // were in it.
     fn drain_noted(&mut self, tables: &Tables<N>, processor: u32, group: GroupId) -> u32
         requires processor { IsCpuOf N.frames processor }
@@ -51,8 +51,8 @@ impl<N: BootName> Machine<N> {
         pages
     }
 
-    /// Drains the stock of a processor, which may be any of the boot's, and tells how many pages were in it. They come
-    /// off its book and off the charge of the group that it is of. The processor's own calls may go on meanwhile.
+    /// Drains the stock of any CPU of the boot, and returns how many pages were in it. The pages leave the stock's book
+    /// and the charge of its group. That CPU may go on with its own calls meanwhile.
     pub fn drain_stock(&mut self, tables: &Tables<N>, processor: u32) -> u32
         requires processor { IsCpuOf N.frames processor }
         ensures drains { Drains processor result self.old self.new }
@@ -65,7 +65,7 @@ impl<N: BootName> Machine<N> {
         }
     }
 
-    // Whether the other group is there and is the group or lies below it.
+    // Whether `other` exists and is `group` or a descendant of it.
     fn is_below(&self, group: GroupId, other: GroupId) -> bool
         requires { IsTrue (has_group self.now.ledger.groups group) }
         ensures { result ≡ in_subtree self.now.ledger.groups group other }
@@ -74,8 +74,8 @@ impl<N: BootName> Machine<N> {
         tree.contains(other) && tree.in_subtree(group, other)
     }
 
-    // Drains the stock of the processor where it is of the subtree of the group, notes that, and tells how many pages
-    // came from it.
+    // Drains and notes the CPU's stock if it is of a group in this group's subtree, and returns how many pages were in
+    // it.
     fn drain_if_below(&mut self, tables: &Tables<N>, processor: u32, group: GroupId) -> u32
         requires processor { IsCpuOf N.frames processor }
         requires there { IsTrue (has_group self.old.ledger.groups group) }
@@ -90,9 +90,9 @@ impl<N: BootName> Machine<N> {
         }
     }
 
-    /// Drains the stocks of all groups of the subtree of `group`, also where one has no page, and tells how many pages
-    /// were in them. They come off the books and off the charges of their groups, and each drain is noted. It looks at
-    /// each processor's stock once.
+    /// Drains all stocks of groups in the subtree of `group`, empty ones included, and returns how many pages were in
+    /// them. The pages leave the books and the charges of their groups, and each drain is noted. It looks once at the
+    /// stock of each CPU.
     pub fn drain_stocks(&mut self, tables: &Tables<N>, group: GroupId) -> u64
         requires there { IsTrue (has_group self.old.ledger.groups group) }
         ensures drains { DrainsSubtree N.frames group result self.old self.new }
@@ -105,8 +105,7 @@ impl<N: BootName> Machine<N> {
         pages
     }
 
-    // Drains the stock of the processor where it is of the group itself, notes that, and tells how many pages came from
-    // it.
+    // Drains and notes the CPU's stock if it is of the group itself, and returns how many pages were in it.
     fn drain_if_own(&mut self, tables: &Tables<N>, processor: u32, group: GroupId) -> u32
         requires processor { IsCpuOf N.frames processor }
         ensures { DrainsBySteps N.frames (DrainsIf (of_group group) processor) result self.old self.new }
@@ -118,9 +117,8 @@ impl<N: BootName> Machine<N> {
         }
     }
 
-    /// Drains the stocks of the group itself, also where one has no page, and tells how many pages were in them. They
-    /// come off the books and off the charge of the group, and each drain is noted. It looks at each processor's stock
-    /// once.
+    /// Drains all stocks of the group itself, empty ones included, and returns how many pages were in them. The pages
+    /// leave the books and the charge of the group, and each drain is noted. It looks once at the stock of each CPU.
     pub fn drain_group_stocks(&mut self, tables: &Tables<N>, group: GroupId) -> u64
         ensures drains { DrainsGroup N.frames group result self.old self.new }
         ensures drained { AreOwnDrained group N.frames.cpus self.new }
@@ -132,10 +130,10 @@ impl<N: BootName> Machine<N> {
         pages
     }
 
-    /// Charges `pages` pages (1 to 65,535) to a group that isn't killed, and fills the stock of the processor that is
-    /// visited with them; that stock is drained, or was never filled. Where a limit has no room, the error names the
-    /// lowest such group, and nothing changed. The processor has no fresh frame. In all, at most 2^32 - 1 pages can be
-    /// charged, as `see_room` tells.
+    /// Charges `pages` pages (1 to 65,535) to a group that isn't killed, and fills the visited CPU's stock with them.
+    /// That stock is drained, or was never filled. If a limit has no room, the error names the lowest such group, and
+    /// nothing changed. The CPU has no fresh frame. At most 2^32 - 1 pages can be charged in all; `see_room` shows that
+    /// there is room.
     pub fn fill_stock(
         &mut self,
         tables: &Tables<N>,
@@ -156,17 +154,17 @@ impl<N: BootName> Machine<N> {
             (MakesBy N.frames (own_fill_steps group pages) (side self.old cpu.old) (side self.new cpu.new)) }
         ensures refused { IfErr result (λ over. RefusesGrant N.frames group pages over (side self.old cpu.old)) }
     {
-        let _number = cpu.number(); // For the clauses.
-        let _tree = self.charges.tree(); // For the clauses.
+        let _number = cpu.number(); // Called for its contract.
+        let _tree = self.charges.tree(); // Called for its contract.
         self.charges.try_charge(group, pages)?;
         self.stock_seat.fill(tables, cpu, group, pages);
         Ok(())
     }
 
     /// Tries once to prepay `pages` pages (1 to 65,535) of a group that isn't killed. The caller's own stock is drained
-    /// first, and all its pages are returned, as a look shows; then the pages are charged to the group and fill the
-    /// stock. If a limit has no room, the error names the lowest such group, and nothing is charged. The processor has
-    /// no fresh frame. In all, at most 2^32 - 1 pages can be charged, as `see_room` shows.
+    /// of all its pages first, and a look confirms that. Then the pages are charged to the group and fill the stock. If
+    /// a limit has no room, the error names the lowest such group, and nothing is charged. The CPU has no fresh frame.
+    /// At most 2^32 - 1 pages can be charged in all; `see_room` shows that there is room.
     pub fn prepay(
         &mut self,
         tables: &Tables<N>,
@@ -189,7 +187,7 @@ impl<N: BootName> Machine<N> {
     {
         let number = cpu.number();
         self.drain_stock(tables, number);
-        // The drain says how many pages it took, and not that none is left: the look does.
+        // The drain returns how many pages it took; only the look shows that none is left.
         let _emptied = self.own_stock(tables, cpu);
         self.fill_stock(tables, cpu, group, pages)
     }

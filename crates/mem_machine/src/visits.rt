@@ -1,4 +1,4 @@
-//! A visit of a processor: its begin and its end.
+//! The begin and the end of a CPU's visit.
 
 ghost use Rattle.std.specs.Prelude.{◌≡◌};
 ghost use Rattle.frame_word.specs.Seats.{IsShut, NothingPasses, LentIsBorrowed, seat_with_visit};
@@ -10,7 +10,7 @@ use crate::machine::Machine;
 use cpu_part::{BootName, Cpu, Tables};
 
 impl<N: BootName> Machine<N> {
-    /// Opens the visit of the processor, which isn't open. Frames are handed over and pages reported only inside it.
+    /// Opens the visit of the CPU, which is shut. Frames are handed over and pages reported only inside a visit.
     pub fn open(&mut self, tables: &Tables<N>, cpu: &mut Cpu<N>)
         requires { IsShut self.old.frame_seat cpu.old.number }
         ensures machine { self.new ≡ record self.old {
@@ -20,11 +20,11 @@ impl<N: BootName> Machine<N> {
         ensures visits { Visits N.frames (side self.new cpu.new) }
         ensures steps { Makes N.frames (side self.old cpu.old) (open_steps cpu.old.number) (side self.new cpu.new) }
     {
-        let _number = cpu.number(); // For the clauses.
+        let _number = cpu.number(); // Called for its contract.
         cpu.open(tables, &mut self.frame_seat);
     }
 
-    /// Shuts the visit of the processor.
+    /// Shuts the visit of the CPU.
     pub fn shut(&mut self, tables: &Tables<N>, cpu: &mut Cpu<N>)
         requires { Visits N.frames (side self.old cpu.old) }
         ensures machine { self.new ≡ record self.old {
@@ -36,7 +36,7 @@ impl<N: BootName> Machine<N> {
         ensures lent { LentIsBorrowed N.frames self.new.frame_seat cpu.new.frame_seat }
         ensures steps { Makes N.frames (side self.old cpu.old) (shut_steps cpu.old.number) (side self.new cpu.new) }
     {
-        let _number = cpu.number(); // For the clauses.
+        let _number = cpu.number(); // Called for its contract.
         cpu.shut(tables, &mut self.frame_seat);
     }
 }

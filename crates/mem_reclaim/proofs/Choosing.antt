@@ -10,7 +10,7 @@ use Rattle.step_rules.specs.State.{one_if, sum_to}
 use Rattle.mem_machine.specs.Machines.{KnownMachine}
 use Rattle.mem_reclaim.specs.Victim.{IsMost, is_candidate, is_it, may_be_chosen, may_be_killed, own_frames}
 
--- v has the most frames of those below k that the test chooses, and has so many
+-- of the groups below k that the test chooses, v has the most frames, this many
 pub record BestSoFar (m : KnownMachine) (test : ℕ → Bool) (k v frames : ℕ) : Type 0 where
   pub chosen : test v ≡ true
   pub own : own_frames m v ≡ frames
@@ -50,7 +50,7 @@ best_end m facts g but k (Some v) frames b all = record {
 
 -- ---- how many may be killed
 
--- so many of the numbers below k are candidates
+-- this many of the numbers below k are candidates
 pub record CountedTo (m : KnownMachine) (g k count : ℕ) : Type 0 where
   pub sum : count ≡ sum_to k (λ j. one_if (is_candidate m g j))
   pub few : count ≤ k

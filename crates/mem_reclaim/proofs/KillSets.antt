@@ -85,7 +85,7 @@ all_one P g here = All-cons P g [] here (All-nil P)
 
 -- ---- groups that are killed
 
--- just these groups were killed, and so it was done; and what that leaves
+-- exactly these groups were killed, as `Kills` says; and what that leaves
 pub record KilledSo (t : KnownTable) (groups : List ℕ) (Kills : KnownMachine → Run → KnownMachine → Type 0) (m n : KnownMachine) : Type 0 where
   pub kills : KillsSoBySteps t groups Kills m n
   pub marked : n.killed ≡ with_all_killed m.killed groups

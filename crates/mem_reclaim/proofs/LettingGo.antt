@@ -1,4 +1,4 @@
--- Units that are let go, and what stays meanwhile; and a group that is killed. Serves `let_go_all` and `kill_group`.
+-- What a release of units keeps, and how a group is killed. Serves `let_go_all` and `kill_group`.
 use Rattle.std.proofs.Common.{◌≡◌, ◌≢◌, ℕ, ◌+◌, ◌<◌, ◌≤◌, ◌==◌, Bool, true, Option, Some, None, List, [], ◌∷◌, ◌++◌, length, zero, suc, refl, sym, ap, ◌∙◌, subst, ◌||◌, ◌^◌, cond, false}
 use Rattle.std.proofs.Common.{inl, inr, arith, eq-eqb}
 use Rattle.std.specs.Prelude.{slice_set}
@@ -79,7 +79,7 @@ only_lets_both t a b c p q = record {
   misses = λ f. q.misses f ∙ p.misses f;
 }
 
--- where the links and the zone's seat at the frames stay
+-- the links and the zone's seat at the frames stay
 pub only_lets_same : (t : KnownTable) (m n : KnownMachine) → n.ledger.groups ≡ m.ledger.groups
     → ((g : ℕ) → current_of n.ledger g ≤ current_of m.ledger g) → n.frame_seat ≡ m.frame_seat → n.links ≡ m.links → OnlyLetsGo t m n
 only_lets_same t m n groups usage seat links = record {
@@ -159,7 +159,7 @@ off_entries m n g f Active is home =
     let own : is.group ≡ g = same_home (record { owner = is.group; list = is.list }) (record { owner = g; list = Active }) (sym is.stands ∙ home) in
     subst (λ (k : ℕ). entries_in n k Active ≡ entries_without f (entries_in m k Active)) own is.active
 
--- ---- the units of a list, as far as they were let go
+-- ---- the units of a list that were released so far
 
 pub record LetGoSoFar (t : KnownTable) (g : ℕ) (list : LruList) (m : KnownMachine) (i : ℕ) (now : KnownMachine) : Type 0 where
   pub steps : Run
@@ -197,7 +197,7 @@ none_first : (entries : List Entry) (i n : ℕ) → None ≡ first_entry entries
 none_first [] i n is left lt = omega (arith, left, lt)
 none_first (e ∷ es) i n is left lt = none-some e is
 
--- there is one, as long as not all were let go
+-- a unit is left while not all were released
 pub some_oldest : (t : KnownTable) (g : ℕ) (list : LruList) (m : KnownMachine) (i : ℕ) (now : KnownMachine) → LetGoSoFar t g list m i now
     → i < length (entries_in m g list) → (oldest : Option Entry) → oldest ≡ first_entry (entries_in now g list) → oldest ≡ None → ⊥
 some_oldest t g list m i now s more oldest first none = none_first (entries_in now g list) i _ (sym none ∙ first) s.left more
@@ -430,7 +430,7 @@ pub record AllKilled (t : KnownTable) (v : ℕ) (m n : KnownMachine) : Type 0 wh
   pub keeps : OnlyLetsGo t m n
   pub stocks : OnlyDrains m n
 
--- nobody stands on an empty list
+-- no unit is on an empty list
 none_listed : (t : KnownTable) (w : Words) (m : KnownMachine) → IsConsistent t w m → (v : ℕ) → v < 64 → (list : LruList) → entries_in m v list ≡ []
     → (f : ℕ) → home_of m.links f ≡ Some (record { owner = v; list = list }) → ⊥
 none_listed t w m ok v fits list empty f home =

@@ -24,7 +24,7 @@ abbrev pub AreApartUnits : List Entry → Type 0
 AreApartUnits [] = Unit {0}
 AreApartUnits (e ∷ es) = (has_unit e.number es ≡ false) × AreApartUnits es
 
--- each is as its record tells
+-- each is as its record says
 abbrev pub AreAsRead : List Link → List Entry → Type 0
 AreAsRead links [] = Unit {0}
 AreAsRead links (e ∷ es) = (e ≡ entry_of links e.number) × AreAsRead links es
@@ -103,7 +103,7 @@ listed_is t w m ok g fits list =
       read = map_read m.links units;
     }
 
--- who stands on a list is one of the frames
+-- a frame that is on a list is one of the zone's
 pub home_inside : (t : KnownTable) (w : Words) (m : KnownMachine) → IsConsistent t w m → (f : ℕ) (h : Home) → home_of m.links f ≡ Some h → f < t.frames
 home_inside t w m ok f h home = elim (cases_lt f t.frames) [
   | inl lt ↦ lt

@@ -1,4 +1,4 @@
--- What is done with one unit, and what becomes of the list on which it stands. Serves `meet` and the scan.
+-- What is done with one unit, and with its list. Serves `meet` and the scan.
 use Rattle.std.proofs.Common.{◌≡◌, ℕ, ◌==◌, ◌&&◌, ◌⊎◌, Bool, true, false, Option, Some, None, List, [], ◌∷◌, ◌++◌, refl, sym, ap, ◌∙◌, subst}
 use Rattle.std.proofs.Common.{inl, inr, arith, cond, eq-eqb}
 use Rattle.std.specs.Prelude.{unwrap_or}
@@ -55,9 +55,9 @@ meets_tried t marks_count g f e m n answer given clean spared is evicts runs pag
       moves = moves_try t m n f answer evicts runs;
     })
 
--- ---- the list on which the unit stood
+-- ---- the list that the unit was on
 
--- it is as it was, or the unit is off it, and perhaps back at its newest end
+-- the list is unchanged, or the unit left it, and perhaps joined its newest end again
 abbrev pub MetList : ℕ → LruList → ℕ → KnownMachine → KnownMachine → Type 0
 MetList g list f m n =
     (entries_in n g list ≡ entries_in m g list) ⊎ ((back : List Entry) × (entries_in n g list ≡ entries_without f (entries_in m g list) ++ back))
@@ -92,7 +92,7 @@ pub met_list : (marks_count : Bool) (m n : KnownMachine) (g want given : ℕ) (e
 met_list true m n g want given e steps list is inactive home = met_as e.is_dirty e.is_marked m n g e.number given steps list is (λ i. inactive refl) home
 met_list false m n g want given e steps list is inactive home = met_as e.is_dirty false m n g e.number given steps list is (λ i. absurd (true≢false (sym i))) home
 
--- ---- where marks don't count, units leave and none comes, and one that stays clean is missed
+-- ---- if marks don't count, units leave and none joins, and one that stays clean is missed
 
 try_leaves : (m n : KnownMachine) (f : ℕ) (answer : Option ℕ) → Evicts f answer m n → OnlyLeave m n
 try_leaves m n f None is x h home = ap (λ (k : KnownMachine). home_of k.links x) (sym is.machine) ∙ home

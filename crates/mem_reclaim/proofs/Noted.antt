@@ -28,7 +28,7 @@ missed_units_were_tried t before given steps after g moves missed f home below i
     let counted = moves.misses f in
     omega (arith, rose, counted)
 
--- a count that rose by so many and isn't at its greatest shows by its difference how many these are
+-- the difference of a count that rose by this many and isn't at its greatest is this many
 risen : (before more after : ℕ) → Rises before more after → after < max_count → after - before ≡ more
 risen before more after (inl is) low = omega (arith, is)
 risen before more after (inr most) low = absurd (omega (arith, most, low))

@@ -57,7 +57,7 @@ drains_return_none (d ∷ rest) =
     let both = returned_both (drain_steps d.cpu d.group d.pages) (drain_stocks_steps rest) in
     omega (arith, one, more, both)
 
--- ---- units that are let go
+-- ---- units that are released
 
 release_rises : (m n : KnownMachine) (f : ℕ) (left : Released) → Releases f left m n
     → Rises m.counts.last_puts (returned_in (release_steps f left)) n.counts.last_puts

@@ -66,14 +66,14 @@ round_noted t g number want m given x n leads keeps noted =
       keeps = keeps_noted t m x note keeps;
     })
 
--- what rounds left: pages of the group's subtree, and where too few came back, no unit that wasn't tried
+-- what rounds left: pages of the group's subtree were freed and, if they are too few, each clean unit was tried
 pub record RoundsGive (t : KnownTable) (g need limit : ℕ) (m : KnownMachine) (given : ℕ) (now : KnownMachine) : Type 0 where
   pub rounds : Leads t given m now (MakesRounds g (pages_missing g need limit) 16)
   pub keeps : Keeps t m now
   pub usage : current_of now.ledger g + given ≡ current_of m.ledger g
   pub missed : limit < current_of now.ledger g + need → MissedAll g m now
 
--- so many rounds were made, so that whatever the rounds that are left do makes up the whole
+-- this many rounds were made, so what the remaining rounds do makes up the whole
 pub record RoundsSoFar (t : KnownTable) (g need limit : ℕ) (m : KnownMachine) (made given : ℕ) (now : KnownMachine) : Type 0 where
   pub steps : Run
   pub whole : (more : ℕ) (rest : Run) (n : KnownMachine) → MakesRounds g (pages_missing g need limit) (16 - made) (progress more now rest n)

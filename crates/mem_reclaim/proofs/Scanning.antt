@@ -30,7 +30,7 @@ abbrev pub IsNext : Option Entry → List Entry → Type 0
 IsNext next [] = Unit {0}
 IsNext next (e ∷ es) = next ≡ Some e
 
--- who stands on the list, clean, is still to be met, or was missed
+-- a clean unit on the list is still to be handled, or was missed
 abbrev pub MissedOrLeft : KnownMachine → ℕ → LruList → KnownMachine → List Entry → Type 0
 MissedOrLeft m g list now todo = (f : ℕ) → home_of now.links f ≡ Some (record { owner = g; list = list }) → (link_at now.links f).is_dirty ≡ false
     → (has_unit f todo ≡ true) ⊎ (misses_of m.frame_seat f < misses_of now.frame_seat f)
@@ -199,7 +199,7 @@ none_left : (todo : List Entry) (i n : ℕ) → length todo + i ≡ n → n ≤ 
 none_left [] i n left all = refl
 none_left (e ∷ es) i n left all = absurd (let a : length (e ∷ es) + i ≡ n = left in omega (arith, a, all))
 
--- the units are those that stand on the list in the first machine
+-- the units are those of the list in the first machine
 of_list : (t : KnownTable) (marks_count : Bool) (g : ℕ) (list : LruList) (want given : ℕ) (m now : KnownMachine)
     → Leads t given m now (WhileWanted (MeetsUnit marks_count g) (entries_in m g list) want) → Leads t given m now (ScansList marks_count g list want)
 of_list t marks_count g list want given m now h = record { steps = h.steps; does = h.does; moves = h.moves }
@@ -218,7 +218,7 @@ scan_done t marks_count g list want m i given next now s units counted all =
       ];
     }
 
--- enough came back
+-- enough pages were freed
 pub scan_enough : (t : KnownTable) (marks_count : Bool) (g : ℕ) (list : LruList) (want : ℕ) (m : KnownMachine) (i given : ℕ) (next : Option Entry) (now : KnownMachine)
     → ScanSoFar t marks_count g list want m i given next now → want ≤ given → ScanEnds t marks_count g list want m given now
 scan_enough t marks_count g list want m i given next now s enough = record {

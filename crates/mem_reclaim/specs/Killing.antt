@@ -1,4 +1,4 @@
--- A group is killed, and its kept units leave.
+-- How a group is killed, and how its kept units are released.
 use Rattle.std.specs.Prelude.{◌≡◌, ◌≢◌, ℕ, ◌+◌, ◌-◌, ◌≤◌, true, false, Option, Some, None, List, [], ◌∷◌, ◌++◌}
 use Rattle.std.specs.Prelude.{Bool, length, slice_set}
 use Rattle.std.specs.List.{fold}
@@ -26,8 +26,8 @@ use Rattle.mem_reclaim.specs.Sets.{IsHead, alive_below, group_kill_note, kill_se
 use Rattle.mem_reclaim.specs.Staying.{OnlyLeave}
 use Rattle.mem_reclaim.specs.Victim.{IsNext, own_frames, victim_note}
 
--- The unit leaves its list, and the zone's reference on it is put: without another reference it comes back, its frames
--- are free and its pages uncharged; else it stays charged, kept by no one. And then this is done
+-- The unit is released: it leaves its list, and the zone's reference is put. Without another reference it is freed and
+-- uncharged; else it stays charged and isn't kept. Then `Then` leads on.
 pub record LetsGo (unit : Entry) (Then : KnownMachine → Run → KnownMachine → Type 0) (before : KnownMachine)
     (steps : Run) (after : KnownMachine) : Type 0 where
   pub between : KnownMachine
@@ -37,26 +37,27 @@ pub record LetsGo (unit : Entry) (Then : KnownMachine → Run → KnownMachine �
   pub others : Then between later after
   pub steps_are : steps ≡ release_steps unit.number left ++ later
 
--- the units are let go in this order
+-- the units are released in this order
 abbrev pub LetsGoAll : List Entry → KnownMachine → Run → KnownMachine → Type 0
 LetsGoAll [] before steps after = (after ≡ before) × (steps ≡ [])
 LetsGoAll (unit ∷ others) before steps after = LetsGo unit (LetsGoAll others) before steps after
 
--- the units are let go by some steps, whoever holds the lock
+-- the units are released by some steps, whichever CPU holds the lock
 pub record LetsGoBySteps (table : KnownTable) (units : List Entry) (before after : KnownMachine) : Type 0 where
   pub steps : Run
   pub lets_go : LetsGoAll units before steps after
   pub runs : MakesForAny table before steps after
 
--- the group counts as killed, and one kill more is noted at it
+-- the machine with the group killed, and with one more kill noted at the group
 abbrev pub with_killed : KnownMachine → ℕ → KnownMachine
 with_killed machine group = record machine {
   ledger = with_kill_noted machine.ledger group;
   killed = slice_set machine.killed group true;
 }
 
--- A group is killed. First it counts as killed; then its own stocks are drained, one processor after the other; then
--- its kept units leave, dirty ones too, the inactive ones first, and of each list the oldest first
+-- A group is killed. First it is marked as killed. Then its own stocks are drained, one CPU after the other. Then its
+-- kept units, dirty ones included, are released: first the inactive units, then the active ones, each list from the
+-- oldest on.
 pub record KillsGroup (table : KnownTable) (group : ℕ) (before : KnownMachine) (steps : Run)
     (after : KnownMachine) : Type 0 where
   pub drained : KnownMachine
@@ -69,8 +70,8 @@ pub record KillsGroup (table : KnownTable) (group : ℕ) (before : KnownMachine)
   pub active : LetsGoAll (active_in between group) between last after
   pub steps_are : steps ≡ kill_steps group ++ (drain_stocks_steps drains ++ (first ++ last))
 
--- Of these steps the kill of the group is the first, and the only one; none is a freeze that missed; and the last puts
--- that the machine counts grew by the units that they return
+-- The first of these steps kills the group, and no other step kills. None is a freeze that missed. The machine's last
+-- puts rose by the units that the steps return.
 pub record KillsOnce (group : ℕ) (before : KnownMachine) (steps : Run) (after : KnownMachine) : Type 0 where
   pub later : Run
   pub front : steps ≡ kill_steps group ++ later
@@ -78,7 +79,7 @@ pub record KillsOnce (group : ℕ) (before : KnownMachine) (steps : Run) (after 
   pub no_miss : (frame : ℕ) → missed_in frame later ≡ 0
   pub returned : Rises before.counts.last_puts (returned_in later) after.counts.last_puts
 
--- a group is killed by some steps, whoever holds the lock
+-- a group is killed by some steps, whichever CPU holds the lock
 pub record KillsBySteps (table : KnownTable) (group : ℕ) (before after : KnownMachine) : Type 0 where
   pub steps : Run
   pub kills : KillsGroup table group before steps after
@@ -89,7 +90,7 @@ pub record KillsBySteps (table : KnownTable) (group : ℕ) (before after : Known
 abbrev pub kept_units : KnownMachine → ℕ → ℕ
 kept_units machine group = length (inactive_in machine group) + length (active_in machine group)
 
--- what a group has before it is killed: how often a unit was put last so far, its frames, and its kept units
+-- what a group has before it is killed: the machine's last puts so far, the group's frames, and its kept units
 abbrev pub having_of : KnownMachine → ℕ → Having
 having_of machine group = record {
   last_puts = machine.counts.last_puts;
@@ -97,21 +98,21 @@ having_of machine group = record {
   units = kept_units machine group;
 }
 
--- what is noted of a group that was killed for the group `limited`, by what it had before: of its kept units those that
--- came back were put last, and the others are pinned; its frames either came back or stay charged to it
+-- The note of a group killed for the group `limited`, by what it had before. Its kept units that were freed are counted
+-- as last puts, and the others are pinned. Its frames were freed or are still charged to it.
 abbrev pub killed_note : ℕ → ℕ → Having → KnownMachine → Note
 killed_note limited group had after =
     note.Kill group (after.counts.last_puts - had.last_puts) (had.frames - own_frames after group)
     (had.units - (after.counts.last_puts - had.last_puts)) (own_frames after group) (current_of after.ledger limited)
 
--- a group is killed for the group `limited`, and what became of its units is noted
+-- a group is killed for the group `limited`, and a note says what became of its units
 pub record KillsNoted (table : KnownTable) (limited group : ℕ) (before : KnownMachine) (steps : Run)
     (after : KnownMachine) : Type 0 where
   pub killed : KnownMachine
   pub kills : KillsGroup table group before steps killed
   pub noted : after ≡ with_note killed (killed_note limited group (having_of before group) killed)
 
--- a group is killed so, and then this is done
+-- a group is killed and noted like this, and then `Then` leads on
 pub record KillsThen (table : KnownTable) (limited group : ℕ) (Then : KnownMachine → Run → KnownMachine → Type 0)
     (before : KnownMachine) (steps : Run) (after : KnownMachine) : Type 0 where
   pub between : KnownMachine
@@ -121,14 +122,14 @@ pub record KillsThen (table : KnownTable) (limited group : ℕ) (Then : KnownMac
   pub others : Then between later after
   pub steps_are : steps ≡ first ++ later
 
--- these groups are killed so, one after the other
+-- these groups are killed and noted like this, one after the other
 abbrev pub KillsAll : KnownTable → ℕ → List ℕ → KnownMachine → Run → KnownMachine → Type 0
 KillsAll table limited [] before steps after = (after ≡ before) × (steps ≡ [])
 KillsAll table limited (group ∷ others) before steps after =
     KillsThen table limited group (KillsAll table limited others) before steps after
 
--- A group is killed as a whole for the group `limited`. It is noted how many groups die; each group of its subtree that
--- isn't killed is killed, by ascending number; and then one `oom_group_kill` is noted at it
+-- A group is killed as a whole for the group `limited`. A note says how many groups die. Each group of its subtree that
+-- isn't killed is killed, by ascending number. Then one `oom_group_kill` is noted at it.
 pub record KillsSubtree (table : KnownTable) (limited head : ℕ) (before : KnownMachine) (steps : Run)
     (after : KnownMachine) : Type 0 where
   pub between : KnownMachine
@@ -138,14 +139,14 @@ pub record KillsSubtree (table : KnownTable) (limited head : ℕ) (before : Know
   pub counted : after ≡ record between { ledger = with_group_kill_noted between.ledger head }
   pub steps_are : steps ≡ killing ++ note_group_kill_steps head
 
--- these steps kill just these groups, in this order; none of them is a freeze that missed; and the last puts that the
--- machine counts grew by the units that they return
+-- these steps kill exactly these groups, in this order; none of them is a freeze that missed; and the machine's last
+-- puts rose by the units that they return
 pub record KillsThese (groups : List ℕ) (before : KnownMachine) (steps : Run) (after : KnownMachine) : Type 0 where
   pub killed : kills_in steps ≡ groups
   pub no_miss : (frame : ℕ) → missed_in frame steps ≡ 0
   pub returned : Rises before.counts.last_puts (returned_in steps) after.counts.last_puts
 
--- just these groups are killed, and so it is done, by some steps, whoever holds the lock
+-- exactly these groups are killed, as `Kills` says, by some steps, whichever CPU holds the lock
 pub record KillsSoBySteps (table : KnownTable) (groups : List ℕ) (Kills : KnownMachine → Run → KnownMachine → Type 0)
     (before after : KnownMachine) : Type 0 where
   pub steps : Run
@@ -153,14 +154,15 @@ pub record KillsSoBySteps (table : KnownTable) (groups : List ℕ) (Kills : Know
   pub runs : MakesForAny table before steps after
   pub these : KillsThese groups before steps after
 
--- what is done with a victim and its head: if the head's flag is on, the head is killed as a whole; else the victim is
--- killed alone
+-- what is done with a victim and its head: if the head's flag is on, the head is killed as a whole; else only the
+-- victim is killed
 abbrev pub KillsAs : Bool → KnownTable → ℕ → Killed → KnownMachine → Run → KnownMachine → Type 0
 KillsAs true table limited killed = KillsSubtree table limited killed.head
 KillsAs false table limited killed = KillsNoted table limited killed.victim
 
--- A victim is killed for the group `limited`, by some steps, whoever holds the lock, and all groups that die with it: it
--- is noted who is the victim and why, and then they are killed, by whether a flag applies
+-- A victim and all groups that die with it are killed for the group `limited`, by some steps, whichever CPU holds the
+-- lock. First a note says who is the victim and why. Then the head is killed as a whole if its flag is on, else the
+-- victim alone.
 pub record IsKilledBy (table : KnownTable) (limited : ℕ) (killed : Killed) (before after : KnownMachine) : Type 0 where
   pub next : ℕ
   pub follows : IsNext before limited killed.victim next
@@ -171,22 +173,23 @@ pub record IsKilledBy (table : KnownTable) (limited : ℕ) (killed : Killed) (be
   pub runs : MakesForAny table before steps after
   pub these : KillsThese (kill_set before killed) before steps after
 
--- the victim for the group, if there is one, is killed, and all that die with it; else nothing changed
+-- if the group has a victim, it is killed with all groups that die with it; else nothing changed
 abbrev pub KillsVictim : KnownTable → ℕ → Option Killed → KnownMachine → KnownMachine → Type 0
 KillsVictim table limited None before after = after ≡ before
 KillsVictim table limited (Some killed) before after = IsKilledBy table limited killed before after
 
--- who was the victim, if one was killed
+-- the victim, if one was killed
 abbrev pub victim_of : Option Killed → Option ℕ
 victim_of None = None
 victim_of (Some killed) = Some killed.victim
 
--- the marks after these groups are killed too
+-- the marks of killed groups, with these groups marked too
 abbrev pub with_all_killed : List Bool → List ℕ → List Bool
 with_all_killed marks groups = fold (λ (old : List Bool) (group : ℕ). slice_set old group true) marks groups
 
--- What stays where units are let go. Groups with their limits and every visit stay, and no visit is opened or shut. No
--- usage rises. Who is kept was kept on the same list, and is as dirty as it was. No unit is frozen, so no miss is noted
+-- What a release of units keeps. Groups with their limits and each visit stay, and no visit is opened or shut. No usage
+-- rises. Each unit that is kept was kept on the same list, and is as dirty as before. No unit is frozen, so no miss is
+-- noted.
 pub record OnlyLetsGo (table : KnownTable) (before after : KnownMachine) : Type 0 where
   pub groups : after.ledger.groups ≡ before.ledger.groups
   pub opened : after.frame_seat.view.opened ≡ before.frame_seat.view.opened
@@ -197,12 +200,12 @@ pub record OnlyLetsGo (table : KnownTable) (before after : KnownMachine) : Type 
       → (link_at after.links frame).is_dirty ≡ (link_at before.links frame).is_dirty
   pub misses : (frame : ℕ) → misses_of after.frame_seat frame ≡ misses_of before.frame_seat frame
 
--- what each processor's stock is stays, and who is killed
+-- the stocks and the killed groups stay the same
 pub record KeepsStocks (before after : KnownMachine) : Type 0 where
   pub stock_seat : after.stock_seat ≡ before.stock_seat
   pub killed : after.killed ≡ before.killed
 
--- each processor's stock is of the group that it was of, and none is held that wasn't
+-- each CPU's stock is of the same group, and each drained stock is still drained
 pub record OnlyDrains (before after : KnownMachine) : Type 0 where
   pub of : (processor : ℕ) → stock_group after processor ≡ stock_group before processor
   pub drained : (processor : ℕ) → IsDrained before processor → IsDrained after processor

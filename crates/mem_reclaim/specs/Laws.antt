@@ -1,5 +1,5 @@
--- What holds of every kill and every reclaim. What memory.oom.group promises is cgroup-v2.rst's: a flagged group is killed
--- as a whole, or no group of it is.
+-- What holds of every kill and every reclaim. The promise of memory.oom.group is that of cgroup-v2.rst: a flagged group
+-- is killed as a whole, or no group of it is.
 use Rattle.std.specs.Prelude.{◌≡◌, ℕ, ◌-◌, ◌<◌, ◌≤◌, ◌⊎◌, true, false, Option, Some, List, Contains}
 use Rattle.frame_word.specs.Seats.{KnownTable}
 use Rattle.group_tree.specs.Groups.{AreGroups, in_subtree, is_oom_group}
@@ -19,7 +19,7 @@ use Rattle.mem_reclaim.specs.Staying.{MissedAll}
 use Rattle.mem_reclaim.specs.Victim.{IsVictim, may_be_killed, own_frames}
 use Rattle.mem_reclaim.specs.Wanted.{Progress}
 
--- in this machine these are a victim for the group `limited`, and its head
+-- `killed` is the victim for the group `limited` in this machine, with its head
 pub record IsChosen (machine : KnownMachine) (limited : ℕ) (killed : Killed) : Type 0 where
   pub groups : AreGroups machine.ledger.groups
   pub chosen : IsVictim machine limited (Some killed.victim)
@@ -31,7 +31,7 @@ IsWhole machine group set =
     ((other : ℕ) → may_be_killed machine group other ≡ true → Contains set other)
     ⊎ ((other : ℕ) → may_be_killed machine group other ≡ true → ¬ Contains set other)
 
--- a flagged group of the limited group's subtree is killed as a whole, or no group of its subtree is
+-- a flagged group in the limited group's subtree is killed as a whole, or no group of its subtree is killed
 abbrev pub FlaggedGroupsDieWhole : Type 0
 FlaggedGroupsDieWhole =
     (machine : KnownMachine) (limited : ℕ) (killed : Killed) → IsChosen machine limited killed
@@ -44,19 +44,19 @@ VictimsDie =
     (machine : KnownMachine) (limited : ℕ) (killed : Killed) → IsChosen machine limited killed
     → Contains (kill_set machine killed) killed.victim
 
--- nobody is killed who is killed already, or who is outside of the limited group's subtree
+-- a group dies only if it isn't killed yet and is in the limited group's subtree
 abbrev pub OnlyTheLivingDie : Type 0
 OnlyTheLivingDie =
     (machine : KnownMachine) (limited : ℕ) (killed : Killed) → IsChosen machine limited killed
     → (group : ℕ) → Contains (kill_set machine killed) group → may_be_killed machine limited group ≡ true
 
--- a group has one victim, or none
+-- a group has at most one victim
 abbrev pub TheVictimIsOne : Type 0
 TheVictimIsOne =
     (machine : KnownMachine) (group : ℕ) (one two : Option ℕ) → IsVictim machine group one → IsVictim machine group two
     → one ≡ two
 
--- where all clean units of the subtree that are still kept count as missed, a freeze of each is among the steps
+-- if each clean unit that the subtree still keeps counts as missed, a freeze of each is among the steps
 abbrev pub MissedUnitsWereTried : Type 0
 MissedUnitsWereTried =
     (table : KnownTable) (before : KnownMachine) (given : ℕ) (steps : Run) (after : KnownMachine) (group : ℕ)
@@ -72,22 +72,22 @@ pub record NotesRound (group number : ℕ) (done : Progress) : Type 0 where
       (note.Round number (returned_in done.steps) (all_missed_in done.steps) done.given
       (current_of reclaimed.ledger group))
 
--- a round's note reports what its own steps did, as long as neither of the machine's two counts is at its greatest
+-- a round's note reports what the round's own steps did, unless one of the machine's two counts is at its greatest
 abbrev pub RoundsAreNotedAsMade : Type 0
 RoundsAreNotedAsMade =
     (group number want : ℕ) (done : Progress) → MakesOneRound group number want done
     → done.after.counts.freezes < max_count → done.after.counts.misses < max_count → NotesRound group number done
 
--- the last note is of the kill of this group: of its units it reports those that the steps return, and as pinned the
--- others
+-- the last note is of the kill of this group: of its units it reports those that the steps return as freed, and the
+-- others as pinned
 pub record NotesKill (limited group : ℕ) (before : KnownMachine) (steps : Run) (after : KnownMachine) : Type 0 where
   pub killed : KnownMachine
   pub noted : after ≡ with_note killed
       (note.Kill group (returned_in steps) (own_frames before group - own_frames killed group)
       (kept_units before group - returned_in steps) (own_frames killed group) (current_of killed.ledger limited))
 
--- the note of a victim that dies alone reports what the steps of its kill did, as long as the machine's count of last
--- puts isn't at its greatest
+-- the note of a victim that dies alone reports what the steps of its kill did, unless the machine's count of last puts
+-- is at its greatest
 abbrev pub LoneKillsAreNotedAsMade : Type 0
 LoneKillsAreNotedAsMade =
     (table : KnownTable) (limited : ℕ) (killed : Killed) (before after : KnownMachine)

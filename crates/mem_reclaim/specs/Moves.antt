@@ -1,4 +1,4 @@
--- What a list of steps of reclaim does, whoever holds the lock.
+-- What the steps of a reclaim do, whichever CPU holds the lock.
 use Rattle.std.specs.Prelude.{◌≡◌, ℕ, ◌+◌, ◌≤◌, ◌==◌, ◌⊎◌, Bool, true, false, List, [], ◌∷◌, ◌++◌}
 use Rattle.std.specs.List.{list_any, count_by}
 use Rattle.frame_word.specs.Seats.{KnownTable, misses_of}
@@ -15,18 +15,18 @@ use Rattle.mem_machine.specs.Machines.{KnownMachine}
 use Rattle.mem_machine.specs.Local.{MakesForAny, local_of}
 use Rattle.mem_reclaim.specs.Wanted.{Reclaiming, progress}
 
--- how many pages come back by this pair: those of the unit that is returned
+-- how many pages this step frees: those of the unit that it returns to the zone
 abbrev pub pages_back : State → Action → Answer → ℕ
 pages_back state (Return frame) Done = unit_size (unit_of (state.phases frame))
 pages_back state action answer = 0
 
--- how many pages come back by these steps, from this state on
+-- how many pages these steps free, from this state on
 abbrev pub pages_returned : State → Run → ℕ
 pages_returned state [] = 0
 pages_returned state (e ∷ rest) =
     pages_back state e.0.action e.1 + pages_returned (after state e.0.seat e.0.action e.1) rest
 
--- the pair is a freeze of the frame that missed
+-- the step is a freeze of the frame that missed
 abbrev pub is_miss : ℕ → Action → Answer → Bool
 is_miss frame (Freeze frozen pages) Missed = frozen == frame
 is_miss frame action answer = false
@@ -35,7 +35,7 @@ is_miss frame action answer = false
 abbrev pub missed_in : ℕ → Run → ℕ
 missed_in frame steps = count_by (λ entry. is_miss frame entry.0.action entry.1) steps
 
--- the pair is a freeze that missed, of whichever frame
+-- the step is a freeze, of any frame, that missed
 abbrev pub is_any_miss : Action → Answer → Bool
 is_any_miss (Freeze frozen pages) Missed = true
 is_any_miss action answer = false
@@ -44,20 +44,20 @@ is_any_miss action answer = false
 abbrev pub all_missed_in : Run → ℕ
 all_missed_in steps = count_by (λ entry. is_any_miss entry.0.action entry.1) steps
 
--- the pair is the return of a unit
+-- the step returns a unit to the zone
 abbrev pub is_return : Action → Answer → Bool
 is_return (Return frame) Done = true
 is_return action answer = false
 
--- how many units these steps return
+-- how many units these steps return to the zone
 abbrev pub returned_in : Run → ℕ
 returned_in steps = count_by (λ entry. is_return entry.0.action entry.1) steps
 
--- a count rose by so many, or is at its greatest
+-- a count rose by this much, or is at its greatest
 abbrev pub Rises : ℕ → ℕ → ℕ → Type 0
 Rises before more after = (after ≡ before + more) ⊎ (max_count ≤ after)
 
--- a group is killed
+-- the step kills a group
 abbrev pub is_kill : Action → Bool
 is_kill (Kill group) = true
 is_kill action = false
@@ -67,7 +67,7 @@ abbrev pub killed_by : Action → List ℕ
 killed_by (Kill group) = group ∷ []
 killed_by action = []
 
--- the groups that these steps kill, in their order
+-- the groups that these steps kill, in this order
 abbrev pub kills_in : Run → List ℕ
 kills_in [] = []
 kills_in (e ∷ rest) = killed_by e.0.action ++ kills_in rest
@@ -76,9 +76,9 @@ kills_in (e ∷ rest) = killed_by e.0.action ++ kills_in rest
 abbrev pub has_kill : Run → Bool
 has_kill steps = list_any (λ entry. is_kill entry.0.action) steps
 
--- Whoever holds the lock, these steps lead from one machine to the other; so many pages come back by them; none of them
--- is a kill; the misses that the zone's seat noted of each frame grew by those among them; and the freezes and the
--- misses that the machine counts, by the units that they return and by all misses among them
+-- Whichever CPU holds the lock, these steps lead from one machine to the other. They free this many pages, and none of
+-- them kills a group. The misses that the zone's seat noted for each frame rose by those among the steps. The machine's
+-- freezes rose by the number of units that the steps return, and its misses by all misses among them.
 pub record Moves (table : KnownTable) (before : KnownMachine) (given : ℕ) (steps : Run)
     (after : KnownMachine) : Type 0 where
   pub runs : MakesForAny table before steps after
@@ -89,7 +89,7 @@ pub record Moves (table : KnownTable) (before : KnownMachine) (given : ℕ) (ste
   pub returned : Rises before.counts.freezes (returned_in steps) after.counts.freezes
   pub missed : Rises before.counts.misses (all_missed_in steps) after.counts.misses
 
--- some list of steps leads from the one machine to the other and gives so many pages, and this may be said of it
+-- some list of steps leads from one machine to the other and frees this many pages, and `Does` holds of it
 pub record Leads (table : KnownTable) (given : ℕ) (before after : KnownMachine) (Does : Reclaiming) : Type 0 where
   pub steps : Run
   pub does : Does (progress given before steps after)

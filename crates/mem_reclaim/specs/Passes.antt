@@ -8,20 +8,20 @@ use Rattle.mem_machine.specs.Ageing.{AgesGroup}
 use Rattle.mem_reclaim.specs.Wanted.{GivesNothing, Progress, Reclaiming, WhileWanted, progress}
 use Rattle.mem_reclaim.specs.Units.{ScansList}
 
--- the first pass over a group: its lists are aged, and then its inactive units are met; marked ones are spared
+-- the first pass over a group: its lists are aged, and then its inactive units are scanned; marked ones are spared
 pub record AgesAndScans (group want : ℕ) (done : Progress) : Type 0 where
   pub aged : KnownMachine
   pub ages : AgesGroup group done.before aged
   pub scans : ScansList true group Inactive want (progress done.given aged done.steps done.after)
 
--- what a pass does with a group: in the second one its inactive and then its active units are met, and marks don't
--- count
+-- what a pass does with a group: the first pass ages and scans it; the second scans its inactive and then its active
+-- units, and ignores marks
 abbrev pub PassesGroup : Bool → ℕ → ℕ → Reclaiming
 PassesGroup true group want = AgesAndScans group want
 PassesGroup false group want = WhileWanted (ScansList false group) (Inactive ∷ Active ∷ []) want
 
--- the turn of a group number in a pass over the subtree of `group`: nothing is done where no group of the subtree has
--- it
+-- the turn of a group number in a pass over the subtree of `group`: nothing is done if no group of the subtree has this
+-- number
 abbrev pub TakesTurn : Bool → ℕ → ℕ → ℕ → Reclaiming
 TakesTurn is_first group turn want done =
     ((in_subtree done.before.ledger.groups group turn ≡ true) × PassesGroup is_first turn want done)
@@ -31,6 +31,6 @@ TakesTurn is_first group turn want done =
 abbrev pub MakesPass : ℕ → Bool → ℕ → Reclaiming
 MakesPass group is_first want = WhileWanted (TakesTurn is_first group) (range_with_len 0 64) want
 
--- a reclaim of so many pages from the subtree: the first pass, and the second where pages are still wanted
+-- a reclaim of this many pages from the subtree: the first pass and, if pages are still wanted, the second
 abbrev pub Reclaims : ℕ → ℕ → Reclaiming
 Reclaims group want = WhileWanted (MakesPass group) (true ∷ false ∷ []) want

@@ -9,27 +9,29 @@ use Rattle.mem_machine.specs.Machines.{KnownMachine}
 use Rattle.mem_reclaim.specs.declared.sets.Killed.{Killed}
 use Rattle.mem_reclaim.specs.Victim.{may_be_killed}
 
--- the group's flag is on, and it is on the path from the victim up to the group `limited`, both included
+-- the group's flag is on, and the group is on the path from the victim up to the group `limited`, both included
 abbrev pub is_flagged_between : List Group → (limited victim : ℕ) → ℕ → Bool
 is_flagged_between groups limited victim group =
     in_subtree groups limited group && in_subtree groups group victim && is_oom_group groups group
 
--- the highest of these groups: each of them is in its subtree
+-- the highest flagged group on the path from the victim up to `limited`: all flagged groups of the path are in its
+-- subtree
 pub record IsHighestFlagged (groups : List Group) (limited victim head : ℕ) : Type 0 where
   pub between : is_flagged_between groups limited victim head ≡ true
   pub highest : (other : ℕ) → is_flagged_between groups limited victim other ≡ true
       → in_subtree groups head other ≡ true
 
--- there is no such group
+-- no group on the path from the victim up to `limited` is flagged
 abbrev pub HasNoFlagged : List Group → (limited victim : ℕ) → Type 0
 HasNoFlagged groups limited victim = (other : ℕ) → is_flagged_between groups limited victim other ≡ false
 
--- the highest of these groups; None if there is none
+-- the highest flagged group on the path from the victim up to `limited`; None if there is none
 abbrev pub IsFlaggedAbove : List Group → (limited victim : ℕ) → Option ℕ → Type 0
 IsFlaggedAbove groups limited victim (Some head) = IsHighestFlagged groups limited victim head
 IsFlaggedAbove groups limited victim None = HasNoFlagged groups limited victim
 
--- the head of what is killed with the victim: the highest of these groups; the victim itself if there is none
+-- the head of a kill: the highest flagged group on the path from the victim up to `limited`, or the victim itself if
+-- there is none
 abbrev pub IsHead : List Group → (limited : ℕ) → Killed → Type 0
 IsHead groups limited killed =
     IsHighestFlagged groups limited killed.victim killed.head
@@ -39,13 +41,14 @@ IsHead groups limited killed =
 abbrev pub alive_below : KnownMachine → ℕ → List ℕ
 alive_below machine head = filter (may_be_killed machine head) (range_with_len 0 64)
 
--- who is killed, in this order: if the head's flag is on, all of these; else the victim alone
+-- which groups are killed, in this order: if the head's flag is on, all groups of its subtree that aren't killed; else
+-- the victim alone
 abbrev pub kill_set : KnownMachine → Killed → List ℕ
 kill_set machine killed =
     if is_oom_group machine.ledger.groups killed.head
     then alive_below machine killed.head
     else killed.victim ∷ []
 
--- what is noted before a group is killed as a whole: how many groups of its subtree die
+-- the note before a group is killed as a whole: how many groups of its subtree die
 abbrev pub group_kill_note : KnownMachine → ℕ → Note
 group_kill_note machine head = note.GroupKill head (length (alive_below machine head))

@@ -1,4 +1,4 @@
--- What stays in every reclaim, and what was tried.
+-- What each reclaim keeps, and what it tried.
 use Rattle.std.specs.Prelude.{◌≡◌, ◌≢◌, ℕ, ◌+◌, ◌<◌, ◌≤◌, true, false, Some, None, List}
 use Rattle.frame_word.specs.Seats.{KnownTable, misses_of}
 use Rattle.group_tree.specs.Groups.{in_subtree}
@@ -11,14 +11,14 @@ use Rattle.lru_lists.specs.Lists.{owner_of}
 use Rattle.cpu_part.specs.Cpus.{KnownCpu}
 use Rattle.mem_machine.specs.Machines.{HeadsKeptUnit, KnownMachine, Visits, home_of, side}
 
--- the frame heads a kept unit, which is dirty
+-- the frame heads a kept unit that is dirty
 pub record IsDirtyUnit (links : List Link) (frame : ℕ) : Type 0 where
   pub kept : home_of links frame ≢ None
   pub dirty : (link_at links frame).is_dirty ≡ true
 
--- What a reclaim keeps. Stocks, killed groups, groups with their limits, and every visit stay, and none is opened or
--- shut. No usage rises. No dirty unit comes back. Who is kept was kept for the same group, as dirty as it is now. No
--- miss is forgotten
+-- What a reclaim keeps. Stocks, killed groups, groups with their limits, and each visit stay; no visit is opened or
+-- shut. No usage rises. No dirty unit is freed. Each unit that is kept was kept for the same group, and is as dirty as
+-- before. No miss is forgotten.
 pub record Keeps (table : KnownTable) (before after : KnownMachine) : Type 0 where
   pub stock_seat : after.stock_seat ≡ before.stock_seat
   pub killed : after.killed ≡ before.killed
@@ -33,24 +33,24 @@ pub record Keeps (table : KnownTable) (before after : KnownMachine) : Type 0 whe
       → (link_at after.links frame).is_dirty ≡ (link_at before.links frame).is_dirty
   pub misses : (frame : ℕ) → misses_of before.frame_seat frame ≤ misses_of after.frame_seat frame
 
--- no unit came onto a list: who stands on one stood there
+-- no unit joined a list: each unit that is on a list was on the same list
 abbrev pub OnlyLeave : KnownMachine → KnownMachine → Type 0
 OnlyLeave before after =
     (frame : ℕ) (home : Home) → home_of after.links frame ≡ Some home → home_of before.links frame ≡ Some home
 
--- The usage of the group, and of each group above it, fell by so many pages
+-- the usage of the group, and of each of its ancestors, fell by this many pages
 abbrev pub UsageFalls : ℕ → ℕ → KnownMachine → KnownMachine → Type 0
 UsageFalls group pages before after =
     (above : ℕ) → in_subtree before.ledger.groups above group ≡ true
     → current_of after.ledger above + pages ≡ current_of before.ledger above
 
--- a freeze of the frame missed in between, if it heads a clean unit that is still kept on this list
+-- a freeze of the frame missed in between, if it heads a clean unit that is still on this list
 abbrev pub IsMissed : KnownMachine → KnownMachine → ℕ → Home → Type 0
 IsMissed before after frame home =
     home_of after.links frame ≡ Some home → (link_at after.links frame).is_dirty ≡ false
     → misses_of before.frame_seat frame < misses_of after.frame_seat frame
 
--- a freeze of each clean unit that still stands on this list of the group missed in between
+-- a freeze of each clean unit that is still on this list of the group missed in between
 abbrev pub MissedOnList : ℕ → LruList → KnownMachine → KnownMachine → Type 0
 MissedOnList group list before after =
     (frame : ℕ) → IsMissed before after frame (record { owner = group; list = list })

@@ -1,10 +1,9 @@
--- Things that are done one after the other, as long as pages are wanted.
+-- Actions made one after the other while pages are still wanted.
 use Rattle.std.specs.Prelude.{◌≡◌, ℕ, ◌+◌, ◌-◌, ◌≤◌, ◌⊎◌, List, [], ◌∷◌, ◌++◌}
 use Rattle.step_rules.specs.After.{Run}
 use Rattle.mem_machine.specs.Machines.{KnownMachine}
 
--- What a reclaim or a part of it did: how many pages came back, from which machine, by which steps, and to which
--- machine these lead
+-- What a reclaim or a part of it did: how many pages it freed, the machine before, the steps, and the machine after.
 pub record Progress : Type 0 where
   pub given : ℕ
   pub before : KnownMachine
@@ -15,17 +14,17 @@ pub record Progress : Type 0 where
 abbrev pub progress : ℕ → KnownMachine → Run → KnownMachine → Progress
 progress given before steps after = record { given = given; before = before; steps = steps; after = after }
 
--- what may be said of the progress of a reclaim
+-- a statement about the progress of a reclaim
 abbrev pub Reclaiming : Type 1
 Reclaiming = Progress → Type 0
 
--- no page came back, no step was made, and nothing changed
+-- no page was freed, no step was made, and nothing changed
 pub record GivesNothing (done : Progress) : Type 0 where
   pub no_page : done.given ≡ 0
   pub machine : done.after ≡ done.before
   pub no_step : done.steps ≡ []
 
--- The first part gives `some` pages, and the second, which may depend on how many these are, gives `more`
+-- The first part frees `some` pages. The second part, which may depend on `some`, frees `more`.
 pub record BothGive (First : Reclaiming) (Second : ℕ → Reclaiming) (done : Progress) : Type 0 where
   pub between : KnownMachine
   pub earlier : Run
@@ -37,8 +36,8 @@ pub record BothGive (First : Reclaiming) (Second : ℕ → Reclaiming) (done : P
   pub given_is : done.given ≡ some + more
   pub steps_are : done.steps ≡ earlier ++ later
 
--- `does thing want` says what is done with a thing where so many pages are wanted. That is done with each of these
--- things in turn, as long as pages are still wanted; the others are left alone
+-- `does thing want` says what is done with one thing while `want` pages are wanted. It is done with each of these
+-- things in turn, as long as pages are still wanted. The remaining things are left alone.
 abbrev pub WhileWanted : {A : Type 0} → (A → ℕ → Reclaiming) → List A → ℕ → Reclaiming
 WhileWanted does [] want done = GivesNothing done
 WhileWanted does (thing ∷ others) want done =

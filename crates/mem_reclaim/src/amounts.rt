@@ -12,10 +12,10 @@ use cpu_part::{BootName, Tables};
 use group_tree::group::GroupId;
 use mem_machine::Machine;
 
-/// Reclaims `asked` pages from the subtree of `group`, in at most 16 rounds, each of which wants what is still missing of
-/// them, and is noted. A round that freed nothing is the last. It returns how many pages were freed: more than asked if a
-/// block had more, and fewer only if each clean unit that the subtree still keeps was tried, and missed. Stocks stay, no
-/// event is counted, and nobody is killed.
+/// Reclaims `asked` pages from the subtree of `group`, in at most 16 rounds. Each round wants what is still missing and
+/// is noted; a round that freed nothing is the last. Returns how many pages were freed. They are more than asked for if
+/// a block had more, and fewer only if each clean unit that the subtree still keeps was tried and missed. Stocks stay,
+/// no event is counted, and nobody is killed.
 pub fn reclaim_pages<N: BootName>(
     machine: &mut Machine<N>,
     tables: &Tables<N>,
@@ -28,7 +28,7 @@ pub fn reclaim_pages<N: BootName>(
     ensures usage { current_of machine.new.ledger group + result ≡ current_of machine.old.ledger group }
     ensures keeps { Keeps N.frames machine.old machine.new }
 {
-    let _usage = machine.current(group); // What is freed is at most that, so no sum overflows.
+    let _usage = machine.current(group); // At most this much is freed, so no sum overflows.
     let mut freed = 0;
     for round in 0..MAX_ROUNDS {
         if asked <= freed {

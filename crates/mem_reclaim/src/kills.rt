@@ -1,4 +1,4 @@
-//! Kills: a group loses what it has, where nothing else made room.
+//! Kills: a group loses all it has, if nothing else made room.
 
 ghost use Rattle.std.specs.Prelude.{◌≡◌, ◌≢◌, ◌<◌, All, IfSome, IsTrue, None, [], ◌∷◌, false, slice_set, true};
 ghost use Rattle.group_tree.specs.Groups.{has_group};
@@ -20,7 +20,7 @@ use group_tree::group::{GroupId, MAX_GROUPS};
 use lru_lists::record::LruList;
 use mem_machine::Machine;
 
-// Lets all units go that stand on one of a group's lists, oldest first.
+// Releases all units on one of a group's lists, the oldest first.
 fn let_go_all<N: BootName>(
     machine: &mut Machine<N>,
     tables: &Tables<N>,
@@ -33,7 +33,7 @@ fn let_go_all<N: BootName>(
     ensures stocks { KeepsStocks machine.old machine.new }
 {
     for _unit in 0..machine.listed(group, list) {
-        let _spots = machine.spots(); // For the clauses.
+        let _spots = machine.spots(); // Called for its contract.
         let Some(unit) = machine.oldest(group, list) else {
             unreachable!()
         };
@@ -58,9 +58,9 @@ fn kill_group<N: BootName>(machine: &mut Machine<N>, tables: &Tables<N>, group: 
     machine.mark_killed(group);
     machine.drain_group_stocks(tables, group);
     let_go_all(machine, tables, group, LruList::Inactive);
-    let _records = machine.spots(); // For the clauses.
+    let _records = machine.spots(); // Called for its contract.
     let_go_all(machine, tables, group, LruList::Active);
-    let _spots = machine.spots(); // For the clauses.
+    let _spots = machine.spots(); // Called for its contract.
 }
 
 // Kills a group that isn't killed for the group `limited`, and notes what became of its units.
@@ -112,7 +112,7 @@ fn kill_below<N: BootName>(
     }
 }
 
-// Kills the head as a whole, for the group `limited`: what has a flag dies with all that is below it.
+// Kills the head as a whole, for the group `limited`: a flagged group dies with its whole subtree.
 fn kill_subtree<N: BootName>(
     machine: &mut Machine<N>,
     tables: &Tables<N>,
@@ -135,16 +135,17 @@ fn kill_subtree<N: BootName>(
     machine.note_group_kill(head);
 }
 
-/// Kills the victim of a group, and reports what was killed; None if there is no victim, and then nothing has changed. If
-/// the flag memory.oom.group is on in a group from the victim up to this one, both included, the highest such group is
-/// the head: each group of its subtree that isn't killed is killed, by ascending number, and then one `oom_group_kill` is
+/// Kills the victim of a group, and reports what was killed; None if there is no victim, and then nothing has changed.
+/// The head is the highest group with memory.oom.group on, from the victim up to this group, both included. If there is
+/// one, each group of its subtree that isn't killed is killed, by ascending number, and then one `oom_group_kill` is
 /// noted at the head. Otherwise the victim is killed alone.
 ///
-/// Nothing can be charged to a killed group any more, until it is removed; each kill is noted as `oom_kill` at the group
-/// that it kills. The group's stocks are drained. Its kept units, dirty ones too, leave their lists and lose the zone's
-/// reference, the inactive ones first, oldest first: those without a pin are uncharged and free, the others stay charged
-/// and kept by no one until their last put is settled. Why it is the victim is noted before, then how many groups die if
-/// a flag applies, and after each kill what became of the group's units.
+/// Nothing can be charged to a killed group until it is removed; each kill is noted as `oom_kill` at the group that it
+/// kills. The group's stocks are drained. Its kept units, dirty ones included, leave their lists and lose the zone's
+/// reference: the inactive ones first, and each list from the oldest on. Units without a pin are freed and uncharged.
+/// The others stay charged, and nobody keeps them, until their last put is settled. A note before the kill says why
+/// this is the victim. If a flag applies, another says how many groups die. After each kill, a note says what became of
+/// the group's units.
 pub fn kill<N: BootName>(
     machine: &mut Machine<N>,
     tables: &Tables<N>,

@@ -1,9 +1,9 @@
-//! Reclaim: units that nobody but the zone refers to are frozen and given back, oldest first, in two passes over the
+//! Reclaim: units on which only the zone has a reference are frozen and freed, the oldest first, in two passes over the
 //! groups of a subtree. Modelled on the shrinking of a group's lists in Linux (cgroup-v2.rst, memory.max; Gorman,
 //! "Understanding the Linux Virtual Memory Manager", chapter 10).
 //!
-//! A line that ends in 'For the clauses' calls a reader for what its contract tells, and changes nothing: what always
-//! holds of a type's values is known only where one of its calls says it.
+//! A line that ends in 'Called for its contract' calls a reader and changes nothing. A proof knows the invariant of a
+//! type only from the contract of such a call.
 #![tactic(auto)]
 
 mod amounts;

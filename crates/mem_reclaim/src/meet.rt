@@ -21,8 +21,8 @@ fn is_spared(unit: Entry, marks_count: bool) -> bool
     marks_count && unit.is_marked
 }
 
-/// Meets a unit of one of a group's lists: a dirty one is left alone, a marked one is renewed where marks count, and
-/// any other is tried. It tells how many pages came back.
+/// Handles one unit of a group's list: a dirty unit is left alone, a marked one is renewed if marks count, and any
+/// other is tried. Returns how many pages were freed.
 pub(crate) fn meet<N: BootName>(
     machine: &mut Machine<N>,
     tables: &Tables<N>,

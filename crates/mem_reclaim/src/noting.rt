@@ -1,4 +1,4 @@
-//! What is noted of a kill.
+//! The notes of a kill.
 
 ghost use Rattle.std.specs.Prelude.{◌≡◌, IsTrue};
 ghost use Rattle.group_tree.specs.Groups.{has_group};
@@ -17,7 +17,7 @@ use mem_machine::Machine;
 /// What a group has before it is killed.
 #[derive(Clone, Copy, Debug)]
 pub(crate) struct Having {
-    /// How often a unit was put last so far.
+    /// The machine's last puts so far.
     pub last_puts: u64,
     /// The frames charged to the group itself.
     pub frames: u64,
@@ -37,7 +37,7 @@ pub(crate) fn had_by<N: BootName>(machine: &Machine<N>, group: GroupId) -> Havin
     }
 }
 
-/// Notes who is the victim for the group, among how many, and who is next.
+/// Notes who is the victim for the group, among how many candidates, and who is next.
 pub(crate) fn note_victim<N: BootName>(machine: &mut Machine<N>, group: GroupId, victim: GroupId)
     requires { IsTrue (has_group machine.old.ledger.groups group) }
     ensures { NotesVictim group victim machine.old machine.new }

@@ -14,7 +14,7 @@ use group_tree::group::{GroupId, MAX_GROUPS};
 use lru_lists::record::LruList;
 use mem_machine::Machine;
 
-// The first pass over a group: its lists are aged, and then its inactive units are met; marked ones are spared.
+// The first pass over a group: its lists are aged, and then its inactive units are scanned; marked ones are spared.
 fn age_and_scan<N: BootName>(
     machine: &mut Machine<N>,
     tables: &Tables<N>,
@@ -31,7 +31,7 @@ fn age_and_scan<N: BootName>(
     scan(machine, tables, group, LruList::Inactive, want, true)
 }
 
-// The second pass over a group: its inactive and then its active units are met, and marks don't count.
+// The second pass over a group: its inactive and then its active units are scanned, and marks don't count.
 fn scan_both<N: BootName>(
     machine: &mut Machine<N>,
     tables: &Tables<N>,
@@ -47,7 +47,7 @@ fn scan_both<N: BootName>(
     ensures leaves { OnlyLeave machine.old machine.new }
     ensures missed { result < want → MissedOfGroup group machine.old machine.new }
 {
-    let _usage = machine.current(group); // What comes back is at most that.
+    let _usage = machine.current(group); // At most this many pages are freed.
     let inactive = scan(machine, tables, group, LruList::Inactive, want, false);
     if want <= inactive {
         return inactive;
@@ -63,7 +63,7 @@ fn scan_both<N: BootName>(
     inactive + active
 }
 
-/// Whether the other group is there and is the group or lies below it.
+/// Whether `other` exists and is `group` or a descendant of it.
 pub(crate) fn is_below(charges: &Charges, group: GroupId, other: GroupId) -> bool
     requires { IsTrue (has_group charges.now.groups group) }
     ensures { result ≡ in_subtree charges.now.groups group other }
@@ -101,8 +101,8 @@ fn take_turn<N: BootName>(
     }
 }
 
-/// One pass over the groups of the subtree of `group`, by ascending number, as long as pages are wanted. It tells how
-/// many pages came back.
+/// One pass over the groups of the subtree of `group`, by ascending number, as long as pages are wanted. Returns how
+/// many pages were freed.
 pub(crate) fn make_pass<N: BootName>(
     machine: &mut Machine<N>,
     tables: &Tables<N>,
@@ -118,7 +118,7 @@ pub(crate) fn make_pass<N: BootName>(
     ensures leaves { is_first ≡ false → OnlyLeave machine.old machine.new }
     ensures missed { is_first ≡ false → result < want → MissedAll group machine.old machine.new }
 {
-    let _usage = machine.current(group); // What comes back is at most that.
+    let _usage = machine.current(group); // At most this many pages are freed.
     let mut given = 0;
     for number in 0..MAX_GROUPS as u32 {
         if want <= given {
@@ -129,6 +129,6 @@ pub(crate) fn make_pass<N: BootName>(
         };
         given += take_turn(machine, tables, group, turn, want - given, is_first);
     }
-    let _spots = machine.spots(); // For the clauses.
+    let _spots = machine.spots(); // Called for its contract.
     given
 }

@@ -1,4 +1,4 @@
-//! Reclaim of pages from a subtree.
+//! Reclaiming pages from a subtree.
 
 ghost use Rattle.std.specs.Prelude.{◌≡◌, ◌<◌, ◌+◌, ◌^◌, IsTrue, nat_lt};
 ghost use Rattle.group_tree.specs.Groups.{has_group};
@@ -12,21 +12,21 @@ use cpu_part::{BootName, Tables};
 use group_tree::group::GroupId;
 use mem_machine::Machine;
 
-/// What a reclaim gave.
+/// The result of a reclaim.
 #[derive(Clone, Copy, Debug, PartialEq, Eq)]
 pub struct Reclaimed {
-    /// How many pages came back. A block may give more than was still wanted.
+    /// How many pages were freed. A block may have more than were still wanted.
     pub pages: u64,
-    /// Whether the second pass ended without enough pages: each clean unit that the subtree still keeps was tried,
-    /// and missed.
+    /// Whether the second pass ended without enough pages: each clean unit that the subtree still keeps was tried and
+    /// missed.
     pub tried_all: bool,
 }
 
-/// Takes pages back from the units that the subtree of `group` keeps, until at least `want` came back or every clean
-/// unit was tried. A unit comes back where nobody but the zone has a reference on it; a dirty one never does. The
-/// first pass ages each group's lists, tries its inactive units and gives marked ones a second chance; the second
-/// pass tries all clean units. Each pass goes over the groups by ascending number, and over a list from the oldest
-/// unit to the newest. With `want` 0 nothing is done.
+/// Frees units that the subtree of `group` keeps, until at least `want` pages are freed or every clean unit was tried.
+/// A unit is freed if only the zone has a reference on it; a dirty unit never is. The first pass ages each group's
+/// lists, tries its inactive units and gives marked ones a second chance. The second pass tries all clean units. Each
+/// pass goes over the groups by ascending number, and over a list from the oldest unit to the newest. With `want` 0
+/// nothing is done.
 pub fn reclaim<N: BootName>(
     machine: &mut Machine<N>,
     tables: &Tables<N>,
@@ -46,7 +46,7 @@ pub fn reclaim<N: BootName>(
             tried_all: false,
         };
     }
-    let _usage = machine.current(group); // What comes back is at most that.
+    let _usage = machine.current(group); // At most this many pages are freed.
     let first = make_pass(machine, tables, group, want, true);
     if want <= first {
         return Reclaimed {

@@ -14,12 +14,11 @@ use group_tree::group::GroupId;
 use kill_notes::note::Note;
 use mem_machine::Machine;
 
-/// How many rounds of reclaim are made before a limit at most. Linux makes as many (`MAX_RECLAIM_RETRIES`), but counts
-/// those alone that gave nothing.
+/// The greatest number of rounds of reclaim before a limit. Linux makes as many (`MAX_RECLAIM_RETRIES`), but counts
+/// only those that freed nothing.
 pub const MAX_ROUNDS: u32 = 16;
 
-// How many pages must come back from the group's subtree, so that with `need` pages more its usage is at most the
-// limit.
+// How many pages must be freed in the group's subtree, so that with `need` more pages its usage is at most the limit.
 fn missing(charges: &Charges, group: GroupId, need: u32, limit: u32) -> u64
     requires { IsTrue (has_group charges.now.groups group) }
     ensures missing { result ≡ pages_missing group need limit charges.now }
@@ -28,7 +27,8 @@ fn missing(charges: &Charges, group: GroupId, need: u32, limit: u32) -> u64
     (u64::from(charges.current(group)) + u64::from(need)).saturating_sub(u64::from(limit))
 }
 
-/// Makes the round of this number, from 1, for a group: so many pages are wanted. It is noted, with what it tried.
+/// Makes the round of this number, from 1, for a group, in which `want` pages are wanted. It is noted with what it
+/// tried.
 pub(crate) fn make_round<N: BootName>(
     machine: &mut Machine<N>,
     tables: &Tables<N>,
@@ -57,9 +57,9 @@ pub(crate) fn make_round<N: BootName>(
     reclaimed
 }
 
-/// Reclaims from the subtree of `group`, until its usage with `need` pages more is at most `limit`: in at most 16
-/// rounds, each of which wants the pages that are missing then, and is noted. A round that gave none is the last. It
-/// tells how many pages came back. Where that wasn't enough, each clean unit that the subtree still keeps was tried,
+/// Reclaims from the subtree of `group` until its usage with `need` more pages is at most `limit`. It makes at most 16
+/// rounds. Each round wants the pages that are missing when it begins, and is noted; one that freed none is the last.
+/// Returns how many pages were freed. If they weren't enough, each clean unit that the subtree still keeps was tried
 /// and missed.
 pub fn make_rounds<N: BootName>(
     machine: &mut Machine<N>,

@@ -1,4 +1,4 @@
-//! The units of one list, met one after the other.
+//! Scanning the units of one list, one after the other.
 
 ghost use Rattle.std.specs.Prelude.{◌≡◌, ◌<◌, ◌+◌, ◌^◌, false, IsTrue};
 ghost use Rattle.group_tree.specs.Groups.{has_group};
@@ -13,8 +13,8 @@ use group_tree::group::GroupId;
 use lru_lists::record::LruList;
 use mem_machine::Machine;
 
-/// Meets the units that stand on one of a group's lists, oldest first, as long as pages are wanted. It tells how many
-/// pages came back. A unit that moves to the list's newest end meanwhile isn't met twice.
+/// Handles the units on one of a group's lists, the oldest first, as long as pages are wanted. Returns how many pages
+/// were freed. A unit that moves to the newest end of the list meanwhile isn't handled twice.
 pub(crate) fn scan<N: BootName>(
     machine: &mut Machine<N>,
     tables: &Tables<N>,
@@ -32,8 +32,8 @@ pub(crate) fn scan<N: BootName>(
     ensures leaves { marks_count ≡ false → OnlyLeave machine.old machine.new }
     ensures missed { marks_count ≡ false → result < want → MissedOnList group list machine.old machine.new }
 {
-    let _records = machine.spots(); // For the clauses.
-    let _usage = machine.current(group); // What comes back is at most that, so no sum overflows.
+    let _records = machine.spots(); // Called for its contract.
+    let _usage = machine.current(group); // At most this much is freed, so no sum overflows.
     let units = machine.listed(group, list);
     let mut next = machine.oldest(group, list);
     let mut given = 0;
@@ -41,7 +41,7 @@ pub(crate) fn scan<N: BootName>(
         if want <= given {
             return given;
         }
-        let _spots = machine.spots(); // For the clauses.
+        let _spots = machine.spots(); // Called for its contract.
         let Some(unit) = next else { unreachable!() };
         let Some(frame) = tables.frames.frame(unit.number) else {
             unreachable!()

@@ -16,14 +16,14 @@ pub struct Killed {
     pub head: GroupId,
 }
 
-/// The highest group from the victim up to the group `limited`, both included, whose flag memory.oom.group is on; None
-/// if none of them has it on. It is never the root, which has no flag.
+/// The highest group with memory.oom.group on, from the victim up to the group `limited`, both included; None if none
+/// of them has it on. It is never the root, which has no flag.
 pub(crate) fn highest_flagged(tree: &Tree, limited: GroupId, victim: GroupId) -> Option<GroupId>
     requires { IsTrue (in_subtree tree.now limited victim) }
     ensures highest { IsFlaggedAbove tree.now limited victim result }
     ensures below_root { IfSome result (λ head. head ≢ 0) }
 {
-    let _groups = tree.groups(); // For the clauses.
+    let _groups = tree.groups(); // Called for its contract.
     let mut head = None;
     for above in tree.ancestors(victim) {
         if tree.oom_group(above) {

@@ -1,4 +1,4 @@
-//! Who is killed where a limit can't be kept otherwise. Modelled on the choice of Linux's out-of-memory killer
+//! Which group is killed if a limit can't be kept otherwise. Modelled on the choice of Linux's out-of-memory killer
 //! (cgroup-v2.rst, memory.max and memory.events), with a group as one killable unit.
 
 ghost use Rattle.std.specs.Prelude.{◌≡◌, IsTrue, length};
@@ -12,7 +12,7 @@ use cpu_part::BootName;
 use group_tree::group::{GroupId, MAX_GROUPS};
 use mem_machine::Machine;
 
-/// Whether the other group is the group or lies below it, and isn't killed.
+/// Whether the other group is the group or a descendant of it, and isn't killed.
 pub(crate) fn may_be_killed<N: BootName>(
     machine: &Machine<N>,
     group: GroupId,
@@ -47,8 +47,8 @@ fn may_be_chosen<N: BootName>(
     !is_it(but, other) && may_be_killed(machine, group, other)
 }
 
-// Among the groups that may be killed for a group, without `but`, the one with the most frames charged to itself, the
-// least number among equals; None where none of them has a frame.
+// The group with the most frames charged to itself, and the least number among equals, of those that may be killed for
+// a group and aren't `but`. None if none of them has a frame.
 fn most_charged<N: BootName>(
     machine: &Machine<N>,
     group: GroupId,
@@ -57,7 +57,7 @@ fn most_charged<N: BootName>(
     requires { IsTrue (has_group machine.now.ledger.groups group) }
     ensures { IsMost machine.now (may_be_chosen machine.now group but.now) result }
 {
-    let _tree = machine.charges().tree(); // For the clauses.
+    let _tree = machine.charges().tree(); // Called for its contract.
     let mut best = None;
     let mut most = 0;
     for number in 0..MAX_GROUPS as u32 {
@@ -76,9 +76,9 @@ fn most_charged<N: BootName>(
     best
 }
 
-/// Who is killed for a group: among the groups of its subtree that aren't killed, the one with the most frames
-/// charged to itself, the least number among equals; None where none of them has a frame. Frames that are fresh at a
-/// processor don't count.
+/// The victim for a group: of the groups of its subtree that aren't killed, the one with the most frames charged to
+/// itself, and the least number among equals. None if none of them has a frame. Frames that are fresh at a CPU don't
+/// count.
 pub fn victim<N: BootName>(machine: &Machine<N>, group: GroupId) -> Option<GroupId>
     requires { IsTrue (has_group machine.now.ledger.groups group) }
     ensures { IsVictim machine.now group result }
@@ -86,7 +86,7 @@ pub fn victim<N: BootName>(machine: &Machine<N>, group: GroupId) -> Option<Group
     most_charged(machine, group, &None)
 }
 
-/// Who would be the victim if that group weren't there; the victim once more where nobody would.
+/// The group that would be the victim without this one, or this one again if there would be none.
 pub(crate) fn next_after<N: BootName>(
     machine: &Machine<N>,
     group: GroupId,
@@ -101,7 +101,7 @@ pub(crate) fn next_after<N: BootName>(
     }
 }
 
-// Whether the other group may be killed for the group, and has a frame of its own.
+// Whether the other group may be killed for the group, and has frames of its own.
 fn is_candidate<N: BootName>(machine: &Machine<N>, group: GroupId, other: GroupId) -> bool
     requires { IsTrue (has_group machine.now.ledger.groups group) }
     ensures { result ≡ is_candidate machine.now group other }
@@ -109,7 +109,7 @@ fn is_candidate<N: BootName>(machine: &Machine<N>, group: GroupId, other: GroupI
     may_be_killed(machine, group, other) && machine.frames_of(other) >= 1
 }
 
-/// How many groups may be killed for a group and have a frame of their own.
+/// How many groups may be killed for a group and have frames of their own.
 pub(crate) fn candidates<N: BootName>(machine: &Machine<N>, group: GroupId) -> u32
     requires { IsTrue (has_group machine.now.ledger.groups group) }
     ensures { result ≡ candidates machine.now group }

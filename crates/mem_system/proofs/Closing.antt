@@ -1,4 +1,4 @@
--- Serves the end of a system: what the closed tables tell, where each processor has nothing left.
+-- What the closed tables say when each CPU has nothing left. Serves the end of a system.
 use Rattle.std.proofs.Common.{◌≡◌, ℕ, zero, suc, ◌+◌, ◌-◌, ◌<◌, ◌≤◌, ◌==◌, false, true, List, [], ◌∷◌, ◌++◌, length, map, take, drop, get_or, refl, sym, ap}
 use Rattle.std.proofs.Common.{◌∙◌, subst, inl, inr, arith, append-nil, eq-eqb}
 use Rattle.std.specs.Prelude.{All, is_some, min, slice_index}
@@ -27,7 +27,7 @@ use Rattle.mem_machine.specs.Local.{Side}
 use Rattle.mem_system.specs.Commands.{BySteps}
 use Rattle.mem_system.specs.Ends.{ForEachCpu, SettlesInVisit, Empties, IsSpent, IsAuditOf, IsClosed, HasNoPage, Ends, frame_seat_of, stock_seat_of, drops_of, pins_of}
 
--- as many processors are visited as there are
+-- as many CPUs are visited as there are
 pub turn_long : (Visit : Side → Side → Type 0) (m : KnownMachine) (cpus : List KnownCpu) (n : KnownMachine) (after : List KnownCpu) → ForEachCpu Visit m cpus n after
     → length after ≡ length cpus
 turn_long Visit m [] n [] turn = refl
@@ -44,7 +44,7 @@ written_back k new old long all =
 pub idle_all : (t : KnownTable) (w : Words) (m : KnownMachine) (cpus : List KnownCpu) → All (λ c. IsSpent t w m c) cpus → All IsIdle cpus
 idle_all t w m cpus all = λ k any inside. (all k any inside).idle
 
--- the seats of the processors are at the tables
+-- the seats of the CPUs are at the tables
 pub frame_seats_at : (t : KnownTable) (w : Words) (m : KnownMachine) (cpus : List KnownCpu) → All (λ c. IsSpent t w m c) cpus
     → AreSeatsAt t.table (map frame_seat_of cpus)
 frame_seats_at t w m [] all = tt
@@ -70,7 +70,7 @@ view_at [] k any inside = absurd (omega (arith, inside))
 view_at (c ∷ cpus) zero any inside = refl
 view_at (c ∷ cpus) (suc k) any inside = view_at cpus k any (omega (arith, inside))
 
--- what each processor's seat counts 0 of is 0 of all
+-- what each CPU's seat counts 0 of is 0 of all
 none_of_all : (h : FrameView → ℕ) (cpus : List KnownCpu) → All (λ c. h c.frame_seat.view ≡ 0) cpus → sum_over h (map view_of (map frame_seat_of cpus)) ≡ 0
 none_of_all h [] all = refl
 none_of_all h (c ∷ cpus) all =
@@ -83,7 +83,7 @@ not_held NoGroup is = refl
 not_held (HeldBy g n) is = absurd (false≢true (sym is))
 not_held (DrainedOf g) is = refl
 
--- a machine all of whose visits are shut, and processors that have nothing left, with their seats at the closed tables
+-- a machine all of whose visits are shut, and CPUs that have nothing left, with their seats at the closed tables
 module _ (t : KnownTable) (w : Words) (m : KnownMachine) (cpus : List KnownCpu) (shut : AllShut m) (all : All (λ c. IsSpent t w m c) cpus)
     (closed : IsClosed t w m (map frame_seat_of cpus) (map stock_seat_of cpus)) where
   ok : IsConsistent t w m
@@ -95,7 +95,7 @@ module _ (t : KnownTable) (w : Words) (m : KnownMachine) (cpus : List KnownCpu) 
   is_zone : (m.frame_seat.view.number == 0) ≡ true
   is_zone = eq-eqb m.frame_seat.view.number 0 ok.seats.frames.1
 
-  -- no processor's seat has a reference, and only the zone's notes a visit
+  -- no CPU's seat has a reference, and only the zone's notes a visit
   no_reference : (f : ℕ) → sum_over (references_in f) views ≡ 0
   no_reference f = none_of_all (references_in f) cpus (λ k any inside.
       let c = all k any inside in (c.tied.noted f).references_are ∙ ap (times f) c.idle.3)
@@ -134,7 +134,7 @@ module _ (t : KnownTable) (w : Words) (m : KnownMachine) (cpus : List KnownCpu) 
         ]
       ]
 
-  -- each processor's part is one of them
+  -- each CPU's part is one of them
   found : (p : ℕ) → 1 ≤ p → p ≤ t.cpus → (c : KnownCpu) × (c.number ≡ p) × IsSpent t w m c × HasNoPage m closed.stock_words p
   found p some within =
       let same = ok.sizes.cpus in
@@ -162,7 +162,7 @@ module _ (t : KnownTable) (w : Words) (m : KnownMachine) (cpus : List KnownCpu) 
             (record { stock = words.stock; encoded = words.encoded; empty = empty; none_reported = noted; book = book }),
       )
 
-  -- the words tell each processor's stock
+  -- the words are those of each CPU's stock
   told_each : All (λ c. IsStockOf closed.stock_words c.number m.stock_seat.view c.stock_seat.view) cpus
   told_each k any inside =
       let c = get_or cpus k any in
@@ -178,7 +178,7 @@ module _ (t : KnownTable) (w : Words) (m : KnownMachine) (cpus : List KnownCpu) 
       let its = found p cpu.0 cpu.1 in
       subst (λ (q : ℕ). NoneLentTo q m.spots) its.1 its.2.none_lent f is
 
--- the processors' own drops count as returns too
+-- the CPUs' own drops count as returns too
 drops_join : (a b c k most : ℕ) → min (min (a + b + c) most + k) most ≡ min (a + b + min (c + k) most) most
 drops_join a b c k most = omega arith
 

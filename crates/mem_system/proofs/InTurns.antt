@@ -1,4 +1,4 @@
--- Serves the loops over the processors at the end of a system: what the visits so far did.
+-- Serves the loops over the CPUs at the end of a system: what the visits so far did.
 use Rattle.std.proofs.Common.{◌≡◌, ℕ, zero, suc, ◌+◌, ◌<◌, ◌≤◌, List, [], ◌∷◌, ◌++◌, length, take, drop, get_or, refl, sym, ap, ◌∙◌, subst, arith, append_assoc, append-nil}
 use Rattle.std.specs.Prelude.{slice_set, All}
 use Rattle.std.proofs.lemmas.List.{drop_more, take_more_set, drop-set-lt, length-set, take_all, drop_all}
@@ -12,7 +12,7 @@ use Rattle.mem_system.specs.Locked.{AllShut}
 use Rattle.mem_system.specs.Ends.{ForEachCpu, IsSpent, LendsAndFillsNone, pins_of}
 use Rattle.mem_machine.specs.Local.{Side, side}
 
--- the visits of the first i processors lead from the first machine to this one, and the others are as they were
+-- the visits of the first i CPUs lead from the first machine to this one, and the others are as they were
 pub record SoFar (Visit : Side → Side → Type 0) (i : ℕ) (m : KnownMachine) (cpus : List KnownCpu) (x : KnownMachine) (now : List KnownCpu) : Type 0 where
   pub long : length now ≡ length cpus
   pub left : drop i now ≡ drop i cpus
@@ -26,7 +26,7 @@ pub same_next : (i : ℕ) (cpus now : List KnownCpu) (any : KnownCpu) → i < le
     → get_or now i any ∷ drop (i + 1) now ≡ get_or cpus i any ∷ drop (i + 1) cpus
 same_next i cpus now any inside long left = sym (drop_more now i any (omega (arith, inside, long))) ∙ left ∙ drop_more cpus i any inside
 
--- a processor that was not visited yet is as it was
+-- a CPU that was not visited yet is unchanged
 pub same_at : (cpus now : List KnownCpu) (i : ℕ) (any : KnownCpu) → i < length now → length now ≡ length cpus → drop i now ≡ drop i cpus
     → get_or now i any ≡ get_or cpus i any
 same_at cpus now i any inside long left = ap (λ (l : List KnownCpu). get_or l 0 any) (same_next i cpus now any (omega (arith, inside, long)) long left)

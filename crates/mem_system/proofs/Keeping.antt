@@ -28,7 +28,7 @@ use Rattle.mem_machine.proofs.Followed.{makes_both, makes_none}
 
 -- ---- a visit
 
--- the visit stays where the zone's seat does
+-- the visit stays if the zone's seat does
 pub visit_keeps : (t : KnownTable) (m n : KnownMachine) (c : KnownCpu) → n.frame_seat ≡ m.frame_seat → Visits t (side m c)
     → KeepsVisit t (side m c) (side n c)
 visit_keeps t m n c seat v = record {
@@ -66,7 +66,7 @@ pub lowered_visit : (t : KnownTable) (g limit : ℕ) (m n : KnownMachine) (c : K
     → KeepsVisit t (side m c) (side n c)
 lowered_visit t g limit m n c b v = usage_visit t g limit m n c b.steps b.does v
 
--- so it is where it is lowered only if it is above
+-- the same if usage is lowered only when it is above
 pub above_visit : (t : KnownTable) (g limit : ℕ) (m n : KnownMachine) (c : KnownCpu)
     → ByStepsOfAny t (LowersAbove g limit) m n → Visits t (side m c)
     → KeepsVisit t (side m c) (side n c)
@@ -164,7 +164,7 @@ limited_none t g of m x none is first =
     let keeps = subst (λ (o : Option ℕ). KeepsToLimit g o (course t x [] x)) (sym none) (record { machine = refl; steps_are = refl }) in
     limited_by t g of m x x is first (record { steps = []; does = keeps; makes = λ c. makes_none t c.number (side x c) })
 
--- ---- a group that is taken out
+-- ---- a group that is removed
 
 -- the group of a path is there still, and no group lies below it
 pub leaf_keeps : (was now : List Group) (path : List ℕ) (g : ℕ) → now ≡ was → IsLeafAt was path g

@@ -110,7 +110,7 @@ module _ (t : KnownTable) (MayAsk : List Group → ℕ → ℕ → Type 0) (s : 
     tied = record { misses = p.tied.misses; owners = p.tied.owners; dirt = p.tied.dirt };
   }
 
-  -- where it is brought down by kills, by steps that come after others
+  -- usage is lowered by kills, in steps that come after others
   kills_rash : (g limit : ℕ) (made : Run) (m : KnownMachine) (steps : Run) (n : KnownMachine) → limit_of m.ledger.groups g ≡ Some limit
       → MayAsk m.ledger.groups g 0 → Passes t c s made m → LowersByKills g limit (course t m steps n) → RashFree t MayAsk s c made steps
   kills_rash g limit made m steps n is asked since h =

@@ -1,4 +1,4 @@
--- Serves `release`: frames from the front of a processor's list go back, and one frame comes to its end.
+-- Frames from the front of a CPU's list are returned to the zone, and one frame is added to its end. Serves `release`.
 use Rattle.std.proofs.Common.{◌≡◌, ◌≢◌, ℕ, zero, suc, ◌+◌, ◌<◌, ◌≤◌, List, [], ◌∷◌, ◌++◌, length, take, sym, ap, ◌∙◌, refl, inl, inr, arith}
 use Rattle.std.specs.Prelude.{slice_set}
 use Rattle.std.proofs.lemmas.Bool.{cases_lt}
@@ -26,7 +26,7 @@ set_free (x ∷ xs) zero (suc g) is = is
 set_free (x ∷ xs) (suc f) zero is = is
 set_free (x ∷ xs) (suc f) (suc g) is = set_free xs f g is
 
--- what the frames that were taken back from the front leave
+-- what the frames returned from the front leave
 pub record Cut (frames : List ℕ) (m : KnownMachine) (c : KnownCpu) (n : KnownMachine) (d : KnownCpu) : Type 0 where
   pub split : c.list ≡ frames ++ d.list
   pub number : d.number ≡ c.number
@@ -56,7 +56,7 @@ cut_off (f ∷ rest) m c n d t =
       free = λ g is. more.free g (ap (λ (k : KnownMachine). spot_at k.spots g) one.machine ∙ set_free m.spots f g is);
     }
 
--- a list that stands at `high` has a whole batch
+-- a list of at least `high` frames has a whole batch
 pub whole_batch : (k batch high : ℕ) (list left : List ℕ) → k ≤ batch → k ≤ length list → (k < batch → left ≡ []) → list ≡ take k list ++ left
     → batch ≤ high → high ≤ length list → k ≡ batch
 whole_batch k batch high list left at_most listed fewer split low stands = elim (cases_lt k batch) [
@@ -73,7 +73,7 @@ pub left_over : (k : ℕ) (list left : List ℕ) → k ≤ length list → list 
 left_over k list left listed split =
     ap length split ∙ length-append (take k list) left ∙ ap (λ (n : ℕ). n + length left) (length-take-le k list listed)
 
--- a single frame came back and went to the list
+-- a single frame was freed and added to the list
 pub returned_single : (t : KnownTable) (sizes : Config) (f : ℕ) (m freed n : KnownMachine) (c d : KnownCpu) (returns : ReturnsUnit f m freed)
     → returns.unit.order ≡ 0 → MakesAs t c.number (side m c) (release_steps f Returned) (side freed c)
     → BySteps t (ListsFrame sizes f) (side freed c) (side n d) → BySteps t (ReturnsFrames sizes f) (side m c) (side n d)
@@ -90,7 +90,7 @@ returned_single t sizes f m freed n c d returns single first lists = record {
   makes = makes_both t c.number (release_steps f Returned) lists.steps (side m c) (side freed c) (side n d) first lists.makes;
 }
 
--- a block came back
+-- a block was freed
 pub returned_block : (t : KnownTable) (sizes : Config) (f : ℕ) (m freed : KnownMachine) (c : KnownCpu) (returns : ReturnsUnit f m freed)
     → returns.unit.order ≢ 0 → MakesAs t c.number (side m c) (release_steps f Returned) (side freed c)
     → BySteps t (ReturnsFrames sizes f) (side m c) (side freed c)

@@ -106,7 +106,7 @@ writes_counts path name value other way h = absurd h
 heads_none : (f : ℕ) (way : Course KnownMachine) → HeadsNoUnit f way → CountsMisses way
 heads_none f way h = counts_rest way.table way.before way.after way.steps h.stays.machine h.stays.steps_are
 
--- without a step, where the zone's seat stays
+-- no step, and the zone's seat stays
 seat_stays : (way : Course KnownMachine) → way.after.frame_seat ≡ way.before.frame_seat → way.steps ≡ [] → CountsMisses way
 seat_stays way same none =
     counts_as way.table way.before way.after way.steps [] none

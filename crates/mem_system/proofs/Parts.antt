@@ -1,4 +1,4 @@
--- Serves `make_cpus` and `take_apart`. The parts of the processors at first, made one by one.
+-- Serves `make_cpus` and `take_apart`. The parts of the CPUs at first, made one by one.
 use Rattle.std.proofs.Common.{◌≡◌, ℕ, zero, suc, ◌+◌, ◌-◌, ◌<◌, ◌≤◌, List, [], ◌∷◌, ◌++◌, All, length, get_or, refl, sym, ap, ◌∙◌, subst, arith}
 use Rattle.atomic_table.specs.Seated.{TableId}
 use Rattle.frame_word.specs.Seats.{KnownTable, KnownSeat, number_of, IsCpuSeat, first_cpu_view, first_cpu_seats}
@@ -6,7 +6,7 @@ use Rattle.stock_word.specs.Stock.{Words, Seated, IsProcessor, first_processor, 
 use Rattle.cpu_part.specs.Cpus.{KnownCpu, IsIdle}
 use Rattle.mem_system.specs.Boots.{part_at_first, first_cpus}
 
--- the seats that are left after i processors were dealt
+-- the seats that are left after i CPUs were dealt
 pub frame_seats_left : (id : TableId) (i n : ℕ) → i < n
     → first_cpu_seats id (i + 1) (n - i) ≡ record { table = id; view = first_cpu_view (i + 1) } ∷ first_cpu_seats id ((i + 1) + 1) (n - (i + 1))
 frame_seats_left id i n lt = ap (first_cpu_seats id (i + 1)) (let e : n - i ≡ suc (n - (i + 1)) = omega arith in e)
@@ -15,11 +15,11 @@ pub stock_seats_left : (id : TableId) (i n : ℕ) → i < n
     → first_seats id (i + 1) (n - i) ≡ record { table = id; view = first_processor (i + 1) } ∷ first_seats id ((i + 1) + 1) (n - (i + 1))
 stock_seats_left id i n lt = ap (first_seats id (i + 1)) (let e : n - i ≡ suc (n - (i + 1)) = omega arith in e)
 
--- what `remove(0)` took out is the front
+-- what `remove(0)` returned is the front
 pub front_is : {A : Type 0} (xs : List A) (first : A) (rest : List A) (taken : A) → xs ≡ first ∷ rest → taken ≡ get_or xs 0 taken → taken ≡ first
 front_is xs first rest taken e is = is ∙ ap (λ l. get_or l 0 taken) e
 
--- a first seat is one of the table's processors', and did nothing
+-- a first seat is one of the table's CPUs', and did nothing
 pub frame_seat_first : (t : KnownTable) (s : KnownSeat) (p : ℕ) → s ≡ record { table = t.table; view = first_cpu_view p } → 1 ≤ p → p ≤ t.cpus
     → IsCpuSeat t s × (s.view ≡ first_cpu_view (number_of s))
 frame_seat_first t s p is low high = subst (λ (x : KnownSeat). IsCpuSeat t x × (x.view ≡ first_cpu_view (number_of x))) (sym is) ((refl, low, high), refl)

@@ -1,4 +1,4 @@
--- Serves what is told with the path of a group: a group that is there has a path.
+-- A group that exists has a path. Serves replies with the path of a group.
 use Rattle.std.proofs.Common.{◌≡◌, ℕ, Some, List, IsTrue, sym, ap, ◌∙◌}
 use Rattle.group_tree.specs.declared.group.Group.{Group}
 use Rattle.group_tree.specs.Groups.{has_group, path_of}

@@ -1,4 +1,4 @@
--- Serves the visits at the end of a system: a processor is settled, or its list is given back and its stock drained.
+-- A CPU is settled, or its list is returned and its stock drained. Serves the visits at the end of a system.
 use Rattle.std.proofs.Common.{◌≡◌, ℕ, zero, suc, ◌<◌, ◌≤◌, false, List, [], ◌∷◌, ◌++◌, length, take, refl, sym, ap, ◌∙◌, subst, inl, inr, arith}
 use Rattle.std.proofs.Common.{append-nil}
 use Rattle.std.specs.Prelude.{slice_set}
@@ -25,7 +25,7 @@ use Rattle.mem_system.specs.Ends.{SettlesInVisit, Empties, LendsAndFillsNone}
 use Rattle.mem_system.proofs.Listing.{left_over}
 use Rattle.mem_machine.proofs.Followed.{makes_both}
 
--- the whole visit in which a processor is settled, from its three parts
+-- the whole visit in which a CPU is settled, from its three parts
 pub rested : (t : KnownTable) (m n : KnownMachine) (c d : KnownCpu) (entered x : KnownMachine) (c1 c2 : KnownCpu)
     → entered ≡ with_visit_of m c.number 1 → c1 ≡ c → c2.number ≡ c1.number → n ≡ with_visit_of x c2.number 0 → d ≡ c2
     → MakesAs t c.number (side m c) (open_steps c.number) (side entered c1)
@@ -53,7 +53,7 @@ rested t m n c d entered x c1 c2 opened same second shut after first settles res
           (makes_both t p (settle_steps (side begins c)) (shut_steps p) (side begins c) (side x c2) (side n d) done ended);
     }
 
--- ---- a list that is given back whole
+-- ---- a list that is returned whole
 
 pub record WholeList (k : ℕ) (list left : List ℕ) : Type 0 where
   pub none_left : left ≡ []
@@ -72,7 +72,7 @@ whole_list k count list left listed all fewer split =
     ] in
     record { none_left = none; all_taken = sym (split ∙ ap (λ (l : List ℕ). take k list ++ l) none ∙ append-nil (take k list)) }
 
--- ---- what a visit that gives the list back and drains the stock leaves
+-- ---- what a visit leaves that returns the list and drains the stock
 
 -- a frame that is free now is lent to no one
 still_lent : (spots : List Spot) (f g p : ℕ) → spot_at (slice_set spots f Free) g ≡ Lent p → spot_at spots g ≡ Lent p
@@ -121,7 +121,7 @@ emptied_alone m entered x y n c1 c2 frames p q k opened takes drains shut =
       ];
     }
 
--- and the processor's own stock is drained
+-- and the CPU's own stock is drained
 pub emptied_drained : (x y n : KnownMachine) (p q k : ℕ) → Drains q k x y → n ≡ with_visit_of y p 0 → (account_of n.stock_seat.view q).filled ≡ false
 emptied_drained x y n p q k drains shut =
     ap (λ (z : KnownMachine). (account_of z.stock_seat.view q).filled) (shut ∙ ap (λ (z : KnownMachine). with_visit_of z p 0) drains.machine)

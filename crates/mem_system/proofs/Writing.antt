@@ -42,7 +42,7 @@ refused_by t file value g fault m why = record {
   makes = λ c. makes_none t c.number (side m c);
 }
 
--- so it is by the path and the name of the file
+-- the same by the path and the name of the file
 pub refused_at : (t : KnownTable) (path name value : List ℕ) (g : ℕ) (file : File) (fault : Fault) (m : KnownMachine)
     → IsFileOf m.ledger.groups path name g file → RefusesValue file value fault
     → ByStepsOfAny t (Writes path name value (Refused fault)) m m

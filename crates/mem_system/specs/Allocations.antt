@@ -1,4 +1,4 @@
--- What an Alloc does, and what it answers.
+-- What an Alloc does, and its replies.
 use Rattle.std.specs.Prelude.{◌≡◌, ◌≢◌, ℕ, zero, ◌<◌, ◌≤◌, Some, None, Result, Ok, Err, List, [], ◌∷◌}
 use Rattle.group_tree.specs.declared.fault.Fault.TheVariants as fault
 use Rattle.group_tree.specs.Groups.{number_at, path_of}
@@ -14,13 +14,13 @@ use Rattle.mem_system.specs.declared.outcome.Outcome.TheVariants as outcome
 use Rattle.mem_system.specs.declared.command.Reply.{Reply}
 use Rattle.mem_system.specs.declared.command.Reply.TheVariants.{Frame, OverLimit, Refused}
 
--- an allocation of this order for the group: a single frame, or a block
+-- an allocation of this order for the group: a single frame if the order is 0, else a block
 pub record AllocatesAs (sizes : Config) (group order : ℕ) (answer : Result ℕ AllocFault)
     (way : Course Side) : Type 0 where
   pub frame : order ≡ 0 → AllocatesFrame sizes group answer way
   pub block : order ≢ 0 → AllocatesBlock group order answer way
 
--- the path is that of a group and the order is one of 0 to 10: the allocation is made for the group, with this answer
+-- a group has the path and the order is at most 10: the allocation is made for the group, with this answer
 pub record AllocatesFor (sizes : Config) (path : List ℕ) (order : ℕ) (answer : Result ℕ AllocFault)
     (way : Course Side) : Type 0 where
   pub group : ℕ
@@ -28,14 +28,14 @@ pub record AllocatesFor (sizes : Config) (path : List ℕ) (order : ℕ) (answer
   pub within : order ≤ 10
   pub allocates : AllocatesAs sizes group order answer way
 
--- the path is that of a group, but the order is above 10, and nothing changed
+-- a group has the path, but the order is above 10, and nothing changed
 pub record HasBadOrder (path : List ℕ) (order : ℕ) (way : Course Side) : Type 0 where
   pub group : ℕ
   pub found : number_at way.before.machine.ledger.groups path ≡ Some group
   pub above : 10 < order
   pub stays : Stays way
 
--- Alloc: the frame, or the head of the block; or it is refused for the first cause that holds
+-- Alloc: the reply is the frame or the head of the block, or a refusal for the first cause that holds
 abbrev pub Allocates : Config → (path : List ℕ) (order : ℕ) → Reply → Course Side → Type 0
 Allocates sizes path order (Frame head) way = AllocatesFor sizes path order (Ok head) way
 Allocates sizes path order (OverLimit over text) way =
@@ -47,14 +47,14 @@ Allocates sizes path order (Refused fault.NoFrames) way = AllocatesFor sizes pat
 Allocates sizes path order (Refused fault.Killed) way = AllocatesFor sizes path order (Err RequesterKilled) way
 Allocates sizes path order other way = ⊥
 
--- what an allocation comes to, by its answer
+-- the outcome of an allocation, by its answer
 abbrev pub outcome_of : Result ℕ AllocFault → Outcome
 outcome_of (Ok head) = outcome.Frame head
 outcome_of (Err (Over group)) = outcome.OverLimit group
 outcome_of (Err NoFrames) = outcome.Refused fault.NoFrames
 outcome_of (Err RequesterKilled) = outcome.Refused fault.Killed
 
--- the fresh frames after an allocation of this order with this reply: the frame that it tells, where it is a single one
+-- the fresh frames after an allocation of this order: the frame that the reply names if the order is 0, else none
 abbrev pub FreshOf : Reply → (order : ℕ) (fresh : List ℕ) → Type 0
 FreshOf (Frame head) zero fresh = fresh ≡ head ∷ []
 FreshOf other order fresh = fresh ≡ []

@@ -1,4 +1,4 @@
--- What a contract sees of a boot, of a system, and of the parts of its processors at first.
+-- What contracts see of a boot, of a system, and of the first parts of its CPUs.
 use Rattle.std.specs.Prelude.{◌≡◌, ℕ, zero, suc, ◌+◌, List, [], ◌∷◌}
 use Rattle.frame_word.specs.Seats.{KnownTable, KnownSeat, first_zone_view, first_cpu_view, first_cpu_seats}
 use Rattle.stock_word.specs.Stock.{Words, Seated, first_zone_stock, first_processor, first_seats}
@@ -6,13 +6,13 @@ use Rattle.cpu_part.specs.Cpus.{KnownCpu, first_cpu}
 use Rattle.zone_sizes.specs.declared.config.Config.{Config}
 use Rattle.zone_sizes.specs.Config.{IsValidConfig}
 
--- A boot: its sizes and its two tables
+-- a boot: its sizes and its two tables
 pub record KnownBoot : Type 0 where
   pub sizes : Config
   pub frames : KnownTable
   pub stocks : Words
 
--- What a system shares: the two tables of its boot. What lies behind its lock no clause sees
+-- What CPUs share of a system: the two tables of its boot. No clause sees what lies behind its lock.
 pub record KnownSystem : Type 0 where
   pub frames : KnownTable
   pub stocks : Words
@@ -23,8 +23,8 @@ pub record IsSizedAs (sizes : Config) (table : KnownTable) (stock_table : Words)
   pub cpus : table.cpus ≡ sizes.cpus
   pub stock_cpus : stock_table.cpus ≡ sizes.cpus
 
--- the sizes are in their ranges, the tables have them, and the seats, the zone's and the processors', are all those of
--- the tables, none of which did anything
+-- The sizes are in their ranges, and the tables have them. The seats of the zone and of the CPUs are all the seats of
+-- these tables, and none has made a step.
 pub record IsBooted (boot : KnownBoot) (frame_seat : KnownSeat) (stock_seat : Seated)
     (frame_seats : List KnownSeat) (stock_seats : List Seated) : Type 0 where
   pub valid : IsValidConfig boot.sizes
@@ -34,14 +34,13 @@ pub record IsBooted (boot : KnownBoot) (frame_seat : KnownSeat) (stock_seat : Se
   pub frame_seats_are : frame_seats ≡ first_cpu_seats boot.frames.table 1 boot.sizes.cpus
   pub stock_seats_are : stock_seats ≡ first_seats boot.stocks.table 1 boot.sizes.cpus
 
--- the part of this processor, which did nothing yet
+-- the part of this CPU, which has done nothing yet
 abbrev pub part_at_first : KnownTable → Words → (processor : ℕ) → KnownCpu
 part_at_first table stock_table processor =
     first_cpu (record { table = table.table; view = first_cpu_view processor })
     (record { table = stock_table.table; view = first_processor processor })
 
--- the parts of so many processors, from the first on, which did nothing yet: no frame is listed, fresh or back, and
--- there is no pin
+-- the first parts of this many CPUs, from number `first` on: no frame is listed, fresh or back, and there is no pin
 abbrev pub first_cpus : KnownTable → Words → (first count : ℕ) → List KnownCpu
 first_cpus table stock_table first zero = []
 first_cpus table stock_table first (suc more) =

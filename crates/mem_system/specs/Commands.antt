@@ -1,4 +1,4 @@
--- What each command does inside a visit, by which steps, and what it is answered.
+-- What each command does inside a visit, by which steps, and with which reply.
 use Rattle.std.specs.Prelude.{◌≡◌, ℕ, true, false, ◌+◌, ◌<◌, ◌≤◌, List, [], length}
 use Rattle.frame_word.specs.Seats.{KnownTable}
 use Rattle.stock_word.specs.Stock.{Words}
@@ -7,7 +7,7 @@ use Rattle.zone_sizes.specs.declared.config.Config.{Config}
 use Rattle.zone_sizes.specs.Config.{IsValidConfig}
 use Rattle.mem_machine.specs.Machines.{Visits}
 use Rattle.mem_machine.specs.Local.{Side}
--- how a call is said by its steps
+-- a call, described by the state before it, its steps and the state after it
 pub use Rattle.mem_alloc.specs.Stepping.{Course, course, of_machine, OfMachine, OfMachineAlone, BySteps}
 pub use Rattle.mem_alloc.specs.Stepping.{MachineStays, Stays}
 pub use Rattle.mem_alloc.specs.Stepping.{CountsMisses, IsSettled}
@@ -24,7 +24,7 @@ use Rattle.mem_system.specs.Units.{TouchesFrame, NotesDirt}
 use Rattle.mem_system.specs.Releases.{ReleasesFrame}
 use Rattle.mem_system.specs.Allocations.{Allocates, FreshOf}
 
--- a frame that the command names is one of so many
+-- each frame that the command names has a number below `frames`
 abbrev pub NamesFrameBelow : (frames : ℕ) → Cmd → Type 0
 NamesFrameBelow frames (Owner frame) = frame < frames
 NamesFrameBelow frames (Touch frame) = frame < frames
@@ -33,19 +33,19 @@ NamesFrameBelow frames (Clean frame) = frame < frames
 NamesFrameBelow frames (Release frame) = frame < frames
 NamesFrameBelow frames other = Unit {0}
 
--- a frame that the command names is one of the zone's
+-- each frame that the command names is a frame of the zone
 abbrev pub IsOfZone : KnownTable → Cmd → Type 0
 IsOfZone table command = NamesFrameBelow table.frames command
 
--- What a command finds inside its visit: the processor is visited and was settled, the sizes are in their ranges, and
--- the tables have them
+-- What a command finds inside its visit. The CPU is visited and settled, the sizes are in their ranges, and the tables
+-- have these sizes.
 pub record MayObey (table : KnownTable) (stock_table : Words) (sizes : Config) (now : Side) : Type 0 where
   pub visit : Visits table now
   pub settled : IsSettled now.cpu
   pub valid : IsValidConfig sizes
   pub sized : IsSizedAs sizes table stock_table
 
--- What the command does inside the visit, and what it answers
+-- what the command does inside the visit, and its reply
 abbrev pub Obeys : Config → Cmd → Reply → Course Side → Type 0
 Obeys sizes (Mkdir path) reply way = OfMachineAlone (MakesGroup path.now reply) way
 Obeys sizes (Rmdir path) reply way = OfMachineAlone (Removes path.now reply) way
@@ -59,20 +59,20 @@ Obeys sizes (Clean frame) reply way = OfMachineAlone (NotesDirt frame false repl
 Obeys sizes (Release frame) reply way = ReleasesFrame sizes frame reply way
 Obeys sizes (Alloc path order) reply way = Allocates sizes path.now order reply way
 
--- the fresh frames after a command: the one frame that an Alloc of order 0 answered, and after all else none
+-- the fresh frames after a command: the frame that an Alloc of order 0 returned, and none after any other command
 abbrev pub FreshAfter : Cmd → Reply → (fresh : List ℕ) → Type 0
 FreshAfter (Alloc path order) reply fresh = FreshOf reply order fresh
 FreshAfter other reply fresh = fresh ≡ []
 
--- what is left to settle of the processor after a command: no back frame, and of fresh ones that of an Alloc alone
+-- what a command leaves to settle: no back frame, and no fresh frame except the one that an Alloc returned
 abbrev pub IsSettledAfter : Cmd → Reply → KnownCpu → Type 0
 IsSettledAfter cmd reply cpu = FreshAfter cmd reply cpu.fresh × (cpu.back ≡ [])
 
--- where the processor's list had at most `high` frames, it has so still
+-- if the CPU's list had at most `high` frames, it still has at most `high`
 abbrev pub ListStaysWithin : Config → (before after : KnownCpu) → Type 0
 ListStaysWithin sizes before after = length before.list ≤ sizes.high → length after.list ≤ sizes.high
 
--- where the processor's list had at most `high` frames, its list and its fresh frames together have
+-- if the CPU's list had at most `high` frames, its list and its fresh frames together have at most `high`
 abbrev pub ListAndFreshStayWithin : Config → (before after : KnownCpu) → Type 0
 ListAndFreshStayWithin sizes before after =
     length before.list ≤ sizes.high → length after.list + length after.fresh ≤ sizes.high

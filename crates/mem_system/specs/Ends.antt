@@ -1,5 +1,5 @@
--- How a system ends: each processor is settled, each list given back and each stock drained, and then the tables are
--- closed.
+-- How a system ends. Each CPU is settled, then each CPU's list is returned and its stock drained, and then the tables
+-- are closed.
 use Rattle.std.specs.Prelude.{◌≡◌, ℕ, ◌+◌, ◌≤◌, ◌<◌, false, is_some, List, [], ◌∷◌, ◌++◌, length, map, min}
 use Rattle.std.specs.Prelude.{sum_by, slice_index, All}
 use Rattle.frame_word.specs.ReferenceRule.{ReferenceRule}
@@ -22,22 +22,22 @@ use Rattle.mem_machine.specs.Local.{Side, side}
 use Rattle.mem_system.specs.Commands.{Course, BySteps}
 use Rattle.mem_system.specs.Visits.{with_visit_of, visited, visit_steps}
 
--- the pins of the processors
+-- how many pins the CPUs have together
 abbrev pub pins_of : List KnownCpu → ℕ
 pins_of cpus = sum_by (λ cpu. length cpu.pins) cpus
 
--- how often fresh frames went back to the lists of the processors
+-- how many fresh frames the CPUs put back on their own lists
 abbrev pub drops_of : List KnownCpu → ℕ
 drops_of cpus = sum_by (λ cpu. cpu.drops) cpus
 
--- the processor is settled in a visit
+-- the CPU is settled in a visit
 pub record SettlesInVisit (way : Course Side) : Type 0 where
   pub settled : KnownMachine
   pub settles : Settles (visited way.before) (side settled way.after.cpu)
   pub machine : way.after.machine ≡ with_visit_of settled way.before.cpu.number 0
   pub steps_are : way.steps ≡ visit_steps way.before []
 
--- all frames of the processor's list are given back, and then its stock is drained, in a visit
+-- in a visit, all frames of the CPU's list are returned to the zone, and then its stock is drained
 pub record Empties (way : Course Side) : Type 0 where
   pub emptied : KnownMachine
   pub takes : TakesManyBack way.before.cpu.list (visited way.before) (side emptied way.after.cpu)
@@ -50,15 +50,15 @@ pub record Empties (way : Course Side) : Type 0 where
       ++ (drain_steps way.before.cpu.number (stock_group emptied way.before.cpu.number) pages
       ++ shut_steps way.before.cpu.number))
 
--- the processor, the first of several, is visited so, and from the machine between on this is so of the rest
+-- `Visit` leads the machine and the first of several CPUs to a machine between, of which `Rest` holds
 pub record VisitsFirst (Visit : Side → Side → Type 0) (before : KnownMachine) (cpu cpu_left : KnownCpu)
     (Rest : KnownMachine → Type 0) : Type 0 where
   pub between : KnownMachine
   pub first : Visit (side before cpu) (side between cpu_left)
   pub rest : Rest between
 
--- Each of these processors is visited so, one after the other: this leads from one machine, with the parts of the
--- processors, to another, with the parts that are left
+-- Each of these CPUs is visited as `Visit` says, one after the other. This leads from one machine with the CPUs' parts
+-- to another machine with the parts that are left.
 abbrev pub ForEachCpu : (Visit : Side → Side → Type 0) (before : KnownMachine) (cpus : List KnownCpu)
     (after : KnownMachine) (left : List KnownCpu) → Type 0
 ForEachCpu Visit before [] after [] = after ≡ before
@@ -66,27 +66,27 @@ ForEachCpu Visit before (cpu ∷ cpus) after (cpu_left ∷ left) =
     VisitsFirst Visit before cpu cpu_left (λ between. ForEachCpu Visit between cpus after left)
 ForEachCpu Visit before cpus after left = ⊥
 
--- nothing of the processor is fresh or back, and it has no pin
+-- the CPU has no fresh frame, no back frame and no pin
 pub record IsSettledUnpinned (cpu : KnownCpu) : Type 0 where
   pub none_fresh : cpu.fresh ≡ []
   pub none_back : cpu.back ≡ []
   pub no_pin : cpu.pins ≡ []
 
--- the processor has no frame on a list and no pin, none is lent to it, and its stock is drained
+-- the CPU has no frame on any of its lists and no pin, no frame is lent to it, and its stock is drained
 pub record IsSpent (table : KnownTable) (stock_table : Words) (machine : KnownMachine) (cpu : KnownCpu) : Type 0 where
   pub tied : IsTied table stock_table cpu
   pub idle : IsIdle cpu
   pub none_lent : NoneLentTo cpu.number machine.spots
   pub drained : (account_of machine.stock_seat.view cpu.number).filled ≡ false
 
--- no frame was lent to anyone, and no stock was filled
+-- no frame was lent to a CPU that had none, and no drained stock was filled
 pub record LendsAndFillsNone (before after : KnownMachine) : Type 0 where
   pub none_lent : (processor : ℕ) → NoneLentTo processor before.spots → NoneLentTo processor after.spots
   pub drained : (processor : ℕ) → (account_of before.stock_seat.view processor).filled ≡ false
       → (account_of after.stock_seat.view processor).filled ≡ false
 
--- The audit is that of the machine, with so many drops of the processors' own, each of which is a return too. A count
--- stays at its greatest
+-- The audit counts the machine's frames, last puts and freezes. Its drops and returns are the machine's with the CPUs'
+-- own drops added, each of which is also a return. A count stays at its greatest value.
 pub record IsAuditOf (table : KnownTable) (machine : KnownMachine) (own : ℕ) (audit : Audit) : Type 0 where
   pub frames : audit.frames ≡ table.frames
   pub free : audit.free ≡ frames_free machine.spots
@@ -96,34 +96,34 @@ pub record IsAuditOf (table : KnownTable) (machine : KnownMachine) (own : ℕ) (
   pub drops : audit.drops ≡ min (machine.counts.drops + own) max_count
   pub returns : audit.returns ≡ min (machine.counts.returns + own) max_count
 
--- Each frame is free or charged, and each unit that came back was put last, frozen or dropped, as far as the counts
--- go, which stay at their greatest
+-- Each frame is free or charged. The returns are the last puts, freezes and drops together, or the greatest count if
+-- that is less.
 pub record AddsUp (audit : Audit) : Type 0 where
   pub places : audit.free + audit.charged ≡ audit.frames
   pub balances : audit.returns ≡ min (audit.last_puts + audit.freezes + audit.drops) max_count
 
--- the processor's seat at the frames' table
+-- the CPU's seat at the frames' table
 abbrev pub frame_seat_of : KnownCpu → KnownSeat
 frame_seat_of cpu = cpu.frame_seat
 
--- the processor's seat at the stocks' table
+-- the CPU's seat at the stocks' table
 abbrev pub stock_seat_of : KnownCpu → Seated
 stock_seat_of cpu = cpu.stock_seat
 
--- one of the seats is that of the processor
+-- one of the seats is the CPU's
 pub record HasSeatOf (seats : List Seated) (processor : ℕ) : Type 0 where
   pub place : ℕ
   pub inside : place < length seats
   pub number : (view_in seats place).number ≡ processor
 
--- the words tell the stock of the processor whose seat is at this place
+-- the stock words are what the machine's seat and the CPU's seat at this place of the list know of that CPU's stock
 abbrev pub TellsStockAt : (stock_words : List ℕ) → KnownMachine → (seats : List Seated) (place : ℕ) → Type 0
 TellsStockAt stock_words machine seats place =
     IsStockOf stock_words (view_in seats place).number machine.stock_seat.view (view_in seats place)
 
--- Both tables are closed with these seats and the machine's, which was consistent. The frames' words keep the
--- reference rule. Each processor has a seat at the stocks' table, and the stocks' words are what it and the machine's
--- seat tell
+-- Both tables are closed with these seats and the machine's. The machine was consistent, and the frames' words keep the
+-- reference rule. Each CPU has a seat at the stocks' table, and the stock words are what that seat and the machine's
+-- know.
 pub record IsClosed (table : KnownTable) (stock_table : Words) (machine : KnownMachine)
     (frame_seats : List KnownSeat) (stock_seats : List Seated) : Type 0 where
   pub consistent : IsConsistent table stock_table machine
@@ -134,8 +134,8 @@ pub record IsClosed (table : KnownTable) (stock_table : Words) (machine : KnownM
   pub each : (processor : ℕ) → 0 < processor → processor ≤ stock_table.cpus → HasSeatOf stock_seats processor
   pub stocks : (place : ℕ) → place < length stock_seats → TellsStockAt stock_words machine stock_seats place
 
--- the words of the table at the end: they keep the reference rule with the seats' views, and each frame's word is the
--- zone's reference where the frame heads a kept unit, else 0
+-- The words of the frames' table at the end. They keep the reference rule with the views of all seats. A frame's word
+-- is 1, the zone's reference, if the frame heads a kept unit, else 0.
 pub record AreLastWords (table : KnownTable) (machine : KnownMachine) (cpus : List KnownCpu)
     (last : List ℕ) : Type 0 where
   pub rule : ReferenceRule table.frames table.cpus last
@@ -143,7 +143,7 @@ pub record AreLastWords (table : KnownTable) (machine : KnownMachine) (cpus : Li
   pub references : (frame : ℕ) → frame < table.frames
       → slice_index last frame ≡ one_if (is_some (home_of machine.links frame))
 
--- the words of processor p's stock have no page, and neither has its book
+-- no page is left in the CPU's stock word, in its report word, or in its book
 pub record HasNoPage (machine : KnownMachine) (stock_words : List ℕ) (processor : ℕ) : Type 0 where
   pub stock : Stock
   pub encoded : slice_index stock_words (stock_place processor) ≡ word_of stock
@@ -151,10 +151,9 @@ pub record HasNoPage (machine : KnownMachine) (stock_words : List ℕ) (processo
   pub none_reported : slice_index stock_words (report_place processor) ≡ 0
   pub book : (account_of machine.stock_seat.view processor).book ≡ 0
 
--- The end of a boot where no pin remains: each processor is settled, each list is given back and each stock drained, by
--- steps by which the machine's counts rise.
--- No frame is lent to anyone then, the closed words tell each processor's stock, no page is in one, and the audit
--- tells what was counted
+-- The end of a boot without pins. Each CPU is settled, then each CPU's list is returned and its stock drained, by steps
+-- that the machine's counts follow. Then no frame is lent to anyone, and no stock has a page. The closed words are what
+-- the seats know. The audit counts what the machine and the CPUs counted, and it adds up.
 pub record Ends (table : KnownTable) (stock_table : Words) (locked : KnownLocked) (cpus : List KnownCpu)
     (audit : Audit) : Type 0 where
   pub quiet : IsQuiet table stock_table locked

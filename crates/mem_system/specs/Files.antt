@@ -1,4 +1,4 @@
--- The files of the groups: which is meant, what is read, and what a write does.
+-- The files of the groups: how they are found, what a read returns, and what a write does.
 use Rattle.std.specs.Prelude.{◌≡◌, ◌≢◌, ◌⊎◌, ℕ, ◌+◌, ◌<◌, ◌≤◌, Bool, false, Option, Some, None, Result, Ok, Err, List, ◌++◌}
 use Rattle.group_tree.specs.declared.group.Group.{Group}
 use Rattle.group_tree.specs.Groups.{number_at}
@@ -24,30 +24,30 @@ use Rattle.mem_system.specs.declared.command.Reply.{Reply}
 use Rattle.mem_system.specs.declared.command.Reply.TheVariants.{Text, Done, Refused}
 use Rattle.mem_system.specs.Usage.{KeepsToLimit}
 
--- the visit of whichever processor was visited before is kept
+-- the visit of each CPU that was visited before is kept
 abbrev pub KeepsAnyVisit : KnownTable → (before after : KnownMachine) → Type 0
 KeepsAnyVisit table before after =
     (cpu : KnownCpu) → Visits table (side before cpu) → KeepsVisit table (side before cpu) (side after cpu)
 
--- the path is that of this group, which isn't the root, and the name that of its file
+-- the group has this path and isn't the root, and the name is that of its file
 pub record IsFileOf (groups : List Group) (path name : List ℕ) (group : ℕ) (file : File) : Type 0 where
   pub number : number_at groups path ≡ Some group
   pub below_root : group ≢ 0
   pub named : name ≡ name_of file
 
--- the path is that of a group, but of the root, which has no file, or no file has the name
+-- A group has the path. It is the root, which has no file, or no file has the name.
 pub record HasNoFileNamed (groups : List Group) (path name : List ℕ) : Type 0 where
   pub group : ℕ
   pub number : number_at groups path ≡ Some group
   pub none : (group ≡ 0) ⊎ ((file : File) → name ≢ name_of file)
 
--- why there is no such file: no group has the path; or that group has no file of the name
+-- why there is no such file: no group has the path, or its group has no file of this name
 abbrev pub HasNoFile : List Group → (path name : List ℕ) → Fault → Type 0
 HasNoFile groups path name NoGroup = number_at groups path ≡ None
 HasNoFile groups path name NoFile = HasNoFileNamed groups path name
 HasNoFile groups path name fault = ⊥
 
--- the answer is that of the file of the group: its text, or why it can't be read
+-- the answer of a file that exists: its text, or why it can't be read
 pub record ReadsFile (ledger : Ledger) (path name : List ℕ) (answer : Result (List ℕ) Fault) : Type 0 where
   pub group : ℕ
   pub file : File
@@ -71,13 +71,13 @@ pub record SetsLimit (group : ℕ) (limit : Option ℕ) (way : Course KnownMachi
   pub keeps : KeepsToLimit group limit (course way.table (with_limit_of way.before group limit) lowering way.after)
   pub steps_are : way.steps ≡ set_max_steps group limit ++ lowering
 
--- the value writes a limit, and the group gets it
+-- the value is the text of a limit, and the group gets that limit
 pub record WritesLimit (value : List ℕ) (group : ℕ) (way : Course KnownMachine) : Type 0 where
   pub limit : Option ℕ
   pub reads : ReadsAs value limit
   pub sets : SetsLimit group limit way
 
--- the machine with another flag of the group: whether it is to be killed as a whole
+-- the machine with another flag of the group: whether it is killed as a whole
 abbrev pub with_flag_of : KnownMachine → (group : ℕ) → Bool → KnownMachine
 with_flag_of machine group flag = record machine { ledger = with_oom_flag machine.ledger group flag }
 
@@ -86,15 +86,15 @@ pub record SetsFlag (group : ℕ) (flag : Bool) (way : Course KnownMachine) : Ty
   pub machine : way.after ≡ with_flag_of way.before group flag
   pub steps_are : way.steps ≡ set_oom_group_steps group flag
 
--- the value writes a flag, and the group gets it
+-- the value is the text of a flag, and the group gets that flag
 pub record WritesFlag (value : List ℕ) (group : ℕ) (way : Course KnownMachine) : Type 0 where
   pub flag : Bool
   pub reads : IsFlagText value flag
   pub sets : SetsFlag group flag way
 
--- The value writes an amount, and so many pages of the group's subtree are reclaimed, by these steps alone. Stocks and
--- killed groups stay, and no dirty unit is freed. If fewer are freed than asked for, each clean unit that the subtree
--- still keeps was tried, and missed
+-- The value is the text of an amount, and this many pages of the group's subtree are reclaimed, by these steps alone.
+-- Stocks and killed groups stay, and no dirty unit is freed. If fewer pages are freed than asked for, each clean unit
+-- that the subtree still keeps was tried and missed.
 pub record WritesAmount (value : List ℕ) (group : ℕ) (Ends : (asked freed : ℕ) → Type 0) (way : Course KnownMachine) : Type 0 where
   pub asked : ℕ
   pub freed : ℕ
@@ -106,14 +106,14 @@ pub record WritesAmount (value : List ℕ) (group : ℕ) (Ends : (asked freed : 
   pub ends : Ends asked freed
   pub steps_are : way.steps ≡ reclaims.steps
 
--- what a value sets that is written to a file of the group, and what is done then
+-- what a value written to a file of the group sets, and what is done for it
 abbrev pub SetsFile : File → (value : List ℕ) → (group : ℕ) → Course KnownMachine → Type 0
 SetsFile Max value group way = WritesLimit value group way
 SetsFile OomGroup value group way = WritesFlag value group way
 SetsFile Reclaim value group way = WritesAmount value group (λ asked freed. asked ≤ freed) way
 SetsFile read_only value group way = ⊥
 
--- why a file that is there doesn't take a value: it isn't written at all, or this is no value of it
+-- why an existing file refuses a value: the file is read-only, or the value is malformed or too great for it
 abbrev pub RefusesValue : File → (value : List ℕ) → Fault → Type 0
 RefusesValue file value ReadOnly = is_writable file ≡ false
 RefusesValue Max value BadLimit = IsNoLimitText value
@@ -130,28 +130,28 @@ pub record FallsShort (file : File) (value : List ℕ) (group : ℕ) (fault : Fa
   pub fault_is : fault ≡ Again
   pub frees : WritesAmount value group (λ asked freed. freed < asked) way
 
--- a value is written to a file that is there: it is set; or it is refused, and nothing changed; or it falls short
+-- a value is written to an existing file: it is set; or it is refused, and nothing changed; or it falls short
 abbrev pub WritesTo : File → (value : List ℕ) → (group : ℕ) → Reply → Course KnownMachine → Type 0
 WritesTo file value group Done way = SetsFile file value group way
 WritesTo file value group (Refused fault) way =
     (RefusesValue file value fault × MachineStays way) ⊎ FallsShort file value group fault way
 WritesTo file value group other way = ⊥
 
--- the path and the name are those of a file, and what the value writes to it is set
+-- the path and the name are those of a file, and the value is set
 pub record WritesFile (path name value : List ℕ) (way : Course KnownMachine) : Type 0 where
   pub group : ℕ
   pub file : File
   pub is_file : IsFileOf way.before.ledger.groups path name group file
   pub sets : SetsFile file value group way
 
--- the file is there, and doesn't take the value
+-- the file exists, and refuses the value
 pub record RefusesValueOf (groups : List Group) (path name value : List ℕ) (fault : Fault) : Type 0 where
   pub group : ℕ
   pub file : File
   pub is_file : IsFileOf groups path name group file
   pub refuses : RefusesValue file value fault
 
--- why nothing is written: there is no such file, or it doesn't take the value
+-- why nothing is written: there is no such file, or it refuses the value
 abbrev pub RefusesWrite : List Group → (path name value : List ℕ) → Fault → Type 0
 RefusesWrite groups path name value fault =
     HasNoFile groups path name fault ⊎ RefusesValueOf groups path name value fault
@@ -171,7 +171,7 @@ Writes path name value (Refused fault) way =
     ⊎ WritesShort path name value fault way
 Writes path name value other way = ⊥
 
--- the file is memory.max of this group, and the value is this limit
+-- the file is memory.max of this group, and the value is the text of this limit
 pub record IsLimitFor (groups : List Group) (path name value : List ℕ) (group : ℕ) (limit : Option ℕ) : Type 0 where
   pub file : IsFileOf groups path name group Max
   pub reads : ReadsAs value limit

@@ -1,4 +1,4 @@
--- What Mkdir and Rmdir do, and what they answer.
+-- What Mkdir and Rmdir do, and their replies.
 use Rattle.std.specs.Prelude.{◌≡◌, ℕ, ◌≤◌, Some, None, List, ◌++◌}
 use Rattle.group_tree.specs.Groups.{make_fault}
 use Rattle.group_tree.specs.declared.fault.Fault.TheVariants.{Busy}
@@ -12,7 +12,7 @@ use Rattle.mem_system.specs.declared.command.Reply.TheVariants.{Group, Done, Ref
 use Rattle.mem_system.specs.Leaves.{IsLeafAt, HasNoLeaf}
 use Rattle.mem_system.specs.Usage.{LowersUsage}
 
--- no cause of a refusal holds, and the group of this path is made under this number, as the machine makes it
+-- no refusal applies, and the machine makes the group of this path with this number
 pub record MakesNewGroup (path : List ℕ) (number : ℕ) (way : Course KnownMachine) : Type 0 where
   pub no_fault : make_fault way.before.ledger.groups path ≡ None
   pub adds : AddsGroup number path way.before way.after
@@ -24,7 +24,7 @@ MakesGroup path (Group number) way = MakesNewGroup path number way
 MakesGroup path (Refused fault) way = (make_fault way.before.ledger.groups path ≡ Some fault) × MachineStays way
 MakesGroup path other way = ⊥
 
--- the usage of the group is lowered to nothing, and it is gone
+-- the usage of the group is lowered to 0, and the group is removed
 pub record RemovesGroup (path : List ℕ) (way : Course KnownMachine) : Type 0 where
   pub group : ℕ
   pub leaf : IsLeafAt way.before.ledger.groups path group
@@ -35,15 +35,15 @@ pub record RemovesGroup (path : List ℕ) (way : Course KnownMachine) : Type 0 w
   pub machine : way.after ≡ record emptied { ledger = with_group_removed emptied.ledger group }
   pub steps_are : way.steps ≡ lowering ++ remove_steps group
 
--- the usage of the group is lowered as far as that can be, and pages are still charged to it
+-- the usage of the group is lowered as far as possible, and pages are still charged to it
 pub record StaysBusy (path : List ℕ) (way : Course KnownMachine) : Type 0 where
   pub group : ℕ
   pub leaf : IsLeafAt way.before.ledger.groups path group
   pub lowers : LowersUsage group 0 way
   pub pages : 1 ≤ current_of way.after.ledger group
 
--- Rmdir: the group is gone; or pages stay charged to it, and the drained and reclaimed ones are given back; or there is
--- no such group, and nothing changed
+-- Rmdir: the group is removed; or pages stay charged to it after draining and reclaim; or there is no such group, and
+-- nothing changed
 abbrev pub Removes : (path : List ℕ) → Reply → Course KnownMachine → Type 0
 Removes path Done way = RemovesGroup path way
 Removes path (Refused Busy) way = StaysBusy path way

@@ -1,4 +1,4 @@
--- What a contract sees of the fields of what lies behind the zone's lock, and what always holds of them.
+-- What contracts see of the fields behind the zone's lock, and what always holds of them.
 use Rattle.std.specs.Prelude.{length}
 use Rattle.std.specs.Vec.{vec_capacity}
 use Rattle.frame_word.specs.Seats.{KnownTable}
@@ -6,12 +6,12 @@ use Rattle.stock_word.specs.Stock.{Words}
 use Rattle.mem_system.specs.declared.lock.Locked.TheInside.{Inside}
 use Rattle.mem_system.specs.Locked.{KnownLocked, IsEmptyWithRoom, IsQuiet}
 
--- what a contract sees of these fields: all but the room for the processors' seats
+-- what contracts see of these fields: all except the room for the CPUs' seats
 abbrev pub locked_of : {N : Type 0} → Inside N → KnownLocked
 locked_of fields = record { machine = fields.machine; sizes = fields.sizes }
 
--- while no one holds the lock, what lies behind it is quiet, and there is room for the seats of all processors, which
--- are gathered at the end
+-- while the lock is free, what lies behind it is quiet, with room for the seats of all CPUs, which are gathered at the
+-- end
 pub record IsKept {N : Type 0} (table : KnownTable) (stock_table : Words) (fields : Inside N) : Type 0 where
   pub quiet : IsQuiet table stock_table (locked_of fields)
   pub frame_seats :

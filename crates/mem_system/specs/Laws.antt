@@ -1,4 +1,4 @@
--- What holds of every command that was served, whatever function served it.
+-- What holds of every command that was served, whichever function served it.
 use Rattle.std.specs.Prelude.{◌≡◌, ℕ, ◌∷◌, ◌++◌}
 use Rattle.step_rules.specs.declared.step.Action.TheVariants.{Kill}
 use Rattle.step_rules.specs.declared.step.Answer.{Answer}
@@ -10,8 +10,8 @@ use Rattle.mem_system.specs.declared.command.Reply.{Reply}
 use Rattle.mem_system.specs.Asks.{MayAskFor}
 use Rattle.mem_system.specs.Visits.{Course, Holder, Serves}
 
--- each kill that a command makes once its processor is settled comes last: all else was tried for the limit that the
--- command may ask for, before the first kill of the set that dies with the victim
+-- Each kill of a command comes last. After its CPU is settled, the command tries everything else for the limit that it
+-- may ask for, before the first kill of the set that dies with the victim.
 abbrev pub CommandsKillLast : Type 0
 CommandsKillLast =
     (cmd : Cmd) (reply : Reply) (way : Course Holder) (served : Serves cmd reply way) (before rest : Run)

@@ -1,4 +1,4 @@
--- What a command came to, and the reply that is told of it.
+-- The outcome of a command, and the reply that it becomes.
 use Rattle.std.specs.Prelude.{◌≢◌, ℕ, IsTrue, Option, Some, None, Result, Ok, Err, List, []}
 use Rattle.group_tree.specs.Groups.{has_group, path_of}
 use Rattle.group_tree.specs.declared.fault.Fault.{Fault}
@@ -14,7 +14,7 @@ use Rattle.mem_system.specs.declared.command.Reply.{Reply}
 use Rattle.mem_system.specs.declared.command.Reply.TheVariants.{Group, Frame, Done, Text, Free, Lent, Charged}
 use Rattle.mem_system.specs.declared.command.Reply.TheVariants.{Marked, Active, Left, Returned, OverLimit, Refused}
 
--- the path, empty where there is none
+-- the path, or an empty one if there is none
 abbrev pub path_or_empty : Option (List ℕ) → List ℕ
 path_or_empty (Some path) = path
 path_or_empty None = []
@@ -24,7 +24,7 @@ abbrev pub text_reply : Result (List ℕ) Fault → Reply
 text_reply (Ok text) = Text text
 text_reply (Err fault) = Refused fault
 
--- the reply of an outcome: its groups with their paths, its file with its text
+-- the reply of an outcome: groups with their paths, and a file with its text
 abbrev pub reply_of : Ledger → Outcome → Reply
 reply_of ledger (outcome.Group group) = Group group
 reply_of ledger (outcome.Frame frame) = Frame frame
@@ -40,19 +40,19 @@ reply_of ledger outcome.Returned = Returned
 reply_of ledger (outcome.OverLimit group) = OverLimit group (path_or_empty (path_of ledger.groups group))
 reply_of ledger (outcome.Refused fault) = Refused fault
 
--- the group whose path or file is told is there, and the root has no file
+-- the group whose path or file the reply shows exists, and a file isn't the root's
 abbrev pub HasItsGroups : Ledger → Outcome → Type 0
 HasItsGroups ledger (outcome.Text group file) = IsTrue (has_group ledger.groups group) × (group ≢ 0)
 HasItsGroups ledger (outcome.Charged group) = IsTrue (has_group ledger.groups group)
 HasItsGroups ledger (outcome.OverLimit group) = IsTrue (has_group ledger.groups group)
 HasItsGroups ledger other = Unit {0}
 
--- A call came to this outcome: a list of local steps leads from one side to another, and this is done by them, with the
--- reply that the ledger tells of the outcome then
+-- A call had this outcome: local steps lead from one side to another and do this, with the reply that the ledger after
+-- them makes of the outcome.
 abbrev pub ComesTo : KnownTable → Outcome → (Reply → Course Side → Type 0) → (before after : Side) → Type 0
 ComesTo table outcome Does before after = BySteps table (Does (reply_of after.machine.ledger outcome)) before after
 
--- so it is of the machine alone, whoever holds the lock
+-- the same for a call on the machine alone, whichever CPU holds the lock
 abbrev pub ComesToForAny : KnownTable → Outcome → (Reply → Course KnownMachine → Type 0)
     → (before after : KnownMachine) → Type 0
 ComesToForAny table outcome Does before after =

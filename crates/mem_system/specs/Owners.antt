@@ -1,4 +1,4 @@
--- Where a frame is told to be.
+-- The place of a frame, as Owner reports it.
 use Rattle.std.specs.Prelude.{◌≡◌, ℕ, Some}
 use Rattle.group_tree.specs.Groups.{path_of}
 use Rattle.mem_machine.specs.declared.spot.Place.TheVariants as place
@@ -7,7 +7,7 @@ use Rattle.mem_machine.specs.Machines.{KnownMachine}
 use Rattle.mem_system.specs.declared.command.Reply.{Reply}
 use Rattle.mem_system.specs.declared.command.Reply.TheVariants.{Free, Lent, Charged}
 
--- Owner: where the frame is, with the path of the group that it is charged to
+-- Owner: the place of the frame, with the path of the group that it is charged to
 abbrev pub TellsPlace : KnownMachine → (frame : ℕ) → Reply → Type 0
 TellsPlace machine frame Free = place_of (spot_at machine.spots frame) ≡ place.Free
 TellsPlace machine frame (Lent processor) = place_of (spot_at machine.spots frame) ≡ place.Lent processor

@@ -1,4 +1,4 @@
--- What a Release does, and where the frames of a unit that comes back go.
+-- What a Release does, and which frames of a freed unit go to the CPU's list.
 use Rattle.std.specs.Prelude.{◌≡◌, ◌≢◌, ℕ, ◌<◌, ◌≤◌, List, [], ◌++◌, length, take}
 use Rattle.group_tree.specs.declared.fault.Fault.TheVariants.{NotKept}
 use Rattle.zone_sizes.specs.declared.config.Config.{Config}
@@ -14,7 +14,7 @@ use Rattle.mem_system.specs.declared.command.Reply.{Reply}
 use Rattle.mem_system.specs.declared.command.Reply.TheVariants.{Left, Returned, Refused}
 use Rattle.mem_system.specs.Units.{HeadsNoUnit}
 
--- where the processor's list stood at `high`, `batch` frames from its front are free again; else nothing changed
+-- if the CPU's list has at least `high` frames, `batch` frames from its front are freed; else nothing changes
 pub record CutsList (sizes : Config) (way : Course Side) : Type 0 where
   pub cut : List ℕ
   pub at_high : sizes.high ≤ length way.before.cpu.list → cut ≡ take sizes.batch way.before.cpu.list
@@ -22,7 +22,7 @@ pub record CutsList (sizes : Config) (way : Course Side) : Type 0 where
   pub takes : TakesManyBack cut way.before way.after
   pub steps_are : way.steps ≡ drain_list_steps way.before.cpu.number cut
 
--- the processor's list was cut where it stood at `high`, and then the frame, which was free, came to its end
+-- the CPU's list is cut if it has at least `high` frames; then the free frame is added to its end
 pub record ListsFrame (sizes : Config) (frame : ℕ) (way : Course Side) : Type 0 where
   pub mid : Side
   pub cutting : Run
@@ -30,8 +30,8 @@ pub record ListsFrame (sizes : Config) (frame : ℕ) (way : Course Side) : Type 
   pub lends : LendsFrame frame mid way.after
   pub steps_are : way.steps ≡ cutting ++ lend_steps way.before.cpu.number frame
 
--- The unit is off its list and came back, uncharged; a single frame is on the processor's list then, and a block
--- stays free
+-- The unit leaves its list, and is freed and uncharged. A single frame is then added to the CPU's list; a block stays
+-- in the zone.
 pub record ReturnsFrames (sizes : Config) (frame : ℕ) (way : Course Side) : Type 0 where
   pub freed : KnownMachine
   pub returns : ReturnsUnit frame way.before.machine freed
@@ -41,13 +41,13 @@ pub record ReturnsFrames (sizes : Config) (frame : ℕ) (way : Course Side) : Ty
   pub block : returns.unit.order ≢ 0 → Stays (course way.table (side freed way.before.cpu) listing way.after)
   pub steps_are : way.steps ≡ release_steps frame released.Returned ++ listing
 
--- the unit is off its list and stays charged, with so many references of processors
+-- the unit leaves its list and stays charged, with this many references of CPUs left
 pub record LeavesUnit (frame left : ℕ) (way : Course Side) : Type 0 where
   pub leaves : LeavesReferences frame left way.before.machine way.after.machine
   pub cpu : way.after.cpu ≡ way.before.cpu
   pub steps_are : way.steps ≡ release_steps frame (released.Left left)
 
--- Release: references of processors are left; or the unit came back; or there is none
+-- Release: references of CPUs are left, the unit is freed, or the frame heads no kept unit
 abbrev pub ReleasesFrame : Config → (frame : ℕ) → Reply → Course Side → Type 0
 ReleasesFrame sizes frame (Left left) way = LeavesUnit frame left way
 ReleasesFrame sizes frame Returned way = ReturnsFrames sizes frame way

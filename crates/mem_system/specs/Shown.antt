@@ -1,4 +1,4 @@
--- What is served before the machine is told of.
+-- What is served before a text of the machine is written.
 use Rattle.frame_word.specs.Seats.{KnownTable}
 use Rattle.stock_word.specs.Stock.{Words}
 use Rattle.mem_system.specs.declared.command.Cmd.TheVariants.{Settle}
@@ -8,12 +8,12 @@ use Rattle.mem_machine.specs.Machines.{KnownMachine}
 use Rattle.mem_system.specs.Locked.{KnownLocked, IsSound}
 use Rattle.mem_system.specs.Visits.{Holder, holder, IsServed}
 
--- the command `Settle` was served, by steps
+-- the command `Settle` was served, by its steps
 abbrev pub SettlesCaller : KnownTable → (before after : Holder) → Type 0
 SettlesCaller table before after = IsServed table Settle Done before after
 
--- Through the lock: there was such a value behind it, the caller was settled in it, and this is so of the machine that
--- was left. Both values were sound
+-- What a text through the lock says. Some sound value was behind the lock, the caller was settled in it, and a sound
+-- value was left. `tells` holds of the machine that was left.
 pub record TellsOf (table : KnownTable) (stock_table : Words) (tells : KnownMachine → Type 0)
     (before after : KnownCpu) : Type 0 where
   pub found : KnownLocked

@@ -1,4 +1,4 @@
--- What the commands about one kept unit do. The unit goes by its head, which stands on a list of its group.
+-- What the commands on one kept unit do. The unit is named by its head, which is on a list of its group.
 use Rattle.std.specs.Prelude.{◌≡◌, ℕ, Bool, None, []}
 use Rattle.group_tree.specs.declared.fault.Fault.TheVariants.{NotKept}
 use Rattle.lru_lists.specs.declared.lru.Touched.TheVariants as touched
@@ -8,7 +8,7 @@ use Rattle.mem_alloc.specs.Stepping.{Course, MachineStays}
 use Rattle.mem_system.specs.declared.command.Reply.{Reply}
 use Rattle.mem_system.specs.declared.command.Reply.TheVariants.{Done, Marked, Active, Refused}
 
--- the frame that was found is that of the number, and heads a kept unit
+-- the frame found has this number, and heads a kept unit
 pub record IsUnitOf (machine : KnownMachine) (number found : ℕ) : Type 0 where
   pub same : found ≡ number
   pub heads : HeadsKeptUnit machine found
@@ -18,15 +18,15 @@ pub record HeadsNoUnit (frame : ℕ) (way : Course KnownMachine) : Type 0 where
   pub on_no_list : home_of way.before.links frame ≡ None
   pub stays : MachineStays way
 
--- Touch: the unit is marked, on the inactive list; or it is at the newest end of the active list, unmarked; or there
--- is none
+-- Touch: the unit is marked, on the inactive list; or it moved, unmarked, to the newest end of the active list; or the
+-- frame heads no kept unit
 abbrev pub TouchesFrame : (frame : ℕ) → Reply → Course KnownMachine → Type 0
 TouchesFrame frame Marked way = TouchesUnit frame touched.Marked way.before way.after × (way.steps ≡ [])
 TouchesFrame frame Active way = TouchesUnit frame touched.Active way.before way.after × (way.steps ≡ [])
 TouchesFrame frame (Refused NotKept) way = HeadsNoUnit frame way
 TouchesFrame frame other way = ⊥
 
--- Dirty and Clean: the unit is noted as dirty, or as not dirty; or there is none
+-- Dirty and Clean: the unit is noted as dirty or clean, or the frame heads no kept unit
 abbrev pub NotesDirt : (frame : ℕ) (is_dirty : Bool) → Reply → Course KnownMachine → Type 0
 NotesDirt frame is_dirty Done way = Dirties frame is_dirty way.before way.after × (way.steps ≡ [])
 NotesDirt frame is_dirty (Refused NotKept) way = HeadsNoUnit frame way

@@ -1,4 +1,4 @@
--- A group's usage brought down to a limit.
+-- How a group's usage is lowered to a limit.
 use Rattle.std.specs.Prelude.{◌≡◌, ℕ, ◌<◌, ◌≤◌, Option, Some, None, List, ◌++◌}
 use Rattle.group_charge.specs.Charges.{current_of}
 use Rattle.step_rules.specs.After.{Run}
@@ -13,9 +13,9 @@ use Rattle.mem_alloc.specs.Room.{with_limit_noted}
 use Rattle.mem_alloc.specs.Kills.{KillsFor}
 use Rattle.mem_alloc.specs.Stepping.{Course, course, MachineStays}
 
--- The stocks of the group's subtree are drained, and then its units are reclaimed, in at most 16 rounds, as long as its
--- usage is above the limit. Where it is above it even then, each clean unit that the subtree still keeps was tried, and
--- missed
+-- The stocks of the group's subtree are drained. Then its units are reclaimed, in at most 16 rounds, while its usage is
+-- above the limit. If the usage is above the limit even after that, each clean unit that the subtree still keeps was
+-- tried and missed.
 pub record LowersUsage (group limit : ℕ) (way : Course KnownMachine) : Type 0 where
   pub drains : List Drain
   pub drained : KnownMachine
@@ -28,8 +28,8 @@ pub record LowersUsage (group limit : ℕ) (way : Course KnownMachine) : Type 0 
   pub keeps : Keeps way.table drained way.after
   pub steps_are : way.steps ≡ drain_stocks_steps drains ++ reclaims.steps
 
--- it is noted that the limit has no room; the group's usage is lowered to it; and where it is above the group's limit
--- even then, victims of it are killed, for nobody that asks for pages
+-- It is noted that the limit has no room, and the group's usage is lowered. If it is still above the limit, victims of
+-- the group are killed; nobody asks for pages here.
 pub record LowersByKills (group limit : ℕ) (way : Course KnownMachine) : Type 0 where
   pub lowered : KnownMachine
   pub lowering : Run
@@ -38,12 +38,12 @@ pub record LowersByKills (group limit : ℕ) (way : Course KnownMachine) : Type 
   pub kills : KillsFor None group 0 (course way.table lowered killing way.after)
   pub steps_are : way.steps ≡ lowering ++ killing
 
--- the group's usage is lowered to the limit where it is above it, also by kills, and else nothing is done
+-- if the group's usage is above the limit, it is lowered, if needed by kills; else nothing is done
 pub record LowersAbove (group limit : ℕ) (way : Course KnownMachine) : Type 0 where
   pub above : limit < current_of way.before.ledger group → LowersByKills group limit way
   pub within : current_of way.before.ledger group ≤ limit → MachineStays way
 
--- the group's usage is kept to its limit, if it has one
+-- if the group has a limit, its usage is kept to it
 abbrev pub KeepsToLimit : (group : ℕ) → Option ℕ → Course KnownMachine → Type 0
 KeepsToLimit group None way = MachineStays way
 KeepsToLimit group (Some limit) way = LowersAbove group limit way

@@ -1,4 +1,4 @@
--- How a command is served: by a visit of its processor, under the lock.
+-- How a command is served: in a visit of its CPU, under the lock.
 use Rattle.std.specs.Prelude.{◌≡◌, ℕ, false, Some, List, [], ◌++◌}
 use Rattle.std.specs.Borrow.{Bor}
 use Rattle.frame_word.specs.Seats.{KnownTable, LentIsBorrowed, NothingPasses, seat_with_visit}
@@ -11,7 +11,7 @@ use Rattle.mem_machine.specs.Local.{Side, side, Makes}
 use Rattle.mem_machine.specs.Settling.{Settles, settle_steps}
 use Rattle.mem_machine.specs.Steps.{open_steps, shut_steps}
 use Rattle.mem_reclaim.specs.Moves.{has_kill}
--- how a call is said by its steps
+-- a call, described by the state before it, its steps and the state after it
 pub use Rattle.mem_alloc.specs.Stepping.{Course, course}
 use Rattle.mem_alloc.specs.Stepping.{CountsMisses}
 use Rattle.mem_alloc.specs.NoRash.{NoRashKill}
@@ -24,40 +24,40 @@ use Rattle.mem_system.specs.Locked.{KnownLocked, IsSound}
 use Rattle.mem_system.specs.Asks.{MayAskFor}
 use Rattle.mem_system.specs.Commands.{Obeys, ListAndFreshStayWithin}
 
--- the machine with the processor's visit open (1) or shut (0)
+-- the machine with the CPU's visit open (1) or shut (0)
 abbrev pub with_visit_of : KnownMachine → (processor state : ℕ) → KnownMachine
 with_visit_of machine processor state =
     record machine { frame_seat = seat_with_visit machine.frame_seat processor state }
 
--- the side once the processor's visit is open
+-- the side after the CPU's visit is opened
 abbrev pub visited : Side → Side
 visited before = side (with_visit_of before.machine before.cpu.number 1) before.cpu
 
--- the side once what was noted before is forgotten, and the processor's visit is open
+-- the side after all earlier notes are forgotten and the CPU's visit is opened
 abbrev pub begun : Side → Side
 begun before = visited (side (record before.machine { notes = [] }) before.cpu)
 
--- what lies behind the lock, and the part of the processor that holds it
+-- what lies behind the lock, with the part of the CPU that holds it
 pub record Holder : Type 0 where
   pub locked : KnownLocked
   pub cpu : KnownCpu
 
--- the holder of this part, with this behind the lock
+-- the holder of the lock with this part, and this behind the lock
 abbrev pub holder : KnownLocked → KnownCpu → Holder
 holder locked cpu = record { locked = locked; cpu = cpu }
 
--- the machine that the holder has behind the lock, and its part
+-- the side of the holder: the machine behind the lock, and its part
 abbrev pub side_of : Holder → Side
 side_of now = side now.locked.machine now.cpu
 
--- the steps of a visit: it is opened, its processor is settled, these are made, and it is shut
+-- the steps of a visit: it is opened, its CPU is settled, the inner steps are made, and it is shut
 abbrev pub visit_steps : Side → Run → Run
 visit_steps before inner =
     open_steps before.cpu.number ++ (settle_steps (visited before) ++ (inner ++ shut_steps before.cpu.number))
 
--- A command under the lock: what was noted before is forgotten, the caller's visit is opened, its part is settled, the
--- command is obeyed, and the visit is shut. No group is killed meanwhile before everything else was tried, nor by a
--- step that isn't the command's; and the misses noted are those among the steps
+-- A command under the lock. Earlier notes are forgotten, the caller's visit is opened, the caller is settled, the
+-- command is obeyed, and the visit is shut. The command kills a group only after it tried everything else, and only its
+-- own steps kill. The misses that are noted are those among its steps.
 pub record Serves (cmd : Cmd) (reply : Reply) (way : Course Holder) : Type 0 where
   pub settled : Side
   pub settles : Settles (begun (side_of way.before)) settled
@@ -71,34 +71,35 @@ pub record Serves (cmd : Cmd) (reply : Reply) (way : Course Holder) : Type 0 whe
   pub sizes : way.after.locked.sizes ≡ way.before.locked.sizes
   pub steps_are : way.steps ≡ visit_steps (side_of way.before) inner
 
--- a command was served under the lock, and this was its reply: these steps lead from the one holder to the other, and the
--- machine's counts rise by what they count
+-- a command was served under the lock with this reply: these steps lead from one holder to the other, and the machine's
+-- counts follow them
 pub record IsServed (table : KnownTable) (cmd : Cmd) (reply : Reply) (before after : Holder) : Type 0 where
   pub steps : Run
   pub serves : Serves cmd reply (course table before steps after)
   pub makes : Makes table (side_of before) steps (side_of after)
 
--- a command was served under the lock and came to this, of which the charges then tell the reply
+-- a command was carried out under the lock with this outcome; its reply is what the charges after it make of the
+-- outcome
 abbrev pub IsCarriedOut : KnownTable → Cmd → Outcome → (before after : Holder) → Type 0
 IsCarriedOut table cmd outcome before after =
     IsServed table cmd (reply_of after.locked.machine.ledger outcome) before after
 
--- an Alloc of order 0 was carried out for the group: so it is said for each path that is the group's
+-- an Alloc of order 0 was carried out for the group, whichever of its paths names it
 abbrev pub IsCarriedOutFor : KnownTable → (group : ℕ) → Outcome → (before after : Holder) → Type 0
 IsCarriedOutFor table group outcome before after =
     (path : Bor (List ℕ)) → number_at before.locked.machine.ledger.groups path.now ≡ Some group
     → IsCarriedOut table (Alloc path 0) outcome before after
 
--- What a visit leaves: where the processor's list had at most `high` frames, its list and its fresh frames together
--- have; no frame passes between it and the zone; and what the zone lends it then are the frames that its seat has
--- borrowed
+-- What a visit leaves. If the CPU's list had at most `high` frames, its list and its fresh frames together have at most
+-- `high`. No frame is in transit between the CPU and the zone. The frames lent to the CPU are those that its seat has
+-- borrowed.
 pub record EndsVisit (table : KnownTable) (before after : Holder) : Type 0 where
   pub at_most_high : ListAndFreshStayWithin before.locked.sizes before.cpu after.cpu
   pub still : NothingPasses table after.locked.machine.frame_seat after.cpu.frame_seat
   pub lent : LentIsBorrowed table after.locked.machine.frame_seat after.cpu.frame_seat
 
--- Through the lock: there was such a value behind it, the processor was served so in it, and this was left. Both were
--- sound; and what is lent to the processor then are the frames that its seat has borrowed
+-- What a visit through the lock says. Some sound value was behind the lock, the CPU was served with it, and a sound
+-- value was left. The frames lent to the CPU after it are those that its seat has borrowed.
 pub record IsVisited (table : KnownTable) (stock_table : Words) (Served : Holder → Holder → Type 0)
     (before after : KnownCpu) : Type 0 where
   pub found : KnownLocked

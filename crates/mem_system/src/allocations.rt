@@ -1,4 +1,4 @@
-//! Frames and blocks that are allocated for the group of a path.
+//! Allocating frames and blocks for the group of a path.
 
 ghost use Rattle.std.specs.Prelude.{◌≡◌, ℕ, IsTrue, Err};
 ghost use Rattle.group_tree.specs.Groups.{has_group};
@@ -19,7 +19,7 @@ use mem_machine::Machine;
 use zone_blocks::order::Order;
 use zone_sizes::config::Config;
 
-// What an allocation comes to.
+// The outcome of an allocation.
 pub(crate) fn outcome_of(answer: &Result<Frame, AllocFault>) -> Outcome
     ensures { result ≡ outcome_of answer.now }
 {

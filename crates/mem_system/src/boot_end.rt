@@ -17,16 +17,16 @@ use frame_word::FrameSeat;
 use mem_machine::Machine;
 use stock_word::StockSeat;
 
-/// What a boot consists of, given back since pins remain.
+/// The parts of a boot, returned unchanged because pins remain.
 pub struct Pinned<N: BootName> {
     pub locked: Locked<N>,
     pub tables: Tables<N>,
     pub cpus: Vec<Cpu<N>>,
-    /// The pins of all processors together, at least 1.
+    /// The pins of all CPUs together, at least 1.
     pub pins: u64,
 }
 
-// The pins of the processors, together.
+// The pins of the CPUs together.
 fn count_pins<N: BootName>(cpus: &[Cpu<N>]) -> u64
     requires { length cpus.now < 2 ^ 32 }
     ensures { result ≡ pins_of cpus.now }
@@ -38,7 +38,7 @@ fn count_pins<N: BootName>(cpus: &[Cpu<N>]) -> u64
     pins
 }
 
-// How often fresh frames went back to their processors' lists. The sum stays at 2^64 - 1.
+// How many fresh frames the CPUs put back on their own lists. The sum stays at 2^64 - 1.
 fn count_drops<N: BootName>(cpus: &[Cpu<N>]) -> u64
     ensures { result ≡ min (drops_of cpus.now) max_count }
 {
@@ -49,7 +49,7 @@ fn count_drops<N: BootName>(cpus: &[Cpu<N>]) -> u64
     drops
 }
 
-// The seats of the processors, which have nothing left, in two lists that have room for them.
+// The seats of CPUs that have nothing left, in two lists that have room for them.
 fn gather_seats<N: BootName>(
     mut cpus: Vec<Cpu<N>>,
     mut frame_seats: Vec<FrameSeat>,
@@ -70,7 +70,7 @@ fn gather_seats<N: BootName>(
     (frame_seats, stock_seats)
 }
 
-// Takes the machine apart and closes the tables, with all their seats.
+// Takes the machine apart and closes the tables with all their seats.
 fn close_tables<N: BootName>(
     machine: Machine<N>,
     tables: Tables<N>,
@@ -89,10 +89,9 @@ fn close_tables<N: BootName>(
     let _stock_words = stocks.close(stock_seat, stock_seats);
 }
 
-/// Ends a boot, from all that it consists of: as many processors' parts as it has processors, in any order. Where no
-/// pin remains, each processor is settled in a visit; then each processor's list is given back and its stock drained,
-/// in a visit; then the tables are closed, and the answer is what was counted. Where a pin remains, nothing is done,
-/// and all is given back.
+/// Ends a boot, from all its parts, with those of all its CPUs in any order. If no pin remains, it settles each CPU in
+/// a visit. Then, in another visit of each CPU, it returns the CPU's list to the zone and drains its stock. At last it
+/// closes the tables and returns what was counted. If a pin remains, it does nothing and returns all parts.
 pub fn end<N: BootName>(
     locked: Locked<N>,
     tables: Tables<N>,
@@ -106,7 +105,7 @@ pub fn end<N: BootName>(
     ensures tables { IfErr result (λ pinned. pinned.tables ≡ tables) }
     ensures cpus { IfErr result (λ pinned. pinned.cpus.items ≡ cpus.items) }
 {
-    let _few = tables.frames.cpus(); // For the clauses.
+    let _few = tables.frames.cpus(); // Called for its contract.
     let pins = count_pins(&cpus);
     if pins > 0 {
         return Err(Pinned {

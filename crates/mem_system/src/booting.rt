@@ -1,5 +1,5 @@
-//! The call that boots a zone. It has a file of its own, since a function and a type whose names differ only in case
-//! aren't let into one.
+//! The call that boots a zone. It has its own file, because a file can't have a function and a type whose names differ
+//! only in case.
 
 ghost use Rattle.std.specs.Prelude.{◌≡◌, ◌↔◌, IfOk};
 ghost use Rattle.mem_system.specs.Boots.{IsSizedAs};
@@ -12,8 +12,8 @@ use std::alloc::Global;
 use stock_word::StockWords;
 use zone_sizes::config::Config;
 
-/// Boots a zone of these sizes: makes its two tables, with all their seats. `BadConfig` is returned exactly if a size is
-/// out of its range, else `NoMemory` if memory runs out.
+/// Boots a zone of these sizes: makes its two tables, with all their seats. `BadConfig` is returned exactly if a size
+/// is out of its range, else `NoMemory` if memory runs out.
 pub fn boot(alloc: Global, sizes: Config) -> Result<Boot, BootFault>
     ensures sizes { IfOk result (λ boot. boot.sizes ≡ sizes) }
     ensures sized { IfOk result (λ boot. IsSizedAs sizes boot.frames boot.stocks) }

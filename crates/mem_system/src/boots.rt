@@ -1,5 +1,4 @@
-//! A boot: its two tables with all their seats, and the machine, tables and processors' parts that it is taken apart
-//! into.
+//! A boot: two tables with all their seats, and the machine, tables and CPUs' parts that it becomes.
 
 ghost use Rattle.std.specs.Prelude.{◌≡◌, length, All, IfOk};
 ghost use Rattle.frame_word.specs.Seats.{first_cpu_seats};
@@ -25,7 +24,7 @@ use zone_sizes::config::Config;
 pub enum BootFault {
     /// A size is out of its range.
     BadConfig,
-    /// Memory was wanting.
+    /// Memory ran out.
     NoMemory,
 }
 
@@ -37,7 +36,7 @@ impl From<AllocError> for BootFault {
     }
 }
 
-/// The two tables of a boot with all their seats, of which none was used yet.
+/// The two tables of a boot with all their seats, none of which was used yet.
 #[derive(Drop)]
 pub struct Boot {
     pub(crate) sizes: Config,
@@ -46,7 +45,7 @@ pub struct Boot {
     // The zone's seats at the two tables.
     pub(crate) frame_seat: FrameSeat,
     pub(crate) stock_seat: StockSeat,
-    // Those of the processors, in order.
+    // The CPUs' seats, in order.
     pub(crate) frame_seats: Vec<FrameSeat>,
     pub(crate) stock_seats: Vec<StockSeat>,
 }
@@ -63,9 +62,9 @@ impl Model for Boot {
 }
 
 impl Boot {
-    /// Makes what the boot consists of, under a name of its tables: what lies behind the lock, the tables, and a part
-    /// for each processor, in order. All room that later calls need is reserved here. `AllocError` comes where memory
-    /// is wanting; nothing stays then.
+    /// Makes the parts of the boot, under a name of its tables: what lies behind the lock, the tables, and a part for
+    /// each CPU, in order. This call reserves all memory that later calls need. It returns `AllocError` if memory runs
+    /// out; nothing is left then.
     pub fn into_parts<N: BootName>(
         self,
         alloc: Global,
@@ -94,9 +93,9 @@ impl Boot {
         Ok((locked, tables, cpus))
     }
 
-    /// Starts the boot under a name of its tables: the system, and a part for each processor, in order. `AllocError`
-    /// comes where memory is wanting; nothing stays then. A clause can't look through the lock: `Boot::into_parts` says
-    /// what lies behind it.
+    /// Starts the boot under a name of its tables: returns the system, and a part for each CPU, in order. It returns
+    /// `AllocError` if memory runs out; nothing is left then. A clause can't look through the lock: `Boot::into_parts`
+    /// says what lies behind it.
     pub fn start<N: BootName>(self, alloc: Global) -> Result<(System<N>, Vec<Cpu<N>>), AllocError>
         requires frames { self.frames ≡ N.frames }
         requires stocks { self.stocks ≡ N.stocks }
@@ -108,7 +107,7 @@ impl Boot {
     }
 }
 
-// What lies behind the lock at first: the machine, the sizes, and room for the processors' seats at the end.
+// What first lies behind the lock: the machine, the sizes, and room for the CPUs' seats at the end.
 fn lock_up<N: BootName>(
     alloc: Global,
     sizes: Config,
@@ -128,7 +127,7 @@ fn lock_up<N: BootName>(
     })
 }
 
-// A part for each processor, from its two seats.
+// A part for each CPU, from its two seats.
 fn make_cpus<N: BootName>(
     alloc: Global,
     cpus: u32,
@@ -156,7 +155,7 @@ fn make_cpus<N: BootName>(
     Ok(made)
 }
 
-// Takes parts of processors apart that did nothing: a part can't be dropped.
+// Takes apart parts of CPUs that have done nothing, because a part can't be dropped.
 fn take_apart<N: BootName>(mut cpus: Vec<Cpu<N>>)
     requires { All IsIdle cpus.items }
 {

@@ -1,4 +1,4 @@
-//! What a processor asks for under the lock, how it is obeyed, and what is answered.
+//! The commands that a CPU gives under the lock, how they are obeyed, and their replies.
 
 ghost use Rattle.mem_machine.specs.Machines.{KeepsVisit};
 ghost use Rattle.mem_machine.specs.Local.{side};
@@ -20,50 +20,50 @@ use group_tree::path::PathText;
 use mem_machine::Machine;
 use zone_sizes::config::Config;
 
-/// What a processor asks for. Paths and names of files may be any bytes.
+/// A command of a CPU. Paths and file names may be any bytes.
 #[derive(Clone, Copy, Debug, PartialEq, Eq)]
 pub enum Cmd<'a> {
     /// Makes the group of this path.
     Mkdir {
         path: &'a [u8],
     },
-    /// Takes out the group of this path, which has no group below it. Its stocks are drained and its clean units are
-    /// reclaimed first; where pages stay charged to it then, it is refused as busy.
+    /// Removes the group of this path, which has no child. Its stocks are drained and its clean units reclaimed first.
+    /// If pages are still charged to it then, the reply is `Busy`.
     Rmdir {
         path: &'a [u8],
     },
-    /// Writes a value to a file of the group of this path. If the group's usage is above its new memory.max, the stocks of
-    /// its subtree are drained, clean units of it are reclaimed, and then victims of it are killed, until the usage is at
-    /// most that or no victim is left. A write of memory.oom.group only changes what later kills do.
+    /// Writes a value to a file of the group of this path. If the group's usage is above its new memory.max, the stocks
+    /// of its subtree are drained and its clean units reclaimed. Then victims are killed until the usage is within the
+    /// limit or no victim is left. A write of memory.oom.group changes only what later kills do.
     Write {
         path: &'a [u8],
         file: &'a [u8],
         value: &'a [u8],
     },
-    /// Tells the text of a file of the group of this path.
+    /// Reads the text of a file of the group of this path.
     Read {
         path: &'a [u8],
         file: &'a [u8],
     },
-    /// Settles the processor, and nothing else.
+    /// Settles the CPU, and does nothing else.
     Settle,
-    /// Tells where the frame of this number is.
+    /// Reports the place of the frame of this number.
     Owner {
         frame: u32,
     },
-    /// Notes that the kept unit which this frame heads was used.
+    /// Notes that the kept unit that this frame heads was used.
     Touch {
         frame: u32,
     },
-    /// Notes that the pages of the kept unit which this frame heads are dirty.
+    /// Notes that the pages of the kept unit that this frame heads are dirty.
     Dirty {
         frame: u32,
     },
-    /// Notes that the pages of the kept unit which this frame heads aren't dirty.
+    /// Notes that the pages of the kept unit that this frame heads are clean.
     Clean {
         frame: u32,
     },
-    /// Releases the kept unit which this frame heads.
+    /// Releases the kept unit that this frame heads.
     Release {
         frame: u32,
     },
@@ -74,7 +74,7 @@ pub enum Cmd<'a> {
     },
 }
 
-/// What a processor is answered.
+/// The reply to a CPU's command.
 #[derive(Clone, Copy, Debug, PartialEq, Eq)]
 pub enum Reply {
     /// The group that was made.
@@ -87,21 +87,21 @@ pub enum Reply {
     Text(ArrayText),
     /// The frame is free.
     Free,
-    /// The frame is lent to this processor.
+    /// The frame is lent to this CPU.
     Lent(u32),
     /// The frame is charged to this group, which has this path.
     Charged { group: GroupId, path: PathText },
-    /// The unit is marked now, on the inactive list of its group.
+    /// The unit is now marked, on the inactive list of its group.
     Marked,
-    /// The unit stands at the newest end of the active list of its group now, unmarked.
+    /// The unit is now at the newest end of its group's active list, unmarked.
     Active,
-    /// So many references of processors are left on the unit: it stays charged, and isn't kept any more.
+    /// This many references of CPUs are left on the unit: it stays charged, and isn't kept any more.
     Left(u64),
-    /// The unit came back: its pages are off the charge of its group.
+    /// The unit was freed, and its pages were uncharged from its group.
     Returned,
-    /// A limit has no room: that of this group, which has this path.
+    /// The limit of this group, which has this path, has no room.
     OverLimit { group: GroupId, path: PathText },
-    /// It is refused, for this reason.
+    /// The command is refused for this reason.
     Refused(Fault),
 }
 

@@ -1,4 +1,4 @@
-//! The files of the groups: read and written.
+//! Reading and writing the files of groups.
 
 ghost use Rattle.std.specs.Prelude.{◌≢◌, ℕ, IsTrue, IfOk, IfErr, List};
 ghost use Rattle.group_tree.specs.Groups.{has_group};
@@ -46,7 +46,7 @@ pub(crate) fn read_file(charges: &Charges, path: &[u8], name: &[u8]) -> Outcome
     }
 }
 
-// Gives the group the limit, and brings its usage down to it, as far as that can be, where it is above it.
+// Gives the group the limit. If its usage is above, lowers it to the limit as far as possible.
 fn set_limit<N: BootName>(
     machine: &mut Machine<N>,
     tables: &Tables<N>,
@@ -64,7 +64,7 @@ fn set_limit<N: BootName>(
     }
 }
 
-// Gives the group the limit that the value writes, and keeps its usage to it. The value is refused if it writes no limit.
+// Gives the group the limit that the value writes, and keeps its usage to it. The value is refused if it is no limit.
 fn write_limit<N: BootName>(
     machine: &mut Machine<N>,
     tables: &Tables<N>,
@@ -86,7 +86,7 @@ fn write_limit<N: BootName>(
     }
 }
 
-// Says that the group is to be killed as a whole, or not, as the value says. The value is refused if it writes no flag.
+// Sets whether the group is killed as a whole, as the value says. The value is refused if it is no flag.
 fn write_flag<N: BootName>(machine: &mut Machine<N>, group: GroupId, value: &[u8]) -> Outcome
     requires there { IsTrue (has_group machine.old.ledger.groups group) }
     requires below_root { group ≢ 0 }
@@ -103,7 +103,7 @@ fn write_flag<N: BootName>(machine: &mut Machine<N>, group: GroupId, value: &[u8
     }
 }
 
-// Reclaims so many pages from the group's subtree. It is refused if fewer were freed: these stay freed.
+// Reclaims this many pages from the group's subtree. The write is refused if fewer were freed; these stay freed.
 fn reclaim_amount<N: BootName>(
     machine: &mut Machine<N>,
     tables: &Tables<N>,
@@ -123,7 +123,7 @@ fn reclaim_amount<N: BootName>(
     }
 }
 
-// Reclaims the amount that the value writes. The value is refused if it writes none.
+// Reclaims the amount that the value writes. The value is refused if it is no amount.
 fn write_reclaim<N: BootName>(
     machine: &mut Machine<N>,
     tables: &Tables<N>,

@@ -1,17 +1,16 @@
-//! What a caller does around its lines and inside its visits, as a test that holds a processor there.
+//! What a caller does around its lines and inside its visits; a test can hold a CPU there.
 
-/// What is called around each line of a processor, and once in each of its visits. It changes nothing of the system.
+/// Called around each line of a CPU, and once in each of its visits. It changes nothing of the system.
 pub trait Gate {
-    /// Before the processor comes to the line of this number. No visit calls it, since none knows of lines: whoever
-    /// serves a processor line by line does, right before each.
+    /// Before the CPU's line of this number. Visits don't call it, because they know no lines: the caller that serves a
+    /// CPU line by line does, right before each.
     fn before(&self, cpu: u32, line: usize);
 
-    /// Inside a visit of the processor: the lock is held, and the command isn't served yet. `System::visit_with`
-    /// calls it.
+    /// Inside a visit of the CPU, while the lock is held and before the command is served. `System::visit_with` calls
+    /// it.
     fn inside(&self, cpu: u32);
 
-    /// After the line of this number was answered to the processor. As with `before`, whoever serves the lines calls
-    /// it.
+    /// After the CPU's line of this number was answered. As with `before`, the caller that serves the lines calls it.
     fn after(&self, cpu: u32, line: usize);
 }
 

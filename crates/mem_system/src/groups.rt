@@ -1,4 +1,4 @@
-//! Groups made and taken out.
+//! Making and removing groups.
 
 ghost use Rattle.std.specs.Prelude.{◌≡◌, ◌<◌, [], MatchResult};
 ghost use Rattle.mem_machine.specs.Machines.{KeepsVisit, Visits};
@@ -28,7 +28,7 @@ pub(crate) fn make_group<N: BootName>(machine: &mut Machine<N>, path: &[u8]) -> 
     }
 }
 
-// The group of the path, which isn't the root and has no group below it.
+// The group of the path, if it isn't the root and has no child.
 fn find_leaf(charges: &Charges, path: &[u8]) -> Result<GroupId, Fault>
     ensures { MatchResult result (IsLeafAt charges.now.groups path.now) (HasNoLeaf charges.now.groups path.now) }
 {
@@ -45,8 +45,8 @@ fn find_leaf(charges: &Charges, path: &[u8]) -> Result<GroupId, Fault>
     Ok(group)
 }
 
-// Empties the group of the path, as far as that can be, and takes it out where nothing is charged to it then. It has no
-// group below it, so all of its usage is its own.
+// Lowers the usage of the group of the path as far as possible, and removes the group if nothing is charged to it then.
+// The group has no child, so all of its usage is its own.
 pub(crate) fn remove_group<N: BootName>(
     machine: &mut Machine<N>,
     tables: &Tables<N>,

@@ -1,4 +1,4 @@
-//! The visits of the processors at the end: each is settled, and then each list is given back and each stock drained.
+//! The last visits of the CPUs: each CPU is settled, and then each CPU's list is returned and its stock drained.
 
 ghost use Rattle.std.specs.Prelude.{◌≡◌, [], All};
 ghost use Rattle.mem_system.specs.Locked.{AllShut};
@@ -10,7 +10,7 @@ ghost use Rattle.mem_machine.specs.Local.{side};
 use cpu_part::{BootName, Cpu, Tables};
 use mem_machine::Machine;
 
-// Settles the processor in a visit.
+// Settles the CPU in a visit.
 fn settle_cpu<N: BootName>(machine: &mut Machine<N>, tables: &Tables<N>, cpu: &mut Cpu<N>)
     requires shut { AllShut machine.old }
     requires no_pin { cpu.old.pins ≡ [] }
@@ -23,7 +23,7 @@ fn settle_cpu<N: BootName>(machine: &mut Machine<N>, tables: &Tables<N>, cpu: &m
     machine.shut(tables, cpu);
 }
 
-// Gives the list of the processor, which is settled, back to the zone and drains its stock, in a visit.
+// Returns the list of the settled CPU to the zone and drains its stock, in a visit.
 fn empty_cpu<N: BootName>(machine: &mut Machine<N>, tables: &Tables<N>, cpu: &mut Cpu<N>)
     requires shut { AllShut machine.old }
     requires settled { IsSettledUnpinned cpu.old }
@@ -40,7 +40,7 @@ fn empty_cpu<N: BootName>(machine: &mut Machine<N>, tables: &Tables<N>, cpu: &mu
     machine.see_none_lent(cpu);
 }
 
-// Settles the processors, one after the other.
+// Settles the CPUs, one after the other.
 pub(crate) fn settle_all<N: BootName>(
     machine: &mut Machine<N>,
     tables: &Tables<N>,
@@ -57,7 +57,7 @@ pub(crate) fn settle_all<N: BootName>(
     }
 }
 
-// Gives the lists of the processors, which are settled, back to the zone and drains their stocks, one after the other.
+// Returns the lists of the settled CPUs to the zone and drains their stocks, one CPU after the other.
 pub(crate) fn empty_all<N: BootName>(
     machine: &mut Machine<N>,
     tables: &Tables<N>,

@@ -1,8 +1,8 @@
-//! Laws of commands: what each function ensures holds of every command that was served as the definitions say.
+//! Laws of commands: what each function ensures holds of every command served as the definitions say.
 
 ghost use Rattle.mem_system.specs.Laws.{CommandsKillLast};
 
-/// A command kills nobody before it tried all else.
+/// A command kills nobody before it tried everything else.
 pub fn commands_kill_last()
     ensures { CommandsKillLast }
 {}

@@ -1,9 +1,9 @@
-//! The system: a boot's tables, the machine behind the zone's lock and a part for each processor, and the commands
-//! that a processor makes under that lock. Each is served in a visit, as a list of steps of the core, and whoever takes
-//! the lock finds no visit open.
+//! The system: a boot's tables, the machine behind the zone's lock, a part for each CPU, and the commands that a CPU
+//! gives under that lock. Each command is served in a visit, as a list of steps of the rules, and no visit is open
+//! while the lock is free.
 //!
-//! A line that ends in 'For the clauses' calls a reader for what its contract tells, and changes nothing: what always
-//! holds of a type's values is known only where one of its calls says it.
+//! A line that ends in 'Called for its contract' calls a reader and changes nothing. A proof knows the invariant of a
+//! type only from the contract of such a call.
 #![tactic(auto)]
 
 mod allocations;

@@ -15,7 +15,7 @@ use std::marker::Model;
 use stock_word::StockSeat;
 use zone_sizes::config::Config;
 
-/// What lies behind the zone's lock: the machine, the sizes of the boot, and room for the processors' seats at the end.
+/// What lies behind the zone's lock: the machine, the sizes of the boot, and room for the CPUs' seats at the end.
 #[derive(Drop)]
 pub struct Locked<N: BootName> {
     pub(crate) machine: Machine<N>,
@@ -37,15 +37,15 @@ impl<N: BootName> Model for Locked<N> {
 }
 
 impl<N: BootName> Locked<N> {
-    /// Shows what always holds behind the lock: no visit is open, the sizes are in their ranges and are those of the
-    /// tables, the machine is consistent, and the groups are those of a tree. It does nothing.
+    /// Shows what always holds behind the lock. No visit is open, the sizes are in their ranges and are those of the
+    /// tables, the machine is consistent, and the groups make up a tree. It does nothing.
     pub fn see_quiet(&self)
         ensures quiet { IsQuiet N.frames N.stocks self.now }
         ensures consistent { IsConsistent N.frames N.stocks self.now.machine }
         ensures charges { AreCharges self.now.machine.ledger }
     {
-        let _spots = self.machine.spots(); // For the clauses.
-        let _tree = self.machine.charges().tree(); // For the clauses.
+        let _spots = self.machine.spots(); // Called for its contract.
+        let _tree = self.machine.charges().tree(); // Called for its contract.
     }
 
     /// The machine, which is consistent.
@@ -53,11 +53,11 @@ impl<N: BootName> Locked<N> {
         ensures machine { result.now ≡ self.now.machine }
         ensures consistent { IsConsistent N.frames N.stocks self.now.machine }
     {
-        let _spots = self.machine.spots(); // For the clauses.
+        let _spots = self.machine.spots(); // Called for its contract.
         &self.machine
     }
 
-    /// The group of this path; None where no group has it.
+    /// The group of this path; None if no group has it.
     pub fn find(&self, path: &[u8]) -> Option<GroupId>
         ensures found { result ≡ number_at self.now.machine.ledger.groups path.now }
     {

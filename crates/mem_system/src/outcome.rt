@@ -1,4 +1,4 @@
-//! What a command came to, and how it is told.
+//! The outcome of a command, and its reply.
 
 ghost use Rattle.std.specs.Prelude.{◌≡◌};
 ghost use Rattle.mem_system.specs.Outcomes.{HasItsGroups, reply_of};
@@ -9,8 +9,8 @@ use group_charge::charges::Charges;
 use group_tree::fault::Fault;
 use group_tree::group::GroupId;
 
-/// What a command came to: a `Reply` without its texts, which the charges tell while the lock is held. It is small,
-/// so whoever writes a reply at once needs no room for a path.
+/// The outcome of a command: a `Reply` without texts, which the charges give while the lock is held. It is small, so a
+/// caller that writes the reply at once needs no room for a path.
 #[derive(Clone, Copy, Debug, PartialEq, Eq)]
 pub enum Outcome {
     /// The group that was made.
@@ -23,26 +23,26 @@ pub enum Outcome {
     Text(GroupId, File),
     /// The frame is free.
     Free,
-    /// The frame is lent to this processor.
+    /// The frame is lent to this CPU.
     Lent(u32),
     /// The frame is charged to this group.
     Charged(GroupId),
-    /// The unit is marked now, on the inactive list of its group.
+    /// The unit is now marked, on the inactive list of its group.
     Marked,
-    /// The unit stands at the newest end of the active list of its group now, unmarked.
+    /// The unit is now at the newest end of its group's active list, unmarked.
     Active,
-    /// So many references of processors are left on the unit: it stays charged, and isn't kept any more.
+    /// This many references of CPUs are left on the unit: it stays charged, and isn't kept any more.
     Left(u64),
-    /// The unit came back: its pages are off the charge of its group.
+    /// The unit was freed, and its pages were uncharged from its group.
     Returned,
-    /// A limit has no room: that of this group.
+    /// The limit of this group has no room.
     OverLimit(GroupId),
-    /// It is refused, for this reason.
+    /// The command is refused for this reason.
     Refused(Fault),
 }
 
-// Turns the outcome into its reply. It is written in its place, since a reply has room for a path, and to hand it on by
-// value clears and copies that room.
+// Turns the outcome into its reply. It is inlined, because a reply has room for a path: returning one by value clears
+// and copies that room.
 #[inline(always)]
 pub(crate) fn tell(charges: &Charges, outcome: Outcome, reply: &mut Reply)
     requires { HasItsGroups charges.now outcome }

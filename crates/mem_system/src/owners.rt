@@ -8,7 +8,7 @@ use crate::outcome::Outcome;
 use cpu_part::{BootName, Tables};
 use mem_machine::{Machine, Place};
 
-// With whom the frame is: free, lent to a processor, or charged to a group.
+// The place of the frame: free, lent to a CPU, or charged to a group.
 pub(crate) fn tell_place<N: BootName>(
     machine: &Machine<N>,
     tables: &Tables<N>,
@@ -23,7 +23,7 @@ pub(crate) fn tell_place<N: BootName>(
         Place::Free => Outcome::Free,
         Place::Lent(cpu) => Outcome::Lent(cpu),
         Place::Charged(group) => {
-            let _groups = machine.charges().tree(); // For the clauses.
+            let _groups = machine.charges().tree(); // Called for its contract.
             Outcome::Charged(group)
         }
     }

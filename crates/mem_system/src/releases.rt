@@ -1,4 +1,4 @@
-//! Kept units that are released.
+//! Releasing kept units.
 
 ghost use Rattle.std.specs.Prelude.{◌≡◌, ◌↔◌, ◌<◌, ◌≤◌, IsTrue, [], length};
 ghost use Rattle.zone_sizes.specs.Config.{IsValidConfig};
@@ -30,7 +30,7 @@ fn is_single<N: BootName>(machine: &Machine<N>, frame: Frame) -> bool
     }
 }
 
-// Gives `batch` frames from the front of the processor's list back to the zone where the list stands at `high`.
+// If the CPU's list has at least `high` frames, returns `batch` frames from its front to the zone.
 fn cut_list<N: BootName>(
     machine: &mut Machine<N>,
     tables: &Tables<N>,
@@ -49,7 +49,7 @@ fn cut_list<N: BootName>(
     }
 }
 
-// Puts a free frame at the end of the processor's list, which is cut before where it stands at `high`.
+// Adds a free frame to the end of the CPU's list, which is cut first if it has at least `high` frames.
 fn list_frame<N: BootName>(
     machine: &mut Machine<N>,
     tables: &Tables<N>,
@@ -71,7 +71,7 @@ fn list_frame<N: BootName>(
     machine.lend(tables, cpu, frame);
 }
 
-// Releases the unit that the frame heads. A single frame that comes back goes to the processor's list.
+// Releases the unit that the frame heads. A single frame that is freed goes to the CPU's list.
 pub(crate) fn release_frame<N: BootName>(
     machine: &mut Machine<N>,
     tables: &Tables<N>,

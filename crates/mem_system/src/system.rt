@@ -1,4 +1,4 @@
-//! The system: the zone's lock, with what lies behind it, and the tables that all processors share.
+//! The system: the zone's lock, what lies behind it, and the tables that all CPUs share.
 
 ghost use Rattle.std.specs.Prelude.{◌≡◌};
 ghost use Rattle.group_tree.specs.Groups.{number_at};
@@ -17,7 +17,7 @@ use group_tree::group::GroupId;
 use std::marker::Model;
 use std::sync::{Mutex, Wait};
 
-/// A boot that has started: the machine behind the zone's lock, and its tables. Processors share it by `&`.
+/// A boot that has started: the machine behind the zone's lock, and its tables. CPUs share it by `&`.
 #[derive(Drop)]
 pub struct System<N: BootName> {
     pub(crate) locked: Mutex<Locked<N>>,
@@ -33,8 +33,8 @@ impl<N: BootName> Model for System<N> {
 }
 
 impl<N: BootName> System<N> {
-    /// The system of what lies behind the lock and of these tables: processors share it from now on. What it says of
-    /// the tables is all that a clause can say: none looks through the lock.
+    /// The system with this behind its lock and with these tables; from now on CPUs share it. Clauses speak only of its
+    /// tables, because none can look through the lock.
     pub fn of(locked: Locked<N>, tables: Tables<N>) -> System<N>
         ensures frames { result.frames ≡ tables.frames }
         ensures stocks { result.stocks ≡ tables.stocks }
@@ -43,8 +43,8 @@ impl<N: BootName> System<N> {
         System { locked, tables }
     }
 
-    /// Takes the system apart again, once nobody shares it: what lies behind the lock, which is as the last visit left
-    /// it, and its tables. Of what lies behind the lock the clauses say what always holds there.
+    /// Takes the system apart after all sharing ended: returns what lies behind the lock, as the last visit left it,
+    /// and its tables. Clauses say only what always holds behind the lock.
     pub fn into_parts(self) -> (Locked<N>, Tables<N>)
         ensures quiet { IsQuiet N.frames N.stocks result.0 }
         ensures consistent { IsConsistent N.frames N.stocks result.0.machine }
@@ -58,7 +58,7 @@ impl<N: BootName> System<N> {
         (locked, tables)
     }
 
-    /// The tables, for the calls that take no lock: those that N names.
+    /// The tables that N names, for the calls that take no lock.
     pub fn tables(&self) -> &Tables<N>
         ensures frames { result.now.frames ≡ N.frames }
         ensures stocks { result.now.stocks ≡ N.stocks }
@@ -66,7 +66,7 @@ impl<N: BootName> System<N> {
         &self.tables
     }
 
-    /// The group of this path; None if no group has it. It takes the lock, and settles nothing. As with `visit`, the
+    /// The group of this path; None if no group has it. It takes the lock and settles nothing. As with `visit`, the
     /// clause says that there was such a value behind the lock.
     pub fn find<R: Wait>(&self, rt: &R, path: &[u8]) -> Option<GroupId>
         ensures { BehindLock N.frames N.stocks (λ found. result ≡ number_at found.machine.ledger.groups path.now) }
@@ -77,11 +77,11 @@ impl<N: BootName> System<N> {
         locked.find(path)
     }
 
-    /// Serves one command of the processor: takes the lock, serves, and gives the lock back. A frame that the command
-    /// names is one of the zone's. No clause can name what lies behind the lock, so it is said that there was such a
-    /// value: it and what was left were sound, it was served as `serve` says, and what is lent to the processor then
-    /// are the frames that its seat has borrowed. It doesn't call `serve`, but the form of it that writes the reply in
-    /// place: to hand a reply on by value copies its room for a path.
+    /// Serves one command of the CPU: takes the lock, serves the command, and releases the lock. A frame that the
+    /// command names is a frame of the zone. No clause can name what lies behind the lock. So the contract says that
+    /// some sound value was there, that `serve` did its work on it, and that a sound value was left. The frames lent to
+    /// the CPU afterwards are those that its seat has borrowed. The code calls the form of `serve` that writes the
+    /// reply in place, because returning a reply by value copies its room for a path.
     #[inline(always)]
     pub fn visit<R: Wait>(&self, rt: &R, cpu: &mut Cpu<N>, cmd: &Cmd<'_>) -> Reply
         requires { IsOfZone N.frames cmd.now }
@@ -91,8 +91,8 @@ impl<N: BootName> System<N> {
         self.visit_with(rt, cpu, cmd, &NoGate)
     }
 
-    /// Serves one command of the processor as `visit` does, and calls the gate's `inside` once, while it holds the
-    /// lock and before the command is served.
+    /// Serves one command of the CPU as `visit` does. It calls the gate's `inside` once, while it holds the lock and
+    /// before the command is served.
     #[inline(always)]
     pub fn visit_with<R: Wait, G: Gate>(
         &self,
@@ -110,9 +110,9 @@ impl<N: BootName> System<N> {
         reply
     }
 
-    /// Serves one command of the processor as `visit_with` does, and writes its reply into this one, whatever that was.
-    /// A reply has room for a path, so a function that hands one on by value clears and copies that room each time:
-    /// whoever makes many visits keeps one reply for all.
+    /// Serves one command of the CPU as `visit_with` does, and overwrites this reply. A reply has room for a path, so
+    /// returning one by value clears and copies that room each time. A caller that makes many visits keeps one reply
+    /// for all.
     #[inline(always)]
     pub fn visit_into<R: Wait, G: Gate>(
         &self,

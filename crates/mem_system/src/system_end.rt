@@ -1,4 +1,4 @@
-//! A system that is shut down.
+//! Shutting a system down.
 
 ghost use Rattle.std.specs.Prelude.{◌≡◌, ◌≤◌, length, IfOk, IfErr};
 ghost use Rattle.mem_system.specs.Locked.{BehindLock};
@@ -10,18 +10,18 @@ use crate::system::System;
 use cpu_part::{BootName, Cpu};
 use std::sync::Mutex;
 
-/// A system that isn't shut down, since pins remain: it and the processors' parts are as they were.
+/// A system that isn't shut down because pins remain. It and the CPUs' parts are unchanged.
 pub struct Held<N: BootName> {
     pub system: System<N>,
     pub cpus: Vec<Cpu<N>>,
-    /// The pins of all processors together, at least 1.
+    /// The pins of all CPUs together, at least 1.
     pub pins: u64,
 }
 
 impl<N: BootName> System<N> {
-    /// Shuts the system down, with all its processors' parts in any order, as `end` does. `Held` comes exactly where
-    /// a pin remains. No clause can name what lies behind the lock, so it is said that there was such a value, which
-    /// was sound and ended so.
+    /// Shuts the system down as `end` does, with the parts of all its CPUs in any order. It returns `Held` exactly if a
+    /// pin remains. No clause can name what lies behind the lock, so the contract says that some sound value was there
+    /// and ended so.
     pub fn shutdown(self, cpus: Vec<Cpu<N>>) -> Result<Audit, Held<N>>
         requires { length cpus.items ≡ N.frames.cpus }
         ensures ends { IfOk result (λ audit.
@@ -44,7 +44,7 @@ impl<N: BootName> System<N> {
 }
 
 impl<N: BootName> Held<N> {
-    // The system that goes on, with its lock again.
+    // The system that goes on, behind a lock again.
     fn of(pinned: Pinned<N>) -> Held<N>
         ensures cpus { result.cpus.items ≡ pinned.cpus.items }
         ensures pins { result.pins ≡ pinned.pins }

@@ -1,4 +1,4 @@
-//! The texts that a processor is told of the machine once it is settled.
+//! The texts of the machine that a settled CPU gets.
 
 ghost use Rattle.std.specs.Prelude.{◌≡◌, ◌++◌, IfOk};
 ghost use Rattle.std.specs.String.{string_bytes};
@@ -16,8 +16,8 @@ use machine_texts::{write_blocks, write_show};
 use std::alloc::{AllocError, Global};
 use std::sync::Wait;
 
-/// Serves `Settle`, and then writes a line for each longest run of frames with equal place, and one for each group but
-/// the root with its usage in bytes. `AllocError` is returned if memory runs out: the settling stands then, and
+/// Serves `Settle`, and then writes a line for each longest run of frames with equal place, and a line for each group
+/// except the root with its usage in bytes. `AllocError` is returned if memory runs out: the CPU stays settled, and
 /// nothing else changed.
 pub fn show<N: BootName>(
     alloc: Global,
@@ -36,8 +36,8 @@ pub fn show<N: BootName>(
     Ok(text.into_bytes())
 }
 
-/// Serves `Settle`, and then writes a line with each free block, its order and its first frame; `none` if there is
-/// none. `AllocError` is returned if memory runs out: the settling stands then, and nothing else changed.
+/// Serves `Settle`, and then writes a line for each free block, with its order and its first frame, or `none`.
+/// `AllocError` is returned if memory runs out: the CPU stays settled, and nothing else changed.
 pub fn blocks<N: BootName>(
     alloc: Global,
     locked: &mut Locked<N>,
@@ -56,8 +56,8 @@ pub fn blocks<N: BootName>(
 }
 
 impl<N: BootName> System<N> {
-    /// What `show` returns, under the lock. No clause can name what lies behind the lock, so it is said that there was
-    /// such a value, that the processor was settled in it, and that the text is that of what it left.
+    /// What `show` returns, under the lock. No clause can name what lies behind the lock. So the contract says that
+    /// some value was there, that the CPU was settled in it, and that the text is that of what was left.
     pub fn show<R: Wait>(
         &self,
         rt: &R,

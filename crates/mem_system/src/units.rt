@@ -1,4 +1,4 @@
-//! Kept units: touched, and noted as dirty or clean.
+//! Touching kept units, and noting them as dirty or clean.
 
 ghost use Rattle.std.specs.Prelude.{◌≡◌, ◌<◌, None, IfSome, IfNone};
 ghost use Rattle.mem_machine.specs.Machines.{home_of};
@@ -12,7 +12,7 @@ use group_tree::fault::Fault;
 use lru_lists::lru::Touched;
 use mem_machine::Machine;
 
-// The frame of this number; None exactly where it heads no kept unit.
+// The frame of this number; None exactly if it heads no kept unit.
 pub(crate) fn find_unit<N: BootName>(
     machine: &Machine<N>,
     tables: &Tables<N>,
@@ -29,7 +29,7 @@ pub(crate) fn find_unit<N: BootName>(
     Some(frame)
 }
 
-// Notes that the unit which the frame heads was used.
+// Notes that the unit that the frame heads was used.
 pub(crate) fn touch_frame<N: BootName>(
     machine: &mut Machine<N>,
     tables: &Tables<N>,
@@ -49,7 +49,7 @@ pub(crate) fn touch_frame<N: BootName>(
     }
 }
 
-// Notes whether the pages of the unit which the frame heads are dirty.
+// Notes whether the pages of the unit that the frame heads are dirty.
 pub(crate) fn note_dirt<N: BootName>(
     machine: &mut Machine<N>,
     tables: &Tables<N>,

@@ -1,4 +1,4 @@
-//! A group's usage brought down to a limit.
+//! Lowering a group's usage to a limit.
 
 ghost use Rattle.std.specs.Prelude.{IsTrue};
 ghost use Rattle.group_tree.specs.Groups.{has_group};
@@ -11,8 +11,8 @@ use mem_alloc::{kill_for, note_limit};
 use mem_machine::Machine;
 use mem_reclaim::make_rounds;
 
-// Brings the group's usage down to so many pages, as far as that can be: drains the stocks of its subtree, and reclaims
-// from it in rounds.
+// Lowers the group's usage to this many pages, as far as possible: drains the stocks of its subtree, and reclaims from
+// it in rounds.
 pub(crate) fn lower_usage<N: BootName>(
     machine: &mut Machine<N>,
     tables: &Tables<N>,
@@ -26,8 +26,8 @@ pub(crate) fn lower_usage<N: BootName>(
     make_rounds(machine, tables, group, 0, limit);
 }
 
-// Brings the group's usage down to its limit, which is so many pages, where it is above it, which is noted: as
-// `lower_usage` does, and where that isn't enough, by kills, until it is at most the limit or no victim is left.
+// If the group's usage is above its limit, notes that and lowers the usage as `lower_usage` does. If that isn't enough,
+// kills until the usage is within the limit or no victim is left.
 pub(crate) fn lower_above<N: BootName>(
     machine: &mut Machine<N>,
     tables: &Tables<N>,

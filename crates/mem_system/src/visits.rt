@@ -1,4 +1,4 @@
-//! Commands, served under the lock.
+//! Serving commands under the lock.
 
 ghost use Rattle.std.specs.Prelude.{◌≡◌, [], IsTrue};
 ghost use Rattle.group_tree.specs.Groups.{has_group};
@@ -16,10 +16,11 @@ use cpu_part::{BootName, Cpu, Tables};
 use group_tree::group::GroupId;
 use mem_alloc::alloc_frame;
 
-/// Serves one command of the processor, which holds the lock: what was noted before is forgotten, its visit is opened,
-/// its fresh and back frames are settled, the command is obeyed, and the visit is shut. What is noted then are the
-/// limits without room that it met, what was tried there, and who was killed. A frame that the command names is one of
-/// the zone's. Its answer is told without texts: `reply_of` the charges as they are then is the reply of `serve`.
+/// Serves one command of the CPU, which holds the lock. Earlier notes are forgotten, the CPU's visit is opened, its
+/// fresh and back frames are settled, the command is obeyed, and the visit is shut. The notes are now of the limits
+/// without room that the command met, of what was tried there, and of who was killed. A frame that the command names is
+/// a frame of the zone. The result is an outcome without texts; `reply_of` makes it the reply of `serve`, by the
+/// charges as they are then.
 #[inline(always)]
 pub fn carry_out<N: BootName>(
     locked: &mut Locked<N>,
@@ -41,7 +42,7 @@ pub fn carry_out<N: BootName>(
     outcome
 }
 
-// Serves one command of the processor as `serve` does, and writes its reply into this one, whatever that was.
+// Serves one command of the CPU as `serve` does, and overwrites this reply.
 #[inline(always)]
 pub(crate) fn serve_into<N: BootName>(
     locked: &mut Locked<N>,
@@ -59,8 +60,8 @@ pub(crate) fn serve_into<N: BootName>(
     tell(locked.charges(), outcome, reply);
 }
 
-/// Serves one command of the processor, which holds the lock, as `carry_out` does, and gives its reply with its
-/// texts. A frame that the command names is one of the zone's.
+/// Serves one command of the CPU, which holds the lock, as `carry_out` does, and returns its reply with texts. A frame
+/// that the command names is a frame of the zone.
 #[inline(always)]
 pub fn serve<N: BootName>(
     locked: &mut Locked<N>,
@@ -78,8 +79,8 @@ pub fn serve<N: BootName>(
     reply
 }
 
-/// Serves an Alloc of order 0 for a group that is there, as `carry_out` does for each path of that group: no path is
-/// sought.
+/// Serves an Alloc of order 0 for an existing group, as `carry_out` does for each path of that group, but looks up no
+/// path.
 #[inline(always)]
 pub fn carry_out_frame<N: BootName>(
     locked: &mut Locked<N>,
@@ -104,7 +105,7 @@ pub fn carry_out_frame<N: BootName>(
     outcome_of(&answer)
 }
 
-/// Serves `Settle`: the processor is settled, and nothing else.
+/// Serves `Settle`: settles the CPU, and does nothing else.
 pub fn settle<N: BootName>(locked: &mut Locked<N>, tables: &Tables<N>, cpu: &mut Cpu<N>)
     ensures served { SettlesCaller N.frames (holder locked.old cpu.old) (holder locked.new cpu.new) }
     ensures settled { IsSettled cpu.new }

@@ -73,7 +73,7 @@ drained_group stock_is.NoGroup = refl
 drained_group (stock_is.HeldBy g n) = refl
 drained_group (stock_is.DrainedOf g) = refl
 
--- a part that changed so that its processor sees the same
+-- a part that changed so that its CPU sees the same
 pub record IsUnseen (t : KnownTable) (m : KnownMachine) (c d : KnownCpu) : Type 0 where
   pub number : d.number ≡ c.number
   pub same : local_of t m d ≡ local_of t m c
@@ -138,7 +138,7 @@ module _ (t : KnownTable) (w : Words) (run : Run) (locked : KnownLocked) (cpus :
   abbrev before : Holder
   before = holder locked c
 
-  -- the whole after these steps, which leave this holder, and what its ledger tells
+  -- these steps lead the whole to this holder, and its ledger has their peaks and event counts
   abbrev Follows : Run → Holder → Type 0
   Follows steps after = ShowsAll t (run ++ steps) after.locked.machine (slice_set cpus k after.cpu)
       × (TellsRun t run m.ledger → TellsRun t (run ++ steps) after.locked.machine.ledger)

@@ -20,7 +20,7 @@ module _ (on : Terms) (l : KnownLocked) (c seen : KnownCpu) (after : Holder) whe
   allocated path none steps said true is = absurd is
   allocated path none steps said false is = absurd is
 
-  -- where there is no frame for the group, the command is served
+  -- if there is no frame for the group, the command is served
   pub served_after : (path : Bor (List ℕ)) → GetsNoneFast path.now (holder l c) seen → (text : List ℕ)
       → ServesWork on (Visit (cmd.Alloc path 0)) (holder l seen) after text → ServesWork on (Frame path) (holder l c) after text
   served_after path none text is = let writes = is.writes in record {
@@ -41,7 +41,7 @@ module _ (on : Terms) (l : KnownLocked) (c seen : KnownCpu) (after : Holder) whe
   released f can_not steps said true is = absurd is
   released f can_not steps said false is = absurd is
 
-  -- where the frame can't be listed again, the command is served
+  -- if the frame can't be listed again, the command is served
   pub released_after : (f : ℕ) → CanNotList f c seen → (text : List ℕ)
       → ServesWork on (Visit (cmd.Release f)) (holder l seen) after text → ServesWork on (Release f) (holder l c) after text
   released_after f can_not text is = let writes = is.writes in record {

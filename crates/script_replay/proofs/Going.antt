@@ -1,4 +1,4 @@
--- The lines that were served so far, and the history that they tell. Serves `serve_line`, `replay`.
+-- The lines that were served so far, and their history. Serves `serve_line`, `replay`.
 use Rattle.std.proofs.Common.{Result, ◌≡◌, ℕ, ◌+◌, ◌-◌, ◌<◌, ◌≤◌, Some, None, List, [], ◌∷◌, ◌++◌, length, take, get_or, append-nil, ap, refl, sym, ◌∙◌, subst, arith, inl, inr}
 use Rattle.std.specs.Prelude.{IfSome, Option, slice_set}
 use Rattle.std.specs.List.{slice_get}
@@ -104,12 +104,13 @@ all_served on (line ∷ lines) s e text all = record {
   text_is = all.text_is;
 }
 
--- ---- what they tell
+-- ---- their history
 
 some_cpu : (t : KnownTable) (w : Words) (locked : KnownLocked) → IsQuiet t w locked → 1 ≤ t.cpus
 some_cpu t w locked quiet = let sized = quiet.sized.cpus in let low = quiet.valid.cpus_low in omega arith
 
--- a run shows what stands, and its ledger tells it where the one before told the run before
+-- a run shows the state; if the ledger before had the peaks and event counts of the run before, the ledger now has
+-- those of this run
 abbrev Follows : KnownTable → Run → Standing → Run → Standing → Type 0
 Follows t earlier s run e = ShowsAll t run e.locked.machine e.cpus × (TellsRun t earlier s.locked.machine.ledger → TellsRun t run e.locked.machine.ledger)
 
@@ -162,7 +163,7 @@ all_replayed on lines s e text all = record {
   history = λ run shows tied. keeps_history on lines (past run s) e text (λ legal. shows) tied all;
 }
 
--- memory was wanting for the text of the next line
+-- memory ran out for the text of the next line
 pub keeps_stop : (on : Terms) (s m e : Standing) (lines : List Line) (i : ℕ) (default : Line) (text more : List ℕ)
     → i < length lines → ServesAllAndKeeps on (take i lines) s m text → ServesAndKeeps on (get_or lines i default) m e more
     → StopsAt (Replays on) lines s e

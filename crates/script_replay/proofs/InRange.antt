@@ -41,6 +41,6 @@ lines_there sizes [] (line ∷ lines) zip k d h = absurd zip
 lines_there sizes (text ∷ texts) (line ∷ lines) zip zero d h = line_there sizes text.0 line text.1 zip.0
 lines_there sizes (text ∷ texts) (line ∷ lines) zip (suc k) d h = lines_there sizes texts lines zip.1 k d (omega arith)
 
--- so it is with all lines of a script
+-- the same for all lines of a script
 pub script_there : (sizes : Config) (script : List ℕ) (lines : List Line) → IsScript sizes script lines → All (LineIsThere sizes.frames sizes.cpus) lines
 script_there sizes script lines is = lines_there sizes (asking_texts (texts_of script)) lines is.says

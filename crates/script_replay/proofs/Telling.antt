@@ -16,7 +16,7 @@ use Rattle.script_replay.specs.declared.work.Work.TheVariants.{Visit, Settle}
 use Rattle.script_replay.specs.Answers.{AddsAnswer, AddsText, AnswersWork, ServesWork, WritesAnswer, kills_text}
 use Rattle.script_replay.specs.Terms.{Terms}
 
--- what is so of a text is so of what stands behind the text before
+-- what holds of a text holds of the text that was added
 pub said_as : {Z T E : Type 0} (is : List ℕ → Type 0) (said : List ℕ) (before after : String Z) (r : Result T E) → is said
     → IfOk r (λ _. string_bytes after ≡ string_bytes before ++ said) → AddsText r before after is
 said_as is said before after r so added = record { text = said; so = so; added = added }
@@ -48,12 +48,12 @@ told_as is as_well before after r turn adds = record {
   added = adds.added;
 }
 
--- an answer behind which nothing is told of kills
+-- an answer without an explanation of kills
 pub alone : (is_explained : Bool) (work : Work) (way : Course Holder) (said : Answer) → AnswersWork work way said false
     → WritesAnswer is_explained work way (answer_text said)
 alone is_explained work way said so = record { said = said; may_kill = false; answered = so; text_is = sym (append-nil (answer_text said)) }
 
--- behind the answer to a Settle nothing is told of kills, whether or not that is asked for
+-- the answer to a Settle has no explanation of kills, whether or not one is asked for
 pub settle_alone : (is_explained : Bool) (way : Course Holder) (text : List ℕ) → WritesAnswer false Settle way text → WritesAnswer is_explained Settle way text
 settle_alone is_explained way text writes = tells writes.said writes.may_kill writes.answered writes.text_is
   where
@@ -62,7 +62,7 @@ settle_alone is_explained way text writes = tells writes.said writes.may_kill wr
     tells said false answered is = record { said = said; may_kill = false; answered = answered; text_is = is }
     tells said true answered is = absurd answered
 
--- a command that was served under the lock: its reply, and behind it what is told of its kills
+-- a command that was served under the lock: its reply, followed by the explanation of its kills
 pub served : (on : Terms) (command : Cmd) (l : KnownLocked) (c : KnownCpu) (after : Holder) (reply : Reply) → IsServed on.frames command reply (holder l c) after
     → ServesWork on (Visit command) (holder l c) after (reply_text reply ++ kills_text on.is_explained after.locked.machine)
 served on command l c after reply is = record {
@@ -75,13 +75,13 @@ served on command l c after reply is = record {
   };
 }
 
--- what is told behind an answer that was told
+-- the explanation that follows an answer
 pub behind : {T E : Type 0} (r : Result T E) (before mid after said more : List ℕ) → mid ≡ before ++ said → IfOk r (λ _. after ≡ mid ++ more)
     → IfOk r (λ _. after ≡ before ++ (said ++ more))
 behind (Ok x) before mid after said more first is = is ∙ (ap (λ (l : List ℕ). l ++ more) first ∙ append_assoc before said more)
 behind (Err e) before mid after said more first is = tt
 
--- what is so, is so where there is an error
+-- what holds, holds if there is an error
 pub at_error : {T E : Type 0} (r : Result T E) (P : Type 0) → P → IfErr r (λ _. P)
 at_error (Ok x) P is = tt
 at_error (Err e) P is = is

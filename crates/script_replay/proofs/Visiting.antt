@@ -27,14 +27,14 @@ use Rattle.script_replay.specs.Ranges.{LineIsThere}
 pub settled_done : (on : BootTables) (c d : KnownCpu) (reply : Reply) → IsServedByVisit on cmd.Settle c d reply → IsServedByVisit on cmd.Settle c d Done
 settled_done on c d reply is = subst (λ (r : Reply). IsServedByVisit on cmd.Settle c d r) is.served.serves.obeys.0 is
 
--- where there is no frame for the group, the command is served by a visit
+-- if there is no frame for the group, the command is served by a visit
 pub visited_after : (on : BootTables) (path : Bor (List ℕ)) (l : KnownLocked) (c seen d : KnownCpu) (said : Answer) →
     IsSound on.frames on.stocks l → GetsNoneFast path.now (holder l c) seen → RepliesVisited on (cmd.Alloc path 0) seen d said → AnswersFrameByVisit on path c d said
 visited_after on path l c seen d (Served reply) sound none served =
     inr (record { seen = seen; none = record { locked = l; sound = sound; so = none }; visited = served })
 visited_after on path l c seen d said sound none served = absurd served
 
--- where the frame can't be listed again, the command is served by a visit
+-- if the frame can't be listed again, the command is served by a visit
 pub released_after : (on : BootTables) (f : ℕ) (c seen d : KnownCpu) (said : Answer) →
     CanNotList f c seen → RepliesVisited on (cmd.Release f) seen d said → AnswersReleaseByVisit on f c d said
 released_after on f c seen d (Served reply) can_not served = record { seen = seen; not_listed = can_not; visited = served }
@@ -63,7 +63,7 @@ part_visited on cpus line processor command c d {number = number} r old new is t
       added = answered.added;
     }
 
--- memory was wanting for the text of the next line
+-- memory ran out for the text of the next line
 pub visits_stop : (on : BootTables) (s m e : List KnownCpu) (lines : List Line) (i : ℕ) (default : Line) (text more : List ℕ)
     → i < length lines → VisitsAll on (take i lines) s m text → VisitsLine on (get_or lines i default) m e more
     → StopsAt (VisitsAll on) lines s e

@@ -1,4 +1,4 @@
--- The history of lines: by their steps, and what holds after each.
+-- The history of lines: what their steps are, and what holds after each line.
 use Rattle.std.specs.Prelude.{◌≡◌, ℕ, List, [], ◌∷◌, ◌++◌, Result, Vec, IfOk, OnErr, length}
 use Rattle.frame_word.specs.Seats.{KnownTable}
 use Rattle.stock_word.specs.Stock.{Words}
@@ -18,28 +18,28 @@ use Rattle.script_replay.specs.Ranges.{LineIsThere}
 use Rattle.script_replay.specs.Terms.{Terms}
 
 -- ---- the history
--- What came before a line: the run of all steps so far, and what stands after it
+-- the past of a line: the run of all steps so far, and what it led to
 pub record Past : Type 0 where
   pub run : Run
   pub now : Standing
 
--- the past of a run that begins with this and shows what stands
+-- the past with this run and this state after it
 abbrev pub past : Run → Standing → Past
 past run now = record { run = run; now = now }
 
--- the past once a line was served by these steps
+-- the past after one more line, which was served by these steps
 abbrev pub past_line : (past : Past) (steps : Run) (after : Standing) → Past
 past_line past steps after = record { run = past.run ++ steps; now = after }
 
--- The promise holds after the run of what stands then. If the ledger told the run before, each group's peak and event
--- counts, it tells this one
+-- The promise holds after the run, of what the machine and the CPUs show. If the ledger before had the peaks and event
+-- counts of the earlier run, the ledger now has those of this run.
 pub record HoldsPromise (table : KnownTable) (earlier : Run) (before : Standing) (run : Run) (now : Standing)
     : Type 0 where
   pub promise : Promise (zone_of table) run (shown_of now.locked.machine now.cpus)
   pub tells : TellsRun table earlier before.locked.machine.ledger → TellsRun table run now.locked.machine.ledger
 
--- A first line is served by these steps. If the run so far with these steps is legal, the promise holds after it, and
--- the ledger goes on telling it. The other lines tell their history from there on
+-- The first line is served by these steps. If the run so far with these steps is legal, the promise holds after it, and
+-- the ledger keeps the peaks and event counts of the run. The other lines have their history from there on.
 pub record TellsFirstAndRest (terms : Terms) (line : Line) (past : Past) (text : List ℕ)
     (tells_rest : Past → List ℕ → Type 0) : Type 0 where
   pub first : List ℕ
@@ -52,39 +52,40 @@ pub record TellsFirstAndRest (terms : Terms) (line : Line) (past : Past) (text :
   pub tells : tells_rest (past_line past steps between) rest
   pub text_is : text ≡ first ++ rest
 
--- the history of lines, which are served one after the other, as `ServesAll` says: after each of them the promise is
--- kept if the steps so far are a legal run
+-- The history of lines that are served one after the other, as `ServesAll` says. After each line the promise holds if
+-- the steps so far are a legal run.
 abbrev pub TellsHistory : Terms → List Line → Past → (after : Standing) (text : List ℕ) → Type 0
 TellsHistory terms [] past after text = (text ≡ []) × (after ≡ past.now)
 TellsHistory terms (line ∷ lines) past after text =
     TellsFirstAndRest terms line past text (λ later rest. TellsHistory terms lines later after rest)
 
--- the lines are served one after the other, and tell their history where a run shows what stood before
+-- the lines are served one after the other; they have a history from each run that shows the state before them, if the
+-- parts agree with their seats
 pub record Replays (terms : Terms) (lines : List Line) (before after : Standing) (text : List ℕ) : Type 0 where
   pub served : ServesAll terms lines before after text
   pub history : (run : Run) → ShowsAll terms.frames run before.locked.machine before.cpus
       → AreTied terms.frames terms.stocks before.cpus → TellsHistory terms lines (past run before) after text
 
--- what comes of lines that are to be replayed: their answers, where all were; or, where memory was wanting for the text
--- of a line, the lines up to that one were
+-- The result of a replay. If it succeeds, all lines were served and these are their answers. If memory runs out for the
+-- text of a line, the lines up to that one were served.
 pub record ReplaysOrStops {Z E : Type 0} (terms : Terms) (lines : List Line) (before after : Standing)
     (result : Result (Vec ℕ Z) E) : Type 0 where
   pub replayed : IfOk result (λ answers. Replays terms lines before after answers.items)
   pub stopped : OnErr result (StopsAt (Replays terms) lines before after)
 
--- ---- what is known of a line beside what it is answered
--- what always holds behind the lock: no visit is open, the machine is consistent, and the charges are those of a tree
+-- ---- what else is known of a line
+-- what always holds behind the lock: no visit is open, the machine is consistent, and the groups make up a tree
 pub record HoldsInvariants (table : KnownTable) (stock_table : Words) (locked : KnownLocked) : Type 0 where
   pub quiet : IsQuiet table stock_table locked
   pub consistent : IsConsistent table stock_table locked.machine
   pub charges : AreCharges locked.machine.ledger
 
--- the invariants hold behind the lock, and where each part before was what its seats know, so is each part after
+-- the invariants hold behind the lock; if each CPU's part before agreed with its seats, so does each part after
 pub record KeepsInvariants (table : KnownTable) (stock_table : Words) (before after : Standing) : Type 0 where
   pub holds : HoldsInvariants table stock_table after.locked
   pub tied : AreTied table stock_table before.cpus → AreTied table stock_table after.cpus
 
--- the line names what is there, is served, and the invariants are kept
+-- what the line names exists, the line is served, and the invariants are kept
 pub record ServesAndKeeps (terms : Terms) (line : Line) (before after : Standing) (text : List ℕ) : Type 0 where
   pub there : LineIsThere terms.frames.frames (length before.cpus) line
   pub serves : ServesLine terms line before after text

@@ -1,5 +1,5 @@
--- What lines are answered, one after the other. As of commands, `Writes..` says it of a text on a course, and
--- `Serves..` by some steps.
+-- What lines do, one after the other. As with commands, `Writes..` relates a course to a text, and `Serves..` does so
+-- by some steps.
 use Rattle.std.specs.Prelude.{◌≡◌, ℕ, Bool, ◌-◌, ◌≤◌, List, [], ◌∷◌, ◌++◌, Some, length, slice_get, slice_set, take}
 use Rattle.cpu_part.specs.Cpus.{KnownCpu}
 use Rattle.step_rules.specs.After.{Run}
@@ -11,16 +11,16 @@ use Rattle.script_replay.specs.Terms.{Terms}
 use Rattle.script_replay.specs.Answers.{WritesWork}
 use Rattle.script_replay.specs.Works.{work_of}
 
--- what lies behind the lock, and the parts of the processors, from that of processor 1
+-- what lies behind the lock, and the parts of all CPUs, from CPU 1 on
 pub record Standing : Type 0 where
   pub locked : KnownLocked
   pub cpus : List KnownCpu
 
--- this behind the lock, and these parts
+-- the state with this behind the lock and these parts
 abbrev pub standing : KnownLocked → List KnownCpu → Standing
 standing locked cpus = record { locked = locked; cpus = cpus }
 
--- something is done at the part of this processor, and the other parts stay
+-- `is_done` leads from this CPU's part to a new one, and the other parts stay the same
 pub record AtPart (processor : ℕ) (is_done : (before after : KnownCpu) → Type 0) (before after : List KnownCpu)
     : Type 0 where
   pub part : KnownCpu
@@ -29,13 +29,13 @@ pub record AtPart (processor : ℕ) (is_done : (before after : KnownCpu) → Typ
   pub done : is_done part left
   pub cpus : after ≡ slice_set before (processor - 1) left
 
--- nothing is answered, and nothing is done
+-- there is no answer, and nothing is done
 pub record WritesNothing (way : Course Standing) (text : List ℕ) : Type 0 where
   pub text_is : text ≡ []
   pub stays : way.after ≡ way.before
   pub steps_are : way.steps ≡ []
 
--- a line is answered this text on this course; `go` is answered nothing, and does nothing
+-- the answer of a line, as text, on this course; `go` has no answer and does nothing
 abbrev pub WritesLine : (is_explained : Bool) → Line → Course Standing → (text : List ℕ) → Type 0
 WritesLine is_explained Go way text = WritesNothing way text
 WritesLine is_explained (At number processor command) way text =
@@ -43,12 +43,13 @@ WritesLine is_explained (At number processor command) way text =
     (course way.table (holder way.before.locked part) way.steps (holder way.after.locked left)) text)
     way.before.cpus way.after.cpus
 
--- a line is answered this text, by some steps
+-- the answer of a line, as text, by some steps
 pub record ServesLine (terms : Terms) (line : Line) (before after : Standing) (text : List ℕ) : Type 0 where
   pub steps : Run
   pub writes : WritesLine terms.is_explained line (course terms.frames before steps after) text
 
--- a first line leads to what stands between, the others go on from there, and the text of the first stands first
+-- the first line leads to a state between, the other lines lead on from there, and the text is that of the first line
+-- followed by that of the rest
 pub record FirstAndRest {S : Type 0} (leads_first leads_rest : (before after : S) (text : List ℕ) → Type 0)
     (before after : S) (text : List ℕ) : Type 0 where
   pub first : List ℕ
@@ -58,19 +59,19 @@ pub record FirstAndRest {S : Type 0} (leads_first leads_rest : (before after : S
   pub serves_rest : leads_rest between after rest
   pub text_is : text ≡ first ++ rest
 
--- lines are served one after the other, each as `serves` says of one, and their texts stand one after the other
+-- lines are served one after the other, each as `serves` says, and their texts follow each other in the same order
 abbrev pub InOrder : {S : Type 0} → (Line → (before after : S) (text : List ℕ) → Type 0) → List Line
     → (before after : S) (text : List ℕ) → Type 0
 InOrder serves [] before after text = (text ≡ []) × (after ≡ before)
 InOrder serves (line ∷ lines) before after text =
     FirstAndRest (serves line) (InOrder serves lines) before after text
 
--- what lines are answered by value of what lies behind the lock
+-- the answers of lines, served by value of what lies behind the lock
 abbrev pub ServesAll : Terms → List Line → (before after : Standing) (text : List ℕ) → Type 0
 ServesAll terms lines before after text = InOrder (ServesLine terms) lines before after text
 
--- Memory was wanting for the text of the line of this number. The lines up to it, itself among them, were served, once
--- each, and no line after them; their texts, its own too, nobody gets
+-- Memory ran out for the text of the line of this number. The lines up to and including it were served, once each, and
+-- no line after it was. Nobody gets their texts, its own included.
 pub record StopsAt {S : Type 0} (serve : List Line → (before after : S) (text : List ℕ) → Type 0) (lines : List Line)
     (before after : S) : Type 0 where
   pub number : ℕ

@@ -1,4 +1,4 @@
--- What a line names is there.
+-- That all a line names exists.
 use Rattle.std.specs.Prelude.{ℕ, ◌≤◌, ◌<◌}
 use Rattle.group_tree.specs.Bounds.{most_groups}
 use Rattle.mem_system.specs.Commands.{NamesFrameBelow}
@@ -10,7 +10,7 @@ use Rattle.script_replay.specs.declared.work.Work.{Work}
 use Rattle.script_replay.specs.declared.work.Work.TheVariants.{Visit, Fast, Release, Get, Put}
 use Rattle.script_replay.specs.Works.{work_of}
 
--- a frame that is named is one of so many, and the number of a group is one that there can be
+-- a frame that is named has a number below `frames`, and a group that is named has a possible number
 abbrev pub WorkInRange : ℕ → Work → Type 0
 WorkInRange frames (Visit command) = NamesFrameBelow frames command
 WorkInRange frames (Fast group) = group < most_groups
@@ -19,18 +19,18 @@ WorkInRange frames (Get frame) = frame < frames
 WorkInRange frames (Put frame) = frame < frames
 WorkInRange frames other = Unit {0}
 
--- what a command names is in range: its frame and its group; an Alloc names neither by number
+-- the frame and the group that a command names are in range; an Alloc names neither by number
 abbrev pub NamesInRange : ℕ → Command → Type 0
 NamesInRange frames (Alloc path order) = Unit {0}
 NamesInRange frames command = WorkInRange frames (work_of command)
 
--- a line's processor is one of so many, and what its command names is in range
+-- a line's CPU is one of this many, and all that its command names is in range
 pub record IsThere (frames cpus processor : ℕ) (command : Command) : Type 0 where
   pub low : 1 ≤ processor
   pub high : processor ≤ cpus
   pub names : NamesInRange frames command
 
--- all that a line names is there; `go` names nothing
+-- all that a line names exists; `go` names nothing
 abbrev pub LineIsThere : ℕ → ℕ → Line → Type 0
 LineIsThere frames cpus Go = Unit {0}
 LineIsThere frames cpus (At number processor command) = IsThere frames cpus processor command

@@ -1,14 +1,14 @@
--- What a replay goes by.
+-- The terms of a replay.
 use Rattle.std.specs.Prelude.{Bool}
 use Rattle.frame_word.specs.Seats.{KnownTable}
 use Rattle.stock_word.specs.Stock.{Words}
 
--- the tables of a boot: that of the frames' words, and that of the stocks' words
+-- the tables of a boot: those of the frames' words and of the stocks' words
 pub record BootTables : Type 0 where
   pub frames : KnownTable
   pub stocks : Words
 
--- the tables of a boot that are these two
+-- the boot tables with these two tables
 abbrev pub boot_tables : KnownTable → Words → BootTables
 boot_tables frames stocks = record { frames = frames; stocks = stocks }
 
@@ -18,6 +18,6 @@ pub record Terms : Type 0 where
   pub stocks : Words
   pub is_explained : Bool
 
--- the terms of a replay that are these
+-- the terms with these tables and this choice
 abbrev pub terms : KnownTable → Words → Bool → Terms
 terms frames stocks is_explained = record { frames = frames; stocks = stocks; is_explained = is_explained }

@@ -1,7 +1,6 @@
--- What lines are answered by visits, while others may go on beside them. No clause can name what lies behind the lock,
--- so each visit is one by itself: there was such a value behind it, and the next may find another. Here
--- `Answers..ByVisit` relates what is done to an answer, and `Visits..` to a text, as `Answers..` and `Serves..` do by
--- value.
+-- What lines do by visits, while other CPUs go on. No clause can name what lies behind the lock, so each visit is
+-- described by itself: it found some value there, and the next visit may find another. `Answers..ByVisit` relates what
+-- is done to an answer, and `Visits..` to a text, as `Answers..` and `Serves..` do by value.
 use Rattle.std.specs.Prelude.{◌≡◌, ◌⊎◌, ℕ, List, []}
 use Rattle.std.specs.Borrow.{Bor}
 use Rattle.cpu_part.specs.declared.answers.Fast.TheVariants.{Got}
@@ -40,12 +39,12 @@ abbrev pub RepliesVisited : BootTables → Cmd → (before after : KnownCpu) →
 RepliesVisited tables command before after (answer.Served reply) = IsServedByVisit tables command before after reply
 RepliesVisited tables command before after other = ⊥
 
--- Settle: it was served by a visit
+-- Settle: the CPU was settled by a visit
 abbrev pub AnswersSettleByVisit : BootTables → (before after : KnownCpu) → Answer → Type 0
 AnswersSettleByVisit tables before after answer.Settled = IsServedByVisit tables cmd.Settle before after Done
 AnswersSettleByVisit tables before after other = ⊥
 
--- Fast: what a call answers for this group, and the lock isn't taken
+-- Fast: the result of a fast allocation for this group, without the lock
 abbrev pub TakesFast : (group : ℕ) (before after : KnownCpu) → Answer → Type 0
 TakesFast group before after (answer.Fast fast) = FastAnswers group fast before after
 TakesFast group before after other = ⊥
@@ -56,21 +55,21 @@ pub record ReleasesByVisit (tables : BootTables) (frame : ℕ) (before after : K
   pub not_listed : CanNotList frame before seen
   pub visited : IsServedByVisit tables (cmd.Release frame) seen after reply
 
--- Release: a fresh frame is listed again without the lock, where it can be; else the command is served by a visit
+-- Release: if possible, a fresh frame is listed again without the lock; else the command is served by a visit
 abbrev pub AnswersReleaseByVisit : BootTables → (frame : ℕ) (before after : KnownCpu) → Answer → Type 0
 AnswersReleaseByVisit tables frame before after answer.Listed = ListsAgain frame before after
 AnswersReleaseByVisit tables frame before after (answer.Served reply) = ReleasesByVisit tables frame before after reply
 AnswersReleaseByVisit tables frame before after other = ⊥
 
--- no frame was got without the lock for the group that was found under it, and the Alloc was served by a visit
+-- the group was found under the lock, no frame was got for it without the lock, and the Alloc was served by a visit
 pub record AllocatesByVisit (tables : BootTables) (path : Bor (List ℕ)) (before after : KnownCpu) (reply : Reply)
     : Type 0 where
   pub seen : KnownCpu
   pub none : BehindLock tables.frames tables.stocks (λ locked. GetsNoneFast path.now (holder locked before) seen)
   pub visited : IsServedByVisit tables (cmd.Alloc path 0) seen after reply
 
--- Alloc of a single frame: the group is found under the lock. Without it the processor gets one of its list, where it
--- can; else the command is served by a visit of its own, and what lies behind the lock may be another value then
+-- Alloc of a single frame. The group is found under the lock. If possible, the CPU then takes a frame of its list
+-- without the lock. Else the command is served by a visit of its own, which may find another value behind the lock.
 abbrev pub AnswersFrameByVisit : BootTables → (path : Bor (List ℕ)) (before after : KnownCpu) → Answer → Type 0
 AnswersFrameByVisit tables path before after (answer.Fast (Got frame)) =
     BehindLock tables.frames tables.stocks (λ locked. GetsFast path.now (holder locked before) after frame)
@@ -80,7 +79,7 @@ AnswersFrameByVisit tables path before after (answer.Served reply) =
     ⊎ AllocatesByVisit tables path before after reply
 AnswersFrameByVisit tables path before after other = ⊥
 
--- What is answered where this is done, but where the answer is a text of any length
+-- the answer of a command, except of those that answer a text of any length
 abbrev pub AnswersWorkByVisit : BootTables → Work → (before after : KnownCpu) → Answer → Type 0
 AnswersWorkByVisit tables (Visit command) before after said = RepliesVisited tables command before after said
 AnswersWorkByVisit tables (Frame path) before after said = AnswersFrameByVisit tables path before after said
@@ -92,8 +91,7 @@ AnswersWorkByVisit tables Settle before after said = AnswersSettleByVisit tables
 AnswersWorkByVisit tables Blocks before after said = ⊥
 AnswersWorkByVisit tables Show before after said = ⊥
 
--- what is answered where this is done, as text: `blocks` and `show` settle the processor, and tell of the machine as it
--- is then
+-- the answer of a command, as text; `blocks` and `show` settle the CPU, and write the machine as it is after that
 abbrev pub VisitsWork : BootTables → Work → (before after : KnownCpu) (text : List ℕ) → Type 0
 VisitsWork tables Blocks before after text =
     TellsOf tables.frames tables.stocks (λ machine. text ≡ blocks_text machine.blocks) before after
@@ -102,16 +100,16 @@ VisitsWork tables Show before after text =
 VisitsWork tables work before after text =
     IsTextOf (λ said. AnswersWorkByVisit tables work before after said) text
 
--- what a command is answered at a part, as text, and the part after it
+-- the answer of a script's command for a part, as text, and the part after it
 abbrev pub VisitsCommand : BootTables → Command → (before after : KnownCpu) (text : List ℕ) → Type 0
 VisitsCommand tables command before after text = VisitsWork tables (work_of command) before after text
 
--- a line is answered this text; `go` is answered nothing, and does nothing
+-- the answer of a line, as text; `go` has no answer and does nothing
 abbrev pub VisitsLine : BootTables → Line → (before after : List KnownCpu) (text : List ℕ) → Type 0
 VisitsLine tables Go before after text = (text ≡ []) × (after ≡ before)
 VisitsLine tables (At number processor command) before after text =
     AtPart processor (λ part left. VisitsCommand tables command part left text) before after
 
--- what lines are answered by visits, one after the other
+-- the answers of lines, served by visits one after the other
 abbrev pub VisitsAll : BootTables → List Line → (before after : List KnownCpu) (text : List ℕ) → Type 0
 VisitsAll tables lines before after text = InOrder (VisitsLine tables) lines before after text

@@ -1,4 +1,4 @@
--- What each command of a script asks of the system.
+-- What each command of a script asks the system to do.
 use Rattle.std.specs.Prelude.{zero, suc}
 use Rattle.mem_system.specs.declared.command.Cmd.TheVariants as cmd
 use Rattle.script_lines.specs.declared.line.Command.{Command}
@@ -8,7 +8,7 @@ use Rattle.script_lines.specs.declared.line.Command.TheVariants.{Owner, Blocks, 
 use Rattle.script_replay.specs.declared.work.Work.{Work}
 use Rattle.script_replay.specs.declared.work.Work.TheVariants as work
 
--- What is done for the command. An Alloc of order 0 is one of a single frame; a block is always served under the lock
+-- What is done for the command. An Alloc of order 0 takes a single frame; a block is always served under the lock.
 abbrev pub work_of : Command → Work
 work_of (Mkdir path) = work.Visit (cmd.Mkdir path)
 work_of (Rmdir path) = work.Visit (cmd.Rmdir path)

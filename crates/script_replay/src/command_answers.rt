@@ -1,4 +1,4 @@
-//! One command, answered at a processor by value of what lies behind the lock.
+//! Serving one command of a CPU, by value of what lies behind the lock.
 
 ghost use Rattle.std.specs.Borrow.{Bor};
 ghost use Rattle.std.specs.Prelude.{◌≡◌, ◌<◌, ◌++◌, false, IsTrue, List, OnOk, Some, ℕ};
@@ -24,8 +24,8 @@ use reply_texts::{write_fast, write_listed, write_outcome, write_refusal, write_
 use script_lines::line::Command;
 use std::alloc::AllocError;
 
-// Serves a command of the script and adds what it is answered, and behind that, where `is_explained` says so, why
-// groups were killed for it. Where memory is wanting the command was served all the same.
+// Serves a command of the script and adds its answer. If `is_explained` is true, why groups were killed for it follows
+// the answer. If memory runs out, the command was served all the same.
 #[tactic(auto, using(crate::proofs::InRange::work_in_range))]
 pub(crate) fn answer_text<N: BootName>(
     locked: &mut Locked<N>,
@@ -44,8 +44,8 @@ pub(crate) fn answer_text<N: BootName>(
     answer_work(locked, tables, cpu, &work, is_explained, text)
 }
 
-// Does what a command asks for and adds what it is answered. Each text is written where the answer is made, and that of
-// a command under the lock from its outcome: a reply would have room for a path of 512 bytes.
+// Does what a command asks for and adds its answer. Each text is written where its answer is made. For a command under
+// the lock it is written from the outcome, because a reply would need room for a path of 512 bytes.
 fn answer_work<N: BootName>(
     locked: &mut Locked<N>,
     tables: &Tables<N>,
@@ -72,7 +72,7 @@ fn answer_work<N: BootName>(
     }
 }
 
-// Serves the command under the lock, and adds its reply, and what is told of its kills.
+// Serves the command under the lock, and adds its reply and the explanation of its kills.
 fn serve_command<N: BootName>(
     locked: &mut Locked<N>,
     tables: &Tables<N>,
@@ -91,8 +91,8 @@ fn serve_command<N: BootName>(
     explain(locked, is_explained, text)
 }
 
-// Serves an Alloc of a single frame for this group under the lock, and adds its reply, and what is told of its kills.
-// The group's path isn't sought again.
+// Serves an Alloc of a single frame for this group under the lock, and adds its reply and the explanation of its kills.
+// It doesn't look the group's path up again.
 fn serve_frame<N: BootName>(
     locked: &mut Locked<N>,
     tables: &Tables<N>,
@@ -112,7 +112,7 @@ fn serve_frame<N: BootName>(
     explain(locked, is_explained, text)
 }
 
-// Adds why groups were killed for the command that was served last, where that is asked for.
+// Adds why groups were killed for the last command, if that is asked for.
 fn explain<N: BootName>(
     locked: &Locked<N>,
     is_explained: bool,
@@ -128,7 +128,7 @@ fn explain<N: BootName>(
     write_explanation(machine.charges().tree(), machine.notes(), text)
 }
 
-// Takes a frame, without the lock where it can be.
+// Takes a frame, if possible without the lock.
 fn answer_frame<N: BootName>(
     locked: &mut Locked<N>,
     tables: &Tables<N>,
@@ -150,7 +150,7 @@ fn answer_frame<N: BootName>(
     }
 }
 
-// Lists a fresh frame again, without the lock where it can be.
+// Lists a fresh frame again, if possible without the lock.
 fn answer_release<N: BootName>(
     locked: &mut Locked<N>,
     tables: &Tables<N>,
@@ -177,7 +177,7 @@ fn answer_release<N: BootName>(
     )
 }
 
-// Settles the processor, and adds what is answered. A Settle kills nobody, so nothing is explained behind it.
+// Settles the CPU, and adds the answer. A Settle kills nobody, so there is nothing to explain.
 fn answer_settle<N: BootName>(
     locked: &mut Locked<N>,
     tables: &Tables<N>,
@@ -191,7 +191,7 @@ fn answer_settle<N: BootName>(
     write_settled(text)
 }
 
-// Settles the processor, and adds the free blocks.
+// Settles the CPU, and adds the free blocks.
 fn answer_blocks<N: BootName>(
     locked: &mut Locked<N>,
     tables: &Tables<N>,
@@ -205,7 +205,7 @@ fn answer_blocks<N: BootName>(
     write_blocks(locked.machine(), text)
 }
 
-// Settles the processor, and adds the place of every frame and the usage of every group.
+// Settles the CPU, and adds the place of each frame and the usage of each group.
 fn answer_show<N: BootName>(
     locked: &mut Locked<N>,
     tables: &Tables<N>,

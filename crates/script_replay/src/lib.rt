@@ -1,9 +1,9 @@
-//! The lines of a script, served one after the other: by value of what lies behind the zone's lock, and through it.
-//! Each line is served once, at the part that it names, and its text is what it was answered; where memory is wanting
-//! for that, no line after it is served.
+//! Serves the lines of a script one after the other: by value of what lies behind the zone's lock, or through that
+//! lock. Each line is served once, for the CPU that it names, and its answer is written as text. If memory runs out for
+//! that text, no later line is served.
 //!
-//! A line that ends in 'For the clauses' calls a reader for what its contract tells, and changes nothing: what always
-//! holds of a type's values is known only where one of its calls says it.
+//! A line that ends in 'Called for its contract' calls a reader and changes nothing. A proof knows the invariant of a
+//! type only from the contract of such a call.
 #![tactic(auto)]
 
 mod command_answers;

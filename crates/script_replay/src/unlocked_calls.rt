@@ -8,8 +8,8 @@ use group_tree::fault::Fault;
 use reply_texts::{write_get, write_put, write_refusal};
 use std::alloc::AllocError;
 
-// Lists the frame again without the lock, where it is fresh at the processor and its page can be credited, and tells
-// whether it did.
+// Lists the frame again without the lock, if it is fresh at the CPU and its page can be credited. Returns whether it
+// did.
 pub(crate) fn try_list<N: BootName>(tables: &Tables<N>, cpu: &mut Cpu<N>, number: u32) -> bool
     requires in_zone { number < N.frames.frames }
     ensures listed { MatchBool result (ListsAgain number cpu.old cpu.new) (CanNotList number cpu.old cpu.new) }
@@ -24,7 +24,7 @@ pub(crate) fn try_list<N: BootName>(tables: &Tables<N>, cpu: &mut Cpu<N>, number
     }
 }
 
-// Pins the frame, without the lock, and adds what is answered.
+// Pins the frame, without the lock, and adds the answer.
 pub(crate) fn answer_get<N: BootName>(
     tables: &Tables<N>,
     cpu: &mut Cpu<N>,
@@ -41,7 +41,7 @@ pub(crate) fn answer_get<N: BootName>(
     }
 }
 
-// Takes a pin from the frame, without the lock, and adds what is answered.
+// Puts a pin of the frame, without the lock, and adds the answer.
 pub(crate) fn answer_put<N: BootName>(
     tables: &Tables<N>,
     cpu: &mut Cpu<N>,

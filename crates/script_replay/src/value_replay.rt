@@ -1,4 +1,4 @@
-//! Lines, served one after the other by value of what lies behind the lock.
+//! Serving lines one after the other, by value of what lies behind the lock.
 
 ghost use Rattle.std.specs.Prelude.{◌≡◌, [], All, length};
 ghost use Rattle.stock_word.specs.declared.view.Stock.TheVariants.{NoGroup};
@@ -16,10 +16,10 @@ use mem_system::Locked;
 use script_lines::line::{Command, Line};
 use std::alloc::{AllocError, Global};
 
-/// Serves the lines in their order, each at the part of the processor that it names, and gives their answers, each of
-/// whose lines ends with a line feed. `go` does nothing. Where `is_explained` says so, a line for which groups were
-/// killed has the explanation of that behind its answer. `AllocError` comes where memory is wanting for the text of a
-/// line: the lines before it were served then, it was served too, once, without its text, and no line after it was.
+/// Serves the lines in order, each for the CPU that it names, and returns their answers; each line of an answer ends
+/// with a line feed. `go` does nothing. If `is_explained` is true, an answer for which groups were killed is followed
+/// by the explanation. `AllocError` is returned if memory runs out for the text of a line. That line and those before
+/// it were then served, once each, and no line after it was.
 pub fn replay<N: BootName>(
     alloc: Global,
     locked: &mut Locked<N>,
@@ -94,8 +94,8 @@ fn serve_part<N: BootName>(
     ensures none_fresh { cpu.new.stock_seat.view.last ≡ NoGroup → cpu.new.fresh ≡ [] }
 {
     let served = answer_text(locked, tables, cpu, command, is_explained, answers);
-    let _number = cpu.number(); // For the clauses: `tied`.
-    let _last = cpu.last_stock(); // For the clauses: `none_fresh`.
+    let _number = cpu.number(); // Called for its contract: `tied`.
+    let _last = cpu.last_stock(); // Called for its contract: `none_fresh`.
     see_invariants(locked);
     served
 }
@@ -105,5 +105,5 @@ fn see_invariants<N: BootName>(locked: &Locked<N>)
     ensures { HoldsInvariants N.frames N.stocks locked.now }
 {
     locked.see_quiet();
-    let _tree = locked.charges().tree(); // For the clauses: the charges are those of a tree.
+    let _tree = locked.charges().tree(); // Called for its contract: the charges are those of a tree.
 }

@@ -1,4 +1,4 @@
-//! One command, answered at a processor by visits, each of which takes the zone's lock by itself.
+//! Serving one command of a CPU by visits, each of which takes the zone's lock by itself.
 
 ghost use Rattle.std.specs.Prelude.{◌<◌};
 ghost use Rattle.mem_system.specs.Commands.{IsOfZone};
@@ -19,20 +19,20 @@ use script_lines::line::Command;
 use std::alloc::AllocError;
 use std::sync::Wait;
 
-/// What a thread makes its visits by.
+/// What a thread needs for its visits.
 #[derive(Drop)]
 pub struct Visitor<'a, N: BootName, R, G> {
-    /// What it waits for the lock with.
+    /// The runtime by which it waits for the lock.
     pub rt: &'a R,
     /// The system that it visits.
     pub system: &'a System<N>,
-    /// What each visit of a command calls.
+    /// The gate that each visit calls.
     pub gate: &'a G,
 }
 
-/// Serves the command of a line at this processor, between `before` and `after` of the visitor's gate, which are told
-/// the line's number, and adds what it is answered. Where it is served by a visit, the visit calls the gate's `inside`.
-/// `AllocError` comes where memory is wanting: the command was served then, and `after` isn't called.
+/// Serves the command of a line for this CPU and adds its answer. It calls `before` and `after` of the visitor's gate
+/// around that, with the line's number; a visit calls the gate's `inside`. `AllocError` is returned if memory runs out:
+/// the command was served then, and `after` isn't called.
 pub fn visit_line<N: BootName, R: Wait, G: Gate>(
     visitor: &Visitor<'_, N, R, G>,
     cpu: &mut Cpu<N>,
@@ -51,8 +51,7 @@ pub fn visit_line<N: BootName, R: Wait, G: Gate>(
     Ok(())
 }
 
-// Serves a command of the script and adds what it is answered. Where memory is wanting the command was served all the
-// same.
+// Serves a command of the script and adds its answer. If memory runs out, the command was served all the same.
 #[tactic(auto, using(crate::proofs::InRange::work_in_range))]
 pub(crate) fn visit_text<N: BootName, R: Wait, G: Gate>(
     visitor: &Visitor<'_, N, R, G>,
@@ -68,7 +67,7 @@ pub(crate) fn visit_text<N: BootName, R: Wait, G: Gate>(
     visit_work(visitor, cpu, &work, text)
 }
 
-// Does what a command asks for, by a visit where it needs the lock, and adds what it is answered.
+// Does what a command asks for, by a visit if it needs the lock, and adds its answer.
 fn visit_work<N: BootName, R: Wait, G: Gate>(
     visitor: &Visitor<'_, N, R, G>,
     cpu: &mut Cpu<N>,
@@ -111,7 +110,7 @@ fn visit_and_reply<N: BootName, R: Wait, G: Gate>(
     write_reply(&reply, text)
 }
 
-// Settles the processor by a visit, and adds what is answered.
+// Settles the CPU by a visit, and adds the answer.
 fn visit_settle<N: BootName, R: Wait, G: Gate>(
     visitor: &Visitor<'_, N, R, G>,
     cpu: &mut Cpu<N>,
@@ -126,7 +125,7 @@ fn visit_settle<N: BootName, R: Wait, G: Gate>(
     write_settled(text)
 }
 
-// Takes a frame, without the lock where it can be, and adds what is answered.
+// Takes a frame, if possible without the lock, and adds the answer.
 fn visit_frame<N: BootName, R: Wait, G: Gate>(
     visitor: &Visitor<'_, N, R, G>,
     cpu: &mut Cpu<N>,
@@ -145,7 +144,7 @@ fn visit_frame<N: BootName, R: Wait, G: Gate>(
     }
 }
 
-// Lists a fresh frame again, without the lock where it can be, and adds what is answered.
+// Lists a fresh frame again, if possible without the lock, and adds the answer.
 fn visit_release<N: BootName, R: Wait, G: Gate>(
     visitor: &Visitor<'_, N, R, G>,
     cpu: &mut Cpu<N>,
@@ -162,7 +161,7 @@ fn visit_release<N: BootName, R: Wait, G: Gate>(
     visit_and_reply(visitor, cpu, &Cmd::Release { frame: number }, text)
 }
 
-// Settles the processor, and adds the free blocks.
+// Settles the CPU, and adds the free blocks.
 fn visit_blocks<N: BootName, R: Wait, G: Gate>(
     visitor: &Visitor<'_, N, R, G>,
     cpu: &mut Cpu<N>,
@@ -173,7 +172,7 @@ fn visit_blocks<N: BootName, R: Wait, G: Gate>(
     visitor.system.blocks_into(visitor.rt, cpu, text)
 }
 
-// Settles the processor, and adds the place of every frame and the usage of every group.
+// Settles the CPU, and adds the place of each frame and the usage of each group.
 fn visit_show<N: BootName, R: Wait, G: Gate>(
     visitor: &Visitor<'_, N, R, G>,
     cpu: &mut Cpu<N>,

@@ -1,4 +1,4 @@
-//! Lines, served one after the other by visits: each command takes the zone's lock by itself.
+//! Serving lines one after the other by visits: each command takes the zone's lock by itself.
 
 ghost use Rattle.std.specs.Prelude.{◌≡◌, All, IfOk, OnErr, length};
 ghost use Rattle.mem_system.specs.Commands.{IsOfZone};
@@ -16,10 +16,9 @@ use script_lines::line::Line;
 use std::alloc::{AllocError, Global};
 use std::sync::Wait;
 
-/// Serves the lines in their order, each by a visit of the processor that it names or by a call that takes no lock,
-/// and gives their answers, each of whose lines ends with a line feed. `go` does nothing. `AllocError` comes where
-/// memory is wanting for the text of a line: the lines before it were served then, it was served too, once, without
-/// its text, and no line after it was.
+/// Serves the lines in order, each by a visit of the CPU that it names or by a call that takes no lock. Returns their
+/// answers; each line of an answer ends with a line feed. `go` does nothing. `AllocError` is returned if memory runs
+/// out for the text of a line. That line and those before it were then served, once each, and no line after it was.
 pub fn replay_lines<N: BootName, R: Wait>(
     rt: &R,
     alloc: Global,
@@ -70,9 +69,9 @@ fn serve_by_visit<N: BootName, R: Wait>(
     }
 }
 
-/// Serves the command by a visit at once, and adds what it is answered. Its contract leaves out what `System::visit`
-/// says: for a caller that wants the text alone these clauses are minutes of a check. `AllocError` comes where memory
-/// is wanting for the text: the command was served then.
+/// Serves the command by a visit at once, and adds its answer. Its contract leaves out what `System::visit` says: these
+/// clauses would cost a caller that needs only the text minutes of checking. `AllocError` is returned if memory runs
+/// out for the text: the command was served then.
 pub fn visit_command<N: BootName, R: Wait>(
     rt: &R,
     system: &System<N>,

@@ -1,4 +1,4 @@
-//! What a command of a script asks of the system.
+//! What a command of a script asks the system to do.
 
 ghost use Rattle.std.specs.Prelude.{◌≡◌};
 ghost use Rattle.script_replay.specs.Works.{work_of};
@@ -9,23 +9,23 @@ use script_lines::line::Command;
 /// What is done for a command of a script.
 #[derive(Clone, Copy, Debug, PartialEq, Eq)]
 pub enum Work<'a> {
-    /// This is served under the lock, and its reply is the answer.
+    /// The command is served under the lock, and its reply is the answer.
     Visit(Cmd<'a>),
-    /// A single frame is taken for the group of this path, without the lock where it can be.
+    /// A single frame is taken for the group of this path, if possible without the lock.
     Frame { path: &'a [u8] },
-    /// A frame of the processor's list is taken for the group of this number, without the lock.
+    /// A frame of the CPU's list is taken for the group of this number, without the lock.
     Fast { group: u32 },
-    /// This frame is released: where it is fresh at the processor without the lock, if it can be.
+    /// This frame is released: if it is fresh at the CPU and that is possible, without the lock.
     Release { frame: u32 },
     /// The frame is pinned, without the lock.
     Get { frame: u32 },
-    /// A pin is taken from the frame, without the lock.
+    /// A pin of the frame is put, without the lock.
     Put { frame: u32 },
-    /// The processor is settled, and nothing else.
+    /// The CPU is settled, and nothing else is done.
     Settle,
-    /// The processor is settled, and the free blocks are told.
+    /// The CPU is settled, and the answer lists the free blocks.
     Blocks,
-    /// The processor is settled, and the place of every frame and the usage of every group are told.
+    /// The CPU is settled, and the answer has the place of each frame and the usage of each group.
     Show,
 }
 

@@ -4,6 +4,6 @@ use Rattle.group_tree.specs.Room.{max_count}
 use Rattle.mem_system.specs.Ends.{drops_of}
 use Rattle.mem_system.proofs.boot_end.count_drops.Given as goal
 
--- the drops of the processors so far are counted
+-- the drops of the CPUs so far are counted
 abbrev pub invariant-loop-cpu : goal.invariant-loop-cpu
 invariant-loop-cpu g l = l.drops ≡ min (drops_of (take l.cpu-index l.cpus)) max_count

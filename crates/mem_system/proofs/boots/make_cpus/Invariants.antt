@@ -5,7 +5,7 @@ use Rattle.stock_word.specs.Stock.{first_seats}
 use Rattle.mem_system.specs.Boots.{first_cpus}
 use Rattle.mem_system.proofs.boots.make_cpus.Given as goal
 
--- the parts of the processors so far are made, and the seats of the others are left
+-- the parts of the CPUs so far are made, and the seats of the others are left
 abbrev pub invariant-loop-dealt : goal.invariant-loop-dealt
 invariant-loop-dealt g l = record {
   room : l.cpus ≤ vec_capacity l.made;
