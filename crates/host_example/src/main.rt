@@ -39,8 +39,8 @@ fn share<R: Print>(rt: &R, charges: &mut Charges, zone: &mut Buddy) -> Result<()
     Ok(())
 }
 
-// Charges the pages of a block to the group and takes the block, where the limits of the group and of each of
-// its ancestors have room for all of them. None where one has no room, or where no free block is great enough.
+// Charges the pages of a block to the group and takes the block, if the limits of the group and of each of
+// its ancestors have room for all of them. None if one has no room, or if no free block is great enough.
 fn take_block(
     charges: &mut Charges,
     zone: &mut Buddy,
@@ -68,8 +68,8 @@ fn take_block(
     block
 }
 
-// Gives a block back that the group was charged for. False, and nothing changed, where the block isn't in use or
-// the group has fewer pages.
+// Frees a block that the group was charged for, and uncharges its pages. False, and nothing changes, if the block isn't
+// in use or the group has fewer pages.
 fn give_block(charges: &mut Charges, zone: &mut Buddy, group: GroupId, block: &Block) -> bool
     requires { IsTrue (has_group charges.old.groups group) }
     ensures given { OnTrue result (GivesFrames zone.old.free block.now zone.new.free) }

@@ -25,8 +25,7 @@ use Rattle.load_run.specs.Ending.{TellsEnd}
 abbrev pub bytes_read : List ℕ → List ℕ
 bytes_read input = take (longest_script + 1) input
 
--- what stands after a boot with these sizes, under these tables: the machine of a new boot, and the parts of the
--- processors, which did nothing yet
+-- the state after a boot with these sizes, under these tables: a new machine, and CPUs that did nothing yet
 pub record StandsAtFirst (sizes : Config) (table : KnownTable) (stock_table : Words) (first : Standing) : Type 0 where
   pub sized : IsSizedAs sizes table stock_table
   pub machine : IsFirst table stock_table first.locked.machine
@@ -34,9 +33,9 @@ pub record StandsAtFirst (sizes : Config) (table : KnownTable) (stock_table : Wo
   pub cpus : first.cpus ≡ first_cpus table stock_table 1 sizes.cpus
 
 -- What a boot with these sizes answers to the lines, one after the other, with why groups were killed or without, and
--- then reports of its end. All steps of the lines together are one run from the boot on, which says of each line that
--- the promise is kept after it. The ledger of the boot tells the run of no step, and so after each line each group's
--- peak and event counts are those of the run so far
+-- then reports of its end. All steps of the lines together are one run from the boot on. Its history says of each line
+-- that the promise is kept after it, if the run is legal. The ledger of the boot is that of a run without steps, so
+-- after each line each group's peak and event counts are those of the run so far.
 pub record AreReplayAnswers (sizes : Config) (is_explained is_audited : Bool) (lines : List Line) (text : List ℕ)
     : Type 0 where
   pub frames : KnownTable

@@ -34,9 +34,9 @@ pub record HasAnswers (asked : Option Options) (input : List ℕ) : Type 0 where
   pub text : List ℕ
   pub answered : IsAnswered asked text input
 
--- Which fault comes when. The words are judged first, then the script, then the sizes: so whatever comes after the
--- words comes where they ask for options, and the sizes are refused only where the input is a script. That memory
--- ran out or the input failed has no other cause that a clause could name
+-- Which fault has which cause. The words are judged first, then the script, then the sizes. So any fault but one of the
+-- words needs words that ask for options, and the sizes are refused only if the input is a script. No clause names a
+-- further cause for memory that ran out, or for an input that failed.
 abbrev pub HasCause : Option Options → ProgramFault → (input : List ℕ) → Type 0
 HasCause asked (Words fault) input = TellsOptions asked (Err fault)
 HasCause asked (Script (script.BadLine number)) input = IsBadAt asked number input
@@ -46,7 +46,7 @@ HasCause asked Input input = IsSome asked
 HasCause asked Output input = HasAnswers asked input
 HasCause asked (NoMemory error) input = IsSome asked
 
--- what the writers of the answers and of the faults hold, where that is known
+-- what the writers of the answers and of the faults hold, if that is known
 pub record Written : Type 0 where
   pub output : Option (List ℕ)
   pub faults : Option (List ℕ)
@@ -61,21 +61,21 @@ pub record BeginsAnswers (asked : Option Options) (before after : Option (List �
   pub answered : IsAnswered asked text input
   pub begun : AppendsBeginning before after text
 
--- what is left of the answers to the input: a beginning where the output failed, else nothing
+-- how much of the answers was written: a beginning if the output failed, else nothing
 abbrev pub LeavesAnswers : Option Options → ProgramFault → (before after : Option (List ℕ)) (input : List ℕ) → Type 0
 LeavesAnswers asked Output before after input = BeginsAnswers asked before after input
 LeavesAnswers asked fault before after input = Keeps before after
 
--- the words or the input are misused: the words ask for no options, or the input has a first bad line, or the sizes
--- are refused; and a writer that held the bytes `before`, where they are known, was told so, as far as it took that
+-- The program was misused: the words ask for no options, or the input has a first bad line, or the sizes are refused.
+-- A writer that held the bytes `before`, if they are known, got the text of the fault, as far as it took it.
 pub record IsMisused (asked : Option Options) (before after : Option (List ℕ)) (input : List ℕ) : Type 0 where
   pub fault : ProgramFault
   pub is_misuse : status_of fault ≡ 2
   pub cause : HasCause asked fault input
   pub told : AppendsBeginning before after (fault_text fault)
 
--- the program failed at its work: of the answers a beginning was written where the output failed, else nothing; and
--- that it failed was told, as far as the writer took that
+-- The program failed at its work. It wrote a beginning of the answers if the output failed, else nothing, and then the
+-- text of the fault, as far as the writer took it.
 pub record FailsAtWork (asked : Option Options) (before after : Written) (input : List ℕ) : Type 0 where
   pub fault : ProgramFault
   pub is_failure : status_of fault ≡ 1

@@ -5,17 +5,17 @@ use Rattle.load_run.specs.declared.fault.ProgramFault.{ProgramFault}
 use Rattle.load_run.specs.Answers.{IsAnswered, IsWritten}
 use Rattle.load_run.specs.Causes.{FailsAtWork, HasCause, IsMisused, Written}
 
--- What comes of the options that are asked for, if any, and of an input: answers or a fault. Where the input's bytes
--- are known, it is answered so, or the fault has its cause
+-- What the options that are asked for, if any, and an input lead to: answers or a fault. If the input's bytes are known,
+-- these are the answers to them, or the fault has its cause.
 pub record AnswersTo {Z : Type 0} (asked : Option Options) (input : Option (List ℕ))
     (result : Result (Vec ℕ Z) ProgramFault) : Type 0 where
   pub is_asked : OnOk result (IsSome asked)
   pub answered : IfOk result (λ answers. IfSome input (IsAnswered asked answers.items))
   pub cause : IfErr result (λ fault. IfSome input (HasCause asked fault))
 
--- The program ran, and ended with 0, 1 or 2. With 0, options are asked for, no fault is told, and the output got what
--- the input is answered; with 1, it failed at its work; with 2, words, script or sizes are wrong, and nothing is
--- written to the output. What the input is answered, and why there is a fault, is said where its bytes are known
+-- The program ran, and ended with 0, 1 or 2. With 0, options are asked for, no fault is written, and the output got the
+-- answers to the input. With 1, it failed at its work. With 2, words, script or sizes are wrong, and nothing is written
+-- to the output. The answers and the cause of a fault are known if the input's bytes are.
 pub record Drives (asked : Option Options) (input : Option (List ℕ)) (before after : Written)
     (status : ℕ) : Type 0 where
   pub status_at_most : status ≤ 2

@@ -1,4 +1,4 @@
--- How a run of the program ends, and what it tells of that.
+-- How a run of the program ends, and what it writes about that.
 use Rattle.std.specs.Prelude.{◌≡◌, ℕ, ◌≤◌, Bool, true, false, List, [], ◌∷◌, ◌++◌, codes, ◌==◌, if◌then◌else◌}
 use Rattle.std.specs.List.{AllZip}
 use Rattle.std.specs.Fmt.{decimal}
@@ -25,14 +25,14 @@ abbrev pub PutsEach : List ℕ → (before after : KnownCpu) → Type 0
 PutsEach [] before after = after ≡ before
 PutsEach (frame ∷ frames) before after = PutsFirstAndRest frame (PutsEach frames) before after
 
--- every pin of the processor is put
+-- every pin of the CPU is put
 pub record PutsAllPins (before after : KnownCpu) : Type 0 where
   pub frames : List ℕ
   pub puts : PutsEach frames before after
   pub none_left : after.pins ≡ []
 
--- the boot ended, and told how many pins were held: none; or every pin was put, and then it ended. `cpus` are the parts
--- from which it ended
+-- The boot ended, and says how many pins were held: none; or every pin was put, and then it ended. `cpus` are the CPUs
+-- as it ended.
 pub record EndsHeld (table : KnownTable) (stock_table : Words) (before : Standing) (ended : Ended) : Type 0 where
   pub held_are : ended.held ≡ pins_of before.cpus
   pub cpus : List KnownCpu
@@ -40,7 +40,7 @@ pub record EndsHeld (table : KnownTable) (stock_table : Words) (before : Standin
   pub pinned : 1 ≤ ended.held → AllZip PutsAllPins before.cpus cpus
   pub ends : Ends table stock_table before.locked cpus ended.audit
 
--- the boot ended where something stood of which this is so
+-- this is so of some state, and the boot ended from that state
 pub record EndsAfter (table : KnownTable) (stock_table : Words) (is_so : Standing → Type 0)
     (ended : Ended) : Type 0 where
   pub before : Standing
@@ -53,7 +53,7 @@ audit_places_text audit =
     codes "audit frames " ++ (decimal audit.frames ++ (codes " free " ++ (decimal audit.free
     ++ (codes " charged " ++ (decimal audit.charged ++ codes "\n")))))
 
--- how often units ended and came back
+-- how often the last reference of a unit was dropped, by what, and how often a unit was freed
 abbrev pub audit_counts_text : Audit → List ℕ
 audit_counts_text audit =
     codes "audit puts " ++ (decimal audit.last_puts ++ (codes " freezes " ++ (decimal audit.freezes ++ (codes " drops "
@@ -67,12 +67,12 @@ audit_text audit = audit_places_text audit ++ audit_counts_text audit
 abbrev pub held_text : ℕ → List ℕ
 held_text held = if held == 0 then [] else codes "held " ++ decimal held ++ codes "\n"
 
--- what is told of the end, where it is audited: the pins that were held, and the audit
+-- what is written about the end: the pins that were held and the audit, if the run is audited
 abbrev pub end_text : Bool → Ended → List ℕ
 end_text true ended = held_text ended.held ++ audit_text ended.audit
 end_text false ended = []
 
--- a boot ended where this stood, and the text is what is told of that
+-- a boot ended from this state, and the text is what is written about that
 pub record TellsEnd (table : KnownTable) (stock_table : Words) (is_audited : Bool) (before : Standing)
     (text : List ℕ) : Type 0 where
   pub ended : Ended

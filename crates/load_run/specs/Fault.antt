@@ -11,7 +11,7 @@ use Rattle.load_options.specs.Words.{TellsOptions}
 use Rattle.load_run.specs.declared.fault.ProgramFault.{ProgramFault}
 use Rattle.load_run.specs.declared.fault.ProgramFault.TheVariants.{Words, Script, BadConfig, Input, Output, NoMemory}
 
--- 2 where the program was used wrongly, 1 where it failed at its work
+-- 2 if the program was misused, 1 if it failed at its work
 abbrev pub status_of : ProgramFault → ℕ
 status_of (Words (words.BadWords text)) = 2
 status_of (Words (words.NoMemory error)) = 1
@@ -22,11 +22,11 @@ status_of Input = 1
 status_of Output = 1
 status_of (NoMemory error) = 1
 
--- the line that tells that the line of this number is bad
+-- the text that says that the line of this number is bad
 abbrev pub bad_line_text : ℕ → List ℕ
 bad_line_text number = codes "bad line " ++ decimal number ++ codes "\n"
 
--- the text that tells a fault: one line, or clap's text of the words
+-- the text of a fault: one line, or clap's text about the words
 abbrev pub fault_text : ProgramFault → List ℕ
 fault_text (Words (words.BadWords text)) = string_bytes text
 fault_text (Words (words.NoMemory error)) = codes "no memory\n"

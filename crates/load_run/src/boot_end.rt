@@ -90,7 +90,7 @@ fn write_audit(audit: &Audit, text: &mut String) -> Result<(), AllocError>
     write_counts(audit, text)
 }
 
-// The line of the frames, and where they are.
+// The line with the number of frames, and how many are free and charged.
 fn write_places(audit: &Audit, text: &mut String) -> Result<(), AllocError>
     ensures { OnOk result (string_bytes text.new ≡ string_bytes text.old ++ audit_places_text audit.now) }
 {

@@ -60,7 +60,7 @@ fn serve_and_end<N: BootName + Send + Sync, R: Threads + Wait + Sync>(
         TellsEach (boot_tables N.frames N.stocks) (workers_from 1 cpus.items lines.now) text.items) }
     ensures ends { EndsAfter N.frames N.stocks (StandsQuiet N.frames N.stocks) result.1 }
 {
-    locked.see_quiet(); // For the clauses: there are fewer than 2^31 CPUs, as `run_each` asks.
+    locked.see_quiet(); // Called for its contract: there are fewer than 2^31 CPUs, as `run_each` requires.
     let system = System::of(locked, tables);
     let told = serve_later(rt, alloc, &system, &mut cpus, lines, has_memory);
     let (locked, tables) = system.into_parts();

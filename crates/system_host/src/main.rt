@@ -1,5 +1,5 @@
-//! A host of a whole system: two processors share a zone of 16 frames, with and without its lock, and it prints what they are
-//! answered.
+//! A host of a whole system: two CPUs share a zone of 16 frames, with and without its lock. It prints the answers to
+//! both.
 #![tactic(auto)]
 
 ghost use Rattle.std.specs.Prelude.{◌≡◌, [], IfOk, length};
@@ -32,8 +32,8 @@ fn main(rt: HostRuntime) -> Result<()> {
     Ok(())
 }
 
-// Starts the boot under a name of its tables, has both processors work, and shuts the system down, also where the work failed:
-// a processor's part isn't dropped.
+// Starts the boot under a name of its tables, has both CPUs work, and shuts the system down, also if the work failed: a
+// `Cpu` must not be dropped.
 fn live<N: BootName, R: Wait>(rt: &R, alloc: Global, boot: Boot, text: &mut String) -> Result<Audit>
     requires { (boot.frames ≡ N.frames) × (boot.stocks ≡ N.stocks) }
     ensures { IfOk result (λ audit. (audit.frames ≡ N.frames.frames) × AddsUp audit) }
@@ -45,9 +45,9 @@ fn live<N: BootName, R: Wait>(rt: &R, alloc: Global, boot: Boot, text: &mut Stri
     Ok(audit)
 }
 
-// Processor 1 makes a group with a limit and takes two frames for it, the second without the lock. Processor 2 has a reference on
-// the first, which outlives its release. Then a limit is met, also once the
-// second frame was reclaimed, and a file is read.
+// CPU 1 makes a group with a limit and allocates two frames for it, the second without the lock. CPU 2 takes a reference
+// on the first, so that frame outlives its release. Then an allocation reaches the limit, once even the second frame was
+// reclaimed, and a file is read.
 fn share<N: BootName, R: Wait>(
     rt: &R,
     system: &System<N>,
@@ -92,7 +92,7 @@ fn ask<N: BootName, R: Wait>(
     Ok(write_reply(&system.visit(rt, cpu, cmd), text)?)
 }
 
-// Puts every reference of the processor.
+// Puts every reference of the CPU.
 fn put_all<N: BootName>(tables: &Tables<N>, cpu: &mut Cpu<N>)
     ensures { cpu.new.pins ≡ [] }
 {
@@ -101,7 +101,7 @@ fn put_all<N: BootName>(tables: &Tables<N>, cpu: &mut Cpu<N>)
     }
 }
 
-// Shuts the system down, once no processor has a reference.
+// Shuts the system down, once no CPU has a reference.
 fn shut<N: BootName>(system: System<N>, mut cpus: Vec<Cpu<N>>) -> Audit
     requires { length cpus.items ≡ N.frames.cpus }
     ensures { (result.frames ≡ N.frames.frames) × AddsUp result }
