@@ -2,6 +2,7 @@
 -- zone's size, and no number is near its bound.
 use Rattle.std.specs.Prelude.{◌≡◌, ◌+◌, ◌^◌, ◌<◌, ◌≤◌, ℕ, true, false, List, All, replicate, length, vec_len, vec_capacity}
 use Rattle.group_tree.specs.Bounds.{most_groups}
+use Rattle.zone_sizes.specs.Config.{most_cpus, most_frames}
 use Rattle.step_rules.specs.Phases.{Kind, has_as, is_live}
 use Rattle.step_rules.specs.State.{State, frames_of, free_in, front_of, is_cpu, pins_of, visits}
 use Rattle.zone_blocks.specs.declared.block.Block.{Block}
@@ -28,8 +29,8 @@ pub record HasRoom (frames : ℕ) (s : Seat) : Type 0 where
 -- the rows are of the zone's size: there is a phase for each frame, a seat for the zone and each CPU, and a place for
 -- each group number
 pub record FitsZone (r : Rows) : Type 0 where
-  pub frames : r.frames ≤ 1048576
-  pub cpus : r.cpus ≤ 64
+  pub frames : r.frames ≤ most_frames
+  pub cpus : r.cpus ≤ most_cpus
   pub phases : vec_len r.phases ≡ r.frames
   pub seats : vec_len r.seats ≡ r.cpus + 1
   pub killed : vec_len r.killed ≡ most_groups

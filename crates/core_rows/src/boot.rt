@@ -5,6 +5,7 @@ ghost use Rattle.std.specs.Prelude.{◌≡◌, ◌≤◌, ◌+◌, IfOk, All, ve
 ghost use Rattle.group_tree.specs.Bounds.{most_groups};
 ghost use Rattle.step_rules.specs.State.{at_boot, free_in};
 ghost use Rattle.step_rules.specs.declared.phase.Phase.{Phase};
+ghost use Rattle.zone_sizes.specs.Config.{most_cpus, most_frames};
 ghost use Rattle.core_rows.specs.Shown.{state_in};
 ghost use Rattle.core_rows.specs.Rooms.{FitsZone, HasRoom, IsNewSeat};
 
@@ -18,7 +19,7 @@ use step_rules::phase::{Hold, Phase};
 
 /// Seats that have nothing, the zone's own and one for each CPU.
 fn new_seats(alloc: Global, frames: u32, cpus: u32) -> Result<Vec<Seat>, AllocError>
-    requires { cpus ≤ 64 }
+    requires { cpus ≤ most_cpus }
     ensures number { IfOk result (λ seats. vec_len seats ≡ cpus + 1) }
     ensures rooms { IfOk result (λ seats. All (HasRoom frames) seats.items) }
     ensures none { IfOk result (λ seats. All (IsNewSeat frames) seats.items) }
@@ -60,8 +61,8 @@ impl Rows {
     /// Rows of this many frames and CPUs: all frames are free, the root is the only group, and the lock is free. All
     /// room that a step needs is reserved here.
     pub fn new(alloc: Global, frames: u32, cpus: u32) -> Result<Rows, AllocError>
-        requires frames { frames ≤ 1048576 }
-        requires cpus { cpus ≤ 64 }
+        requires frames { frames ≤ most_frames }
+        requires cpus { cpus ≤ most_cpus }
         ensures fits { IfOk result FitsZone }
         ensures state { IfOk result (λ r. state_in r ≡ at_boot (record { frames = frames; cpus = cpus })) }
     {

@@ -7,6 +7,7 @@ ghost use Rattle.step_rules.specs.Usage.{is_below, frames_kept, stock_below, pag
 ghost use Rattle.group_tree.specs.Room.{has_room, PathHasRoom, IsLowestOver};
 ghost use Rattle.step_rules.specs.Legal.{is_of_group, rests, nothing_passes, no_frame_passes, is_settled};
 ghost use Rattle.core_rows.specs.Shown.{state_in};
+ghost use Rattle.zone_sizes.specs.Config.{most_frames};
 ghost use Rattle.core_rows.specs.Rooms.{FitsZone, IsFew};
 
 use crate::phases::{is_passing, keeper_of, passes_back, passes_out};
@@ -44,7 +45,7 @@ impl Rows {
         requires fits { FitsZone self.now }
         requires few { IsFew (state_in self.now) }
         ensures pins { result ≡ pins_of (state_in self.now) seat }
-        ensures bound { result ≤ 255 * 1048576 }
+        ensures bound { result ≤ 255 * most_frames }
     {
         let mut sum = 0u32;
         for frame in 0..self.frames {
@@ -126,7 +127,7 @@ impl Rows {
     fn frames_kept(&self, group: GroupId) -> u128
         requires fits { FitsZone self.now }
         ensures kept { result ≡ frames_kept self.now.tree (state_in self.now).phases self.now.frames group }
-        ensures few { result ≤ 1048576 }
+        ensures few { result ≤ most_frames }
     {
         let mut sum = 0u128;
         for frame in 0..self.frames {

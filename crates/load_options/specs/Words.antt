@@ -11,6 +11,7 @@ use Rattle.clap.specs.declared.builder.action.ArgAction.TheVariants.{SetTrue}
 use Rattle.clap.specs.declared.builder.value_parser.ValueParser.TheVariants.{Signed}
 use Rattle.clap.specs.Kinds.{Kinds}
 use Rattle.zone_sizes.specs.declared.config.Config.{Config}
+use Rattle.zone_sizes.specs.Config.{most_batch, most_cpus, most_frames, most_high, most_stock}
 use Rattle.load_options.specs.declared.task.Options.{Options}
 use Rattle.load_options.specs.declared.task.Task.{Task}
 use Rattle.load_options.specs.declared.task.Task.TheVariants.{Replay, Run}
@@ -36,11 +37,11 @@ flag_rule name = record (new_rule name) {
 -- the options that both subcommands have
 abbrev pub task_rules : List Rule
 task_rules =
-    size_rule (codes "frames") 1048576 (codes "16")
-    ∷ size_rule (codes "cpus") 64 (codes "2")
-    ∷ size_rule (codes "batch") 64 (codes "4")
-    ∷ size_rule (codes "high") 256 (codes "8")
-    ∷ size_rule (codes "stock") 64 (codes "4")
+    size_rule (codes "frames") most_frames (codes "16")
+    ∷ size_rule (codes "cpus") most_cpus (codes "2")
+    ∷ size_rule (codes "batch") most_batch (codes "4")
+    ∷ size_rule (codes "high") most_high (codes "8")
+    ∷ size_rule (codes "stock") most_stock (codes "4")
     ∷ flag_rule (codes "audit")
     ∷ []
 
@@ -87,11 +88,11 @@ o >>= f = option_and_then f o
 -- each size is the value of its own option
 abbrev pub sizes_in : List Row → Option Config
 sizes_in found = do
-  frames ← size_in (codes "frames") 1048576 found
-  cpus ← size_in (codes "cpus") 64 found
-  batch ← size_in (codes "batch") 64 found
-  high ← size_in (codes "high") 256 found
-  stock ← size_in (codes "stock") 64 found
+  frames ← size_in (codes "frames") most_frames found
+  cpus ← size_in (codes "cpus") most_cpus found
+  batch ← size_in (codes "batch") most_batch found
+  high ← size_in (codes "high") most_high found
+  stock ← size_in (codes "stock") most_stock found
   Some (record { frames = frames; cpus = cpus; batch = batch; high = high; stock = stock })
 
 -- the task of this name, with the options of this task alone

@@ -3,6 +3,7 @@ use Rattle.std.specs.Prelude.{◌≡◌, ℕ, ◌≤◌, ◌==◌, Bool, true, I
 use Rattle.std.specs.List.{AllByRecursion}
 use Rattle.step_rules.specs.declared.step.Step.{Step}
 use Rattle.step_rules.specs.declared.step.Answer.{Answer}
+use Rattle.zone_sizes.specs.Config.{most_cpus, most_frames}
 use Rattle.log_lines.specs.declared.line.LogLine.{LogLine}
 use Rattle.log_lines.specs.declared.line.LogLine.TheVariants as kinds
 use Rattle.log_lines.specs.Words.{Word, Fixed, Fits, number, action_words, answer_words, spaced}
@@ -30,9 +31,9 @@ IsEntry step answer = AllByRecursion Fits (number step.seat ∷ step_words step 
 -- the sizes of a zone are in their ranges
 pub record IsZone (frames cpus : ℕ) : Type 0 where
   pub some_frames : 1 ≤ frames
-  pub most_frames : frames ≤ 1048576
+  pub most_frames : frames ≤ most_frames
   pub some_cpus : 1 ≤ cpus
-  pub most_cpus : cpus ≤ 64
+  pub most_cpus : cpus ≤ most_cpus
 
 -- an empty text, or a comment
 abbrev pub is_skipped : List ℕ → Bool

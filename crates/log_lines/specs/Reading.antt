@@ -5,6 +5,7 @@ use Rattle.std.specs.Borrow.{Bor}
 use Rattle.std.specs.List.{slice_split}
 use Rattle.std.specs.Str.Parse.{digits_value}
 use Rattle.group_tree.specs.Bounds.{most_groups}
+use Rattle.zone_sizes.specs.Config.{most_cpus, most_frames}
 use Rattle.step_rules.specs.declared.step.Step.{Step}
 use Rattle.step_rules.specs.declared.step.Action.{Action}
 use Rattle.step_rules.specs.declared.step.Action.TheVariants as action
@@ -165,7 +166,7 @@ zone_of words = do
   frames ← number_at words
   cpus ← number_at frames.1
   last ← only_if (is_end cpus.1) cpus.0
-  only_if (nat_le 1 frames.0 && nat_le frames.0 1048576 && nat_le 1 last && nat_le last 64) (frames.0, last)
+  only_if (nat_le 1 frames.0 && nat_le frames.0 most_frames && nat_le 1 last && nat_le last most_cpus) (frames.0, last)
 
 -- the line of a text
 unfoldable pub line_of : List ℕ → Option LogLine

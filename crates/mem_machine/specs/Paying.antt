@@ -5,6 +5,7 @@ use Rattle.stock_word.specs.declared.view.Stock.{Stock}
 use Rattle.stock_word.specs.Stock.{account_of, pages_of, group_of, is_held}
 use Rattle.cpu_part.specs.Calls.{TakesFront}
 use Rattle.group_tree.specs.Groups.{has_group}
+use Rattle.zone_sizes.specs.Config.{most_cpus, most_frames}
 use Rattle.group_charge.specs.Charges.{current_of}
 use Rattle.mem_machine.specs.Machines.{KnownMachine, Side, is_killed}
 use Rattle.mem_machine.specs.Stocks.{stock_group}
@@ -28,10 +29,14 @@ pub record PaysForFront (group frame : ℕ) (before after : Side) : Type 0 where
   pub takes : TakesFront group (pages_held before - 1) frame before.cpu after.cpu
   pub machine : after.machine ≡ before.machine
 
+<<<<<<< HEAD
 -- the zone has at most 1,048,576 frames and 64 CPUs
+=======
+-- the zone of the table has at most `most_frames` frames and `most_cpus` CPUs
+>>>>>>> w-num
 pub record IsOfSize (table : KnownTable) : Type 0 where
-  pub frames : table.frames ≤ 1048576
-  pub cpus : table.cpus ≤ 64
+  pub frames : table.frames ≤ most_frames
+  pub cpus : table.cpus ≤ most_cpus
 
 -- with this many more pages, fewer than 2^32 pages are charged in all
 abbrev pub HasRoomFor : KnownMachine → ℕ → Type 0
