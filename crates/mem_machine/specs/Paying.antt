@@ -29,11 +29,7 @@ pub record PaysForFront (group frame : ℕ) (before after : Side) : Type 0 where
   pub takes : TakesFront group (pages_held before - 1) frame before.cpu after.cpu
   pub machine : after.machine ≡ before.machine
 
-<<<<<<< HEAD
--- the zone has at most 1,048,576 frames and 64 CPUs
-=======
--- the zone of the table has at most `most_frames` frames and `most_cpus` CPUs
->>>>>>> w-num
+-- the zone has at most `most_frames` frames and `most_cpus` CPUs
 pub record IsOfSize (table : KnownTable) : Type 0 where
   pub frames : table.frames ≤ most_frames
   pub cpus : table.cpus ≤ most_cpus
