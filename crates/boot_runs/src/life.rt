@@ -70,8 +70,8 @@ pub fn answers<N: BootName, R: Wait + Abort>(
     holds(rt, told == *reply);
 }
 
-/// The file of `/a` reads as this text.
-pub fn reads<N: BootName, R: Wait + Abort>(
+// The file of `/a` reads as this text.
+fn reads<N: BootName, R: Wait + Abort>(
     rt: &R,
     system: &System<N>,
     cpu: &mut Cpu<N>,
@@ -85,8 +85,8 @@ pub fn reads<N: BootName, R: Wait + Abort>(
     }
 }
 
-/// The text of an events file with these counts of `max`, `oom`, `oom_kill` and `oom_group_kill`.
-pub fn events_text(rt: &impl Abort, alloc: Global, counts: [u64; 4]) -> String {
+// The text of an events file with these counts of `max`, `oom`, `oom_kill` and `oom_group_kill`.
+fn events_text(rt: &impl Abort, alloc: Global, counts: [u64; 4]) -> String {
     let [max, oom, kills, sets] = counts;
     format!(in alloc;
         "low 0\nhigh 0\nmax {max}\noom {oom}\noom_kill {kills}\noom_group_kill {sets}\n"
@@ -176,13 +176,34 @@ fn keeps_none<N: BootName, R: Wait + Abort>(rt: &R, system: &System<N>, cpu: &mu
     answers(rt, system, cpu, &Cmd::Release { frame }, &refused);
 }
 
+// What the processor is answered that settles in a visit with this gate.
+fn settles_by<N: BootName, R: Wait>(
+    rt: &R,
+    system: &System<N>,
+    cpu: &mut Cpu<N>,
+    gate: &Counter,
+) -> Reply {
+    system.visit_with(rt, cpu, &Cmd::Settle, gate)
+}
+
+// The processor asks for the removal of `/a`, and the answer takes the place of this reply.
+fn rmdir_into<N: BootName, R: Wait>(
+    rt: &R,
+    system: &System<N>,
+    cpu: &mut Cpu<N>,
+    gate: &Counter,
+    reply: &mut Reply,
+) {
+    let path: &[u8] = b"/a";
+    system.visit_into(rt, cpu, &Cmd::Rmdir { path }, gate, reply);
+}
+
 // Processor 2 is visited by a gate that it passes, and is answered in place of an older reply.
 fn passes_the_gate<N: BootName, R: Wait + Abort>(rt: &R, system: &System<N>, cpu: &mut Cpu<N>) {
     let gate = Counter {
         inside: AtomicU32::new(0),
     };
-    let told = system.visit_with(rt, cpu, &Cmd::Settle, &gate);
-    holds(rt, told == Reply::Done);
+    holds(rt, settles_by(rt, system, cpu, &gate) == Reply::Done);
     holds(rt, gate.inside.load(Ordering::SeqCst) == 2);
     is_answered_in_place(rt, system, cpu, &gate);
     holds(rt, gate.inside.load(Ordering::SeqCst) == 4);
@@ -196,8 +217,7 @@ fn is_answered_in_place<N: BootName, R: Wait + Abort>(
     gate: &Counter,
 ) {
     let mut reply = Reply::Free;
-    let path: &[u8] = b"/a";
-    system.visit_into(rt, cpu, &Cmd::Rmdir { path }, gate, &mut reply);
+    rmdir_into(rt, system, cpu, gate, &mut reply);
     holds(rt, reply == Reply::Refused(Fault::NoGroup));
 }
 

@@ -4,7 +4,6 @@ ghost use Rattle.std.specs.Prelude.{IsTrue};
 ghost use Rattle.group_tree.specs.Groups.{has_group};
 
 use group_charge::charges::{Charges, Over};
-use group_tree::event::EventKey;
 use group_tree::group::GroupId;
 use group_tree::tree::Tree;
 use std::process::Abort;
@@ -19,42 +18,6 @@ pub fn group_stands(rt: &impl Abort, tree: &Tree, g: GroupId)
     ensures { IsTrue (has_group tree.now g) }
 {
     assert!(rt; tree.contains(g));
-}
-
-/// Takes the group out.
-pub fn remove_group(rt: &impl Abort, charges: &mut Charges, g: GroupId) {
-    group_stands(rt, charges.tree(), g);
-    assert!(rt; !charges.tree().has_child(g));
-    assert!(rt; g.number() != 0);
-    assert!(rt; charges.current(g) == 0);
-    charges.remove(g);
-}
-
-/// Says whether the group, which isn't the root, is killed as a whole.
-pub fn set_oom_group(rt: &impl Abort, charges: &mut Charges, g: GroupId, oom_group: bool) {
-    group_stands(rt, charges.tree(), g);
-    assert!(rt; g.number() != 0);
-    charges.set_oom_group(g, oom_group);
-}
-
-/// Whether the group is killed as a whole.
-pub fn oom_group(rt: &impl Abort, charges: &Charges, g: GroupId) -> bool {
-    group_stands(rt, charges.tree(), g);
-    charges.oom_group(g)
-}
-
-/// Notes an event of the group.
-pub fn note_event(rt: &impl Abort, charges: &mut Charges, g: GroupId, key: EventKey) {
-    group_stands(rt, charges.tree(), g);
-    match key {
-        EventKey::Max => charges.note_max(g),
-        EventKey::Oom => charges.note_oom(g),
-        EventKey::OomKill => charges.note_kill(g),
-        EventKey::OomGroupKill => {
-            assert!(rt; g.number() != 0);
-            charges.note_group_kill(g)
-        }
-    }
 }
 
 /// Charges n pages to the group, which has to be answered so. Where a limit has no room for them, that is noted.

@@ -1,4 +1,4 @@
-//! The lines that the README of `group_tree` shows, which paths are refused and why, and the texts of all refusals.
+//! The lines that the README of `group_tree` shows, and the texts of all refusals.
 
 ghost use Rattle.std.specs.Prelude.{IsTrue};
 ghost use Rattle.group_tree.specs.Groups.{has_group};
@@ -10,71 +10,6 @@ use group_tree::path::PathText;
 use group_tree::tree::Tree;
 use std::process::Abort;
 use std::test::Fail;
-
-// A group of this path is made, and gets this number.
-fn makes_group(rt: &impl Abort, tree: &mut Tree, path: &[u8], number: u32) {
-    match tree.make(path) {
-        Ok(group) => groups_tell(rt, group.number() == number),
-        Err(_) => panic!(rt; "no group was made"),
-    }
-}
-
-// A group of this path is refused so.
-fn refuses_path(rt: &impl Abort, tree: &mut Tree, path: &[u8], fault: Fault) {
-    groups_tell(rt, tree.make(path) == Err(fault));
-}
-
-#[test]
-fn the_first_cause_refuses_a_path(rt: HostRuntime) -> Result<(), Fail> {
-    let mut tree = Tree::new(rt.alloc())?;
-    makes_group(&rt, &mut tree, b"/user@1000.service", 1);
-    refuses_path(&rt, &mut tree, b"/..", Fault::BadName);
-    refuses_path(&rt, &mut tree, b"/a//b", Fault::BadName);
-    refuses_path(&rt, &mut tree, b"/", Fault::BadName);
-    refuses_path(&rt, &mut tree, b"a", Fault::BadName);
-    refuses_path(&rt, &mut tree, b"/a/a/a/a/a/a/a/a/a", Fault::TooDeep);
-    refuses_path(&rt, &mut tree, b"/a/a/a/a/a/a/a/a/..", Fault::BadName);
-    refuses_path(&rt, &mut tree, b"/user@1000.service", Fault::Exists);
-    refuses_path(&rt, &mut tree, b"/x/y", Fault::NoParent);
-    Ok(())
-}
-
-#[test]
-fn a_name_has_at_most_255_bytes(rt: HostRuntime) -> Result<(), Fail> {
-    let mut tree = Tree::new(rt.alloc())?;
-    let mut path = [b'x'; 257];
-    path[0] = b'/';
-    refuses_path(&rt, &mut tree, &path, Fault::BadName);
-    makes_group(&rt, &mut tree, &path[..256], 1);
-    Ok(())
-}
-
-#[test]
-fn a_path_has_at_most_512_bytes(rt: HostRuntime) -> Result<(), Fail> {
-    let mut tree = Tree::new(rt.alloc())?;
-    let mut path = [b'x'; 513];
-    path[0] = b'/';
-    path[256] = b'/';
-    makes_group(&rt, &mut tree, &path[..256], 1);
-    makes_group(&rt, &mut tree, &path[..512], 2);
-    path[511] = b'/';
-    refuses_path(&rt, &mut tree, &path, Fault::BadName);
-    makes_group(&rt, &mut tree, &path[..511], 3);
-    Ok(())
-}
-
-#[test]
-fn the_65th_group_is_refused(rt: HostRuntime) -> Result<(), Fail> {
-    let mut tree = Tree::new(rt.alloc())?;
-    for n in 1..64_u8 {
-        let path = [b'/', b'a' + n / 8, b'a' + n % 8];
-        makes_group(&rt, &mut tree, &path, u32::from(n));
-    }
-    groups_tell(&rt, tree.groups().len() == 64);
-    refuses_path(&rt, &mut tree, b"/more", Fault::TreeFull);
-    refuses_path(&rt, &mut tree, b"/no/more", Fault::NoParent);
-    Ok(())
-}
 
 // The lines of the README: the group /web/one below /web.
 fn is_one_of_web(rt: &impl Abort, tree: &Tree, web: GroupId, one: GroupId)

@@ -3,8 +3,8 @@ ghost use Rattle.std.specs.Prelude.{◌≡◌, ◌≤◌};
 ghost use Rattle.frame_word.specs.Seats.{IsShut, first_zone_view, first_cpu_view};
 ghost use Rattle.stock_word.specs.Stock.{first_zone_stock, first_processor};
 
+use crate::life::holds;
 use crate::seats::{CpuSeats, close_cpu, new_cpu};
-use crate::small::row_tells;
 use cpu_part::{BootName, Cpu, Tables};
 use frame_word::{FrameSeat, FrameWords};
 use mem_machine::Machine;
@@ -60,13 +60,13 @@ fn lends_and_takes_back<N: BootName>(
     machine.open(tables, cpu);
     assert!(rt; frames <= 64 && cpu.list_len() == 0 && cpu.fresh_len() == 0);
     let refilled = machine.refill(tables, cpu, frames);
-    row_tells(rt, refilled == frames, "frames that are lent");
+    holds(rt, refilled == frames);
     let listed = cpu.list_len();
-    row_tells(rt, listed == frames as usize, "a list of these");
+    holds(rt, listed == frames as usize);
     let first = machine.drain_list(tables, cpu, 3);
-    row_tells(rt, first == 3, "three frames go back");
+    holds(rt, first == 3);
     let rest = machine.drain_list(tables, cpu, frames);
-    row_tells(rt, rest == frames.saturating_sub(3), "and the rest");
+    holds(rt, rest == frames.saturating_sub(3));
     machine.shut(tables, cpu);
 }
 
@@ -84,7 +84,7 @@ fn lends<const F: u32, N: BootName>(rt: &impl Abort, alloc: Global, parts: Large
     let tables = Tables::<N>::new(frames, stocks);
     let mut cpu = new_cpu::<N>(rt, alloc, last);
     let mut machine = Machine::<N>::new(alloc, &tables, zone, machine).expect(rt, "memory");
-    row_tells(rt, cpu.number() == 64, "the last CPU");
+    holds(rt, cpu.number() == 64);
     lends_and_takes_back(rt, &tables, &mut machine, &mut cpu, 64);
     close_cpu(rt, cpu);
     let _ = machine.into_seats();
