@@ -1,8 +1,6 @@
 //! The buddy system: the lines that its README shows, worked runs, and random calls beside the definition of maximal blocks.
 
-ghost use Rattle.std.specs.Prelude.{◌≡◌, replicate, true};
-
-use crate::walks::{greatest_blocks, order_of, same_walks, walks_blocks, zone_tells};
+use crate::walks::{order_of, walks_blocks, zone_tells};
 use rand_core::{Rng, SeedableRng};
 use rand_pcg::Pcg32;
 use std::process::Abort;
@@ -41,9 +39,7 @@ fn gives_block(rt: &impl Abort, zone: &mut Buddy, block: Block) {
 }
 
 // A zone of so many frames.
-fn zone_of(rt: &(impl Abort + AllocGlobal), frames: u32) -> Buddy
-    ensures { result.free ≡ replicate frames true }
-{
+fn zone_of(rt: &(impl Abort + AllocGlobal), frames: u32) -> Buddy {
     Buddy::new(rt.alloc(), frames).expect(rt, "memory")
 }
 
@@ -59,84 +55,6 @@ fn sixteen_frames_one_by_one(rt: HostRuntime) {
         gives_block(&rt, &mut zone, Block { at, order });
     }
     walks_blocks(&rt, zone.blocks(), &[(4, 0)]);
-}
-
-// Takes and gives back a whole zone of 65,536 frames by blocks of 1,024.
-fn take_and_give_all(rt: &impl Abort, zone: &mut Buddy) {
-    let order = order_of(rt, 10);
-    for index in 0..64_u32 {
-        takes_block(rt, zone, order, Some(index * 1024));
-    }
-    takes_block(rt, zone, order_of(rt, 0), None);
-    for index in 0..64_u32 {
-        let at = index * 1024;
-        gives_block(rt, zone, Block { at, order });
-    }
-}
-
-#[test]
-fn the_greatest_zone_is_taken_and_given_back(rt: HostRuntime) {
-    let mut zone = zone_of(&rt, 65_536);
-    take_and_give_all(&rt, &mut zone);
-    walks_blocks(&rt, zone.blocks(), &greatest_blocks());
-}
-
-// A new zone of so many frames has the maximal free blocks of a set that is all free, and so have areas that are set so.
-fn begins_with_all_blocks(rt: &(impl Abort + AllocGlobal), frames: u32) {
-    let free = vec![in rt.alloc(); true; frames as usize].expect(rt, "memory");
-    let mut plain = FreeAreas::new(rt.alloc(), frames).expect(rt, "memory");
-    plain.set_from(free.as_slice());
-    let zone = zone_of(rt, frames);
-    same_walks(rt, zone.blocks(), plain.walk());
-    plain.set_all_free();
-    same_walks(rt, zone.blocks(), plain.walk());
-}
-
-#[test]
-fn new_zones_begin_with_all_blocks(rt: HostRuntime) {
-    for step in 0..300_u32 {
-        begins_with_all_blocks(&rt, 1 + step * 7);
-    }
-    for frames in [
-        0, 2, 1_023, 1_024, 1_025, 2_047, 2_048, 2_100, 65_536, 1_048_575, 1_048_576,
-    ] {
-        begins_with_all_blocks(&rt, frames);
-    }
-}
-
-// Takes every second frame of a zone that is all free.
-fn take_every_second(zone: &mut Buddy, frames: u32)
-    requires { zone.old.free ≡ replicate frames true }
-{
-    for index in 0..frames / 2 {
-        zone.take_frame(index * 2);
-    }
-}
-
-// The numbers below this one, in a random order.
-fn shuffled_below(rt: &(impl Abort + AllocGlobal), count: u32) -> Vec<u32> {
-    let mut random = Pcg32::seed_from_u64(2_025);
-    let mut numbers = Vec::new(rt.alloc());
-    for number in 0..count {
-        numbers.push(number).expect(rt, "memory");
-        let other = random.next_u32() as usize % numbers.len();
-        let last = numbers.len() - 1;
-        numbers.as_mut_slice().swap(other, last);
-    }
-    numbers
-}
-
-#[test]
-fn a_million_frames_taken_by_every_second(rt: HostRuntime) {
-    let frames = 1_048_576;
-    let order = order_of(&rt, 0);
-    let mut zone = zone_of(&rt, frames);
-    take_every_second(&mut zone, frames);
-    for index in shuffled_below(&rt, frames / 2) {
-        let at = index.wrapping_mul(2);
-        gives_block(&rt, &mut zone, Block { at, order });
-    }
-    same_walks(&rt, zone.blocks(), zone_of(&rt, frames).blocks());
 }
 
 // Marks the frames of a block as free or in use.

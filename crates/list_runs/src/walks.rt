@@ -24,23 +24,3 @@ pub fn walks_blocks(rt: &impl Abort, walk: Walk<'_>, pairs: &[(u32, u32)]) {
     }
     zone_tells(rt, rest.next().is_none());
 }
-
-/// Two walks have to be over the same blocks.
-pub fn same_walks(rt: &impl Abort, walk: Walk<'_>, other: Walk<'_>) {
-    let mut rest = other;
-    for block in walk {
-        zone_tells(rt, rest.next() == Some(block));
-    }
-    zone_tells(rt, rest.next().is_none());
-}
-
-/// The blocks of a zone of 65,536 frames that are all free.
-pub fn greatest_blocks() -> [(u32, u32); 64] {
-    let mut pairs = [(10, 0); 64];
-    let mut at = 0_u32;
-    for pair in pairs.iter_mut() {
-        *pair = (10, at);
-        at = at.wrapping_add(1024);
-    }
-    pairs
-}
