@@ -3,7 +3,7 @@
 use crate::gates::GateCall::{After, Before, Inside};
 use crate::gates::{GateCall, HeldVisit, LineTurns, NotedCalls};
 use crate::systems::{TWO_PROCESSORS, add, events_text, holds, run_script, threads_tell};
-use mem_system::{Audit, NoGate};
+use mem_system::Audit;
 
 // Processor 1 is inside the visit of its line while processor 2 is answered all of its own.
 const BESIDE_A_VISIT: &str = "\
@@ -158,21 +158,4 @@ fn a_pin_of_another_thread_outlives_a_kill(rt: HostRuntime) {
     let mut answers = String::new(rt.alloc());
     add(&rt, &mut answers, &[first, events.as_str(), last]);
     threads_tell(&rt, &told, answers.as_str(), "0:0 2:4 3:8\n");
-}
-
-// A script without `go`, one with a processor that has no lines, and what each is answered by threads.
-const UNGATED: [(&str, &str); 2] = [
-    ("1 get 5\n2 get 6\n", "cpu 1\nzero\ncpu 2\nzero\n"),
-    (
-        "2 mkdir /a\ngo\n2 fast 1\n2 read /a memory.current\n",
-        "group 1\ncpu 1\ncpu 2\nlist-empty\n0\n",
-    ),
-];
-
-#[test]
-fn each_processor_has_a_heading(rt: HostRuntime) {
-    for (script, answers) in UNGATED {
-        let told = run_script(&rt, TWO_PROCESSORS, script, "", &NoGate);
-        threads_tell(&rt, &told.expect(&rt, "a run"), answers, "");
-    }
 }
