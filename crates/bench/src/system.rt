@@ -51,8 +51,22 @@ const PATHS: [&[u8]; 8] = [
     b"/d/d/d/d/d/d/d/d",
 ];
 
-/// Serves the command by a visit, and hands its reply on. What `System::visit` says of it is left out: for callers that want
-/// the reply alone its clauses are minutes of a check.
+// Serves the command by a visit. What `System::visit_into` says of it is left out: for callers that want the reply alone its
+// clauses are minutes of a check, so no other function here calls a visit itself. It costs what the call in its place would.
+#[inline(always)]
+fn visit_here<N: BootName, R: Wait>(
+    rt: &R,
+    system: &System<N>,
+    cpu: &mut Cpu<N>,
+    cmd: &Cmd<'_>,
+    reply: &mut Reply,
+)
+    requires { IsOfZone N.frames cmd.now }
+{
+    system.visit_into(rt, cpu, cmd, &NoGate, reply);
+}
+
+/// Serves the command by a visit, and hands its reply on.
 pub fn visit<N: BootName, R: Wait>(
     rt: &R,
     system: &System<N>,
@@ -61,7 +75,9 @@ pub fn visit<N: BootName, R: Wait>(
 ) -> Reply
     requires { IsOfZone N.frames cmd.now }
 {
-    system.visit(rt, cpu, cmd)
+    let mut reply = Reply::Done;
+    visit_here(rt, system, cpu, cmd, &mut reply);
+    reply
 }
 
 // Serves the command by a visit, which writes its reply into this one.
@@ -74,12 +90,14 @@ fn visit_into<N: BootName, R: Wait>(
 )
     requires { IsOfZone N.frames cmd.now }
 {
-    system.visit_into(rt, cpu, cmd, &NoGate, reply);
+    visit_here(rt, system, cpu, cmd, reply);
 }
 
 // Settles by a visit, whose reply is looked at and goes no further.
 fn settle_once<N: BootName, R: Wait>(rt: &R, system: &System<N>, cpu: &mut Cpu<N>) -> bool {
-    matches!(system.visit(rt, cpu, &Cmd::Settle), Reply::Done)
+    let mut reply = Reply::Done;
+    visit_here(rt, system, cpu, &Cmd::Settle, &mut reply);
+    matches!(reply, Reply::Done)
 }
 
 /// Makes the group of the path.

@@ -1,4 +1,5 @@
-//! Boots of a system, their lives and their ends. This crate has nothing but tests.
+//! Tests of a boot from its start to its end, by visits and by value, and of the machine of the greatest size. Nothing but
+//! tests stands here.
 #![tactic(auto)]
 
 #[cfg(test)]
@@ -6,10 +7,10 @@ mod apart;
 #[cfg(test)]
 mod by_value;
 #[cfg(test)]
+mod large;
+#[cfg(test)]
 mod life;
 #[cfg(test)]
-mod rows;
+mod seats;
 #[cfg(test)]
 mod second;
-#[cfg(test)]
-mod usage;

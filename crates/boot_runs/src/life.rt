@@ -1,4 +1,4 @@
-//! A boot of 16 frames and two CPUs starts. Visits make, read, limit and remove a group.
+//! A boot of 16 frames and two processors starts, and a group is made, read, limited and taken out by visits.
 ghost use Rattle.std.specs.Prelude.{◌≡◌, ◌<◌, length};
 ghost use Rattle.mem_system.specs.Commands.{IsOfZone};
 
@@ -13,7 +13,7 @@ use std::sync::Wait;
 use std::sync::atomic::{AtomicU32, Ordering};
 use zone_sizes::config::Config;
 
-/// 16 frames and two CPUs.
+/// 16 frames and two processors.
 pub const SIZES: Config = Config {
     frames: 16,
     cpus: 2,
@@ -22,7 +22,7 @@ pub const SIZES: Config = Config {
     stock: 4,
 };
 
-// Sums the numbers of the CPUs for which it is called inside a visit.
+// Adds up the numbers of the processors that it is called for inside a visit.
 #[derive(Drop)]
 struct Counter {
     inside: AtomicU32,
@@ -38,13 +38,13 @@ impl Gate for Counter {
     fn after(&self, _cpu: u32, _line: usize) {}
 }
 
-/// It holds, or the test fails. A call is cheaper to prove than the macro in its place.
+/// It is so, or the test ends here. A call is proved at less cost than the macro in its place.
 pub fn holds(rt: &impl Abort, is: bool) {
     assert!(rt; is);
 }
 
-/// The reply to the CPU in a visit. It drops the clauses of `System::visit`: a caller that needs only the reply
-/// needn't pay for them.
+/// What the processor is answered in a visit. What `System::visit` says of it is left out: whoever takes the reply alone
+/// needn't pay for its clauses.
 pub fn visit<N: BootName, R: Wait>(
     rt: &R,
     system: &System<N>,
@@ -56,7 +56,7 @@ pub fn visit<N: BootName, R: Wait>(
     system.visit(rt, cpu, cmd)
 }
 
-/// The CPU gets this reply in a visit.
+/// The processor is answered so in a visit.
 pub fn answers<N: BootName, R: Wait + Abort>(
     rt: &R,
     system: &System<N>,
@@ -70,8 +70,8 @@ pub fn answers<N: BootName, R: Wait + Abort>(
     holds(rt, told == *reply);
 }
 
-/// The file of `/a` reads as this text.
-pub fn reads<N: BootName, R: Wait + Abort>(
+// The file of `/a` reads as this text.
+fn reads<N: BootName, R: Wait + Abort>(
     rt: &R,
     system: &System<N>,
     cpu: &mut Cpu<N>,
@@ -85,15 +85,15 @@ pub fn reads<N: BootName, R: Wait + Abort>(
     }
 }
 
-/// The text of an events file with these counts of `max`, `oom`, `oom_kill` and `oom_group_kill`.
-pub fn events_text(rt: &impl Abort, alloc: Global, counts: [u64; 4]) -> String {
+// The text of an events file with these counts of `max`, `oom`, `oom_kill` and `oom_group_kill`.
+fn events_text(rt: &impl Abort, alloc: Global, counts: [u64; 4]) -> String {
     let [max, oom, kills, sets] = counts;
     format!(in alloc;
         "low 0\nhigh 0\nmax {max}\noom {oom}\noom_kill {kills}\noom_group_kill {sets}\n"
     ).expect(rt, "memory")
 }
 
-// CPU 1 makes the group, limits it and reads its files.
+// Processor 1 makes the group, limits it and reads its files.
 fn makes_and_reads<N: BootName, R: Wait + Abort>(
     rt: &R,
     alloc: Global,
@@ -147,7 +147,7 @@ fn tells<N: BootName, R: Wait + Abort>(
     holds(rt, blocks.as_slice() == b"4:0\n".as_slice());
 }
 
-// CPU 2 finds the group and removes it.
+// Processor 2 finds the group and takes it out.
 fn takes_out<N: BootName, R: Wait + Abort>(rt: &R, system: &System<N>, cpu: &mut Cpu<N>) {
     let path: &[u8] = b"/a";
     holds(rt, system.find(rt, path) == GroupId::of(1));
@@ -160,7 +160,7 @@ fn takes_out<N: BootName, R: Wait + Abort>(rt: &R, system: &System<N>, cpu: &mut
     keeps_none(rt, system, cpu);
 }
 
-// Frame 3 is free, and isn't a unit.
+// Frame 3 is free, and no unit.
 fn keeps_none<N: BootName, R: Wait + Abort>(rt: &R, system: &System<N>, cpu: &mut Cpu<N>) {
     let frame = system
         .tables()
@@ -176,19 +176,40 @@ fn keeps_none<N: BootName, R: Wait + Abort>(rt: &R, system: &System<N>, cpu: &mu
     answers(rt, system, cpu, &Cmd::Release { frame }, &refused);
 }
 
-// CPU 2 is visited with a gate, which it passes, and a new reply replaces an older one.
+// What the processor is answered that settles in a visit with this gate.
+fn settles_by<N: BootName, R: Wait>(
+    rt: &R,
+    system: &System<N>,
+    cpu: &mut Cpu<N>,
+    gate: &Counter,
+) -> Reply {
+    system.visit_with(rt, cpu, &Cmd::Settle, gate)
+}
+
+// The processor asks for the removal of `/a`, and the answer takes the place of this reply.
+fn rmdir_into<N: BootName, R: Wait>(
+    rt: &R,
+    system: &System<N>,
+    cpu: &mut Cpu<N>,
+    gate: &Counter,
+    reply: &mut Reply,
+) {
+    let path: &[u8] = b"/a";
+    system.visit_into(rt, cpu, &Cmd::Rmdir { path }, gate, reply);
+}
+
+// Processor 2 is visited by a gate that it passes, and is answered in place of an older reply.
 fn passes_the_gate<N: BootName, R: Wait + Abort>(rt: &R, system: &System<N>, cpu: &mut Cpu<N>) {
     let gate = Counter {
         inside: AtomicU32::new(0),
     };
-    let told = system.visit_with(rt, cpu, &Cmd::Settle, &gate);
-    holds(rt, told == Reply::Done);
+    holds(rt, settles_by(rt, system, cpu, &gate) == Reply::Done);
     holds(rt, gate.inside.load(Ordering::SeqCst) == 2);
     is_answered_in_place(rt, system, cpu, &gate);
     holds(rt, gate.inside.load(Ordering::SeqCst) == 4);
 }
 
-// The reply to the CPU replaces an older one.
+// The reply to the processor takes the place of an older one.
 fn is_answered_in_place<N: BootName, R: Wait + Abort>(
     rt: &R,
     system: &System<N>,
@@ -196,12 +217,11 @@ fn is_answered_in_place<N: BootName, R: Wait + Abort>(
     gate: &Counter,
 ) {
     let mut reply = Reply::Free;
-    let path: &[u8] = b"/a";
-    system.visit_into(rt, cpu, &Cmd::Rmdir { path }, gate, &mut reply);
+    rmdir_into(rt, system, cpu, gate, &mut reply);
     holds(rt, reply == Reply::Refused(Fault::NoGroup));
 }
 
-/// Shuts the system down, in which no CPU has a pin.
+/// Shuts the system down, which no processor has a pin in.
 pub fn ends<N: BootName>(rt: &impl Abort, system: System<N>, cpus: Vec<Cpu<N>>) -> Audit
     requires { length cpus.items ≡ N.frames.cpus }
 {
@@ -211,7 +231,7 @@ pub fn ends<N: BootName>(rt: &impl Abort, system: System<N>, cpus: Vec<Cpu<N>>) 
     }
 }
 
-/// The counts of 16 frames if nothing was charged.
+/// What is counted of 16 frames where nothing was charged.
 pub fn nothing_was_charged() -> Audit {
     Audit {
         frames: 16,
@@ -224,6 +244,7 @@ pub fn nothing_was_charged() -> Audit {
     }
 }
 
+// The whole life of a system.
 fn lives<N: BootName, R: Wait + Abort>(rt: &R, alloc: Global, boot: Boot)
     requires { (boot.frames ≡ N.frames) × (boot.stocks ≡ N.stocks) }
 {
@@ -235,7 +256,7 @@ fn lives<N: BootName, R: Wait + Abort>(rt: &R, alloc: Global, boot: Boot)
     holds(rt, ends(rt, system, cpus) == nothing_was_charged());
 }
 
-// What each of the two CPUs does.
+// What each of the two processors does.
 fn visits<N: BootName, R: Wait + Abort>(
     rt: &R,
     alloc: Global,

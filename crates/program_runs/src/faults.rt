@@ -1,10 +1,10 @@
-//! Bad scripts and failing streams, and what is told of them.
+//! Failing streams, the order in which faults are found, and what is reported of them.
 
 ghost use Rattle.std.specs.Prelude.{◌≤◌, length};
 
 use crate::streams::{
-    AnswerWriter, PLAIN, ProgramRun, ScriptReader, program_holds, reader_in_steps, row_holds,
-    run_program, run_program_on, script_reader, writer_with_room,
+    AnswerWriter, PLAIN, ProgramRun, ScriptReader, broken_reader, is_refused, program_holds,
+    reader_in_steps, row_holds, run_program, run_program_on, script_reader, writer_with_room,
 };
 use load_run::fault::ProgramFault;
 use load_run::fault_lines::tell_fault;
@@ -18,63 +18,6 @@ use std::thread::Threads;
 const GOOD_SCRIPT: &str = "1 mkdir /a\n1 alloc /a 0\n1 blocks\n1 read /a memory.current\n";
 
 const GOOD_ANSWERS: &str = "group 1\nframe 0\n2:4 3:8\n16384\n";
-
-// Scripts for the default sizes, and what is told of the first bad line of each.
-const BAD_SCRIPTS: [(&str, &str); 31] = [
-    ("0 show", "bad line 1\n"),
-    ("3 show\n", "bad line 1\n"),
-    ("1  show", "bad line 1\n"),
-    ("1 show \n", "bad line 1\n"),
-    ("1 show\r\n", "bad line 1\n"),
-    (" 1 show\n", "bad line 1\n"),
-    ("\t1 show\n", "bad line 1\n"),
-    (" \n", "bad line 1\n"),
-    ("1\n", "bad line 1\n"),
-    ("1 \n", "bad line 1\n"),
-    ("show\n", "bad line 1\n"),
-    ("1 show\n\n# two\n1 shows\n", "bad line 4\n"),
-    ("1 Show\n", "bad line 1\n"),
-    ("1 get 16\n", "bad line 1\n"),
-    ("1 get -1\n", "bad line 1\n"),
-    ("1 get \n", "bad line 1\n"),
-    ("1 get 4294967296\n", "bad line 1\n"),
-    ("1 fast 64\n", "bad line 1\n"),
-    ("1 fast 18446744073709551616\n", "bad line 1\n"),
-    ("1 mkdir \n", "bad line 1\n"),
-    ("1 mkdir /a /b\n", "bad line 1\n"),
-    ("1 mkdir /a\u{0}\n", "bad line 1\n"),
-    ("1 show\u{0}\n", "bad line 1\n"),
-    ("\u{0}", "bad line 1\n"),
-    ("1 alloc  0\n", "bad line 1\n"),
-    ("1 alloc /a\n", "bad line 1\n"),
-    ("1 mkdir /a\n1 write /a memory.max\n", "bad line 2\n"),
-    ("go\n1 show\ngo\n", "bad line 3\n"),
-    ("go \n", "bad line 1\n"),
-    (
-        "1 show\n\n# a comment\n2 show\n3 show\n0 show\n",
-        "bad line 5\n",
-    ),
-    ("1 show\n2 show\n1 release 15\n1 release 16", "bad line 4\n"),
-];
-
-// The script's first bad line is told so, and nothing is answered.
-fn tells_first_bad_line(
-    rt: &(impl AllocGlobal + Threads + Wait + Abort + Sync),
-    script: &str,
-    told: &str,
-) {
-    let ended = run_program(rt, &PLAIN, script_reader(script.as_bytes()), 10_000);
-    row_holds(rt, ended.status == 2, script);
-    row_holds(rt, ended.faults.as_slice() == told.as_bytes(), script);
-    row_holds(rt, ended.output.is_empty(), script);
-}
-
-#[test]
-fn tells_each_first_bad_line(rt: HostRuntime) {
-    for (script, told) in BAD_SCRIPTS {
-        tells_first_bad_line(&rt, script, told);
-    }
-}
 
 // The run ended well, with the answers to `GOOD_SCRIPT` and no fault.
 fn script_is_answered(ended: &ProgramRun) -> bool {
@@ -253,4 +196,14 @@ fn each_fault_is_printed_as_it_is_displayed(rt: HostRuntime) {
     ] {
         is_printed_as_displayed(&rt, &fault, "\n");
     }
+}
+
+// Words are judged before a script is read, and the script before the sizes: `tests/rows` has that a bad script is
+// reported first.
+#[test]
+fn judges_the_words_before_it_reads(rt: HostRuntime) {
+    let clap = "error: invalid value '0' for '--frames <N>'";
+    is_refused(&rt, "replay --frames=0", broken_reader(), 2, clap);
+    let bad_sizes = "replay --batch 4 --high 2";
+    is_refused(&rt, bad_sizes, broken_reader(), 1, "input failed\n");
 }

@@ -35,20 +35,3 @@ fn each_cpu_has_a_thread(rt: HostRuntime) -> Result<(), Fail> {
     row_holds(&rt, ended.output.ends_with(ending.as_bytes()), ending);
     Ok(())
 }
-
-// There are 1,024 blocks, all of the greatest order: the first two and the last two, and the bytes of all.
-#[test]
-fn its_blocks_are_listed(rt: HostRuntime) {
-    let words = ["replay", "--frames", "1048576", "--cpus", "64"];
-    let script = script_reader(b"64 blocks\n".as_slice());
-    let ended = run_program(&rt, &words, script, 20_000);
-    ends_well(&rt, &ended);
-    let told = ended.output.as_slice();
-    row_holds(&rt, told.starts_with(b"10:0 10:1024 ".as_slice()), "begin");
-    row_holds(
-        &rt,
-        told.ends_with(b" 10:1046528 10:1047552\n".as_slice()),
-        "end",
-    );
-    row_holds(&rt, told.len() == 10_176, "bytes");
-}

@@ -1,4 +1,4 @@
-//! Runs of the program over readers and writers in memory, as tests: worked scripts and the words of the command line.
+//! Runs of the program over readers and writers in memory that fail, as tests, and the words of the command line.
 //! Nothing but tests stands here.
 #![tactic(auto)]
 
@@ -7,18 +7,8 @@ mod faults;
 #[cfg(test)]
 mod greatest;
 #[cfg(test)]
-mod rows;
-#[cfg(test)]
-mod scripts;
-#[cfg(test)]
-mod sizes;
-#[cfg(test)]
 mod streams;
 #[cfg(test)]
 mod texts;
-#[cfg(test)]
-mod threads;
-#[cfg(test)]
-mod visits;
 #[cfg(test)]
 mod words;

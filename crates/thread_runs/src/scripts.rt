@@ -1,11 +1,11 @@
-//! Scripts whose lines run in one thread for each CPU.
+//! Scripts whose lines run in a thread for each processor.
 
 use crate::gates::GateCall::{After, Before, Inside};
 use crate::gates::{GateCall, HeldVisit, LineTurns, NotedCalls};
 use crate::systems::{TWO_PROCESSORS, add, events_text, holds, run_script, threads_tell};
-use mem_system::{Audit, NoGate};
+use mem_system::Audit;
 
-// CPU 1 is inside the visit of its line while CPU 2 is answered all of its lines.
+// Processor 1 is inside the visit of its line while processor 2 is answered all of its own.
 const BESIDE_A_VISIT: &str = "\
 1 mkdir /a
 2 alloc /a 0
@@ -37,7 +37,7 @@ fn a_processor_goes_on_while_another_is_inside(rt: HostRuntime) {
     holds(&rt, told.audit == audit);
 }
 
-// CPU 1 is inside the visit of its release, which isn't served yet, while CPU 2 is answered its line.
+// CPU 1 is inside the visit of its release, before it is served, while CPU 2 is answered its line.
 const BESIDE_A_RELEASE: &str = "\
 1 mkdir /a
 1 alloc /a 0
@@ -128,7 +128,7 @@ fn a_gate_is_called_around_each_line_and_inside_each_visit(rt: HostRuntime) {
     holds(&rt, gate.are(&CALLS_BY_FIRST, &CALLS_BY_SECOND));
 }
 
-// CPU 1 kills the group of a frame while CPU 2 has a reference on it.
+// Processor 1 kills the group of a frame while processor 2 refers to it.
 const KILL_BESIDE_A_PIN: &str = "\
 1 mkdir /a
 1 mkdir /a/b
@@ -158,21 +158,4 @@ fn a_pin_of_another_thread_outlives_a_kill(rt: HostRuntime) {
     let mut answers = String::new(rt.alloc());
     add(&rt, &mut answers, &[first, events.as_str(), last]);
     threads_tell(&rt, &told, answers.as_str(), "0:0 2:4 3:8\n");
-}
-
-// A script without `go`, one with a CPU that has no lines, and the answers of the threads to each.
-const UNGATED: [(&str, &str); 2] = [
-    ("1 get 5\n2 get 6\n", "cpu 1\nzero\ncpu 2\nzero\n"),
-    (
-        "2 mkdir /a\ngo\n2 fast 1\n2 read /a memory.current\n",
-        "group 1\ncpu 1\ncpu 2\nlist-empty\n0\n",
-    ),
-];
-
-#[test]
-fn each_processor_has_a_heading(rt: HostRuntime) {
-    for (script, answers) in UNGATED {
-        let told = run_script(&rt, TWO_PROCESSORS, script, "", &NoGate);
-        threads_tell(&rt, &told.expect(&rt, "a run"), answers, "");
-    }
 }

@@ -1,0 +1,49 @@
+//! The lines that the README of `control_files` shows, and what no script can ask.
+
+use crate::calls::groups_tell;
+use control_files::file::{File, file_named, file_text};
+use control_files::flag::{read_flag, write_flag};
+use control_files::limit::{read_limit, write_limit};
+use group_charge::charges::Charges;
+use group_tree::fault::Fault;
+use std::test::Fail;
+
+// The lines of the README.
+#[test]
+fn the_first_lines_of_use(rt: HostRuntime) -> Result<(), Fail> {
+    let mut charges = Charges::new(rt.alloc())?;
+    let web = charges.make(b"/web")?;
+    charges.set_max(web, read_limit(b"1M\n")?);
+    assert!(rt; charges.fits(5));
+    charges.try_charge(web, 5)?;
+    let text = file_text(&charges, web, File::Max)?;
+    assert_eq!(rt; text.as_bytes(), b"1048576\n".as_slice());
+    let text = file_text(&charges, web, File::Current)?;
+    assert_eq!(rt; text.as_bytes(), b"20480\n".as_slice());
+    assert_eq!(rt; read_limit(b"1 M"), Err(Fault::BadLimit));
+    Ok(())
+}
+
+// A line feed ends no value in a script.
+#[test]
+fn limits_and_flags_may_end_with_a_line_feed(rt: HostRuntime) {
+    groups_tell(&rt, read_limit(b"max\n") == Ok(None));
+    groups_tell(&rt, write_limit(None).as_bytes() == b"max\n".as_slice());
+    groups_tell(&rt, read_flag(b" 1\t\n") == Ok(true));
+    groups_tell(&rt, read_flag(b" \n") == Err(Fault::BadLimit));
+    groups_tell(&rt, write_flag(true).as_bytes() == b"1\n".as_slice());
+}
+
+#[test]
+fn files_are_found_by_name(rt: HostRuntime) {
+    groups_tell(&rt, file_named(b"memory.oom.group") == Some(File::OomGroup));
+    groups_tell(&rt, File::EventsLocal.name() == "memory.events.local");
+    groups_tell(
+        &rt,
+        File::OomGroup.is_writable() && File::OomGroup.is_readable(),
+    );
+    groups_tell(
+        &rt,
+        !File::Peak.is_writable() && !File::Reclaim.is_readable(),
+    );
+}

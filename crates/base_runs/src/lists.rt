@@ -1,0 +1,39 @@
+//! The inactive and the active list: the lines that the README of `lru_lists` shows.
+
+ghost use Rattle.std.specs.Prelude.{◌≡◌, ◌<◌, length};
+ghost use Rattle.lru_lists.specs.Lists.{StandsIn};
+
+use crate::walks::zone_tells;
+use lru_lists::laws;
+use lru_lists::links::Links;
+use lru_lists::lru::{Lru, Touched};
+use lru_lists::record::LruList;
+use std::process::Abort;
+
+#[test]
+fn a_second_touch_moves_a_unit(rt: HostRuntime) {
+    let mut links = Links::new(rt.alloc(), 16).expect(&rt, "memory");
+    let mut lru = Lru::new(7);
+    lru.add(&mut links, 3);
+    touches_unit_3(&rt, &mut lru, &mut links, Touched::Marked);
+    touches_unit_3(&rt, &mut lru, &mut links, Touched::Active);
+    zone_tells(&rt, lru.is_on(&links, 3) == Some(LruList::Active));
+    lru.age(&mut links);
+    zone_tells(&rt, lru.is_on(&links, 3) == Some(LruList::Inactive));
+}
+
+// Unit 3, which has to be on a list, is touched with this answer.
+fn touches_unit_3(rt: &impl Abort, lru: &mut Lru, links: &mut Links, answer: Touched)
+    requires { (3 < length links.old) × StandsIn links.old lru.old }
+    ensures stands { StandsIn links.new lru.new }
+    ensures frames { length links.new ≡ length links.old }
+{
+    assert!(rt; lru.is_on(links, 3).is_some());
+    zone_tells(rt, lru.touch(links, 3) == answer);
+}
+
+#[test]
+fn the_laws_can_be_called() {
+    laws::others_stand();
+    laws::one_of_all_changes();
+}

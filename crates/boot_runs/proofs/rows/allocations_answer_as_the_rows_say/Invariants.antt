@@ -1,4 +1,0 @@
-use Rattle.boot_runs.proofs.rows.allocations_answer_as_the_rows_say.Given as goal
-
-abbrev pub ghosts-lives : goal.ghosts-lives
-ghosts-lives g a = record { frames = a.boot.frames; stocks = a.boot.stocks }

@@ -1,0 +1,105 @@
+//! A machine of the greatest size, 1,048,576 frames and 64 CPUs. The last CPU is lent frames and returns them.
+ghost use Rattle.std.specs.Prelude.{◌≡◌, ◌≤◌};
+ghost use Rattle.frame_word.specs.Seats.{IsShut, first_zone_view, first_cpu_view};
+ghost use Rattle.stock_word.specs.Stock.{first_zone_stock, first_processor};
+
+use crate::life::holds;
+use crate::seats::{CpuSeats, close_cpu, new_cpu};
+use cpu_part::{BootName, Cpu, Tables};
+use frame_word::{FrameSeat, FrameWords};
+use mem_machine::Machine;
+use std::alloc::Global;
+use std::marker::Brand;
+use std::process::Abort;
+use stock_word::{StockSeat, StockWords};
+
+/// The tables of F frames and 64 CPUs, and the seats of the machine and of CPU 64, as they are at first.
+#[derive(Drop)]
+struct LargeParts<const F: u32> {
+    frames: FrameWords,
+    stocks: StockWords,
+    zone: FrameSeat,
+    machine: StockSeat,
+    last: CpuSeats,
+    ghost sizes: { (frames.frames ≡ F) × (frames.cpus ≡ 64) × (stocks.cpus ≡ 64) },
+    ghost zone_is: { (zone.table ≡ frames.table) × (zone.view ≡ first_zone_view F) },
+    ghost machine_is: { (machine.table ≡ stocks.table) × (machine.view ≡ first_zone_stock) },
+    ghost last_is: { (last.frames.table ≡ frames.table) × (last.frames.view ≡ first_cpu_view 64) },
+    ghost last_pays: { (last.stock.table ≡ stocks.table) × (last.stock.view ≡ first_processor 64) },
+}
+
+// The parts of a new boot.
+fn make_large_parts<const F: u32>(rt: &impl Abort, alloc: Global) -> LargeParts<F>
+    requires { 1 ≤ F }
+{
+    let (frames, zone, mut seats) = FrameWords::new(alloc, F, 64).expect(rt, "memory");
+    let (stocks, machine, mut payers) = StockWords::new(alloc, 64).expect(rt, "memory");
+    let last = CpuSeats {
+        frames: seats.pop().expect(rt, "a seat"),
+        stock: payers.pop().expect(rt, "a stock seat"),
+    };
+    LargeParts {
+        frames,
+        stocks,
+        zone,
+        machine,
+        last,
+    }
+}
+
+// In a visit so many frames come to the CPU's list, and go back: three, and then the others.
+fn lends_and_takes_back<N: BootName>(
+    rt: &impl Abort,
+    tables: &Tables<N>,
+    machine: &mut Machine<N>,
+    cpu: &mut Cpu<N>,
+    frames: u32,
+)
+    requires { IsShut machine.old.frame_seat cpu.old.number }
+{
+    machine.open(tables, cpu);
+    assert!(rt; frames <= 64 && cpu.list_len() == 0 && cpu.fresh_len() == 0);
+    let refilled = machine.refill(tables, cpu, frames);
+    holds(rt, refilled == frames);
+    let listed = cpu.list_len();
+    holds(rt, listed == frames as usize);
+    let first = machine.drain_list(tables, cpu, 3);
+    holds(rt, first == 3);
+    let rest = machine.drain_list(tables, cpu, frames);
+    holds(rt, rest == frames.saturating_sub(3));
+    machine.shut(tables, cpu);
+}
+
+// In a visit of CPU 64 of a machine of F frames, 64 come to its list and go back.
+fn lends<const F: u32, N: BootName>(rt: &impl Abort, alloc: Global, parts: LargeParts<F>)
+    requires { (parts.frames ≡ N.frames) × (parts.stocks ≡ N.stocks) }
+{
+    let LargeParts {
+        frames,
+        stocks,
+        zone,
+        machine,
+        last,
+    } = parts;
+    let tables = Tables::<N>::new(frames, stocks);
+    let mut cpu = new_cpu::<N>(rt, alloc, last);
+    let mut machine = Machine::<N>::new(alloc, &tables, zone, machine).expect(rt, "memory");
+    holds(rt, cpu.number() == 64);
+    lends_and_takes_back(rt, &tables, &mut machine, &mut cpu, 64);
+    close_cpu(rt, cpu);
+    let _ = machine.into_seats();
+    let _ = tables.into_tables();
+}
+
+// In a visit of CPU 64 of a machine of 1,048,576 frames, 64 come to its list and go back.
+fn lends_of_many<N: BootName>(rt: &impl Abort, alloc: Global, parts: LargeParts<1048576>)
+    requires { (parts.frames ≡ N.frames) × (parts.stocks ≡ N.stocks) }
+{
+    lends::<1048576, N>(rt, alloc, parts);
+}
+
+#[test]
+fn frames_are_lent_and_taken_back(rt: HostRuntime) {
+    let parts = make_large_parts::<1048576>(&rt, rt.alloc());
+    lends_of_many::<Brand>(&rt, rt.alloc(), parts);
+}
