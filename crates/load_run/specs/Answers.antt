@@ -86,8 +86,8 @@ AreAnswers (Replay is_explained) sizes is_audited lines text =
     AreReplayAnswers sizes is_explained is_audited lines text
 AreAnswers Run sizes is_audited lines text = AreThreadAnswers sizes is_audited lines text
 
--- these options are asked for, a boot takes their sizes, and the input is a script for them: the text is what a boot
--- of these sizes answers to it for their task, and reports of its end if they ask for that
+-- These options are asked for, a boot takes their sizes, and the input is a script for them. The text is what a boot of
+-- these sizes answers to the script for the task of the options. It ends with a report of the end, if they ask for one.
 pub record IsAnswered (asked : Option Options) (text input : List ℕ) : Type 0 where
   pub options : Options
   pub is_asked : asked ≡ Some options

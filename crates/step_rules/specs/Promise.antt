@@ -1,4 +1,4 @@
--- The promise: what every list of steps keeps, said of what is shown when the lock is free. The free areas are the
+-- The promise: what every legal run of steps keeps, said of what is shown when the lock is free. The free areas are the
 -- maximal free blocks (Knuth, The Art of Computer Programming, 2.5; Gorman, Understanding the Linux Virtual Memory
 -- Manager, chapter 6). Each frame is in one place. Each memory.current is right, and no grant passed memory.max
 -- (cgroup-v2.rst). No frame was returned twice for one use.
