@@ -1,6 +1,6 @@
--- Serves the contract of `drive`: the answers are written, or a beginning of them; or a fault has its cause, and is told.
+-- Serves the contract of `drive_script`: the answers are written, or a beginning of them; or a fault has its cause, and is told.
 use Rattle.load_run.proofs.Driving.{drives_badly, drives_short, drives_well}
-use Rattle.load_run.proofs.program.drive.Goals as goal
+use Rattle.load_run.proofs.program.drive_script.Goals as goal
 
 pub returns-in-Ok-write_answers : goal.returns-in-Ok-write_answers
 returns-in-Ok-write_answers g c = record {
