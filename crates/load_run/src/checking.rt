@@ -37,15 +37,10 @@ pub fn drive_check<I: Read, O: Write, F: Write>(
 }
 
 // Reports what the log is.
-fn report_end<O: Write, F: Write>(
-    alloc: Global,
-    end: &LogEnd,
-    output: &mut O,
-    faults: &mut F,
-) -> u8
+fn report_end<O: Write, F: Write>(alloc: Global, end: &LogEnd, output: &mut O, faults: &mut F) -> u8
     ensures checks { (input : Option (List ℕ)) → IsEndOf input end.now
         → Checks input (written (O.contents output.old) (F.contents faults.old))
-            (written (O.contents output.new) (F.contents faults.new)) result }
+        (written (O.contents output.new) (F.contents faults.new)) result }
 {
     match end {
         LogEnd::Legal { .. } => report_verdict(alloc, end, 0, output, faults),
@@ -64,7 +59,7 @@ fn report_verdict<O: Write, F: Write>(
 ) -> u8
     ensures checks { (input : Option (List ℕ)) → IsEndOf input end.now → IsVerdict end.now status
         → Checks input (written (O.contents output.old) (F.contents faults.old))
-            (written (O.contents output.new) (F.contents faults.new)) result }
+        (written (O.contents output.new) (F.contents faults.new)) result }
 {
     match write_verdict(alloc, end, output) {
         Ok(()) => status,
@@ -73,11 +68,7 @@ fn report_verdict<O: Write, F: Write>(
 }
 
 // Writes the line that says what the log is.
-fn write_verdict<O: Write>(
-    alloc: Global,
-    end: &LogEnd,
-    output: &mut O,
-) -> Result<(), ProgramFault>
+fn write_verdict<O: Write>(alloc: Global, end: &LogEnd, output: &mut O) -> Result<(), ProgramFault>
     ensures written { OnOk result (Appends (O.contents output.old) (O.contents output.new) (end_text end.now)) }
     ensures left { IfErr result (LeavesLine (end_text end.now) (O.contents output.old) (O.contents output.new)) }
 {
