@@ -187,3 +187,9 @@ pub check_drives : (options : Options) (input : Option (List ℕ)) (before after
     → Checks input before after status → Drives (Some options) input before after status
 check_drives options input before after status is checks =
     subst (λ (task : Task). DrivesTask task (Some options) input before after status) (sym is) checks
+
+-- what the options promise is what the words do that ask for them
+pub asked_drives : (asked : Option Options) (options : Options) (input : Option (List ℕ)) (before after : Written) (status : ℕ)
+    → asked ≡ Some options → Drives (Some options) input before after status → Drives asked input before after status
+asked_drives asked options input before after status is drives =
+    subst (λ (a : Option Options). Drives a input before after status) (sym is) drives

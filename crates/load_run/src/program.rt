@@ -62,6 +62,7 @@ pub fn drive<R: Threads + Wait + Sync, S: AsStr, I: Read, O: Write, F: Write>(
 }
 
 // Runs the task that is asked for.
+#[tactic(auto, using(crate::proofs::Verdicts::check_drives, crate::proofs::Verdicts::script_drives))]
 fn drive_task<R: Threads + Wait + Sync, I: Read, O: Write, F: Write>(
     rt: &R,
     alloc: Global,
@@ -77,7 +78,8 @@ fn drive_task<R: Threads + Wait + Sync, I: Read, O: Write, F: Write>(
 {
     match options.task {
         Task::Check => drive_check(alloc, input, output, faults),
-        Task::Replay { .. } | Task::Run => drive_script(rt, alloc, options, input, output, faults),
+        Task::Replay { .. } => drive_script(rt, alloc, options, input, output, faults),
+        Task::Run => drive_script(rt, alloc, options, input, output, faults),
     }
 }
 
