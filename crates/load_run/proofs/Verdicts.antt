@@ -1,7 +1,7 @@
 -- What a check promises, from what the log is and what the writers took. Serves `drive_check`.
 use Rattle.std.proofs.Common.{◌≡◌, ◌∙◌, ◌↔◌, ℕ, ◌≤◌, List, Option, None, Some, IfSome, IsTrue, ap, arith, inl, inr, refl, subst, sym}
 use Rattle.std.proofs.lemmas.Bool.{false≢true}
-use Rattle.std.specs.Prelude.{◌⊎◌, is_some}
+use Rattle.std.specs.Prelude.{◌⊎◌, ⊤, is_some}
 use Rattle.std.specs.Io.KnownBytes.{Appends}
 use Rattle.step_rules.specs.declared.step.Answer.{Answer}
 use Rattle.log_check.specs.declared.end.LogEnd.{LogEnd}
@@ -123,6 +123,26 @@ pub checks_early : (input output faults faults_after : Option (List ℕ)) (fault
     → Checks input (written output faults) (written output faults_after) status
 checks_early input output faults faults_after fault status left ended told =
     checks_failed input output output faults faults_after fault status (everywhere input (LeavesReport fault output output) left) ended told
+
+-- a fault that comes before anything is known of the log
+abbrev pub IsEarly : ProgramFault → Type 0
+IsEarly Input = ⊤
+IsEarly (NoMemory e) = ⊤
+IsEarly fault = ⊥
+
+-- so with each of these
+pub checks_fault : (input output faults faults_after : Option (List ℕ)) (fault : ProgramFault) (status : ℕ) → IsEarly fault
+    → status ≡ status_of fault → AppendsBeginning faults faults_after (fault_text fault)
+    → Checks input (written output faults) (written output faults_after) status
+checks_fault input output faults faults_after Input status is ended told =
+    checks_early input output faults faults_after Input status (λ text. refl) ended told
+checks_fault input output faults faults_after (NoMemory e) status is ended told =
+    checks_early input output faults faults_after (NoMemory e) status (λ text. refl) ended told
+checks_fault input output faults faults_after (Words f) status is ended told = absurd is
+checks_fault input output faults faults_after (Script f) status is ended told = absurd is
+checks_fault input output faults faults_after (BadLogLine n) status is ended told = absurd is
+checks_fault input output faults faults_after BadConfig status is ended told = absurd is
+checks_fault input output faults faults_after Output status is ended told = absurd is
 
 -- what was to be written wasn't, or not whole
 pub checks_unwritten : (input before after faults faults_after : Option (List ℕ)) (end : LogEnd) (fault : ProgramFault) (status : ℕ) → IsEndOf input end

@@ -20,6 +20,7 @@ use std::io::{Read, Write};
 /// status is 0. If a step isn't legal, the output gets its line, its number and the answer that was due, and the status
 /// is 1. A bad line is a fault of status 2. If the input can't be read, the output can't be written, or memory runs out,
 /// that is a fault of status 1.
+#[tactic(auto, using(crate::proofs::Verdicts::end_of, crate::proofs::Verdicts::checks_fault))]
 pub fn drive_check<I: Read, O: Write, F: Write>(
     alloc: Global,
     input: &mut I,
@@ -37,6 +38,7 @@ pub fn drive_check<I: Read, O: Write, F: Write>(
 }
 
 // Reports what the log is.
+#[tactic(auto, using(crate::proofs::Verdicts::checks_bad_line))]
 fn report_end<O: Write, F: Write>(alloc: Global, end: &LogEnd, output: &mut O, faults: &mut F) -> u8
     ensures checks { (input : Option (List ℕ)) → IsEndOf input end.now
         → Checks input (written (O.contents output.old) (F.contents faults.old))
@@ -50,6 +52,7 @@ fn report_end<O: Write, F: Write>(alloc: Global, end: &LogEnd, output: &mut O, f
 }
 
 // Reports that a log is legal or isn't, which has this status.
+#[tactic(auto, using(crate::proofs::Verdicts::checks_written, crate::proofs::Verdicts::checks_unwritten))]
 fn report_verdict<O: Write, F: Write>(
     alloc: Global,
     end: &LogEnd,
