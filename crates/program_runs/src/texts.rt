@@ -10,7 +10,7 @@ use std::thread::Threads;
 const TEXTS: &str = r#"
 $ memcg
 error: 'memcg' requires a subcommand but one was not provided
-  [subcommands: replay, run, help]
+  [subcommands: replay, run, check, help]
 
 Usage: memcg <COMMAND>
 
@@ -23,6 +23,7 @@ Usage: memcg <COMMAND>
 Commands:
   replay  Runs the lines of a script, one after the other
   run     Runs the lines before `go` in the same way, and the later ones in one thread for each CPU
+  check   Checks a log of steps: whether each step keeps the rules
   help    Print this message or the help of the given subcommand(s)
 
 Options:
@@ -35,6 +36,7 @@ Usage: memcg <COMMAND>
 Commands:
   replay  Runs the lines of a script, one after the other
   run     Runs the lines before `go` in the same way, and the later ones in one thread for each CPU
+  check   Checks a log of steps: whether each step keeps the rules
   help    Print this message or the help of the given subcommand(s)
 
 Options:
@@ -66,6 +68,13 @@ Options:
       --stock <N>   Pages that a CPU charges ahead, 1 to 64 [default: 4]
       --audit       Reports at the end which pins were held, and the counts
   -h, --help        Print help
+$ memcg check --help
+Checks a log of steps: whether each step keeps the rules
+
+Usage: memcg check
+
+Options:
+  -h, --help  Print help
 $ memcg play
 error: unrecognized subcommand 'play'
 
@@ -84,6 +93,12 @@ $ memcg run --explain
 error: unexpected argument '--explain' found
 
 Usage: memcg run [OPTIONS]
+
+For more information, try '--help'.
+$ memcg check --frames=4
+error: unexpected argument '--frames' found
+
+Usage: memcg check
 
 For more information, try '--help'.
 $ memcg replay --audit=1
