@@ -1,4 +1,5 @@
-//! Runs of the core as tests, worked by hand from the table of the steps, and the texts and checks of logs.
+//! Tests of the core by runs that are worked out by hand from the rules of `step_rules`, and tests of the texts and
+//! checks of logs.
 #![tactic(auto)]
 
 #[cfg(test)]
