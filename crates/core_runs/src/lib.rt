@@ -1,5 +1,4 @@
-//! Tests of the core by runs that are worked out by hand from the rules of `step_rules`, and tests of the texts and
-//! checks of logs.
+//! Tests of the core and of logs. The runs of the core are worked out by hand from the rules of `step_rules`.
 #![tactic(auto)]
 
 #[cfg(test)]

@@ -64,7 +64,7 @@ fn tell_path(core: &Core, group: GroupId, text: &mut String) -> Result<()> {
     Ok(())
 }
 
-// Writes where a frame is.
+// Writes the place of a frame.
 fn tell_place(core: &Core, cpus: u32, frame: u32, text: &mut String) -> Result<()> {
     ensure!(frame < core.areas().frames(), "no frame");
     if let Some(cpu) = fresh_at(core, cpus, frame) {

@@ -157,7 +157,7 @@ fn is_so(core: &mut Core, text: &str) -> bool {
     }
 }
 
-/// Makes the steps of this text. Returns the first one that doesn't get its answer.
+/// Makes the steps of this text. Returns the first one that is malformed or doesn't get its answer.
 pub fn first_wrong<'a>(core: &mut Core, steps: &'a str) -> Option<&'a str> {
     for text in steps.split(',') {
         if !text.is_empty() && !is_so(core, text) {

@@ -24,8 +24,8 @@ pub const TWO_PROCESSORS: Config = Config {
     stock: 4,
 };
 
-/// The answers of the threads, the answers to the lines after them, the pins that each of the first four CPUs then
-/// has, and the audit of the end.
+/// The answers of the threads, and those to the lines after them. Then the pins that each of the first four CPUs has,
+/// and the audit of the end.
 #[derive(Drop)]
 pub struct ThreadAnswers {
     pub by_threads: Vec<u8>,
