@@ -38,8 +38,8 @@ enum Taking {
     Rmdir,
 }
 
-// Units of one frame that a group keeps: their state and number, what reclaims them, and how many parts of the cost
-// each has.
+// Units of one frame that a group keeps: their state and number, what reclaims them, and into how many parts the cost
+// of each is divided.
 #[derive(Clone, Copy)]
 struct Kept {
     name: &'static str,

@@ -68,7 +68,7 @@ pub fn broken_reader() -> ScriptReader<'static> {
     }
 }
 
-/// A writer that takes a few bytes at a time. It fails once its room is used up, or when it is flushed.
+/// A writer that takes a few bytes at a time. It fails once its room is used up. A flush may fail too.
 #[derive(Drop)]
 pub struct AnswerWriter {
     pub text: Vec<u8>,
