@@ -1,4 +1,4 @@
-//! What the program writes of words that ask for help or that are bad, whole.
+//! The whole texts that the program writes if its words ask for help or are bad.
 
 use crate::streams::{row_holds, run_program, script_reader};
 use std::process::Abort;
@@ -6,7 +6,7 @@ use std::str;
 use std::sync::Wait;
 use std::thread::Threads;
 
-// Each text follows a line with its words. `tests/write-texts` writes them anew.
+// Each text follows a line with its words. `tests/write-texts` regenerates them.
 const TEXTS: &str = r#"
 $ memcg
 error: 'memcg' requires a subcommand but one was not provided
@@ -126,7 +126,7 @@ Usage: memcg replay [OPTIONS]
 
 For more information, try '--help'."#;
 
-// The program writes this text of these words, and no answer. A test that fails here shows what it wrote.
+// For these words the program writes this text and no answer. If the test fails here, it shows what was written.
 fn writes_text(rt: &(impl AllocGlobal + Threads + Wait + Abort + Sync), words: &str, text: &str) {
     let apart = words.split(' ').filter(|word| !word.is_empty());
     let apart: Vec<&str> = apart.collect(rt.alloc()).expect(rt, words);
