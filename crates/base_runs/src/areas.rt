@@ -49,7 +49,7 @@ fn sixteen_frames_with_five_in_use(rt: HostRuntime) {
     walks_blocks(&rt, areas.walk(), &[(0, 1), (1, 2), (3, 8)]);
 }
 
-// A call on free areas, and the answer that it must give: a block by its first frame and the exponent of its order.
+// A call on free areas and its required answer. A block is named by its first frame and the exponent of its order.
 #[derive(Clone, Copy)]
 enum AreaRow {
     PutBlock(u32, u32),
@@ -67,20 +67,20 @@ fn block_at(rt: &impl Abort, at: u32, exponent: u32) -> Block {
     Block { at, order }
 }
 
-// Inserts a block, which must be allowed.
+// Inserts a block, which must be a block of the zone and overlap no free block.
 fn put_block(rt: &impl Abort, areas: &mut FreeAreas, block: Block) {
     assert!(rt; block.is_block_of(areas.frames()) && !areas.overlaps(block));
     areas.insert(block);
 }
 
-// Removes a block, which must be there.
+// Removes a block, which must be one of the free blocks.
 fn take_block(rt: &impl Abort, areas: &mut FreeAreas, block: Block) {
     let taken = block;
     assert!(rt; areas.contains(block));
     areas.remove(taken);
 }
 
-// Makes a row. A block that it inserts or removes must be one that may be.
+// Makes the call of a row.
 fn play_row(rt: &impl Abort, areas: &mut FreeAreas, row: AreaRow) {
     match row {
         AreaRow::PutBlock(at, exponent) => put_block(rt, areas, block_at(rt, at, exponent)),
@@ -100,7 +100,7 @@ fn play_row(rt: &impl Abort, areas: &mut FreeAreas, row: AreaRow) {
     }
 }
 
-// Sixteen frames, of which first one and then four are taken.
+// Sixteen frames: first frame 0 is taken, and then the block of four frames at frame 4.
 #[test]
 fn bits_of_pairs(rt: HostRuntime) {
     let mut areas = empty_areas(&rt, 16);
@@ -120,7 +120,6 @@ fn bits_of_pairs(rt: HostRuntime) {
     play_rows(&rt, &mut areas, &rows);
 }
 
-// Makes the rows.
 fn play_rows(rt: &impl Abort, areas: &mut FreeAreas, rows: &[AreaRow]) {
     for row in rows {
         play_row(rt, areas, *row);

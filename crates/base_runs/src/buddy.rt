@@ -1,4 +1,5 @@
-//! The buddy system: the lines that its README shows, worked runs, and random calls beside the definition of maximal blocks.
+//! The buddy system: the example in its README, a worked run, and random calls compared with the definition of
+//! maximal blocks.
 
 use crate::walks::{order_of, walks_blocks, zone_tells};
 use rand_core::{Rng, SeedableRng};
@@ -23,7 +24,7 @@ fn a_block_is_taken_and_given_back(rt: HostRuntime) {
     }
 }
 
-// Takes a block of this order, which has to begin at this frame, or there has to be none.
+// Takes a block of this order. It must begin at this frame, or there must be none.
 fn takes_block(rt: &impl Abort, zone: &mut Buddy, order: Order, at: Option<u32>) {
     match zone.take(order) {
         Some(block) => assert!(rt; at == Some(block.at) && block.order == order),
@@ -31,14 +32,14 @@ fn takes_block(rt: &impl Abort, zone: &mut Buddy, order: Order, at: Option<u32>)
     }
 }
 
-// Gives the block, which has to be in use.
+// Frees the block, which must be in use.
 fn gives_block(rt: &impl Abort, zone: &mut Buddy, block: Block) {
     let given = block;
     assert!(rt; zone.is_in_use(block));
     zone.give(given);
 }
 
-// A zone of so many frames.
+// A zone of this many frames.
 fn zone_of(rt: &(impl Abort + AllocGlobal), frames: u32) -> Buddy {
     Buddy::new(rt.alloc(), frames).expect(rt, "memory")
 }
@@ -68,7 +69,7 @@ fn mark_frames(free: &mut [bool], block: &Block, is_free: bool) {
     }
 }
 
-// Takes one frame, which the word picks, of the last free block.
+// Takes one frame of the last free block; the word picks it.
 fn take_one(zone: &mut Buddy, word: u32) -> Option<Block> {
     let order = Order::of(0)?;
     let last = zone.blocks().last()?;
@@ -77,7 +78,7 @@ fn take_one(zone: &mut Buddy, word: u32) -> Option<Block> {
     Some(Block { at, order })
 }
 
-// Takes a block, or one frame, which the word picks.
+// Takes a block or one frame; the word picks it.
 fn take_some(zone: &mut Buddy, word: u32) -> Option<Block> {
     match Order::of(word / 2 % 8) {
         Some(order) if order.exponent() < 7 => zone.take(order),
@@ -85,8 +86,7 @@ fn take_some(zone: &mut Buddy, word: u32) -> Option<Block> {
     }
 }
 
-// By a random word takes a block, or one frame, or gives a block of those held, and notes which
-// frames are free.
+// Takes a block or one frame, or frees a held block, as a random word picks. Notes which frames are free.
 fn take_or_give(
     rt: &impl Abort,
     zone: &mut Buddy,
@@ -107,7 +107,7 @@ fn take_or_give(
     }
 }
 
-// Which blocks of the next order are free, where `free` tells of those of one order.
+// Whether each block of the next order is free. `free` says this of the blocks of one order.
 fn joined_pairs(rt: &(impl Abort + AllocGlobal), free: &[bool]) -> Vec<bool> {
     let mut larger = Vec::new(rt.alloc());
     for pair in free.chunks_exact(2) {
@@ -117,7 +117,7 @@ fn joined_pairs(rt: &(impl Abort + AllocGlobal), free: &[bool]) -> Vec<bool> {
     larger
 }
 
-// Adds the free blocks of this exponent that lie in no free block of the next.
+// Appends the free blocks of this exponent that lie in no free block of the next.
 fn add_maximal(
     rt: &impl Abort,
     pairs: &mut Vec<(u32, u32)>,
@@ -135,8 +135,8 @@ fn add_maximal(
     }
 }
 
-// The maximal free blocks of a set of free frames, as pairs of order and address, by the definition
-// alone: a free block that lies in no free block of the next order.
+// The maximal free blocks of a set of free frames, as pairs of order and address. They are by the definition alone:
+// free blocks that lie in no free block of the next order.
 fn maximal_of(rt: &(impl Abort + AllocGlobal), frames: &[bool]) -> Vec<(u32, u32)> {
     let mut pairs = Vec::new(rt.alloc());
     let mut free = Vec::from_slice(rt.alloc(), frames).expect(rt, "memory");
@@ -149,8 +149,8 @@ fn maximal_of(rt: &(impl Abort + AllocGlobal), frames: &[bool]) -> Vec<(u32, u32
     pairs
 }
 
-// A call on the zone. Then its blocks are the maximal free blocks of the frames that are free, and so are the areas that
-// are set from these.
+// Makes a call on the zone. Then its blocks must be the maximal free blocks of the free frames, and so must the
+// blocks that `set_from` makes.
 fn compare_blocks(
     rt: &(impl Abort + AllocGlobal),
     zone: &mut Buddy,
@@ -168,8 +168,8 @@ fn compare_blocks(
     walks_blocks(rt, plain.walk(), wanted.as_slice());
 }
 
-// So many calls on a zone of so many frames, each compared with the maximal free blocks of the
-// frames that are free, and with the areas that are set from them.
+// Makes this many calls on a zone of this many frames. After each it compares the zone and `set_from` with the
+// maximal free blocks of the free frames.
 fn take_and_give_often(
     rt: &(impl Abort + AllocGlobal),
     free: &mut [bool],

@@ -1,4 +1,4 @@
-//! What the tests compare, and calls on `Charges`, each after a look that it may be made.
+//! How the tests compare, and a charge that is made after a test of its conditions.
 
 ghost use Rattle.std.specs.Prelude.{IsTrue};
 ghost use Rattle.group_tree.specs.Groups.{has_group};
@@ -8,19 +8,19 @@ use group_tree::group::GroupId;
 use group_tree::tree::Tree;
 use std::process::Abort;
 
-/// The groups tell so, or the test ends here. A call is proved at less cost than the macro in its place.
+/// It holds of the groups, or the test fails. A call is cheaper to prove than the macro in its place.
 pub fn groups_tell(rt: &impl Abort, is: bool) {
     assert!(rt; is);
 }
 
-/// The group is there, or the test ends here.
+/// The group exists, or the test fails.
 pub fn group_stands(rt: &impl Abort, tree: &Tree, g: GroupId)
     ensures { IsTrue (has_group tree.now g) }
 {
     assert!(rt; tree.contains(g));
 }
 
-/// Charges n pages to the group, which has to be answered so. Where a limit has no room for them, that is noted.
+/// Charges n pages to the group, with this answer. A refusal is noted at the group whose limit is exceeded.
 pub fn charge_pages(
     rt: &impl Abort,
     charges: &mut Charges,

@@ -7,7 +7,7 @@ use group_tree::group::GroupId;
 use std::process::Abort;
 use std::test::Fail;
 
-// The group has five pages, and its limit had no room once.
+// The group has five pages, and its limit refused one charge.
 fn tells_five_pages(rt: &impl Abort, charges: &Charges, web: GroupId) {
     group_stands(rt, charges.tree(), web);
     groups_tell(rt, charges.current(web) == 5);

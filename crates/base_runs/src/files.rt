@@ -24,7 +24,7 @@ fn the_first_lines_of_use(rt: HostRuntime) -> Result<(), Fail> {
     Ok(())
 }
 
-// A line feed ends no value in a script.
+// In a script no value can end with a line feed, so no script tests this.
 #[test]
 fn limits_and_flags_may_end_with_a_line_feed(rt: HostRuntime) {
     groups_tell(&rt, read_limit(b"max\n") == Ok(None));

@@ -1,5 +1,5 @@
-//! Tests of the crates at the base: the zone's free areas and lists of units, groups, their charges and their files.
-//! Nothing but tests stands here.
+//! Tests of the lowest crates: the free areas and unit lists of the zone, and groups with their charges and files.
+//! This crate has nothing but tests.
 #![tactic(auto)]
 
 #[cfg(test)]

@@ -22,7 +22,7 @@ fn a_second_touch_moves_a_unit(rt: HostRuntime) {
     zone_tells(&rt, lru.is_on(&links, 3) == Some(LruList::Inactive));
 }
 
-// Unit 3, which has to be on a list, is touched with this answer.
+// Touches unit 3, which must be on a list. The touch must give this answer.
 fn touches_unit_3(rt: &impl Abort, lru: &mut Lru, links: &mut Links, answer: Touched)
     requires { (3 < length links.old) × StandsIn links.old lru.old }
     ensures stands { StandsIn links.new lru.new }

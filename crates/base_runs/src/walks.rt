@@ -1,20 +1,20 @@
-//! What the tests compare, and a walk over free blocks beside the blocks that are expected.
+//! How the tests compare, and a walk over free blocks next to the expected blocks.
 
 use std::process::Abort;
 use zone_blocks::order::Order;
 use zone_blocks::walk::Walk;
 
-/// The zone tells so, or the test ends here. A call is proved at less cost than the macro in its place.
+/// It holds of the zone, or the test fails. A call is cheaper to prove than the macro in its place.
 pub fn zone_tells(rt: &impl Abort, is: bool) {
     assert!(rt; is);
 }
 
-/// The order of this exponent, which has to be one.
+/// The order of this exponent, which must be valid.
 pub fn order_of(rt: &impl Abort, exponent: u32) -> Order {
     Order::of(exponent).expect(rt, "an order")
 }
 
-/// The blocks of a walk have to be these, as pairs of order and address.
+/// The blocks of a walk must be these, as pairs of order and address.
 pub fn walks_blocks(rt: &impl Abort, walk: Walk<'_>, pairs: &[(u32, u32)]) {
     let mut rest = pairs.iter();
     for block in walk {

@@ -1,4 +1,4 @@
-//! A page that is charged and taken back, at depth 1 and at depth 8.
+//! A page that is charged and uncharged, at depth 1 and at depth 8.
 ghost use Rattle.std.specs.Prelude.{◌≡◌, IsTrue};
 ghost use Rattle.group_tree.specs.Groups.{has_group};
 
@@ -9,7 +9,7 @@ use group_tree::group::GroupId;
 use std::alloc::Global;
 use std::time::Clock;
 
-// Paths of groups, each of them below the one before.
+// Paths of groups, each below the one before.
 const PATHS: [&[u8]; 8] = [
     b"/d",
     b"/d/d",
@@ -30,11 +30,11 @@ struct Payer {
 }
 
 impl Payer {
-    // The group of the last of the paths, of which each is made.
+    // Makes a group of each path. The last one pays.
     fn new(alloc: Global, paths: &[&[u8]]) -> Result<Payer> {
         let mut charges = Charges::new(alloc)?;
         let mut group = GroupId::root();
-        // Whoever asks for the tree learns that the root is there.
+        // The contract of `tree` says that the root exists.
         let _ = charges.tree();
         for path in paths {
             group = charges.make(path)?;
@@ -44,7 +44,7 @@ impl Payer {
 }
 
 impl<R> Subject<R> for Payer {
-    // Charges a page, after the test that it can be charged at all, and takes it back.
+    // Charges a page, after the test that it can be charged at all, and uncharges it.
     fn call(&mut self, _rt: &R, _number: u32) -> bool {
         if !self.charges.fits(1) || self.charges.try_charge(self.group, 1).is_err() {
             return false;
@@ -54,7 +54,7 @@ impl<R> Subject<R> for Payer {
     }
 }
 
-// Measures the pair in the group of the last of the paths.
+// Measures the pair in the group of the last path.
 fn tell_pair<R: Print + Clock + Alloc<A = Global>>(
     rt: &R,
     pace: Pace,

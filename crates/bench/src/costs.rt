@@ -1,20 +1,20 @@
-//! How rows are timed, and how what they cost is told.
+//! How rows are timed, and how their costs are printed.
 
 use anyhow::{Result, ensure};
 use std::io;
 use std::time::{Clock, Duration, Instant};
 
-/// How far the rows are run.
+/// How often the rows are run.
 #[derive(Clone, Copy)]
 pub enum Pace {
-    /// Each row is run once with two calls at most, and its name alone is told.
+    /// Each row is run once, with at most two calls. Only its name is printed.
     Quick,
-    /// Each row is timed, and told in nanoseconds and in units. This is the unit, in nanoseconds.
+    /// Each row is timed. Its cost is printed in nanoseconds and in units. `unit` is a unit in nanoseconds.
     Timed { unit: f64 },
 }
 
 impl Pace {
-    /// The second where rows are run alone, else the first.
+    /// The second number if the rows are only run, or the first if they are timed.
     pub fn choose(self, timed: u32, quick: u32) -> u32 {
         match self {
             Pace::Quick => quick,
@@ -23,14 +23,15 @@ impl Pace {
     }
 }
 
-/// What is measured, on what the process runs on.
+/// What is measured. `R` is the runtime of the process.
 pub trait Subject<R> {
-    /// Makes the call of this number, and tells whether it went as it should.
+    /// Makes the call of this number. Returns whether it went as expected.
     fn call(&mut self, rt: &R, number: u32) -> bool;
 }
 
-/// A row: its name, the number of the call that it measures, how many of these are timed together, and how many parts each
-/// has, of which one's cost is told. Then the least time so far, since other work on the machine adds to each.
+/// A row: its name, the number of the call that it measures, how many calls are timed together, and how many parts a
+/// call has. The cost is that of one part. `least` is the least time so far, because other work on the machine adds
+/// to each time.
 #[derive(Drop)]
 pub struct Row {
     name: &'static str,
@@ -52,7 +53,7 @@ impl Row {
         }
     }
 
-    /// The calls took this time together.
+    /// Notes the time that the calls took together.
     pub fn note(&mut self, time: Duration) {
         self.least = self.least.min(time);
     }
@@ -74,19 +75,19 @@ impl Row {
         Ok(())
     }
 
-    /// What a part costs, in nanoseconds.
+    /// The cost of a part, in nanoseconds.
     pub fn cost(&self) -> f64 {
         self.least.as_secs_f64() * 1e9 / f64::from(self.calls) / f64::from(self.parts)
     }
 
-    /// Tells the row.
+    /// Prints the row.
     pub fn tell(&self, rt: &impl Print, pace: Pace) -> Result<()> {
         tell(rt, pace, self.name, self.cost())?;
         Ok(())
     }
 }
 
-/// Tells what a row's part costs, in nanoseconds and in units.
+/// Prints the cost of a row's part, in nanoseconds and in units.
 pub fn tell(rt: &impl Print, pace: Pace, name: &str, cost: f64) -> io::Result<()> {
     match pace {
         Pace::Quick => println!(rt; "{name}"),
@@ -97,7 +98,7 @@ pub fn tell(rt: &impl Print, pace: Pace, name: &str, cost: f64) -> io::Result<()
     }
 }
 
-/// Measures rows in so many rounds, in each of which they come one after the other, and tells them.
+/// Measures rows in this many rounds, and prints them. A round runs all rows, one after the other.
 pub fn tell_rows<R: Print + Clock, S: Subject<R>>(
     rt: &R,
     pace: Pace,

@@ -18,7 +18,7 @@ use std::time::Clock;
 use stock_word::{StockSeat, StockWords};
 use zone_blocks::order::Order;
 
-// The tables of one processor, and all seats, as they are at first.
+// The tables of one CPU, and all seats, all new.
 #[derive(Drop)]
 struct Parts {
     frames: FrameWords,
@@ -54,7 +54,7 @@ impl Parts {
 }
 
 impl<N: BootName> Visited<N> {
-    // Opens the first visit. The root pays, until there is another group.
+    // Opens the first visit. The root pays until there is another group.
     fn new(alloc: Global, tables: Tables<N>, mut machine: Machine<N>, mut cpu: Cpu<N>) -> Visited<N>
         requires { IsShut machine.frame_seat cpu.number }
     {
@@ -69,17 +69,17 @@ impl<N: BootName> Visited<N> {
         }
     }
 
-    // Settles the processor and gives its list back.
+    // Settles the CPU and drains its list.
     fn rest(&mut self) {
         self.machine.settle(&self.tables, &mut self.cpu);
         self.machine.drain_list(&self.tables, &mut self.cpu, 256);
     }
 }
 
-// Lets the value go. A function that lets go of many parts itself takes long to check.
+// Drops the value. A function that drops many parts itself takes long to check.
 fn let_go<T: Drop>(_value: T) {}
 
-// The processor's part, of which nothing is left, is taken apart.
+// Drops the machine and its tables, and takes the idle CPU part apart.
 fn take_apart<N: BootName>(visited: Visited<N>)
     requires { IsIdle visited.cpu }
 {
@@ -96,7 +96,7 @@ fn take_apart<N: BootName>(visited: Visited<N>)
     let _ = cpu.into_seats();
 }
 
-// Ends the processor's part, which has no pin, once nothing of it is left.
+// Settles the CPU, which has no pin, until it is idle. Then takes its part apart.
 fn end<N: BootName, R: Wait>(rt: &R, mut visited: Visited<N>) {
     for _ in rt.forever() {
         visited.rest();
@@ -120,7 +120,7 @@ fn tell_calls<N: BootName, R: Print + Clock + Alloc<A = Global>>(
     tell_settling(rt, pace, visited)
 }
 
-// Measures them, where a group is made first, which pays.
+// Makes a group, which pays, and measures the calls.
 fn tell_paid<N: BootName, R: Print + Clock + Alloc<A = Global>>(
     rt: &R,
     pace: Pace,
@@ -130,7 +130,7 @@ fn tell_paid<N: BootName, R: Print + Clock + Alloc<A = Global>>(
     tell_calls(rt, pace, visited)
 }
 
-// The machine and its processor's part, whose first visit is open.
+// The machine and its CPU part, with the first visit open.
 fn start<N: BootName>(alloc: Global, parts: Parts) -> Result<Visited<N>, AllocError>
     requires { (parts.frames ≡ N.frames) × (parts.stocks ≡ N.stocks) }
 {
@@ -160,7 +160,7 @@ fn start<N: BootName>(alloc: Global, parts: Parts) -> Result<Visited<N>, AllocEr
     }
 }
 
-// Makes the machine and its processor's part, measures, and ends the processor's part.
+// Makes the machine and its CPU part, measures the calls, and ends the CPU part.
 fn live<N: BootName, R: Wait + Print + Clock + Alloc<A = Global>>(
     rt: &R,
     pace: Pace,

@@ -9,7 +9,7 @@ use std::alloc::{AllocError, Global};
 use std::marker::Model;
 use std::time::Clock;
 
-// The numbers of so many units, from 0 up.
+// The numbers of this many units, from 0 up.
 fn in_order(alloc: Global, count: u32) -> Result<Vec<u32>, AllocError> {
     let mut units = Vec::new(alloc);
     for unit in 0..count {
@@ -18,7 +18,7 @@ fn in_order(alloc: Global, count: u32) -> Result<Vec<u32>, AllocError> {
     Ok(units)
 }
 
-// The numbers of so many units, in a random order of a fixed seed.
+// The numbers of this many units, in a random order from a fixed seed.
 fn shuffled(alloc: Global, count: u32) -> Result<Vec<u32>, AllocError> {
     let mut random = Pcg32::seed_from_u64(2_025);
     let mut units = in_order(alloc, count)?;
@@ -89,7 +89,7 @@ impl Owner {
     }
 }
 
-// An owner, and its units in the order in which each call goes over them.
+// An owner, and its units in the order in which each call takes them.
 #[derive(Drop)]
 struct Order {
     owner: Owner,
@@ -106,8 +106,8 @@ impl<R> Subject<R> for Order {
     }
 }
 
-// Measures the calls where they go over the units in this order: all are added, touched twice, which marks and then moves
-// them, and taken off.
+// Measures the calls on the units in this order. All units are added, touched twice and removed. The first touch
+// marks a unit, and the second moves it.
 fn tell_order<R: Print + Clock + Alloc<A = Global>>(
     rt: &R,
     pace: Pace,
@@ -124,7 +124,7 @@ fn tell_order<R: Print + Clock + Alloc<A = Global>>(
     tell_rows(rt, pace, 10, &mut rows, &mut Order { owner, units })
 }
 
-/// Measures the calls, each with the test that it may be made.
+/// Measures the calls, each with the test of its conditions.
 pub fn tell_lists<R: Print + Clock + Alloc<A = Global>>(rt: &R, pace: Pace) -> Result<()> {
     let count = pace.choose(65_536, 64);
     println!(rt; "{count} units in a random order:")?;

@@ -1,4 +1,4 @@
-//! A machine of 1,024 frames and one processor, whose visit is open, and the calls that are measured on it.
+//! A machine of 1,024 frames and one CPU, whose visit is open, and the calls that are measured on it.
 ghost use Rattle.std.specs.Prelude.{◌≡◌, ◌+◌, ◌<◌, ◌^◌, false, IsTrue};
 ghost use Rattle.group_tree.specs.Groups.{has_group};
 ghost use Rattle.group_charge.specs.Charges.{current_of};
@@ -13,14 +13,14 @@ use mem_machine::{Machine, Released};
 use std::time::Clock;
 use zone_blocks::order::Order;
 
-// Frames that go to the list and come back.
+// How many frames the list is refilled with and drained of.
 const BATCH: u32 = 64;
 
-// Fresh frames that are settled together, as many as there can be.
+// How many fresh frames are settled together: the most that there can be.
 const FRESH: u32 = 32;
 
-/// The machine, and the part of its processor, whose visit is open. The group pays, for blocks of this order. The heads are
-/// those of fresh frames.
+/// The machine and its CPU part, whose visit is open. The group pays, for blocks of this order. The heads are those
+/// of fresh frames.
 pub struct Visited<N: BootName> {
     pub tables: Tables<N>,
     pub machine: Machine<N>,
@@ -31,7 +31,7 @@ pub struct Visited<N: BootName> {
     pub ghost visits: { Visits N.frames (side machine cpu) },
 }
 
-// Whether so many pages may be charged to the group at all: it is there and isn't killed, and they fit.
+// Whether this many pages may be charged to the group at all: it exists, it isn't killed, and the pages fit.
 fn may_charge<N: BootName>(machine: &Machine<N>, group: GroupId, pages: u32) -> bool
     ensures there { IsTrue result → IsTrue (has_group machine.now.ledger.groups group) }
     ensures alive { IsTrue result → is_killed machine.now.killed group ≡ false }
@@ -41,7 +41,7 @@ fn may_charge<N: BootName>(machine: &Machine<N>, group: GroupId, pages: u32) -> 
     charges.tree().contains(group) && !machine.is_killed(group) && charges.fits(pages)
 }
 
-// Takes the front of the list, which is fresh then.
+// Takes the front of the list, which becomes fresh.
 fn take_front<N: BootName>(tables: &Tables<N>, cpu: &mut Cpu<N>, group: GroupId) -> Option<u32>
     ensures { (cpu.new.number ≡ cpu.old.number) × (cpu.new.frame_seat ≡ cpu.old.frame_seat) }
 {
@@ -63,13 +63,13 @@ impl<N: BootName> Visited<N> {
         true
     }
 
-    // Settles the processor.
+    // Settles the CPU.
     fn settle(&mut self) -> bool {
         self.machine.settle(&self.tables, &mut self.cpu);
         true
     }
 
-    // Refills the list by so many frames.
+    // Refills the list with this many frames.
     fn refill(&mut self, frames: u32) -> bool {
         if self.cpu.list_len() + self.cpu.fresh_len() + frames as usize > 256 {
             return false;
@@ -77,7 +77,7 @@ impl<N: BootName> Visited<N> {
         self.machine.refill(&self.tables, &mut self.cpu, frames) == frames
     }
 
-    // Gives so many frames of the list back.
+    // Drains the list of this many frames.
     fn drain(&mut self, frames: u32) -> bool {
         self.machine.drain_list(&self.tables, &mut self.cpu, frames) == frames
     }
@@ -87,7 +87,7 @@ impl<N: BootName> Visited<N> {
         self.machine.make(path).ok()
     }
 
-    // Takes a block for the group, and tells its first frame.
+    // Takes a block for the group, and returns its first frame.
     fn take(&mut self) -> Option<u32> {
         if self.cpu.fresh_len() > 0 || self.cpu.back_len() > 0 {
             return None;
@@ -101,7 +101,7 @@ impl<N: BootName> Visited<N> {
         Some(taken.ok()?.number())
     }
 
-    // Releases the kept unit of this head, which comes back.
+    // Releases the kept unit with this head, which must be returned to the zone.
     fn release(&mut self, head: u32) -> bool {
         match self.tables.frames.frame(head) {
             Some(head) if self.machine.is_kept(head) => {
@@ -119,7 +119,7 @@ impl<N: BootName> Visited<N> {
         }
     }
 
-    // Pays for the frames that are settled together.
+    // Prepays the frames that are settled together.
     fn prepay(&mut self) -> bool {
         if self.cpu.fresh_len() > 0 || !may_charge(&self.machine, self.group, FRESH) {
             return false;
@@ -135,7 +135,7 @@ impl<N: BootName> Visited<N> {
         take_front(&self.tables, &mut self.cpu, self.group)
     }
 
-    // Takes the frames of the list, which are the heads then.
+    // Takes the frames of the list, which become the heads.
     fn freshen_all(&mut self) -> bool {
         self.heads.clear();
         for _ in 0..FRESH {
@@ -177,7 +177,7 @@ impl<N: BootName, R> Subject<R> for Visited<N> {
     }
 }
 
-/// Measures what is called at the ends of a visit and on the list.
+/// Measures the calls that begin and end a visit, and those on the list.
 pub fn tell_visits<N: BootName, R: Print + Clock>(
     rt: &R,
     pace: Pace,
@@ -201,8 +201,8 @@ pub fn tell_visits<N: BootName, R: Print + Clock>(
     tell_rows(rt, pace, 10, &mut rows, visited)
 }
 
-/// Measures a block of this order that is taken and released: where all frames are free, so that blocks of all higher orders
-/// are split and joined, and where the block's buddy is in use, so that none is.
+/// Measures a block of this order that is taken and released. If all frames are free, blocks of all higher orders are
+/// split and merged. If the block's buddy is in use, none is.
 pub fn tell_blocks<N: BootName, R: Print + Clock>(
     rt: &R,
     pace: Pace,
@@ -220,7 +220,7 @@ pub fn tell_blocks<N: BootName, R: Print + Clock>(
     Ok(())
 }
 
-/// Measures fresh frames that are settled, which makes them kept units, and are released then.
+/// Measures fresh frames that are settled, which makes them kept units, and are then released.
 pub fn tell_settling<N: BootName, R: Print + Clock>(
     rt: &R,
     pace: Pace,

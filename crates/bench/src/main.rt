@@ -1,6 +1,6 @@
-//! Measures calls of the crates, in nanoseconds and in units: a unit is a pair of `get` and `put` of a frame by one thread, taken
-//! in the same run. Each word on the command line is a table. With no word each row is run a few times and its name told, so
-//! that the stored run never varies.
+//! Measures calls of the crates, in nanoseconds and in units. A unit is a pair of `get` and `put` of a frame by one
+//! thread, measured in the same run. Each word on the command line names a table. Without words each row is run at
+//! most a few times and only its name is printed, so that the stored run never varies.
 #![tactic(auto)]
 
 mod charges;
@@ -35,7 +35,7 @@ fn main(rt: HostRuntime) -> Result<()> {
     }
 }
 
-// Runs the rows of all tables, and tells their names.
+// Runs the rows of all tables, and prints their names.
 fn run_all<R: Threads + Wait + Print + Clock + Alloc<A = Global> + Sync>(rt: &R) -> Result<()> {
     for (_, table) in TABLES {
         tell_table(rt, table, Pace::Quick)?;
@@ -43,7 +43,7 @@ fn run_all<R: Threads + Wait + Print + Clock + Alloc<A = Global> + Sync>(rt: &R)
     Ok(())
 }
 
-// Measures the tables of these names.
+// Measures the tables with these names.
 fn tell_named<R: Threads + Wait + Print + Clock + Alloc<A = Global> + Sync>(
     rt: &R,
     words: &[String],

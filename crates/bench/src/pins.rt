@@ -1,4 +1,4 @@
-//! Pairs of `get` and `put` of a processor that has pins.
+//! Pairs of `get` and `put` of a CPU that has pins.
 ghost use Rattle.std.specs.Prelude.{◌≡◌, ◌<◌, ◌≤◌, IfSome};
 
 use crate::costs::{Pace, Row, Subject, tell_rows};
@@ -10,7 +10,7 @@ use mem_system::System;
 use std::sync::Wait;
 use std::time::Clock;
 
-// Lets go of the pin of the processor that stands first. It tells its frame.
+// Puts the first pin of the CPU, and returns its frame.
 fn put_first<N: BootName>(tables: &Tables<N>, cpu: &mut Cpu<N>) -> Option<Frame>
     ensures { IfSome result (λ first. first < N.frames.frames) }
 {
@@ -19,14 +19,14 @@ fn put_first<N: BootName>(tables: &Tables<N>, cpu: &mut Cpu<N>) -> Option<Frame>
     Some(first)
 }
 
-/// Lets go of all pins of the processor.
+/// Puts all pins of the CPU.
 pub fn put_all<N: BootName>(tables: &Tables<N>, cpu: &mut Cpu<N>) {
     for _ in 0..cpu.pins() {
         let _ = put_first(tables, cpu);
     }
 }
 
-// A processor that has pins, and three frames in use.
+// A CPU that has pins, and three frames in use.
 #[derive(Drop)]
 struct Pinned<'a, N: BootName> {
     tables: &'a Tables<N>,
@@ -38,14 +38,14 @@ struct Pinned<'a, N: BootName> {
 }
 
 impl<'a, N: BootName> Pinned<'a, N> {
-    // Gets the frame, if it is held.
+    // Gets the frame. Returns whether the CPU holds it.
     fn get(&mut self, frame: Frame) -> bool
         requires { frame < N.frames.frames }
     {
         self.cpu.get(self.tables, frame) == Ok(Get::Held)
     }
 
-    // Pins the first frame once, and the other so often that there are so many pins but one.
+    // Pins the first frame once. Pins the other one until the CPU has one pin fewer than this many.
     fn pin(&mut self, pins: usize) -> bool {
         let mut all = self.get(self.first);
         for _ in 2..pins {
@@ -54,7 +54,7 @@ impl<'a, N: BootName> Pinned<'a, N> {
         all
     }
 
-    // Gets the frame and puts it, which is the newest pin.
+    // Gets the frame and puts it. Its pin is the newest.
     fn newest(&mut self, frame: Frame) -> bool
         requires { frame < N.frames.frames }
     {
@@ -65,7 +65,7 @@ impl<'a, N: BootName> Pinned<'a, N> {
         true
     }
 
-    // Gets the frame and puts the pin that stands first, which is sought longest: that one's frame.
+    // Gets the frame and puts the first pin, which takes longest to find. Returns the frame of that pin.
     fn oldest(&mut self, frame: Frame) -> Option<Frame>
         requires { frame < N.frames.frames }
         ensures { IfSome result (λ first. first < N.frames.frames) }
@@ -78,7 +78,8 @@ impl<'a, N: BootName> Pinned<'a, N> {
 }
 
 impl<'a, N: BootName, R> Subject<R> for Pinned<'a, N> {
-    // The newest pin; or twice the one that stands first: what was put first is got next.
+    // Call 0 is on the newest pin. The other puts the first pin twice, and its second get is of the frame that it put
+    // first.
     fn call(&mut self, _rt: &R, number: u32) -> bool {
         if number == 0 {
             return self.newest(self.last);
@@ -90,7 +91,7 @@ impl<'a, N: BootName, R> Subject<R> for Pinned<'a, N> {
     }
 }
 
-// Measures pairs of a processor with so many pins, counted between a get and its put.
+// Measures pairs of a CPU with this many pins, counted between a get and its put.
 fn tell_pins<N: BootName, R: Print + Clock>(
     rt: &R,
     pace: Pace,
@@ -108,7 +109,7 @@ fn tell_pins<N: BootName, R: Print + Clock>(
     Ok(())
 }
 
-/// Measures references of one processor, on three frames that are in use.
+/// Measures references of one CPU, on three frames that are in use.
 pub fn tell_references<N: BootName, R: Wait + Print + Clock>(
     rt: &R,
     pace: Pace,

@@ -1,5 +1,5 @@
-//! Pages that are prepaid: a pair of `consume` and `credit` on a stock's word, and rounds of `alloc_fast` and `drop_fresh` of
-//! processors, each in a thread of its own, with visits between them or none.
+//! Prepaid pages: a pair of `consume` and `credit` on a stock's word, and rounds of `alloc_fast` and `drop_fresh`.
+//! The rounds are those of CPUs, each in its own thread, with or without visits between them.
 ghost use Rattle.std.specs.Prelude.{◌≡◌, ◌<◌};
 ghost use Rattle.stock_word.specs.Stock.{IsProcessor};
 
@@ -16,7 +16,7 @@ use std::thread::Threads;
 use std::time::{Clock, Duration, Instant};
 use stock_word::{Consume, Credit, StockSeat, StockWords};
 
-// A processor's seat, whose stock is filled.
+// A CPU's seat, whose stock is filled.
 #[derive(Drop)]
 struct Payer {
     words: StockWords,
@@ -41,14 +41,15 @@ impl<R> Subject<R> for Payer {
     }
 }
 
-/// Measures a pair on the words.
+/// Measures a pair on the word of a stock.
 pub fn tell_words<R: Print + Clock + Alloc<A = Global>>(rt: &R, pace: Pace) -> Result<()> {
     let mut payer = Payer::new(rt.alloc())?;
     let row = Row::new("consume and credit", 0, 1_000_000, 1);
     tell_rows(rt, pace, 10, &mut [row], &mut payer)
 }
 
-// So many rounds of taking the front of the list and dropping it; after every so many of them a visit, where that isn't 0.
+// Rounds that take the front of the list and drop it: `count` of them. If `visit_every` isn't 0, one round in so many
+// has a visit.
 #[derive(Clone, Copy)]
 struct Rounds {
     name: &'static str,
@@ -74,7 +75,7 @@ const ROUNDS: [Rounds; 3] = [
     },
 ];
 
-// Goes through so many rounds, where the frame can be taken.
+// Makes this many rounds. If a round can't take a frame, it drops none.
 fn go_through<N: BootName, R: Wait>(
     rt: &R,
     system: &System<N>,
@@ -93,7 +94,7 @@ fn go_through<N: BootName, R: Wait>(
     }
 }
 
-// The time of so many rounds of these processors, side by side.
+// The time of this many rounds of these CPUs, which run concurrently.
 fn time_rounds<N: BootName + Send + Sync, R: Threads + Wait + Clock + Sync>(
     rt: &R,
     system: &System<N>,
@@ -112,7 +113,7 @@ fn time_rounds<N: BootName + Send + Sync, R: Threads + Wait + Clock + Sync>(
     Ok(start.elapsed(rt)?)
 }
 
-// Measures the rounds of so many processors.
+// Measures the rounds of these CPUs.
 fn tell_rounds<N: BootName + Send + Sync, R: Threads + Wait + Print + Clock + Sync>(
     rt: &R,
     pace: Pace,
@@ -129,7 +130,7 @@ fn tell_rounds<N: BootName + Send + Sync, R: Threads + Wait + Print + Clock + Sy
     row.tell(rt, pace)
 }
 
-// Gives the processor frames on its list and prepaid pages of the group of depth 1.
+// Gives each CPU frames on its list and prepaid pages of the group of depth 1.
 fn supply<N: BootName, R: Wait>(rt: &R, system: &System<N>, cpus: &mut [Cpu<N>]) -> Result<()> {
     for cpu in cpus.iter_mut() {
         alloc(rt, system, cpu)?;
@@ -138,7 +139,7 @@ fn supply<N: BootName, R: Wait>(rt: &R, system: &System<N>, cpus: &mut [Cpu<N>])
     Ok(())
 }
 
-// Measures these rounds by one, two and four processors.
+// Measures these rounds by one, two and four CPUs.
 fn tell_sides<N: BootName + Send + Sync, R: Threads + Wait + Print + Clock + Sync>(
     rt: &R,
     pace: Pace,
@@ -155,7 +156,7 @@ fn tell_sides<N: BootName + Send + Sync, R: Threads + Wait + Print + Clock + Syn
     Ok(())
 }
 
-/// Measures the rounds of one, two and four processors. Each has a frame on its list, and a page of the group in its stock.
+/// Measures the rounds of one, two and four CPUs. Each has a frame on its list, and a page of the group in its stock.
 pub fn tell_threads<N: BootName + Send + Sync, R: Threads + Wait + Print + Clock + Sync>(
     rt: &R,
     pace: Pace,

@@ -1,4 +1,5 @@
-//! What reclaim and kills cost: a write of memory.max, or rmdir, that takes back what a group keeps, and an alloc at a limit.
+//! The cost of reclaim and kills: a write of memory.max or an rmdir, which reclaims what a group keeps, and an alloc
+//! at a limit.
 ghost use Rattle.std.specs.Prelude.{◌≡◌, ◌<◌};
 
 use crate::costs::{Pace, Row, Subject, tell_rows};
@@ -15,10 +16,10 @@ use std::sync::Wait;
 use std::time::{Clock, Duration, Instant};
 use zone_sizes::config::Config;
 
-// The group at whose limit is allocated.
+// The group whose limit the allocs reach.
 const LIMITED: &[u8] = b"/l";
 
-// What all kept units of the group are.
+// The state of all kept units of the group.
 #[derive(Clone, Copy)]
 enum Units {
     Clean,
@@ -28,16 +29,17 @@ enum Units {
     Marked,
 }
 
-// What takes back units of a group.
+// What reclaims units of a group.
 #[derive(Clone, Copy)]
 enum Taking {
-    // A write of its memory.max, which kills the group where units are left above that.
+    // A write of its memory.max, which kills the group if units above that remain.
     Limit(&'static [u8]),
-    // Its rmdir, which is refused where units are left.
+    // Its rmdir, which is refused if units remain.
     Rmdir,
 }
 
-// Units of one frame that a group keeps, so many, what takes them back, and how many parts of the cost each has.
+// Units of one frame that a group keeps: their state and number, what reclaims them, and into how many parts the cost
+// of each is divided.
 #[derive(Clone, Copy)]
 struct Kept {
     name: &'static str,
@@ -47,7 +49,7 @@ struct Kept {
     parts: u32,
 }
 
-// The bytes of all 4,096 frames but one.
+// The bytes of 4,095 frames, one fewer than the group keeps.
 const ALL_BUT_ONE: &[u8] = b"16773120";
 
 const ALL_KEPT: [Kept; 7] = [
@@ -102,7 +104,7 @@ const ALL_KEPT: [Kept; 7] = [
     },
 ];
 
-// The sizes of a system of so many frames and one processor.
+// The sizes of a system of this many frames and one CPU.
 fn sizes(frames: u32) -> Config {
     Config {
         frames,
@@ -113,7 +115,7 @@ fn sizes(frames: u32) -> Config {
     }
 }
 
-// Makes the kept unit, which is the frame alone, one of these.
+// Puts the kept unit, which is this frame alone, into this state.
 fn prepare<N: BootName, R: Wait>(
     rt: &R,
     system: &System<N>,
@@ -138,7 +140,7 @@ fn prepare<N: BootName, R: Wait>(
     }
 }
 
-// Allocates so many frames for the group of depth 1, which keeps them then.
+// Allocates this many frames for the group of depth 1, which then keeps them.
 fn keep<N: BootName, R: Wait>(
     rt: &R,
     system: &System<N>,
@@ -152,7 +154,7 @@ fn keep<N: BootName, R: Wait>(
     Ok(())
 }
 
-// Makes each frame of the zone, all of which are kept, one of these.
+// Puts each frame of the zone, all of which are kept, into this state.
 fn prepare_all<N: BootName, R: Wait>(
     rt: &R,
     system: &System<N>,
@@ -184,7 +186,7 @@ fn limit<N: BootName, R: Wait>(
     )
 }
 
-// Takes units of the group of depth 1 back. Whether that went as it should.
+// Reclaims units of the group of depth 1. Returns whether that went as expected.
 fn take_back<N: BootName, R: Wait>(
     rt: &R,
     system: &System<N>,
@@ -201,7 +203,7 @@ fn take_back<N: BootName, R: Wait>(
     }
 }
 
-// Keeps all frames, and times what takes them back.
+// Keeps all frames, and times what reclaims them.
 fn time_units<N: BootName, R: Wait + Clock>(
     rt: &R,
     system: &System<N>,
@@ -232,7 +234,7 @@ fn start<N: BootName, R: Wait + Clock + Alloc<A = Global>>(
     time
 }
 
-// Times these units by the first processor, which has no pin afterwards.
+// Times these units on the first CPU, which has no pin afterwards.
 fn time_first<N: BootName, R: Wait + Clock>(
     rt: &R,
     system: &System<N>,
@@ -245,7 +247,7 @@ fn time_first<N: BootName, R: Wait + Clock>(
     time
 }
 
-// The time of these units, in a system whose frames they are.
+// The time of these units, in a system that has as many frames.
 fn time_kept<R: Wait + Clock + Alloc<A = Global>>(rt: &R, kept: Kept) -> Result<Duration> {
     match boot(rt.alloc(), sizes(kept.count)) {
         Ok(boot) => start::<Brand, R>(rt, boot, kept),
@@ -253,7 +255,7 @@ fn time_kept<R: Wait + Clock + Alloc<A = Global>>(rt: &R, kept: Kept) -> Result<
     }
 }
 
-// Measures what one of these units costs.
+// Measures the cost of one of these units.
 fn tell_kept<R: Wait + Print + Clock + Alloc<A = Global>>(
     rt: &R,
     pace: Pace,
@@ -267,7 +269,7 @@ fn tell_kept<R: Wait + Print + Clock + Alloc<A = Global>>(
     row.tell(rt, pace)
 }
 
-// A system with a group at whose limit of one page is allocated.
+// A system with a group whose limit of one page the allocs reach.
 #[derive(Drop)]
 struct AtLimit<'a, N: BootName> {
     system: &'a System<N>,
@@ -276,7 +278,7 @@ struct AtLimit<'a, N: BootName> {
 }
 
 impl<'a, N: BootName, R: Wait> Subject<R> for AtLimit<'a, N> {
-    // Each alloc but the first takes back the unit of the one before.
+    // Each alloc except the first reclaims the unit of the one before.
     fn call(&mut self, rt: &R, _number: u32) -> bool {
         let path = LIMITED;
         for _ in 0..self.together {
@@ -289,7 +291,7 @@ impl<'a, N: BootName, R: Wait> Subject<R> for AtLimit<'a, N> {
     }
 }
 
-// Makes 64 groups, the root among them, of which one has the limit.
+// Makes groups until there are 64, with the root. One of them has the limit.
 fn make_groups<N: BootName, R: Wait>(rt: &R, system: &System<N>, cpu: &mut Cpu<N>) -> Result<()> {
     for number in 0..61u8 {
         let path = [b'/', b'g', b'0' + number / 8, b'0' + number % 8];
@@ -337,7 +339,7 @@ fn live<N: BootName, R: Wait + Print + Clock + Alloc<A = Global>>(
     told
 }
 
-/// Measures what reclaim and kills cost.
+/// Measures the cost of reclaim and kills.
 pub fn tell_reclaim<R: Wait + Print + Clock + Alloc<A = Global>>(rt: &R, pace: Pace) -> Result<()> {
     for kept in ALL_KEPT {
         tell_kept(rt, pace, kept)?;

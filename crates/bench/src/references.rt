@@ -36,7 +36,7 @@ impl<R> Subject<R> for Held {
     }
 }
 
-/// Measures the unit in nanoseconds, and tells it.
+/// Measures the unit in nanoseconds, and prints it.
 pub fn measure_unit<R: Print + Clock + Alloc<A = Global>>(rt: &R) -> Result<f64> {
     let mut held = Held::new(rt.alloc())?;
     let mut row = Row::new("get and put", 0, 1_000_000, 1);

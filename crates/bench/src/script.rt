@@ -1,4 +1,4 @@
-//! Lines of a script that are parsed.
+//! The parsing of a script.
 
 use crate::costs::{Pace, Row, Subject, tell_rows};
 use anyhow::Result;
@@ -34,7 +34,7 @@ const SIZES: Config = Config {
     stock: 4,
 };
 
-// A text of so many lines.
+// A text of this many lines.
 #[derive(Drop)]
 struct Script {
     text: Vec<u8>,
@@ -51,7 +51,7 @@ impl<R: Alloc<A = Global>> Subject<R> for Script {
     }
 }
 
-/// Measures a line of a script of 64,000.
+/// Measures a line in a script of 64,000 lines.
 pub fn tell_script<R: Print + Clock + Alloc<A = Global>>(rt: &R, pace: Pace) -> Result<()> {
     let mut script = Script {
         text: Vec::new(rt.alloc()),

@@ -1,4 +1,4 @@
-//! What is measured on a system: commands that take the zone's lock, and what its processors do without it.
+//! What is measured on a system: commands that take the zone lock, and what its CPUs do without it.
 ghost use Rattle.std.specs.Prelude.{◌≡◌, ◌<◌, length, IfOk};
 ghost use Rattle.mem_system.specs.Commands.{IsOfZone};
 
@@ -27,7 +27,7 @@ const SIZES: Config = Config {
     stock: 4,
 };
 
-// The sizes of a boot that is timed: the most of all.
+// The sizes of the boot that is timed. Batch, high and stock are the greatest that are allowed.
 const BIG: Config = Config {
     frames: 65_536,
     cpus: 16,
@@ -39,7 +39,7 @@ const BIG: Config = Config {
 /// The path of the group of depth 1.
 pub const SHALLOW: &[u8] = b"/a";
 
-// Paths of groups, each of them below the one before.
+// Paths of groups, each below the one before.
 const PATHS: [&[u8]; 8] = [
     b"/d",
     b"/d/d",
@@ -51,8 +51,9 @@ const PATHS: [&[u8]; 8] = [
     b"/d/d/d/d/d/d/d/d",
 ];
 
-// Serves the command by a visit. What `System::visit_into` says of it is left out: for callers that want the reply alone its
-// clauses are minutes of a check, so no other function here calls a visit itself. It costs what the call in its place would.
+// Serves the command by a visit. This function drops the clauses of `System::visit_into`: callers that need only the
+// reply would pay minutes of a check for them. So no other function here calls a visit itself. At run time it costs
+// as much as the call in its place.
 #[inline(always)]
 fn visit_here<N: BootName, R: Wait>(
     rt: &R,
@@ -66,7 +67,7 @@ fn visit_here<N: BootName, R: Wait>(
     system.visit_into(rt, cpu, cmd, &NoGate, reply);
 }
 
-/// Serves the command by a visit, and hands its reply on.
+/// Serves the command by a visit, and returns its reply.
 pub fn visit<N: BootName, R: Wait>(
     rt: &R,
     system: &System<N>,
@@ -80,7 +81,7 @@ pub fn visit<N: BootName, R: Wait>(
     reply
 }
 
-// Serves the command by a visit, which writes its reply into this one.
+// Serves the command by a visit, which writes its reply over this one.
 fn visit_into<N: BootName, R: Wait>(
     rt: &R,
     system: &System<N>,
@@ -93,7 +94,7 @@ fn visit_into<N: BootName, R: Wait>(
     visit_here(rt, system, cpu, cmd, reply);
 }
 
-// Settles by a visit, whose reply is looked at and goes no further.
+// Settles by a visit. The reply is matched and not passed on.
 fn settle_once<N: BootName, R: Wait>(rt: &R, system: &System<N>, cpu: &mut Cpu<N>) -> bool {
     let mut reply = Reply::Done;
     visit_here(rt, system, cpu, &Cmd::Settle, &mut reply);
@@ -113,7 +114,7 @@ pub fn make<N: BootName, R: Wait>(
     }
 }
 
-// Makes the group of depth 1, and then that of depth 8 with those above it. It tells the first.
+// Makes the group of depth 8 with those above it, and then the group of depth 1. Returns the latter.
 fn make_all<N: BootName, R: Wait>(rt: &R, system: &System<N>, cpu: &mut Cpu<N>) -> Result<GroupId> {
     for path in PATHS {
         make(rt, system, cpu, path)?;
@@ -153,7 +154,7 @@ fn alloc_and_release<N: BootName, R: Wait>(
     matches!(reply, Reply::Returned)
 }
 
-// Does so, so many times.
+// Allocates and releases a frame this many times.
 fn alloc_and_release_all<N: BootName, R: Wait>(
     rt: &R,
     system: &System<N>,
@@ -169,7 +170,7 @@ fn alloc_and_release_all<N: BootName, R: Wait>(
     all
 }
 
-/// Settles so many times.
+/// Settles this many times.
 pub fn settle<N: BootName, R: Wait>(
     rt: &R,
     system: &System<N>,
@@ -184,7 +185,7 @@ pub fn settle<N: BootName, R: Wait>(
     true
 }
 
-// Settles so many times, each reply written into the one before.
+// Settles this many times. Each reply is written over the one before.
 fn settle_into<N: BootName, R: Wait>(
     rt: &R,
     system: &System<N>,
@@ -201,7 +202,7 @@ fn settle_into<N: BootName, R: Wait>(
     true
 }
 
-// Settles so many times, each reply handed on.
+// Settles this many times. Each reply is returned by value.
 fn settle_by_value<N: BootName, R: Wait>(
     rt: &R,
     system: &System<N>,
@@ -216,7 +217,7 @@ fn settle_by_value<N: BootName, R: Wait>(
     true
 }
 
-// Commands of one processor, of which so many are timed together.
+// Commands of one CPU. `together` of them are timed together.
 #[derive(Drop)]
 struct Visits<'a, N: BootName> {
     system: &'a System<N>,
@@ -224,8 +225,8 @@ struct Visits<'a, N: BootName> {
     together: u32,
 }
 
-// A function pays at its begin for the room of the replies in it, so one makes all commands
-// that are timed together; and a reply is matched, since to compare it writes it whole.
+// A function pays at its start for the space of its replies. So one function makes all commands that are timed
+// together. A reply is matched, because comparing it would write the whole reply.
 impl<'a, N: BootName, R: Wait> Subject<R> for Visits<'a, N> {
     fn call(&mut self, rt: &R, number: u32) -> bool {
         match number {
@@ -238,7 +239,7 @@ impl<'a, N: BootName, R: Wait> Subject<R> for Visits<'a, N> {
     }
 }
 
-// Measures commands of one processor.
+// Measures commands of one CPU.
 fn tell_visits<N: BootName, R: Wait + Print + Clock>(
     rt: &R,
     pace: Pace,
@@ -278,7 +279,7 @@ fn tell_on<N: BootName + Send + Sync, R: Threads + Wait + Print + Clock + Sync>(
     }
 }
 
-/// Shuts the system down, none of whose processors has a pin.
+/// Shuts the system down, in which no CPU has a pin.
 pub fn end<N: BootName, R: Wait>(rt: &R, mut system: System<N>, mut cpus: Vec<Cpu<N>>)
     requires { length cpus.items ≡ N.frames.cpus }
 {
@@ -315,7 +316,7 @@ fn live<N: BootName + Send + Sync, R: Threads + Wait + Print + Clock + Alloc<A =
     told
 }
 
-/// Measures the rows of the table that stand on a system.
+/// Measures the rows of the table that need a system.
 pub fn tell_system<R: Threads + Wait + Print + Clock + Alloc<A = Global> + Sync>(
     rt: &R,
     pace: Pace,
@@ -327,7 +328,7 @@ pub fn tell_system<R: Threads + Wait + Print + Clock + Alloc<A = Global> + Sync>
     }
 }
 
-// Starts the boot, and tells the time since then; the system is shut down again, which isn't timed.
+// Starts the boot, and returns the time since then. The system is then shut down, which isn't timed.
 fn start<N: BootName, R: Wait + Clock + Alloc<A = Global>>(
     rt: &R,
     boot: Boot,

@@ -18,9 +18,9 @@ use std::time::Clock;
 /// A table of rows.
 #[derive(Clone, Copy)]
 pub enum Table {
-    /// A processor's references.
+    /// References of one CPU.
     References,
-    /// Prepaid pages, and what is paid with them without the lock.
+    /// Prepaid pages, and what they pay for without the lock.
     Prepaid,
     /// The lists of a group.
     Lists,
@@ -38,7 +38,7 @@ pub enum Table {
     Script,
 }
 
-/// The tables, each behind its name.
+/// The tables with their names.
 pub const TABLES: [(&str, Table); 9] = [
     ("references", Table::References),
     ("prepaid", Table::Prepaid),

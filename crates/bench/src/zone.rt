@@ -1,4 +1,4 @@
-//! What `take` and `give` cost in a zone that is half full.
+//! The cost of `take` and `give` in a zone that is half full.
 
 use crate::costs::{Pace, tell};
 use anyhow::Result;
@@ -10,7 +10,7 @@ use zone_blocks::block::Block;
 use zone_blocks::order::Order;
 use zone_buddy::buddy::Buddy;
 
-// Calls that are timed together, since a look at the clock may cost more than one.
+// How many calls are timed together, because to read the clock may cost more than a call.
 const BATCH: u32 = 64;
 
 // Calls of one kind, and how long they took together.
@@ -32,7 +32,8 @@ impl Cost {
     }
 }
 
-// What the calls cost: those that take, the tests whether a block may be given, and those that give, with these tests.
+// The costs of the calls that take, of the tests whether a block may be freed, and of the calls that free, with these
+// tests.
 #[derive(Clone, Copy)]
 struct Costs {
     takes: Cost,
@@ -52,13 +53,13 @@ const FREE: Costs = Costs {
 };
 
 impl Costs {
-    // A take and a give.
+    // The cost of a take and a give, without the test.
     fn pair(&self) -> f64 {
         self.takes.average() + self.gives.average() - self.tests.average()
     }
 }
 
-// A zone with the blocks that are held of it, and what the calls cost so far.
+// A zone, the blocks that are held of it, and the costs so far.
 #[derive(Drop)]
 struct Load {
     random: Pcg32,
@@ -69,7 +70,7 @@ struct Load {
     costs: Costs,
 }
 
-// How many of these blocks may be given.
+// How many of these blocks may be freed.
 fn count_in_use(zone: &Buddy, blocks: &[Block]) -> u32 {
     let mut count = 0_u32;
     for block in blocks {
@@ -89,7 +90,7 @@ fn orders(alloc: Global, random: &mut Pcg32, greatest: Order) -> Result<Vec<Orde
     Ok(orders)
 }
 
-// A random block of those that are held, which is then held no more.
+// Removes a random block from those that are held, and returns it.
 fn pick(random: &mut Pcg32, held: &mut Vec<Block>) -> Option<Block> {
     let index = (random.next_u32() as usize).checked_rem(held.len())?;
     if index >= held.len() {
@@ -98,7 +99,7 @@ fn pick(random: &mut Pcg32, held: &mut Vec<Block>) -> Option<Block> {
     Some(held.swap_remove(index))
 }
 
-// So many random blocks.
+// Removes random blocks from those that are held: `BATCH` of them, or all if there are fewer.
 fn pick_batch(
     alloc: Global,
     random: &mut Pcg32,
@@ -114,7 +115,7 @@ fn pick_batch(
 }
 
 impl Load {
-    // A zone of so many frames, all free, from which blocks of orders up to the greatest are taken.
+    // A zone of this many frames, all free. Blocks of orders up to the greatest are taken from it.
     fn new(alloc: Global, frames: u32, greatest: Order) -> Result<Load, AllocError> {
         Ok(Load {
             random: Pcg32::seed_from_u64(2_025),
@@ -140,7 +141,7 @@ impl Load {
         Ok(())
     }
 
-    // Gives each of these blocks after the test that it may be given.
+    // Frees each of these blocks, after the test that it may be freed.
     fn give(&mut self, blocks: &[Block]) {
         for block in blocks {
             if self.zone.is_in_use(*block) {
@@ -150,8 +151,8 @@ impl Load {
         }
     }
 
-    // Gives random blocks of those that are held. The tests that are in it were made before, alone: once for the processor's
-    // cache, and once by the clock.
+    // Frees random blocks of those that are held. The tests that this includes are made alone before: once to fill
+    // the CPU's cache, and once to time them.
     fn give_batch<R: Clock + Alloc<A = Global>>(&mut self, rt: &R) -> Result<()> {
         let picked = pick_batch(rt.alloc(), &mut self.random, &mut self.held)?;
         let _warm = count_in_use(&self.zone, &picked);
@@ -164,7 +165,7 @@ impl Load {
         Ok(())
     }
 
-    // So many batches, which keep the zone about half full.
+    // Makes this many batches, which keep the zone about half full.
     fn run<R: Clock + Alloc<A = Global>>(&mut self, rt: &R, half: u32, rounds: u32) -> Result<()> {
         for _ in 0..rounds {
             if self.in_use > half {
@@ -177,7 +178,8 @@ impl Load {
     }
 }
 
-// What a take and a give cost together in a zone of so many frames: it is filled by half and stirred before.
+// The cost of a take and a give together in a zone of this many frames. Before, the zone is filled by half and
+// stirred.
 fn cost_of<R: Clock + Alloc<A = Global>>(
     rt: &R,
     pace: Pace,

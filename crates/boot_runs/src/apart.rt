@@ -133,7 +133,8 @@ fn is_held<N: BootName>(
     }
 }
 
-// The life of a system that continues twice.
+// The life of a system that is taken apart and put together again. Then a pin prevents its shutdown. Neither changes
+// it.
 fn goes_on<N: BootName, R: Wait + Abort>(rt: &R, alloc: Global, boot: Boot)
     requires { (boot.frames ≡ N.frames) × (boot.stocks ≡ N.stocks) }
 {

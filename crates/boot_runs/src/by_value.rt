@@ -1,4 +1,4 @@
-//! Commands that are served by value: a caller that owns what lies behind the lock needs no lock.
+//! Commands that are served by value: a caller that owns the state behind the lock doesn't need the lock.
 
 ghost use Rattle.std.specs.Prelude.{◌≡◌};
 

@@ -13,7 +13,7 @@ use std::marker::Brand;
 use std::process::Abort;
 use stock_word::{StockSeat, StockWords};
 
-/// The tables of F frames and 64 CPUs, and the seats of the machine and of CPU 64, as they are at first.
+/// The tables of F frames and 64 CPUs, and the seats of the machine and of CPU 64, all new.
 #[derive(Drop)]
 struct LargeParts<const F: u32> {
     frames: FrameWords,
@@ -47,7 +47,7 @@ fn make_large_parts<const F: u32>(rt: &impl Abort, alloc: Global) -> LargeParts<
     }
 }
 
-// In a visit so many frames come to the CPU's list, and go back: three, and then the others.
+// In one visit the CPU's list is refilled with this many frames. It is drained of three, and then of the rest.
 fn lends_and_takes_back<N: BootName>(
     rt: &impl Abort,
     tables: &Tables<N>,
@@ -70,7 +70,7 @@ fn lends_and_takes_back<N: BootName>(
     machine.shut(tables, cpu);
 }
 
-// In a visit of CPU 64 of a machine of F frames, 64 come to its list and go back.
+// A machine of F frames: in one visit the list of CPU 64 is refilled with 64 frames and drained.
 fn lends<const F: u32, N: BootName>(rt: &impl Abort, alloc: Global, parts: LargeParts<F>)
     requires { (parts.frames ≡ N.frames) × (parts.stocks ≡ N.stocks) }
 {
@@ -91,7 +91,7 @@ fn lends<const F: u32, N: BootName>(rt: &impl Abort, alloc: Global, parts: Large
     let _ = tables.into_tables();
 }
 
-// In a visit of CPU 64 of a machine of 1,048,576 frames, 64 come to its list and go back.
+// The same with 1,048,576 frames.
 fn lends_of_many<N: BootName>(rt: &impl Abort, alloc: Global, parts: LargeParts<1048576>)
     requires { (parts.frames ≡ N.frames) × (parts.stocks ≡ N.stocks) }
 {

@@ -1,5 +1,5 @@
-//! Tests of a boot from its start to its end, by visits and by value, and of the machine of the greatest size. Nothing but
-//! tests stands here.
+//! Tests of boots from start to end, by visits and by value, and of a machine of the greatest size. This crate has
+//! nothing but tests.
 #![tactic(auto)]
 
 #[cfg(test)]

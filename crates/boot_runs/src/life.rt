@@ -1,4 +1,4 @@
-//! A boot of 16 frames and two processors starts, and a group is made, read, limited and taken out by visits.
+//! A boot of 16 frames and two CPUs starts. Visits make, read, limit and remove a group.
 ghost use Rattle.std.specs.Prelude.{◌≡◌, ◌<◌, length};
 ghost use Rattle.mem_system.specs.Commands.{IsOfZone};
 
@@ -13,7 +13,7 @@ use std::sync::Wait;
 use std::sync::atomic::{AtomicU32, Ordering};
 use zone_sizes::config::Config;
 
-/// 16 frames and two processors.
+/// 16 frames and two CPUs.
 pub const SIZES: Config = Config {
     frames: 16,
     cpus: 2,
@@ -22,7 +22,7 @@ pub const SIZES: Config = Config {
     stock: 4,
 };
 
-// Adds up the numbers of the processors that it is called for inside a visit.
+// Sums the numbers of the CPUs for which it is called inside a visit.
 #[derive(Drop)]
 struct Counter {
     inside: AtomicU32,
@@ -38,13 +38,13 @@ impl Gate for Counter {
     fn after(&self, _cpu: u32, _line: usize) {}
 }
 
-/// It is so, or the test ends here. A call is proved at less cost than the macro in its place.
+/// It holds, or the test fails. A call is cheaper to prove than the macro in its place.
 pub fn holds(rt: &impl Abort, is: bool) {
     assert!(rt; is);
 }
 
-/// What the processor is answered in a visit. What `System::visit` says of it is left out: whoever takes the reply alone
-/// needn't pay for its clauses.
+/// The reply to the CPU in a visit. This function drops the clauses of `System::visit`, so a caller that needs only
+/// the reply doesn't pay for them.
 pub fn visit<N: BootName, R: Wait>(
     rt: &R,
     system: &System<N>,
@@ -56,7 +56,7 @@ pub fn visit<N: BootName, R: Wait>(
     system.visit(rt, cpu, cmd)
 }
 
-/// The processor is answered so in a visit.
+/// The CPU gets this reply in a visit.
 pub fn answers<N: BootName, R: Wait + Abort>(
     rt: &R,
     system: &System<N>,
@@ -93,7 +93,7 @@ fn events_text(rt: &impl Abort, alloc: Global, counts: [u64; 4]) -> String {
     ).expect(rt, "memory")
 }
 
-// Processor 1 makes the group, limits it and reads its files.
+// CPU 1 makes the group, limits it and reads its files.
 fn makes_and_reads<N: BootName, R: Wait + Abort>(
     rt: &R,
     alloc: Global,
@@ -131,7 +131,7 @@ fn reads_nothing<N: BootName, R: Wait + Abort>(
     reads(rt, system, cpu, b"memory.events.local", events.as_bytes());
 }
 
-// All frames are free, and the group has nothing.
+// All frames are free, and the group's usage is 0.
 fn tells<N: BootName, R: Wait + Abort>(
     rt: &R,
     alloc: Global,
@@ -147,7 +147,7 @@ fn tells<N: BootName, R: Wait + Abort>(
     holds(rt, blocks.as_slice() == b"4:0\n".as_slice());
 }
 
-// Processor 2 finds the group and takes it out.
+// CPU 2 finds the group and removes it.
 fn takes_out<N: BootName, R: Wait + Abort>(rt: &R, system: &System<N>, cpu: &mut Cpu<N>) {
     let path: &[u8] = b"/a";
     holds(rt, system.find(rt, path) == GroupId::of(1));
@@ -160,7 +160,7 @@ fn takes_out<N: BootName, R: Wait + Abort>(rt: &R, system: &System<N>, cpu: &mut
     keeps_none(rt, system, cpu);
 }
 
-// Frame 3 is free, and no unit.
+// Frame 3 is free and isn't a unit.
 fn keeps_none<N: BootName, R: Wait + Abort>(rt: &R, system: &System<N>, cpu: &mut Cpu<N>) {
     let frame = system
         .tables()
@@ -176,7 +176,7 @@ fn keeps_none<N: BootName, R: Wait + Abort>(rt: &R, system: &System<N>, cpu: &mu
     answers(rt, system, cpu, &Cmd::Release { frame }, &refused);
 }
 
-// What the processor is answered that settles in a visit with this gate.
+// The reply to a settle in a visit with this gate.
 fn settles_by<N: BootName, R: Wait>(
     rt: &R,
     system: &System<N>,
@@ -186,7 +186,7 @@ fn settles_by<N: BootName, R: Wait>(
     system.visit_with(rt, cpu, &Cmd::Settle, gate)
 }
 
-// The processor asks for the removal of `/a`, and the answer takes the place of this reply.
+// The CPU asks for the removal of `/a`. The new reply replaces this one.
 fn rmdir_into<N: BootName, R: Wait>(
     rt: &R,
     system: &System<N>,
@@ -198,7 +198,7 @@ fn rmdir_into<N: BootName, R: Wait>(
     system.visit_into(rt, cpu, &Cmd::Rmdir { path }, gate, reply);
 }
 
-// Processor 2 is visited by a gate that it passes, and is answered in place of an older reply.
+// CPU 2 makes two visits with a gate, which is called inside each. The second visit replaces an older reply.
 fn passes_the_gate<N: BootName, R: Wait + Abort>(rt: &R, system: &System<N>, cpu: &mut Cpu<N>) {
     let gate = Counter {
         inside: AtomicU32::new(0),
@@ -209,7 +209,7 @@ fn passes_the_gate<N: BootName, R: Wait + Abort>(rt: &R, system: &System<N>, cpu
     holds(rt, gate.inside.load(Ordering::SeqCst) == 4);
 }
 
-// The reply to the processor takes the place of an older one.
+// The reply to the CPU replaces an older one.
 fn is_answered_in_place<N: BootName, R: Wait + Abort>(
     rt: &R,
     system: &System<N>,
@@ -221,7 +221,7 @@ fn is_answered_in_place<N: BootName, R: Wait + Abort>(
     holds(rt, reply == Reply::Refused(Fault::NoGroup));
 }
 
-/// Shuts the system down, which no processor has a pin in.
+/// Shuts the system down, in which no CPU has a pin.
 pub fn ends<N: BootName>(rt: &impl Abort, system: System<N>, cpus: Vec<Cpu<N>>) -> Audit
     requires { length cpus.items ≡ N.frames.cpus }
 {
@@ -231,7 +231,7 @@ pub fn ends<N: BootName>(rt: &impl Abort, system: System<N>, cpus: Vec<Cpu<N>>) 
     }
 }
 
-/// What is counted of 16 frames where nothing was charged.
+/// The counts of 16 frames if nothing was charged.
 pub fn nothing_was_charged() -> Audit {
     Audit {
         frames: 16,
@@ -256,7 +256,7 @@ fn lives<N: BootName, R: Wait + Abort>(rt: &R, alloc: Global, boot: Boot)
     holds(rt, ends(rt, system, cpus) == nothing_was_charged());
 }
 
-// What each of the two processors does.
+// What each of the two CPUs does.
 fn visits<N: BootName, R: Wait + Abort>(
     rt: &R,
     alloc: Global,

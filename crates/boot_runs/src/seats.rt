@@ -1,4 +1,4 @@
-//! The seats of one CPU, and its part made of them.
+//! The seats of one CPU, and the CPU part that is made of them.
 ghost use Rattle.std.specs.Prelude.{◌≡◌};
 ghost use Rattle.frame_word.specs.Seats.{first_cpu_view, number_of, IsCpuSeat};
 ghost use Rattle.stock_word.specs.Stock.{IsProcessor};
@@ -16,7 +16,7 @@ pub struct CpuSeats {
     pub stock: StockSeat,
 }
 
-/// The part of the CPU whose seats these are.
+/// The CPU part with these seats.
 pub fn new_cpu<N: BootName>(rt: &impl Abort, alloc: Global, seats: CpuSeats) -> Cpu<N>
     requires seat { IsCpuSeat N.frames seats.frames × (seats.frames.view ≡ first_cpu_view (number_of seats.frames)) }
     requires stock { (seats.stock.table ≡ N.stocks.table) × IsProcessor N.stocks seats.stock.view × (seats.stock.view.fresh ≡ 0) }
@@ -25,7 +25,7 @@ pub fn new_cpu<N: BootName>(rt: &impl Abort, alloc: Global, seats: CpuSeats) -> 
     Cpu::<N>::new(alloc, seats.frames, seats.stock).expect(rt, "memory")
 }
 
-/// Takes apart the part of a CPU that has nothing left.
+/// Takes an idle CPU part apart.
 pub fn close_cpu<N: BootName>(rt: &impl Abort, cpu: Cpu<N>) {
     assert!(rt; cpu.is_idle());
     let _ = cpu.into_seats();

@@ -1,4 +1,5 @@
-//! If a boot fails because memory runs out, the next one lives a whole life all the same. The same holds of texts.
+//! If a boot fails because memory runs out, the next boot still runs to its end. The same holds for the texts of
+//! `show` and `blocks`.
 ghost use Rattle.std.specs.Prelude.{◌≡◌};
 
 use crate::life::{SIZES, ends, nothing_was_charged};

@@ -4,7 +4,7 @@ use log_check::check_log;
 use log_check::end::{LogEnd, LogFault};
 use step_rules::step::Answer;
 
-// Behind the lock the zone charges a page to the root, places a unit at frame 3 and publishes it.
+// Under the lock the zone charges a page to the root, places a unit at frame 3 and publishes it.
 const LEGAL: &str = "# a page for the root
 
 zone 16 2

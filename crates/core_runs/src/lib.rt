@@ -1,4 +1,4 @@
-//! Runs of the core as tests, worked by hand from the table of the steps, and the texts and checks of logs.
+//! Tests of the core and of logs. The runs of the core are worked out by hand from the rules of `step_rules`.
 #![tactic(auto)]
 
 #[cfg(test)]

@@ -1,4 +1,4 @@
-//! Lines of a log.
+//! Lines of a log, as they are read and written.
 
 use group_tree::group::GroupId;
 use group_tree::path::PathText;
@@ -8,7 +8,7 @@ use std::alloc::{AllocError, Global};
 use std::process::Abort;
 use step_rules::step::{Action, Answer, Step};
 
-// A line of each action, and of each answer.
+// Lines that have each answer, and each action except those of `OTHER_ENTRIES`.
 const ENTRIES: [&str; 36] = [
     "1 lock > done",
     "1 unlock > done",
@@ -48,7 +48,7 @@ const ENTRIES: [&str; 36] = [
     "4294967295 kill 1 > illegal",
 ];
 
-// The names of the actions that the lines above don't have.
+// Lines for the actions that `ENTRIES` leaves out.
 const OTHER_ENTRIES: [&str; 5] = [
     "0 publish 3 > done",
     "0 return 3 > done",
@@ -57,7 +57,7 @@ const OTHER_ENTRIES: [&str; 5] = [
     "0 group-kill 1 > done",
 ];
 
-// The line is that of a step, which is written so.
+// The line is read as a step, and this step is written as the same line.
 fn is_entry(rt: &(impl Abort + AllocGlobal), text: &str) -> Result<(), AllocError> {
     let Some(LogLine::Step { step, answer }) = parse_line(text.as_bytes()) else {
         panic!(rt; "{text}");
@@ -79,7 +79,7 @@ fn reads_and_writes_each_action_and_answer(rt: HostRuntime) -> Result<(), AllocE
     Ok(())
 }
 
-// The line is that of this step and this answer.
+// The line has this action of seat 1 and this answer.
 fn says(rt: &impl Abort, text: &str, action: Action, answer: Answer) {
     let step = Step { seat: 1, action };
     let line = LogLine::Step { step, answer };
@@ -178,7 +178,7 @@ fn refuses_what_no_log_has(rt: HostRuntime) {
     }
 }
 
-// A line that makes a group of a path of so many bytes.
+// A line that makes a group whose path has this many bytes.
 fn make_line(alloc: Global, bytes: usize) -> Result<Vec<u8>, AllocError> {
     let mut text = Vec::from_slice(alloc, b"0 make ".as_slice())?;
     let path = vec![in alloc; b'/'; bytes]?;

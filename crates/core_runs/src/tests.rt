@@ -123,7 +123,7 @@ fn a_whole_run_is_answered(rt: HostRuntime) -> Result<(), Fail> {
     runs_rows(&rt, rt.alloc(), &with_pending_page())
 }
 
-// A frame is placed, kept, pinned by CPU 2, put there for the last time, handed over, and returned once.
+// A frame is placed and kept. CPU 2 pins it, puts the last reference and hands it over. The frame is returned once.
 #[test]
 fn a_frame_lives_and_returns_once(rt: HostRuntime) -> Result<(), Fail> {
     let rows = [
@@ -249,7 +249,7 @@ fn a_book_of_four_pages_falls_to_0(rt: HostRuntime) -> Result<(), Fail> {
     works_on_core(&rt, rt.alloc(), &with_stock(4), &rows, &facts)
 }
 
-// A fresh frame that was collected is returned only once its group is killed, and no use of it ends.
+// A collected fresh frame can be returned only once its group is killed. It needs no last put and no freeze.
 #[test]
 fn a_killed_groups_fresh_frame_is_dropped(rt: HostRuntime) -> Result<(), Fail> {
     let group = group_of(1);
@@ -362,8 +362,8 @@ fn flagging(seat: u32, group: GroupId, answer: Answer) -> CoreRow {
     (seat, Action::SetFlag { group, oom_group }, answer)
 }
 
-// The flag of /a is set, /a is killed, and that is noted. Both steps are illegal for the root and for a group that
-// doesn't exist, and a CPU can't set the flag.
+// The flag of /a is set, /a is killed, and that is noted. To set the flag or to note the kill is illegal for the root
+// and for a group that doesn't exist. A CPU can't set the flag.
 fn with_group_kill() -> [CoreRow; 10] {
     let (root, group, gone) = (GroupId::root(), group_of(1), group_of(2));
     let [lock, make] = with_group();
@@ -396,7 +396,7 @@ fn a_group_kill_is_counted(rt: HostRuntime) -> Result<(), Fail> {
     works_on_core(&rt, rt.alloc(), &with_group_kill(), &[], &facts)
 }
 
-// A new group of that number has neither the flag nor the count.
+// A new group with the same number has neither the flag nor the count.
 #[test]
 fn a_new_group_has_no_flag(rt: HostRuntime) -> Result<(), Fail> {
     let group = group_of(1);

@@ -14,7 +14,7 @@ use Rattle.zone_sizes.specs.declared.config.Config.{Config}
 use Rattle.zone_sizes.specs.Config.{most_batch, most_cpus, most_frames, most_high, most_stock}
 use Rattle.load_options.specs.declared.task.Options.{Options}
 use Rattle.load_options.specs.declared.task.Task.{Task}
-use Rattle.load_options.specs.declared.task.Task.TheVariants.{Replay, Run}
+use Rattle.load_options.specs.declared.task.Task.TheVariants.{Replay, Run, Check}
 use Rattle.load_options.specs.declared.fault.LineFault.{LineFault}
 use Rattle.load_options.specs.declared.fault.LineFault.TheVariants.{BadWords, NoMemory}
 
@@ -34,7 +34,7 @@ flag_rule name = record (new_rule name) {
   action = Some SetTrue;
 }
 
--- the options that both subcommands have
+-- the options that both subcommands on scripts have
 abbrev pub task_rules : List Rule
 task_rules =
     size_rule (codes "frames") most_frames (codes "16")
@@ -45,13 +45,17 @@ task_rules =
     ∷ flag_rule (codes "audit")
     ∷ []
 
--- the subcommand of this name, with these options
+-- the subcommand on scripts of this name, with these options
 abbrev pub command_shape : List ℕ → Shape
 command_shape name = record (new_shape name) { rules = task_rules }
 
 -- `replay`, which has one more option
 abbrev pub replay_shape : Shape
 replay_shape = record (command_shape (codes "replay")) { rules = task_rules ++ flag_rule (codes "explain") ∷ [] }
+
+-- `check`, which has no option
+abbrev pub check_shape : Shape
+check_shape = new_shape (codes "check")
 
 -- the program: it requires one of its subcommands, and its own name is not among the words
 abbrev pub program : App
@@ -61,7 +65,7 @@ program = record {
     subcommand_required = true;
     is_leaf = false;
   };
-  subs = replay_shape ∷ command_shape (codes "run") ∷ [];
+  subs = replay_shape ∷ command_shape (codes "run") ∷ check_shape ∷ [];
 }
 
 -- the number that a text writes, in decimal digits and perhaps after a plus, if it is from 1 to `most`
@@ -95,18 +99,30 @@ sizes_in found = do
   stock ← size_in (codes "stock") most_stock found
   Some (record { frames = frames; cpus = cpus; batch = batch; high = high; stock = stock })
 
--- the task of this name, with the options of this task alone
+-- the task on a script that has this name, with the options of this task alone
 abbrev pub task_in : List ℕ → List Row → Option Task
 task_in name found =
     if bytes_eq name (codes "replay") then Some (Replay (is_given (codes "explain") found))
     else if bytes_eq name (codes "run") then Some Run else None
 
--- the options that are given under the name of a subcommand
-abbrev pub options_under : List ℕ → List Row → Option Options
-options_under name found = do
+-- the options that are given under the name of a subcommand on scripts
+abbrev pub script_options_under : List ℕ → List Row → Option Options
+script_options_under name found = do
   task ← task_in name found
   sizes ← sizes_in found
   Some (record { task = task; sizes = sizes; is_audited = is_given (codes "audit") found })
+
+-- the options of `check`: it boots nothing, and has the sizes that are the default of the other tasks
+abbrev pub check_options : Options
+check_options = record {
+  task = Check;
+  sizes = record { frames = 16; cpus = 2; batch = 4; high = 8; stock = 4 };
+  is_audited = false;
+}
+
+-- the options that are found under the name of a subcommand
+abbrev pub options_under : List ℕ → List Row → Option Options
+options_under name found = if bytes_eq name (codes "check") then Some check_options else script_options_under name found
 
 -- what was found, if there is no fault
 abbrev pub if_none : Kinds → Option Options → Option Options

@@ -6,7 +6,7 @@ ghost use Rattle.clap.specs.declared.builder.command.Command.TheViews.{out-Comma
 ghost use Rattle.clap.specs.declared.builder.value_parser.ValueParser.TheVariants.{Signed};
 ghost use Rattle.load_options.specs.Fault.{IsNoMemory};
 ghost use Rattle.load_options.specs.Sizes.{HasSizesInRange};
-ghost use Rattle.load_options.specs.Words.{TellsOptions, command_shape, flag_rule, options_of, program, replay_shape};
+ghost use Rattle.load_options.specs.Words.{TellsOptions, check_shape, command_shape, flag_rule, options_of, program, replay_shape};
 ghost use Rattle.load_options.specs.Words.{size_rule};
 
 use crate::fault::LineFault;
@@ -28,6 +28,8 @@ const REPLAY_HELP: &str = "Runs the lines of a script, one after the other";
 
 const RUN_HELP: &str =
     "Runs the lines before `go` in the same way, and the later ones in one thread for each CPU";
+
+const CHECK_HELP: &str = "Checks a log of steps: whether each step keeps the rules";
 
 const FRAMES_HELP: &str = "Frames of the zone, 1 to 1048576";
 
@@ -59,8 +61,8 @@ pub fn words<R: Env + AllocGlobal>(rt: &R) -> Result<Vec<String>, LineFault> {
 }
 
 /// Parses the words after the program's name. They are `replay` or `run`, then any of `--frames`, `--cpus`,
-/// `--batch`, `--high`, `--stock` and `--audit`, and after `replay` also `--explain`, each at most once. Anything
-/// else is a fault of the words, even a request for help.
+/// `--batch`, `--high`, `--stock` and `--audit`, and after `replay` also `--explain`, each at most once; or `check`
+/// alone. Anything else is a fault of the words, even a request for help.
 ///
 /// A size is a whole number in its own range: 1 to 1,048,576 frames, 1 to 64 CPUs, batch 1 to 64, high 1 to 256,
 /// stock 1 to 64. `Config::is_valid` requires more: high is at least batch. The defaults are 16, 2, 4, 8 and 4.
@@ -109,7 +111,8 @@ fn memcg<'a>(alloc: Global) -> Result<Command<'a>, AllocError>
         .about(MEMCG_HELP)
         .subcommand_required(true)
         .subcommand(replay_command(alloc)?)?
-        .subcommand(subcommand(alloc, "run", RUN_HELP)?)
+        .subcommand(subcommand(alloc, "run", RUN_HELP)?)?
+        .subcommand(check_command(alloc))
 }
 
 // `replay`, which has one more option.
@@ -120,7 +123,15 @@ fn replay_command<'a>(alloc: Global) -> Result<Command<'a>, AllocError>
     subcommand(alloc, "replay", REPLAY_HELP)?.arg(explain_option(alloc))
 }
 
-// A subcommand, with its options.
+// `check`, which has no option.
+fn check_command<'a>(alloc: Global) -> Command<'a>
+    ensures shape { (app_of result).top ≡ check_shape }
+    ensures local { (fields_of result).has_globals ≡ false }
+{
+    Command::new(alloc, "check").about(CHECK_HELP)
+}
+
+// A subcommand on scripts, with its options.
 fn subcommand<'a>(alloc: Global, name: &'a str, about: &'a str) -> Result<Command<'a>, AllocError>
     ensures shape { IfOk result (λ command. (app_of command).top ≡ command_shape name.entry.now) }
     ensures local { IfOk result (λ command. (fields_of command).has_globals ≡ false) }

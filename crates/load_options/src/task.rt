@@ -3,7 +3,7 @@
 ghost use Rattle.std.specs.Prelude.{◌≡◌, ◌≤◌, IfSome, option_and_then};
 ghost use Rattle.clap.specs.Words.{found_of, rows_of, subcommand_rows_of};
 ghost use Rattle.load_options.specs.Sizes.{HasSizesInRange};
-ghost use Rattle.load_options.specs.Words.{is_given, number_kept, options_under, size_in, sizes_in, task_in};
+ghost use Rattle.load_options.specs.Words.{is_given, number_kept, options_under, script_options_under, size_in, sizes_in, task_in};
 
 use clap::ArgMatches;
 use zone_sizes::config::Config;
@@ -19,7 +19,7 @@ pub(crate) const MOST_HIGH: u32 = 256;
 
 pub(crate) const MOST_STOCK: u32 = 64;
 
-/// What the program does with the script, with the options of this task alone.
+/// What the program does with its input, with the options of this task alone.
 #[derive(Clone, Copy, Debug, PartialEq, Eq)]
 pub enum Task {
     /// The lines run one after another.
@@ -29,18 +29,33 @@ pub enum Task {
     },
     /// The lines from `go` on run in one thread for each CPU.
     Run,
+    /// The input is a log, which is checked.
+    Check,
 }
 
 /// What the words of the command line ask for.
 #[derive(Clone, Copy, Debug, PartialEq, Eq)]
 pub struct Options {
-    /// What to do with the script.
+    /// What to do with the input.
     pub task: Task,
-    /// The sizes of the boot.
+    /// The sizes of the boot. `Check` boots nothing, and has the default sizes of the other tasks.
     pub sizes: Config,
     /// Whether to report the end: the pins that are still held, and the counts.
     pub is_audited: bool,
 }
+
+// `check` takes no options.
+const CHECK_OPTIONS: Options = Options {
+    task: Task::Check,
+    sizes: Config {
+        frames: 16,
+        cpus: 2,
+        batch: 4,
+        high: 8,
+        stock: 4,
+    },
+    is_audited: false,
+};
 
 // The options, if there is a subcommand of the program and each size has a value in its range.
 pub(crate) fn read_options(found: &ArgMatches<'_>) -> Option<Options>
@@ -48,6 +63,18 @@ pub(crate) fn read_options(found: &ArgMatches<'_>) -> Option<Options>
     ensures in_range { IfSome result (λ o. HasSizesInRange o.sizes) }
 {
     let (name, given) = found.subcommand()?;
+    if name == "check" {
+        Some(CHECK_OPTIONS)
+    } else {
+        script_options(name, given)
+    }
+}
+
+// The options of a task on a script.
+fn script_options(name: &str, given: &ArgMatches<'_>) -> Option<Options>
+    ensures asked { result ≡ script_options_under name.now (rows_of (found_of given.now)) }
+    ensures in_range { IfSome result (λ o. HasSizesInRange o.sizes) }
+{
     let task = named_task(name, given)?;
     let sizes = sizes(given)?;
     let is_audited = is_set(given, "audit");
@@ -58,7 +85,7 @@ pub(crate) fn read_options(found: &ArgMatches<'_>) -> Option<Options>
     })
 }
 
-// The task of this name, with its own options.
+// The task on a script that has this name, with its own options.
 fn named_task(name: &str, given: &ArgMatches<'_>) -> Option<Task>
     ensures { result ≡ task_in name.now (rows_of (found_of given.now)) }
 {

@@ -7,7 +7,7 @@ use Rattle.script_lines.specs.declared.fault.ScriptFault.TheVariants as script
 use Rattle.script_lines.specs.Script.{IsScript}
 use Rattle.load_options.specs.declared.task.Options.{Options}
 use Rattle.load_run.specs.declared.fault.ProgramFault.{ProgramFault}
-use Rattle.load_run.specs.declared.fault.ProgramFault.TheVariants.{Words, Script, BadConfig, Input, Output, NoMemory}
+use Rattle.load_run.specs.declared.fault.ProgramFault.TheVariants.{Words, Script, BadLogLine, BadConfig, Input, Output, NoMemory}
 use Rattle.load_run.specs.Answers.{IsAnswered, bytes_read}
 use Rattle.load_run.specs.Causes.{FailsAtWork, HasCause, IsMisused, LeavesAnswers, written}
 use Rattle.load_run.specs.Fault.{IsBootFault, IsReadFault, IsScriptFault, IsWordsFault, fault_text, status_of}
@@ -25,6 +25,7 @@ pub words_cause : (asked : Option Options) (input : Option (List ℕ)) (fault : 
 words_cause asked None fault is = tt
 words_cause asked (Some bytes) (Words fault) is = is
 words_cause asked (Some bytes) (Script fault) is = absurd is
+words_cause asked (Some bytes) (BadLogLine number) is = absurd is
 words_cause asked (Some bytes) BadConfig is = absurd is
 words_cause asked (Some bytes) Input is = absurd is
 words_cause asked (Some bytes) Output is = absurd is
@@ -36,6 +37,7 @@ pub read_cause : (asked : Option Options) (options : Options) (input : Option (L
 read_cause asked options None fault is_asked is = tt
 read_cause asked options (Some bytes) (Words fault) is_asked is = absurd is
 read_cause asked options (Some bytes) (Script fault) is_asked is = absurd is
+read_cause asked options (Some bytes) (BadLogLine number) is_asked is = absurd is
 read_cause asked options (Some bytes) BadConfig is_asked is = absurd is
 read_cause asked options (Some bytes) Input is_asked is = subst IsSome (sym is_asked) refl
 read_cause asked options (Some bytes) Output is_asked is = absurd is
@@ -54,6 +56,7 @@ script_cause asked options (Some bytes) text (Script (script.BadLine n)) is_aske
   first = subst (λ (l : List ℕ). IsScriptFault options.sizes l (Script (script.BadLine n))) read is;
 }
 script_cause asked options (Some bytes) text (Script script.NoMemory) is_asked in_range read is = subst IsSome (sym is_asked) refl
+script_cause asked options (Some bytes) text (BadLogLine number) is_asked in_range read is = absurd is
 script_cause asked options (Some bytes) text BadConfig is_asked in_range read is = absurd is
 script_cause asked options (Some bytes) text Input is_asked in_range read is = absurd is
 script_cause asked options (Some bytes) text Output is_asked in_range read is = absurd is
@@ -66,6 +69,7 @@ pub boot_cause : (asked : Option Options) (options : Options) (input : Option (L
 boot_cause asked options None text lines fault is_asked read script is = tt
 boot_cause asked options (Some bytes) text lines (Words fault) is_asked read script is = absurd is
 boot_cause asked options (Some bytes) text lines (Script fault) is_asked read script is = absurd is
+boot_cause asked options (Some bytes) text lines (BadLogLine number) is_asked read script is = absurd is
 boot_cause asked options (Some bytes) text lines BadConfig is_asked read script is = record {
   options = options;
   is_asked = is_asked;
@@ -96,6 +100,7 @@ nothing_left : (asked : Option Options) (input : List ℕ) (fault : ProgramFault
     → LeavesAnswers asked fault output output input
 nothing_left asked input (Words fault) output cause = Keeps-refl output
 nothing_left asked input (Script fault) output cause = Keeps-refl output
+nothing_left asked input (BadLogLine number) output cause = absurd cause
 nothing_left asked input BadConfig output cause = Keeps-refl output
 nothing_left asked input Input output cause = Keeps-refl output
 nothing_left asked input Output output cause = record { text = cause.text; answered = cause.answered; begun = (0, Appends-nil output) }

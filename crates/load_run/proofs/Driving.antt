@@ -1,14 +1,15 @@
--- What a run promises, from how it ended: its answers were written, or a beginning of them, or a fault came before. Serves `drive`.
+-- What a run on a script promises, from how it ended: its answers were written, or a beginning of them, or a fault came before.
+-- Serves `drive_script`.
 use Rattle.std.proofs.Common.{◌≡◌, ◌∙◌, ℕ, ◌≤◌, List, Option, IfSome, IsSome, ap, arith, refl, subst, sym}
 use Rattle.std.specs.Io.KnownBytes.{Appends}
 use Rattle.script_lines.specs.declared.fault.ScriptFault.TheVariants as script
 use Rattle.load_options.specs.declared.fault.LineFault.TheVariants as words
 use Rattle.load_options.specs.declared.task.Options.{Options}
 use Rattle.load_run.specs.declared.fault.ProgramFault.{ProgramFault}
-use Rattle.load_run.specs.declared.fault.ProgramFault.TheVariants.{Words, Script, BadConfig, Input, Output, NoMemory}
+use Rattle.load_run.specs.declared.fault.ProgramFault.TheVariants.{Words, Script, BadLogLine, BadConfig, Input, Output, NoMemory}
 use Rattle.load_run.specs.Answers.{IsAnswered}
 use Rattle.load_run.specs.Causes.{HasCause, written}
-use Rattle.load_run.specs.Driving.{Drives}
+use Rattle.load_run.specs.Driving.{DrivesScript}
 use Rattle.load_run.specs.Fault.{fault_text, status_of}
 use Rattle.load_run.specs.Writing.{AppendsBeginning}
 use Rattle.load_run.proofs.Answering.{answers_written}
@@ -20,6 +21,7 @@ status_low (Words (words.BadWords text)) = omega arith
 status_low (Words (words.NoMemory error)) = omega arith
 status_low (Script (script.BadLine number)) = omega arith
 status_low (Script script.NoMemory) = omega arith
+status_low (BadLogLine number) = omega arith
 status_low BadConfig = omega arith
 status_low Input = omega arith
 status_low Output = omega arith
@@ -30,6 +32,7 @@ status_high (Words (words.BadWords text)) = omega arith
 status_high (Words (words.NoMemory error)) = omega arith
 status_high (Script (script.BadLine number)) = omega arith
 status_high (Script script.NoMemory) = omega arith
+status_high (BadLogLine number) = omega arith
 status_high BadConfig = omega arith
 status_high Input = omega arith
 status_high Output = omega arith
@@ -38,7 +41,7 @@ status_high (NoMemory error) = omega arith
 -- the answers were written, all of them
 pub drives_well : (asked : Option Options) (input output output_after faults : Option (List ℕ)) (text given : List ℕ) → IsSome asked
     → IfSome input (IsAnswered asked text) → given ≡ text → Appends output output_after given
-    → Drives asked input (written output faults) (written output_after faults) 0
+    → DrivesScript asked input (written output faults) (written output_after faults) 0
 drives_well asked input output output_after faults text given is_asked answered same whole = record {
   status_at_most = omega arith;
   is_asked = λ zero. is_asked;
@@ -53,7 +56,7 @@ drives_well asked input output output_after faults text given is_asked answered 
 pub drives_short : (asked : Option Options) (input output output_after faults faults_after : Option (List ℕ)) (text given : List ℕ)
     (fault : ProgramFault) (status : ℕ) → IfSome input (IsAnswered asked text) → given ≡ text → AppendsBeginning output output_after given
     → fault ≡ Output → status ≡ status_of fault → AppendsBeginning faults faults_after (fault_text fault)
-    → Drives asked input (written output faults) (written output_after faults_after) status
+    → DrivesScript asked input (written output faults) (written output_after faults_after) status
 drives_short asked input output output_after faults faults_after text given fault status answered same begun is status_is told =
     let ended : status ≡ 1 = status_is ∙ ap status_of is in
     record {
@@ -69,7 +72,7 @@ drives_short asked input output output_after faults faults_after text given faul
 -- a fault came before there were answers
 pub drives_badly : (asked : Option Options) (input output faults faults_after : Option (List ℕ)) (fault : ProgramFault) (status : ℕ)
     → IfSome input (HasCause asked fault) → status ≡ status_of fault → AppendsBeginning faults faults_after (fault_text fault)
-    → Drives asked input (written output faults) (written output faults_after) status
+    → DrivesScript asked input (written output faults) (written output faults_after) status
 drives_badly asked input output faults faults_after fault status cause status_is told =
     let low : 1 ≤ status_of fault = status_low fault in
     let high : status_of fault ≤ 2 = status_high fault in

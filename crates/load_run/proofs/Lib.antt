@@ -5,4 +5,5 @@ pub mod Joining
 pub mod Pieces
 pub mod Putting
 pub mod Starting
+pub mod Verdicts
 pub mod Written

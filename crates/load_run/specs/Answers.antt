@@ -1,5 +1,5 @@
 -- What a script is answered.
-use Rattle.std.specs.Prelude.{◌≡◌, ℕ, ◌+◌, Bool, false, Option, Some, List, [], ◌++◌, drop, length, take}
+use Rattle.std.specs.Prelude.{◌≡◌, ℕ, ◌+◌, Bool, false, ⊤, Option, Some, List, [], ◌++◌, drop, length, take}
 use Rattle.std.specs.Io.KnownBytes.{Appends}
 use Rattle.frame_word.specs.Seats.{KnownTable}
 use Rattle.stock_word.specs.Stock.{Words}
@@ -18,7 +18,7 @@ use Rattle.script_threads.specs.Each.{TellsEach, workers_from}
 use Rattle.script_threads.specs.Runs.{lines_before_go}
 use Rattle.load_options.specs.declared.task.Options.{Options}
 use Rattle.load_options.specs.declared.task.Task.{Task}
-use Rattle.load_options.specs.declared.task.Task.TheVariants.{Replay, Run}
+use Rattle.load_options.specs.declared.task.Task.TheVariants.{Replay, Run, Check}
 use Rattle.load_run.specs.Ending.{TellsEnd}
 
 -- what is read of an input: a byte more than a script may have, as far as there are so many
@@ -80,11 +80,19 @@ pub record AreThreadAnswers (sizes : Config) (is_audited : Bool) (lines : List L
   pub ends : TellsEnd frames stocks is_audited end ending
   pub text_is : text ≡ (early ++ later) ++ ending
 
--- what a boot with these sizes answers to the lines for this task, and reports of its end if it is audited
+-- the task is one on a script
+abbrev pub IsOnScript : Task → Type 0
+IsOnScript (Replay is_explained) = ⊤
+IsOnScript Run = ⊤
+IsOnScript Check = ⊥
+
+-- what a boot with these sizes answers to the lines for this task, and reports of its end if it is audited; a check has
+-- no boot
 abbrev pub AreAnswers : Task → (sizes : Config) (is_audited : Bool) (lines : List Line) (text : List ℕ) → Type 0
 AreAnswers (Replay is_explained) sizes is_audited lines text =
     AreReplayAnswers sizes is_explained is_audited lines text
 AreAnswers Run sizes is_audited lines text = AreThreadAnswers sizes is_audited lines text
+AreAnswers Check sizes is_audited lines text = ⊥
 
 -- These options are asked for, a boot takes their sizes, and the input is a script for them. The text is what a boot of
 -- these sizes answers to the script for the task of the options. It ends with a report of the end, if they ask for one.

@@ -1,4 +1,4 @@
--- Why the program ends without its answers, and what it leaves then.
+-- Why the program ends without its answers to a script, and what it leaves then.
 use Rattle.std.specs.Prelude.{◌≡◌, ℕ, List, Option, Some, Err, IsSome}
 use Rattle.std.specs.Io.KnownBytes.{Keeps}
 use Rattle.zone_sizes.specs.Config.{IsValidConfig}
@@ -9,7 +9,7 @@ use Rattle.load_options.specs.declared.task.Options.{Options}
 use Rattle.load_options.specs.Sizes.{HasSizesInRange}
 use Rattle.load_options.specs.Words.{TellsOptions}
 use Rattle.load_run.specs.declared.fault.ProgramFault.{ProgramFault}
-use Rattle.load_run.specs.declared.fault.ProgramFault.TheVariants.{Words, Script, BadConfig, Input, Output, NoMemory}
+use Rattle.load_run.specs.declared.fault.ProgramFault.TheVariants.{Words, Script, BadLogLine, BadConfig, Input, Output, NoMemory}
 use Rattle.load_run.specs.Answers.{IsAnswered, bytes_read}
 use Rattle.load_run.specs.Fault.{fault_text, status_of}
 use Rattle.load_run.specs.Writing.{AppendsBeginning}
@@ -34,13 +34,14 @@ pub record HasAnswers (asked : Option Options) (input : List ℕ) : Type 0 where
   pub text : List ℕ
   pub answered : IsAnswered asked text input
 
--- Which fault has which cause. The words are judged first, then the script, then the sizes. So any fault but one of the
--- words needs words that ask for options, and the sizes are refused only if the input is a script. No clause names a
--- further cause for memory that ran out, or for an input that failed.
+-- Which fault has which cause, if the input should be a script. The words are judged first, then the script, then the
+-- sizes. So any fault but one of the words needs words that ask for options, and the sizes are refused only if the input
+-- is a script. No clause names a further cause for memory that ran out, or for an input that failed.
 abbrev pub HasCause : Option Options → ProgramFault → (input : List ℕ) → Type 0
 HasCause asked (Words fault) input = TellsOptions asked (Err fault)
 HasCause asked (Script (script.BadLine number)) input = IsBadAt asked number input
 HasCause asked (Script script.NoMemory) input = IsSome asked
+HasCause asked (BadLogLine number) input = ⊥
 HasCause asked BadConfig input = IsRefused asked input
 HasCause asked Input input = IsSome asked
 HasCause asked Output input = HasAnswers asked input

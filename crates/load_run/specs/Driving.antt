@@ -1,9 +1,12 @@
 -- What a run of the program promises, by the status that it ends with.
-use Rattle.std.specs.Prelude.{◌≡◌, ℕ, ◌≤◌, List, Option, Result, Vec, IfErr, IfOk, IfSome, IsSome, OnOk}
+use Rattle.std.specs.Prelude.{◌≡◌, ℕ, ◌≤◌, List, Option, None, Some, Result, Vec, IfErr, IfOk, IfSome, IsSome, OnOk}
 use Rattle.load_options.specs.declared.task.Options.{Options}
+use Rattle.load_options.specs.declared.task.Task.{Task}
+use Rattle.load_options.specs.declared.task.Task.TheVariants.{Replay, Run, Check}
 use Rattle.load_run.specs.declared.fault.ProgramFault.{ProgramFault}
 use Rattle.load_run.specs.Answers.{IsAnswered, IsWritten}
 use Rattle.load_run.specs.Causes.{FailsAtWork, HasCause, IsMisused, Written}
+use Rattle.load_run.specs.Checks.{Checks}
 
 -- What the options that are asked for, if any, and an input lead to: answers or a fault. If the input's bytes are known,
 -- these are the answers to them, or the fault has its cause.
@@ -13,10 +16,10 @@ pub record AnswersTo {Z : Type 0} (asked : Option Options) (input : Option (List
   pub answered : IfOk result (λ answers. IfSome input (IsAnswered asked answers.items))
   pub cause : IfErr result (λ fault. IfSome input (HasCause asked fault))
 
--- The program ran, and ended with 0, 1 or 2. With 0, options are asked for, no fault is written, and the output got the
+-- The program ran on a script, and ended with 0, 1 or 2. With 0, options are asked for, no fault is written, and the output got the
 -- answers to the input. With 1, it failed at its work. With 2, words, script or sizes are wrong, and nothing is written
 -- to the output. The answers and the cause of a fault are known if the input's bytes are.
-pub record Drives (asked : Option Options) (input : Option (List ℕ)) (before after : Written)
+pub record DrivesScript (asked : Option Options) (input : Option (List ℕ)) (before after : Written)
     (status : ℕ) : Type 0 where
   pub status_at_most : status ≤ 2
   pub is_asked : status ≡ 0 → IsSome asked
@@ -25,3 +28,14 @@ pub record Drives (asked : Option Options) (input : Option (List ℕ)) (before a
   pub fails : status ≡ 1 → IfSome input (FailsAtWork asked before after)
   pub quiet : status ≡ 2 → after.output ≡ before.output
   pub misused : status ≡ 2 → IfSome input (IsMisused asked before.faults after.faults)
+
+-- the program ran for this task, which is asked for
+abbrev pub DrivesTask : Task → (asked : Option Options) (input : Option (List ℕ)) (before after : Written) (status : ℕ) → Type 0
+DrivesTask (Replay is_explained) asked input before after status = DrivesScript asked input before after status
+DrivesTask Run asked input before after status = DrivesScript asked input before after status
+DrivesTask Check asked input before after status = Checks input before after status
+
+-- The program ran for the options that are asked for, if any. If none are, that is the fault of `DrivesScript`
+abbrev pub Drives : (asked : Option Options) (input : Option (List ℕ)) (before after : Written) (status : ℕ) → Type 0
+Drives None input before after status = DrivesScript None input before after status
+Drives (Some options) input before after status = DrivesTask options.task (Some options) input before after status

@@ -9,7 +9,7 @@ use Rattle.load_options.specs.declared.fault.LineFault.TheVariants as words
 use Rattle.load_options.specs.declared.task.Options.{Options}
 use Rattle.load_options.specs.Words.{TellsOptions}
 use Rattle.load_run.specs.declared.fault.ProgramFault.{ProgramFault}
-use Rattle.load_run.specs.declared.fault.ProgramFault.TheVariants.{Words, Script, BadConfig, Input, Output, NoMemory}
+use Rattle.load_run.specs.declared.fault.ProgramFault.TheVariants.{Words, Script, BadLogLine, BadConfig, Input, Output, NoMemory}
 
 -- 2 if the program was misused, 1 if it failed at its work
 abbrev pub status_of : ProgramFault → ℕ
@@ -17,6 +17,7 @@ status_of (Words (words.BadWords text)) = 2
 status_of (Words (words.NoMemory error)) = 1
 status_of (Script (script.BadLine number)) = 2
 status_of (Script script.NoMemory) = 1
+status_of (BadLogLine number) = 2
 status_of BadConfig = 2
 status_of Input = 1
 status_of Output = 1
@@ -32,6 +33,7 @@ fault_text (Words (words.BadWords text)) = string_bytes text
 fault_text (Words (words.NoMemory error)) = codes "no memory\n"
 fault_text (Script (script.BadLine number)) = bad_line_text number
 fault_text (Script script.NoMemory) = codes "no memory\n"
+fault_text (BadLogLine number) = bad_line_text number
 fault_text BadConfig = codes "refused 14 BadConfig\n"
 fault_text Input = codes "input failed\n"
 fault_text Output = codes "output failed\n"

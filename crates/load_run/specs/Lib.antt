@@ -1,5 +1,6 @@
 pub mod Answers
 pub mod Causes
+pub mod Checks
 pub mod Driving
 pub mod Ending
 pub mod Fault

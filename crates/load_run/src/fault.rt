@@ -16,6 +16,9 @@ pub enum ProgramFault {
     /// The script gives no lines.
     #[error("{0}")]
     Script(ScriptFault),
+    /// The input is no log: the line of this number, counted from 1, is the first bad one.
+    #[error("bad line {0}")]
+    BadLogLine(u64),
     /// A size is out of its range.
     #[error("refused 14 BadConfig")]
     BadConfig,
@@ -40,6 +43,7 @@ impl ProgramFault {
         match self {
             ProgramFault::Words(LineFault::BadWords(_))
             | ProgramFault::Script(ScriptFault::BadLine(_))
+            | ProgramFault::BadLogLine(_)
             | ProgramFault::BadConfig => 2,
             ProgramFault::Words(LineFault::NoMemory(_))
             | ProgramFault::Script(ScriptFault::NoMemory)

@@ -30,7 +30,10 @@ fn write_fault<F: Write>(fault: &ProgramFault, faults: &mut F) -> io::Result<()>
 {
     match fault {
         ProgramFault::Words(LineFault::BadWords(text)) => write_whole(text.as_bytes(), faults),
-        ProgramFault::Script(ScriptFault::BadLine(number)) => write_bad_line(*number, faults),
+        ProgramFault::Script(ScriptFault::BadLine(number)) => {
+            write_bad_line(*number as u64, faults)
+        }
+        ProgramFault::BadLogLine(number) => write_bad_line(*number, faults),
         ProgramFault::BadConfig => write_whole("refused 14 BadConfig\n".as_bytes(), faults),
         ProgramFault::Input => write_whole("input failed\n".as_bytes(), faults),
         ProgramFault::Output => write_whole("output failed\n".as_bytes(), faults),
@@ -41,7 +44,7 @@ fn write_fault<F: Write>(fault: &ProgramFault, faults: &mut F) -> io::Result<()>
 }
 
 // Writes the text of the bad line with this number.
-fn write_bad_line<F: Write>(number: usize, faults: &mut F) -> io::Result<()>
+fn write_bad_line<F: Write>(number: u64, faults: &mut F) -> io::Result<()>
     ensures whole { OnOk result (Appends (F.contents faults.old) (F.contents faults.new) (bad_line_text number)) }
     ensures beginning { AppendsBeginning (F.contents faults.old) (F.contents faults.new) (bad_line_text number) }
 {

@@ -1,5 +1,5 @@
-//! The program over any reader and two writers: what a new boot answers to the script is written to the output, or a
-//! fault is reported, and the status says which.
+//! The program over any reader and two writers: what a new boot answers to the script, or what the log is, is written to
+//! the output, or a fault is reported, and the status says which.
 
 ghost use Rattle.std.specs.Prelude.{◌≡◌, All, IfErr, IfOk, OnOk, Some, map};
 ghost use Rattle.std.specs.Io.KnownBytes.{Appends};
@@ -8,12 +8,13 @@ ghost use Rattle.script_lines.specs.Script.{IsScript};
 ghost use Rattle.script_replay.specs.Ranges.{LineIsThere};
 ghost use Rattle.load_options.specs.Sizes.{HasSizesInRange};
 ghost use Rattle.load_options.specs.Words.{options_of};
-ghost use Rattle.load_run.specs.Answers.{AreAnswers};
+ghost use Rattle.load_run.specs.Answers.{AreAnswers, IsOnScript};
 ghost use Rattle.load_run.specs.Causes.{written};
-ghost use Rattle.load_run.specs.Driving.{AnswersTo, Drives};
+ghost use Rattle.load_run.specs.Driving.{AnswersTo, Drives, DrivesScript};
 ghost use Rattle.load_run.specs.Fault.{IsBootFault, IsScriptFault, IsWordsFault};
 ghost use Rattle.load_run.specs.Writing.{AppendsBeginning};
 
+use crate::checking::drive_check;
 use crate::fault::ProgramFault;
 use crate::fault_lines::tell_fault;
 use crate::reading::read_script;
@@ -33,15 +34,15 @@ use std::marker::Brand;
 use std::sync::Wait;
 use std::thread::Threads;
 
-/// Runs the program: the words that follow its name, the script, the answers and the faults. It gives the
+/// Runs the program: the words that follow its name, the script or the log, the answers and the faults. It gives the
 /// status to end with.
 ///
-/// First the words are read, then the whole script is read and parsed, then the configuration checked, then a boot
-/// answers the lines, as the task says, and ends. The answers are gathered first and then written whole; if the
-/// output fails, a beginning of them may have been written, and after any other fault nothing. A fault is reported in
-/// one line, those of the words in clap's text. The status is 0; 2 after a fault of the words, a bad line or
+/// First the words are read. For a task on a script, then the whole script is read and parsed, then the configuration
+/// checked, then a boot answers the lines, as the task says, and ends. The answers are gathered first and then written
+/// whole; if the output fails, a beginning of them may have been written, and after any other fault nothing. A fault is
+/// reported in one line, those of the words in clap's text. The status is 0; 2 after a fault of the words, a bad line or
 /// a bad configuration; 1 if the script can't be read, the answers can't be written, memory runs out, or a thread
-/// can't be started.
+/// can't be started. `drive_check` says how a log is checked.
 pub fn drive<R: Threads + Wait + Sync, S: AsStr, I: Read, O: Write, F: Write>(
     rt: &R,
     alloc: Global,
@@ -54,7 +55,50 @@ pub fn drive<R: Threads + Wait + Sync, S: AsStr, I: Read, O: Write, F: Write>(
         (written (O.contents output.old) (F.contents faults.old))
         (written (O.contents output.new) (F.contents faults.new)) result }
 {
-    match answers_to(rt, alloc, words, input) {
+    match read_words(alloc, words) {
+        Ok(options) => drive_task(rt, alloc, &options, input, output, faults),
+        Err(unread) => tell_fault(&unread, faults),
+    }
+}
+
+// Runs the task that is asked for.
+#[tactic(auto, using(crate::proofs::Verdicts::check_drives, crate::proofs::Verdicts::script_drives))]
+fn drive_task<R: Threads + Wait + Sync, I: Read, O: Write, F: Write>(
+    rt: &R,
+    alloc: Global,
+    options: &Options,
+    input: &mut I,
+    output: &mut O,
+    faults: &mut F,
+) -> u8
+    requires in_range { HasSizesInRange options.now.sizes }
+    ensures drives { Drives (Some options.now) (I.remaining input.old)
+        (written (O.contents output.old) (F.contents faults.old))
+        (written (O.contents output.new) (F.contents faults.new)) result }
+{
+    match options.task {
+        Task::Check => drive_check(alloc, input, output, faults),
+        Task::Replay { .. } => drive_script(rt, alloc, options, input, output, faults),
+        Task::Run => drive_script(rt, alloc, options, input, output, faults),
+    }
+}
+
+// Answers the script that the input holds.
+fn drive_script<R: Threads + Wait + Sync, I: Read, O: Write, F: Write>(
+    rt: &R,
+    alloc: Global,
+    options: &Options,
+    input: &mut I,
+    output: &mut O,
+    faults: &mut F,
+) -> u8
+    requires task { IsOnScript options.now.task }
+    requires in_range { HasSizesInRange options.now.sizes }
+    ensures drives { DrivesScript (Some options.now) (I.remaining input.old)
+        (written (O.contents output.old) (F.contents faults.old))
+        (written (O.contents output.new) (F.contents faults.new)) result }
+{
+    match answers_to(rt, alloc, options, input) {
         Ok(answers) => match write_answers(&answers, output) {
             Ok(()) => 0,
             Err(unwritten) => tell_fault(&unwritten, faults),
@@ -64,18 +108,19 @@ pub fn drive<R: Threads + Wait + Sync, S: AsStr, I: Read, O: Write, F: Write>(
 }
 
 // The answers to the script that the input holds.
-fn answers_to<R: Threads + Wait + Sync, S: AsStr, I: Read>(
+fn answers_to<R: Threads + Wait + Sync, I: Read>(
     rt: &R,
     alloc: Global,
-    words: &[S],
+    options: &Options,
     input: &mut I,
 ) -> Result<Vec<u8>, ProgramFault>
-    ensures { AnswersTo (options_of (map S.text words.now)) (I.remaining input.old) result }
+    requires task { IsOnScript options.now.task }
+    requires in_range { HasSizesInRange options.now.sizes }
+    ensures { AnswersTo (Some options.now) (I.remaining input.old) result }
 {
-    let options = read_words(alloc, words)?;
     let script = read_script(alloc, input)?;
-    let lines = lines_of(alloc, &script, &options)?;
-    answers_of(rt, alloc, &options, &lines)
+    let lines = lines_of(alloc, &script, options)?;
+    answers_of(rt, alloc, options, &lines)
 }
 
 // The options that the words ask for.
@@ -112,6 +157,7 @@ fn answers_of<R: Threads + Wait + Sync>(
     options: &Options,
     lines: &[Line<'_>],
 ) -> Result<Vec<u8>, ProgramFault>
+    requires task { IsOnScript options.now.task }
     requires lines { All (LineIsThere options.now.sizes.frames options.now.sizes.cpus) lines.now }
     ensures answers { IfOk result (λ text.
         AreAnswers options.now.task options.now.sizes options.now.is_audited lines.now text.items) }
@@ -136,6 +182,7 @@ fn answers_on_boot<N: BootName + Send + Sync, R: Threads + Wait + Sync>(
     options: &Options,
     lines: &[Line<'_>],
 ) -> Result<Vec<u8>, AllocError>
+    requires task { IsOnScript options.now.task }
     requires frames { boot.frames ≡ N.frames }
     requires stocks { boot.stocks ≡ N.stocks }
     requires lines { All (LineIsThere boot.sizes.frames boot.sizes.cpus) lines.now }
@@ -147,6 +194,7 @@ fn answers_on_boot<N: BootName + Send + Sync, R: Threads + Wait + Sync>(
             replay_on_boot::<N>(alloc, boot, lines, is_explained, options.is_audited)
         }
         Task::Run => run_by_threads::<N, R>(rt, alloc, boot, lines, options.is_audited),
+        Task::Check => unreachable!(),
     }
 }
 

@@ -1,4 +1,4 @@
-//! Failing streams, the order in which faults are found, and what is reported of them.
+//! Failing streams, the order in which faults are found, and how they are reported.
 
 ghost use Rattle.std.specs.Prelude.{◌≤◌, length};
 
@@ -19,7 +19,7 @@ const GOOD_SCRIPT: &str = "1 mkdir /a\n1 alloc /a 0\n1 blocks\n1 read /a memory.
 
 const GOOD_ANSWERS: &str = "group 1\nframe 0\n2:4 3:8\n16384\n";
 
-// The run ended well, with the answers to `GOOD_SCRIPT` and no fault.
+// The run succeeded, with the answers to `GOOD_SCRIPT` and no fault.
 fn script_is_answered(ended: &ProgramRun) -> bool {
     ended.status == 0
         && ended.output.as_slice() == GOOD_ANSWERS.as_bytes()
@@ -35,7 +35,7 @@ fn ends_well_where_nothing_fails(rt: HostRuntime) {
     }
 }
 
-// `GOOD_SCRIPT`, where one read fails after so many that go well.
+// A reader of `GOOD_SCRIPT`. One of its reads fails, after this many good ones.
 fn reader_that_fails(good_reads: u32, read_fault: ErrorKind) -> ScriptReader<'static> {
     ScriptReader {
         good_reads: Some(good_reads),
@@ -44,7 +44,8 @@ fn reader_that_fails(good_reads: u32, read_fault: ErrorKind) -> ScriptReader<'st
     }
 }
 
-// Each read in turn fails so, the last one too: so many were made, each of which ended the run with `input failed`.
+// Lets each read fail in turn, the last one too. Each such run must end with `input failed`. Returns how many runs
+// failed.
 fn failed_reads(
     rt: &(impl AllocGlobal + Threads + Wait + Abort + Sync),
     read_fault: ErrorKind,
@@ -63,7 +64,8 @@ fn failed_reads(
     100
 }
 
-// A reader's own error is told so whatever it says, also that memory ran out or that the end came too early.
+// Any error of the reader is reported as `input failed`, even one that says that memory ran out or that the input
+// ended early.
 #[test]
 fn tells_that_the_input_failed(rt: HostRuntime) {
     let failed = failed_reads(&rt, ErrorKind::ConnectionReset);
@@ -81,7 +83,7 @@ fn reads_on_after_an_interrupt(rt: HostRuntime) {
     }
 }
 
-// `GOOD_SCRIPT`, over this writer for the answers.
+// Runs `GOOD_SCRIPT` with this writer for the answers.
 fn run_to(
     rt: &(impl AllocGlobal + Threads + Wait + Abort + Sync),
     output: AnswerWriter,
@@ -91,14 +93,15 @@ fn run_to(
     run_program_on(rt, &PLAIN, &mut script, output, faults)
 }
 
-// The run told that its output failed, and wrote these answers before.
+// The run reported that its output failed, and wrote these answers before.
 fn answers_are_cut_short(ended: &ProgramRun, answers: &[u8]) -> bool {
     ended.status == 1
         && ended.output.as_slice() == answers
         && ended.faults.as_slice() == b"output failed\n".as_slice()
 }
 
-// With room for so many bytes, so many at once, the answers are cut short there.
+// If the writer has room for this many bytes, the answers are cut short there. It takes `bytes_at_once` bytes at a
+// time.
 fn answers_are_cut_at(
     rt: &(impl AllocGlobal + Threads + Wait + Abort + Sync),
     bytes_at_once: usize,
@@ -113,8 +116,7 @@ fn answers_are_cut_at(
     program_holds(rt, answers_are_cut_short(&ended, &answers[..room]));
 }
 
-// With room for all of the answers they are written, so many bytes at once, though the first three writes are
-// interrupted.
+// If the writer has room for all answers, all are written, although the first three writes are interrupted.
 fn answers_are_written(
     rt: &(impl AllocGlobal + Threads + Wait + Abort + Sync),
     bytes_at_once: usize,
@@ -126,7 +128,7 @@ fn answers_are_written(
     program_holds(rt, script_is_answered(&ended));
 }
 
-// The writer takes nothing at its first write, and would take all at the next.
+// The writer takes nothing at its first write, although it would at the next.
 #[test]
 fn a_writer_that_takes_nothing_is_a_failed_output(rt: HostRuntime) {
     let mut writer = writer_with_room(&rt, GOOD_ANSWERS.len());
@@ -148,7 +150,7 @@ fn tells_that_the_output_failed(rt: HostRuntime) {
     program_holds(&rt, answers_are_cut_short(&run_to(&rt, unflushed), answers));
 }
 
-// With room for so much of the fault that is told, the run ends as it would.
+// If there is room only for this part of the fault, the run ends with the same status.
 fn ends_as_it_would(rt: &(impl AllocGlobal + Threads + Wait + Abort + Sync), told: &[u8]) {
     let mut script = script_reader(b"1 show\n1 sho".as_slice());
     let output = writer_with_room(rt, 100);
@@ -166,7 +168,7 @@ fn ends_as_it_would_where_a_fault_is_not_told(rt: HostRuntime) {
     }
 }
 
-// The program prints the fault in the words that it displays, with this after them.
+// The program prints the fault as it is displayed, followed by this end.
 fn is_printed_as_displayed(
     rt: &(impl AllocGlobal + Threads + Wait + Abort + Sync),
     fault: &ProgramFault,
@@ -198,8 +200,8 @@ fn each_fault_is_printed_as_it_is_displayed(rt: HostRuntime) {
     }
 }
 
-// Words are judged before a script is read, and the script before the sizes: `tests/rows` has that a bad script is
-// reported first.
+// The words are judged before the script is read, and the script before the sizes. That a bad script is reported
+// first is in `tests/rows`.
 #[test]
 fn judges_the_words_before_it_reads(rt: HostRuntime) {
     let clap = "error: invalid value '0' for '--frames <N>'";

@@ -5,13 +5,13 @@ use std::alloc::{AllocError, Global};
 use std::process::Abort;
 use std::test::Fail;
 
-// The run ended well.
+// The run succeeded without a fault.
 fn ends_well(rt: &impl Abort, ended: &ProgramRun) {
     row_holds(rt, ended.status == 0, "status");
     row_holds(rt, ended.faults.is_empty(), "faults");
 }
 
-// A group, and from `go` on a frame for each of so many CPUs.
+// A script that makes a group. After `go`, each of this many CPUs allocates a frame.
 fn frame_for_each(alloc: Global, cpus: u32) -> Result<String, AllocError> {
     let mut script = String::new(alloc);
     script.push_str("1 mkdir /a\ngo\n")?;
@@ -22,7 +22,7 @@ fn frame_for_each(alloc: Global, cpus: u32) -> Result<String, AllocError> {
     Ok(script)
 }
 
-// A thread for each CPU. Which of them gets which frame isn't told, so the end alone is compared.
+// Each CPU has a thread. It isn't determined which CPU gets which frame, so only the end of the output is compared.
 #[test]
 fn each_cpu_has_a_thread(rt: HostRuntime) -> Result<(), Fail> {
     let script = frame_for_each(rt.alloc(), 64)?;

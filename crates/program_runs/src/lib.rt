@@ -1,5 +1,5 @@
-//! Runs of the program over readers and writers in memory that fail, as tests, and the words of the command line.
-//! Nothing but tests stands here.
+//! Tests of the program over readers and writers in memory that fail, and of its command line. This crate has nothing
+//! but tests.
 #![tactic(auto)]
 
 #[cfg(test)]

@@ -1,4 +1,4 @@
-//! Readers and writers in memory, those that fail too, and a run of the program over them.
+//! Readers and writers in memory, some of which fail, and a run of the program over them.
 
 ghost use Rattle.std.specs.Prelude.{◌≤◌, IfOk, length};
 
@@ -17,7 +17,7 @@ pub struct ScriptReader<'a> {
     pub bytes_at_once: usize,
     /// How many reads were made.
     pub reads: u32,
-    /// How many reads go well before the one that fails.
+    /// How many reads succeed before the one that fails.
     pub good_reads: Option<u32>,
     /// Why that one fails.
     pub read_fault: ErrorKind,
@@ -44,7 +44,7 @@ impl Read for ScriptReader<'_> {
     }
 }
 
-/// The script, so many bytes at once.
+/// The script, this many bytes at a time.
 pub fn reader_in_steps(rest_of_script: &[u8], bytes_at_once: usize) -> ScriptReader<'_> {
     ScriptReader {
         rest_of_script,
@@ -55,12 +55,12 @@ pub fn reader_in_steps(rest_of_script: &[u8], bytes_at_once: usize) -> ScriptRea
     }
 }
 
-/// The script, a few bytes at once.
+/// The script, a few bytes at a time.
 pub fn script_reader(rest_of_script: &[u8]) -> ScriptReader<'_> {
     reader_in_steps(rest_of_script, 5)
 }
 
-/// A script that fails as soon as it is read.
+/// A script whose first read fails.
 pub fn broken_reader() -> ScriptReader<'static> {
     ScriptReader {
         good_reads: Some(0),
@@ -68,7 +68,7 @@ pub fn broken_reader() -> ScriptReader<'static> {
     }
 }
 
-/// A writer that takes a few bytes at a time, and fails after so many, or where it is flushed.
+/// A writer that takes a few bytes at a time. It fails once its room is used up. A flush may fail too.
 #[derive(Drop)]
 pub struct AnswerWriter {
     pub text: Vec<u8>,
@@ -76,12 +76,12 @@ pub struct AnswerWriter {
     pub room: usize,
     /// How many writes are interrupted before one isn't.
     pub interrupts: u32,
-    /// Whether the next write takes nothing, and says so.
+    /// Whether the next write takes nothing and returns 0.
     pub is_idle: bool,
     pub flushes: bool,
 }
 
-/// A writer with room for so many bytes, which has all of its memory.
+/// A writer with room for this many bytes, whose memory is already allocated.
 pub fn writer_with_room(rt: &(impl Abort + AllocGlobal), room: usize) -> AnswerWriter {
     AnswerWriter {
         text: Vec::with_capacity(rt.alloc(), room).expect(rt, "memory"),
@@ -94,7 +94,7 @@ pub fn writer_with_room(rt: &(impl Abort + AllocGlobal), room: usize) -> AnswerW
 }
 
 impl AnswerWriter {
-    // Takes some of the bytes, and tells how many.
+    // Takes some of the bytes, and returns how many.
     fn take(&mut self, bytes: &[u8]) -> Result<usize, ErrorKind>
         ensures { IfOk result (λ taken. taken ≤ length bytes.now) }
     {
@@ -135,7 +135,7 @@ impl Write for AnswerWriter {
     }
 }
 
-/// What a run of the program leaves.
+/// The status and the outputs of a run.
 #[derive(Drop)]
 pub struct ProgramRun {
     pub status: u8,
@@ -146,7 +146,7 @@ pub struct ProgramRun {
 /// The words of a run at the default sizes.
 pub const PLAIN: [&str; 1] = ["replay"];
 
-/// Runs the program over these.
+/// Runs the program over these streams.
 pub fn run_program_on(
     rt: &(impl AllocGlobal + Threads + Wait + Abort + Sync),
     words: &[&str],
@@ -162,7 +162,7 @@ pub fn run_program_on(
     }
 }
 
-/// Runs it over this script, with room for so many bytes of answers, and for a long fault.
+/// Runs the program over this script, with room for this many bytes of answers and for a long fault.
 pub fn run_program(
     rt: &(impl AllocGlobal + Threads + Wait + Abort + Sync),
     words: &[&str],
@@ -174,13 +174,13 @@ pub fn run_program(
     run_program_on(rt, words, &mut script, output, faults)
 }
 
-/// The words of a command line, with a space between each two.
+/// The words of a command line, which are separated by single spaces.
 pub fn words_of<'a>(rt: &(impl Abort + AllocGlobal), words: &'a str) -> Vec<&'a str> {
     let words_apart = words.split(' ').collect(rt.alloc());
     words_apart.expect(rt, words)
 }
 
-/// The run ended with this status, and with no answer but a fault that begins so.
+/// The run ended with this status, without an answer, and with a fault that begins like this.
 pub fn run_is_refused(rt: &impl Abort, ended: &ProgramRun, status: u8, begin: &str, name: &str) {
     row_holds(rt, ended.status == status, name);
     row_holds(rt, ended.output.is_empty(), name);
@@ -188,7 +188,7 @@ pub fn run_is_refused(rt: &impl Abort, ended: &ProgramRun, status: u8, begin: &s
     row_holds(rt, ended.faults.starts_with(begin.as_bytes()), name);
 }
 
-/// With these words, and over this script, the run is refused so.
+/// A run with these words over this script is refused with this status and a fault that begins like this.
 pub fn is_refused(
     rt: &(impl AllocGlobal + Threads + Wait + Abort + Sync),
     words: &str,
@@ -200,12 +200,12 @@ pub fn is_refused(
     run_is_refused(rt, &ended, status, begin, words);
 }
 
-/// It is so, or the test ends here. A call is proved at less cost than the macro in its place.
+/// It holds, or the test fails. A call is cheaper to prove than the macro in its place.
 pub fn program_holds(rt: &impl Abort, is: bool) {
     assert!(rt; is);
 }
 
-/// It is so of what has this name, or the test ends here with the name. A text that is formatted costs a check more.
+/// It holds of the row with this name, or the test fails with the name. To format a text would make the check dearer.
 pub fn row_holds(rt: &impl Abort, is: bool, name: &str) {
     is.then_some(()).expect(rt, name);
 }

@@ -1,4 +1,4 @@
-//! What the program writes of words that ask for help or that are bad, whole.
+//! The whole texts that the program writes if its words ask for help or are bad.
 
 use crate::streams::{row_holds, run_program, script_reader};
 use std::process::Abort;
@@ -6,11 +6,11 @@ use std::str;
 use std::sync::Wait;
 use std::thread::Threads;
 
-// Each text follows a line with its words. `tests/write-texts` writes them anew.
+// Each text follows a line with its words. `tests/write-texts` regenerates them.
 const TEXTS: &str = r#"
 $ memcg
 error: 'memcg' requires a subcommand but one was not provided
-  [subcommands: replay, run, help]
+  [subcommands: replay, run, check, help]
 
 Usage: memcg <COMMAND>
 
@@ -23,6 +23,7 @@ Usage: memcg <COMMAND>
 Commands:
   replay  Runs the lines of a script, one after the other
   run     Runs the lines before `go` in the same way, and the later ones in one thread for each CPU
+  check   Checks a log of steps: whether each step keeps the rules
   help    Print this message or the help of the given subcommand(s)
 
 Options:
@@ -35,6 +36,7 @@ Usage: memcg <COMMAND>
 Commands:
   replay  Runs the lines of a script, one after the other
   run     Runs the lines before `go` in the same way, and the later ones in one thread for each CPU
+  check   Checks a log of steps: whether each step keeps the rules
   help    Print this message or the help of the given subcommand(s)
 
 Options:
@@ -66,6 +68,13 @@ Options:
       --stock <N>   Pages that a CPU charges ahead, 1 to 64 [default: 4]
       --audit       Reports at the end which pins were held, and the counts
   -h, --help        Print help
+$ memcg check --help
+Checks a log of steps: whether each step keeps the rules
+
+Usage: memcg check
+
+Options:
+  -h, --help  Print help
 $ memcg play
 error: unrecognized subcommand 'play'
 
@@ -84,6 +93,12 @@ $ memcg run --explain
 error: unexpected argument '--explain' found
 
 Usage: memcg run [OPTIONS]
+
+For more information, try '--help'.
+$ memcg check --frames=4
+error: unexpected argument '--frames' found
+
+Usage: memcg check
 
 For more information, try '--help'.
 $ memcg replay --audit=1
@@ -111,7 +126,7 @@ Usage: memcg replay [OPTIONS]
 
 For more information, try '--help'."#;
 
-// The program writes this text of these words, and no answer. A test that fails here shows what it wrote.
+// For these words the program writes this text and no answer. If the test fails here, it shows what was written.
 fn writes_text(rt: &(impl AllocGlobal + Threads + Wait + Abort + Sync), words: &str, text: &str) {
     let apart = words.split(' ').filter(|word| !word.is_empty());
     let apart: Vec<&str> = apart.collect(rt.alloc()).expect(rt, words);

@@ -9,7 +9,7 @@ use std::sync::Wait;
 use std::thread::Threads;
 use zone_sizes::config::Config;
 
-// Good words with a space between each two, and what they ask for: the task; frames, CPUs, `batch`, `high` and `stock`;
+// Good words, separated by single spaces, and what they ask for: the task; frames, CPUs, `batch`, `high` and `stock`;
 // and whether the end is audited.
 const GOOD_WORDS: [(&str, Task, [u32; 5], bool); 12] = [
     ("replay", PLAIN_REPLAY, [16, 2, 4, 8, 4], false),
@@ -69,7 +69,7 @@ fn asks_for_what_the_words_say(rt: HostRuntime) {
     }
 }
 
-// Bad words, and how the text that is written of them begins.
+// Bad words, and how the text that the program writes for them begins.
 const BAD_WORDS: [(&str, &str); 25] = [
     (
         "replay --frames 0",
@@ -107,7 +107,7 @@ const BAD_WORDS: [(&str, &str); 25] = [
     ("help", ""),
 ];
 
-// The words are refused with a text that begins so, and the script isn't read.
+// The words are refused with a text that begins like this, and the script isn't read.
 fn are_refused_unread(
     rt: &(impl AllocGlobal + Threads + Wait + Abort + Sync),
     words: &[&str],

@@ -15,8 +15,7 @@ use std::alloc::AllocError;
 pub fn write_refusal(fault: &Fault, text: &mut String) -> Result<(), AllocError>
     ensures { IfOk result (λ _. string_bytes text.new ≡ string_bytes text.old ++ refusal_text fault.now) }
 {
-    push_words(fault, text)?;
-    text.push_str("\n")
+    text.push_str(refusal_line(fault))
 }
 
 // The line of a charge over the limit of a group, which has this path.
@@ -41,4 +40,35 @@ fn push_words(fault: &Fault, text: &mut String) -> Result<(), AllocError>
     push_number(u64::from(fault.number()), text)?;
     text.push_str(" ")?;
     text.push_str(fault.name())
+}
+
+// The line of a refusal, whole. In most scripts many lines are refused, and a number and a name that are added piece by
+// piece cost several times as much.
+fn refusal_line(fault: &Fault) -> &'static str
+    ensures { result.now ≡ refusal_text fault.now }
+{
+    match fault {
+        Fault::NoParent => "refused 1 NoParent\n",
+        Fault::Exists => "refused 2 Exists\n",
+        Fault::BadName => "refused 3 BadName\n",
+        Fault::TreeFull => "refused 4 TreeFull\n",
+        Fault::TooDeep => "refused 5 TooDeep\n",
+        Fault::NoGroup => "refused 6 NoGroup\n",
+        Fault::HasChildren => "refused 7 HasChildren\n",
+        Fault::Busy => "refused 8 Busy\n",
+        Fault::PinsFull => "refused 9 PinsFull\n",
+        Fault::NoFile => "refused 10 NoFile\n",
+        Fault::ReadOnly => "refused 11 ReadOnly\n",
+        Fault::BadLimit => "refused 12 BadLimit\n",
+        Fault::BadNumber => "refused 13 BadNumber\n",
+        Fault::BadConfig => "refused 14 BadConfig\n",
+        Fault::OverLimit { .. } => "refused 15 OverLimit\n",
+        Fault::NoFrames => "refused 16 NoFrames\n",
+        Fault::Again => "refused 17 Again\n",
+        Fault::Killed => "refused 18 Killed\n",
+        Fault::BadOrder => "refused 19 BadOrder\n",
+        Fault::NotKept => "refused 20 NotKept\n",
+        Fault::NotPinned => "refused 21 NotPinned\n",
+        Fault::WriteOnly => "refused 22 WriteOnly\n",
+    }
 }

@@ -1,3 +1,4 @@
+pub mod Codes
 pub mod Cuts
 pub mod Numerals
 pub mod Places
@@ -5,3 +6,4 @@ pub mod Progress
 pub mod Readings
 pub mod Texts
 pub mod Verbs
+pub mod Words

@@ -1,17 +1,17 @@
 -- What a text says, once it is cut at its first space.
-use Rattle.std.proofs.Common.{◌≡◌, ◌≢◌, ℕ, List, ◌∷◌, ◌++◌, Option, None, Some, MatchOption, subst, sym, ap, ◌∙◌, codes, refl, Bool, true, false}
+use Rattle.std.proofs.Common.{◌≡◌, ◌≢◌, ℕ, List, ◌∷◌, ◌++◌, Option, None, Some, MatchOption, subst, sym, ap, ◌∙◌, codes, refl, Bool, true, false, inl, inr}
 use Rattle.zone_sizes.specs.declared.config.Config.{Config}
-use Rattle.script_lines.specs.Script.{HasArguments, IsAllocText, IsCommandText, IsCut, IsPathText}
+use Rattle.script_lines.specs.Script.{BeginsWithName, HasArguments, IsAllocText, IsCommandText, IsCut, IsPathText}
 use Rattle.script_lines.specs.Script.{IsLineText, IsReadText, IsRequestText, IsWriteText, WritesNumber, is_go}
 use Rattle.script_lines.specs.declared.line.Line.{Line}
 use Rattle.script_lines.specs.declared.line.Line.TheVariants.{Go, At}
 use Rattle.script_lines.specs.declared.line.Command.{Command}
 use Rattle.script_lines.specs.declared.line.Command.TheVariants.{Settle}
 use Rattle.script_lines.specs.declared.line.Command.TheVariants.{Blocks, Show}
-use Rattle.script_lines.specs.Verb.{its_verb, name_of, verb_named}
+use Rattle.script_lines.specs.Verb.{its_verb, name_of}
 use Rattle.script_lines.specs.declared.verb.Verb.{Verb}
 use Rattle.script_lines.specs.declared.verb.Verb.TheVariants as verb
-use Rattle.script_lines.proofs.Verbs.{name_no_space, named, verb_named-name_of}
+use Rattle.script_lines.proofs.Verbs.{name_no_space, same_verb}
 use Rattle.script_lines.proofs.Cuts.{NoSpace, cut_once, digits_no_space, no_cut, path_no_space}
 
 -- what a `None` says
@@ -104,59 +104,49 @@ stands_alone verb.Blocks = true
 stands_alone verb.Show = true
 stands_alone v = false
 
--- a command without a space stands alone
-pub command_alone : (sizes : Config) (text : List ℕ) → NoSpace text → (command : Command) → IsCommandText sizes command text
-    → (verb_named text ≡ Some (its_verb command)) × (stands_alone (its_verb command) ≡ true)
-command_alone sizes text none Settle is = (ap verb_named is, refl)
-command_alone sizes text none Blocks is = (ap verb_named is, refl)
-command_alone sizes text none Show is = (ap verb_named is, refl)
-command_alone sizes text none command is = absurd (no_cut text (name_of (its_verb command)) is.0 none is.1)
+-- the text of a command begins with its name
+pub begins : (sizes : Config) (text : List ℕ) (command : Command) → IsCommandText sizes command text → BeginsWithName (its_verb command) text
+begins sizes text Settle is = inl is
+begins sizes text Blocks is = inl is
+begins sizes text Show is = inl is
+begins sizes text command is = inr (is.0, is.1)
 
--- the word before the first space is the name of the command
-pub command_named : (sizes : Config) (text w r : List ℕ) → IsCut text w r → (command : Command) → IsCommandText sizes command text
-    → verb_named w ≡ Some (its_verb command)
-command_named sizes text w r cut command is = ap verb_named (command_parts sizes text w r cut command is).0 ∙ verb_named-name_of (its_verb command)
+-- a name that isn't of a command that stands alone
+pub not_alone : (sizes : Config) (text : List ℕ) (v : Verb) → text ≡ name_of v → stands_alone v ≡ false → (command : Command) → ¬ IsCommandText sizes command text
+not_alone sizes text v e other Settle is = let same : v ≡ verb.Settle = same_verb v verb.Settle (sym e ∙ is) in cc
+not_alone sizes text v e other Blocks is = let same : v ≡ verb.Blocks = same_verb v verb.Blocks (sym e ∙ is) in cc
+not_alone sizes text v e other Show is = let same : v ≡ verb.Show = same_verb v verb.Show (sym e ∙ is) in cc
+not_alone sizes text v e other command is =
+    no_cut (name_of v) (name_of (its_verb command)) is.0 (name_no_space v) (sym e ∙ is.1)
 
 -- no command is that of the text where none has the arguments
-pub no_command : (sizes : Config) (text w r : List ℕ) (v : Verb) → IsCut text w r → verb_named w ≡ Some v
+pub no_command : (sizes : Config) (text r : List ℕ) (v : Verb) → IsCut text (name_of v) r
     → ((command : Command) → its_verb command ≡ v → ¬ HasArguments sizes command r) → (command : Command) → ¬ IsCommandText sizes command text
-no_command sizes text w r v cut named none command is =
-    let is_named = command_named sizes text w r cut command is in
-    none command (cc) (command_parts sizes text w r cut command is).1
+no_command sizes text r v cut none command is =
+    let parts = command_parts sizes text (name_of v) r cut command is in
+    none command (sym (same_verb v (its_verb command) parts.0)) parts.1
 
 -- a text of this name and these arguments
-named_parts : (sizes : Config) (text w r : List ℕ) (v : Verb) → IsCut text w r → verb_named w ≡ Some v → (command : Command)
+named_parts : (sizes : Config) (text r : List ℕ) (v : Verb) → IsCut text (name_of v) r → (command : Command)
     → its_verb command ≡ v → HasArguments sizes command r
     → (arguments : List ℕ) × (text ≡ name_of (its_verb command) ++ 32 ∷ arguments) × HasArguments sizes command arguments
-named_parts sizes text w r v cut e command same has =
-    let is_name : w ≡ name_of (its_verb command) = named w (its_verb command) (e ∙ ap Some (sym same)) in
-    (r, cut.parts ∙ ap (λ (x : List ℕ). x ++ 32 ∷ r) is_name, has)
+named_parts sizes text r v cut command same has = (r, cut.parts ∙ ap (λ w. name_of w ++ 32 ∷ r) (sym same), has)
 
 -- the command of the text has this name and these arguments
-pub is_command : (sizes : Config) (text w r : List ℕ) (v : Verb) → IsCut text w r → verb_named w ≡ Some v → (command : Command)
+pub is_command : (sizes : Config) (text r : List ℕ) (v : Verb) → IsCut text (name_of v) r → (command : Command)
     → its_verb command ≡ v → HasArguments sizes command r → IsCommandText sizes command text
-is_command sizes text w r v cut e Settle same has = absurd has
-is_command sizes text w r v cut e Blocks same has = absurd has
-is_command sizes text w r v cut e Show same has = absurd has
-is_command sizes text w r v cut e command same has = named_parts sizes text w r v cut e command same has
+is_command sizes text r v cut Settle same has = absurd has
+is_command sizes text r v cut Blocks same has = absurd has
+is_command sizes text r v cut Show same has = absurd has
+is_command sizes text r v cut command same has = named_parts sizes text r v cut command same has
 
 -- what the arguments say is what the text says
-pub from_arguments : (sizes : Config) (text w r : List ℕ) (v : Verb) (found : Option Command) → IsCut text w r → verb_named w ≡ Some v
+pub from_arguments : (sizes : Config) (text r : List ℕ) (v : Verb) (found : Option Command) → IsCut text (name_of v) r
     → MatchOption found ((command : Command) → its_verb command ≡ v → ¬ HasArguments sizes command r)
     (λ command. (its_verb command ≡ v) × HasArguments sizes command r)
     → MatchOption found ((command : Command) → ¬ IsCommandText sizes command text) (λ command. IsCommandText sizes command text)
-from_arguments sizes text w r v None cut e is = no_command sizes text w r v cut e is
-from_arguments sizes text w r v (Some command) cut e is = is_command sizes text w r v cut e command is.0 is.1
-
--- a name that isn't of a command that stands alone
-pub not_alone : (sizes : Config) (text : List ℕ) (v : Verb) → NoSpace text → verb_named text ≡ Some v → stands_alone v ≡ false
-    → (command : Command) → ¬ IsCommandText sizes command text
-not_alone sizes text v none e other command is =
-    let alone = command_alone sizes text none command is in
-    let same : Some (its_verb command) ≡ Some v = sym alone.0 ∙ e in
-    let is_v : its_verb command ≡ v = cc in
-    let told : stands_alone v ≡ true = ap stands_alone (sym is_v) ∙ alone.1 in
-    cc
+from_arguments sizes text r v None cut is = no_command sizes text r v cut is
+from_arguments sizes text r v (Some command) cut is = is_command sizes text r v cut command is.0 is.1
 
 -- a name that is none of three
 pub is_other : (v : Verb) → v ≢ verb.Settle → v ≢ verb.Blocks → v ≢ verb.Show → stands_alone v ≡ false

@@ -1,5 +1,5 @@
 -- The form of a script: lines that each end with a line feed, which the last may lack.
-use Rattle.std.specs.Prelude.{◌≡◌, ◌≢◌, ℕ, Bool, true, false, not, ◌==◌, ◌-◌, ◌<◌, ◌≤◌, List, [], ◌∷◌, ◌++◌, All, codes, nat_eq}
+use Rattle.std.specs.Prelude.{◌≡◌, ◌≢◌, ◌⊎◌, ℕ, Bool, true, false, not, ◌==◌, ◌-◌, ◌<◌, ◌≤◌, List, [], ◌∷◌, ◌++◌, All, codes, nat_eq}
 use Rattle.std.specs.Prelude.{count_by, filter, length, slice_get, take, Option, None, Some, ⊤}
 use Rattle.std.specs.Borrow.{Bor}
 use Rattle.std.specs.List.{AllZip, enumerate_from, list_any, slice_split}
@@ -11,6 +11,8 @@ use Rattle.script_lines.specs.declared.line.Command.{Command}
 -- how each command is written
 pub use Rattle.script_lines.specs.Verb.{IsPathText, WritesNumber, IsAllocText, IsReadText, IsWriteText, IsFrameText, IsGroupText, IsPath}
 pub use Rattle.script_lines.specs.Verb.{HasArguments, IsCommandText}
+use Rattle.script_lines.specs.Verb.{name_of}
+use Rattle.script_lines.specs.declared.verb.Verb.{Verb}
 use Rattle.script_lines.specs.declared.fault.ScriptFault.{ScriptFault}
 use Rattle.script_lines.specs.declared.fault.ScriptFault.TheVariants.{BadLine, NoMemory}
 
@@ -35,6 +37,15 @@ texts_left (Some rest) = texts_of rest.now
 pub record IsCut (text word rest : List ℕ) : Type 0 where
   pub parts : text ≡ word ++ 32 ∷ rest
   pub no_space : All (λ b. b ≢ 32) word
+
+-- the text is the name of this command, or goes on with a space behind it
+abbrev pub BeginsWithName : Verb → List ℕ → Type 0
+BeginsWithName verb text = (text ≡ name_of verb) ⊎ (rest : List ℕ) × (text ≡ name_of verb ++ 32 ∷ rest)
+
+-- the text is the name of this command, and this is what follows a space behind it; None if nothing does
+abbrev pub IsNamed : Verb → Option (Bor (List ℕ)) → List ℕ → Type 0
+IsNamed verb None text = text ≡ name_of verb
+IsNamed verb (Some rest) text = IsCut text (name_of verb) rest.now
 
 -- `P COMMAND`, P being the number of a CPU
 pub record IsRequestText (sizes : Config) (processor : ℕ) (command : Command) (text : List ℕ) : Type 0 where

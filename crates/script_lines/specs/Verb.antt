@@ -1,11 +1,11 @@
 -- The commands of a script: their names, and what follows each.
 use Rattle.std.specs.Prelude.{◌≡◌, ℕ, ◌^◌, ◌<◌, List, [], ◌∷◌, ◌++◌, All, Option, Some, None, codes, length, nat_eq}
-use Rattle.std.specs.Cmp.Lexicographic.{pointwise}
 use Rattle.std.specs.HashMap.{HashMap, get_by}
 use Rattle.std.specs.Map.{lookup}
 use Rattle.std.specs.Str.Parse.{IsNumeral, digits_value}
 use Rattle.group_tree.specs.Bounds.{most_groups}
 use Rattle.zone_sizes.specs.declared.config.Config.{Config}
+use Rattle.script_lines.specs.Names.{code_of}
 use Rattle.script_lines.specs.declared.line.Command.{Command}
 use Rattle.script_lines.specs.declared.line.Command.TheVariants as command
 use Rattle.script_lines.specs.declared.verb.Name.{Name}
@@ -136,18 +136,18 @@ IsCommandText sizes other text = (arguments : List ℕ) × (text ≡ name_of (it
 
 -- ---- the table
 
--- the names of the commands, each with its command
-abbrev pub named_commands : List (List ℕ × Verb)
-named_commands =
-    (codes "mkdir", Mkdir) ∷ (codes "rmdir", Rmdir) ∷ (codes "write", Write) ∷ (codes "read", Read) ∷ (codes "alloc", Alloc)
-    ∷ (codes "fast", Fast) ∷ (codes "release", Release) ∷ (codes "get", Get) ∷ (codes "put", Put) ∷ (codes "settle", Settle)
-    ∷ (codes "touch", Touch) ∷ (codes "dirty", Dirty) ∷ (codes "clean", Clean) ∷ (codes "owner", Owner)
-    ∷ (codes "blocks", Blocks) ∷ (codes "show", Show) ∷ []
+-- the numbers of the commands' names, each with its command
+abbrev pub coded_commands : List (ℕ × Verb)
+coded_commands =
+    (code_of (codes "mkdir"), Mkdir) ∷ (code_of (codes "rmdir"), Rmdir) ∷ (code_of (codes "write"), Write) ∷ (code_of (codes "read"), Read)
+    ∷ (code_of (codes "alloc"), Alloc) ∷ (code_of (codes "fast"), Fast) ∷ (code_of (codes "release"), Release) ∷ (code_of (codes "get"), Get)
+    ∷ (code_of (codes "put"), Put) ∷ (code_of (codes "settle"), Settle) ∷ (code_of (codes "touch"), Touch) ∷ (code_of (codes "dirty"), Dirty)
+    ∷ (code_of (codes "clean"), Clean) ∷ (code_of (codes "owner"), Owner) ∷ (code_of (codes "blocks"), Blocks) ∷ (code_of (codes "show"), Show) ∷ []
 
--- the command of this name
-abbrev pub verb_named : List ℕ → Option Verb
-verb_named name = lookup (λ key. pointwise nat_eq name key) named_commands
+-- the command whose name has this number
+abbrev pub verb_coded : ℕ → Option Verb
+verb_coded code = lookup (λ key. nat_eq code key) coded_commands
 
--- the table has each command under its name, and no other name
+-- the table has each command under the number of its name, and no other number
 abbrev pub IsNames : {S : Type 0} → HashMap Name Verb S → Type 0
-IsNames names = (name : List ℕ) → get_by (λ key. pointwise nat_eq name key.text.now) names ≡ verb_named name
+IsNames names = (code : ℕ) → get_by (λ key. nat_eq code key.code) names ≡ verb_coded code

@@ -13,7 +13,7 @@ use crate::fault::ScriptFault;
 use crate::line::{Command, Line};
 use crate::number::number;
 use crate::place::{place_by_one, place_of};
-use crate::verb::{Names, Verb, command_names, verb_of};
+use crate::verb::{Names, Verb, command_names, first_verb};
 use group_tree::group::MAX_GROUPS;
 use std::alloc::Global;
 use zone_sizes::config::Config;
@@ -173,14 +173,15 @@ fn parse_command<'a>(names: &Names, text: &'a [u8], sizes: &Config) -> Option<Co
     ensures { MatchOption result ((command : Command) → ¬ IsCommandText sizes.now command text.entry.now)
         (λ command. IsCommandText sizes.now command text.entry.now) }
 {
-    match first_word(text) {
-        None => match verb_of(names, text)? {
+    let (verb, rest) = first_verb(names, text)?;
+    match rest {
+        None => match verb {
             Verb::Settle => Some(Command::Settle),
             Verb::Blocks => Some(Command::Blocks),
             Verb::Show => Some(Command::Show),
             _ => None,
         },
-        Some((name, arguments)) => parse_arguments(verb_of(names, name)?, arguments, sizes),
+        Some(arguments) => parse_arguments(verb, arguments, sizes),
     }
 }
 

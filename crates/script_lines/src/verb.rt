@@ -1,11 +1,16 @@
 //! The names of the commands.
 
-ghost use Rattle.std.specs.Prelude.{◌≡◌, IfOk};
-ghost use Rattle.script_lines.specs.Verb.{IsNames, verb_named};
+ghost use Rattle.std.specs.Prelude.{◌≡◌, ◌≤◌, IfOk, MatchOption, length, take, true};
+ghost use Rattle.script_lines.specs.Names.{IsWordEnd, code_of, is_word, longest_name};
+ghost use Rattle.script_lines.specs.Script.{BeginsWithName, IsNamed};
+ghost use Rattle.script_lines.specs.Verb.{IsNames};
+ghost use Rattle.script_lines.specs.declared.verb.Verb.{Verb};
 
 use indexmap::IndexMap;
 use std::alloc::{AllocError, Global};
-use std::hash::{Hash, Hasher};
+
+/// How many bytes the longest name has.
+const LONGEST_NAME: usize = 7;
 
 /// Which command a line has.
 #[derive(Clone, Copy, Debug, PartialEq, Eq)]
@@ -28,35 +33,41 @@ pub enum Verb {
     Show,
 }
 
-/// The name of a command, as a script writes it. A map hashes it in one piece; it would hash a slice byte by byte.
-#[derive(Clone, Copy, Debug, PartialEq, Eq)]
-pub struct Name<'a> {
-    text: &'a [u8],
+/// The name of a command, as the number that its bytes are behind a 1, to the base 256. So a map hashes and compares it at
+/// once; it would take a slice piece by piece.
+#[derive(Clone, Copy, Debug, PartialEq, Eq, Hash)]
+pub struct Name {
+    code: u64,
 }
 
-impl<'a> Name<'a> {
-    fn of(text: &'a [u8]) -> Name<'a>
-        ensures { result.text.now ≡ text.now }
+impl Name {
+    // The name of this text.
+    fn of(text: &[u8]) -> Name
+        requires word { is_word text.now ≡ true }
+        requires short { length text.now ≤ longest_name }
+        ensures { result.code ≡ code_of text.now }
     {
-        Name { text }
+        let (name, _end) = Name::at_front(text);
+        name
     }
-}
 
-impl<'a> Hash for Name<'a> {
-    ghost use Rattle.std.specs.Prelude.{[], ◌∷◌};
-    ghost use Rattle.script_lines.specs.Names.{same_writes};
-
-    ghost hash_input = { λ n. n.text.now ∷ [] };
-
-    ghost respects_eq = { λ x y same. same_writes x.text.now y.text.now same };
-
-    fn hash<H: Hasher>(&self, state: &mut H) {
-        state.write(self.text);
+    // The first word of the text as a name, and its end. The number of a longer word than a name may have overflowed.
+    fn at_front(text: &[u8]) -> (Name, usize)
+        ensures end { IsWordEnd text.now result.1 }
+        ensures name { result.1 ≤ longest_name → result.0.code ≡ code_of (take result.1 text.now) }
+    {
+        let mut code = 1u64;
+        let mut end = 0;
+        while end < text.len() && text[end] != b' ' {
+            code = code.wrapping_mul(256).wrapping_add(u64::from(text[end]));
+            end += 1;
+        }
+        (Name { code }, end)
     }
 }
 
 /// The commands by their names.
-pub type Names = IndexMap<Name<'static>, Verb>;
+pub type Names = IndexMap<Name, Verb>;
 
 /// A new table of all commands by their names. `AllocError` if memory runs out.
 pub fn command_names(alloc: Global) -> Result<Names, AllocError>
@@ -85,10 +96,20 @@ pub fn command_names(alloc: Global) -> Result<Names, AllocError>
     )
 }
 
-/// The command of this name, if there is one.
-pub fn verb_of(names: &Names, name: &[u8]) -> Option<Verb>
+/// The command that the text begins with the name of, and what follows the space behind that. The latter is None if nothing
+/// follows the name.
+pub fn first_verb<'a>(names: &Names, text: &'a [u8]) -> Option<(Verb, Option<&'a [u8]>)>
     requires { IsNames names.now }
-    ensures { result ≡ verb_named name.now }
+    ensures { MatchOption result ((verb : Verb) → ¬ BeginsWithName verb text.entry.now)
+        (λ r. IsNamed r.0 r.1 text.entry.now) }
 {
-    names.get(&Name { text: name }).copied()
+    let (name, end) = Name::at_front(text);
+    if end > LONGEST_NAME {
+        return None;
+    }
+    let verb = names.get(&name).copied()?;
+    if end == text.len() {
+        return Some((verb, None));
+    }
+    Some((verb, Some(&text[end + 1..])))
 }

@@ -1,4 +1,4 @@
-//! What a core tells of its frames and groups, as a system has to tell it.
+//! What a core says of its frames and groups, as a system has to report it.
 
 use anyhow::{Context, Result, ensure};
 use cpu_part::{BootName, Cpu, Tables};
@@ -9,10 +9,10 @@ use std::alloc::{AllocError, Global};
 use step_rules::step::FramePlace;
 use zone_sizes::config::Config;
 
-// The groups whose files are looked at.
+// The groups whose files are read.
 const PATHS: [&str; 6] = ["/a", "/b", "/a/c", "/a/d", "/a/c/e", "/b/f"];
 
-// What is told of the six files of a group that isn't there.
+// The answers for the six files of a group that doesn't exist.
 const NO_FILES: &str = "refused 6 NoGroup
 refused 6 NoGroup
 refused 6 NoGroup
@@ -21,7 +21,7 @@ refused 6 NoGroup
 refused 6 NoGroup
 ";
 
-/// The script of what is looked at: where each frame is, which blocks are free, and the files of the groups.
+/// The script that asks where each frame is, which blocks are free, and what the files of the groups are.
 pub fn looks(alloc: Global, frames: u32) -> Result<String, AllocError> {
     let mut text = String::new(alloc);
     for frame in 0..frames {
@@ -48,12 +48,12 @@ fn look_at_files(text: &mut String) -> Result<(), AllocError> {
     Ok(())
 }
 
-// The processor at which a frame is fresh: it is lent to it still.
+// The CPU for which a frame is fresh: the frame is still lent to it.
 fn fresh_at(core: &Core, cpus: u32, frame: u32) -> Option<u32> {
     (1..cpus.saturating_add(1)).find(|cpu| core.fresh(*cpu).contains(&frame))
 }
 
-// The path of a group.
+// Writes the path of a group.
 fn tell_path(core: &Core, group: GroupId, text: &mut String) -> Result<()> {
     let tree = core.tree();
     ensure!(tree.contains(group), "a frame of no group");
@@ -64,7 +64,7 @@ fn tell_path(core: &Core, group: GroupId, text: &mut String) -> Result<()> {
     Ok(())
 }
 
-// Where a frame is.
+// Writes the place of a frame.
 fn tell_place(core: &Core, cpus: u32, frame: u32, text: &mut String) -> Result<()> {
     ensure!(frame < core.areas().frames(), "no frame");
     if let Some(cpu) = fresh_at(core, cpus, frame) {
@@ -79,7 +79,7 @@ fn tell_place(core: &Core, cpus: u32, frame: u32, text: &mut String) -> Result<(
     Ok(())
 }
 
-// The free blocks, by order and then by address.
+// Writes the free blocks, by order and then by address.
 fn tell_blocks(core: &Core, text: &mut String) -> Result<(), AllocError> {
     let mut is_first = true;
     for block in core.areas().walk() {
@@ -118,7 +118,7 @@ fn tell_events(events: &EventCounts, text: &mut String) -> Result<(), AllocError
     Ok(())
 }
 
-// The files of a group.
+// Writes the files of a group.
 fn tell_files(core: &Core, group: GroupId, text: &mut String) -> Result<()> {
     ensure!(core.tree().contains(group), "no group");
     tell_pages(core.current(group), text)?;
@@ -130,7 +130,7 @@ fn tell_files(core: &Core, group: GroupId, text: &mut String) -> Result<()> {
     Ok(())
 }
 
-// The files of the groups.
+// Writes the files of all groups.
 fn tell_groups(core: &Core, text: &mut String) -> Result<()> {
     for path in PATHS {
         match core.tree().find(path.as_bytes()) {
@@ -141,7 +141,7 @@ fn tell_groups(core: &Core, text: &mut String) -> Result<()> {
     Ok(())
 }
 
-/// What has to be told to `looks`, beside this core.
+/// The answers that `looks` has to get, according to this core.
 pub fn wanted(alloc: Global, core: &Core, sizes: &Config) -> Result<String> {
     let mut text = String::new(alloc);
     for frame in 0..sizes.frames {
@@ -152,7 +152,7 @@ pub fn wanted(alloc: Global, core: &Core, sizes: &Config) -> Result<String> {
     Ok(text)
 }
 
-/// The processor has as many frames on its list, as many fresh, back and pinned, and the same fresh ones.
+/// The CPU has as many listed, fresh and back frames and as many pins as in the core, and the same fresh frames.
 pub fn are_lists_alike<N: BootName>(tables: &Tables<N>, cpu: &Cpu<N>, core: &Core) -> bool {
     let number = cpu.number();
     let lists = (cpu.list_len(), cpu.fresh_len(), cpu.back_len());

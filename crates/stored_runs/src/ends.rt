@@ -1,4 +1,4 @@
-//! The end of a system: it is shut down, and what it tells then.
+//! The end of a system: its shutdown and its report.
 
 ghost use Rattle.std.specs.Prelude.{◌≡◌, length};
 
@@ -7,14 +7,14 @@ use mem_system::{Audit, Held, System};
 use std::alloc::AllocError;
 use std::sync::Wait;
 
-/// What a system told at its end: the pins for which it was held, and what was counted.
+/// What a system reported at its end: the pins that prevented its shutdown, and its counts.
 #[derive(Drop)]
 pub struct Ended {
     pub held: u64,
     pub audit: Audit,
 }
 
-// The processor puts so many pins, or as many as it has.
+// The CPU puts this many pins, or all if it has fewer.
 fn put_pins<N: BootName>(tables: &Tables<N>, cpu: &mut Cpu<N>, most: u64) {
     for _ in 0..most {
         if let Some(frame) = cpu.first_pin() {
@@ -23,14 +23,14 @@ fn put_pins<N: BootName>(tables: &Tables<N>, cpu: &mut Cpu<N>, most: u64) {
     }
 }
 
-// Each processor does so.
+// Each CPU puts this many pins, or all if it has fewer.
 fn put_all<N: BootName>(tables: &Tables<N>, cpus: &mut [Cpu<N>], most: u64) {
     for cpu in cpus.iter_mut() {
         put_pins(tables, cpu, most);
     }
 }
 
-/// The system is shut down. Where it is held for its pins, these are put first.
+/// Shuts the system down. If pins prevent this, they are put first.
 pub fn shut<N: BootName, R: Wait>(rt: &R, mut system: System<N>, mut cpus: Vec<Cpu<N>>) -> Ended
     requires { length cpus.items ≡ N.frames.cpus }
 {
@@ -55,7 +55,7 @@ pub fn shut<N: BootName, R: Wait>(rt: &R, mut system: System<N>, mut cpus: Vec<C
     unreachable!()
 }
 
-/// Adds the lines that tell of the end.
+/// Appends the lines of the report.
 pub fn write_end(ended: &Ended, text: &mut String) -> Result<(), AllocError> {
     let Ended { held, audit } = ended;
     if *held > 0 {

@@ -1,5 +1,5 @@
-//! Stored runs of a system: scripts of several processors, what each line is answered, and the steps of the core that each
-//! line makes, as an account of the rules told them that is no part of this program (`tests/stored-runs`).
+//! Replays stored runs on a system. A run has lines of several CPUs, the answer to each line, and the core's steps
+//! for it. `tests/stored-runs`, an account of the rules that is no part of this program, wrote the runs.
 #![tactic(auto)]
 
 mod alike;

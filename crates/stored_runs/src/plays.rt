@@ -1,4 +1,4 @@
-//! A turn on the system.
+//! Plays a turn on the system.
 
 ghost use Rattle.std.specs.Prelude.{IsTrue};
 ghost use Rattle.script_replay.specs.Ranges.{NamesInRange};
@@ -13,7 +13,7 @@ use std::alloc::Global;
 use std::slice;
 use std::sync::Wait;
 
-// Whether what the command names is there.
+// Whether the frame or the group number that the command names is in range.
 fn is_there<N: BootName>(tables: &Tables<N>, command: &Command<'_>) -> bool
     ensures { IsTrue result → NamesInRange N.frames.frames command.now }
 {
@@ -30,7 +30,7 @@ fn is_there<N: BootName>(tables: &Tables<N>, command: &Command<'_>) -> bool
     }
 }
 
-/// What the processor is answered to the command.
+/// The answer to the CPU's command.
 pub fn ask<N: BootName, R: Wait>(
     rt: &R,
     alloc: Global,
@@ -50,7 +50,7 @@ pub fn ask<N: BootName, R: Wait>(
     Ok(replay_lines(rt, alloc, system, slice::from_mut(cpu), &[line])?)
 }
 
-// Adds what the processor is answered that visits at once.
+// Appends the answer to the CPU's command, which is served by a visit without trying the fast path.
 fn visit<N: BootName, R: Wait>(
     rt: &R,
     system: &System<N>,
@@ -72,7 +72,7 @@ fn visit<N: BootName, R: Wait>(
     Ok(())
 }
 
-// A fresh frame goes back to the list, or not.
+// Drops the frame if it is fresh, without a visit. Returns what happened.
 fn drop_fresh<N: BootName>(
     tables: &Tables<N>,
     cpu: &mut Cpu<N>,
@@ -91,7 +91,7 @@ fn drop_fresh<N: BootName>(
     }
 }
 
-/// What the processor is answered to the command, asked for in this way.
+/// The answer to the CPU's command, asked in this way.
 pub fn play<N: BootName, R: Wait>(
     rt: &R,
     alloc: Global,

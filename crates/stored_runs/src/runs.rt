@@ -1,4 +1,4 @@
-//! The text of a stored run: its sizes, and then its turns, with an empty line between each two.
+//! The text of a stored run: its sizes and then its turns, separated by empty lines.
 
 use crate::stored_run::{Stored, live};
 use anyhow::{Context, Result, bail, ensure};
@@ -14,7 +14,7 @@ fn number(word: Option<&str>) -> Result<u32> {
     word.and_then(|word| word.parse().ok()).context("no number")
 }
 
-// The sizes that the words tell.
+// The sizes in the words.
 fn sizes_of(words: &str) -> Result<Config> {
     let mut words = words.split(' ');
     let sizes = Config {
@@ -28,7 +28,7 @@ fn sizes_of(words: &str) -> Result<Config> {
     Ok(sizes)
 }
 
-// A core of these sizes, if one is to stand beside the system.
+// A core of these sizes, if the run is replayed beside one.
 fn core_of(alloc: Global, word: &str, sizes: &Config) -> Result<Option<Core>> {
     match word {
         "beside" if sizes.is_valid() => Ok(Some(Core::new(alloc, *sizes)?)),
@@ -51,7 +51,8 @@ fn run_of(alloc: Global, text: &str) -> Result<Stored<'_>> {
     })
 }
 
-/// Replays the run of this text, and tells how many turns it has. An error tells after how many it went another way.
+/// Replays the run of this text, and returns how many turns it has. An error says after how many turns the system
+/// differed.
 pub fn replay_run<R: Wait>(rt: &R, alloc: Global, text: &str) -> Result<u32> {
     let run = run_of(alloc, text)?;
     match boot(alloc, run.sizes) {

@@ -1,4 +1,4 @@
-//! Steps of the core, as the text of a turn tells them.
+//! Steps of the core, as the text of a turn lists them.
 
 use group_tree::group::GroupId;
 use group_tree::path::PathText;
@@ -6,10 +6,10 @@ use mem_core::zone::Core;
 use step_rules::step::{Action, Answer, Step};
 use zone_blocks::order::Order;
 
-// The most steps of a run.
+// The greatest number of steps in a run.
 const MOST_STEPS: u64 = 1_000_000;
 
-// A step of a seat.
+// Makes a step of a seat.
 fn step(core: &mut Core, seat: u32, action: Action) -> Answer {
     if core.steps() >= MOST_STEPS {
         return Answer::Illegal;
@@ -17,7 +17,8 @@ fn step(core: &mut Core, seat: u32, action: Action) -> Answer {
     core.step(Step { seat, action })
 }
 
-// A step of each of two seats. The answer is that of the second, or of the first that isn't done.
+// Makes two steps, each by its seat. Returns the second answer. If the first step isn't done, returns its answer and
+// doesn't make the second.
 fn both(core: &mut Core, first: (u32, Action), second: (u32, Action)) -> Answer {
     match step(core, first.0, first.1) {
         Answer::Done => step(core, second.0, second.1),
@@ -25,7 +26,7 @@ fn both(core: &mut Core, first: (u32, Action), second: (u32, Action)) -> Answer 
     }
 }
 
-// The action of this word and the numbers that follow it, and the seat that makes it.
+// The action that this word and the numbers after it mean, and the seat that makes it.
 fn action_of(word: &str, a: u32, b: u32, c: u32) -> Option<(u32, Action)> {
     let made = match word {
         "get" => (a, Action::Get { frame: b }),
@@ -41,7 +42,7 @@ fn action_of(word: &str, a: u32, b: u32, c: u32) -> Option<(u32, Action)> {
     Some(made)
 }
 
-// The same, for an action that names a group.
+// The same for an action that names a group.
 fn group_action_of(word: &str, a: u32, b: u32, c: u32) -> Option<(u32, Action)> {
     let group = GroupId::of(a)?;
     let action = match word {
@@ -76,7 +77,7 @@ fn group_action_of(word: &str, a: u32, b: u32, c: u32) -> Option<(u32, Action)> 
     Some((0, action))
 }
 
-// The answer to the step, or to two that go together, of this word and the numbers that follow it.
+// Makes the step, or the pair of steps, that this word and the numbers after it mean. Returns the answer.
 fn answer_to(core: &mut Core, word: &str, a: u32, b: u32, c: u32) -> Option<Answer> {
     let (first, second) = match word {
         "look" => ((a, Action::Lock), (a, Action::Unlock)),
@@ -127,12 +128,12 @@ fn told(answer: &Answer) -> (&'static str, u128) {
     }
 }
 
-// The number of a word; 0 where none is told.
+// The number in a word, or 0 if there is none.
 fn number(word: Option<&str>) -> u32 {
     word.and_then(|word| word.parse().ok()).unwrap_or(0)
 }
 
-// Makes the step of this text, or two that go together.
+// Makes the step, or the pair of steps, of this text.
 fn make(core: &mut Core, text: &str) -> Option<Answer> {
     let (word, rest) = text.split_once(' ')?;
     if word == "make" {
@@ -146,7 +147,7 @@ fn make(core: &mut Core, text: &str) -> Option<Answer> {
     answer_to(core, word, a, b, c)
 }
 
-// Whether the step is legal and is answered as is told.
+// Whether the core gives the step the answer in the text, or `done` if the text has none.
 fn is_so(core: &mut Core, text: &str) -> bool {
     let (text, wanted) = text.split_once(" = ").unwrap_or((text, "done"));
     let (word, number) = wanted.split_once(' ').unwrap_or((wanted, "0"));
@@ -156,7 +157,7 @@ fn is_so(core: &mut Core, text: &str) -> bool {
     }
 }
 
-/// Makes the steps of this text. It tells the first that isn't legal or is answered another way.
+/// Makes the steps of this text. Returns the first one that is malformed or doesn't get its answer.
 pub fn first_wrong<'a>(core: &mut Core, steps: &'a str) -> Option<&'a str> {
     for text in steps.split(',') {
         if !text.is_empty() && !is_so(core, text) {

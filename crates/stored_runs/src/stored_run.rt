@@ -17,7 +17,7 @@ use std::alloc::Global;
 use std::sync::Wait;
 use zone_sizes::config::Config;
 
-/// A run: the sizes of the system, the core that stands beside it, if one does, and the texts of the turns and of the end.
+/// A run: the sizes of the system, the core beside it if there is one, and the texts of the turns and of the end.
 #[derive(Drop)]
 pub struct Stored<'a> {
     pub sizes: Config,
@@ -26,7 +26,8 @@ pub struct Stored<'a> {
     pub end: &'a str,
 }
 
-// What stands beside a system: its sizes, a core or none, and the lines of what is looked at after each turn.
+// What belongs to a system: its sizes, the core beside it if there is one, and the lines that are asked after each
+// turn.
 #[derive(Drop)]
 struct Side<'a> {
     sizes: Config,
@@ -34,7 +35,7 @@ struct Side<'a> {
     looks: &'a [Line<'a>],
 }
 
-// A processor is told what the core tells.
+// The answers to a CPU agree with the core.
 fn look<N: BootName, R: Wait>(
     rt: &R,
     alloc: Global,
@@ -57,7 +58,7 @@ fn look<N: BootName, R: Wait>(
     Ok(())
 }
 
-// The core makes these steps, as they are told.
+// The core makes these steps, with the stored answers.
 fn follow(side: &mut Side<'_>, steps: &str) -> Result<()> {
     if let Some(core) = &mut side.core {
         if let Some(step) = first_wrong(core, steps) {
@@ -67,7 +68,7 @@ fn follow(side: &mut Side<'_>, steps: &str) -> Result<()> {
     Ok(())
 }
 
-// The core is asked after the turn of a processor, as far as there is one.
+// After the turn of a CPU, compares the system with the core if there is one.
 fn compare<N: BootName, R: Wait>(
     rt: &R,
     alloc: Global,
@@ -88,7 +89,7 @@ fn compare<N: BootName, R: Wait>(
     look(rt, alloc, system, looker, core, side)
 }
 
-// A turn.
+// Plays a turn, and compares.
 fn take_turn<N: BootName, R: Wait>(
     rt: &R,
     alloc: Global,
@@ -119,7 +120,8 @@ fn take_turn<N: BootName, R: Wait>(
     compare(rt, alloc, system, cpus, at, side)
 }
 
-// The turns of a text: one, or one for each number from the first to the last of two. It tells how many.
+// Plays the turns of a text: one, or one for each number from the first up to the last, which is left out. Returns
+// how many.
 fn take_turns<N: BootName, R: Wait>(
     rt: &R,
     alloc: Global,
@@ -150,7 +152,7 @@ fn take_turns<N: BootName, R: Wait>(
     Ok(last.saturating_sub(first))
 }
 
-// All turns. It tells how many.
+// Plays all turns. Returns how many.
 fn take_all<N: BootName, R: Wait>(
     rt: &R,
     alloc: Global,
@@ -168,7 +170,7 @@ fn take_all<N: BootName, R: Wait>(
     Ok(count)
 }
 
-// The end is as it is told.
+// The report of the end is the stored one, after the core made its last steps.
 fn check_end(alloc: Global, side: &mut Side<'_>, ended: &Ended, text: &str) -> Result<()> {
     let turn = turn_of(alloc, text)?;
     follow(side, turn.steps)?;
@@ -181,7 +183,7 @@ fn check_end(alloc: Global, side: &mut Side<'_>, ended: &Ended, text: &str) -> R
     Ok(())
 }
 
-/// A boot lives through the turns of a run, and ends. It tells how many there are.
+/// Plays the turns of a run on a boot, and ends it. Returns how many turns there are.
 pub fn live<N: BootName, R: Wait>(rt: &R, alloc: Global, boot: Boot, run: Stored<'_>) -> Result<u32>
     requires { (boot.frames ≡ N.frames) × (boot.stocks ≡ N.stocks) }
 {

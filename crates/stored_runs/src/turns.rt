@@ -1,4 +1,4 @@
-//! The text of a turn: what a processor is asked to do, what it is answered, and the steps that this is for the core.
+//! The text of a turn: what a CPU is asked, the answer, and the core's steps for it.
 
 use anyhow::{Context, Result, bail};
 use std::alloc::{AllocError, Global};
@@ -6,11 +6,11 @@ use std::alloc::{AllocError, Global};
 /// How the system is asked.
 #[derive(Clone, Copy)]
 pub enum Way {
-    /// As the program asks: on the fast path first, where there is one.
+    /// As the program asks: on the fast path first, if there is one.
     Usual,
-    /// By a visit at once.
+    /// By a visit, without trying the fast path.
     Visit,
-    /// For a fresh frame that goes back to the list, and by no visit.
+    /// A fresh frame is dropped, without a visit.
     Drop,
     /// Not at all.
     End,
@@ -20,16 +20,16 @@ pub enum Way {
 #[derive(Drop)]
 pub struct Turn<'a> {
     pub way: Way,
-    /// The line of a script that is asked for.
+    /// The line of a script.
     pub line: &'a str,
-    /// What is answered.
+    /// The required answer.
     pub answer: String,
     /// The steps of the core.
     pub steps: &'a str,
 }
 
 impl<'a> Turn<'a> {
-    // Nothing is known of the turn yet.
+    // A turn of which no line has been read.
     fn new(alloc: Global) -> Turn<'a> {
         Turn {
             way: Way::End,
@@ -39,19 +39,19 @@ impl<'a> Turn<'a> {
         }
     }
 
-    // What the system is asked.
+    // Sets what the system is asked.
     fn asks(&mut self, way: Way, line: &'a str) {
         self.way = way;
         self.line = line;
     }
 
-    // One more line of the answer.
+    // Appends a line of the answer.
     fn is_answered(&mut self, line: &str) -> Result<(), AllocError> {
         self.answer.push_str(line)?;
         self.answer.push('\n')
     }
 
-    // A line of the turn's text, by the word that it begins with.
+    // Adds a line of the turn's text. `word` is the one that it begins with.
     fn add(&mut self, word: &str, line: &'a str) -> Result<()> {
         match word {
             ">" => self.asks(Way::Usual, line),

@@ -1,11 +1,11 @@
-//! Scripts whose lines run in a thread for each processor.
+//! Scripts whose lines run in one thread for each CPU.
 
 use crate::gates::GateCall::{After, Before, Inside};
 use crate::gates::{GateCall, HeldVisit, LineTurns, NotedCalls};
 use crate::systems::{TWO_PROCESSORS, add, events_text, holds, run_script, threads_tell};
 use mem_system::Audit;
 
-// Processor 1 is inside the visit of its line while processor 2 is answered all of its own.
+// CPU 1 is inside the visit of its line while CPU 2 is answered all of its lines.
 const BESIDE_A_VISIT: &str = "\
 1 mkdir /a
 2 alloc /a 0
@@ -37,7 +37,7 @@ fn a_processor_goes_on_while_another_is_inside(rt: HostRuntime) {
     holds(&rt, told.audit == audit);
 }
 
-// CPU 1 is inside the visit of its release, before it is served, while CPU 2 is answered its line.
+// CPU 1 is inside the visit of its release, which isn't served yet, while CPU 2 is answered its line.
 const BESIDE_A_RELEASE: &str = "\
 1 mkdir /a
 1 alloc /a 0
@@ -128,7 +128,7 @@ fn a_gate_is_called_around_each_line_and_inside_each_visit(rt: HostRuntime) {
     holds(&rt, gate.are(&CALLS_BY_FIRST, &CALLS_BY_SECOND));
 }
 
-// Processor 1 kills the group of a frame while processor 2 refers to it.
+// CPU 1 kills the group of a frame while CPU 2 has a reference on the frame.
 const KILL_BESIDE_A_PIN: &str = "\
 1 mkdir /a
 1 mkdir /a/b

@@ -14,7 +14,7 @@ use std::slice::Iter;
 use std::str;
 use zone_sizes::config::Config;
 
-// How many lines each CPU has in a storm; by hand 20,000.
+// How many lines each CPU has in a storm. A run by hand may use 20,000.
 const STORM_LINES: u32 = 500;
 
 const FRAMES: u32 = 64;

@@ -24,8 +24,8 @@ pub const TWO_PROCESSORS: Config = Config {
     stock: 4,
 };
 
-/// The answers of the threads, those to the lines after them, the pins of each of the first four CPUs then, and the
-/// audit of the end.
+/// The answers of the threads, and those to the lines after them. Then the pins that each of the first four CPUs has,
+/// and the audit of the end.
 #[derive(Drop)]
 pub struct ThreadAnswers {
     pub by_threads: Vec<u8>,
@@ -62,8 +62,8 @@ fn run_and_replay<N: BootName + Send + Sync, R: Threads + Wait + Sync, G: Gate +
     Ok((by_threads, after_threads))
 }
 
-// Starts the boot under a name of its tables, runs the lines by threads and then the last ones by visits, and ends
-// it. It ends it even if memory or a thread was refused. Pins that are left are put then.
+// Starts the boot under a name of its tables. Runs the lines by threads, and then the last ones by visits. Ends the
+// boot even if memory or a thread was refused; remaining pins are put then.
 fn live_by_threads<N: BootName + Send + Sync, R: Threads + Wait + Sync, G: Gate + Sync>(
     rt: &R,
     alloc: Global,
@@ -92,8 +92,8 @@ fn live_by_threads<N: BootName + Send + Sync, R: Threads + Wait + Sync, G: Gate 
     })
 }
 
-/// The answers of a boot of these sizes to a script in threads and to one after it, and its end; None if memory or a
-/// thread was refused.
+/// Boots a system of these sizes, runs a script in threads and then one after it, and ends the boot. Returns None if
+/// memory or a thread was refused.
 pub fn run_script<R: AllocGlobal + Threads + Wait + Abort + Sync, G: Gate + Sync>(
     rt: &R,
     sizes: Config,
@@ -131,7 +131,7 @@ pub fn events_text(rt: &(impl Abort + AllocGlobal), counts: [u32; 4]) -> String 
     text.expect(rt, "memory")
 }
 
-/// The lines in threads have these answers, and those after them these.
+/// The lines in threads got the first answers, and the lines after them the second ones.
 pub fn threads_tell(rt: &impl Abort, told: &ThreadAnswers, by_threads: &str, after_threads: &str) {
     holds(rt, told.by_threads.as_slice() == by_threads.as_bytes());
     holds(

@@ -1,5 +1,5 @@
-//! Worked rows on fronts: no seat gets a frame in transit, and fronts of a list of the greatest length are paid for
-//! inside a visit.
+//! Worked rows on fronts. No seat gets a frame in transit. Fronts of a list of the greatest length are paid for inside
+//! a visit.
 ghost use Rattle.std.specs.Prelude.{◌≡◌, ◌≤◌, None};
 ghost use Rattle.frame_word.specs.Seats.{IsZoneSeat, first_zone_view};
 ghost use Rattle.stock_word.specs.Stock.{IsZoneStock};
@@ -51,8 +51,8 @@ fn no_seat_gets_a_frame_that_passes(rt: HostRuntime) {
     boot_of_passing::<Brand>(&rt, rt.alloc(), parts);
 }
 
-// Takes the front of the list for the group of the stock, if the list has a frame, there is room for one more fresh
-// frame, and the stock has a page by its word.
+// Takes the front of the list for the group of the stock. Returns None if the list is empty, if there is no room for
+// one more fresh frame, or if the stock's word shows no page.
 fn take_by_books<N: BootName>(
     tables: &Tables<N>,
     machine: &mut StockSeat,

@@ -1,0 +1,19 @@
+-- Serves the contract of `memcg`: the program's own settings, and its subcommands, one after the other.
+use Rattle.std.proofs.Common.{rules, ◌≡◌, ◌∙◌, [], ap₂, codes, true}
+use Rattle.std.proofs.lemmas.Result.{IfOk-weaker}
+use Rattle.clap.specs.Simple.{App, app_of, new_shape, with_subcommand}
+use Rattle.load_options.proofs.command_line.memcg.Goals as goal
+
+pub returns : goal.returns
+returns c =
+    let alone : App =
+    record { top = record (new_shape (codes "memcg")) { no_binary_name = true; subcommand_required = true }; subs = [] } in
+    let none : app_of c.subcommand_required.result ≡ alone = search rules in
+    let replay = c.in_ok-subcommand.ensures.shape c.in_ok-replay_command.ensures.local
+    ∙ ap₂ with_subcommand none c.in_ok-replay_command.ensures.shape in
+    let run = c.in_ok-subcommand-3.ensures.shape c.in_ok-subcommand-2.ensures.local
+    ∙ ap₂ with_subcommand replay c.in_ok-subcommand-2.ensures.shape in
+    record {
+      app = IfOk-weaker c.subcommand-4.result _ _ (λ command added.
+          added.shape c.check_command.ensures.local ∙ ap₂ with_subcommand run c.check_command.ensures.shape) c.subcommand-4.ensures;
+    }

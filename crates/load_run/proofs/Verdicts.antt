@@ -1,0 +1,215 @@
+-- What a check promises, from what the log is and what the writers took. Serves `drive_check`.
+use Rattle.std.proofs.Common.{◌≡◌, ◌∙◌, ◌↔◌, ℕ, ◌≤◌, List, Option, None, Some, IfSome, IsTrue, ap, arith, inl, inr, refl, subst, sym}
+use Rattle.std.proofs.lemmas.Bool.{false≢true}
+use Rattle.std.specs.Prelude.{◌⊎◌, ⊤, is_some}
+use Rattle.std.specs.Io.KnownBytes.{Appends}
+use Rattle.step_rules.specs.declared.step.Answer.{Answer}
+use Rattle.log_check.specs.declared.end.LogEnd.{LogEnd}
+use Rattle.log_check.specs.declared.end.LogEnd.TheVariants.{BadLine, Legal, NotLegal}
+use Rattle.log_check.specs.Ends.{IsEnd, IsLegalLog, says_legal}
+use Rattle.log_check.specs.Texts.{end_text}
+use Rattle.load_options.specs.declared.fault.LineFault.TheVariants as words
+use Rattle.load_options.specs.declared.task.Options.{Options}
+use Rattle.load_options.specs.declared.task.Task.{Task}
+use Rattle.load_options.specs.declared.task.Task.TheVariants.{Check, Replay, Run}
+use Rattle.load_run.specs.declared.fault.ProgramFault.{ProgramFault}
+use Rattle.load_run.specs.declared.fault.ProgramFault.TheVariants.{BadConfig, BadLogLine, Input, NoMemory, Output, Script, Words}
+use Rattle.load_run.specs.Answers.{IsOnScript}
+use Rattle.load_run.specs.Causes.{Written, written}
+use Rattle.load_run.specs.Checks.{Checks, FailsToCheck, IsEndOf, IsVerdict, LeavesLine, LeavesReport, ReportsBadLine, ReportsLegal, ReportsNotLegal}
+use Rattle.load_run.specs.Driving.{Drives, DrivesScript, DrivesTask}
+use Rattle.load_run.specs.Fault.{IsWordsFault, fault_text, status_of}
+use Rattle.load_run.specs.Writing.{AppendsBeginning}
+use Rattle.load_run.proofs.Causing.{words_cause}
+use Rattle.load_run.proofs.Driving.{drives_badly}
+
+-- both are known of the input
+pub end_of : (input : Option (List ℕ)) (end : LogEnd) → IfSome input (λ text. IsEnd text end)
+    → IfSome input (λ text. IsTrue (says_legal end) ↔ IsLegalLog text) → IsEndOf input end
+end_of None end is exact = tt
+end_of (Some text) end is exact = (is, exact)
+
+-- the log is legal, and that was written
+checks_legal : (input before after faults : Option (List ℕ)) (steps : ℕ) → IsEndOf input (Legal steps)
+    → Appends before after (end_text (Legal steps)) → Checks input (written before faults) (written after faults) 0
+checks_legal input before after faults steps is whole = record {
+  status_at_most = omega arith;
+  silent = λ zero. refl;
+  legal = λ zero. go input is;
+  not_legal = λ one. absurd (omega (arith, one));
+  quiet = λ two. absurd (omega (arith, two));
+  bad_line = λ two. absurd (omega (arith, two));
+}
+  where
+    go : (bytes : Option (List ℕ)) → IsEndOf bytes (Legal steps) → IfSome bytes (ReportsLegal before after)
+    go None is = tt
+    go (Some text) is = record { steps = steps; keeps = is.0; written = whole }
+
+-- a step is not legal, and that was written
+checks_not_legal : (input before after faults : Option (List ℕ)) (line step : ℕ) (expected : Answer) → IsEndOf input (NotLegal line step expected)
+    → Appends before after (end_text (NotLegal line step expected)) → Checks input (written before faults) (written after faults) 1
+checks_not_legal input before after faults line step expected is whole = record {
+  status_at_most = omega arith;
+  silent = λ zero. refl;
+  legal = λ zero. absurd (omega (arith, zero));
+  not_legal = λ one. go input is;
+  quiet = λ two. absurd (omega (arith, two));
+  bad_line = λ two. absurd (omega (arith, two));
+}
+  where
+    go : (bytes : Option (List ℕ)) → IsEndOf bytes (NotLegal line step expected)
+        → IfSome bytes (λ text. ReportsNotLegal (written before faults) (written after faults) text ⊎ FailsToCheck (written before faults) (written after faults) text)
+    go None is = tt
+    go (Some text) is = inl (record {
+      line = line;
+      step = step;
+      expected = expected;
+      breaks = is.0;
+      not_legal = λ legal. false≢true (is.1.1 legal);
+      written = whole;
+      silent = refl;
+    })
+
+-- what was to be written was, whole
+pub checks_written : (input before after faults : Option (List ℕ)) (end : LogEnd) (status : ℕ) → IsEndOf input end → IsVerdict end status
+    → Appends before after (end_text end) → Checks input (written before faults) (written after faults) status
+checks_written input before after faults (Legal steps) status is verdict whole =
+    subst (Checks input (written before faults) (written after faults)) (sym verdict) (checks_legal input before after faults steps is whole)
+checks_written input before after faults (NotLegal line step expected) status is verdict whole =
+    subst (Checks input (written before faults) (written after faults)) (sym verdict) (checks_not_legal input before after faults line step expected is whole)
+checks_written input before after faults (BadLine line) status is verdict whole = absurd verdict
+
+-- the input is no log, and that was told
+pub checks_bad_line : (input output faults faults_after : Option (List ℕ)) (line status : ℕ) → IsEndOf input (BadLine line) → status ≡ 2
+    → AppendsBeginning faults faults_after (fault_text (BadLogLine line)) → Checks input (written output faults) (written output faults_after) status
+checks_bad_line input output faults faults_after line status is ended told = record {
+  status_at_most = omega (arith, ended);
+  silent = λ zero. absurd (omega (arith, ended, zero));
+  legal = λ zero. absurd (omega (arith, ended, zero));
+  not_legal = λ one. absurd (omega (arith, ended, one));
+  quiet = λ two. refl;
+  bad_line = λ two. go input is;
+}
+  where
+    go : (bytes : Option (List ℕ)) → IsEndOf bytes (BadLine line) → IfSome bytes (ReportsBadLine faults faults_after)
+    go None is = tt
+    go (Some text) is = record { line = line; first = is.0; not_legal = λ legal. false≢true (is.1.1 legal); told = told }
+
+-- the check failed, and that was told
+checks_failed : (input before after faults faults_after : Option (List ℕ)) (fault : ProgramFault) (status : ℕ)
+    → IfSome input (LeavesReport fault before after) → status ≡ 1 → AppendsBeginning faults faults_after (fault_text fault)
+    → Checks input (written before faults) (written after faults_after) status
+checks_failed input before after faults faults_after fault status left ended told = record {
+  status_at_most = omega (arith, ended);
+  silent = λ zero. absurd (omega (arith, ended, zero));
+  legal = λ zero. absurd (omega (arith, ended, zero));
+  not_legal = λ one. go input left;
+  quiet = λ two. absurd (omega (arith, ended, two));
+  bad_line = λ two. absurd (omega (arith, ended, two));
+}
+  where
+    go : (bytes : Option (List ℕ)) → IfSome bytes (LeavesReport fault before after)
+        → IfSome bytes (λ text. ReportsNotLegal (written before faults) (written after faults_after) text ⊎ FailsToCheck (written before faults) (written after faults_after) text)
+    go None left = tt
+    go (Some text) left = inr (record { fault = fault; left = left; told = told })
+
+everywhere : (bytes : Option (List ℕ)) (P : List ℕ → Type 0) → ((text : List ℕ) → P text) → IfSome bytes P
+everywhere None P all = tt
+everywhere (Some text) P all = all text
+
+-- it failed before anything was written
+pub checks_early : (input output faults faults_after : Option (List ℕ)) (fault : ProgramFault) (status : ℕ)
+    → ((text : List ℕ) → LeavesReport fault output output text) → status ≡ 1 → AppendsBeginning faults faults_after (fault_text fault)
+    → Checks input (written output faults) (written output faults_after) status
+checks_early input output faults faults_after fault status left ended told =
+    checks_failed input output output faults faults_after fault status (everywhere input (LeavesReport fault output output) left) ended told
+
+-- a fault that comes before anything is known of the log
+abbrev pub IsEarly : ProgramFault → Type 0
+IsEarly Input = ⊤
+IsEarly (NoMemory e) = ⊤
+IsEarly fault = ⊥
+
+-- so with each of these
+pub checks_fault : (input output faults faults_after : Option (List ℕ)) (fault : ProgramFault) (status : ℕ) → IsEarly fault
+    → status ≡ status_of fault → AppendsBeginning faults faults_after (fault_text fault)
+    → Checks input (written output faults) (written output faults_after) status
+checks_fault input output faults faults_after Input status is ended told =
+    checks_early input output faults faults_after Input status (λ text. refl) ended told
+checks_fault input output faults faults_after (NoMemory e) status is ended told =
+    checks_early input output faults faults_after (NoMemory e) status (λ text. refl) ended told
+checks_fault input output faults faults_after (Words f) status is ended told = absurd is
+checks_fault input output faults faults_after (Script f) status is ended told = absurd is
+checks_fault input output faults faults_after (BadLogLine n) status is ended told = absurd is
+checks_fault input output faults faults_after BadConfig status is ended told = absurd is
+checks_fault input output faults faults_after Output status is ended told = absurd is
+
+-- what was to be written wasn't, or not whole
+pub checks_unwritten : (input before after faults faults_after : Option (List ℕ)) (end : LogEnd) (fault : ProgramFault) (status : ℕ) → IsEndOf input end
+    → LeavesLine (end_text end) before after fault → status ≡ status_of fault → AppendsBeginning faults faults_after (fault_text fault)
+    → Checks input (written before faults) (written after faults_after) status
+checks_unwritten input before after faults faults_after end fault status is left ended told = go fault left ended told
+  where
+    begun : (bytes : Option (List ℕ)) → IsEndOf bytes end → AppendsBeginning before after (end_text end) → IfSome bytes (LeavesReport Output before after)
+    begun None is begins = tt
+    begun (Some text) is begins = record { end = end; is = is.0; begun = begins }
+
+    go : (f : ProgramFault) → LeavesLine (end_text end) before after f → status ≡ status_of f → AppendsBeginning faults faults_after (fault_text f)
+        → Checks input (written before faults) (written after faults_after) status
+    go Output left ended told = checks_failed input before after faults faults_after Output status (begun input is left) ended told
+    go (NoMemory e) left ended told =
+        checks_failed input before after faults faults_after (NoMemory e) status (everywhere input (LeavesReport (NoMemory e) before after) (λ text. left)) ended told
+    go (Words f) left ended told = absurd left
+    go (Script f) left ended told = absurd left
+    go (BadLogLine n) left ended told = absurd left
+    go BadConfig left ended told = absurd left
+    go Input left ended told = absurd left
+
+-- ---- all tasks
+
+-- the words ask for nothing, or memory ran out for them
+pub drives_words : (asked : Option Options) (input output faults faults_after : Option (List ℕ)) (fault : ProgramFault) (status : ℕ)
+    → IsWordsFault asked fault → status ≡ status_of fault → AppendsBeginning faults faults_after (fault_text fault)
+    → Drives asked input (written output faults) (written output faults_after) status
+drives_words None input output faults faults_after fault status is ended told =
+    drives_badly None input output faults faults_after fault status (words_cause None input fault is) ended told
+drives_words (Some options) input output faults faults_after fault status is ended told = by_task options.task
+  where
+    for_check : (f : ProgramFault) → IsWordsFault (Some options) f → status ≡ status_of f → AppendsBeginning faults faults_after (fault_text f)
+        → Checks input (written output faults) (written output faults_after) status
+    for_check (Words (words.NoMemory e)) is ended told = checks_early input output faults faults_after (Words (words.NoMemory e)) status (λ text. refl) ended told
+    for_check (Words (words.BadWords text)) is ended told = absurd (false≢true (sym (ap is_some is)))
+    for_check (Script f) is ended told = absurd is
+    for_check (BadLogLine n) is ended told = absurd is
+    for_check BadConfig is ended told = absurd is
+    for_check Input is ended told = absurd is
+    for_check Output is ended told = absurd is
+    for_check (NoMemory e) is ended told = absurd is
+
+    by_task : (task : Task) → DrivesTask task (Some options) input (written output faults) (written output faults_after) status
+    by_task (Replay is_explained) =
+        drives_badly (Some options) input output faults faults_after fault status (words_cause (Some options) input fault is) ended told
+    by_task Run = drives_badly (Some options) input output faults faults_after fault status (words_cause (Some options) input fault is) ended told
+    by_task Check = for_check fault is ended told
+
+-- what a task on a script promises
+pub script_drives : (options : Options) (input : Option (List ℕ)) (before after : Written) (status : ℕ) → IsOnScript options.task
+    → DrivesScript (Some options) input before after status → Drives (Some options) input before after status
+script_drives options input before after status on_script drives = go options.task on_script
+  where
+    go : (task : Task) → IsOnScript task → DrivesTask task (Some options) input before after status
+    go (Replay is_explained) on_script = drives
+    go Run on_script = drives
+    go Check on_script = absurd on_script
+
+-- and a check
+pub check_drives : (options : Options) (input : Option (List ℕ)) (before after : Written) (status : ℕ) → options.task ≡ Check
+    → Checks input before after status → Drives (Some options) input before after status
+check_drives options input before after status is checks =
+    subst (λ (task : Task). DrivesTask task (Some options) input before after status) (sym is) checks
+
+-- what the options promise is what the words do that ask for them
+pub asked_drives : (asked : Option Options) (options : Options) (input : Option (List ℕ)) (before after : Written) (status : ℕ)
+    → asked ≡ Some options → Drives (Some options) input before after status → Drives asked input before after status
+asked_drives asked options input before after status is drives =
+    subst (λ (a : Option Options). Drives a input before after status) (sym is) drives

@@ -1,0 +1,11 @@
+-- Serves the contract of `drive_check`: memory ran out for the check.
+use Rattle.std.specs.Prelude.{alloc_error}
+use Rattle.load_run.specs.declared.fault.ProgramFault.TheVariants.{NoMemory}
+use Rattle.load_run.proofs.Verdicts.{checks_fault}
+use Rattle.load_run.proofs.checking.drive_check.Goals as goal
+
+pub returns-in-Err-NoMemory : goal.returns-in-Err-NoMemory
+returns-in-Err-NoMemory g c = record {
+  checks = checks_fault _ _ _ _ (NoMemory alloc_error) _ tt c.tell_fault-in-Err-NoMemory.ensures.status
+      c.tell_fault-in-Err-NoMemory.ensures.told;
+}

@@ -1,0 +1,90 @@
+-- What a check of a log promises, by the status that it ends with.
+use Rattle.std.specs.Prelude.{◌≡◌, ◌⊎◌, ◌↔◌, ℕ, ◌≤◌, List, Option, IfSome, IsTrue}
+use Rattle.std.specs.Io.KnownBytes.{Appends}
+use Rattle.step_rules.specs.declared.step.Answer.{Answer}
+use Rattle.log_lines.specs.Log.{IsFirstBadLine}
+use Rattle.log_check.specs.declared.end.LogEnd.{LogEnd}
+use Rattle.log_check.specs.declared.end.LogEnd.TheVariants.{BadLine, Legal, NotLegal}
+use Rattle.log_check.specs.Ends.{BreaksRules, IsEnd, IsLegalLog, KeepsPromise, says_legal}
+use Rattle.log_check.specs.Texts.{end_text}
+use Rattle.load_options.specs.declared.fault.LineFault.TheVariants as words
+use Rattle.load_run.specs.declared.fault.ProgramFault.{ProgramFault}
+use Rattle.load_run.specs.declared.fault.ProgramFault.TheVariants.{Words, BadLogLine, Input, Output, NoMemory}
+use Rattle.load_run.specs.Causes.{Written}
+use Rattle.load_run.specs.Fault.{fault_text}
+use Rattle.load_run.specs.Writing.{AppendsBeginning}
+
+-- the text is that of a legal run of so many steps, and the promise holds at each beginning of it that leaves the lock
+-- free; the output got the line that says so
+pub record ReportsLegal (before after : Option (List ℕ)) (text : List ℕ) : Type 0 where
+  pub steps : ℕ
+  pub keeps : KeepsPromise text steps
+  pub written : Appends before after (end_text (Legal steps))
+
+-- the text is that of no legal run: this step is the first that breaks the rules, and this answer was due; the output
+-- got the line that says so, and no fault is reported
+pub record ReportsNotLegal (before after : Written) (text : List ℕ) : Type 0 where
+  pub line : ℕ
+  pub step : ℕ
+  pub expected : Answer
+  pub breaks : BreaksRules text line step expected
+  pub not_legal : ¬ IsLegalLog text
+  pub written : Appends before.output after.output (end_text (NotLegal line step expected))
+  pub silent : after.faults ≡ before.faults
+
+-- the text is that of no log: this line is the first bad one; the fault writer got that, as far as it took it
+pub record ReportsBadLine (before after : Option (List ℕ)) (text : List ℕ) : Type 0 where
+  pub line : ℕ
+  pub first : IsFirstBadLine text line
+  pub not_legal : ¬ IsLegalLog text
+  pub told : AppendsBeginning before after (fault_text (BadLogLine line))
+
+-- the output got a beginning of the line that says what the text is
+pub record BeginsReport (before after : Option (List ℕ)) (text : List ℕ) : Type 0 where
+  pub end : LogEnd
+  pub is : IsEnd text end
+  pub begun : AppendsBeginning before after (end_text end)
+
+-- what a check leaves in the output after a fault of its own: a beginning of its line if the output failed, else
+-- nothing; no other fault is one of a check
+abbrev pub LeavesReport : ProgramFault → (before after : Option (List ℕ)) (text : List ℕ) → Type 0
+LeavesReport (Words (words.NoMemory error)) before after text = after ≡ before
+LeavesReport Input before after text = after ≡ before
+LeavesReport Output before after text = BeginsReport before after text
+LeavesReport (NoMemory error) before after text = after ≡ before
+LeavesReport fault before after text = ⊥
+
+-- the check failed at its work; the fault writer got why, as far as it took it
+pub record FailsToCheck (before after : Written) (text : List ℕ) : Type 0 where
+  pub fault : ProgramFault
+  pub left : LeavesReport fault before.output after.output text
+  pub told : AppendsBeginning before.faults after.faults (fault_text fault)
+
+-- A log was checked, and the program ended with 0, 1 or 2. With 0 the log is a legal run, and no fault is reported;
+-- with 1 it is none, or the check failed; with 2 it is no log, and nothing is written to the output. What the log is, is
+-- said if the input's bytes are known
+pub record Checks (input : Option (List ℕ)) (before after : Written) (status : ℕ) : Type 0 where
+  pub status_at_most : status ≤ 2
+  pub silent : status ≡ 0 → after.faults ≡ before.faults
+  pub legal : status ≡ 0 → IfSome input (ReportsLegal before.output after.output)
+  pub not_legal : status ≡ 1 → IfSome input (λ text. ReportsNotLegal before after text ⊎ FailsToCheck before after text)
+  pub quiet : status ≡ 2 → after.output ≡ before.output
+  pub bad_line : status ≡ 2 → IfSome input (ReportsBadLine before.faults after.faults)
+
+-- ---- the parts of a check
+
+-- the log is this, and it is called legal exactly if it is
+abbrev pub IsEndOf : Option (List ℕ) → LogEnd → Type 0
+IsEndOf input end = IfSome input (λ text. IsEnd text end × (IsTrue (says_legal end) ↔ IsLegalLog text))
+
+-- this is a log, and has this status: 0 if it is legal, 1 if it isn't
+abbrev pub IsVerdict : LogEnd → ℕ → Type 0
+IsVerdict (Legal steps) status = status ≡ 0
+IsVerdict (NotLegal line step expected) status = status ≡ 1
+IsVerdict (BadLine line) status = ⊥
+
+-- what the output got of a line that wasn't written whole: a beginning if the output failed, nothing if memory ran out
+abbrev pub LeavesLine : List ℕ → (before after : Option (List ℕ)) → ProgramFault → Type 0
+LeavesLine line before after Output = AppendsBeginning before after line
+LeavesLine line before after (NoMemory error) = after ≡ before
+LeavesLine line before after fault = ⊥

@@ -1,0 +1,83 @@
+//! The check of a log: what the log is, is written to the output, or a fault is reported, and the status says which.
+
+ghost use Rattle.std.specs.Prelude.{List, Option, IfErr, OnOk, ℕ};
+ghost use Rattle.std.specs.Io.KnownBytes.{Appends};
+ghost use Rattle.log_check.specs.Texts.{end_text};
+ghost use Rattle.load_run.specs.Causes.{written};
+ghost use Rattle.load_run.specs.Checks.{Checks, IsEndOf, IsVerdict, LeavesLine};
+
+use crate::fault::ProgramFault;
+use crate::fault_lines::tell_fault;
+use crate::program::write_answers;
+use log_check::end::{LogEnd, LogFault};
+use log_check::{check_log, write_end};
+use std::alloc::{AllocError, Global};
+use std::io::{Read, Write};
+
+/// Checks the log that the input holds, and returns the status to end with.
+///
+/// The log is read up to where it is known what it is. If it is legal, the output gets the number of its steps, and the
+/// status is 0. If a step isn't legal, the output gets its line, its number and the answer that was due, and the status
+/// is 1. A bad line is a fault of status 2. If the input can't be read, the output can't be written, or memory runs out,
+/// that is a fault of status 1.
+#[tactic(auto, using(crate::proofs::Verdicts::end_of, crate::proofs::Verdicts::checks_fault))]
+pub fn drive_check<I: Read, O: Write, F: Write>(
+    alloc: Global,
+    input: &mut I,
+    output: &mut O,
+    faults: &mut F,
+) -> u8
+    ensures checks { Checks (I.remaining input.old) (written (O.contents output.old) (F.contents faults.old))
+        (written (O.contents output.new) (F.contents faults.new)) result }
+{
+    match check_log(alloc, input) {
+        Ok(end) => report_end(alloc, &end, output, faults),
+        Err(LogFault::Input) => tell_fault(&ProgramFault::Input, faults),
+        Err(LogFault::NoMemory) => tell_fault(&ProgramFault::NoMemory(AllocError), faults),
+    }
+}
+
+// Reports what the log is.
+#[tactic(auto, using(crate::proofs::Verdicts::checks_bad_line))]
+fn report_end<O: Write, F: Write>(alloc: Global, end: &LogEnd, output: &mut O, faults: &mut F) -> u8
+    ensures checks { (input : Option (List ℕ)) → IsEndOf input end.now
+        → Checks input (written (O.contents output.old) (F.contents faults.old))
+        (written (O.contents output.new) (F.contents faults.new)) result }
+{
+    match end {
+        LogEnd::Legal { .. } => report_verdict(alloc, end, 0, output, faults),
+        LogEnd::NotLegal { .. } => report_verdict(alloc, end, 1, output, faults),
+        LogEnd::BadLine { line } => tell_fault(&ProgramFault::BadLogLine(*line), faults),
+    }
+}
+
+// Reports that a log is legal or isn't, which has this status.
+#[tactic(auto, using(crate::proofs::Verdicts::checks_written, crate::proofs::Verdicts::checks_unwritten))]
+fn report_verdict<O: Write, F: Write>(
+    alloc: Global,
+    end: &LogEnd,
+    status: u8,
+    output: &mut O,
+    faults: &mut F,
+) -> u8
+    ensures checks { (input : Option (List ℕ)) → IsEndOf input end.now → IsVerdict end.now status
+        → Checks input (written (O.contents output.old) (F.contents faults.old))
+        (written (O.contents output.new) (F.contents faults.new)) result }
+{
+    match write_verdict(alloc, end, output) {
+        Ok(()) => status,
+        Err(unwritten) => tell_fault(&unwritten, faults),
+    }
+}
+
+// Writes the line that says what the log is.
+fn write_verdict<O: Write>(alloc: Global, end: &LogEnd, output: &mut O) -> Result<(), ProgramFault>
+    ensures written { OnOk result (Appends (O.contents output.old) (O.contents output.new) (end_text end.now)) }
+    ensures left { IfErr result (LeavesLine (end_text end.now) (O.contents output.old) (O.contents output.new)) }
+{
+    let mut text = Vec::new(alloc);
+    match write_end(end, &mut text) {
+        Ok(()) => write_answers(&text, output),
+        Err(error) => Err(ProgramFault::NoMemory(error)),
+    }
+}
