@@ -1,4 +1,4 @@
--- What is done with one unit, and with its list. Serves `meet` and the scan.
+-- What is done with one unit, and with its list. Serves `try_reclaim` and the scan.
 use Rattle.std.proofs.Common.{◌≡◌, ℕ, ◌==◌, ◌&&◌, ◌⊎◌, Bool, true, false, Option, Some, None, List, [], ◌∷◌, ◌++◌, refl, sym, ap, ◌∙◌, subst}
 use Rattle.std.proofs.Common.{inl, inr, arith, cond, eq-eqb}
 use Rattle.std.specs.Prelude.{unwrap_or}

@@ -9,13 +9,13 @@
 mod amounts;
 mod kills;
 pub mod laws;
-mod meet;
 mod noting;
 mod passes;
 mod reclaiming;
 mod rounds;
 mod scan;
 mod sets;
+mod try_reclaim;
 mod victims;
 
 pub use amounts::reclaim_pages;

@@ -7,7 +7,7 @@ ghost use Rattle.mem_reclaim.specs.Moves.{Leads};
 ghost use Rattle.mem_reclaim.specs.Units.{ScansList};
 ghost use Rattle.mem_reclaim.specs.Staying.{Keeps, MissedOnList, OnlyLeave, UsageFalls};
 
-use crate::meet::meet;
+use crate::try_reclaim::try_reclaim;
 use cpu_part::{BootName, Tables};
 use group_tree::group::GroupId;
 use lru_lists::record::LruList;
@@ -47,7 +47,7 @@ pub(crate) fn scan<N: BootName>(
             unreachable!()
         };
         next = machine.newer(group, list, frame);
-        given += u64::from(meet(machine, tables, group, list, unit, frame, marks_count));
+        given += u64::from(try_reclaim(machine, tables, group, list, unit, frame, marks_count));
     }
     given
 }

@@ -36,16 +36,16 @@ newer-next-requires-clause-stands g c =
     c.listed-units.ensures c.loop-met-test.true c.in-Some.unit c.in-Some.is in
     ap (home_of c.loop-met.machine.links) c.in-Some-frame.ensures.0 ∙ h.home
 
-pub meet-requires-clause-unit : goal.meet-requires-clause-unit
-meet-requires-clause-unit g c =
+pub try_reclaim-requires-clause-unit : goal.try_reclaim-requires-clause-unit
+try_reclaim-requires-clause-unit g c =
     let fits : c.args.group < 64 = search rules in
     let h = scan_here g.N.BootName.frames g.N.BootName.stocks c.args.marks_count c.args.group fits c.args.list c.args.want c.args.machine.now
     c.loop-met._met c.loop-met.given c.loop-met.next c.loop-met.machine c.spots-spots.ensures.consistent c.loop-met.invariant c.listed-units.result
     c.listed-units.ensures c.loop-met-test.true c.in-Some.unit c.in-Some.is in
     h.read ∙ ap (entry_of c.loop-met.machine.links) (sym c.in-Some-frame.ensures.0)
 
-pub meet-requires-clause-stands : goal.meet-requires-clause-stands
-meet-requires-clause-stands g c =
+pub try_reclaim-requires-clause-stands : goal.try_reclaim-requires-clause-stands
+try_reclaim-requires-clause-stands g c =
     let fits : c.args.group < 64 = search rules in
     let h = scan_here g.N.BootName.frames g.N.BootName.stocks c.args.marks_count c.args.group fits c.args.list c.args.want c.args.machine.now
     c.loop-met._met c.loop-met.given c.loop-met.next c.loop-met.machine c.spots-spots.ensures.consistent c.loop-met.invariant c.listed-units.result
@@ -55,13 +55,13 @@ meet-requires-clause-stands g c =
 pub loop-met-preserved : goal.loop-met-preserved
 loop-met-preserved g c =
     let fits : c.args.group < 64 = search rules in
-    let small = c.meet.type_inv in
+    let small = c.try_reclaim.type_inv in
     let e = c.from-given.ensures in
     rw e
     (scan_more g.N.BootName.frames g.N.BootName.stocks c.args.marks_count c.args.group fits c.args.list c.args.want c.args.machine.now
     c.loop-met._met c.loop-met.given c.loop-met.next c.loop-met.machine c.spots-spots.ensures.consistent c.loop-met.invariant c.listed-units.result
-    c.listed-units.ensures c.loop-met-test.true c.in-Some.unit c.in-Some.is c.meet.result c.meet.new.machine c.requires.inactive c.if-want-given.false
-    (omega (arith, small)) c.meet.ensures.meets c.meet.ensures.keeps c.meet.ensures.usage c.newer-next.result c.in-Some-frame.frame c.in-Some-frame.ensures.0
+    c.listed-units.ensures c.loop-met-test.true c.in-Some.unit c.in-Some.is c.try_reclaim.result c.try_reclaim.new.machine c.requires.inactive c.if-want-given.false
+    (omega (arith, small)) c.try_reclaim.ensures.meets c.try_reclaim.ensures.keeps c.try_reclaim.ensures.usage c.newer-next.result c.in-Some-frame.frame c.in-Some-frame.ensures.0
     c.newer-next.ensures)
 
 pub returns : goal.returns
@@ -82,5 +82,5 @@ overflow_add-given g c =
     let is = c.current-usage.ensures in
     let fits = c.current-usage.type_inv in
     let more = c.from-given.ensures in
-    let small = c.meet.type_inv in
+    let small = c.try_reclaim.type_inv in
     omega (arith, usage, is, fits, more, small)

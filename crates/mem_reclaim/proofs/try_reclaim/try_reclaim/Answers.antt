@@ -2,7 +2,7 @@ use Rattle.std.proofs.Common.{ap, sym, ◌∙◌}
 use Rattle.lru_lists.specs.declared.record.Entry.{Entry}
 use Rattle.mem_reclaim.proofs.Meeting.{meets_dirty, meets_spared, meets_tried}
 use Rattle.mem_reclaim.proofs.Keeping.{keeps_try}
-use Rattle.mem_reclaim.proofs.meet.meet.Goals as goal
+use Rattle.mem_reclaim.proofs.try_reclaim.try_reclaim.Goals as goal
 
 pub returns-clause-meets : goal.returns-clause-meets
 returns-clause-meets g c =

@@ -23,7 +23,7 @@ fn is_spared(unit: Entry, marks_count: bool) -> bool
 
 /// Handles one unit of a group's list: a dirty unit is left alone, a marked one is renewed if marks count, and any
 /// other is tried. Returns how many pages were freed.
-pub(crate) fn meet<N: BootName>(
+pub(crate) fn try_reclaim<N: BootName>(
     machine: &mut Machine<N>,
     tables: &Tables<N>,
     group: GroupId,
