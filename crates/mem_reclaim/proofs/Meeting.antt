@@ -20,7 +20,7 @@ use Rattle.mem_machine.specs.Ageing.{RenewsUnit, entries_in}
 use Rattle.mem_machine.specs.Evicting.{EvictsUnit, Evicts, evict_steps}
 use Rattle.mem_reclaim.specs.Wanted.{progress}
 use Rattle.mem_reclaim.specs.Moves.{Leads}
-use Rattle.mem_reclaim.specs.Units.{MeetsAs, MeetsUnit}
+use Rattle.mem_reclaim.specs.Units.{MeetsAs, TriesReclaim}
 use Rattle.mem_reclaim.specs.Staying.{OnlyLeave, IsMissed}
 use Rattle.mem_reclaim.proofs.Moving.{moves_rest, moves_none, moves_try, misses_rose}
 use Rattle.mem_reclaim.proofs.Wanting.{rested}
@@ -28,7 +28,7 @@ use Rattle.mem_reclaim.proofs.Wanting.{rested}
 -- ---- the three cases
 
 pub meets_dirty : (t : KnownTable) (marks_count : Bool) (g : ℕ) (e : Entry) (m : KnownMachine) → e.is_dirty ≡ true
-    → Leads t 0 m m (MeetsUnit marks_count g e 1)
+    → Leads t 0 m m (TriesReclaim marks_count g e 1)
 meets_dirty t marks_count g e m dirty = record {
   steps = [];
   does = subst (λ (d : Bool). MeetsAs d (marks_count && e.is_marked) g e.number (progress 0 m [] m)) (sym dirty) (rested m);
@@ -36,7 +36,7 @@ meets_dirty t marks_count g e m dirty = record {
 }
 
 pub meets_spared : (t : KnownTable) (marks_count : Bool) (g f : ℕ) (e : Entry) (m n : KnownMachine) → e.is_dirty ≡ false → (marks_count && e.is_marked) ≡ true
-    → e.number ≡ f → RenewsUnit g f m n → MakesForAny t m [] n → Leads t 0 m n (MeetsUnit marks_count g e 1)
+    → e.number ≡ f → RenewsUnit g f m n → MakesForAny t m [] n → Leads t 0 m n (TriesReclaim marks_count g e 1)
 meets_spared t marks_count g f e m n clean spared is renews runs = record {
   steps = [];
   does = subst (λ (x : Bool × Bool × ℕ). MeetsAs x.0 x.1 g x.2 (progress 0 m [] n)) (λ i. (sym clean i, sym spared i, sym is i))
@@ -46,9 +46,9 @@ meets_spared t marks_count g f e m n clean spared is renews runs = record {
 
 pub meets_tried : (t : KnownTable) (marks_count : Bool) (g f : ℕ) (e : Entry) (m n : KnownMachine) (answer : Option ℕ) (given : ℕ) → e.is_dirty ≡ false
     → (marks_count && e.is_marked) ≡ false → e.number ≡ f → Evicts f answer m n → MakesForAny t m (evict_steps f answer) n → given ≡ unwrap_or answer 0
-    → Leads t given m n (MeetsUnit marks_count g e 1)
+    → Leads t given m n (TriesReclaim marks_count g e 1)
 meets_tried t marks_count g f e m n answer given clean spared is evicts runs pages =
-    subst (λ (p : ℕ). Leads t p m n (MeetsUnit marks_count g e 1)) (sym pages) (record {
+    subst (λ (p : ℕ). Leads t p m n (TriesReclaim marks_count g e 1)) (sym pages) (record {
       steps = evict_steps f answer;
       does = subst (λ (x : Bool × Bool × ℕ). MeetsAs x.0 x.1 g x.2 (progress (unwrap_or answer 0) m (evict_steps f answer) n)) (λ i. (sym clean i, sym spared i, sym is i))
           (record { answer = answer; evicts = evicts; pages = refl; tries = refl });
@@ -87,7 +87,7 @@ met_as false true m n g f given steps list is inactive home =
     subst (λ (l : LruList). MetList g l f m n) (sym (inactive refl)) (inr (marked false (entry_of m.links f) ∷ [], is.renews.inactive))
 met_as false false m n g f given steps list is inactive home = tried_list m n g f list is.answer is.evicts home
 
-pub met_list : (marks_count : Bool) (m n : KnownMachine) (g want given : ℕ) (e : Entry) (steps : Run) (list : LruList) → MeetsUnit marks_count g e want (progress given m steps n)
+pub met_list : (marks_count : Bool) (m n : KnownMachine) (g want given : ℕ) (e : Entry) (steps : Run) (list : LruList) → TriesReclaim marks_count g e want (progress given m steps n)
     → (marks_count ≡ true → list ≡ Inactive) → home_of m.links e.number ≡ Some (record { owner = g; list = list }) → MetList g list e.number m n
 met_list true m n g want given e steps list is inactive home = met_as e.is_dirty e.is_marked m n g e.number given steps list is (λ i. inactive refl) home
 met_list false m n g want given e steps list is inactive home = met_as e.is_dirty false m n g e.number given steps list is (λ i. absurd (true≢false (sym i))) home
@@ -118,9 +118,9 @@ misses_as true m n g f given steps is dirt h home clean =
     absurd (true≢false (sym dirt ∙ ap (λ (k : KnownMachine). (link_at k.links f).is_dirty) (sym is.machine) ∙ clean))
 misses_as false m n g f given steps is dirt h home clean = try_misses m n f is.answer is.evicts h home clean
 
-pub met_leaves : (m n : KnownMachine) (g want given : ℕ) (e : Entry) (steps : Run) → MeetsUnit false g e want (progress given m steps n) → OnlyLeave m n
+pub met_leaves : (m n : KnownMachine) (g want given : ℕ) (e : Entry) (steps : Run) → TriesReclaim false g e want (progress given m steps n) → OnlyLeave m n
 met_leaves m n g want given e steps is = leaves_as e.is_dirty m n g e.number given steps is
 
-pub met_misses : (m n : KnownMachine) (g want given : ℕ) (e : Entry) (steps : Run) → MeetsUnit false g e want (progress given m steps n)
+pub met_misses : (m n : KnownMachine) (g want given : ℕ) (e : Entry) (steps : Run) → TriesReclaim false g e want (progress given m steps n)
     → (link_at m.links e.number).is_dirty ≡ e.is_dirty → (h : Home) → IsMissed m n e.number h
 met_misses m n g want given e steps is dirt = misses_as e.is_dirty m n g e.number given steps is dirt

@@ -18,7 +18,7 @@ use Rattle.mem_machine.specs.Machines.{KnownMachine, IsConsistent, home_of}
 use Rattle.mem_machine.specs.Ageing.{entries_in}
 use Rattle.mem_reclaim.specs.Moves.{Leads}
 use Rattle.mem_reclaim.specs.Wanted.{WhileWanted, progress}
-use Rattle.mem_reclaim.specs.Units.{MeetsUnit, ScansList}
+use Rattle.mem_reclaim.specs.Units.{TriesReclaim, ScansList}
 use Rattle.mem_reclaim.specs.Staying.{Keeps, OnlyLeave, IsMissed}
 use Rattle.mem_reclaim.proofs.Wanting.{SoFar, so_far_none, so_far_more, so_far_done, so_far_enough}
 use Rattle.mem_reclaim.proofs.Keeping.{keeps_none, keeps_both, only_both}
@@ -44,7 +44,7 @@ pub record ScanSoFar (t : KnownTable) (marks_count : Bool) (g : ℕ) (list : Lru
   pub are : entries_in now g list ≡ stayed ++ (todo ++ moved)
   pub left : length todo + i ≡ length (entries_in m g list)
   pub next_is : IsNext next todo
-  pub so_far : SoFar t (MeetsUnit marks_count g) (entries_in m g list) want m todo given now
+  pub so_far : SoFar t (TriesReclaim marks_count g) (entries_in m g list) want m todo given now
   pub keeps : Keeps t m now
   pub usage : (x : ℕ) → in_subtree m.ledger.groups x g ≡ true → current_of now.ledger x + given ≡ current_of m.ledger x
   pub few : given < want + 2 ^ 32
@@ -64,7 +64,7 @@ scan_first t w m ok marks_count g fits list want next is = record {
   are = sym (append-nil (entries_in m g list));
   left = omega arith;
   next_is = first_is_next next (entries_in m g list) is;
-  so_far = so_far_none t (MeetsUnit marks_count g) (entries_in m g list) want m;
+  so_far = so_far_none t (TriesReclaim marks_count g) (entries_in m g list) want m;
   keeps = keeps_none t m;
   usage = λ x below. omega arith;
   few = omega arith;
@@ -120,7 +120,7 @@ module _ (t : KnownTable) (w : Words) (marks_count : Bool) (g : ℕ) (fits : g <
   here = scan_here
 
   module _ (r : ℕ) (then : KnownMachine) (inactive : marks_count ≡ true → list ≡ Inactive) (wanted : given < want) (small : r < 2 ^ 32)
-      (leads : Leads t r now then (MeetsUnit marks_count g u 1)) (keeps : Keeps t now then)
+      (leads : Leads t r now then (TriesReclaim marks_count g u 1)) (keeps : Keeps t now then)
       (usage : (x : ℕ) → in_subtree now.ledger.groups x g ≡ true → current_of then.ledger x + r ≡ current_of now.ledger x)
       (newer : Option Entry) (f : ℕ) (at : f ≡ u.number) (newer_is : newer ≡ entry_after f (entries_in now g list)) where
     now_are : entries_in now g list ≡ s.stayed ++ u ∷ (here.rest ++ s.moved)
@@ -144,7 +144,7 @@ module _ (t : KnownTable) (w : Words) (marks_count : Bool) (g : ℕ) (fits : g <
 
     then_missed : marks_count ≡ false → MissedOrLeft m g list then here.rest
     then_missed off f home clean =
-        let does : MeetsUnit false g u 1 (progress r now leads.steps then) = subst (λ (b : Bool). MeetsUnit b g u 1 (progress r now leads.steps then)) off leads.does in
+        let does : TriesReclaim false g u 1 (progress r now leads.steps then) = subst (λ (b : Bool). TriesReclaim b g u 1 (progress r now leads.steps then)) off leads.does in
         let was = met_leaves now then g 1 r u leads.steps does f (record { owner = g; list = list }) home in
         let kept : home_of then.links f ≢ None = λ none. none-some (record { owner = g; list = list }) (sym none ∙ home) in
         let a = s.keeps.misses f in
@@ -175,8 +175,8 @@ module _ (t : KnownTable) (w : Words) (marks_count : Bool) (g : ℕ) (fits : g <
           are = parts.2;
           left = let a = s.left in let b : length s.todo ≡ length (u ∷ here.rest) = ap length here.ahead in omega (arith, a, b);
           next_is = next_of here.rest s.moved (newer_is ∙ ap (λ (x : ℕ). entry_after x (entries_in now g list)) at ∙ ap (entry_after u.number) now_are ∙ after_mid s.stayed (here.rest ++ s.moved) u here.front);
-          so_far = so_far_more t (MeetsUnit marks_count g) (entries_in m g list) want m u here.rest given now
-              (subst (λ (l : List Entry). SoFar t (MeetsUnit marks_count g) (entries_in m g list) want m l given now) here.ahead s.so_far) wanted r then
+          so_far = so_far_more t (TriesReclaim marks_count g) (entries_in m g list) want m u here.rest given now
+              (subst (λ (l : List Entry). SoFar t (TriesReclaim marks_count g) (entries_in m g list) want m l given now) here.ahead s.so_far) wanted r then
               (record { steps = leads.steps; does = leads.does; moves = leads.moves });
           keeps = keeps_both t m now then s.keeps keeps;
           usage = λ x below.
@@ -185,7 +185,7 @@ module _ (t : KnownTable) (w : Words) (marks_count : Bool) (g : ℕ) (fits : g <
               omega (arith, a, b);
           few = omega (arith, wanted, small);
           leaves = λ off. only_both m now then (s.leaves off)
-              (met_leaves now then g 1 r u leads.steps (subst (λ (b : Bool). MeetsUnit b g u 1 (progress r now leads.steps then)) off leads.does));
+              (met_leaves now then g 1 r u leads.steps (subst (λ (b : Bool). TriesReclaim b g u 1 (progress r now leads.steps then)) off leads.does));
           missed = then_missed;
         }
 
@@ -201,7 +201,7 @@ none_left (e ∷ es) i n left all = absurd (let a : length (e ∷ es) + i ≡ n 
 
 -- the units are those of the list in the first machine
 of_list : (t : KnownTable) (marks_count : Bool) (g : ℕ) (list : LruList) (want given : ℕ) (m now : KnownMachine)
-    → Leads t given m now (WhileWanted (MeetsUnit marks_count g) (entries_in m g list) want) → Leads t given m now (ScansList marks_count g list want)
+    → Leads t given m now (WhileWanted (TriesReclaim marks_count g) (entries_in m g list) want) → Leads t given m now (ScansList marks_count g list want)
 of_list t marks_count g list want given m now h = record { steps = h.steps; does = h.does; moves = h.moves }
 
 -- all were met
@@ -210,8 +210,8 @@ pub scan_done : (t : KnownTable) (marks_count : Bool) (g : ℕ) (list : LruList)
 scan_done t marks_count g list want m i given next now s units counted all =
     let none : s.todo ≡ [] = none_left s.todo i units (s.left ∙ sym counted) all in
     record {
-      scans = of_list t marks_count g list want given m now (so_far_done t (MeetsUnit marks_count g) (entries_in m g list) want m given now
-          (subst (λ (l : List Entry). SoFar t (MeetsUnit marks_count g) (entries_in m g list) want m l given now) none s.so_far));
+      scans = of_list t marks_count g list want given m now (so_far_done t (TriesReclaim marks_count g) (entries_in m g list) want m given now
+          (subst (λ (l : List Entry). SoFar t (TriesReclaim marks_count g) (entries_in m g list) want m l given now) none s.so_far));
       missed = λ off less f home clean. elim (s.missed off f home clean) [
         | inl to ↦ absurd (false≢true (sym (ap (has_unit f) none) ∙ to))
         | inr rose ↦ rose
@@ -223,6 +223,6 @@ pub scan_enough : (t : KnownTable) (marks_count : Bool) (g : ℕ) (list : LruLis
     → ScanSoFar t marks_count g list want m i given next now → want ≤ given → ScanEnds t marks_count g list want m given now
 scan_enough t marks_count g list want m i given next now s enough = record {
   scans = of_list t marks_count g list want given m now
-      (so_far_enough t (MeetsUnit marks_count g) (entries_in m g list) want m s.todo given now s.so_far enough);
+      (so_far_enough t (TriesReclaim marks_count g) (entries_in m g list) want m s.todo given now s.so_far enough);
   missed = λ off less f home clean. absurd (omega (arith, less, enough));
 }

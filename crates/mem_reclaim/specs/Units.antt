@@ -26,10 +26,10 @@ MeetsAs false true group frame = SparesUnit group frame
 MeetsAs false false group frame = TriesUnit frame
 
 -- what is done with a unit of the group while pages are wanted; a marked unit is spared if marks count
-abbrev pub MeetsUnit : Bool → ℕ → Entry → ℕ → Reclaiming
-MeetsUnit marks_count group unit want = MeetsAs unit.is_dirty (marks_count && unit.is_marked) group unit.number
+abbrev pub TriesReclaim : Bool → ℕ → Entry → ℕ → Reclaiming
+TriesReclaim marks_count group unit want = MeetsAs unit.is_dirty (marks_count && unit.is_marked) group unit.number
 
 -- what is done with the units that are on one of the group's lists now, the oldest first
 abbrev pub ScansList : Bool → ℕ → LruList → ℕ → Reclaiming
 ScansList marks_count group list want done =
-    WhileWanted (MeetsUnit marks_count group) (entries_in done.before group list) want done
+    WhileWanted (TriesReclaim marks_count group) (entries_in done.before group list) want done
