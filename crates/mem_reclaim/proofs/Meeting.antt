@@ -20,7 +20,7 @@ use Rattle.mem_machine.specs.Ageing.{RenewsUnit, entries_in}
 use Rattle.mem_machine.specs.Evicting.{EvictsUnit, Evicts, evict_steps}
 use Rattle.mem_reclaim.specs.Wanted.{progress}
 use Rattle.mem_reclaim.specs.Moves.{Leads}
-use Rattle.mem_reclaim.specs.Units.{MeetsAs, TriesReclaim}
+use Rattle.mem_reclaim.specs.Units.{TriesReclaimAs, TriesReclaim}
 use Rattle.mem_reclaim.specs.Staying.{OnlyLeave, IsMissed}
 use Rattle.mem_reclaim.proofs.Moving.{moves_rest, moves_none, moves_try, misses_rose}
 use Rattle.mem_reclaim.proofs.Wanting.{rested}
@@ -31,7 +31,7 @@ pub meets_dirty : (t : KnownTable) (marks_count : Bool) (g : ℕ) (e : Entry) (m
     → Leads t 0 m m (TriesReclaim marks_count g e 1)
 meets_dirty t marks_count g e m dirty = record {
   steps = [];
-  does = subst (λ (d : Bool). MeetsAs d (marks_count && e.is_marked) g e.number (progress 0 m [] m)) (sym dirty) (rested m);
+  does = subst (λ (d : Bool). TriesReclaimAs d (marks_count && e.is_marked) g e.number (progress 0 m [] m)) (sym dirty) (rested m);
   moves = moves_rest t m;
 }
 
@@ -39,7 +39,7 @@ pub meets_spared : (t : KnownTable) (marks_count : Bool) (g f : ℕ) (e : Entry)
     → e.number ≡ f → RenewsUnit g f m n → MakesForAny t m [] n → Leads t 0 m n (TriesReclaim marks_count g e 1)
 meets_spared t marks_count g f e m n clean spared is renews runs = record {
   steps = [];
-  does = subst (λ (x : Bool × Bool × ℕ). MeetsAs x.0 x.1 g x.2 (progress 0 m [] n)) (λ i. (sym clean i, sym spared i, sym is i))
+  does = subst (λ (x : Bool × Bool × ℕ). TriesReclaimAs x.0 x.1 g x.2 (progress 0 m [] n)) (λ i. (sym clean i, sym spared i, sym is i))
       (record { no_page = refl; renews = renews; no_step = refl });
   moves = moves_none t m n runs (ap (λ (x : KnownMachine). x.frame_seat) renews.machine) (ap (λ (x : KnownMachine). x.counts) renews.machine);
 }
@@ -50,7 +50,7 @@ pub meets_tried : (t : KnownTable) (marks_count : Bool) (g f : ℕ) (e : Entry) 
 meets_tried t marks_count g f e m n answer given clean spared is evicts runs pages =
     subst (λ (p : ℕ). Leads t p m n (TriesReclaim marks_count g e 1)) (sym pages) (record {
       steps = evict_steps f answer;
-      does = subst (λ (x : Bool × Bool × ℕ). MeetsAs x.0 x.1 g x.2 (progress (unwrap_or answer 0) m (evict_steps f answer) n)) (λ i. (sym clean i, sym spared i, sym is i))
+      does = subst (λ (x : Bool × Bool × ℕ). TriesReclaimAs x.0 x.1 g x.2 (progress (unwrap_or answer 0) m (evict_steps f answer) n)) (λ i. (sym clean i, sym spared i, sym is i))
           (record { answer = answer; evicts = evicts; pages = refl; tries = refl });
       moves = moves_try t m n f answer evicts runs;
     })
@@ -80,7 +80,7 @@ tried_list m n g f list None is home = inl (ap (λ (x : KnownMachine). entries_i
 tried_list m n g f list (Some pages) is home =
     inr ([], evicted_entries m n g f pages list is home ∙ sym (append-nil (entries_without f (entries_in m g list))))
 
-met_as : (dirty spared : Bool) (m n : KnownMachine) (g f given : ℕ) (steps : Run) (list : LruList) → MeetsAs dirty spared g f (progress given m steps n)
+met_as : (dirty spared : Bool) (m n : KnownMachine) (g f given : ℕ) (steps : Run) (list : LruList) → TriesReclaimAs dirty spared g f (progress given m steps n)
     → (spared ≡ true → list ≡ Inactive) → home_of m.links f ≡ Some (record { owner = g; list = list }) → MetList g list f m n
 met_as true spared m n g f given steps list is inactive home = inl (ap (λ (x : KnownMachine). entries_in x g list) is.machine)
 met_as false true m n g f given steps list is inactive home =
@@ -108,11 +108,11 @@ try_misses m n f None is h home clean =
     omega (arith, a, one)
 try_misses m n f (Some pages) is h home clean = absurd (none-some h (sym (ap (λ (k : Link). k.home) is.list.forgotten) ∙ home))
 
-leaves_as : (dirty : Bool) (m n : KnownMachine) (g f given : ℕ) (steps : Run) → MeetsAs dirty false g f (progress given m steps n) → OnlyLeave m n
+leaves_as : (dirty : Bool) (m n : KnownMachine) (g f given : ℕ) (steps : Run) → TriesReclaimAs dirty false g f (progress given m steps n) → OnlyLeave m n
 leaves_as true m n g f given steps is x h home = ap (λ (k : KnownMachine). home_of k.links x) (sym is.machine) ∙ home
 leaves_as false m n g f given steps is x h home = try_leaves m n f is.answer is.evicts x h home
 
-misses_as : (dirty : Bool) (m n : KnownMachine) (g f given : ℕ) (steps : Run) → MeetsAs dirty false g f (progress given m steps n) → (link_at m.links f).is_dirty ≡ dirty
+misses_as : (dirty : Bool) (m n : KnownMachine) (g f given : ℕ) (steps : Run) → TriesReclaimAs dirty false g f (progress given m steps n) → (link_at m.links f).is_dirty ≡ dirty
     → (h : Home) → IsMissed m n f h
 misses_as true m n g f given steps is dirt h home clean =
     absurd (true≢false (sym dirt ∙ ap (λ (k : KnownMachine). (link_at k.links f).is_dirty) (sym is.machine) ∙ clean))

@@ -20,14 +20,14 @@ pub record TriesUnit (frame : ℕ) (done : Progress) : Type 0 where
   pub tries : done.steps ≡ evict_steps frame answer
 
 -- what is done with a unit, by whether it is dirty and whether it is spared: a dirty unit is left alone in any case
-abbrev pub MeetsAs : Bool → Bool → ℕ → ℕ → Reclaiming
-MeetsAs true is_spared group frame = GivesNothing
-MeetsAs false true group frame = SparesUnit group frame
-MeetsAs false false group frame = TriesUnit frame
+abbrev pub TriesReclaimAs : Bool → Bool → ℕ → ℕ → Reclaiming
+TriesReclaimAs true is_spared group frame = GivesNothing
+TriesReclaimAs false true group frame = SparesUnit group frame
+TriesReclaimAs false false group frame = TriesUnit frame
 
 -- what is done with a unit of the group while pages are wanted; a marked unit is spared if marks count
 abbrev pub TriesReclaim : Bool → ℕ → Entry → ℕ → Reclaiming
-TriesReclaim marks_count group unit want = MeetsAs unit.is_dirty (marks_count && unit.is_marked) group unit.number
+TriesReclaim marks_count group unit want = TriesReclaimAs unit.is_dirty (marks_count && unit.is_marked) group unit.number
 
 -- what is done with the units that are on one of the group's lists now, the oldest first
 abbrev pub ScansList : Bool → ℕ → LruList → ℕ → Reclaiming
