@@ -36,7 +36,7 @@ pub(crate) fn try_reclaim<N: BootName>(
     requires unit { unit ≡ entry_of machine.old.links frame }
     requires stands { home_of machine.old.links frame ≡ Some (record { owner = group; list = list }) }
     requires inactive { IsTrue marks_count → list ≡ Inactive }
-    ensures meets { Leads N.frames result machine.old machine.new (TriesReclaim marks_count group unit 1) }
+    ensures attempts { Leads N.frames result machine.old machine.new (TriesReclaim marks_count group unit 1) }
     ensures keeps { Keeps N.frames machine.old machine.new }
     ensures usage { UsageFalls group result machine.old machine.new }
 {

@@ -61,7 +61,7 @@ loop-met-preserved g c =
     (scan_more g.N.BootName.frames g.N.BootName.stocks c.args.marks_count c.args.group fits c.args.list c.args.want c.args.machine.now
     c.loop-met._met c.loop-met.given c.loop-met.next c.loop-met.machine c.spots-spots.ensures.consistent c.loop-met.invariant c.listed-units.result
     c.listed-units.ensures c.loop-met-test.true c.in-Some.unit c.in-Some.is c.try_reclaim.result c.try_reclaim.new.machine c.requires.inactive c.if-want-given.false
-    (omega (arith, small)) c.try_reclaim.ensures.meets c.try_reclaim.ensures.keeps c.try_reclaim.ensures.usage c.newer-next.result c.in-Some-frame.frame c.in-Some-frame.ensures.0
+    (omega (arith, small)) c.try_reclaim.ensures.attempts c.try_reclaim.ensures.keeps c.try_reclaim.ensures.usage c.newer-next.result c.in-Some-frame.frame c.in-Some-frame.ensures.0
     c.newer-next.ensures)
 
 pub returns : goal.returns

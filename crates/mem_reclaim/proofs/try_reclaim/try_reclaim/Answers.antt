@@ -4,8 +4,8 @@ use Rattle.mem_reclaim.proofs.Meeting.{meets_dirty, meets_spared, meets_tried}
 use Rattle.mem_reclaim.proofs.Keeping.{keeps_try}
 use Rattle.mem_reclaim.proofs.try_reclaim.try_reclaim.Goals as goal
 
-pub returns-clause-meets : goal.returns-clause-meets
-returns-clause-meets g c =
+pub returns-clause-attempts : goal.returns-clause-attempts
+returns-clause-attempts g c =
     meets_tried g.N.BootName.frames c.args.marks_count c.args.group c.args.frame c.args.unit _ _ c.evict.result c.unwrap_or.result c.if-unit.false
     (sym c.is_spared.ensures ∙ c.if-is_spared.false) (ap (λ (x : Entry). x.number) c.requires.unit) c.evict.ensures.evicts c.evict.ensures.steps
     c.unwrap_or.ensures
@@ -15,11 +15,11 @@ returns-clause-keeps g c =
     keeps_try g.N.BootName.frames _ _ c.args.frame c.evict.result c.evict.ensures.evicts c.evict.ensures.visit
     (sym (ap (λ (x : Entry). x.is_dirty) c.requires.unit) ∙ c.if-unit.false)
 
-pub returns-then-is_spared-clause-meets : goal.returns-then-is_spared-clause-meets
-returns-then-is_spared-clause-meets g c =
+pub returns-then-is_spared-clause-attempts : goal.returns-then-is_spared-clause-attempts
+returns-then-is_spared-clause-attempts g c =
     meets_spared g.N.BootName.frames c.args.marks_count c.args.group c.args.frame c.args.unit c.args.machine.now c.renew.new.self c.if-unit.false
     (sym c.is_spared.ensures ∙ c.if-is_spared.true) (ap (λ (x : Entry). x.number) c.requires.unit) c.renew.ensures.renews c.renew.ensures.steps
 
-pub returns-then-unit-clause-meets : goal.returns-then-unit-clause-meets
-returns-then-unit-clause-meets g c =
+pub returns-then-unit-clause-attempts : goal.returns-then-unit-clause-attempts
+returns-then-unit-clause-attempts g c =
     meets_dirty g.N.BootName.frames c.args.marks_count c.args.group c.args.unit c.args.machine.now c.if-unit.true
