@@ -73,7 +73,7 @@ pub(crate) fn is_below(charges: &Charges, group: GroupId, other: GroupId) -> boo
 }
 
 // The turn of a group number in a pass over the subtree of `group`.
-fn take_turn<N: BootName>(
+fn reclaim_group<N: BootName>(
     machine: &mut Machine<N>,
     tables: &Tables<N>,
     group: GroupId,
@@ -127,7 +127,7 @@ pub(crate) fn make_pass<N: BootName>(
         let Some(turn) = GroupId::of(number) else {
             unreachable!()
         };
-        given += take_turn(machine, tables, group, turn, want - given, is_first);
+        given += reclaim_group(machine, tables, group, turn, want - given, is_first);
     }
     let _spots = machine.spots(); // Called for its contract.
     given

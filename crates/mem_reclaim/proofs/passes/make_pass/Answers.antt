@@ -12,10 +12,10 @@ returns-then-want-given-clause-passes g c =
 
 pub loop-number-preserved : goal.loop-number-preserved
 loop-number-preserved g c =
-    let e = c.take_turn-given.ensures in
+    let e = c.reclaim_group-given.ensures in
     pass_more g.N.BootName.frames c.args.is_first c.args.group c.args.want c.args.machine.now c.loop-number.number c.loop-number.given c.loop-number.machine
-    c.loop-number.invariant c.loop-number-test.true c.if-want-given.false c.in-Some.turn c.in-Some.ensures.1 c.take_turn-given.result
-    c.take_turn-given.new.machine e.turns e.keeps e.usage e.few e.leaves e.missed
+    c.loop-number.invariant c.loop-number-test.true c.if-want-given.false c.in-Some.turn c.in-Some.ensures.1 c.reclaim_group-given.result
+    c.reclaim_group-given.new.machine e.turns e.keeps e.usage e.few e.leaves e.missed
 
 pub returns : goal.returns
 returns g c =

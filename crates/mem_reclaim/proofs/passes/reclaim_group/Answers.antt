@@ -5,7 +5,7 @@ use Rattle.group_charge.specs.Charges.{Ledger}
 use Rattle.mem_reclaim.specs.Moves.{Leads}
 use Rattle.mem_reclaim.specs.Passes.{TakesTurn}
 use Rattle.mem_reclaim.proofs.Passing.{turn_first, turn_none, turn_second}
-use Rattle.mem_reclaim.proofs.passes.take_turn.Goals as goal
+use Rattle.mem_reclaim.proofs.passes.reclaim_group.Goals as goal
 
 pub returns-then-not-is_below-clause-turns : goal.returns-then-not-is_below-clause-turns
 returns-then-not-is_below-clause-turns g c =
