@@ -18,7 +18,7 @@ use Rattle.mem_machine.proofs.Dirties.{owner_bound}
 use Rattle.mem_reclaim.specs.Wanted.{WhileWanted}
 use Rattle.mem_reclaim.specs.Moves.{Moves, Leads}
 use Rattle.mem_reclaim.specs.Units.{ScansList}
-use Rattle.mem_reclaim.specs.Passes.{AgesAndScans, TakesTurn, MakesPass}
+use Rattle.mem_reclaim.specs.Passes.{AgesAndScans, ReclaimsGroup, MakesPass}
 use Rattle.mem_reclaim.specs.Staying.{Keeps, OnlyLeave, IsMissed, MissedAll}
 use Rattle.mem_reclaim.proofs.Wanting.{SoFar, so_far_none, so_far_more, so_far_done, so_far_enough, rested}
 use Rattle.mem_reclaim.proofs.Moving.{moves_none, moves_both, moves_rest}
@@ -74,23 +74,23 @@ both_missed t m k n g first last only inactive active f Active =
 -- ---- a turn
 
 pub turn_first : (t : KnownTable) (g k want given : ℕ) (m n : KnownMachine) → in_subtree m.ledger.groups g k ≡ true
-    → Leads t given m n (AgesAndScans k want) → Leads t given m n (TakesTurn true g k want)
+    → Leads t given m n (AgesAndScans k want) → Leads t given m n (ReclaimsGroup true g k want)
 turn_first t g k want given m n inside leads = record { steps = leads.steps; does = inl (inside, leads.does); moves = leads.moves }
 
 pub turn_second : (t : KnownTable) (g k want given : ℕ) (m n : KnownMachine) → in_subtree m.ledger.groups g k ≡ true
     → Leads t given m n (WhileWanted (ScansList false k) (Inactive ∷ Active ∷ []) want)
-    → Leads t given m n (TakesTurn false g k want)
+    → Leads t given m n (ReclaimsGroup false g k want)
 turn_second t g k want given m n inside leads = record { steps = leads.steps; does = inl (inside, leads.does); moves = leads.moves }
 
 pub turn_none : (t : KnownTable) (first : Bool) (g k want : ℕ) (m : KnownMachine) → in_subtree m.ledger.groups g k ≡ false
-    → Leads t 0 m m (TakesTurn first g k want)
+    → Leads t 0 m m (ReclaimsGroup first g k want)
 turn_none t first g k want m outside = record { steps = []; does = inr (outside, rested m); moves = moves_rest t m }
 
 -- ---- a pass
 
 -- the numbers below k had their turn
 pub record PassSoFar (t : KnownTable) (first : Bool) (g want : ℕ) (m : KnownMachine) (k given : ℕ) (now : KnownMachine) : Type 0 where
-  pub so_far : SoFar t (TakesTurn first g) (range_with_len 0 64) want m (range_with_len k (64 - k)) given now
+  pub so_far : SoFar t (ReclaimsGroup first g) (range_with_len 0 64) want m (range_with_len k (64 - k)) given now
   pub keeps : Keeps t m now
   pub usage : current_of now.ledger g + given ≡ current_of m.ledger g
   pub few : given < want + 2 ^ 32
@@ -99,7 +99,7 @@ pub record PassSoFar (t : KnownTable) (first : Bool) (g want : ℕ) (m : KnownMa
 
 pub pass_none : (t : KnownTable) (first : Bool) (g want : ℕ) (m : KnownMachine) → PassSoFar t first g want m 0 0 m
 pass_none t first g want m = record {
-  so_far = so_far_none t (TakesTurn first g) (range_with_len 0 64) want m;
+  so_far = so_far_none t (ReclaimsGroup first g) (range_with_len 0 64) want m;
   keeps = keeps_none t m;
   usage = omega arith;
   few = omega arith;
@@ -114,21 +114,21 @@ range_next k lt =
 
 pub pass_more : (t : KnownTable) (first : Bool) (g want : ℕ) (m : KnownMachine) (k given : ℕ) (now : KnownMachine) → PassSoFar t first g want m k given now
     → k < 64 → given < want → (turn : ℕ) → turn ≡ k → (some : ℕ) (then : KnownMachine)
-    → Leads t some now then (TakesTurn first g turn (want - given))
+    → Leads t some now then (ReclaimsGroup first g turn (want - given))
     → Keeps t now then → current_of then.ledger g + some ≡ current_of now.ledger g → some < want - given + 2 ^ 32 → (first ≡ false → OnlyLeave now then)
     → (first ≡ false → some < want - given → in_subtree now.ledger.groups g turn ≡ true
     → (f : ℕ) (list : LruList) → IsMissed now then f (record { owner = turn; list = list }))
     → PassSoFar t first g want m (k + 1) (given + some) then
 pass_more t first g want m k given now s lt wanted turn at some then leads_turn keeps usage few leaves missed_turn =
-    let leads : Leads t some now then (TakesTurn first g k (want - given)) =
-    subst (λ (x : ℕ). Leads t some now then (TakesTurn first g x (want - given))) at leads_turn in
+    let leads : Leads t some now then (ReclaimsGroup first g k (want - given)) =
+    subst (λ (x : ℕ). Leads t some now then (ReclaimsGroup first g x (want - given))) at leads_turn in
     let missed : first ≡ false → some < want - given → in_subtree now.ledger.groups g k ≡ true
     → (f : ℕ) (list : LruList) → IsMissed now then f (record { owner = k; list = list }) =
     subst (λ (x : ℕ). first ≡ false → some < want - given → in_subtree now.ledger.groups g x ≡ true
     → (f : ℕ) (list : LruList) → IsMissed now then f (record { owner = x; list = list })) at missed_turn in
     record {
-      so_far = so_far_more t (TakesTurn first g) (range_with_len 0 64) want m k (range_with_len (k + 1) (64 - (k + 1))) given now
-          (subst (λ (l : List ℕ). SoFar t (TakesTurn first g) (range_with_len 0 64) want m l given now) (range_next k lt) s.so_far) wanted some then leads;
+      so_far = so_far_more t (ReclaimsGroup first g) (range_with_len 0 64) want m k (range_with_len (k + 1) (64 - (k + 1))) given now
+          (subst (λ (l : List ℕ). SoFar t (ReclaimsGroup first g) (range_with_len 0 64) want m l given now) (range_next k lt) s.so_far) wanted some then leads;
       keeps = keeps_both t m now then s.keeps keeps;
       usage = let a = s.usage in omega (arith, a, usage);
       few = omega (arith, wanted, few);
@@ -152,7 +152,7 @@ pub record PassEnds (t : KnownTable) (first : Bool) (g want : ℕ) (m : KnownMac
 pub pass_enough : (t : KnownTable) (first : Bool) (g want : ℕ) (m : KnownMachine) (k given : ℕ) (now : KnownMachine) → PassSoFar t first g want m k given now
     → want ≤ given → PassEnds t first g want m given now
 pass_enough t first g want m k given now s enough = record {
-  passes = so_far_enough t (TakesTurn first g) (range_with_len 0 64) want m (range_with_len k (64 - k)) given now s.so_far enough;
+  passes = so_far_enough t (ReclaimsGroup first g) (range_with_len 0 64) want m (range_with_len k (64 - k)) given now s.so_far enough;
   missed = λ off less. absurd (omega (arith, less, enough));
 }
 
@@ -162,8 +162,8 @@ range_none k le = let e : 0 ≡ 64 - k = omega (arith, le) in subst (λ (n : ℕ
 pub pass_done : (t : KnownTable) (w : Words) (first : Bool) (g want : ℕ) (m : KnownMachine) (k given : ℕ) (now : KnownMachine) → IsConsistent t w now
     → PassSoFar t first g want m k given now → 64 ≤ k → PassEnds t first g want m given now
 pass_done t w first g want m k given now ok s all = record {
-  passes = so_far_done t (TakesTurn first g) (range_with_len 0 64) want m given now
-      (subst (λ (l : List ℕ). SoFar t (TakesTurn first g) (range_with_len 0 64) want m l given now) (range_none k all) s.so_far);
+  passes = so_far_done t (ReclaimsGroup first g) (range_with_len 0 64) want m given now
+      (subst (λ (l : List ℕ). SoFar t (ReclaimsGroup first g) (range_with_len 0 64) want m l given now) (range_none k all) s.so_far);
   missed = λ off less f h inside home clean.
       let fits : h.owner < 64 = owner_bound t w now ok f h (home_inside t w now ok f h home) home in
       s.missed off less f h (omega (arith, fits, all)) (ap (λ (l : List Group). in_subtree l g h.owner) (sym s.keeps.groups) ∙ inside) home clean;

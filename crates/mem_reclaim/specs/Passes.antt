@@ -22,14 +22,14 @@ PassesGroup false group want = WhileWanted (ScansList false group) (Inactive ∷
 
 -- the turn of a group number in a pass over the subtree of `group`: nothing is done if no group of the subtree has this
 -- number
-abbrev pub TakesTurn : Bool → ℕ → ℕ → ℕ → Reclaiming
-TakesTurn is_first group turn want done =
+abbrev pub ReclaimsGroup : Bool → ℕ → ℕ → ℕ → Reclaiming
+ReclaimsGroup is_first group turn want done =
     ((in_subtree done.before.ledger.groups group turn ≡ true) × PassesGroup is_first turn want done)
     ⊎ ((in_subtree done.before.ledger.groups group turn ≡ false) × GivesNothing done)
 
 -- one pass over the groups of the subtree
 abbrev pub MakesPass : ℕ → Bool → ℕ → Reclaiming
-MakesPass group is_first want = WhileWanted (TakesTurn is_first group) (range_with_len 0 64) want
+MakesPass group is_first want = WhileWanted (ReclaimsGroup is_first group) (range_with_len 0 64) want
 
 -- a reclaim of this many pages from the subtree: the first pass and, if pages are still wanted, the second
 abbrev pub Reclaims : ℕ → ℕ → Reclaiming
