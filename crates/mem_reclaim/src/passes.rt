@@ -103,7 +103,7 @@ fn reclaim_group<N: BootName>(
 
 /// One pass over the groups of the subtree of `group`, by ascending number, as long as pages are wanted. Returns how
 /// many pages were freed.
-pub(crate) fn make_pass<N: BootName>(
+pub(crate) fn reclaim_pass<N: BootName>(
     machine: &mut Machine<N>,
     tables: &Tables<N>,
     group: GroupId,

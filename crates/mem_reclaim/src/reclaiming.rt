@@ -7,7 +7,7 @@ ghost use Rattle.mem_reclaim.specs.Moves.{Leads};
 ghost use Rattle.mem_reclaim.specs.Passes.{Reclaims};
 ghost use Rattle.mem_reclaim.specs.Staying.{Keeps, MissedAll};
 
-use crate::passes::make_pass;
+use crate::passes::reclaim_pass;
 use cpu_part::{BootName, Tables};
 use group_tree::group::GroupId;
 use mem_machine::Machine;
@@ -47,14 +47,14 @@ pub fn reclaim<N: BootName>(
         };
     }
     let _usage = machine.current(group); // At most this many pages are freed.
-    let first = make_pass(machine, tables, group, want, true);
+    let first = reclaim_pass(machine, tables, group, want, true);
     if want <= first {
         return Reclaimed {
             pages: first,
             tried_all: false,
         };
     }
-    let pages = first + make_pass(machine, tables, group, want - first, false);
+    let pages = first + reclaim_pass(machine, tables, group, want - first, false);
     Reclaimed {
         pages,
         tried_all: pages < want,

@@ -8,23 +8,23 @@ use Rattle.mem_reclaim.proofs.reclaiming.reclaim.Goals as goal
 pub returns-then-want-first-clause-reclaims : goal.returns-then-want-first-clause-reclaims
 returns-then-want-first-clause-reclaims g c =
     first_enough g.N.BootName.frames (MakesPass c.args.group) true false c.args.want c.args.machine.now
-    (let ne = c.if-want-eq0.false in omega (arith, ne)) c.make_pass-first.result
-    c.make_pass-first.new.machine c.make_pass-first.ensures.passes c.if-want-first.true
+    (let ne = c.if-want-eq0.false in omega (arith, ne)) c.reclaim_pass-first.result
+    c.reclaim_pass-first.new.machine c.reclaim_pass-first.ensures.passes c.if-want-first.true
 
 pub returns-clause-reclaims : goal.returns-clause-reclaims
 returns-clause-reclaims g c =
     both_done g.N.BootName.frames (MakesPass c.args.group) true false c.args.want c.args.machine.now
-    (let ne = c.if-want-eq0.false in omega (arith, ne)) c.make_pass-first.result
-    c.make_pass-first.new.machine c.make_pass-first.ensures.passes c.if-want-first.false c.make_pass.result c.make_pass.new.machine
-    c.make_pass.ensures.passes
+    (let ne = c.if-want-eq0.false in omega (arith, ne)) c.reclaim_pass-first.result
+    c.reclaim_pass-first.new.machine c.reclaim_pass-first.ensures.passes c.if-want-first.false c.reclaim_pass.result c.reclaim_pass.new.machine
+    c.reclaim_pass.ensures.passes
 
 pub returns-clause-keeps : goal.returns-clause-keeps
-returns-clause-keeps g c = keeps_both g.N.BootName.frames c.args.machine.now c.make_pass-first.new.machine c.make_pass.new.machine c.make_pass-first.ensures.keeps c.make_pass.ensures.keeps
+returns-clause-keeps g c = keeps_both g.N.BootName.frames c.args.machine.now c.reclaim_pass-first.new.machine c.reclaim_pass.new.machine c.reclaim_pass-first.ensures.keeps c.reclaim_pass.ensures.keeps
 
 pub returns-clause-missed : goal.returns-clause-missed
 returns-clause-missed g c less =
-    missed_then g.N.BootName.frames c.args.group c.args.want c.make_pass-first.result c.make_pass.result c.args.machine.now c.make_pass-first.new.machine
-    c.make_pass.new.machine c.make_pass-first.ensures.keeps (c.make_pass.ensures.missed refl) less
+    missed_then g.N.BootName.frames c.args.group c.args.want c.reclaim_pass-first.result c.reclaim_pass.result c.args.machine.now c.reclaim_pass-first.new.machine
+    c.reclaim_pass.new.machine c.reclaim_pass-first.ensures.keeps (c.reclaim_pass.ensures.missed refl) less
 
 pub returns-clause-tried_all : goal.returns-clause-tried_all
 returns-clause-tried_all g c = refl

@@ -1,6 +1,6 @@
 use Rattle.std.proofs.Common.{rules}
 use Rattle.mem_reclaim.proofs.Passing.{pass_none, pass_more, pass_enough, pass_done}
-use Rattle.mem_reclaim.proofs.passes.make_pass.Goals as goal
+use Rattle.mem_reclaim.proofs.passes.reclaim_pass.Goals as goal
 
 pub loop-number-init : goal.loop-number-init
 loop-number-init g c = pass_none g.N.BootName.frames c.args.is_first c.args.group c.args.want c.args.machine.now

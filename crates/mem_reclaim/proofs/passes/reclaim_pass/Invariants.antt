@@ -1,5 +1,5 @@
 use Rattle.mem_reclaim.proofs.Passing.{PassSoFar}
-use Rattle.mem_reclaim.proofs.passes.make_pass.Given as goal
+use Rattle.mem_reclaim.proofs.passes.reclaim_pass.Given as goal
 
 abbrev pub invariant-loop-number : goal.invariant-loop-number
 invariant-loop-number g l = PassSoFar g.N.BootName.frames l.is_first l.group l.want l.fn.machine l.number l.given l.machine
