@@ -18,7 +18,7 @@ use Rattle.mem_machine.proofs.Dirties.{owner_bound}
 use Rattle.mem_reclaim.specs.Wanted.{WhileWanted}
 use Rattle.mem_reclaim.specs.Moves.{Moves, Leads}
 use Rattle.mem_reclaim.specs.Units.{ScansList}
-use Rattle.mem_reclaim.specs.Passes.{AgesAndScans, ReclaimsGroup, MakesPass}
+use Rattle.mem_reclaim.specs.Passes.{AgesAndScans, ReclaimsGroup, ReclaimsPass}
 use Rattle.mem_reclaim.specs.Staying.{Keeps, OnlyLeave, IsMissed, MissedAll}
 use Rattle.mem_reclaim.proofs.Wanting.{SoFar, so_far_none, so_far_more, so_far_done, so_far_enough, rested}
 use Rattle.mem_reclaim.proofs.Moving.{moves_none, moves_both, moves_rest}
@@ -146,7 +146,7 @@ pass_more t first g want m k given now s lt wanted turn at some then leads_turn 
     }
 
 pub record PassEnds (t : KnownTable) (first : Bool) (g want : ℕ) (m : KnownMachine) (given : ℕ) (now : KnownMachine) : Type 0 where
-  pub passes : Leads t given m now (MakesPass g first want)
+  pub passes : Leads t given m now (ReclaimsPass g first want)
   pub missed : first ≡ false → given < want → MissedAll g m now
 
 pub pass_enough : (t : KnownTable) (first : Bool) (g want : ℕ) (m : KnownMachine) (k given : ℕ) (now : KnownMachine) → PassSoFar t first g want m k given now

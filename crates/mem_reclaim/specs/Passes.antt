@@ -28,9 +28,9 @@ ReclaimsGroup is_first group turn want done =
     ⊎ ((in_subtree done.before.ledger.groups group turn ≡ false) × GivesNothing done)
 
 -- one pass over the groups of the subtree
-abbrev pub MakesPass : ℕ → Bool → ℕ → Reclaiming
-MakesPass group is_first want = WhileWanted (ReclaimsGroup is_first group) (range_with_len 0 64) want
+abbrev pub ReclaimsPass : ℕ → Bool → ℕ → Reclaiming
+ReclaimsPass group is_first want = WhileWanted (ReclaimsGroup is_first group) (range_with_len 0 64) want
 
 -- a reclaim of this many pages from the subtree: the first pass and, if pages are still wanted, the second
 abbrev pub Reclaims : ℕ → ℕ → Reclaiming
-Reclaims group want = WhileWanted (MakesPass group) (true ∷ false ∷ []) want
+Reclaims group want = WhileWanted (ReclaimsPass group) (true ∷ false ∷ []) want

@@ -4,7 +4,7 @@ ghost use Rattle.std.specs.Prelude.{◌≡◌, ◌<◌, ◌+◌, ◌^◌, true, 
 ghost use Rattle.group_tree.specs.Groups.{has_group, in_subtree};
 ghost use Rattle.group_charge.specs.Charges.{current_of};
 ghost use Rattle.mem_reclaim.specs.Moves.{Leads};
-ghost use Rattle.mem_reclaim.specs.Passes.{PassesGroup, ReclaimsGroup, MakesPass};
+ghost use Rattle.mem_reclaim.specs.Passes.{PassesGroup, ReclaimsGroup, ReclaimsPass};
 ghost use Rattle.mem_reclaim.specs.Staying.{Keeps, MissedAll, MissedOfGroup, OnlyLeave, UsageFalls};
 
 use crate::scan::scan;
@@ -111,7 +111,7 @@ pub(crate) fn reclaim_pass<N: BootName>(
     is_first: bool,
 ) -> u64
     requires there { IsTrue (has_group machine.old.ledger.groups group) }
-    ensures passes { Leads N.frames result machine.old machine.new (MakesPass group is_first want) }
+    ensures passes { Leads N.frames result machine.old machine.new (ReclaimsPass group is_first want) }
     ensures keeps { Keeps N.frames machine.old machine.new }
     ensures usage { current_of machine.new.ledger group + result ≡ current_of machine.old.ledger group }
     ensures few { result < want + 2 ^ 32 }

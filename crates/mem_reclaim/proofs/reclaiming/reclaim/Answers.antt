@@ -1,5 +1,5 @@
 use Rattle.std.proofs.Common.{rules, false, true, refl, arith}
-use Rattle.mem_reclaim.specs.Passes.{MakesPass}
+use Rattle.mem_reclaim.specs.Passes.{ReclaimsPass}
 use Rattle.mem_reclaim.proofs.Wanting.{first_enough, both_done}
 use Rattle.mem_reclaim.proofs.Keeping.{keeps_both}
 use Rattle.mem_reclaim.proofs.Passing.{missed_then}
@@ -7,13 +7,13 @@ use Rattle.mem_reclaim.proofs.reclaiming.reclaim.Goals as goal
 
 pub returns-then-want-first-clause-reclaims : goal.returns-then-want-first-clause-reclaims
 returns-then-want-first-clause-reclaims g c =
-    first_enough g.N.BootName.frames (MakesPass c.args.group) true false c.args.want c.args.machine.now
+    first_enough g.N.BootName.frames (ReclaimsPass c.args.group) true false c.args.want c.args.machine.now
     (let ne = c.if-want-eq0.false in omega (arith, ne)) c.reclaim_pass-first.result
     c.reclaim_pass-first.new.machine c.reclaim_pass-first.ensures.passes c.if-want-first.true
 
 pub returns-clause-reclaims : goal.returns-clause-reclaims
 returns-clause-reclaims g c =
-    both_done g.N.BootName.frames (MakesPass c.args.group) true false c.args.want c.args.machine.now
+    both_done g.N.BootName.frames (ReclaimsPass c.args.group) true false c.args.want c.args.machine.now
     (let ne = c.if-want-eq0.false in omega (arith, ne)) c.reclaim_pass-first.result
     c.reclaim_pass-first.new.machine c.reclaim_pass-first.ensures.passes c.if-want-first.false c.reclaim_pass.result c.reclaim_pass.new.machine
     c.reclaim_pass.ensures.passes
