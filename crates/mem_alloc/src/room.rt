@@ -12,7 +12,7 @@ use cpu_part::{BootName, Tables};
 use group_tree::group::GroupId;
 use kill_notes::note::Note;
 use mem_machine::Machine;
-use mem_reclaim::make_rounds;
+use mem_reclaim::reclaim_rounds;
 
 // Reclaims in rounds from the subtree of the group, until its limit has room for this many pages.
 fn reclaim_for<N: BootName>(
@@ -25,7 +25,7 @@ fn reclaim_for<N: BootName>(
     ensures reclaims { ByStepsOfAny N.frames (ReclaimsFor limited pages) machine.old machine.new }
 {
     if let Some(limit) = machine.charges().max(limited) {
-        make_rounds(machine, tables, limited, pages, limit);
+        reclaim_rounds(machine, tables, limited, pages, limit);
     }
 }
 

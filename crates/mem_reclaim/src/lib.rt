@@ -21,6 +21,6 @@ mod victims;
 pub use amounts::reclaim_pages;
 pub use kills::kill;
 pub use reclaiming::{Reclaimed, reclaim};
-pub use rounds::{MAX_ROUNDS, make_rounds};
+pub use rounds::{MAX_ROUNDS, reclaim_rounds};
 pub use sets::Killed;
 pub use victims::victim;

@@ -61,7 +61,7 @@ pub(crate) fn make_round<N: BootName>(
 /// rounds. Each round wants the pages that are missing when it begins, and is noted; one that freed none is the last.
 /// Returns how many pages were freed. If they weren't enough, each clean unit that the subtree still keeps was tried
 /// and missed.
-pub fn make_rounds<N: BootName>(
+pub fn reclaim_rounds<N: BootName>(
     machine: &mut Machine<N>,
     tables: &Tables<N>,
     group: GroupId,

@@ -3,7 +3,7 @@ use Rattle.group_tree.specs.Groups.{has_group}
 use Rattle.group_charge.specs.Charges.{Ledger, current_of}
 use Rattle.mem_reclaim.specs.Rounds.{pages_missing}
 use Rattle.mem_reclaim.proofs.Rounding.{rounds_none, rounds_enough, rounds_more, rounds_end, rounds_done}
-use Rattle.mem_reclaim.proofs.rounds.make_rounds.Goals as goal
+use Rattle.mem_reclaim.proofs.rounds.reclaim_rounds.Goals as goal
 
 pub loop-round-init : goal.loop-round-init
 loop-round-init g c = rounds_none g.N.BootName.frames c.args.group c.args.need c.args.limit c.args.machine.now
