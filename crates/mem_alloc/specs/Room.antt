@@ -13,7 +13,7 @@ use Rattle.mem_machine.specs.Steps.{Drain, over_steps, note_max_steps, drain_sto
 use Rattle.mem_machine.specs.Stocks.{DrainsAllBelow, AreDrained}
 use Rattle.mem_reclaim.specs.Wanted.{GivesNothing, Reclaiming, progress}
 use Rattle.mem_reclaim.specs.Moves.{Moves}
-use Rattle.mem_reclaim.specs.Rounds.{MakesRounds, max_rounds, pages_missing}
+use Rattle.mem_reclaim.specs.Rounds.{ReclaimsRounds, max_rounds, pages_missing}
 use Rattle.mem_reclaim.specs.Staying.{Keeps, MissedAll}
 use Rattle.mem_alloc.specs.declared.faults.AllocFault.{AllocFault}
 use Rattle.mem_alloc.specs.declared.faults.AllocFault.TheVariants.{Over, NoFrames, RequesterKilled}
@@ -52,7 +52,7 @@ pub record ClearsBelow (limited pages : ℕ) (way : Course KnownMachine) : Type 
 -- missing, in at most `max_rounds` rounds
 abbrev pub ReclaimsBefore : Option ℕ → ℕ → ℕ → Reclaiming
 ReclaimsBefore None limited pages = GivesNothing
-ReclaimsBefore (Some limit) limited pages = MakesRounds limited (pages_missing limited pages limit) max_rounds
+ReclaimsBefore (Some limit) limited pages = ReclaimsRounds limited (pages_missing limited pages limit) max_rounds
 
 -- Clean units of the group's subtree are freed in rounds, `given` pages in all, until its limit has room for this many
 -- pages. If it still has none, each clean unit that the subtree still keeps was tried and missed.

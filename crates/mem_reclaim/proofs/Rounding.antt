@@ -11,7 +11,7 @@ use Rattle.mem_machine.specs.Machines.{KnownMachine, with_note}
 use Rattle.mem_reclaim.specs.Wanted.{GivesNothing, progress}
 use Rattle.mem_reclaim.specs.Moves.{Moves, Leads}
 use Rattle.mem_reclaim.specs.Passes.{Reclaims}
-use Rattle.mem_reclaim.specs.Rounds.{MakesOneRound, MakesRounds, pages_missing, round_note}
+use Rattle.mem_reclaim.specs.Rounds.{MakesOneRound, ReclaimsRounds, pages_missing, round_note}
 use Rattle.mem_reclaim.specs.Staying.{Keeps, MissedAll}
 use Rattle.mem_reclaim.proofs.Wanting.{rested}
 use Rattle.mem_reclaim.proofs.Moving.{moves_rest, moves_both}
@@ -68,7 +68,7 @@ round_noted t g number want m given x n leads keeps noted =
 
 -- what rounds left: pages of the group's subtree were freed and, if they are too few, each clean unit was tried
 pub record RoundsGive (t : KnownTable) (g need limit : ℕ) (m : KnownMachine) (given : ℕ) (now : KnownMachine) : Type 0 where
-  pub rounds : Leads t given m now (MakesRounds g (pages_missing g need limit) 16)
+  pub rounds : Leads t given m now (ReclaimsRounds g (pages_missing g need limit) 16)
   pub keeps : Keeps t m now
   pub usage : current_of now.ledger g + given ≡ current_of m.ledger g
   pub missed : limit < current_of now.ledger g + need → MissedAll g m now
@@ -76,8 +76,8 @@ pub record RoundsGive (t : KnownTable) (g need limit : ℕ) (m : KnownMachine) (
 -- this many rounds were made, so what the remaining rounds do makes up the whole
 pub record RoundsSoFar (t : KnownTable) (g need limit : ℕ) (m : KnownMachine) (made given : ℕ) (now : KnownMachine) : Type 0 where
   pub steps : Run
-  pub whole : (more : ℕ) (rest : Run) (n : KnownMachine) → MakesRounds g (pages_missing g need limit) (16 - made) (progress more now rest n)
-      → MakesRounds g (pages_missing g need limit) 16 (progress (given + more) m (steps ++ rest) n)
+  pub whole : (more : ℕ) (rest : Run) (n : KnownMachine) → ReclaimsRounds g (pages_missing g need limit) (16 - made) (progress more now rest n)
+      → ReclaimsRounds g (pages_missing g need limit) 16 (progress (given + more) m (steps ++ rest) n)
   pub moves : Moves t m given steps now
   pub keeps : Keeps t m now
   pub usage : current_of now.ledger g + given ≡ current_of m.ledger g
@@ -90,7 +90,7 @@ module _ (t : KnownTable) (g need limit : ℕ) (m : KnownMachine) where
     steps = [];
     whole = λ more rest n h.
         let d : more ≡ 0 + more = omega arith in
-        subst (λ (x : ℕ). MakesRounds g (pages_missing g need limit) 16 (progress x m rest n)) d h;
+        subst (λ (x : ℕ). ReclaimsRounds g (pages_missing g need limit) 16 (progress x m rest n)) d h;
     moves = moves_rest t m;
     keeps = keeps_none t m;
     usage = omega arith;
@@ -100,13 +100,13 @@ module _ (t : KnownTable) (g need limit : ℕ) (m : KnownMachine) where
 
   module _ (made given : ℕ) (now : KnownMachine) (so : RoundsSoFar t g need limit m made given now) where
     -- nothing more is done
-    ended : MakesRounds g (pages_missing g need limit) (16 - made) (progress 0 now [] now)
-        → Leads t given m now (MakesRounds g (pages_missing g need limit) 16)
+    ended : ReclaimsRounds g (pages_missing g need limit) (16 - made) (progress 0 now [] now)
+        → Leads t given m now (ReclaimsRounds g (pages_missing g need limit) 16)
     ended rest =
         let d : given + 0 ≡ given = omega arith in
         record {
           steps = so.steps;
-          does = subst (λ (y : ℕ × Run). MakesRounds g (pages_missing g need limit) 16 (progress y.0 m y.1 now)) (λ i. (d i, append-nil so.steps i))
+          does = subst (λ (y : ℕ × Run). ReclaimsRounds g (pages_missing g need limit) 16 (progress y.0 m y.1 now)) (λ i. (d i, append-nil so.steps i))
               (so.whole 0 [] now rest);
           moves = so.moves;
         }
@@ -116,7 +116,7 @@ module _ (t : KnownTable) (g need limit : ℕ) (m : KnownMachine) where
     rounds_done all =
         let e : 0 ≡ 16 - made = omega (arith, all) in
         record {
-          rounds = ended (subst (λ (k : ℕ). MakesRounds g (pages_missing g need limit) k (progress 0 now [] now)) e (rested now));
+          rounds = ended (subst (λ (k : ℕ). ReclaimsRounds g (pages_missing g need limit) k (progress 0 now [] now)) e (rested now));
           keeps = so.keeps;
           usage = so.usage;
           missed = so.missed (omega (arith, all));
@@ -129,7 +129,7 @@ module _ (t : KnownTable) (g need limit : ℕ) (m : KnownMachine) where
       -- no page is missing
       pub rounds_enough : pages_missing g need limit now.ledger ≡ 0 → RoundsGive t g need limit m given now
       rounds_enough none = record {
-        rounds = ended (subst (λ (k : ℕ). MakesRounds g (pages_missing g need limit) k (progress 0 now [] now)) next_left (inl (none, rested now)));
+        rounds = ended (subst (λ (k : ℕ). ReclaimsRounds g (pages_missing g need limit) k (progress 0 now [] now)) next_left (inl (none, rested now)));
         keeps = so.keeps;
         usage = so.usage;
         missed = λ over. absurd (omega (arith, none, over));
@@ -163,11 +163,11 @@ module _ (t : KnownTable) (g need limit : ℕ) (m : KnownMachine) where
 
         -- the round and what comes after it make up what was left
         goes_on : (more : ℕ) (rest : Run) (n : KnownMachine)
-            → ((some ≡ 0) × GivesNothing (progress more then rest n)) ⊎ ((1 ≤ some) × MakesRounds g (pages_missing g need limit) (16 - (made + 1)) (progress more then rest n))
-            → MakesRounds g (pages_missing g need limit) 16 (progress (given + some + more) m (so.steps ++ (leads.steps ++ rest)) n)
+            → ((some ≡ 0) × GivesNothing (progress more then rest n)) ⊎ ((1 ≤ some) × ReclaimsRounds g (pages_missing g need limit) (16 - (made + 1)) (progress more then rest n))
+            → ReclaimsRounds g (pages_missing g need limit) 16 (progress (given + some + more) m (so.steps ++ (leads.steps ++ rest)) n)
         goes_on more rest n h =
             let d : given + (some + more) ≡ given + some + more = omega arith in
-            let one : MakesRounds g (pages_missing g need limit) (suc (16 - (made + 1))) (progress (some + more) now (leads.steps ++ rest) n) =
+            let one : ReclaimsRounds g (pages_missing g need limit) (suc (16 - (made + 1))) (progress (some + more) now (leads.steps ++ rest) n) =
             inr (
               omega (arith, wants, wanted),
               record {
@@ -182,15 +182,15 @@ module _ (t : KnownTable) (g need limit : ℕ) (m : KnownMachine) where
                 steps_are = refl;
               },
             ) in
-            subst (λ (y : ℕ). MakesRounds g (pages_missing g need limit) 16 (progress y m (so.steps ++ (leads.steps ++ rest)) n)) d
+            subst (λ (y : ℕ). ReclaimsRounds g (pages_missing g need limit) 16 (progress y m (so.steps ++ (leads.steps ++ rest)) n)) d
             (so.whole (some + more) (leads.steps ++ rest) n
-            (subst (λ (k : ℕ). MakesRounds g (pages_missing g need limit) k (progress (some + more) now (leads.steps ++ rest) n)) next_left one))
+            (subst (λ (k : ℕ). ReclaimsRounds g (pages_missing g need limit) k (progress (some + more) now (leads.steps ++ rest) n)) next_left one))
 
         pub rounds_more : some ≢ 0 → current_of now.ledger g < 2 ^ 32 → RoundsSoFar t g need limit m (made + 1) (given + some) then
         rounds_more gave low = record {
           steps = so.steps ++ leads.steps;
           whole = λ more rest n h.
-              subst (λ (y : Run). MakesRounds g (pages_missing g need limit) 16 (progress (given + some + more) m y n)) (sym (append_assoc so.steps leads.steps rest))
+              subst (λ (y : Run). ReclaimsRounds g (pages_missing g need limit) 16 (progress (given + some + more) m y n)) (sym (append_assoc so.steps leads.steps rest))
               (goes_on more rest n (inr (omega (arith, gave), h)));
           moves = moves_on;
           keeps = keeps_on;
@@ -206,7 +206,7 @@ module _ (t : KnownTable) (g need limit : ℕ) (m : KnownMachine) where
             record {
               rounds = record {
                 steps = so.steps ++ leads.steps;
-                does = subst (λ (y : ℕ × Run). MakesRounds g (pages_missing g need limit) 16 (progress y.0 m (so.steps ++ y.1) then))
+                does = subst (λ (y : ℕ × Run). ReclaimsRounds g (pages_missing g need limit) 16 (progress y.0 m (so.steps ++ y.1) then))
                     (λ i. (d i, append-nil leads.steps i)) (goes_on 0 [] then (inl (none, rested then)));
                 moves = moves_on;
               };

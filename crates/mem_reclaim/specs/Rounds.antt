@@ -38,16 +38,16 @@ UnlessNone Does some done = ((some ≡ 0) × GivesNothing done) ⊎ ((1 ≤ some
 -- At most `rounds` of the `max_rounds` rounds of reclaim from the group's subtree. `missing` says how many pages are
 -- missing, and each round wants the pages that are missing when it begins. The rounds end as soon as no page is
 -- missing, or after a round that freed none.
-abbrev pub MakesRounds : ℕ → (Ledger → ℕ) → ℕ → Reclaiming
-MakesRounds group missing zero done = GivesNothing done
-MakesRounds group missing (suc rounds) done =
+abbrev pub ReclaimsRounds : ℕ → (Ledger → ℕ) → ℕ → Reclaiming
+ReclaimsRounds group missing zero done = GivesNothing done
+ReclaimsRounds group missing (suc rounds) done =
     ((missing done.before.ledger ≡ 0) × GivesNothing done)
     ⊎ ((1 ≤ missing done.before.ledger)
     × BothGive (MakesOneRound group (max_rounds - rounds) (missing done.before.ledger))
-    (UnlessNone (MakesRounds group missing rounds)) done)
+    (UnlessNone (ReclaimsRounds group missing rounds)) done)
 
 -- This many pages of the group's subtree are reclaimed, in at most 16 rounds. Each round wants what is still missing:
 -- the pages to free so that the usage with the pages asked for is at most the usage before.
 abbrev pub ReclaimsAmount : (group asked : ℕ) → Reclaiming
 ReclaimsAmount group asked done =
-    MakesRounds group (pages_missing group asked (current_of done.before.ledger group)) max_rounds done
+    ReclaimsRounds group (pages_missing group asked (current_of done.before.ledger group)) max_rounds done

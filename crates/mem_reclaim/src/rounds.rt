@@ -4,7 +4,7 @@ ghost use Rattle.std.specs.Prelude.{◌≡◌, ◌<◌, ◌+◌, ◌^◌, IsTrue
 ghost use Rattle.group_tree.specs.Groups.{has_group};
 ghost use Rattle.group_charge.specs.Charges.{current_of};
 ghost use Rattle.mem_reclaim.specs.Moves.{Leads};
-ghost use Rattle.mem_reclaim.specs.Rounds.{MakesOneRound, MakesRounds, max_rounds, pages_missing};
+ghost use Rattle.mem_reclaim.specs.Rounds.{MakesOneRound, ReclaimsRounds, max_rounds, pages_missing};
 ghost use Rattle.mem_reclaim.specs.Staying.{Keeps, MissedAll};
 
 use crate::reclaiming::{Reclaimed, reclaim};
@@ -70,7 +70,7 @@ pub fn reclaim_rounds<N: BootName>(
 ) -> u64
     requires there { IsTrue (has_group machine.old.ledger.groups group) }
     ensures rounds { Leads N.frames result machine.old machine.new
-        (MakesRounds group (pages_missing group need limit) max_rounds) }
+        (ReclaimsRounds group (pages_missing group need limit) max_rounds) }
     ensures missed { limit < current_of machine.new.ledger group + need → MissedAll group machine.old machine.new }
     ensures usage { current_of machine.new.ledger group + result ≡ current_of machine.old.ledger group }
     ensures keeps { Keeps N.frames machine.old machine.new }

@@ -12,7 +12,7 @@ use Rattle.mem_machine.specs.Steps.{drain_stocks_steps, set_max_steps}
 use Rattle.mem_machine.specs.Stocks.{DrainsSubtree, AreDrained}
 use Rattle.mem_machine.specs.Local.{MakesForAny, side}
 use Rattle.mem_reclaim.specs.Moves.{Leads}
-use Rattle.mem_reclaim.specs.Rounds.{MakesRounds, pages_missing}
+use Rattle.mem_reclaim.specs.Rounds.{ReclaimsRounds, pages_missing}
 use Rattle.mem_reclaim.specs.Staying.{Keeps, MissedAll}
 use Rattle.step_rules.specs.After.{Run}
 use Rattle.mem_alloc.specs.Kills.{KillsFor}
@@ -84,7 +84,7 @@ above_visit t g limit m n c b v = elim (cases_lt limit (current_of m.ledger g)) 
 -- the stocks are drained, and then the rounds are made
 pub lowered_by : (t : KnownTable) (g limit pages given : ℕ) (m x n : KnownMachine) → DrainsSubtree t g pages m x
     → AreDrained g t.cpus x
-    → Leads t given x n (MakesRounds g (pages_missing g 0 limit) 16)
+    → Leads t given x n (ReclaimsRounds g (pages_missing g 0 limit) 16)
     → (limit < current_of n.ledger g + 0 → MissedAll g x n) → Keeps t x n → ByStepsOfAny t (LowersUsage g limit) m n
 lowered_by t g limit pages given m x n sub none leads missed keeps = record {
   steps = drain_stocks_steps sub.drains ++ leads.steps;

@@ -7,7 +7,7 @@ use Rattle.mem_machine.specs.Local.{MakesForAny}
 use Rattle.mem_machine.specs.Steps.{Drain, drain_stocks_steps}
 use Rattle.mem_machine.specs.Stocks.{DrainsAllBelow, AreDrained}
 use Rattle.mem_reclaim.specs.Moves.{Leads}
-use Rattle.mem_reclaim.specs.Rounds.{MakesRounds, max_rounds, pages_missing}
+use Rattle.mem_reclaim.specs.Rounds.{ReclaimsRounds, max_rounds, pages_missing}
 use Rattle.mem_reclaim.specs.Staying.{Keeps, MissedAll}
 use Rattle.mem_alloc.specs.Room.{with_limit_noted}
 use Rattle.mem_alloc.specs.Kills.{KillsFor}
@@ -23,7 +23,7 @@ pub record LowersUsage (group limit : ℕ) (way : Course KnownMachine) : Type 0 
   pub none_held : AreDrained group way.table.cpus drained
   pub drain_runs : MakesForAny way.table way.before (drain_stocks_steps drains) drained
   pub given : ℕ
-  pub reclaims : Leads way.table given drained way.after (MakesRounds group (pages_missing group 0 limit) max_rounds)
+  pub reclaims : Leads way.table given drained way.after (ReclaimsRounds group (pages_missing group 0 limit) max_rounds)
   pub missed : limit < current_of way.after.ledger group → MissedAll group drained way.after
   pub keeps : Keeps way.table drained way.after
   pub steps_are : way.steps ≡ drain_stocks_steps drains ++ reclaims.steps
