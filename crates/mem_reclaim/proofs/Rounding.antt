@@ -1,4 +1,4 @@
--- Rounds of reclaim, as far as they were made. Serves `make_round` and `reclaim_rounds`.
+-- Rounds of reclaim, as far as they were made. Serves `reclaim_round` and `reclaim_rounds`.
 use Rattle.std.proofs.Common.{◌≡◌, ◌≢◌, ◌⊎◌, ℕ, suc, ◌+◌, ◌-◌, ◌*◌, ◌^◌, ◌<◌, ◌≤◌, Bool, true, [], ◌++◌, refl, sym, ◌∙◌, subst, inl, inr, arith}
 use Rattle.std.specs.Prelude.{nat_lt}
 use Rattle.std.proofs.lemmas.Bool.{lt-ltb}

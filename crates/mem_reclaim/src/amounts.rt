@@ -7,7 +7,7 @@ ghost use Rattle.mem_reclaim.specs.Moves.{Leads};
 ghost use Rattle.mem_reclaim.specs.Rounds.{ReclaimsAmount};
 ghost use Rattle.mem_reclaim.specs.Staying.{Keeps, MissedAll};
 
-use crate::rounds::{MAX_ROUNDS, make_round};
+use crate::rounds::{MAX_ROUNDS, reclaim_round};
 use cpu_part::{BootName, Tables};
 use group_tree::group::GroupId;
 use mem_machine::Machine;
@@ -34,7 +34,7 @@ pub fn reclaim_pages<N: BootName>(
         if asked <= freed {
             return freed;
         }
-        let pages = make_round(machine, tables, group, round + 1, asked - freed).pages;
+        let pages = reclaim_round(machine, tables, group, round + 1, asked - freed).pages;
         freed += pages;
         if pages == 0 {
             return freed;

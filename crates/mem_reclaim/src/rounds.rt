@@ -29,7 +29,7 @@ fn missing(charges: &Charges, group: GroupId, need: u32, limit: u32) -> u64
 
 /// Makes the round of this number, from 1, for a group, in which `want` pages are wanted. It is noted with what it
 /// tried.
-pub(crate) fn make_round<N: BootName>(
+pub(crate) fn reclaim_round<N: BootName>(
     machine: &mut Machine<N>,
     tables: &Tables<N>,
     group: GroupId,
@@ -81,7 +81,7 @@ pub fn reclaim_rounds<N: BootName>(
         if want == 0 {
             return given;
         }
-        let pages = make_round(machine, tables, group, round + 1, want).pages;
+        let pages = reclaim_round(machine, tables, group, round + 1, want).pages;
         given += pages;
         if pages == 0 {
             return given;

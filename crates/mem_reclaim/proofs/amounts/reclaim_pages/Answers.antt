@@ -23,14 +23,14 @@ pub returns-then-pages-eq0 : goal.returns-then-pages-eq0
 returns-then-pages-eq0 g c =
     let start : ℕ = current_of c.args.machine.now.ledger c.args.group in
     let want : ℕ = c.args.asked - c.loop-round.freed in
-    let e = c.make_round-pages.ensures in
+    let e = c.reclaim_round-pages.ensures in
     let before = c.loop-round.invariant.usage in
     let more = c.if-asked-freed.false in
     let wants : want ≡ pages_missing c.args.group c.args.asked start c.loop-round.machine.ledger = omega (arith, before, more) in
     let wanted : want ≢ 0 = λ none. omega (arith, more, none) in
     let h = rounds_end g.N.BootName.frames c.args.group c.args.asked start c.args.machine.now c.loop-round.round
     c.loop-round.freed c.loop-round.machine c.loop-round.invariant c.loop-round-test.true want
-    c.make_round-pages.result.pages c.make_round-pages.new.machine c.make_round-pages.result.tried_all wants wanted e.makes
+    c.reclaim_round-pages.result.pages c.reclaim_round-pages.new.machine c.reclaim_round-pages.result.tried_all wants wanted e.makes
     e.tried_all e.missed e.usage e.keeps c.if-pages-eq0.true in
     record {
       rounds = record { steps = h.rounds.steps; does = h.rounds.does; moves = h.rounds.moves };
@@ -43,7 +43,7 @@ pub loop-round-preserved : goal.loop-round-preserved
 loop-round-preserved g c =
     let start : ℕ = current_of c.args.machine.now.ledger c.args.group in
     let want : ℕ = c.args.asked - c.loop-round.freed in
-    let e = c.make_round-pages.ensures in
+    let e = c.reclaim_round-pages.ensures in
     let before = c.loop-round.invariant.usage in
     let more = c.if-asked-freed.false in
     let wants : want ≡ pages_missing c.args.group c.args.asked start c.loop-round.machine.ledger = omega (arith, before, more) in
@@ -53,7 +53,7 @@ loop-round-preserved g c =
     let low : current_of c.loop-round.machine.ledger c.args.group < 2 ^ 32 = omega (arith, is, fits, before) in
     rounds_more g.N.BootName.frames c.args.group c.args.asked start c.args.machine.now c.loop-round.round
     c.loop-round.freed c.loop-round.machine c.loop-round.invariant c.loop-round-test.true want
-    c.make_round-pages.result.pages c.make_round-pages.new.machine c.make_round-pages.result.tried_all wants wanted e.makes
+    c.reclaim_round-pages.result.pages c.reclaim_round-pages.new.machine c.reclaim_round-pages.result.tried_all wants wanted e.makes
     e.tried_all e.missed e.usage e.keeps c.if-pages-eq0.false low
 
 pub returns : goal.returns

@@ -20,36 +20,36 @@ returns-then-want-eq0 g c =
     c.loop-round.machine c.loop-round.invariant c.loop-round-test.true none in
     record { rounds = h.rounds; missed = h.missed; usage = h.usage; keeps = h.keeps }
 
-pub make_round-pages-requires : goal.make_round-pages-requires
-make_round-pages-requires g c = record { there = ap (λ l. has_group l c.args.group) c.loop-round.invariant.keeps.groups ∙ c.requires.there }
+pub reclaim_round-pages-requires : goal.reclaim_round-pages-requires
+reclaim_round-pages-requires g c = record { there = ap (λ l. has_group l c.args.group) c.loop-round.invariant.keeps.groups ∙ c.requires.there }
 
 pub overflow_add-given : goal.overflow_add-given
 overflow_add-given g c =
     let low : current_of c.loop-round.machine.ledger c.args.group < 2 ^ 32 =
     subst (λ (l : Ledger). current_of l c.args.group < 2 ^ 32) c.charges.ensures c.missing-want.ensures.few in
     let few = c.loop-round.invariant.few in
-    let usage = c.make_round-pages.ensures.usage in
+    let usage = c.reclaim_round-pages.ensures.usage in
     let left = c.loop-round-test.true in
     omega (arith, low, few, usage, left)
 
 pub returns-then-pages-eq0 : goal.returns-then-pages-eq0
 returns-then-pages-eq0 g c =
-    let e = c.make_round-pages.ensures in
+    let e = c.reclaim_round-pages.ensures in
     let wants : c.missing-want.result ≡ pages_missing c.args.group c.args.need c.args.limit c.loop-round.machine.ledger = c.missing-want.ensures.missing ∙ ap (pages_missing c.args.group c.args.need c.args.limit) c.charges.ensures in
     let h = rounds_end g.N.BootName.frames c.args.group c.args.need c.args.limit c.args.machine.now c.loop-round.round c.loop-round.given
-    c.loop-round.machine c.loop-round.invariant c.loop-round-test.true c.missing-want.result c.make_round-pages.result.pages c.make_round-pages.new.machine
-    c.make_round-pages.result.tried_all wants c.if-want-eq0.false e.makes e.tried_all e.missed e.usage e.keeps c.if-pages-eq0.true in
+    c.loop-round.machine c.loop-round.invariant c.loop-round-test.true c.missing-want.result c.reclaim_round-pages.result.pages c.reclaim_round-pages.new.machine
+    c.reclaim_round-pages.result.tried_all wants c.if-want-eq0.false e.makes e.tried_all e.missed e.usage e.keeps c.if-pages-eq0.true in
     record { rounds = h.rounds; missed = h.missed; usage = h.usage; keeps = h.keeps }
 
 pub loop-round-preserved : goal.loop-round-preserved
 loop-round-preserved g c =
-    let e = c.make_round-pages.ensures in
+    let e = c.reclaim_round-pages.ensures in
     let wants : c.missing-want.result ≡ pages_missing c.args.group c.args.need c.args.limit c.loop-round.machine.ledger = c.missing-want.ensures.missing ∙ ap (pages_missing c.args.group c.args.need c.args.limit) c.charges.ensures in
     let low : current_of c.loop-round.machine.ledger c.args.group < 2 ^ 32 =
     subst (λ (l : Ledger). current_of l c.args.group < 2 ^ 32) c.charges.ensures c.missing-want.ensures.few in
     rounds_more g.N.BootName.frames c.args.group c.args.need c.args.limit c.args.machine.now c.loop-round.round c.loop-round.given
-    c.loop-round.machine c.loop-round.invariant c.loop-round-test.true c.missing-want.result c.make_round-pages.result.pages c.make_round-pages.new.machine
-    c.make_round-pages.result.tried_all wants c.if-want-eq0.false e.makes e.tried_all e.missed e.usage e.keeps c.if-pages-eq0.false low
+    c.loop-round.machine c.loop-round.invariant c.loop-round-test.true c.missing-want.result c.reclaim_round-pages.result.pages c.reclaim_round-pages.new.machine
+    c.reclaim_round-pages.result.tried_all wants c.if-want-eq0.false e.makes e.tried_all e.missed e.usage e.keeps c.if-pages-eq0.false low
 
 pub returns : goal.returns
 returns g c =
