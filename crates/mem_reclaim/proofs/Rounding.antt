@@ -11,7 +11,7 @@ use Rattle.mem_machine.specs.Machines.{KnownMachine, with_note}
 use Rattle.mem_reclaim.specs.Wanted.{GivesNothing, progress}
 use Rattle.mem_reclaim.specs.Moves.{Moves, Leads}
 use Rattle.mem_reclaim.specs.Passes.{Reclaims}
-use Rattle.mem_reclaim.specs.Rounds.{MakesOneRound, ReclaimsRounds, pages_missing, round_note}
+use Rattle.mem_reclaim.specs.Rounds.{ReclaimsRound, ReclaimsRounds, pages_missing, round_note}
 use Rattle.mem_reclaim.specs.Staying.{Keeps, MissedAll}
 use Rattle.mem_reclaim.proofs.Wanting.{rested}
 use Rattle.mem_reclaim.proofs.Moving.{moves_rest, moves_both}
@@ -35,7 +35,7 @@ keeps_noted t m n note k = record {
 
 -- what one round left
 pub record RoundGives (t : KnownTable) (g number want : ℕ) (m : KnownMachine) (given : ℕ) (now : KnownMachine) : Type 0 where
-  pub makes : Leads t given m now (MakesOneRound g number want)
+  pub makes : Leads t given m now (ReclaimsRound g number want)
   pub keeps : Keeps t m now
 
 -- a reclaim, and then its note
@@ -137,13 +137,13 @@ module _ (t : KnownTable) (g need limit : ℕ) (m : KnownMachine) where
 
       -- one round more
       module _ (want some : ℕ) (then : KnownMachine) (tried_all : Bool) (wants : want ≡ pages_missing g need limit now.ledger) (wanted : want ≢ 0)
-          (leads : Leads t some now then (MakesOneRound g (made + 1) want)) (tells : tried_all ≡ nat_lt some want)
+          (leads : Leads t some now then (ReclaimsRound g (made + 1) want)) (tells : tried_all ≡ nat_lt some want)
           (missed : tried_all ≡ true → MissedAll g now then) (usage : current_of then.ledger g + some ≡ current_of now.ledger g)
           (keeps : Keeps t now then) where
-        does : MakesOneRound g (16 - (16 - (made + 1))) (pages_missing g need limit now.ledger) (progress some now leads.steps then)
+        does : ReclaimsRound g (16 - (16 - (made + 1))) (pages_missing g need limit now.ledger) (progress some now leads.steps then)
         does =
             let number : made + 1 ≡ 16 - (16 - (made + 1)) = omega (arith, left) in
-            subst (λ (w : ℕ × ℕ). MakesOneRound g w.0 w.1 (progress some now leads.steps then)) (λ i. (number i, wants i)) leads.does
+            subst (λ (w : ℕ × ℕ). ReclaimsRound g w.0 w.1 (progress some now leads.steps then)) (λ i. (number i, wants i)) leads.does
 
         keeps_on : Keeps t m then
         keeps_on = keeps_both t m now then so.keeps keeps

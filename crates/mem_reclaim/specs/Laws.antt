@@ -13,7 +13,7 @@ use Rattle.mem_machine.specs.Machines.{KnownMachine, home_of, with_note}
 use Rattle.mem_reclaim.specs.declared.sets.Killed.{Killed}
 use Rattle.mem_reclaim.specs.Killing.{IsKilledBy, kept_units}
 use Rattle.mem_reclaim.specs.Moves.{Moves, all_missed_in, missed_in, returned_in}
-use Rattle.mem_reclaim.specs.Rounds.{MakesOneRound}
+use Rattle.mem_reclaim.specs.Rounds.{ReclaimsRound}
 use Rattle.mem_reclaim.specs.Sets.{IsHead, kill_set}
 use Rattle.mem_reclaim.specs.Staying.{MissedAll}
 use Rattle.mem_reclaim.specs.Victim.{IsVictim, may_be_killed, own_frames}
@@ -75,7 +75,7 @@ pub record NotesRound (group number : ℕ) (done : Progress) : Type 0 where
 -- a round's note reports what the round's own steps did, unless one of the machine's two counts is at its greatest
 abbrev pub RoundsAreNotedAsMade : Type 0
 RoundsAreNotedAsMade =
-    (group number want : ℕ) (done : Progress) → MakesOneRound group number want done
+    (group number want : ℕ) (done : Progress) → ReclaimsRound group number want done
     → done.after.counts.freezes < max_count → done.after.counts.misses < max_count → NotesRound group number done
 
 -- the last note is of the kill of this group: of its units it reports those that the steps return as freed, and the

@@ -24,7 +24,7 @@ round_note group number pages before after =
 
 -- One round of this number, followed by its note. The note reports how far two counts rose: the freezes by the units
 -- that the steps return, and the misses by the freezes that missed.
-pub record MakesOneRound (group number want : ℕ) (done : Progress) : Type 0 where
+pub record ReclaimsRound (group number want : ℕ) (done : Progress) : Type 0 where
   pub reclaimed : KnownMachine
   pub reclaims : Reclaims group want (progress done.given done.before done.steps reclaimed)
   pub noted : done.after ≡ with_note reclaimed (round_note group number done.given done.before reclaimed)
@@ -43,7 +43,7 @@ ReclaimsRounds group missing zero done = GivesNothing done
 ReclaimsRounds group missing (suc rounds) done =
     ((missing done.before.ledger ≡ 0) × GivesNothing done)
     ⊎ ((1 ≤ missing done.before.ledger)
-    × BothGive (MakesOneRound group (max_rounds - rounds) (missing done.before.ledger))
+    × BothGive (ReclaimsRound group (max_rounds - rounds) (missing done.before.ledger))
     (UnlessNone (ReclaimsRounds group missing rounds)) done)
 
 -- This many pages of the group's subtree are reclaimed, in at most 16 rounds. Each round wants what is still missing:

@@ -4,7 +4,7 @@ ghost use Rattle.std.specs.Prelude.{◌≡◌, ◌<◌, ◌+◌, ◌^◌, IsTrue
 ghost use Rattle.group_tree.specs.Groups.{has_group};
 ghost use Rattle.group_charge.specs.Charges.{current_of};
 ghost use Rattle.mem_reclaim.specs.Moves.{Leads};
-ghost use Rattle.mem_reclaim.specs.Rounds.{MakesOneRound, ReclaimsRounds, max_rounds, pages_missing};
+ghost use Rattle.mem_reclaim.specs.Rounds.{ReclaimsRound, ReclaimsRounds, max_rounds, pages_missing};
 ghost use Rattle.mem_reclaim.specs.Staying.{Keeps, MissedAll};
 
 use crate::reclaiming::{Reclaimed, reclaim};
@@ -37,7 +37,7 @@ pub(crate) fn reclaim_round<N: BootName>(
     want: u64,
 ) -> Reclaimed
     requires there { IsTrue (has_group machine.old.ledger.groups group) }
-    ensures makes { Leads N.frames result.pages machine.old machine.new (MakesOneRound group number want) }
+    ensures makes { Leads N.frames result.pages machine.old machine.new (ReclaimsRound group number want) }
     ensures tried_all { result.tried_all ≡ nat_lt result.pages want }
     ensures missed { IsTrue result.tried_all → MissedAll group machine.old machine.new }
     ensures usage { current_of machine.new.ledger group + result.pages ≡ current_of machine.old.ledger group }
