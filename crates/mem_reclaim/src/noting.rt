@@ -16,7 +16,7 @@ use mem_machine::Machine;
 
 /// What a group has before it is killed.
 #[derive(Clone, Copy, Debug)]
-pub(crate) struct Having {
+pub(crate) struct GroupSnapshot {
     /// The machine's last puts so far.
     pub last_puts: u64,
     /// The frames charged to the group itself.
@@ -26,10 +26,10 @@ pub(crate) struct Having {
 }
 
 /// What the group has now.
-pub(crate) fn had_by<N: BootName>(machine: &Machine<N>, group: GroupId) -> Having
+pub(crate) fn had_by<N: BootName>(machine: &Machine<N>, group: GroupId) -> GroupSnapshot
     ensures { result ≡ having_of machine.now group }
 {
-    Having {
+    GroupSnapshot {
         last_puts: machine.counts().last_puts,
         frames: machine.frames_of(group),
         units: u64::from(machine.listed(group, LruList::Inactive))
@@ -74,7 +74,7 @@ pub(crate) fn note_killed<N: BootName>(
     machine: &mut Machine<N>,
     limited: GroupId,
     killed: GroupId,
-    had: Having,
+    had: GroupSnapshot,
 )
     requires { IsTrue (has_group machine.old.ledger.groups limited) }
     ensures { machine.new ≡ with_note machine.old (killed_note limited killed had machine.old) }
