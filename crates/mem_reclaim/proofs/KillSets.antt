@@ -25,7 +25,7 @@ use Rattle.mem_machine.proofs.Followed.{makes_both, makes_none}
 use Rattle.mem_reclaim.specs.declared.noting.GroupSnapshot.{GroupSnapshot}
 use Rattle.mem_reclaim.specs.declared.sets.Killed.{Killed}
 use Rattle.mem_reclaim.specs.Killing.{HasNoKeptUnit, IsKilledBy, KillsAll, KillsAs, KillsBySteps, KillsNoted, KillsSoBySteps, KillsSubtree, KillsThese}
-use Rattle.mem_reclaim.specs.Killing.{OnlyDrains, OnlyLetsGo, having_of, killed_note, with_all_killed}
+use Rattle.mem_reclaim.specs.Killing.{OnlyDrains, OnlyLetsGo, snapshot_of, killed_note, with_all_killed}
 use Rattle.mem_reclaim.specs.KillNotes.{NotesVictim}
 use Rattle.mem_reclaim.specs.Moves.{Rises, has_kill, is_kill, is_miss, killed_by, kills_in, missed_in, returned_in}
 use Rattle.mem_reclaim.specs.Sets.{HasNoFlagged, IsHead, IsHighestFlagged, alive_below, group_kill_note, kill_set}
@@ -138,11 +138,11 @@ one_so t limited g m n one = record {
   keeps = one.keeps;
 }
 
-pub one_killed : (t : KnownTable) (limited g : ℕ) (m b n : KnownMachine) (had : GroupSnapshot) → had ≡ having_of m g → KillsBySteps t g m b
+pub one_killed : (t : KnownTable) (limited g : ℕ) (m b n : KnownMachine) (had : GroupSnapshot) → had ≡ snapshot_of m g → KillsBySteps t g m b
     → b.killed ≡ slice_set m.killed g true → AreOwnDrained g t.cpus b → OnlyDrains m b → HasNoKeptUnit g b → OnlyLetsGo t m b
     → n ≡ with_note b (killed_note limited g had b) → OneKilled t limited g m n
 one_killed t limited g m b n had had_is kills marked drained stocks none_kept keeps noted_had =
-    let last : Note = killed_note limited g (having_of m g) b in
+    let last : Note = killed_note limited g (snapshot_of m g) b in
     let noted : n ≡ with_note b last = noted_had ∙ ap (λ (h : GroupSnapshot). with_note b (killed_note limited g h b)) had_is in
     let once = kills.once in
     subst (λ (x : KnownMachine). OneKilled t limited g m x) (sym noted) (record {

@@ -91,8 +91,8 @@ abbrev pub kept_units : KnownMachine → ℕ → ℕ
 kept_units machine group = length (inactive_in machine group) + length (active_in machine group)
 
 -- what a group has before it is killed: the machine's last puts so far, the group's frames, and its kept units
-abbrev pub having_of : KnownMachine → ℕ → GroupSnapshot
-having_of machine group = record {
+abbrev pub snapshot_of : KnownMachine → ℕ → GroupSnapshot
+snapshot_of machine group = record {
   last_puts = machine.counts.last_puts;
   frames = own_frames machine group;
   units = kept_units machine group;
@@ -110,7 +110,7 @@ pub record KillsNoted (table : KnownTable) (limited group : ℕ) (before : Known
     (after : KnownMachine) : Type 0 where
   pub killed : KnownMachine
   pub kills : KillsGroup table group before steps killed
-  pub noted : after ≡ with_note killed (killed_note limited group (having_of before group) killed)
+  pub noted : after ≡ with_note killed (killed_note limited group (snapshot_of before group) killed)
 
 -- a group is killed and noted like this, and then `Then` leads on
 pub record KillsThen (table : KnownTable) (limited group : ℕ) (Then : KnownMachine → Run → KnownMachine → Type 0)

@@ -3,7 +3,7 @@
 ghost use Rattle.std.specs.Prelude.{◌≡◌, IsTrue};
 ghost use Rattle.group_tree.specs.Groups.{has_group};
 ghost use Rattle.mem_machine.specs.Machines.{with_note};
-ghost use Rattle.mem_reclaim.specs.Killing.{having_of, killed_note};
+ghost use Rattle.mem_reclaim.specs.Killing.{snapshot_of, killed_note};
 ghost use Rattle.mem_reclaim.specs.KillNotes.{NotesVictim};
 ghost use Rattle.mem_reclaim.specs.Sets.{group_kill_note};
 
@@ -27,7 +27,7 @@ pub(crate) struct GroupSnapshot {
 
 /// What the group has now.
 pub(crate) fn had_by<N: BootName>(machine: &Machine<N>, group: GroupId) -> GroupSnapshot
-    ensures { result ≡ having_of machine.now group }
+    ensures { result ≡ snapshot_of machine.now group }
 {
     GroupSnapshot {
         last_puts: machine.counts().last_puts,
