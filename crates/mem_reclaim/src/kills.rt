@@ -12,7 +12,7 @@ ghost use Rattle.mem_reclaim.specs.Killing.{HasNoKeptUnit, KeepsStocks, KillsAll
 ghost use Rattle.mem_reclaim.specs.Killing.{KillsSoBySteps, KillsSubtree, KillsVictim, LetsGoBySteps, OnlyDrains};
 ghost use Rattle.mem_reclaim.specs.Killing.{OnlyLetsGo, victim_of, with_all_killed};
 
-use crate::noting::{had_by, note_killed, note_subtree, note_victim};
+use crate::noting::{note_killed, note_subtree, note_victim, take_snapshot};
 use crate::sets::{Killed, highest_flagged};
 use crate::victims::{may_be_killed, victim};
 use cpu_part::{BootName, Tables};
@@ -80,7 +80,7 @@ fn kill_noted<N: BootName>(
     ensures none_kept { HasNoKeptUnit group machine.new }
     ensures keeps { OnlyLetsGo N.frames machine.old machine.new }
 {
-    let had = had_by(machine, group);
+    let had = take_snapshot(machine, group);
     kill_group(machine, tables, group);
     note_killed(machine, limited, group, had);
 }

@@ -26,7 +26,7 @@ pub(crate) struct GroupSnapshot {
 }
 
 /// What the group has now.
-pub(crate) fn had_by<N: BootName>(machine: &Machine<N>, group: GroupId) -> GroupSnapshot
+pub(crate) fn take_snapshot<N: BootName>(machine: &Machine<N>, group: GroupId) -> GroupSnapshot
     ensures { result ≡ snapshot_of machine.now group }
 {
     GroupSnapshot {
