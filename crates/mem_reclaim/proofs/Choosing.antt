@@ -8,7 +8,7 @@ use Rattle.group_tree.proofs.CallerLemmas.{in_subtree-below}
 use Rattle.group_charge.proofs.KeptLemmas.{number_below}
 use Rattle.step_rules.specs.State.{one_if, sum_to}
 use Rattle.mem_machine.specs.Machines.{KnownMachine}
-use Rattle.mem_reclaim.specs.Victim.{IsMost, is_candidate, is_it, may_be_chosen, may_be_killed, own_frames}
+use Rattle.mem_reclaim.specs.Victim.{IsMost, is_candidate, is_excluded, may_be_chosen, may_be_killed, own_frames}
 
 -- of the groups below k that the test chooses, v has the most frames, this many
 pub record BestSoFar (m : KnownMachine) (test : ℕ → Bool) (k v frames : ℕ) : Type 0 where
@@ -31,7 +31,7 @@ chosen_there m g k chosen = in_subtree-below m.ledger.groups g k (and_parts (in_
 -- who may be killed has a group's number
 chosen_below : (m : KnownMachine) → AreGroups m.ledger.groups → (g : ℕ) (but : Option ℕ) (k : ℕ) → may_be_chosen m g but k ≡ true → k < 64
 chosen_below m facts g but k chosen =
-    number_below m.ledger.groups k facts (chosen_there m g k (and_parts (not (is_it but k)) (may_be_killed m g k) chosen).1)
+    number_below m.ledger.groups k facts (chosen_there m g k (and_parts (not (is_excluded but k)) (may_be_killed m g k) chosen).1)
 
 -- all numbers were looked at
 pub best_end : (m : KnownMachine) → AreGroups m.ledger.groups → (g : ℕ) (but : Option ℕ) (k : ℕ) (best : Option ℕ) (frames : ℕ)

@@ -3,7 +3,7 @@
 
 ghost use Rattle.std.specs.Prelude.{◌≡◌, IsTrue, length};
 ghost use Rattle.group_tree.specs.Groups.{has_group};
-ghost use Rattle.mem_reclaim.specs.Victim.{IsMost, IsNext, IsVictim, candidates, is_candidate, is_it};
+ghost use Rattle.mem_reclaim.specs.Victim.{IsMost, IsNext, IsVictim, candidates, is_candidate, is_excluded};
 ghost use Rattle.mem_reclaim.specs.Victim.{may_be_chosen, may_be_killed};
 ghost use Rattle.mem_reclaim.specs.Sets.{alive_below};
 
@@ -25,8 +25,8 @@ pub(crate) fn may_be_killed<N: BootName>(
 }
 
 // Whether the group is this one, if there is one.
-fn is_it(but: &Option<GroupId>, other: GroupId) -> bool
-    ensures { result ≡ is_it but.now other }
+fn is_excluded(but: &Option<GroupId>, other: GroupId) -> bool
+    ensures { result ≡ is_excluded but.now other }
 {
     match but {
         Some(group) => group.number() == other.number(),
@@ -44,7 +44,7 @@ fn may_be_chosen<N: BootName>(
     requires { IsTrue (has_group machine.now.ledger.groups group) }
     ensures { result ≡ may_be_chosen machine.now group but.now other }
 {
-    !is_it(but, other) && may_be_killed(machine, group, other)
+    !is_excluded(but, other) && may_be_killed(machine, group, other)
 }
 
 // The group with the most frames charged to itself, and the least number among equals, of those that may be killed for
