@@ -29,23 +29,23 @@ pub chosen_there : (m : KnownMachine) (g k : ℕ) → may_be_killed m g k ≡ tr
 chosen_there m g k chosen = in_subtree-below m.ledger.groups g k (and_parts (in_subtree m.ledger.groups g k) _ chosen).0
 
 -- who may be killed has a group's number
-chosen_below : (m : KnownMachine) → AreGroups m.ledger.groups → (g : ℕ) (but : Option ℕ) (k : ℕ) → may_be_chosen m g but k ≡ true → k < 64
-chosen_below m facts g but k chosen =
-    number_below m.ledger.groups k facts (chosen_there m g k (and_parts (not (is_excluded but k)) (may_be_killed m g k) chosen).1)
+chosen_below : (m : KnownMachine) → AreGroups m.ledger.groups → (g : ℕ) (excluded : Option ℕ) (k : ℕ) → may_be_chosen m g excluded k ≡ true → k < 64
+chosen_below m facts g excluded k chosen =
+    number_below m.ledger.groups k facts (chosen_there m g k (and_parts (not (is_excluded excluded k)) (may_be_killed m g k) chosen).1)
 
 -- all numbers were looked at
-pub best_end : (m : KnownMachine) → AreGroups m.ledger.groups → (g : ℕ) (but : Option ℕ) (k : ℕ) (best : Option ℕ) (frames : ℕ)
-    → BestBelow m (may_be_chosen m g but) k best frames → 64 ≤ k → IsMost m (may_be_chosen m g but) best
-best_end m facts g but k None frames b all = λ j chosen. let low = chosen_below m facts g but j chosen in b.1 j (omega (arith, low, all)) chosen
-best_end m facts g but k (Some v) frames b all = record {
+pub best_end : (m : KnownMachine) → AreGroups m.ledger.groups → (g : ℕ) (excluded : Option ℕ) (k : ℕ) (best : Option ℕ) (frames : ℕ)
+    → BestBelow m (may_be_chosen m g excluded) k best frames → 64 ≤ k → IsMost m (may_be_chosen m g excluded) best
+best_end m facts g excluded k None frames b all = λ j chosen. let low = chosen_below m facts g excluded j chosen in b.1 j (omega (arith, low, all)) chosen
+best_end m facts g excluded k (Some v) frames b all = record {
   chosen = b.chosen;
   some = let x = b.some in let y = b.own in omega (arith, x, y);
   most = λ j chosen.
-      let low = chosen_below m facts g but j chosen in
+      let low = chosen_below m facts g excluded j chosen in
       let x = b.most j (omega (arith, low, all)) chosen in
       let y = b.own in
       omega (arith, x, y);
-  least = λ j chosen same. let low = chosen_below m facts g but j chosen in b.least j (omega (arith, low, all)) chosen (same ∙ b.own);
+  least = λ j chosen same. let low = chosen_below m facts g excluded j chosen in b.least j (omega (arith, low, all)) chosen (same ∙ b.own);
 }
 
 -- ---- how many may be killed

@@ -38,11 +38,11 @@ IsVictim machine group who = IsMost machine (may_be_killed machine group) who
 -- the other group is the one that is excluded, if one is
 abbrev pub is_excluded : Option ℕ → ℕ → Bool
 is_excluded None other = false
-is_excluded (Some but) other = but == other
+is_excluded (Some excluded) other = excluded == other
 
 -- the other group may be killed for the group, and isn't excluded
 abbrev pub may_be_chosen : KnownMachine → ℕ → Option ℕ → ℕ → Bool
-may_be_chosen machine group but other = not (is_excluded but other) && may_be_killed machine group other
+may_be_chosen machine group excluded other = not (is_excluded excluded other) && may_be_killed machine group other
 
 -- the next after the victim: the group that would be the victim without it, or the victim again if there would be none
 abbrev pub IsNext : KnownMachine → ℕ → ℕ → ℕ → Type 0

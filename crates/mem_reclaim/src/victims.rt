@@ -25,37 +25,37 @@ pub(crate) fn may_be_killed<N: BootName>(
 }
 
 // Whether the group is this one, if there is one.
-fn is_excluded(but: &Option<GroupId>, other: GroupId) -> bool
-    ensures { result ≡ is_excluded but.now other }
+fn is_excluded(excluded: &Option<GroupId>, other: GroupId) -> bool
+    ensures { result ≡ is_excluded excluded.now other }
 {
-    match but {
+    match excluded {
         Some(group) => group.number() == other.number(),
         None => false,
     }
 }
 
-// Whether the other group may be killed for the group, and isn't `but`.
+// Whether the other group may be killed for the group, and isn't `excluded`.
 fn may_be_chosen<N: BootName>(
     machine: &Machine<N>,
     group: GroupId,
-    but: &Option<GroupId>,
+    excluded: &Option<GroupId>,
     other: GroupId,
 ) -> bool
     requires { IsTrue (has_group machine.now.ledger.groups group) }
-    ensures { result ≡ may_be_chosen machine.now group but.now other }
+    ensures { result ≡ may_be_chosen machine.now group excluded.now other }
 {
-    !is_excluded(but, other) && may_be_killed(machine, group, other)
+    !is_excluded(excluded, other) && may_be_killed(machine, group, other)
 }
 
 // The group with the most frames charged to itself, and the least number among equals, of those that may be killed for
-// a group and aren't `but`. None if none of them has a frame.
+// a group and aren't `excluded`. None if none of them has a frame.
 fn most_charged<N: BootName>(
     machine: &Machine<N>,
     group: GroupId,
-    but: &Option<GroupId>,
+    excluded: &Option<GroupId>,
 ) -> Option<GroupId>
     requires { IsTrue (has_group machine.now.ledger.groups group) }
-    ensures { IsMost machine.now (may_be_chosen machine.now group but.now) result }
+    ensures { IsMost machine.now (may_be_chosen machine.now group excluded.now) result }
 {
     let _tree = machine.charges().tree(); // Called for its contract.
     let mut best = None;
@@ -64,7 +64,7 @@ fn most_charged<N: BootName>(
         let Some(turn) = GroupId::of(number) else {
             unreachable!()
         };
-        if !may_be_chosen(machine, group, but, turn) {
+        if !may_be_chosen(machine, group, excluded, turn) {
             continue;
         }
         let frames = machine.frames_of(turn);

@@ -3,4 +3,4 @@ use Rattle.mem_reclaim.proofs.Choosing.{BestBelow}
 use Rattle.mem_reclaim.proofs.victims.most_charged.Given as goal
 
 abbrev pub invariant-loop-number : goal.invariant-loop-number
-invariant-loop-number g l = BestBelow l.machine (may_be_chosen l.machine l.group l.but) l.number l.best l.most
+invariant-loop-number g l = BestBelow l.machine (may_be_chosen l.machine l.group l.excluded) l.number l.best l.most
