@@ -23,4 +23,4 @@ small_buffer = 103
 
 -- the statuses with which a replay ends
 abbrev pub IsReplayStatus : ℕ → Type 0
-IsReplayStatus status = Contains status (done ∷ bad_config ∷ no_memory ∷ bad_line ∷ small_buffer ∷ [])
+IsReplayStatus status = Contains (done ∷ bad_config ∷ no_memory ∷ bad_line ∷ small_buffer ∷ []) status

@@ -1,6 +1,6 @@
 //! A buffer of the host: it gets all of a text, or nothing.
 
-ghost use Rattle.std.specs.Prelude.{◌≡◌, ◌≤◌, ◌↔◌, ◌++◌, IsTrue, drop, length};
+ghost use Rattle.std.specs.Prelude.{◌≡◌, ◌≤◌, ◌↔◌, ◌++◌, IsTrue, drop, false, length, true};
 
 /// Writes the text at the start of the buffer, if the buffer is long enough, and returns whether it is. What follows the
 /// text in the buffer stays.
