@@ -1,5 +1,5 @@
 -- The statuses of the calls, as the header numbers them.
-use Rattle.std.specs.Prelude.{ℕ, List, [], ◌∷◌, Contains}
+use Rattle.std.specs.Prelude.{ℕ, [], ◌∷◌, Contains}
 
 -- the call did what it is for
 abbrev pub done : ℕ

@@ -4,7 +4,7 @@
 //! no two of them to the same bytes. Everything else is tested, and each refusal has a status of its own.
 #![tactic(auto)]
 
-ghost use Rattle.std.specs.Prelude.{◌≡◌, ◌≢◌, ◌↔◌, length};
+ghost use Rattle.std.specs.Prelude.{◌≡◌, ◌≢◌, ◌↔◌};
 ghost use Rattle.zone_sizes.specs.Config.{IsValidConfig};
 ghost use Rattle.script_lines.specs.Script.{IsFirstBadLine};
 ghost use Rattle.tempolemon_c.specs.Buffers.{FillsBuffer, ExceedsBuffer};
