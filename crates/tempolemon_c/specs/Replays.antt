@@ -1,0 +1,39 @@
+-- What a replay for a host answers, and why it fails.
+use Rattle.std.specs.Prelude.{ℕ, Bool, List}
+use Rattle.zone_sizes.specs.declared.config.Config.{Config}
+use Rattle.zone_sizes.specs.Config.{IsValidConfig}
+use Rattle.script_lines.specs.declared.line.Line.{Line}
+use Rattle.script_lines.specs.Script.{IsFirstBadLine, IsScript}
+use Rattle.load_run.specs.Answers.{AreReplayAnswers}
+use Rattle.tempolemon_c.specs.declared.fault.ReplayFault.{ReplayFault}
+use Rattle.tempolemon_c.specs.declared.fault.ReplayFault.TheVariants.{BadConfig, BadLine, NoMemory}
+use Rattle.tempolemon_c.specs.declared.sizes.Sizes.{Sizes}
+
+-- the sizes that a host passes, as those of a boot
+abbrev pub config_of : Sizes → Config
+config_of sizes = record {
+  frames = sizes.frames;
+  cpus = sizes.cpus;
+  batch = sizes.batch;
+  high = sizes.high;
+  stock = sizes.stock;
+}
+
+-- the sizes are in their ranges, and the text is what the program's `replay` answers to the script: what a new boot of
+-- these sizes answers to its lines, with why groups were killed and the report of the end if these are asked for
+pub record IsAnswered (sizes : Config) (is_explained is_audited : Bool) (script text : List ℕ) : Type 0 where
+  pub valid : IsValidConfig sizes
+  pub lines : List Line
+  pub script_is : IsScript sizes script lines
+  pub answers : AreReplayAnswers sizes is_explained is_audited lines text
+
+-- the sizes are in their ranges, and this is the number of the first bad line of the script
+pub record IsBadAt (sizes : Config) (script : List ℕ) (number : ℕ) : Type 0 where
+  pub valid : IsValidConfig sizes
+  pub first : IsFirstBadLine sizes script number
+
+-- Which fault comes when. The sizes are judged first: every other fault says that they are in their ranges
+abbrev pub HasCause : Config → List ℕ → ReplayFault → Type 0
+HasCause sizes script BadConfig = ¬ IsValidConfig sizes
+HasCause sizes script (BadLine number) = IsBadAt sizes script number
+HasCause sizes script NoMemory = IsValidConfig sizes

@@ -1,0 +1,72 @@
+//! The controller for hosts in C, and in languages that call C. `include/tempolemon.h` declares each call.
+//!
+//! A call gets memory through pointers that the host promises to be good: never null, to as many bytes as it says, and
+//! no two of them to the same bytes. Everything else is tested, and each refusal has a status of its own.
+#![tactic(auto)]
+
+ghost use Rattle.std.specs.Prelude.{◌≡◌, ◌≢◌, ◌↔◌};
+ghost use Rattle.zone_sizes.specs.Config.{IsValidConfig};
+ghost use Rattle.script_lines.specs.Script.{IsFirstBadLine};
+ghost use Rattle.tempolemon_c.specs.Buffers.{FillsBuffer, ExceedsBuffer};
+ghost use Rattle.tempolemon_c.specs.Replays.{IsAnswered, config_of};
+ghost use Rattle.tempolemon_c.specs.Statuses.{IsReplayStatus, bad_config, bad_line, done, small_buffer};
+
+mod buffers;
+mod fault;
+mod replaying;
+mod sizes;
+mod status;
+
+use crate::buffers::put_answers;
+use crate::fault::ReplayFault;
+use crate::replaying::answer_script;
+use crate::sizes::Sizes;
+use crate::status::{BAD_CONFIG, BAD_LINE, DONE, NO_MEMORY, SMALL_BUFFER};
+use std::alloc::Global;
+
+/// Boots a zone of these sizes, replays the script on it, and ends the boot. The answers are those of the program's
+/// `replay`, byte for byte.
+///
+/// The sizes are judged first, then the script. A buffer that is too small gets nothing: `written` is the length that it
+/// needs, and the call can be made again. Nothing of the boot stays, whatever the status.
+#[unsafe(no_mangle)]
+pub extern "C" fn tempolemon_replay(
+    alloc: Global,
+    sizes: &Sizes,
+    is_explained: bool,
+    is_audited: bool,
+    script: &[u8],
+    answers: &mut [u8],
+    written: &mut usize,
+    first_bad: &mut usize,
+) -> u8
+    ensures statuses { IsReplayStatus result }
+    ensures bad_sizes { (result ≡ bad_config) ↔ (¬ IsValidConfig (config_of sizes.now)) }
+    ensures first_bad_line { result ≡ bad_line → IsFirstBadLine (config_of sizes.now) script.now first_bad.new }
+    ensures answered { result ≡ done → FillsBuffer
+        (IsAnswered (config_of sizes.now) is_explained is_audited script.now) answers.old answers.new written.new }
+    ensures too_small { result ≡ small_buffer → ExceedsBuffer
+        (IsAnswered (config_of sizes.now) is_explained is_audited script.now) answers.old written.new }
+    ensures buffer_stays { result ≢ done → answers.new ≡ answers.old }
+    ensures no_length { result ≢ done → result ≢ small_buffer → written.new ≡ 0 }
+    ensures no_bad_line { result ≢ bad_line → first_bad.new ≡ 0 }
+{
+    *written = 0;
+    *first_bad = 0;
+    match answer_script(alloc, sizes.config(), script, is_explained, is_audited) {
+        Ok(text) => {
+            *written = text.len();
+            if put_answers(&text, answers) {
+                DONE
+            } else {
+                SMALL_BUFFER
+            }
+        }
+        Err(ReplayFault::BadConfig) => BAD_CONFIG,
+        Err(ReplayFault::BadLine(number)) => {
+            *first_bad = number;
+            BAD_LINE
+        }
+        Err(ReplayFault::NoMemory) => NO_MEMORY,
+    }
+}

@@ -1,0 +1,17 @@
+//! The statuses of the calls. A refusal has its own number, which is at most 22; what only a host in C can meet has one
+//! above 100.
+
+/// The call did what it is for.
+pub const DONE: u8 = 0;
+
+/// A size is out of its range.
+pub const BAD_CONFIG: u8 = 14;
+
+/// Memory ran out.
+pub const NO_MEMORY: u8 = 101;
+
+/// A line of the script isn't in the grammar.
+pub const BAD_LINE: u8 = 102;
+
+/// The buffer is shorter than the answers.
+pub const SMALL_BUFFER: u8 = 103;
