@@ -29,7 +29,8 @@ pub enum Work<'a> {
     Show,
 }
 
-// What the command asks for.
+// What the command asks for. It is inlined, so that no value of 64 bytes is built just to be matched.
+#[inline(always)]
 pub(crate) fn work_of<'a>(command: &Command<'a>) -> Work<'a>
     ensures { result ≡ work_of command.now }
 {
