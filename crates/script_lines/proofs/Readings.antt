@@ -68,10 +68,6 @@ write_parts text w r v s cut next path file value is =
     let is_file : IsPathText v = subst IsPathText (sym same.0) is.file_text in
     (first.0, is_file)
 
--- a request has a space
-pub request_has_space : (sizes : Config) (text : List ℕ) → NoSpace text → (processor : ℕ) (command : Command) → ¬ IsRequestText sizes processor command text
-request_has_space sizes text none processor command is = no_cut text is.digits is.rest none is.parts
-
 -- the processor and the command are the parts of the cut
 pub request_parts : (sizes : Config) (text w r : List ℕ) → IsCut text w r → (processor : ℕ) (command : Command)
     → IsRequestText sizes processor command text → WritesNumber w processor × IsCommandText sizes command r

@@ -1,14 +1,13 @@
 -- The first word of a text, which may name a command.
-use Rattle.std.proofs.Common.{◌≡◌, ◌≢◌, ℕ, suc, ◌+◌, ◌-◌, ◌<◌, ◌≤◌, List, [], ◌∷◌, ◌++◌, ◌⊎◌, inl, inr, true, All, length, take, drop, get_or, arith, refl, sym, ap, ◌∙◌}
-use Rattle.std.proofs.Math.Seq.{drop-cons, get_or-append_seam}
-use Rattle.std.proofs.lemmas.List.{get_or-take, length-drop, length-take-le, take-append-drop, take_all}
+use Rattle.std.proofs.Common.{◌≡◌, ◌≢◌, ℕ, ◌+◌, ◌-◌, ◌<◌, ◌≤◌, List, ◌∷◌, ◌++◌, ◌⊎◌, inl, inr, true, length, take, drop, get_or, arith, refl, ◌∙◌}
+use Rattle.std.proofs.lemmas.List.{length-take-le, take_all}
 use Rattle.std.proofs.lemmas.Bool.Decides.{eqb_tells}
 use Rattle.script_lines.specs.Names.{IsWordEnd, is_word}
 use Rattle.script_lines.specs.Script.{BeginsWithName, IsCut}
 use Rattle.script_lines.specs.Verb.{name_of}
 use Rattle.script_lines.specs.declared.verb.Verb.{Verb}
 use Rattle.script_lines.proofs.Codes.{AreBytes}
-use Rattle.script_lines.proofs.Cuts.{NoSpace, cut_once, no_cut}
+use Rattle.script_lines.proofs.Cuts.{NoSpace, cut_at, cut_once, no_cut}
 use Rattle.script_lines.proofs.Verbs.{name_no_space, name_short, word_told}
 
 pub word_no_space : (text : List ℕ) (end : ℕ) → IsWordEnd text end → NoSpace (take end text)
@@ -20,13 +19,7 @@ word_bytes text end is k d h = (is.bytes k d h).1
 -- a text is cut behind its first word
 pub word_cut : (text : List ℕ) (end : ℕ) → IsWordEnd text end → end < length text
     → IsCut text (take end text) (take (length text - (end + 1)) (drop (end + 1) text))
-word_cut text end is more =
-    let rest = drop (end + 1) text in
-    let whole : take (length text - (end + 1)) rest ≡ rest = take_all _ rest (omega (arith, length-drop (end + 1) text)) in
-    let next : suc end ≡ end + 1 = omega arith in
-    let space : drop end text ≡ 32 ∷ drop (suc end) text = drop-cons text end 0 more ∙ ap (λ (b : ℕ). b ∷ drop (suc end) text) (is.stop more) in
-    let parts : take end text ++ 32 ∷ rest ≡ text = rw (← next) (ap (λ t. take end text ++ t) (sym space) ∙ take-append-drop end text) in
-    rw whole (record { parts = sym parts; no_space = word_no_space text end is })
+word_cut text end is more = cut_at text end more (word_no_space text end is) (is.stop more)
 
 -- a text that ends with its first word is that word
 pub word_alone : (text : List ℕ) (end : ℕ) → end ≡ length text → take end text ≡ text

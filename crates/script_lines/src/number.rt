@@ -1,8 +1,9 @@
 //! Decimal numbers of a script.
 
-ghost use Rattle.std.specs.Prelude.{◌^◌, ◌<◌};
+ghost use Rattle.std.specs.Prelude.{◌^◌, ◌<◌, List, MatchOption, ℕ};
 ghost use Rattle.std.specs.Option.{SomeIff};
 ghost use Rattle.std.specs.Str.Parse.{IsNumeral, digits_value};
+ghost use Rattle.script_lines.specs.Script.{IsCut, WritesNumber};
 
 /// The greatest number that a word writes.
 const MOST: u64 = 4_294_967_295;
@@ -24,4 +25,30 @@ pub fn number(word: &[u8]) -> Option<u32>
         }
     }
     Some(value as u32)
+}
+
+/// The number before the first space, as `number` reads it, and what follows that space. None if there is no space, or no
+/// number before it. It reads the digits and finds their end in one pass.
+pub(crate) fn first_number(text: &[u8]) -> Option<(u32, &[u8])>
+    ensures { MatchOption result
+        ((word : List ℕ) (rest : List ℕ) (n : ℕ) → IsCut text.now word rest → ¬ WritesNumber word n)
+        (λ r. (word : List ℕ) × IsCut text.now word r.1.now × WritesNumber word r.0) }
+{
+    let mut value = 0u64;
+    let mut end = 0;
+    while end < text.len() && text[end] != b' ' {
+        let digit = char::from(text[end]).to_digit(10)?;
+        value = value * 10 + digit as u64;
+        if value > MOST {
+            return None;
+        }
+        end += 1;
+    }
+    if end == text.len() {
+        return None;
+    }
+    if end == 0 {
+        return None;
+    }
+    Some((value as u32, &text[end + 1..]))
 }

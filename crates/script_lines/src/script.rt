@@ -11,7 +11,7 @@ ghost use Rattle.script_lines.specs.declared.line.Line.{Line};
 
 use crate::fault::ScriptFault;
 use crate::line::{Command, Line};
-use crate::number::number;
+use crate::number::{first_number, number};
 use crate::place::{place_by_one, place_of};
 use crate::verb::{Names, Verb, command_names, first_verb};
 use group_tree::group::MAX_GROUPS;
@@ -159,8 +159,7 @@ fn parse_request<'a>(names: &Names, text: &'a [u8], sizes: &Config) -> Option<(u
         ((processor : ℕ) (command : Command) → ¬ IsRequestText sizes.now processor command text.entry.now)
         (λ r. IsRequestText sizes.now r.0 r.1 text.entry.now) }
 {
-    let (processor, rest) = first_word(text)?;
-    let processor = number(processor)?;
+    let (processor, rest) = first_number(text)?;
     if processor < 1 || sizes.cpus < processor {
         return None;
     }
