@@ -1,6 +1,7 @@
 -- Reclaim in two passes over the groups of a subtree, by ascending number.
 use Rattle.std.specs.Prelude.{◌≡◌, ℕ, ◌⊎◌, Bool, true, false, [], ◌∷◌}
 use Rattle.std.specs.List.{range_with_len}
+use Rattle.group_tree.specs.Bounds.{most_groups}
 use Rattle.group_tree.specs.Groups.{in_subtree}
 use Rattle.lru_lists.specs.declared.record.LruList.TheVariants.{Inactive, Active}
 use Rattle.mem_machine.specs.Machines.{KnownMachine}
@@ -29,7 +30,7 @@ ReclaimsGroup is_first group turn want done =
 
 -- one pass over the groups of the subtree
 abbrev pub ReclaimsPass : ℕ → Bool → ℕ → Reclaiming
-ReclaimsPass group is_first want = WhileWanted (ReclaimsGroup is_first group) (range_with_len 0 64) want
+ReclaimsPass group is_first want = WhileWanted (ReclaimsGroup is_first group) (range_with_len 0 most_groups) want
 
 -- a reclaim of this many pages from the subtree: the first pass and, if pages are still wanted, the second
 abbrev pub Reclaims : ℕ → ℕ → Reclaiming

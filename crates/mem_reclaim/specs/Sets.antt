@@ -1,6 +1,7 @@
 -- Which groups are killed with a victim: a whole subtree, or the victim alone (memory.oom.group of cgroup-v2.rst).
 use Rattle.std.specs.Prelude.{◌≡◌, ℕ, ◌&&◌, ◌⊎◌, Bool, true, false, Option, Some, None, List, [], ◌∷◌, length, filter, if◌then◌else◌}
 use Rattle.std.specs.List.{range_with_len}
+use Rattle.group_tree.specs.Bounds.{most_groups}
 use Rattle.group_tree.specs.declared.group.Group.{Group}
 use Rattle.group_tree.specs.Groups.{in_subtree, is_oom_group}
 use Rattle.kill_notes.specs.declared.note.Note.{Note}
@@ -39,7 +40,7 @@ IsHead groups limited killed =
 
 -- the groups of the head's subtree that aren't killed, by ascending number
 abbrev pub alive_below : KnownMachine → ℕ → List ℕ
-alive_below machine head = filter (may_be_killed machine head) (range_with_len 0 64)
+alive_below machine head = filter (may_be_killed machine head) (range_with_len 0 most_groups)
 
 -- which groups are killed, in this order: if the head's flag is on, all groups of its subtree that aren't killed; else
 -- the victim alone
