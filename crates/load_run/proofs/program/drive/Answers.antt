@@ -7,7 +7,7 @@ returns-in-Ok g c = record {
   drives = asked_drives _ c.in-Ok.options _ _ _ _ c.in-Ok.ensures.asked c.drive_task.ensures.drives;
 }
 
-pub returns : goal.returns
-returns g c = record {
+pub returns-in-Err : goal.returns-in-Err
+returns-in-Err g c = record {
   drives = drives_words _ _ _ _ _ c.in-Err.unread _ c.in-Err.ensures.fault c.tell_fault.ensures.status c.tell_fault.ensures.told;
 }
