@@ -22,7 +22,7 @@ pub(crate) fn place_of(frames: &[Frame], frame: Frame) -> Option<usize>
 fn seek(frames: &[Frame], frame: Frame) -> Option<usize>
     ensures { MatchOption result (times frame frames.now ≡ 0) (λ i. (i < length frames.now) × (slice_index frames.now i ≡ frame)) }
 {
-    let mut end = pass_over(frames, frame);
+    let mut end = skip_blocks_without(frames, frame);
     while end > 0 {
         end -= 1;
         if frames[end] == frame {
@@ -33,7 +33,7 @@ fn seek(frames: &[Frame], frame: Frame) -> Option<usize>
 }
 
 // How many frames are left if, from the end, the blocks without the frame are skipped.
-fn pass_over(frames: &[Frame], frame: Frame) -> usize
+fn skip_blocks_without(frames: &[Frame], frame: Frame) -> usize
     ensures inside { result ≤ length frames.now }
     ensures absent { times frame (drop result frames.now) ≡ 0 }
 {

@@ -1,9 +1,9 @@
--- Serves the contract of `pass_over`: a block that doesn't hold the frame is passed over.
+-- Serves the contract of `skip_blocks_without`: a block that doesn't hold the frame is passed over.
 use Rattle.std.proofs.Common.{◌≡◌, ℕ, ◌+◌, ◌-◌, ◌==◌, if◌then◌else◌, ◌≤◌, List, drop, take, ap, arith, ◌∙◌}
 use Rattle.std.proofs.lemmas.List.{drop-drop}
 use Rattle.std.proofs.lemmas.List.Sums.{sum_by-take-drop}
 use Rattle.cpu_part.specs.Cpus.{times}
-use Rattle.cpu_part.proofs.search.pass_over.Goals as goal
+use Rattle.cpu_part.proofs.search.skip_blocks_without.Goals as goal
 
 -- nor does the frame stand in a part that begins earlier
 pub none_from : (x : ℕ) (xs : List ℕ) (end n : ℕ) → n ≤ end → times x (take (end - n) (drop n xs)) ≡ 0

@@ -1,6 +1,6 @@
 use Rattle.std.proofs.Common.{◌≡◌, ◌≤◌, length, drop}
 use Rattle.cpu_part.specs.Cpus.{times}
-use Rattle.cpu_part.proofs.search.pass_over.Given as goal
+use Rattle.cpu_part.proofs.search.skip_blocks_without.Given as goal
 
 abbrev pub invariant-loop-end : goal.invariant-loop-end
 invariant-loop-end l = (l.end ≤ length l.frames) × (times l.frame (drop l.end l.frames) ≡ 0)
