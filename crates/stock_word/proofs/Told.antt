@@ -5,12 +5,12 @@ use native.Mathlib.Decide.{ℕ_discrete}
 use Rattle.stock_word.specs.declared.view.Stock.{Stock}
 use Rattle.stock_word.specs.declared.view.Stock.TheVariants.{NoGroup, HeldBy, DrainedOf}
 use Rattle.stock_word.specs.declared.view.StockView.{StockView}
-use Rattle.stock_word.specs.Stock.{Seated, Placed, word_of, HasWord, pages_of, is_held, group_of, account_of, first_of}
+use Rattle.stock_word.specs.Stock.{Seated, KnownRawSeat, word_of, HasWord, pages_of, is_held, group_of, account_of, first_of}
 use Rattle.stock_word.specs.Kinds.{Drains, DrainsNone, LooksAt, with_steps, draining}
 use Rattle.stock_word.specs.Calls.{with_view, after_look, steps_of_drain}
 
 -- the seat that the caller has afterwards
-pub seat_after : (place : Placed) (before : Seated) (u : StockView) → place.table ≡ before.table → first_of place.views ≡ u
+pub seat_after : (place : KnownRawSeat) (before : Seated) (u : StockView) → place.table ≡ before.table → first_of place.views ≡ u
     → record { table = place.table; view = first_of place.views } ≡ with_view before u
 seat_after place before u table_is same = λ i. record { table = table_is i; view = same i }
 

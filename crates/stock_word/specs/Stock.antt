@@ -70,7 +70,7 @@ abbrev pub IsSized : TableId → ℕ → Type 0
 IsSized table cpus = (table.words ≡ 16 * (cpus + 1)) × (table.slots ≡ 0) × (1 ≤ cpus) × (cpus ≤ 64)
 
 -- a seat's place at the table: which table, and the views that it has: one, two if it is joined, none if it is empty
-pub record Placed : Type 0 where
+pub record KnownRawSeat : Type 0 where
   pub table : TableId
   pub views : List StockView
 

@@ -10,7 +10,7 @@
 ghost use Rattle.std.specs.Prelude.{◌≡◌, ◌≢◌, ◌*◌, ◌+◌, ◌-◌, ◌<◌, ◌≤◌, false, [], ◌∷◌, ◌++◌, Some, IfOk};
 ghost use Rattle.std.specs.Mem.Slots.{slots_items, slots_len, IsFull};
 ghost use Rattle.stock_word.specs.declared.view.Stock.TheVariants.{HeldBy, DrainedOf};
-ghost use Rattle.stock_word.specs.Stock.{Words, Placed, IsSized, HasWord, word_of, IsProcessor, IsZoneStock, account_of, account_for, stocked, IsSettled};
+ghost use Rattle.stock_word.specs.Stock.{Words, KnownRawSeat, IsSized, HasWord, word_of, IsProcessor, IsZoneStock, account_of, account_for, stocked, IsSettled};
 ghost use Rattle.stock_word.specs.Stock.{first_of, second_of, first_zone_stock, first_processors, without_second, second_alone};
 ghost use Rattle.stock_word.specs.Kinds.{IsAlone, IsPair, Ends, Consumes, Credits, SeesDrained, Reports, ConsumesHeld, Fills, SeesStock};
 ghost use Rattle.stock_word.specs.Kinds.{DrainsNone, LooksAt, Drains, Absorbs, Alone, Joined, consuming, crediting, looking, draining_step};
@@ -58,7 +58,7 @@ pub(crate) struct Place {
 }
 
 impl Model for Place {
-    ghost Value = { Placed };
+    ghost Value = { KnownRawSeat };
 
     ghost view = { λ p. record { table = p.seat.table_id; views = p.seat.me.0 } };
 

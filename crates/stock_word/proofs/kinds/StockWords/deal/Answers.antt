@@ -1,6 +1,6 @@
 use Rattle.std.proofs.Common.{rules, ap, ◌∙◌, arith}
 use Rattle.stock_word.specs.declared.view.StockView.{StockView}
-use Rattle.stock_word.specs.Stock.{Placed}
+use Rattle.stock_word.specs.Stock.{KnownRawSeat}
 use Rattle.stock_word.proofs.Deals.{first_views, no_seats, one_more, none_more, next_views, last_views, split_off, split_rest, one_view_is, first_is}
 use Rattle.stock_word.proofs.Deals.{next_seats, last_seats}
 use Rattle.stock_word.proofs.kinds.StockWords.deal.Goals as goal
@@ -16,27 +16,27 @@ loop-p-init c = record {
 pub seated-requires-clause-view : goal.seated-requires-clause-view
 seated-requires-clause-view c =
     let next = next_views _ _ _ _ c.loop-p.invariant.views (one_more _ _ c.loop-p-test.true) in
-    one_view_is _ _ (split_off _ _ _ _ next (ap (λ (p : Placed). p.views) c.split_second-next.ensures.second))
+    one_view_is _ _ (split_off _ _ _ _ next (ap (λ (p : KnownRawSeat). p.views) c.split_second-next.ensures.second))
 
 pub seated-requires-clause-first : goal.seated-requires-clause-first
 seated-requires-clause-first c =
     let next = next_views _ _ _ _ c.loop-p.invariant.views (one_more _ _ c.loop-p-test.true) in
-    let first = first_is _ _ (split_off _ _ _ _ next (ap (λ (p : Placed). p.views) c.split_second-next.ensures.second)) in
+    let first = first_is _ _ (split_off _ _ _ _ next (ap (λ (p : KnownRawSeat). p.views) c.split_second-next.ensures.second)) in
     (ap (λ (v : StockView). v.number) first, ap (λ (v : StockView). v.last) first, ap (λ (v : StockView). v.fresh) first)
 
 pub returns-in_err-push-clause-table : goal.returns-in_err-push-clause-table
-returns-in_err-push-clause-table c = ap (λ (p : Placed). p.table) c.split_second-next.ensures.rest
+returns-in_err-push-clause-table c = ap (λ (p : KnownRawSeat). p.table) c.split_second-next.ensures.rest
 
 pub loop-p-preserved : goal.loop-p-preserved
 loop-p-preserved c =
     let more = one_more _ _ c.loop-p-test.true in
     let next = next_views _ _ _ _ c.loop-p.invariant.views more in
-    let first = first_is _ _ (split_off _ _ _ _ next (ap (λ (p : Placed). p.views) c.split_second-next.ensures.second)) in
-    let table = ap (λ (p : Placed). p.table) c.split_second-next.ensures.second in
+    let first = first_is _ _ (split_off _ _ _ _ next (ap (λ (p : KnownRawSeat). p.views) c.split_second-next.ensures.second)) in
+    let table = ap (λ (p : KnownRawSeat). p.table) c.split_second-next.ensures.second in
     record {
-      table = ap (λ (p : Placed). p.table) c.split_second-next.ensures.rest;
+      table = ap (λ (p : KnownRawSeat). p.table) c.split_second-next.ensures.rest;
       range = omega arith;
-      views = split_rest _ _ _ _ next (ap (λ (p : Placed). p.views) c.split_second-next.ensures.rest);
+      views = split_rest _ _ _ _ next (ap (λ (p : KnownRawSeat). p.views) c.split_second-next.ensures.rest);
       seats = next_seats _ _ _ _ _ _ _ _ c.loop-p.invariant.seats more (c.seated.ensures ∙ (λ i. record { table = table i; view = first i })) (search rules);
     }
 

@@ -1,5 +1,5 @@
 use Rattle.std.proofs.Common.{rules, ap, ◌∙◌}
-use Rattle.stock_word.specs.Stock.{Seated, Placed}
+use Rattle.stock_word.specs.Stock.{Seated, KnownRawSeat}
 use Rattle.stock_word.proofs.Gathers.{fewer_seats, last_table, one_gathered, all_gathered, alone_sum}
 use Rattle.stock_word.proofs.kinds.StockWords.gather.Goals as goal
 
@@ -17,11 +17,11 @@ join_place-requires c = record {
 
 pub loop-seat-preserved : goal.loop-seat-preserved
 loop-seat-preserved c = record {
-  table = ap (λ (p : Placed). p.table) c.join_place.ensures.both;
+  table = ap (λ (p : KnownRawSeat). p.table) c.join_place.ensures.both;
   seats = fewer_seats _ _ _ _ c.in-Some.ensures.items c.loop-seat.invariant.seats;
   all = (λ f.
       one_gathered c.loop-seat.place0.views c.seat.inside.place.views c.join_place.new.place.views _ _ _ c.in-Some.ensures.items c.seat.invariant.one_view
-      (ap (λ (s : Seated). s.view) c.seat.view_is) (ap (λ (p : Placed). p.views) c.join_place.ensures.both) f
+      (ap (λ (s : Seated). s.view) c.seat.view_is) (ap (λ (p : KnownRawSeat). p.views) c.join_place.ensures.both) f
       ∙ c.loop-seat.invariant.all f);
 }
 

@@ -1,5 +1,5 @@
 use Rattle.std.proofs.Common.{rules, ℕ, ◌-◌, ap, ◌∙◌, subst}
-use Rattle.stock_word.specs.Stock.{Placed, first_of, second_of}
+use Rattle.stock_word.specs.Stock.{KnownRawSeat, first_of, second_of}
 use Rattle.stock_word.specs.StockRule.{stock_place}
 use Rattle.stock_word.specs.Kinds.{ConsumesHeld}
 use Rattle.stock_word.proofs.Places.{pair_me, after_pair, no_slots, told_pair}
@@ -8,7 +8,7 @@ use Rattle.stock_word.proofs.kinds.StockWords.step_consume_held.Goals as goal
 
 pub fetch_sub-requires : goal.fetch_sub-requires
 fetch_sub-requires c =
-    let views = ap (λ (p : Placed). p.views) c.place.view_is in
+    let views = ap (λ (p : KnownRawSeat). p.views) c.place.view_is in
     let me = pair_me _ _ views c.place.invariant c.requires.pair in (
       search rules,
       search rules,
@@ -25,7 +25,7 @@ returns-clause-pair c = after_pair c.place.inside.seat.me c.fetch_sub.new.seat.m
 pub returns-clause-kind : goal.returns-clause-kind
 returns-clause-kind c =
     let told = c.fetch_sub.ensures.2 in
-    let views = ap (λ (p : Placed). p.views) c.place.view_is in
+    let views = ap (λ (p : KnownRawSeat). p.views) c.place.view_is in
     told_pair (λ m v n w. ConsumesHeld (stock_place c.args.number) c.fetch_sub.result (c.fetch_sub.result - 1) m v n w) _ _ _ _ _ views told.2
     (subst (λ (y : ℕ). ConsumesHeld y c.fetch_sub.result (c.fetch_sub.result - 1) (first_of c.place.inside.seat.me.0)
     (second_of c.place.inside.seat.me.0) told.0 told.1) c.stock_place-at.ensures told.3)

@@ -1,7 +1,7 @@
 use Rattle.std.proofs.Common.{rules, ℕ, ◌+◌, ap, sym, ◌∙◌, subst}
 use Rattle.stock_word.specs.declared.view.Stock.TheVariants.{HeldBy}
 use Rattle.stock_word.specs.declared.view.StockView.{StockView}
-use Rattle.stock_word.specs.Stock.{Placed, word_of, first_of}
+use Rattle.stock_word.specs.Stock.{KnownRawSeat, word_of, first_of}
 use Rattle.stock_word.specs.StockRule.{stock_place}
 use Rattle.stock_word.specs.Kinds.{Credits, SeesDrained}
 use Rattle.stock_word.proofs.Places.{alone_me, after_alone, no_slots, told_alone}
@@ -10,7 +10,7 @@ use Rattle.stock_word.proofs.kinds.StockWords.step_credit.Goals as goal
 
 pub compare_exchange-requires : goal.compare_exchange-requires
 compare_exchange-requires c =
-    let views = ap (λ (p : Placed). p.views) c.place.view_is in
+    let views = ap (λ (p : KnownRawSeat). p.views) c.place.view_is in
     let first = ap first_of views in
     let last = ap (λ (v : StockView). v.last) first ∙ c.requires.last in
     let me = alone_me _ _ views c.place.invariant c.requires.alone in (
@@ -29,7 +29,7 @@ returns-clause-alone c = after_alone c.place.inside.seat.me c.compare_exchange.n
 pub returns-clause-back : goal.returns-clause-back
 returns-clause-back c = λ hit.
     let told = c.compare_exchange.ensures.2 in
-    let views = ap (λ (p : Placed). p.views) c.place.view_is in
+    let views = ap (λ (p : KnownRawSeat). p.views) c.place.view_is in
     told_alone (λ v w. Credits (stock_place c.args.number) c.compare_exchange.result
     (word_of (HeldBy c.args.group (c.args.pages + 1))) v w) _ _ _ _ views told.1
     (subst (λ (y : ℕ × ℕ). Credits y.0 c.compare_exchange.result y.1 (first_of c.place.inside.seat.me.0) told.0)
@@ -39,7 +39,7 @@ returns-clause-back c = λ hit.
 pub returns-clause-drained : goal.returns-clause-drained
 returns-clause-drained c = λ miss.
     let told = c.compare_exchange.ensures.2 in
-    let views = ap (λ (p : Placed). p.views) c.place.view_is in
+    let views = ap (λ (p : KnownRawSeat). p.views) c.place.view_is in
     told_alone (λ v w. SeesDrained (stock_place c.args.number) c.compare_exchange.result c.compare_exchange.result v w) _ _ _ _ views told.1
     (subst (λ (y : ℕ). SeesDrained y c.compare_exchange.result c.compare_exchange.result (first_of c.place.inside.seat.me.0) told.0) c.stock_place-at.ensures
     (told.2.1 (λ e. miss (e ∙ c.word-word.ensures))))

@@ -1,7 +1,7 @@
 use Rattle.std.proofs.Common.{rules, ℕ, ap, ◌∙◌, subst}
 use Rattle.stock_word.specs.declared.view.Stock.TheVariants.{DrainedOf}
 use Rattle.stock_word.specs.declared.view.StockView.{StockView}
-use Rattle.stock_word.specs.Stock.{Placed, word_of, account_of, first_of}
+use Rattle.stock_word.specs.Stock.{KnownRawSeat, word_of, account_of, first_of}
 use Rattle.stock_word.specs.StockRule.{stock_place}
 use Rattle.stock_word.specs.Kinds.{Drains}
 use Rattle.stock_word.proofs.Places.{alone_me, after_alone, no_slots, told_alone}
@@ -10,7 +10,7 @@ use Rattle.stock_word.proofs.kinds.StockWords.step_drain.Goals as goal
 
 pub swap-requires : goal.swap-requires
 swap-requires c =
-    let views = ap (λ (p : Placed). p.views) c.place.view_is in
+    let views = ap (λ (p : KnownRawSeat). p.views) c.place.view_is in
     let first = ap first_of views in
     let group = ap (λ (v : StockView). (account_of v c.args.p).group) first ∙ c.requires.group in
     let me = alone_me _ _ views c.place.invariant c.requires.alone in (
@@ -29,7 +29,7 @@ returns-clause-alone c = after_alone c.place.inside.seat.me c.swap.new.seat.me _
 pub returns-clause-kind : goal.returns-clause-kind
 returns-clause-kind c =
     let told = c.swap.ensures.2 in
-    let views = ap (λ (p : Placed). p.views) c.place.view_is in
+    let views = ap (λ (p : KnownRawSeat). p.views) c.place.view_is in
     let first = ap first_of views in
     let group = ap (λ (v : StockView). (account_of v c.args.p).group) first ∙ c.requires.group in
     told_alone (λ v w. Drains c.args.p c.args.group (stock_place c.args.p) c.swap.result (word_of (DrainedOf c.args.group)) v w) _ _ _ _ views told.1

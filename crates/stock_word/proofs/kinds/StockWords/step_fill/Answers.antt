@@ -1,6 +1,6 @@
 use Rattle.std.proofs.Common.{rules, ℕ, ap, ◌∙◌, subst}
 use Rattle.stock_word.specs.declared.view.Stock.TheVariants.{HeldBy}
-use Rattle.stock_word.specs.Stock.{Placed, word_of, first_of, second_of}
+use Rattle.stock_word.specs.Stock.{KnownRawSeat, word_of, first_of, second_of}
 use Rattle.stock_word.specs.StockRule.{stock_place}
 use Rattle.stock_word.specs.Kinds.{Fills}
 use Rattle.stock_word.proofs.Places.{pair_me, after_pair, no_slots, told_pair}
@@ -9,7 +9,7 @@ use Rattle.stock_word.proofs.kinds.StockWords.step_fill.Goals as goal
 
 pub store-requires : goal.store-requires
 store-requires c =
-    let views = ap (λ (p : Placed). p.views) c.place.view_is in
+    let views = ap (λ (p : KnownRawSeat). p.views) c.place.view_is in
     let me = pair_me _ _ views c.place.invariant c.requires.pair in (
       search rules,
       search rules,
@@ -27,7 +27,7 @@ returns-clause-pair c = after_pair c.place.inside.seat.me c.store.new.seat.me _ 
 pub returns-clause-kind : goal.returns-clause-kind
 returns-clause-kind c =
     let told = c.store.ensures.2 in
-    let views = ap (λ (p : Placed). p.views) c.place.view_is in
+    let views = ap (λ (p : KnownRawSeat). p.views) c.place.view_is in
     told_pair (λ m v n w. Fills c.args.group c.args.pages (stock_place c.args.number) (word_of (HeldBy c.args.group c.args.pages))
     m v n w) _ _ _ _ _ views told.2
     (subst (λ (y : ℕ × ℕ). Fills c.args.group c.args.pages y.0 y.1 (first_of c.place.inside.seat.me.0) (second_of c.place.inside.seat.me.0) told.0 told.1)

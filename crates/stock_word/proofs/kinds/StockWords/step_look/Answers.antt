@@ -1,5 +1,5 @@
 use Rattle.std.proofs.Common.{rules, ℕ, ap, subst}
-use Rattle.stock_word.specs.Stock.{Placed, first_of}
+use Rattle.stock_word.specs.Stock.{KnownRawSeat, first_of}
 use Rattle.stock_word.specs.StockRule.{stock_place}
 use Rattle.stock_word.specs.Kinds.{DrainsNone, LooksAt}
 use Rattle.stock_word.proofs.Places.{alone_me, after_alone, no_slots, told_alone}
@@ -8,7 +8,7 @@ use Rattle.stock_word.proofs.kinds.StockWords.step_look.Goals as goal
 
 pub load-requires : goal.load-requires
 load-requires c =
-    let views = ap (λ (p : Placed). p.views) c.place.view_is in
+    let views = ap (λ (p : KnownRawSeat). p.views) c.place.view_is in
     let me = alone_me _ _ views c.place.invariant c.requires.alone in
     (search rules, search rules, looking_allowed _ _ _ _ c.args.p me (search rules) (search rules) (search rules) _ c.stock_place-at.ensures)
 
@@ -21,7 +21,7 @@ returns-clause-alone c = after_alone c.place.inside.seat.me c.load.new.seat.me _
 pub returns-clause-none : goal.returns-clause-none
 returns-clause-none c = λ it.
     let told = c.load.ensures.2 in
-    let views = ap (λ (p : Placed). p.views) c.place.view_is in
+    let views = ap (λ (p : KnownRawSeat). p.views) c.place.view_is in
     told_alone (λ v w. DrainsNone c.args.p (stock_place c.args.p) c.load.result c.load.result v w) _ _ _ _ views told.1
     (subst (λ (y : ℕ). DrainsNone c.args.p y c.load.result c.load.result (first_of c.place.inside.seat.me.0) told.0) c.stock_place-at.ensures
     ((told.2 c.args.p c.stock_place-at.ensures).0 it))
@@ -29,7 +29,7 @@ returns-clause-none c = λ it.
 pub returns-clause-some : goal.returns-clause-some
 returns-clause-some c = λ it.
     let told = c.load.ensures.2 in
-    let views = ap (λ (p : Placed). p.views) c.place.view_is in
+    let views = ap (λ (p : KnownRawSeat). p.views) c.place.view_is in
     told_alone (λ v w. LooksAt c.args.p (stock_place c.args.p) c.load.result c.load.result v w) _ _ _ _ views told.1
     (subst (λ (y : ℕ). LooksAt c.args.p y c.load.result c.load.result (first_of c.place.inside.seat.me.0) told.0) c.stock_place-at.ensures
     ((told.2 c.args.p c.stock_place-at.ensures).1 it))

@@ -1,5 +1,5 @@
 use Rattle.std.proofs.Common.{rules, ◌≡◌, ℕ, ◌+◌, ap, ◌∙◌, subst}
-use Rattle.stock_word.specs.Stock.{Placed, first_of, second_of}
+use Rattle.stock_word.specs.Stock.{KnownRawSeat, first_of, second_of}
 use Rattle.stock_word.specs.StockRule.{report_place}
 use Rattle.stock_word.specs.Kinds.{Reports}
 use Rattle.stock_word.proofs.Places.{pair_me, after_pair, no_slots, told_pair}
@@ -8,7 +8,7 @@ use Rattle.stock_word.proofs.kinds.StockWords.step_report.Goals as goal
 
 pub fetch_add-requires : goal.fetch_add-requires
 fetch_add-requires c =
-    let views = ap (λ (p : Placed). p.views) c.place.view_is in
+    let views = ap (λ (p : KnownRawSeat). p.views) c.place.view_is in
     let me = pair_me _ _ views c.place.invariant c.requires.pair in (
       search rules,
       search rules,
@@ -25,7 +25,7 @@ returns-clause-pair c = after_pair c.place.inside.seat.me c.fetch_add.new.seat.m
 pub returns-clause-kind : goal.returns-clause-kind
 returns-clause-kind c =
     let told = c.fetch_add.ensures.2 in
-    let views = ap (λ (p : Placed). p.views) c.place.view_is in
+    let views = ap (λ (p : KnownRawSeat). p.views) c.place.view_is in
     let pages : c.from.result ≡ c.args.n = search rules in
     told_pair (λ m v n w. Reports c.args.n (report_place c.args.number) c.fetch_add.result (c.fetch_add.result + c.args.n) m v n w) _ _ _ _ _ views told.2
     (subst
