@@ -4,7 +4,7 @@ ghost use Rattle.frame_word.specs.ReferenceRule.{ReferenceRule, visit_index};
 ghost use Rattle.frame_word.specs.Seats.{view_of, AreSeatsAt};
 
 use crate::frame::Frame;
-use crate::kinds::{Board, Place};
+use crate::kinds::{Board, RawSeat};
 use crate::seat::FrameSeat;
 use crate::words::FrameWords;
 use atomic_table::Closed;
@@ -88,7 +88,7 @@ impl FrameWords {
 }
 
 // Joins all seats into one.
-fn gather(board: &Board, all: &mut Place, seats: Vec<FrameSeat>)
+fn gather(board: &Board, all: &mut RawSeat, seats: Vec<FrameSeat>)
     requires table { (all.old.seat.table_id ≡ board.now.table.shared.table_id) × (0 < board.now.table.shared.table_id.words) }
     requires seats { AreSeatsAt board.now.table.shared.table_id seats.items }
     ensures table { all.new.seat.table_id ≡ all.old.seat.table_id }

@@ -52,7 +52,7 @@ pub(crate) struct Board {
 
 /// A seat at the table. Its view is a list: one view, two if it took in another seat's, none if it is empty.
 #[derive(Drop)]
-pub(crate) struct Place {
+pub(crate) struct RawSeat {
     seat: Seat<(), [FrameView; 0]>,
 }
 
@@ -140,40 +140,40 @@ impl Board {
         alloc: Global,
         words: &[u64],
         sizes: &Sizes,
-    ) -> Result<(Board, Place), AllocError>
+    ) -> Result<(Board, RawSeat), AllocError>
         requires { ReferenceRule sizes.now.frames sizes.now.cpus words.now (first_views sizes.now.frames sizes.now.cpus ∷ []) }
         ensures counts { IfOk result (λ t. (t.0.table.shared.table_id.words ≡ length words.now) × (t.0.table.shared.table_id.slots ≡ 0)) }
         ensures key { IfOk result (λ t. t.0.table.shared.key ≡ sizes.now) }
         ensures place { IfOk result (λ t. (t.1.seat.table_id ≡ t.0.table.shared.table_id) × (t.1.seat.me ≡ (first_views sizes.now.frames sizes.now.cpus, []))) }
     {
         let (table, seat) = Table::of_words(alloc, words, sizes)?;
-        Ok((Board { table }, Place { seat }))
+        Ok((Board { table }, RawSeat { seat }))
     }
 
     /// The place keeps its first view. The new place gets the others.
-    pub(crate) fn cut(&self, place: &mut Place) -> Place
+    pub(crate) fn cut(&self, place: &mut RawSeat) -> RawSeat
         requires { (place.old.seat.table_id ≡ self.now.table.shared.table_id) × (0 < self.now.table.shared.table_id.words) }
         ensures table { (place.new.seat.table_id ≡ place.old.seat.table_id) × (result.seat.table_id ≡ place.old.seat.table_id) }
         ensures views { (place.new.seat.me ≡ (first_alone place.old.seat.me.0, place.old.seat.me.1)) × (result.seat.me ≡ (but_first place.old.seat.me.0, [])) }
     {
-        Place {
+        RawSeat {
             seat: self.table.shared.split_seat::<Cut>(&mut place.seat),
         }
     }
 
     /// The other place's views follow the place's own.
-    pub(crate) fn pair(&self, place: &mut Place, other: Place)
+    pub(crate) fn pair(&self, place: &mut RawSeat, other: RawSeat)
         requires table { (place.old.seat.table_id ≡ self.now.table.shared.table_id) × (0 < self.now.table.shared.table_id.words) }
         requires other { (other.seat.table_id ≡ self.now.table.shared.table_id) × (other.seat.me.1 ≡ []) }
         ensures table { place.new.seat.table_id ≡ place.old.seat.table_id }
         ensures views { place.new.seat.me ≡ (place.old.seat.me.0 ++ other.seat.me.0, place.old.seat.me.1) }
     {
-        let Place { seat } = other;
+        let RawSeat { seat } = other;
         self.table.shared.join_seat::<Pair>(&mut place.seat, seat);
     }
 
     /// Ends the table. The rule holds of its words, and the place is one of its seats.
-    pub(crate) fn end(self, place: Place) -> Closed<(), Global>
+    pub(crate) fn end(self, place: RawSeat) -> Closed<(), Global>
         requires { place.seat.table_id ≡ self.table.shared.table_id }
         ensures counts { (slots_len result.words ≡ self.table.shared.table_id.words) × (slots_len result.slots ≡ self.table.shared.table_id.slots) }
         ensures full { IsFull result.words }
@@ -181,7 +181,7 @@ impl Board {
             EndsWith key.frames key.cpus place.seat.id place.seat.me.0 (slots_items result.words) (slots_items result.slots) }
     {
         let Board { table } = self;
-        let Place { seat } = place;
+        let RawSeat { seat } = place;
         table.close_with(seat)
     }
 }

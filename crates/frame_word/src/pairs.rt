@@ -2,11 +2,11 @@
 ghost use Rattle.std.specs.Prelude.{◌≡◌, ◌<◌, [], ◌∷◌, ◌++◌};
 ghost use Rattle.frame_word.specs.Kinds.{first_alone, but_first};
 
-use crate::kinds::{Board, Place};
+use crate::kinds::{Board, RawSeat};
 use std::mem;
 
 /// The first place takes in the second's view, and an empty place is left in the second meanwhile.
-pub(crate) fn join(board: &Board, zone: &mut Place, cpu: &mut Place)
+pub(crate) fn join(board: &Board, zone: &mut RawSeat, cpu: &mut RawSeat)
     requires table { (zone.old.seat.table_id ≡ board.now.table.shared.table_id) × (cpu.old.seat.table_id ≡ board.now.table.shared.table_id)
         × (0 < board.now.table.shared.table_id.words) }
     requires zone { zone.old.seat.me ≡ (first_alone zone.old.seat.me.0, []) }
@@ -20,7 +20,7 @@ pub(crate) fn join(board: &Board, zone: &mut Place, cpu: &mut Place)
 }
 
 /// The second place gets its view back.
-pub(crate) fn part(board: &Board, zone: &mut Place, cpu: &mut Place)
+pub(crate) fn part(board: &Board, zone: &mut RawSeat, cpu: &mut RawSeat)
     requires table { (zone.old.seat.table_id ≡ board.now.table.shared.table_id) × (0 < board.now.table.shared.table_id.words) }
     requires zone { zone.old.seat.me.1 ≡ [] }
     ensures table { (zone.new.seat.table_id ≡ zone.old.seat.table_id) × (cpu.new.seat.table_id ≡ zone.old.seat.table_id) }

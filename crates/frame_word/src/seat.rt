@@ -1,12 +1,12 @@
 //! The seat of the zone (0) or of a CPU.
-use crate::kinds::Place;
+use crate::kinds::RawSeat;
 use std::marker::Model;
 
 /// A seat at the table of frame words: number 0 is the zone's, 1 and up are the CPUs'. It stores only its number; what
 /// it knows is for contracts.
 #[derive(Drop)]
 pub struct FrameSeat {
-    pub(crate) place: Place,
+    pub(crate) place: RawSeat,
     pub(crate) number: u32,
 }
 

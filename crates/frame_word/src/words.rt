@@ -3,7 +3,7 @@ ghost use Rattle.std.specs.Prelude.{◌≡◌, ℕ, ◌+◌, ◌<◌, [], ◌∷
 ghost use Rattle.frame_word.specs.Seats.{first_zone_view, first_cpu_seats, cpu_views, IsZoneSeat, AreCpuSeats};
 
 use crate::frame::Frame;
-use crate::kinds::{Board, Place, Sizes};
+use crate::kinds::{Board, RawSeat, Sizes};
 use crate::seat::FrameSeat;
 use std::alloc::{AllocError, Global};
 use std::marker::Model;
@@ -89,7 +89,7 @@ impl FrameWords {
 fn deal(
     alloc: Global,
     board: &Board,
-    mut rest: Place,
+    mut rest: RawSeat,
     cpus: u32,
 ) -> Result<Vec<FrameSeat>, AllocError>
     requires table { (rest.seat.table_id ≡ board.now.table.shared.table_id) × (0 < board.now.table.shared.table_id.words) }

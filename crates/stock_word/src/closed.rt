@@ -5,7 +5,7 @@ ghost use Rattle.stock_word.specs.Stock.{IsZoneStock, IsProcessor, AreOf, first_
 ghost use Rattle.stock_word.specs.declared.view.Stock.{Stock as AStock};
 ghost use Rattle.stock_word.specs.StockRule.{IsStockOf, stock_place as place_of_stock, report_place as place_of_report};
 
-use crate::kinds::{Place, StockWords, report_place, stock_place};
+use crate::kinds::{RawSeat, StockWords, report_place, stock_place};
 use crate::seat::StockSeat;
 use crate::view::Stock;
 use atomic_table::Closed;
@@ -31,7 +31,7 @@ impl Model for ClosedWords {
 
 impl StockWords {
     // The machine's seat takes in all seats of the CPUs.
-    fn gather(&self, place0: &mut Place, mut seats: Vec<StockSeat>)
+    fn gather(&self, place0: &mut RawSeat, mut seats: Vec<StockSeat>)
         requires table { (place0.old.table ≡ self.now.table) × AreOf self.now.table seats.items }
         requires alone { IsAlone place0.old.views }
         ensures table { place0.new.table ≡ self.now.table }

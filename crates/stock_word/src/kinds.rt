@@ -53,11 +53,11 @@ impl Model for StockWords {
 
 /// A seat's place at the table. A contract sees the table that it belongs to and its views.
 #[derive(Drop)]
-pub(crate) struct Place {
+pub(crate) struct RawSeat {
     seat: Seat<(), Views>,
 }
 
-impl Model for Place {
+impl Model for RawSeat {
     ghost Value = { KnownRawSeat };
 
     ghost view = { λ p. record { table = p.seat.table_id; views = p.seat.me.0 } };
@@ -176,7 +176,7 @@ impl StockWords {
 
 impl StockWords {
     /// Consume: the stock word of the CPU goes from the stock that it saw last to one page less, or is found drained.
-    pub(crate) fn step_consume(&self, place: &mut Place, number: u32, group: u32, pages: u32) -> u64
+    pub(crate) fn step_consume(&self, place: &mut RawSeat, number: u32, group: u32, pages: u32) -> u64
         requires table { place.old.table ≡ self.now.table }
         requires alone { IsAlone place.old.views }
         requires number { number ≡ (first_of place.old.views).number }
@@ -203,7 +203,7 @@ impl StockWords {
     }
 
     /// Credit: the stock word of the CPU goes from the stock that it saw last to one page more, or is found drained.
-    pub(crate) fn step_credit(&self, place: &mut Place, number: u32, group: u32, pages: u32) -> u64
+    pub(crate) fn step_credit(&self, place: &mut RawSeat, number: u32, group: u32, pages: u32) -> u64
         requires table { place.old.table ≡ self.now.table }
         requires alone { IsAlone place.old.views }
         requires number { number ≡ (first_of place.old.views).number }
@@ -234,7 +234,7 @@ impl StockWords {
 
 impl StockWords {
     /// The look of a drain: the stock was never filled, or is of the group of its last fill.
-    pub(crate) fn step_look(&self, place: &mut Place, p: u32) -> u64
+    pub(crate) fn step_look(&self, place: &mut RawSeat, p: u32) -> u64
         requires table { place.old.table ≡ self.now.table }
         requires alone { IsAlone place.old.views }
         requires machine { IsZoneStock (first_of place.old.views) }
@@ -249,7 +249,7 @@ impl StockWords {
     }
 
     /// Drain: the stock word, whatever it is, becomes drained of the group of the last fill.
-    pub(crate) fn step_drain(&self, place: &mut Place, p: u32, group: u32) -> u64
+    pub(crate) fn step_drain(&self, place: &mut RawSeat, p: u32, group: u32) -> u64
         requires table { place.old.table ≡ self.now.table }
         requires alone { IsAlone place.old.views }
         requires machine { IsZoneStock (first_of place.old.views) }
@@ -268,7 +268,7 @@ impl StockWords {
     }
 
     /// Absorb: the report word becomes 0.
-    pub(crate) fn step_absorb(&self, place: &mut Place, p: u32) -> u64
+    pub(crate) fn step_absorb(&self, place: &mut RawSeat, p: u32) -> u64
         requires table { place.old.table ≡ self.now.table }
         requires alone { IsAlone place.old.views }
         requires machine { IsZoneStock (first_of place.old.views) }
@@ -286,7 +286,7 @@ impl StockWords {
 
 impl StockWords {
     /// Report: `n` pages more in the report word.
-    pub(crate) fn step_report(&self, place: &mut Place, number: u32, n: u32) -> u64
+    pub(crate) fn step_report(&self, place: &mut RawSeat, number: u32, n: u32) -> u64
         requires table { place.old.table ≡ self.now.table }
         requires pair { IsPair place.old.views }
         requires number { number ≡ (second_of place.old.views).number }
@@ -305,7 +305,7 @@ impl StockWords {
     }
 
     /// A consume that always takes: one page less in the stock word.
-    pub(crate) fn step_consume_held(&self, place: &mut Place, number: u32, group: u32) -> u64
+    pub(crate) fn step_consume_held(&self, place: &mut RawSeat, number: u32, group: u32) -> u64
         requires table { place.old.table ≡ self.now.table }
         requires pair { IsPair place.old.views }
         requires number { number ≡ (second_of place.old.views).number }
@@ -325,7 +325,7 @@ impl StockWords {
     }
 
     /// Fill: the stock word, whose stock has no page, becomes held by `group` with `pages`.
-    pub(crate) fn step_fill(&self, place: &mut Place, number: u32, group: u32, pages: u32)
+    pub(crate) fn step_fill(&self, place: &mut RawSeat, number: u32, group: u32, pages: u32)
         requires table { place.old.table ≡ self.now.table }
         requires pair { IsPair place.old.views }
         requires number { number ≡ (second_of place.old.views).number }
@@ -346,7 +346,7 @@ impl StockWords {
     }
 
     /// A look: the stock word is that of the stock that the book gives.
-    pub(crate) fn step_see(&self, place: &mut Place, number: u32) -> u64
+    pub(crate) fn step_see(&self, place: &mut RawSeat, number: u32) -> u64
         requires table { place.old.table ≡ self.now.table }
         requires pair { IsPair place.old.views }
         requires number { number ≡ (second_of place.old.views).number }
@@ -366,55 +366,55 @@ impl StockWords {
 
 impl StockWords {
     /// A table of zeros for the CPUs 1 to `cpus`, and one seat that has all views.
-    pub(crate) fn begin(alloc: Global, cpus: u32) -> Result<(StockWords, Place), AllocError>
+    pub(crate) fn begin(alloc: Global, cpus: u32) -> Result<(StockWords, RawSeat), AllocError>
         requires { (1 ≤ cpus) × (cpus ≤ 64) }
         ensures cpus { IfOk result (λ r. r.0.cpus ≡ cpus) }
         ensures all { IfOk result (λ r. r.1 ≡ record { table = r.0.table; views = first_zone_stock ∷ first_processors 1 cpus }) }
     {
         let words = vec![in alloc; 0u64; 16 * (cpus as usize + 1)]?;
         let (table, seat) = Table::of_words(alloc, words.as_slice(), &cpus)?;
-        Ok((StockWords { table }, Place { seat }))
+        Ok((StockWords { table }, RawSeat { seat }))
     }
 
     /// Ends the table. The rule holds of its words and all views, those of this seat among them.
-    pub(crate) fn end(self, place: Place) -> Closed<(), Global>
+    pub(crate) fn end(self, place: RawSeat) -> Closed<(), Global>
         requires table { place.table ≡ self.table }
         ensures full { IsFull result.words × (slots_len result.slots ≡ 0) }
         ensures rule { Ends self.cpus (slots_items result.words) place.views }
     {
         let StockWords { table } = self;
-        let Place { seat } = place;
+        let RawSeat { seat } = place;
         table.close_with(seat)
     }
 
     /// An empty seat, split off a seat that keeps its views.
-    pub(crate) fn split_empty(&self, place: &mut Place) -> Place
+    pub(crate) fn split_empty(&self, place: &mut RawSeat) -> RawSeat
         requires table { place.old.table ≡ self.now.table }
         ensures kept { place.new ≡ place.old }
         ensures empty { result ≡ record { table = self.now.table; views = [] } }
     {
-        Place {
+        RawSeat {
             seat: self.table.shared.split_seat::<Nothing>(&mut place.seat),
         }
     }
 
     /// The seat's second view, split off into a seat of its own.
-    pub(crate) fn split_second(&self, place: &mut Place) -> Place
+    pub(crate) fn split_second(&self, place: &mut RawSeat) -> RawSeat
         requires table { place.old.table ≡ self.now.table }
         ensures rest { place.new ≡ record { table = self.now.table; views = without_second place.old.views } }
         ensures second { result ≡ record { table = self.now.table; views = second_alone place.old.views } }
     {
-        Place {
+        RawSeat {
             seat: self.table.shared.split_seat::<Second>(&mut place.seat),
         }
     }
 
     /// The seat takes in the views of another one.
-    pub(crate) fn join_place(&self, place: &mut Place, other: Place)
+    pub(crate) fn join_place(&self, place: &mut RawSeat, other: RawSeat)
         requires tables { (place.old.table ≡ self.now.table) × (other.table ≡ self.now.table) }
         ensures both { place.new ≡ record { table = self.now.table; views = place.old.views ++ other.views } }
     {
-        let Place { seat } = other;
+        let RawSeat { seat } = other;
         self.table.shared.join_seat::<Both>(&mut place.seat, seat);
     }
 }

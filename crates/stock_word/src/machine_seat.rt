@@ -5,14 +5,14 @@ ghost use Rattle.stock_word.specs.Stock.{HasWord, pages_of, group_of, is_held, d
 ghost use Rattle.stock_word.specs.Kinds.{IsAlone, IsPair, after_took, after_report, noting, filling, after_fill, draining, absorbing, with_steps};
 ghost use Rattle.stock_word.specs.Calls.{with_view, after_look, steps_of_drain};
 
-use crate::kinds::{Place, StockWords};
+use crate::kinds::{RawSeat, StockWords};
 use crate::seat::StockSeat;
 use crate::view::Stock;
 use std::mem;
 
 impl StockWords {
     // The machine's seat takes in the CPU's, and an empty seat is left in its place.
-    fn join(&self, place0: &mut Place, place: &mut Place)
+    fn join(&self, place0: &mut RawSeat, place: &mut RawSeat)
         requires tables { (place0.old.table ≡ self.now.table) × (place.old.table ≡ self.now.table) }
         requires alone { IsAlone place0.old.views × IsAlone place.old.views }
         ensures tables { (place0.new.table ≡ self.now.table) × (place.new.table ≡ self.now.table) }
@@ -24,7 +24,7 @@ impl StockWords {
     }
 
     // Parts joined seats again.
-    fn part(&self, place0: &mut Place, place: &mut Place)
+    fn part(&self, place0: &mut RawSeat, place: &mut RawSeat)
         requires table { place0.old.table ≡ self.now.table }
         requires pair { IsPair place0.old.views }
         ensures tables { (place0.new.table ≡ self.now.table) × (place.new.table ≡ self.now.table) }

@@ -3,13 +3,13 @@ ghost use Rattle.std.specs.Prelude.{◌≡◌, ◌+◌, ◌<◌, ◌≤◌, ℕ,
 ghost use Rattle.stock_word.specs.Kinds.{IsAlone};
 ghost use Rattle.stock_word.specs.Stock.{first_zone_stock, first_processor, first_processors, first_seats, first_of, view_in, AreOf, StartsAs};
 
-use crate::kinds::{Place, StockWords};
+use crate::kinds::{RawSeat, StockWords};
 use crate::seat::StockSeat;
 use crate::view::Stock;
 use std::alloc::{AllocError, Global};
 
 // A seat as it is at first.
-fn seated(place: Place, number: u32) -> StockSeat
+fn seated(place: RawSeat, number: u32) -> StockSeat
     requires view { IsAlone place.views }
     requires first { StartsAs number (first_of place.views) }
     ensures { result ≡ record { table = place.table; view = first_of place.views } }
@@ -45,7 +45,7 @@ impl StockWords {
     fn deal(
         &self,
         alloc: Global,
-        place: &mut Place,
+        place: &mut RawSeat,
         cpus: u32,
     ) -> Result<Vec<StockSeat>, AllocError>
         requires table { (place.old.table ≡ self.now.table) × (cpus ≤ 64) }

@@ -1,7 +1,7 @@
 //! A seat at the stock table.
 ghost use Rattle.std.specs.Prelude.{◌≡◌};
 
-use crate::kinds::Place;
+use crate::kinds::RawSeat;
 use crate::view::Stock;
 use std::marker::Model;
 
@@ -9,7 +9,7 @@ use std::marker::Model;
 /// belongs to and what it knows. It takes a few bytes and no lock.
 #[derive(Drop)]
 pub struct StockSeat {
-    pub(crate) place: Place,
+    pub(crate) place: RawSeat,
     pub(crate) number: u32,
     // The stock that a CPU's seat saw last.
     pub(crate) last: Stock,
