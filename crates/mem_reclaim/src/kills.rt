@@ -40,7 +40,7 @@ fn let_go_all<N: BootName>(
         let Some(frame) = tables.frames.frame(unit.number) else {
             unreachable!()
         };
-        machine.let_go(tables, frame);
+        machine.drop_zone_reference(tables, frame);
     }
 }
 

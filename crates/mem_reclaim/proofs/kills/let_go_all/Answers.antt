@@ -23,7 +23,7 @@ loop-unit-preserved g c =
     let o = oldest_is g.N.BootName.frames g.N.BootName.stocks c.args.group fits c.args.list c.loop-unit.machine c.spots-spots.ensures.consistent
     c.in-Some.unit c.oldest.result c.oldest.ensures c.in-Some.is in
     let_go_more g.N.BootName.frames c.args.group c.args.list c.args.machine.now c.loop-unit._unit c.loop-unit.machine c.loop-unit.invariant c.in-Some.unit o
-    c.in-Some-frame.frame c.in-Some-frame.ensures.0 c.let_go.result c.let_go.new.self c.let_go.ensures.releases c.let_go.ensures.visit c.let_go.ensures.steps
+    c.in-Some-frame.frame c.in-Some-frame.ensures.0 c.drop_zone_reference.result c.drop_zone_reference.new.self c.drop_zone_reference.ensures.releases c.drop_zone_reference.ensures.visit c.drop_zone_reference.ensures.steps
 
 pub returns-clause-lets_go : goal.returns-clause-lets_go
 returns-clause-lets_go g c =

@@ -1,7 +1,7 @@
 use Rattle.std.proofs.Common.{rules}
 use Rattle.mem_machine.proofs.Freeing.{unit_in_use, unit_charged}
 use Rattle.mem_machine.proofs.Releases.{left_all, read_head, returned_all}
-use Rattle.mem_machine.proofs.machine.Machine.let_go.Goals as goal
+use Rattle.mem_machine.proofs.machine.Machine.drop_zone_reference.Goals as goal
 
 pub free_unit-requires-clause-in_use : goal.free_unit-requires-clause-in_use
 free_unit-requires-clause-in_use g c =
