@@ -45,7 +45,7 @@ use Rattle.mem_system.specs.Allocations.{Allocates, AllocatesFor}
 use Rattle.mem_system.specs.Units.{TouchesFrame, NotesDirt}
 use Rattle.mem_system.specs.Releases.{CutsList, ListsFrame, ReleasesFrame, ReturnsFrames}
 use Rattle.mem_system.specs.Asks.{MayAskFor}
-use Rattle.mem_system.specs.Commands.{Obeys}
+use Rattle.mem_system.specs.Commands.{Executes}
 
 -- ---- commands that kill nobody
 
@@ -230,7 +230,7 @@ allocates_no_rash t cmd sizes path order (reply.Refused fault.Killed) s c steps 
 allocates_no_rash t cmd sizes path order other s c steps n z asks whole h = absurd h
 
 pub obeys_no_rash : (t : KnownTable) (sizes : Config) (cmd : Cmd) (said : Reply) (s : KnownMachine) (c : KnownCpu) (steps : Run) (n : Side) (z : State)
-    → Obeys sizes cmd said (course t (side s c) steps n) → IsLocalRun c.number (local_of t s c) steps z
+    → Executes sizes cmd said (course t (side s c) steps n) → IsLocalRun c.number (local_of t s c) steps z
     → NoRashKill t (MayAskFor cmd s.ledger.groups) s c steps
 obeys_no_rash t sizes (Mkdir path) said s c steps n z h whole =
     rash_quiet t (MayAskFor (Mkdir path) s.ledger.groups) s c [] steps (makes_quiet path.now said (course t s steps n.machine) h.does)

@@ -30,7 +30,7 @@ use Rattle.mem_system.specs.Units.{HeadsNoUnit, NotesDirt, TouchesFrame}
 use Rattle.mem_system.specs.Releases.{ListsFrame, ReleasesFrame, ReturnsFrames}
 use Rattle.mem_system.specs.Groups.{MakesGroup, Removes}
 use Rattle.mem_system.specs.Files.{SetsFile, SetsLimit, Writes, with_limit_of}
-use Rattle.mem_system.specs.Commands.{Obeys}
+use Rattle.mem_system.specs.Commands.{Executes}
 
 makes_counts : (path : List ℕ) (said : Reply) (way : Course KnownMachine) → MakesGroup path said way → CountsMisses way
 makes_counts path (reply.Group n) way h =
@@ -181,7 +181,7 @@ allocates_counts sizes path order (reply.Refused fault.NoFrames) way h = allocat
 allocates_counts sizes path order (reply.Refused fault.Killed) way h = allocates_for sizes path order (Err RequesterKilled) way h
 allocates_counts sizes path order other way h = absurd h
 
-pub obeys_counts : (sizes : Config) (cmd : Cmd) (said : Reply) (way : Course Side) → Obeys sizes cmd said way → CountsMisses (of_machine way)
+pub obeys_counts : (sizes : Config) (cmd : Cmd) (said : Reply) (way : Course Side) → Executes sizes cmd said way → CountsMisses (of_machine way)
 obeys_counts sizes (Mkdir path) said way h = makes_counts path.now said (of_machine way) h.does
 obeys_counts sizes (Rmdir path) said way h = removes_counts path.now said (of_machine way) h.does
 obeys_counts sizes (Write path file value) said way h = writes_counts path.now file.now value.now said (of_machine way) h.does

@@ -15,7 +15,7 @@ use Rattle.mem_system.specs.declared.command.Reply.{Reply}
 use Rattle.mem_system.specs.Locked.{KnownLocked, AllShut}
 use Rattle.mem_system.proofs.Killing.{around_quiet, obeys_no_rash}
 use Rattle.mem_system.proofs.Missing.{obeys_counts}
-use Rattle.mem_system.specs.Commands.{BySteps, Obeys, course}
+use Rattle.mem_system.specs.Commands.{BySteps, Executes, course}
 use Rattle.mem_system.specs.Visits.{with_visit_of, holder, IsServed}
 use Rattle.mem_machine.proofs.Followed.{makes_both}
 
@@ -52,7 +52,7 @@ pub served : (t : KnownTable) (cmd : Cmd) (l k : KnownLocked) (c d : KnownCpu) (
     → k.machine ≡ with_visit_of x c3.number 0 → d ≡ c3 → k.sizes ≡ l.sizes
     → MakesAs t c.number (side (record l.machine { notes = [] }) c) (open_steps c.number) (side entered c1)
     → Settles (side entered c1) (side mid c2) → MakesAs t c1.number (side entered c1) (settle_steps (side entered c1)) (side mid c2)
-    → BySteps t (Obeys l.sizes cmd reply) (side mid c2) (side x c3)
+    → BySteps t (Executes l.sizes cmd reply) (side mid c2) (side x c3)
     → MakesAs t c3.number (side x c3) (shut_steps c3.number) (side k.machine d)
     → IsServed t cmd reply (holder l c) (holder k d)
 served t cmd l k c d reply entered mid x c1 c2 c3 opened same second third shut after sizes first settles rests obeyed last =
@@ -74,7 +74,7 @@ served t cmd l k c d reply entered mid x c1 c2 c3 opened same second third shut 
         settles = settled;
         inner = obeyed.steps;
         done = x;
-        obeys = subst (λ (y : KnownCpu). Obeys l.sizes cmd reply (course t (side mid c2) obeyed.steps (side x y))) (sym after) obeyed.does;
+        obeys = subst (λ (y : KnownCpu). Executes l.sizes cmd reply (course t (side mid c2) obeyed.steps (side x y))) (sym after) obeyed.does;
         no_rash = obeys_no_rash t l.sizes cmd reply mid c2 obeyed.steps (side x c3) (local_of t x c3) obeyed.does obeyed.makes.leads;
         only_inner = around_quiet p (side begins c);
         misses = obeys_counts l.sizes cmd reply (course t (side mid c2) obeyed.steps (side x c3)) obeyed.does;

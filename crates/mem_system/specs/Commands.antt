@@ -46,18 +46,18 @@ pub record MayObey (table : KnownTable) (stock_table : Words) (sizes : Config) (
   pub sized : IsSizedAs sizes table stock_table
 
 -- what the command does inside the visit, and its reply
-abbrev pub Obeys : Config → Cmd → Reply → Course Side → Type 0
-Obeys sizes (Mkdir path) reply way = OfMachineAlone (MakesGroup path.now reply) way
-Obeys sizes (Rmdir path) reply way = OfMachineAlone (Removes path.now reply) way
-Obeys sizes (Write path file value) reply way = OfMachineAlone (Writes path.now file.now value.now reply) way
-Obeys sizes (Read path file) reply way = Reads way.before.machine.ledger path.now file.now reply × Stays way
-Obeys sizes Settle reply way = (reply ≡ Done) × Stays way
-Obeys sizes (Owner frame) reply way = TellsPlace way.before.machine frame reply × Stays way
-Obeys sizes (Touch frame) reply way = OfMachineAlone (TouchesFrame frame reply) way
-Obeys sizes (Dirty frame) reply way = OfMachineAlone (NotesDirt frame true reply) way
-Obeys sizes (Clean frame) reply way = OfMachineAlone (NotesDirt frame false reply) way
-Obeys sizes (Release frame) reply way = ReleasesFrame sizes frame reply way
-Obeys sizes (Alloc path order) reply way = Allocates sizes path.now order reply way
+abbrev pub Executes : Config → Cmd → Reply → Course Side → Type 0
+Executes sizes (Mkdir path) reply way = OfMachineAlone (MakesGroup path.now reply) way
+Executes sizes (Rmdir path) reply way = OfMachineAlone (Removes path.now reply) way
+Executes sizes (Write path file value) reply way = OfMachineAlone (Writes path.now file.now value.now reply) way
+Executes sizes (Read path file) reply way = Reads way.before.machine.ledger path.now file.now reply × Stays way
+Executes sizes Settle reply way = (reply ≡ Done) × Stays way
+Executes sizes (Owner frame) reply way = TellsPlace way.before.machine frame reply × Stays way
+Executes sizes (Touch frame) reply way = OfMachineAlone (TouchesFrame frame reply) way
+Executes sizes (Dirty frame) reply way = OfMachineAlone (NotesDirt frame true reply) way
+Executes sizes (Clean frame) reply way = OfMachineAlone (NotesDirt frame false reply) way
+Executes sizes (Release frame) reply way = ReleasesFrame sizes frame reply way
+Executes sizes (Alloc path order) reply way = Allocates sizes path.now order reply way
 
 -- the fresh frames after a command: the frame that an Alloc of order 0 returned, and none after any other command
 abbrev pub FreshAfter : Cmd → Reply → (fresh : List ℕ) → Type 0

@@ -22,7 +22,7 @@ use Rattle.mem_system.specs.declared.outcome.Outcome.{Outcome}
 use Rattle.mem_system.specs.Outcomes.{reply_of}
 use Rattle.mem_system.specs.Locked.{KnownLocked, IsSound}
 use Rattle.mem_system.specs.Asks.{MayAskFor}
-use Rattle.mem_system.specs.Commands.{Obeys, ListAndFreshStayWithin}
+use Rattle.mem_system.specs.Commands.{Executes, ListAndFreshStayWithin}
 
 -- the machine with the CPU's visit open (1) or shut (0)
 abbrev pub with_visit_of : KnownMachine → (processor state : ℕ) → KnownMachine
@@ -63,7 +63,7 @@ pub record Serves (cmd : Cmd) (reply : Reply) (way : Course Holder) : Type 0 whe
   pub settles : Settles (begun (side_of way.before)) settled
   pub inner : Run
   pub done : KnownMachine
-  pub obeys : Obeys way.before.locked.sizes cmd reply (course way.table settled inner (side done way.after.cpu))
+  pub obeys : Executes way.before.locked.sizes cmd reply (course way.table settled inner (side done way.after.cpu))
   pub no_rash : NoRashKill way.table (MayAskFor cmd settled.machine.ledger.groups) settled.machine settled.cpu inner
   pub only_inner : has_kill (visit_steps (side_of way.before) []) ≡ false
   pub misses : CountsMisses (course way.table settled.machine inner done)

@@ -3,7 +3,7 @@
 ghost use Rattle.mem_machine.specs.Machines.{KeepsVisit};
 ghost use Rattle.mem_machine.specs.Local.{side};
 ghost use Rattle.mem_system.specs.Outcomes.{ComesTo, HasItsGroups, reply_of};
-ghost use Rattle.mem_system.specs.Commands.{FreshAfter, IsOfZone, ListAndFreshStayWithin, MayObey, Obeys};
+ghost use Rattle.mem_system.specs.Commands.{FreshAfter, IsOfZone, ListAndFreshStayWithin, MayObey, Executes};
 
 use crate::allocations::allocate;
 use crate::files::{read_file, write_file};
@@ -105,9 +105,9 @@ pub enum Reply {
     Refused(Fault),
 }
 
-// Obeys the command inside the visit.
+// Executes the command inside the visit.
 #[inline(always)]
-pub(crate) fn obey<N: BootName>(
+pub(crate) fn execute<N: BootName>(
     machine: &mut Machine<N>,
     tables: &Tables<N>,
     cpu: &mut Cpu<N>,
@@ -116,7 +116,7 @@ pub(crate) fn obey<N: BootName>(
 ) -> Outcome
     requires zone { IsOfZone N.frames cmd.now }
     requires visit { MayObey N.frames N.stocks sizes (side machine.old cpu.old) }
-    ensures obeyed { ComesTo N.frames result (Obeys sizes cmd.now)
+    ensures obeyed { ComesTo N.frames result (Executes sizes cmd.now)
         (side machine.old cpu.old) (side machine.new cpu.new) }
     ensures groups { HasItsGroups machine.new.ledger result }
     ensures stays { KeepsVisit N.frames (side machine.old cpu.old) (side machine.new cpu.new) }

@@ -9,7 +9,7 @@ ghost use Rattle.mem_system.specs.Shown.{SettlesCaller};
 ghost use Rattle.mem_system.specs.Visits.{EndsVisit, IsCarriedOut, IsCarriedOutFor, IsServed, holder};
 
 use crate::allocations::outcome_of;
-use crate::command::{Cmd, Reply, obey};
+use crate::command::{Cmd, Reply, execute};
 use crate::lock::Locked;
 use crate::outcome::{Outcome, tell};
 use cpu_part::{BootName, Cpu, Tables};
@@ -37,7 +37,7 @@ pub fn carry_out<N: BootName>(
     locked.machine.forget_notes();
     locked.machine.open(tables, cpu);
     locked.machine.settle(tables, cpu);
-    let outcome = obey(&mut locked.machine, tables, cpu, locked.sizes, cmd);
+    let outcome = execute(&mut locked.machine, tables, cpu, locked.sizes, cmd);
     locked.machine.shut(tables, cpu);
     outcome
 }

@@ -14,9 +14,9 @@ use Rattle.mem_system.proofs.visits.carry_out.Goals as goal
 pub invariant_of-locked : goal.invariant_of-locked
 invariant_of-locked g c =
     let quiet = c.locked.invariant.quiet in
-    let x = c.obey-outcome.new.machine in
-    let numbered = c.obey-outcome.ensures.stays.number ∙ c.settle.ensures.others.number ∙ ap (λ (y : KnownCpu). y.number) c.open.ensures.cpu in
-    let opened = c.obey-outcome.ensures.stays.opened ∙ settled_opened _ _ _ _ c.settle.ensures.settles
+    let x = c.execute-outcome.new.machine in
+    let numbered = c.execute-outcome.ensures.stays.number ∙ c.settle.ensures.others.number ∙ ap (λ (y : KnownCpu). y.number) c.open.ensures.cpu in
+    let opened = c.execute-outcome.ensures.stays.opened ∙ settled_opened _ _ _ _ c.settle.ensures.settles
     ∙ ap (λ (k : KnownMachine). k.frame_seat.view.opened) (c.open.ensures.machine ∙ ap (λ (y : KnownMachine). with_visit_of y c.args.cpu.now.number 1) c.forget_notes.ensures) in
     record {
       quiet = record {
@@ -32,32 +32,32 @@ invariant_of-locked g c =
 pub returns : goal.returns
 returns g c =
     let t = g.N.BootName.frames in
-    let x = c.obey-outcome.new.machine in
+    let x = c.execute-outcome.new.machine in
     let k : KnownLocked = record { machine = c.shut.new.self; sizes = c.locked.inside.sizes } in
     let same = c.shut.ensures.cpu in
-    let reply = reply_of x.ledger c.obey-outcome.result in
+    let reply = reply_of x.ledger c.execute-outcome.result in
     let kept : k.machine.ledger ≡ x.ledger = ap (λ (y : KnownMachine). y.ledger) c.shut.ensures.machine in
-    let told : reply_of k.machine.ledger c.obey-outcome.result ≡ reply = ap (λ (l : Ledger). reply_of l c.obey-outcome.result) kept in
+    let told : reply_of k.machine.ledger c.execute-outcome.result ≡ reply = ap (λ (l : Ledger). reply_of l c.execute-outcome.result) kept in
     rw told record {
-      groups = subst (λ (l : Ledger). HasItsGroups l c.obey-outcome.result) (sym kept) c.obey-outcome.ensures.groups;
+      groups = subst (λ (l : Ledger). HasItsGroups l c.execute-outcome.result) (sym kept) c.execute-outcome.ensures.groups;
       served = subst (λ (l : KnownLocked). IsServed t c.args.cmd.now reply (holder l c.args.cpu.now) (holder k c.shut.new.cpu)) c.locked.view_is
           (served t c.args.cmd.now (record { machine = c.locked.inside.machine; sizes = c.locked.inside.sizes }) k c.args.cpu.now c.shut.new.cpu
-          reply c.open.new.self c.settle.new.self c.obey-outcome.new.machine c.open.new.cpu c.settle.new.cpu c.obey-outcome.new.cpu
+          reply c.open.new.self c.settle.new.self c.execute-outcome.new.machine c.open.new.cpu c.settle.new.cpu c.execute-outcome.new.cpu
           (c.open.ensures.machine ∙ ap (λ (y : KnownMachine). with_visit_of y c.args.cpu.now.number 1) c.forget_notes.ensures)
-          c.open.ensures.cpu c.settle.ensures.others.number c.obey-outcome.ensures.stays.number
+          c.open.ensures.cpu c.settle.ensures.others.number c.execute-outcome.ensures.stays.number
           c.shut.ensures.machine c.shut.ensures.cpu refl
           (subst (λ (y : KnownMachine). MakesAs t c.args.cpu.now.number (side y c.args.cpu.now) (open_steps c.args.cpu.now.number)
           (side c.open.new.self c.open.new.cpu)) c.forget_notes.ensures c.open.ensures.steps) c.settle.ensures.settles c.settle.ensures.steps
-          c.obey-outcome.ensures.obeyed c.shut.ensures.steps);
+          c.execute-outcome.ensures.obeyed c.shut.ensures.steps);
       settled = (
-        subst (λ (y : KnownCpu). FreshAfter c.args.cmd.now reply y.fresh) (sym same) c.obey-outcome.ensures.fresh,
-        ap (λ (y : KnownCpu). y.back) same ∙ c.obey-outcome.ensures.stays.back ∙ c.settle.ensures.none_back,
+        subst (λ (y : KnownCpu). FreshAfter c.args.cmd.now reply y.fresh) (sym same) c.execute-outcome.ensures.fresh,
+        ap (λ (y : KnownCpu). y.back) same ∙ c.execute-outcome.ensures.stays.back ∙ c.settle.ensures.none_back,
       );
       ends = record {
         at_most_high = subst (λ (l : KnownLocked). length c.args.cpu.now.list ≤ l.sizes.high
             → length c.shut.new.cpu.list + length c.shut.new.cpu.fresh ≤ l.sizes.high)
             c.locked.view_is
-            (λ within. subst (λ (y : KnownCpu). length y.list + length y.fresh ≤ c.locked.inside.sizes.high) (sym same) (c.obey-outcome.ensures.at_most_high
+            (λ within. subst (λ (y : KnownCpu). length y.list + length y.fresh ≤ c.locked.inside.sizes.high) (sym same) (c.execute-outcome.ensures.at_most_high
             (subst (λ (l : List ℕ). length l ≤ c.locked.inside.sizes.high)
             (sym (c.settle.ensures.others.list ∙ ap (λ (y : KnownCpu). y.list) c.open.ensures.cpu)) within)));
         still = c.shut.ensures.still;

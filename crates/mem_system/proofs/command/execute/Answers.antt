@@ -1,5 +1,5 @@
 use Rattle.std.proofs.Common.{rules, refl}
-use Rattle.mem_system.proofs.command.obey.Goals as goal
+use Rattle.mem_system.proofs.command.execute.Goals as goal
 
 pub returns-in-Mkdir-clause-obeyed : goal.returns-in-Mkdir-clause-obeyed
 returns-in-Mkdir-clause-obeyed g c =
