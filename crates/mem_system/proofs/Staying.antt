@@ -1,4 +1,4 @@
--- Serves `carry_out_frame`: settling leaves the groups.
+-- Serves `serve_frame_outcome`: settling leaves the groups.
 use Rattle.std.proofs.Common.{◌≡◌, ℕ, List, [], ◌∷◌, ap, ◌∙◌, inl, inr}
 use Rattle.std.proofs.lemmas.Bool.{cases_Bool}
 use Rattle.cpu_part.specs.Cpus.{KnownCpu}

@@ -80,15 +80,15 @@ pub record IsServed (table : KnownTable) (cmd : Cmd) (reply : Reply) (before aft
 
 -- a command was carried out under the lock with this outcome; its reply is what the charges after it make of the
 -- outcome
-abbrev pub IsCarriedOut : KnownTable → Cmd → Outcome → (before after : Holder) → Type 0
-IsCarriedOut table cmd outcome before after =
+abbrev pub ServesOutcome : KnownTable → Cmd → Outcome → (before after : Holder) → Type 0
+ServesOutcome table cmd outcome before after =
     IsServed table cmd (reply_of after.locked.machine.ledger outcome) before after
 
 -- an Alloc of order 0 was carried out for the group, whichever of its paths names it
-abbrev pub IsCarriedOutFor : KnownTable → (group : ℕ) → Outcome → (before after : Holder) → Type 0
-IsCarriedOutFor table group outcome before after =
+abbrev pub ServesFrameOutcome : KnownTable → (group : ℕ) → Outcome → (before after : Holder) → Type 0
+ServesFrameOutcome table group outcome before after =
     (path : Bor (List ℕ)) → number_at before.locked.machine.ledger.groups path.now ≡ Some group
-    → IsCarriedOut table (Alloc path 0) outcome before after
+    → ServesOutcome table (Alloc path 0) outcome before after
 
 -- What a visit leaves. If the CPU's list had at most `high` frames, its list and its fresh frames together have at most
 -- `high`. No frame is in transit between the CPU and the zone. The frames lent to the CPU are those that its seat has

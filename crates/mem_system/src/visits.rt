@@ -6,7 +6,7 @@ ghost use Rattle.mem_system.specs.Allocations.{FreshOf};
 ghost use Rattle.mem_system.specs.Outcomes.{HasItsGroups, reply_of};
 ghost use Rattle.mem_system.specs.Commands.{IsOfZone, IsSettled, IsSettledAfter};
 ghost use Rattle.mem_system.specs.Shown.{SettlesCaller};
-ghost use Rattle.mem_system.specs.Visits.{EndsVisit, IsCarriedOut, IsCarriedOutFor, IsServed, holder};
+ghost use Rattle.mem_system.specs.Visits.{EndsVisit, ServesOutcome, ServesFrameOutcome, IsServed, holder};
 
 use crate::allocations::outcome_of;
 use crate::command::{Cmd, Reply, execute};
@@ -22,14 +22,14 @@ use mem_alloc::alloc_frame;
 /// a frame of the zone. The result is an outcome without texts; `reply_of` makes it the reply of `serve`, by the
 /// charges as they are then.
 #[inline(always)]
-pub fn carry_out<N: BootName>(
+pub fn serve_outcome<N: BootName>(
     locked: &mut Locked<N>,
     tables: &Tables<N>,
     cpu: &mut Cpu<N>,
     cmd: &Cmd<'_>,
 ) -> Outcome
     requires { IsOfZone N.frames cmd.now }
-    ensures served { IsCarriedOut N.frames cmd.now result (holder locked.old cpu.old) (holder locked.new cpu.new) }
+    ensures served { ServesOutcome N.frames cmd.now result (holder locked.old cpu.old) (holder locked.new cpu.new) }
     ensures groups { HasItsGroups locked.new.machine.ledger result }
     ensures settled { IsSettledAfter cmd.now (reply_of locked.new.machine.ledger result) cpu.new }
     ensures ends { EndsVisit N.frames (holder locked.old cpu.old) (holder locked.new cpu.new) }
@@ -56,11 +56,11 @@ pub(crate) fn serve_into<N: BootName>(
     ensures settled { IsSettledAfter cmd.now reply.new cpu.new }
     ensures ends { EndsVisit N.frames (holder locked.old cpu.old) (holder locked.new cpu.new) }
 {
-    let outcome = carry_out(locked, tables, cpu, cmd);
+    let outcome = serve_outcome(locked, tables, cpu, cmd);
     tell(locked.charges(), outcome, reply);
 }
 
-/// Serves one command of the CPU, which holds the lock, as `carry_out` does, and returns its reply with texts. A frame
+/// Serves one command of the CPU, which holds the lock, as `serve_outcome` does, and returns its reply with texts. A frame
 /// that the command names is a frame of the zone.
 #[inline(always)]
 pub fn serve<N: BootName>(
@@ -79,17 +79,17 @@ pub fn serve<N: BootName>(
     reply
 }
 
-/// Serves an Alloc of order 0 for an existing group, as `carry_out` does for each path of that group, but looks up no
+/// Serves an Alloc of order 0 for an existing group, as `serve_outcome` does for each path of that group, but looks up no
 /// path.
 #[inline(always)]
-pub fn carry_out_frame<N: BootName>(
+pub fn serve_frame_outcome<N: BootName>(
     locked: &mut Locked<N>,
     tables: &Tables<N>,
     cpu: &mut Cpu<N>,
     group: GroupId,
 ) -> Outcome
     requires there { IsTrue (has_group locked.old.machine.ledger.groups group) }
-    ensures served { IsCarriedOutFor N.frames group result (holder locked.old cpu.old) (holder locked.new cpu.new) }
+    ensures served { ServesFrameOutcome N.frames group result (holder locked.old cpu.old) (holder locked.new cpu.new) }
     ensures groups { HasItsGroups locked.new.machine.ledger result }
     ensures fresh { FreshOf (reply_of locked.new.machine.ledger result) 0 cpu.new.fresh }
     ensures back { cpu.new.back ≡ [] }
@@ -111,5 +111,5 @@ pub fn settle<N: BootName>(locked: &mut Locked<N>, tables: &Tables<N>, cpu: &mut
     ensures settled { IsSettled cpu.new }
     ensures ends { EndsVisit N.frames (holder locked.old cpu.old) (holder locked.new cpu.new) }
 {
-    let _done = carry_out(locked, tables, cpu, &Cmd::Settle);
+    let _done = serve_outcome(locked, tables, cpu, &Cmd::Settle);
 }

@@ -19,7 +19,7 @@ use group_tree::fault::Fault;
 use group_tree::group::GroupId;
 use kill_texts::write_explanation;
 use machine_texts::{write_blocks, write_show};
-use mem_system::{Cmd, Locked, carry_out, carry_out_frame, settle};
+use mem_system::{Cmd, Locked, serve_outcome, serve_frame_outcome, settle};
 use reply_texts::{write_fast, write_listed, write_outcome, write_refusal, write_settled};
 use script_lines::line::Command;
 use std::alloc::AllocError;
@@ -86,7 +86,7 @@ fn serve_command<N: BootName>(
         (ServesWork (terms N.frames N.stocks is_explained) (Visit cmd.now)
         (holder locked.old cpu.old) (holder locked.new cpu.new)) }
 {
-    let outcome = carry_out(locked, tables, cpu, cmd);
+    let outcome = serve_outcome(locked, tables, cpu, cmd);
     write_outcome(locked.charges(), &outcome, text)?;
     explain(locked, is_explained, text)
 }
@@ -107,7 +107,7 @@ fn serve_frame<N: BootName>(
         (ServesWork (terms N.frames N.stocks is_explained) (Visit (Alloc path 0))
         (holder locked.old cpu.old) (holder locked.new cpu.new)) }
 {
-    let outcome = carry_out_frame(locked, tables, cpu, group);
+    let outcome = serve_frame_outcome(locked, tables, cpu, group);
     write_outcome(locked.charges(), &outcome, text)?;
     explain(locked, is_explained, text)
 }

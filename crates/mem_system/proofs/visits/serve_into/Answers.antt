@@ -5,10 +5,10 @@ use Rattle.mem_system.proofs.visits.serve_into.Goals as goal
 
 pub returns : goal.returns
 returns g c =
-    let told : c.tell.new.reply ≡ reply_of c.carry_out-outcome.new.locked.machine.ledger c.carry_out-outcome.result
-    = c.tell.ensures ∙ ap (λ (l : Ledger). reply_of l c.carry_out-outcome.result) c.charges.ensures in
+    let told : c.tell.new.reply ≡ reply_of c.serve_outcome-outcome.new.locked.machine.ledger c.serve_outcome-outcome.result
+    = c.tell.ensures ∙ ap (λ (l : Ledger). reply_of l c.serve_outcome-outcome.result) c.charges.ensures in
     rw told record {
-      served = c.carry_out-outcome.ensures.served;
-      settled = c.carry_out-outcome.ensures.settled;
-      ends = c.carry_out-outcome.ensures.ends;
+      served = c.serve_outcome-outcome.ensures.served;
+      settled = c.serve_outcome-outcome.ensures.settled;
+      ends = c.serve_outcome-outcome.ensures.ends;
     }

@@ -16,7 +16,7 @@ use Rattle.mem_system.specs.Visits.{with_visit_of, holder, IsServed}
 use Rattle.mem_system.proofs.Visiting.{all_shut, settled_opened, served}
 use Rattle.mem_system.proofs.Staying.{settled_groups}
 use Rattle.mem_system.proofs.Allocating.{frame_allocated, has_groups, over_is_there}
-use Rattle.mem_system.proofs.visits.carry_out_frame.Goals as goal
+use Rattle.mem_system.proofs.visits.serve_frame_outcome.Goals as goal
 
 pub alloc_frame-answer-requires-clause-there : goal.alloc_frame-answer-requires-clause-there
 alloc_frame-answer-requires-clause-there g c =

@@ -9,7 +9,7 @@ use Rattle.mem_system.specs.Outcomes.{HasItsGroups, reply_of}
 use Rattle.mem_system.specs.Commands.{FreshAfter}
 use Rattle.mem_system.specs.Visits.{with_visit_of, holder, IsServed}
 use Rattle.mem_system.proofs.Visiting.{all_shut, settled_opened, served}
-use Rattle.mem_system.proofs.visits.carry_out.Goals as goal
+use Rattle.mem_system.proofs.visits.serve_outcome.Goals as goal
 
 pub invariant_of-locked : goal.invariant_of-locked
 invariant_of-locked g c =
