@@ -55,7 +55,7 @@ pub served : (t : KnownTable) (cmd : Cmd) (l k : KnownLocked) (c d : KnownCpu) (
     → BySteps t (Executes l.sizes cmd reply) (side mid c2) (side x c3)
     → MakesAs t c3.number (side x c3) (shut_steps c3.number) (side k.machine d)
     → IsServed t cmd reply (holder l c) (holder k d)
-served t cmd l k c d reply entered mid x c1 c2 c3 opened same second third shut after sizes first settles rests obeyed last =
+served t cmd l k c d reply entered mid x c1 c2 c3 opened same second third shut after sizes first settles rests executed last =
     let p = c.number in
     let begins = with_visit_of (record l.machine { notes = [] }) p 1 in
     let two : c2.number ≡ p = second ∙ ap (λ (y : KnownCpu). y.number) same in
@@ -66,24 +66,24 @@ served t cmd l k c d reply entered mid x c1 c2 c3 opened same second third shut 
     let settled : Settles (side begins c) (side mid c2) = subst (λ (y : KnownMachine × KnownCpu). Settles (side y.0 y.1) (side mid c2)) (λ i. (opened i, same i)) settles in
     let rested : MakesAs t p (side begins c) (settle_steps (side begins c)) (side mid c2) =
     subst (λ (y : KnownMachine × KnownCpu). MakesAs t y.1.number (side y.0 y.1) (settle_steps (side y.0 y.1)) (side mid c2)) (λ i. (opened i, same i)) rests in
-    let inside = subst (λ (q : ℕ). MakesAs t q (side mid c2) obeyed.steps (side x c3)) two obeyed.makes in
+    let inside = subst (λ (q : ℕ). MakesAs t q (side mid c2) executed.steps (side x c3)) two executed.makes in
     let ended = subst (λ (q : ℕ). MakesAs t q (side x c3) (shut_steps q) (side k.machine d)) three last in record {
-      steps = open_steps p ++ (settle_steps (side begins c) ++ (obeyed.steps ++ shut_steps p));
+      steps = open_steps p ++ (settle_steps (side begins c) ++ (executed.steps ++ shut_steps p));
       serves = record {
         settled = side mid c2;
         settles = settled;
-        inner = obeyed.steps;
+        inner = executed.steps;
         done = x;
-        obeys = subst (λ (y : KnownCpu). Executes l.sizes cmd reply (course t (side mid c2) obeyed.steps (side x y))) (sym after) obeyed.does;
-        no_rash = obeys_no_rash t l.sizes cmd reply mid c2 obeyed.steps (side x c3) (local_of t x c3) obeyed.does obeyed.makes.leads;
+        executes = subst (λ (y : KnownCpu). Executes l.sizes cmd reply (course t (side mid c2) executed.steps (side x y))) (sym after) executed.does;
+        no_rash = obeys_no_rash t l.sizes cmd reply mid c2 executed.steps (side x c3) (local_of t x c3) executed.does executed.makes.leads;
         only_inner = around_quiet p (side begins c);
-        misses = obeys_counts l.sizes cmd reply (course t (side mid c2) obeyed.steps (side x c3)) obeyed.does;
+        misses = obeys_counts l.sizes cmd reply (course t (side mid c2) executed.steps (side x c3)) executed.does;
         machine = shut ∙ ap (λ (q : ℕ). with_visit_of x q 0) three;
         sizes = sizes;
         steps_are = refl;
       };
-      makes = makes_both t p (open_steps p) (settle_steps (side begins c) ++ (obeyed.steps ++ shut_steps p)) (side l.machine c) (side begins c)
+      makes = makes_both t p (open_steps p) (settle_steps (side begins c) ++ (executed.steps ++ shut_steps p)) (side l.machine c) (side begins c)
           (side k.machine d) begun
-          (makes_both t p (settle_steps (side begins c)) (obeyed.steps ++ shut_steps p) (side begins c) (side mid c2) (side k.machine d) rested
-          (makes_both t p obeyed.steps (shut_steps p) (side mid c2) (side x c3) (side k.machine d) inside ended));
+          (makes_both t p (settle_steps (side begins c)) (executed.steps ++ shut_steps p) (side begins c) (side mid c2) (side k.machine d) rested
+          (makes_both t p executed.steps (shut_steps p) (side mid c2) (side x c3) (side k.machine d) inside ended));
     }

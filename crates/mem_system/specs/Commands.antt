@@ -39,7 +39,7 @@ IsOfZone table command = NamesFrameBelow table.frames command
 
 -- What a command finds inside its visit. The CPU is visited and settled, the sizes are in their ranges, and the tables
 -- have these sizes.
-pub record MayObey (table : KnownTable) (stock_table : Words) (sizes : Config) (now : Side) : Type 0 where
+pub record MayExecute (table : KnownTable) (stock_table : Words) (sizes : Config) (now : Side) : Type 0 where
   pub visit : Visits table now
   pub settled : IsSettled now.cpu
   pub valid : IsValidConfig sizes

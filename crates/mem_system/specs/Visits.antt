@@ -56,14 +56,14 @@ visit_steps before inner =
     open_steps before.cpu.number ++ (settle_steps (visited before) ++ (inner ++ shut_steps before.cpu.number))
 
 -- A command under the lock. Earlier notes are forgotten, the caller's visit is opened, the caller is settled, the
--- command is obeyed, and the visit is shut. The command kills a group only after it tried everything else, and only its
+-- command is executed, and the visit is shut. The command kills a group only after it tried everything else, and only its
 -- own steps kill. The misses that are noted are those among its steps.
 pub record Serves (cmd : Cmd) (reply : Reply) (way : Course Holder) : Type 0 where
   pub settled : Side
   pub settles : Settles (begun (side_of way.before)) settled
   pub inner : Run
   pub done : KnownMachine
-  pub obeys : Executes way.before.locked.sizes cmd reply (course way.table settled inner (side done way.after.cpu))
+  pub executes : Executes way.before.locked.sizes cmd reply (course way.table settled inner (side done way.after.cpu))
   pub no_rash : NoRashKill way.table (MayAskFor cmd settled.machine.ledger.groups) settled.machine settled.cpu inner
   pub only_inner : has_kill (visit_steps (side_of way.before) []) ≡ false
   pub misses : CountsMisses (course way.table settled.machine inner done)

@@ -7,7 +7,7 @@ ghost use Rattle.mem_machine.specs.Local.{side};
 ghost use Rattle.mem_alloc.specs.declared.faults.AllocFault.TheVariants as cause_is;
 ghost use Rattle.mem_system.specs.Allocations.{Allocates, AllocatesAs, FreshOf, outcome_of};
 ghost use Rattle.mem_system.specs.Outcomes.{ComesTo, HasItsGroups, reply_of};
-ghost use Rattle.mem_system.specs.Commands.{BySteps, ListAndFreshStayWithin, MayObey};
+ghost use Rattle.mem_system.specs.Commands.{BySteps, ListAndFreshStayWithin, MayExecute};
 
 use crate::outcome::Outcome;
 use cpu_part::{BootName, Cpu, Tables};
@@ -42,7 +42,7 @@ fn allocate_as<N: BootName>(
     group: GroupId,
     order: Order,
 ) -> Result<Frame, AllocFault>
-    requires visit { MayObey N.frames N.stocks sizes (side machine.old cpu.old) }
+    requires visit { MayExecute N.frames N.stocks sizes (side machine.old cpu.old) }
     requires there { IsTrue (has_group machine.old.ledger.groups group) }
     ensures allocates { BySteps N.frames (AllocatesAs sizes group order result)
         (side machine.old cpu.old) (side machine.new cpu.new) }
@@ -67,7 +67,7 @@ pub(crate) fn allocate<N: BootName>(
     path: &[u8],
     order: u32,
 ) -> Outcome
-    requires visit { MayObey N.frames N.stocks sizes (side machine.old cpu.old) }
+    requires visit { MayExecute N.frames N.stocks sizes (side machine.old cpu.old) }
     ensures allocates { ComesTo N.frames result (Allocates sizes path.now order)
         (side machine.old cpu.old) (side machine.new cpu.new) }
     ensures groups { HasItsGroups machine.new.ledger result }

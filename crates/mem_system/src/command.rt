@@ -1,9 +1,9 @@
-//! The commands that a CPU gives under the lock, how they are obeyed, and their replies.
+//! The commands that a CPU gives under the lock, how they are executed, and their replies.
 
 ghost use Rattle.mem_machine.specs.Machines.{KeepsVisit};
 ghost use Rattle.mem_machine.specs.Local.{side};
 ghost use Rattle.mem_system.specs.Outcomes.{ComesTo, HasItsGroups, reply_of};
-ghost use Rattle.mem_system.specs.Commands.{FreshAfter, IsOfZone, ListAndFreshStayWithin, MayObey, Executes};
+ghost use Rattle.mem_system.specs.Commands.{FreshAfter, IsOfZone, ListAndFreshStayWithin, MayExecute, Executes};
 
 use crate::allocations::allocate;
 use crate::files::{read_file, write_file};
@@ -115,8 +115,8 @@ pub(crate) fn execute<N: BootName>(
     cmd: &Cmd<'_>,
 ) -> Outcome
     requires zone { IsOfZone N.frames cmd.now }
-    requires visit { MayObey N.frames N.stocks sizes (side machine.old cpu.old) }
-    ensures obeyed { ComesTo N.frames result (Executes sizes cmd.now)
+    requires visit { MayExecute N.frames N.stocks sizes (side machine.old cpu.old) }
+    ensures executed { ComesTo N.frames result (Executes sizes cmd.now)
         (side machine.old cpu.old) (side machine.new cpu.new) }
     ensures groups { HasItsGroups machine.new.ledger result }
     ensures stays { KeepsVisit N.frames (side machine.old cpu.old) (side machine.new cpu.new) }

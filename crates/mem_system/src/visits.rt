@@ -17,7 +17,7 @@ use group_tree::group::GroupId;
 use mem_alloc::alloc_frame;
 
 /// Serves one command of the CPU, which holds the lock. Earlier notes are forgotten, the CPU's visit is opened, its
-/// fresh and back frames are settled, the command is obeyed, and the visit is shut. The notes are now of the limits
+/// fresh and back frames are settled, the command is executed, and the visit is shut. The notes are now of the limits
 /// without room that the command met, of what was tried there, and of who was killed. A frame that the command names is
 /// a frame of the zone. The result is an outcome without texts; `reply_of` makes it the reply of `serve`, by the
 /// charges as they are then.

@@ -25,7 +25,7 @@ use Rattle.script_replay.specs.Ranges.{LineIsThere}
 
 -- a Settle is answered that it was done
 pub settled_done : (on : BootTables) (c d : KnownCpu) (reply : Reply) → IsServedByVisit on cmd.Settle c d reply → IsServedByVisit on cmd.Settle c d Done
-settled_done on c d reply is = subst (λ (r : Reply). IsServedByVisit on cmd.Settle c d r) is.served.serves.obeys.0 is
+settled_done on c d reply is = subst (λ (r : Reply). IsServedByVisit on cmd.Settle c d r) is.served.serves.executes.0 is
 
 -- if there is no frame for the group, the command is served by a visit
 pub visited_after : (on : BootTables) (path : Bor (List ℕ)) (l : KnownLocked) (c seen d : KnownCpu) (said : Answer) →

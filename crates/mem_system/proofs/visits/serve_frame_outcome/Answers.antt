@@ -57,7 +57,7 @@ returns-clause-served g c path at =
     let groups = settled_groups _ _ _ _ c.settle.ensures.settles ∙ ap (λ (y : KnownMachine). y.ledger.groups) (c.open.ensures.machine ∙ ap (λ (y : KnownMachine). with_visit_of y c.args.cpu.now.number 1) c.forget_notes.ensures)
     ∙ ap (λ (y : KnownLocked). y.machine.ledger.groups) c.locked.view_is in
     let found : number_at c.settle.new.self.ledger.groups path.now ≡ Some c.args.group = ap (λ (gs : List Group). number_at gs path.now) groups ∙ at in
-    let obeyed = frame_allocated t c.locked.inside.sizes path.now c.args.group c.settle.new.self x c.settle.new.cpu c.alloc_frame-answer.new.cpu answer found
+    let executed = frame_allocated t c.locked.inside.sizes path.now c.args.group c.settle.new.self x c.settle.new.cpu c.alloc_frame-answer.new.cpu answer found
     c.alloc_frame-answer.ensures.allocates in
     subst (λ (r : Reply). IsServed t (Alloc path 0) r (holder c.args.locked.now c.args.cpu.now) (holder k c.shut.new.cpu)) (sym told)
     (subst (λ (y : KnownLocked). IsServed t (Alloc path 0) reply (holder y c.args.cpu.now) (holder k c.shut.new.cpu)) c.locked.view_is
@@ -67,7 +67,7 @@ returns-clause-served g c path at =
     c.open.ensures.cpu c.settle.ensures.others.number c.alloc_frame-answer.ensures.stays.number
     c.shut.ensures.machine c.shut.ensures.cpu refl
     (subst (λ (y : KnownMachine). MakesAs t c.args.cpu.now.number (side y c.args.cpu.now) (open_steps c.args.cpu.now.number)
-    (side c.open.new.self c.open.new.cpu)) c.forget_notes.ensures c.open.ensures.steps) c.settle.ensures.settles c.settle.ensures.steps obeyed c.shut.ensures.steps))
+    (side c.open.new.self c.open.new.cpu)) c.forget_notes.ensures c.open.ensures.steps) c.settle.ensures.settles c.settle.ensures.steps executed c.shut.ensures.steps))
 
 pub returns-clause-groups : goal.returns-clause-groups
 returns-clause-groups g c =

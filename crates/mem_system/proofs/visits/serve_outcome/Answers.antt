@@ -48,7 +48,7 @@ returns g c =
           c.shut.ensures.machine c.shut.ensures.cpu refl
           (subst (λ (y : KnownMachine). MakesAs t c.args.cpu.now.number (side y c.args.cpu.now) (open_steps c.args.cpu.now.number)
           (side c.open.new.self c.open.new.cpu)) c.forget_notes.ensures c.open.ensures.steps) c.settle.ensures.settles c.settle.ensures.steps
-          c.execute-outcome.ensures.obeyed c.shut.ensures.steps);
+          c.execute-outcome.ensures.executed c.shut.ensures.steps);
       settled = (
         subst (λ (y : KnownCpu). FreshAfter c.args.cmd.now reply y.fresh) (sym same) c.execute-outcome.ensures.fresh,
         ap (λ (y : KnownCpu). y.back) same ∙ c.execute-outcome.ensures.stays.back ∙ c.settle.ensures.none_back,
