@@ -6,14 +6,14 @@ use Rattle.group_tree.specs.Groups.{has_group}
 use Rattle.group_charge.specs.Charges.{AreCharges}
 use Rattle.frame_word.specs.Seats.{KnownTable}
 use Rattle.stock_word.specs.Stock.{Words}
-use Rattle.mem_machine.specs.declared.spot.Spot.{Spot}
-use Rattle.mem_machine.specs.declared.spot.Spot.TheVariants as spot
-use Rattle.mem_machine.specs.declared.spot.Place.{Place}
-use Rattle.mem_machine.specs.declared.spot.Place.TheVariants.{Free, Lent, Charged}
-use Rattle.mem_machine.specs.Spots.{place_of}
+use Rattle.mem_machine.specs.declared.frame_state.FrameState.{FrameState}
+use Rattle.mem_machine.specs.declared.frame_state.FrameState.TheVariants as frame_state
+use Rattle.mem_machine.specs.declared.frame_state.Place.{Place}
+use Rattle.mem_machine.specs.declared.frame_state.Place.TheVariants.{Free, Lent, Charged}
+use Rattle.mem_machine.specs.FrameStates.{place_of}
 use Rattle.mem_machine.specs.Machines.{KnownMachine, IsConsistent}
 use Rattle.mem_machine.proofs.Keepers.{keeper_there}
-use Rattle.machine_texts.specs.Places.{KeeperIsThere, SpotIsThere}
+use Rattle.machine_texts.specs.Places.{KeeperIsThere, FrameStateIsThere}
 
 -- a place whose group, if there is one, is there
 there_by : (groups : List Group) (p : Place) → ((g : ℕ) → p ≡ Charged g → has_group groups g ≡ true) → KeeperIsThere groups p
@@ -21,9 +21,9 @@ there_by groups Free known = tt
 there_by groups (Lent q) known = tt
 there_by groups (Charged g) known = known g refl
 
-pub spots_there : (t : KnownTable) (w : Words) (m : KnownMachine) → IsConsistent t w m → AreCharges m.ledger
-    → (k : ℕ) (d : Spot) → k < length m.spots → SpotIsThere m.ledger.groups (get_or m.spots k d)
-spots_there t w m good legal k d inside =
-    let same : get_or m.spots k d ≡ get_or m.spots k spot.Free = get_or_default m.spots k d spot.Free inside in
-    there_by m.ledger.groups (place_of (get_or m.spots k d)) λ g is.
-    keeper_there t w m k g good legal (let e : k < t.frames = omega (arith, good.sizes.spots) in e) (sym (ap place_of same) ∙ is)
+pub frame_states_there : (t : KnownTable) (w : Words) (m : KnownMachine) → IsConsistent t w m → AreCharges m.ledger
+    → (k : ℕ) (d : FrameState) → k < length m.frame_states → FrameStateIsThere m.ledger.groups (get_or m.frame_states k d)
+frame_states_there t w m good legal k d inside =
+    let same : get_or m.frame_states k d ≡ get_or m.frame_states k frame_state.Free = get_or_default m.frame_states k d frame_state.Free inside in
+    there_by m.ledger.groups (place_of (get_or m.frame_states k d)) λ g is.
+    keeper_there t w m k g good legal (let e : k < t.frames = omega (arith, good.sizes.frame_states) in e) (sym (ap place_of same) ∙ is)

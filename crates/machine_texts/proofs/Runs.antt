@@ -8,11 +8,11 @@ use Rattle.std.proofs.Math.Seq.{drop-cons}
 use Rattle.std.specs.List.{prefix_len}
 use Rattle.std.specs.Option.{unwrap_or}
 use Rattle.group_tree.specs.declared.group.Group.{Group}
-use Rattle.mem_machine.specs.declared.spot.Spot.{Spot}
-use Rattle.mem_machine.specs.declared.spot.Spot.TheVariants as spot
-use Rattle.mem_machine.specs.declared.spot.Place.{Place}
-use Rattle.mem_machine.specs.declared.spot.Place.TheVariants.{Free, Lent, Charged}
-use Rattle.mem_machine.specs.Spots.{place_of}
+use Rattle.mem_machine.specs.declared.frame_state.FrameState.{FrameState}
+use Rattle.mem_machine.specs.declared.frame_state.FrameState.TheVariants as frame_state
+use Rattle.mem_machine.specs.declared.frame_state.Place.{Place}
+use Rattle.mem_machine.specs.declared.frame_state.Place.TheVariants.{Free, Lent, Charged}
+use Rattle.mem_machine.specs.FrameStates.{place_of}
 use Rattle.machine_texts.specs.Places.{IsAt, IsFirstElsewhere, is_same_place, run_length, run_text, runs_text, places_text}
 
 -- ---- how long a run is
@@ -42,10 +42,10 @@ prefix_all p (x ∷ xs) all =
     omega (arith, rest, one)
 
 -- a run ends at the first frame that is elsewhere, or at the end of the zone
-pub run_found : (place : Place) (spots : List Spot) (found : Option ℕ) → MatchOption found (All (IsAt place) spots) (λ at. IsFirstElsewhere place spots at)
-    → unwrap_or found (length spots) ≡ run_length place spots
-run_found place spots None all = sym (prefix_all (λ s. is_same_place (place_of s) place) spots all)
-run_found place spots (Some at) is = sym (prefix_is (λ s. is_same_place (place_of s) place) spots at spot.Free is.inside is.here is.before)
+pub run_found : (place : Place) (frame_states : List FrameState) (found : Option ℕ) → MatchOption found (All (IsAt place) frame_states) (λ at. IsFirstElsewhere place frame_states at)
+    → unwrap_or found (length frame_states) ≡ run_length place frame_states
+run_found place frame_states None all = sym (prefix_all (λ s. is_same_place (place_of s) place) frame_states all)
+run_found place frame_states (Some at) is = sym (prefix_is (λ s. is_same_place (place_of s) place) frame_states at frame_state.Free is.inside is.here is.before)
 
 -- a place is itself
 same_self : (place : Place) → is_same_place place place ≡ true
@@ -56,19 +56,19 @@ same_self (Charged n) = eq-eqb n n refl
 -- ---- the lines of runs
 
 -- the lines of the frames from this one on, which have these records
-abbrev pub rest_text : List Group → ℕ → List Spot → List ℕ
+abbrev pub rest_text : List Group → ℕ → List FrameState → List ℕ
 rest_text groups first [] = []
 rest_text groups first (s ∷ ss) = runs_text groups first (first + 1) (place_of s) ss
 
-pub whole_text : (groups : List Group) (spots : List Spot) → rest_text groups 0 spots ≡ places_text groups spots
+pub whole_text : (groups : List Group) (frame_states : List FrameState) → rest_text groups 0 frame_states ≡ places_text groups frame_states
 whole_text groups [] = refl
 whole_text groups (s ∷ ss) = refl
 
 -- the line of a run, and those of the frames behind it
-abbrev split_text : List Group → (first next : ℕ) → Place → (more : ℕ) → List Spot → List ℕ
-split_text groups first next place more spots = run_text groups first (next + more - 1) place ++ rest_text groups (next + more) (drop more spots)
+abbrev split_text : List Group → (first next : ℕ) → Place → (more : ℕ) → List FrameState → List ℕ
+split_text groups first next place more frame_states = run_text groups first (next + more - 1) place ++ rest_text groups (next + more) (drop more frame_states)
 
-split_one : (b : Bool) (groups : List Group) (first next : ℕ) (place : Place) (s : Spot) (ss : List Spot) (k : ℕ)
+split_one : (b : Bool) (groups : List Group) (first next : ℕ) (place : Place) (s : FrameState) (ss : List FrameState) (k : ℕ)
     → runs_text groups first (next + 1) place ss ≡ split_text groups first (next + 1) place k ss
     → cond b (runs_text groups first (next + 1) place ss) (run_text groups first (next - 1) place ++ runs_text groups next (next + 1) (place_of s) ss)
     ≡ split_text groups first next place (cond b (1 + k) 0) (s ∷ ss)
@@ -82,8 +82,8 @@ split_one false groups first next place s ss k rest =
     ap (λ (m : ℕ). run_text groups first (m - 1) place ++ rest_text groups m (s ∷ ss)) e
 
 -- the frames that are at the place of the run are its, and those behind them have lines of their own
-split : (groups : List Group) (first next : ℕ) (place : Place) (spots : List Spot)
-    → runs_text groups first next place spots ≡ split_text groups first next place (run_length place spots) spots
+split : (groups : List Group) (first next : ℕ) (place : Place) (frame_states : List FrameState)
+    → runs_text groups first next place frame_states ≡ split_text groups first next place (run_length place frame_states) frame_states
 split groups first next place [] =
     let e : next - 1 ≡ next + 0 - 1 = omega arith in
     ap (λ (m : ℕ). run_text groups first m place) e ∙ sym (append-nil (run_text groups first (next + 0 - 1) place))
@@ -91,7 +91,7 @@ split groups first next place (s ∷ ss) =
     split_one (is_same_place (place_of s) place) groups first next place s ss (run_length place ss) (split groups first (next + 1) place ss)
 
 -- the first of some frames, at a place, begins a run, and that has a line
-line_of : (groups : List Group) (first : ℕ) (s : Spot) (ss : List Spot)
+line_of : (groups : List Group) (first : ℕ) (s : FrameState) (ss : List FrameState)
     → rest_text groups first (s ∷ ss) ≡ split_text groups first first (place_of s) (run_length (place_of s) (s ∷ ss)) (s ∷ ss)
 line_of groups first s ss =
     let k : ℕ = run_length (place_of s) ss in
@@ -104,29 +104,29 @@ line_of groups first s ss =
     ∙ ap (λ (m : ℕ). split_text groups first first (place_of s) m (s ∷ ss)) (sym long)
 
 -- The frame at which a run begins. The run is at least this frame, and ends within the zone
-pub record IsRun (groups : List Group) (spots : List Spot) (first size : ℕ) (place : Place) : Type 0 where
+pub record IsRun (groups : List Group) (frame_states : List FrameState) (first size : ℕ) (place : Place) : Type 0 where
   pub some : 1 ≤ size
-  pub within : first + size ≤ length spots
-  pub text : rest_text groups first (drop first spots)
-      ≡ run_text groups first (first + size - 1) place ++ rest_text groups (first + size) (drop (first + size) spots)
+  pub within : first + size ≤ length frame_states
+  pub text : rest_text groups first (drop first frame_states)
+      ≡ run_text groups first (first + size - 1) place ++ rest_text groups (first + size) (drop (first + size) frame_states)
 
-pub is_run : (groups : List Group) (spots : List Spot) (first size : ℕ) (place : Place) (s : Spot) → first < length spots
-    → s ≡ get_or spots first s → place ≡ place_of s → size ≡ run_length place (drop first spots) → IsRun groups spots first size place
-is_run groups spots first size place s inside at is long =
-    let ss : List Spot = drop (suc first) spots in
-    let here : drop first spots ≡ s ∷ ss = drop-cons spots first s inside ∙ ap (λ (x : Spot). x ∷ ss) (sym at) in
-    let size_is : size ≡ run_length (place_of s) (s ∷ ss) = long ∙ ap (λ (p : Place). run_length p (drop first spots)) is ∙ ap (run_length (place_of s)) here in
+pub is_run : (groups : List Group) (frame_states : List FrameState) (first size : ℕ) (place : Place) (s : FrameState) → first < length frame_states
+    → s ≡ get_or frame_states first s → place ≡ place_of s → size ≡ run_length place (drop first frame_states) → IsRun groups frame_states first size place
+is_run groups frame_states first size place s inside at is long =
+    let ss : List FrameState = drop (suc first) frame_states in
+    let here : drop first frame_states ≡ s ∷ ss = drop-cons frame_states first s inside ∙ ap (λ (x : FrameState). x ∷ ss) (sym at) in
+    let size_is : size ≡ run_length (place_of s) (s ∷ ss) = long ∙ ap (λ (p : Place). run_length p (drop first frame_states)) is ∙ ap (run_length (place_of s)) here in
     let one : run_length (place_of s) (s ∷ ss) ≡ 1 + run_length (place_of s) ss
     = first_true (is_same_place (place_of s) (place_of s)) (run_length (place_of s) ss) (same_self (place_of s)) in
-    let short = prefix_len-le-length (λ x. is_same_place (place_of x) place) (drop first spots) in
-    let left = length-drop first spots in
-    let line : rest_text groups first (drop first spots) ≡ split_text groups first first (place_of s) size (s ∷ ss)
+    let short = prefix_len-le-length (λ x. is_same_place (place_of x) place) (drop first frame_states) in
+    let left = length-drop first frame_states in
+    let line : rest_text groups first (drop first frame_states) ≡ split_text groups first first (place_of s) size (s ∷ ss)
     = ap (rest_text groups first) here ∙ line_of groups first s ss ∙ ap (λ (m : ℕ). split_text groups first first (place_of s) m (s ∷ ss)) (sym size_is) in
     record {
       some = omega (arith, size_is, one);
       within = omega (arith, long, short, left);
       text = line
           ∙ ap (λ (p : Place). run_text groups first (first + size - 1) p ++ rest_text groups (first + size) (drop size (s ∷ ss))) (sym is)
-          ∙ ap (λ (x : List Spot). run_text groups first (first + size - 1) place ++ rest_text groups (first + size) (drop size x)) (sym here)
-          ∙ ap (λ (x : List Spot). run_text groups first (first + size - 1) place ++ rest_text groups (first + size) x) (drop-drop size first spots);
+          ∙ ap (λ (x : List FrameState). run_text groups first (first + size - 1) place ++ rest_text groups (first + size) (drop size x)) (sym here)
+          ∙ ap (λ (x : List FrameState). run_text groups first (first + size - 1) place ++ rest_text groups (first + size) x) (drop-drop size first frame_states);
     }

@@ -5,10 +5,10 @@ use Rattle.std.specs.Option.{option_map_or}
 use Rattle.std.specs.Fmt.{decimal}
 use Rattle.group_tree.specs.declared.group.Group.{Group}
 use Rattle.group_tree.specs.Groups.{has_group, path_of}
-use Rattle.mem_machine.specs.declared.spot.Spot.{Spot}
-use Rattle.mem_machine.specs.declared.spot.Place.{Place}
-use Rattle.mem_machine.specs.declared.spot.Place.TheVariants.{Free, Lent, Charged}
-use Rattle.mem_machine.specs.Spots.{place_of, spot_at}
+use Rattle.mem_machine.specs.declared.frame_state.FrameState.{FrameState}
+use Rattle.mem_machine.specs.declared.frame_state.Place.{Place}
+use Rattle.mem_machine.specs.declared.frame_state.Place.TheVariants.{Free, Lent, Charged}
+use Rattle.mem_machine.specs.FrameStates.{place_of, frame_state_at}
 use Rattle.machine_texts.specs.Characters.{characters}
 
 -- whether the two places are the same
@@ -24,18 +24,18 @@ is_same_place (Charged one) Free = false
 is_same_place (Charged one) (Lent other) = false
 
 -- the frame with this record is at this place
-abbrev pub IsAt : Place → Spot → Type 0
-IsAt place spot = is_same_place (place_of spot) place ≡ true
+abbrev pub IsAt : Place → FrameState → Type 0
+IsAt place frame_state = is_same_place (place_of frame_state) place ≡ true
 
 -- how many frames from the first on are at this place
-abbrev pub run_length : Place → List Spot → ℕ
-run_length place spots = prefix_len (λ spot. is_same_place (place_of spot) place) spots
+abbrev pub run_length : Place → List FrameState → ℕ
+run_length place frame_states = prefix_len (λ frame_state. is_same_place (place_of frame_state) place) frame_states
 
 -- all frames before this one are at the place, and this one isn't
-pub record IsFirstElsewhere (place : Place) (spots : List Spot) (at : ℕ) : Type 0 where
-  pub inside : at < length spots
-  pub here : is_same_place (place_of (spot_at spots at)) place ≡ false
-  pub before : All (IsAt place) (take at spots)
+pub record IsFirstElsewhere (place : Place) (frame_states : List FrameState) (at : ℕ) : Type 0 where
+  pub inside : at < length frame_states
+  pub here : is_same_place (place_of (frame_state_at frame_states at)) place ≡ false
+  pub before : All (IsAt place) (take at frame_states)
 
 -- the group that is charged for frames at this place, if any, exists
 abbrev pub KeeperIsThere : List Group → Place → Type 0
@@ -44,8 +44,8 @@ KeeperIsThere groups Free = Unit {0}
 KeeperIsThere groups (Lent processor) = Unit {0}
 
 -- the group that is charged for a frame with this record, if any, exists
-abbrev pub SpotIsThere : List Group → Spot → Type 0
-SpotIsThere groups spot = KeeperIsThere groups (place_of spot)
+abbrev pub FrameStateIsThere : List Group → FrameState → Type 0
+FrameStateIsThere groups frame_state = KeeperIsThere groups (place_of frame_state)
 
 -- the place of a frame: in the free areas, lent to this CPU, or charged to the group of this path
 abbrev pub place_text : List Group → Place → List ℕ
@@ -65,13 +65,13 @@ run_text groups first last place = frames_text first last ++ place_text groups p
 
 -- the lines for the frames from `first` on: those up to just before `next` are at this place, and those from `next` on
 -- have these records
-abbrev pub runs_text : List Group → (first next : ℕ) → Place → List Spot → List ℕ
+abbrev pub runs_text : List Group → (first next : ℕ) → Place → List FrameState → List ℕ
 runs_text groups first next place [] = run_text groups first (next - 1) place
-runs_text groups first next place (spot ∷ spots) =
-    if is_same_place (place_of spot) place then runs_text groups first (next + 1) place spots
-    else run_text groups first (next - 1) place ++ runs_text groups next (next + 1) (place_of spot) spots
+runs_text groups first next place (frame_state ∷ frame_states) =
+    if is_same_place (place_of frame_state) place then runs_text groups first (next + 1) place frame_states
+    else run_text groups first (next - 1) place ++ runs_text groups next (next + 1) (place_of frame_state) frame_states
 
 -- a line for each longest run of frames with equal place
-abbrev pub places_text : List Group → List Spot → List ℕ
+abbrev pub places_text : List Group → List FrameState → List ℕ
 places_text groups [] = []
-places_text groups (spot ∷ spots) = runs_text groups 0 1 (place_of spot) spots
+places_text groups (frame_state ∷ frame_states) = runs_text groups 0 1 (place_of frame_state) frame_states

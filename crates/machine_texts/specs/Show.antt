@@ -19,4 +19,4 @@ usage_text ledger group =
 -- what is written for `show`
 abbrev pub show_text : KnownMachine → List ℕ
 show_text machine =
-    places_text machine.ledger.groups machine.spots ++ flat_map (usage_text machine.ledger) machine.ledger.groups
+    places_text machine.ledger.groups machine.frame_states ++ flat_map (usage_text machine.ledger) machine.ledger.groups

@@ -2,26 +2,26 @@
 
 ghost use Rattle.std.specs.Prelude.{◌≡◌, ◌++◌, All, IfOk, MatchOption};
 ghost use Rattle.std.specs.String.{string_bytes};
-ghost use Rattle.mem_machine.specs.declared.spot.Place.TheVariants as place;
-ghost use Rattle.mem_machine.specs.Spots.{place_of};
-ghost use Rattle.machine_texts.specs.Places.{KeeperIsThere, SpotIsThere, frames_text, is_same_place, place_text, places_text, run_text};
+ghost use Rattle.mem_machine.specs.declared.frame_state.Place.TheVariants as place;
+ghost use Rattle.mem_machine.specs.FrameStates.{place_of};
+ghost use Rattle.machine_texts.specs.Places.{KeeperIsThere, FrameStateIsThere, frames_text, is_same_place, place_text, places_text, run_text};
 ghost use Rattle.machine_texts.specs.Places.{IsAt, IsFirstElsewhere, run_length};
 
 use crate::characters::push_characters;
 use group_tree::group::GroupId;
 use group_tree::tree::Tree;
-use mem_machine::{Place, Spot};
+use mem_machine::{Place, FrameState};
 use std::alloc::AllocError;
 
 // A line for each longest run of frames with equal place.
-pub(crate) fn write_places(spots: &[Spot], tree: &Tree, text: &mut String) -> Result<(), AllocError>
-    requires { All (SpotIsThere tree.now) spots.now }
-    ensures { IfOk result (λ _. string_bytes text.new ≡ string_bytes text.old ++ places_text tree.now spots.now) }
+pub(crate) fn write_places(frame_states: &[FrameState], tree: &Tree, text: &mut String) -> Result<(), AllocError>
+    requires { All (FrameStateIsThere tree.now) frame_states.now }
+    ensures { IfOk result (λ _. string_bytes text.new ≡ string_bytes text.old ++ places_text tree.now frame_states.now) }
 {
     let mut first = 0;
-    while first < spots.len() {
-        let place = spots[first].place();
-        let next = first + run_length(&spots[first..], &place);
+    while first < frame_states.len() {
+        let place = frame_states[first].place();
+        let next = first + run_length(&frame_states[first..], &place);
         write_run(first, next - 1, &place, tree, text)?;
         first = next;
     }
@@ -29,50 +29,50 @@ pub(crate) fn write_places(spots: &[Spot], tree: &Tree, text: &mut String) -> Re
 }
 
 // How many frames from the first on are at this place.
-fn run_length(spots: &[Spot], place: &Place) -> usize
-    ensures { result ≡ run_length place.now spots.now }
+fn run_length(frame_states: &[FrameState], place: &Place) -> usize
+    ensures { result ≡ run_length place.now frame_states.now }
 {
-    first_elsewhere(spots, place).unwrap_or(spots.len())
+    first_elsewhere(frame_states, place).unwrap_or(frame_states.len())
 }
 
 // The first frame that isn't at this place. Each arm has a loop of its own, which looks at one kind of record only.
-fn first_elsewhere(spots: &[Spot], place: &Place) -> Option<usize>
-    ensures { MatchOption result (All (IsAt place.now) spots.now) (λ at. IsFirstElsewhere place.now spots.now at) }
+fn first_elsewhere(frame_states: &[FrameState], place: &Place) -> Option<usize>
+    ensures { MatchOption result (All (IsAt place.now) frame_states.now) (λ at. IsFirstElsewhere place.now frame_states.now at) }
 {
     match *place {
-        Place::Free => spots.iter().position(|spot| !is_free(spot)),
-        Place::Lent(cpu) => spots.iter().position(|spot| !is_lent(spot, cpu)),
-        Place::Charged(group) => spots.iter().position(|spot| !is_charged(spot, group)),
+        Place::Free => frame_states.iter().position(|frame_state| !is_free(frame_state)),
+        Place::Lent(cpu) => frame_states.iter().position(|frame_state| !is_lent(frame_state, cpu)),
+        Place::Charged(group) => frame_states.iter().position(|frame_state| !is_charged(frame_state, group)),
     }
 }
 
 // Whether the frame with this record is free.
 #[inline]
-fn is_free(spot: &Spot) -> bool
-    ensures { result ≡ is_same_place (place_of spot.now) place.Free }
+fn is_free(frame_state: &FrameState) -> bool
+    ensures { result ≡ is_same_place (place_of frame_state.now) place.Free }
 {
-    matches!(spot, Spot::Free)
+    matches!(frame_state, FrameState::Free)
 }
 
 // Whether the frame with this record is lent to this CPU.
 #[inline]
-fn is_lent(spot: &Spot, cpu: u32) -> bool
-    ensures { result ≡ is_same_place (place_of spot.now) (place.Lent cpu) }
+fn is_lent(frame_state: &FrameState, cpu: u32) -> bool
+    ensures { result ≡ is_same_place (place_of frame_state.now) (place.Lent cpu) }
 {
-    match *spot {
-        Spot::Lent(number) => u32::from(number) == cpu,
+    match *frame_state {
+        FrameState::Lent(number) => u32::from(number) == cpu,
         _ => false,
     }
 }
 
 // Whether the frame with this record is charged to this group.
 #[inline]
-fn is_charged(spot: &Spot, group: GroupId) -> bool
-    ensures { result ≡ is_same_place (place_of spot.now) (place.Charged group) }
+fn is_charged(frame_state: &FrameState, group: GroupId) -> bool
+    ensures { result ≡ is_same_place (place_of frame_state.now) (place.Charged group) }
 {
-    match *spot {
-        Spot::Head(unit) => unit.group == group,
-        Spot::Tail(owner) => owner == group,
+    match *frame_state {
+        FrameState::Head(unit) => unit.group == group,
+        FrameState::Tail(owner) => owner == group,
         _ => false,
     }
 }

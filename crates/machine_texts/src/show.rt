@@ -22,7 +22,7 @@ pub fn write_show<N: BootName>(machine: &Machine<N>, text: &mut String) -> Resul
     ensures { IfOk result (λ _. string_bytes text.new ≡ string_bytes text.old ++ show_text machine.now) }
 {
     let charges = machine.charges();
-    write_places(machine.spots(), charges.tree(), text)?;
+    write_places(machine.frame_states(), charges.tree(), text)?;
     for group in charges.tree().groups() {
         write_usage(charges, group, text)?;
     }

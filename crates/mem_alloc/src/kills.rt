@@ -67,7 +67,7 @@ pub fn kill_for<N: BootName>(
     machine.note_oom(limited);
     machine.note(Note::Oom { group: limited });
     'kills: loop {
-        let _spots = machine.spots(); // Called for its contract.
+        let _frame_states = machine.frame_states(); // Called for its contract.
         let charges = machine.charges();
         let _tree = charges.tree(); // Called for its contract.
         if !is_wanting(machine, &requester, limited, pages) {

@@ -8,9 +8,9 @@ use Rattle.group_charge.specs.Charges.{Ledger}
 use Rattle.cpu_part.specs.Cpus.{KnownCpu, first_cpu}
 use Rattle.step_rules.specs.State.{at_boot, no_part}
 use Rattle.step_rules.specs.Cover.{hide_references}
-use Rattle.mem_machine.specs.declared.spot.Spot.{Spot}
-use Rattle.mem_machine.specs.declared.spot.Spot.TheVariants.{Free}
-use Rattle.mem_machine.specs.Spots.{spot_at}
+use Rattle.mem_machine.specs.declared.frame_state.FrameState.{FrameState}
+use Rattle.mem_machine.specs.declared.frame_state.FrameState.TheVariants.{Free}
+use Rattle.mem_machine.specs.FrameStates.{frame_state_at}
 use Rattle.mem_machine.specs.Machines.{KnownMachine, IsFirst, is_killed}
 use Rattle.mem_machine.specs.Local.{local_of, hold_of, phase_of, part_of, part_with, references_of}
 use Rattle.mem_machine.specs.Interleaving.{zone_of}
@@ -58,7 +58,7 @@ module _ (t : KnownTable) (w : Words) (m : KnownMachine) (first : IsFirst t w m)
     hold = ap (λ (s : KnownSeat). hold_of s p) first.frame_seat i;
     groups = ap (λ (l : Ledger). l.groups) first.ledger i;
     killed = λ g. (ap (λ (l : List Bool). is_killed l g) first.killed ∙ repeated 64 g false) i;
-    phases = λ f. ap (phase_of c f) (ap (λ (l : List Spot). spot_at l f) first.spots ∙ repeated t.frames f Free) i;
+    phases = λ f. ap (phase_of c f) (ap (λ (l : List FrameState). frame_state_at l f) first.frame_states ∙ repeated t.frames f Free) i;
     references = λ q f. (references_first q f ∙ sym (hidden_first q f)) i;
     parts = λ q. (part_first q ∙ sym (same_either (q == p) no_part)) i;
     pending = λ g. 0;

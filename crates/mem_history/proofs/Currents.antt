@@ -27,12 +27,12 @@ use Rattle.step_rules.proofs.CoverUsage as covered
 use Rattle.step_rules.proofs.Runs.{sound_run}
 use Rattle.step_rules.proofs.Freeing.{zone_of_run}
 use Rattle.step_rules.proofs.Settling.{nothing_pends}
-use Rattle.mem_machine.specs.declared.spot.Spot.TheVariants.{Lent}
-use Rattle.mem_machine.specs.Spots.{spot_at, some_cpu, lent_to}
+use Rattle.mem_machine.specs.declared.frame_state.FrameState.TheVariants.{Lent}
+use Rattle.mem_machine.specs.FrameStates.{frame_state_at, some_cpu, lent_to}
 use Rattle.mem_machine.specs.Machines.{KnownMachine, IsConsistent}
 use Rattle.mem_machine.specs.Local.{local_of, number_or_0}
 use Rattle.mem_machine.specs.Interleaving.{zone_of}
-use Rattle.mem_machine.proofs.Records.{lent_spot}
+use Rattle.mem_machine.proofs.Records.{lent_frame_state}
 use Rattle.mem_machine.proofs.Usage.{IsBalanced, usage_is}
 use Rattle.mem_history.specs.Whole.{seen_by, ShowsAll}
 use Rattle.mem_history.specs.Kept.{IsTiedPart, CurrentIsKept}
@@ -42,10 +42,10 @@ use Rattle.mem_history.proofs.Together.{there}
 use Rattle.mem_history.proofs.Wholes.{not_zone, whole_sound, locked, locked_is, takes}
 
 -- the record gives the phase to a CPU that has nothing of the frame
-pub spot_covers : (t : KnownTable) (m : KnownMachine) (c : KnownCpu) (s : State) → local_of t m c ≡ seen_by c.number s → (f : ℕ) →
-    cover (s.phases f) ≡ plain (spot_at m.spots f)
-spot_covers t m c s sees f =
-    sym (cover_hidden c.number (s.phases f)) ∙ sym (ap (λ (x : State). cover (x.phases f)) sees) ∙ cover_shown c f (spot_at m.spots f)
+pub frame_state_covers : (t : KnownTable) (m : KnownMachine) (c : KnownCpu) (s : State) → local_of t m c ≡ seen_by c.number s → (f : ℕ) →
+    cover (s.phases f) ≡ plain (frame_state_at m.frame_states f)
+frame_state_covers t m c s sees f =
+    sym (cover_hidden c.number (s.phases f)) ∙ sym (ap (λ (x : State). cover (x.phases f)) sees) ∙ cover_shown c f (frame_state_at m.frame_states f)
 
 -- a frame that looks listed is listed or fresh
 pub data IsLentAt (p : ℕ) (y : Phase) : Type 0 where
@@ -97,9 +97,9 @@ module _ (t : KnownTable) (w : Words) (run : Run) (m : KnownMachine) (cpus : Lis
 
       to_borrowed : (note_of m.frame_seat.view f).lent ≡ c.frame_seat.view.number → (note_of c.frame_seat.view f).borrowed ≡ 1
       to_borrowed lent =
-          let spot : spot_at m.spots f ≡ Lent p =
-          lent_spot (spot_at m.spots f) p tied.tied.seats.some_number (ap some_cpu (sym (lent ∙ number)) ∙ (is.spots f inside).lent) in
-          let seen : cover (whole.phases f) ≡ phase.Lent p OnList = spot_covers t m c whole sees f ∙ ap plain spot in
+          let frame_state : frame_state_at m.frame_states f ≡ Lent p =
+          lent_frame_state (frame_state_at m.frame_states f) p tied.tied.seats.some_number (ap some_cpu (sym (lent ∙ number)) ∙ (is.frame_states f inside).lent) in
+          let seen : cover (whole.phases f) ≡ phase.Lent p OnList = frame_state_covers t m c whole sees f ∙ ap plain frame_state in
           let noted = tied.tied.noted f in
           let borrowed_is = noted.borrowed_is in
           let once = noted.once in
@@ -117,8 +117,8 @@ module _ (t : KnownTable) (w : Words) (run : Run) (m : KnownMachine) (cpus : Lis
 
       lent_of : cover (whole.phases f) ≡ phase.Lent p OnList → (note_of m.frame_seat.view f).lent ≡ c.frame_seat.view.number
       lent_of seen =
-          let spot = lent_plain (spot_at m.spots f) p (sym seen ∙ spot_covers t m c whole sees f) in
-          some_is (note_of m.frame_seat.view f).lent p ((is.spots f inside).lent ∙ ap lent_to spot) ∙ sym number
+          let frame_state = lent_plain (frame_state_at m.frame_states f) p (sym seen ∙ frame_state_covers t m c whole sees f) in
+          some_is (note_of m.frame_seat.view f).lent p ((is.frame_states f inside).lent ∙ ap lent_to frame_state) ∙ sym number
         where
           some_is : (n q : ℕ) → some_cpu n ≡ Some q → n ≡ q
           some_is zero q e = cc

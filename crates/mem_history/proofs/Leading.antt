@@ -34,9 +34,9 @@ use Rattle.step_rules.proofs.Lists.{times, times_last, times_same, times_other, 
 use Rattle.step_rules.proofs.Sound.{IsSound}
 use Rattle.step_rules.proofs.PhaseLemmas.{live_is, listed_is, fresh_is}
 use Rattle.step_rules.proofs.CoverParts.{own_part}
-use Rattle.mem_machine.specs.declared.spot.Spot.{Spot}
-use Rattle.mem_machine.specs.declared.spot.Spot.TheVariants.{Free, Lent, Head, Tail}
-use Rattle.mem_machine.specs.Spots.{spot_at}
+use Rattle.mem_machine.specs.declared.frame_state.FrameState.{FrameState}
+use Rattle.mem_machine.specs.declared.frame_state.FrameState.TheVariants.{Free, Lent, Head, Tail}
+use Rattle.mem_machine.specs.FrameStates.{frame_state_at}
 use Rattle.mem_machine.specs.Machines.{KnownMachine, side}
 use Rattle.mem_machine.specs.Counting.{with_one_put_last}
 use Rattle.mem_machine.specs.Local.{local_of, phase_of, part_of, part_with, references_of, fresh_group, number_or_0, Makes}
@@ -49,7 +49,7 @@ use Rattle.mem_history.specs.Leading.{IsPart, put_answer, FastCallsLead}
 use Rattle.mem_history.proofs.Covers.{plain, head_plain, lent_plain, same_times, cover}
 use Rattle.mem_history.proofs.Others.{HasOwn, has_own, own_shown, other_shown, own_references}
 use Rattle.mem_history.proofs.Wholes.{is_one, not_zone, whole_sound}
-use Rattle.mem_history.proofs.Currents.{spot_covers}
+use Rattle.mem_history.proofs.Currents.{frame_state_covers}
 use Rattle.mem_machine.proofs.Followed.{follows_same}
 
 -- ---- lists
@@ -138,30 +138,30 @@ module _ (t : KnownTable) (w : Words) (run : Run) (m : KnownMachine) (cpus : Lis
   own : HasOwn c whole
   own = has_own t m c whole some (is.shows.each k c is.is_part).sees
 
-  covers_at : (f : ℕ) → cover (whole.phases f) ≡ plain (spot_at m.spots f)
-  covers_at = spot_covers t m c whole (is.shows.each k c is.is_part).sees
+  covers_at : (f : ℕ) → cover (whole.phases f) ≡ plain (frame_state_at m.frame_states f)
+  covers_at = frame_state_covers t m c whole (is.shows.each k c is.is_part).sees
 
   -- a listed or fresh frame is lent to the CPU
-  listed_lent : (f : ℕ) → 1 ≤ parts.times f c.list → spot_at m.spots f ≡ Lent q
+  listed_lent : (f : ℕ) → 1 ≤ parts.times f c.list → frame_state_at m.frame_states f ≡ Lent q
   listed_lent f stands =
       let a : times f (whole.parts q).list ≡ one_if (has_as ListFrame q (whole.phases f)) = sound.lists q ListFrame f in
       let b : parts.times f c.list ≡ times f (whole.parts q).list = same_times f c.list ∙ ap (times f) (sym own.list) in
       let was = listed_is q (whole.phases f) (one_if_true (has_as ListFrame q (whole.phases f)) (omega arith)) in
-      lent_plain (spot_at m.spots f) q (sym (ap cover was) ∙ covers_at f)
+      lent_plain (frame_state_at m.frame_states f) q (sym (ap cover was) ∙ covers_at f)
 
-  fresh_lent : (f : ℕ) → 1 ≤ parts.times f c.fresh → spot_at m.spots f ≡ Lent q
+  fresh_lent : (f : ℕ) → 1 ≤ parts.times f c.fresh → frame_state_at m.frame_states f ≡ Lent q
   fresh_lent f stands =
       let a : times f (whole.parts q).fresh ≡ one_if (has_as FreshFrame q (whole.phases f)) = sound.lists q FreshFrame f in
       let b : parts.times f c.fresh ≡ times f (whole.parts q).fresh = same_times f c.fresh ∙ ap (times f) (sym own.fresh) in
       let was = fresh_is q (whole.phases f) (one_if_true (has_as FreshFrame q (whole.phases f)) (omega arith)) in
-      lent_plain (spot_at m.spots f) q (sym (ap cover was.1) ∙ covers_at f)
+      lent_plain (frame_state_at m.frame_states f) q (sym (ap cover was.1) ∙ covers_at f)
 
   -- a pinned frame heads a unit
-  pinned_head : (f : ℕ) → 1 ≤ holds c.frame_seat f → (u : ChargedUnit) × (spot_at m.spots f ≡ Head u)
+  pinned_head : (f : ℕ) → 1 ≤ holds c.frame_seat f → (u : ChargedUnit) × (frame_state_at m.frame_states f ≡ Head u)
   pinned_head f pinned = elim (cases_Bool (is_live (whole.phases f))) [
     | inl live ↦
         let was = live_is (whole.phases f) live in
-        (was.0, head_plain (spot_at m.spots f) was.0 (sym (ap cover was.1) ∙ covers_at f))
+        (was.0, head_plain (frame_state_at m.frame_states f) was.0 (sym (ap cover was.1) ∙ covers_at f))
     | inr dead ↦ absurd (let none = (sound.frames f).unreferred dead q in let same = own.references f in omega arith)
   ]
 
@@ -238,29 +238,29 @@ module _ (t : KnownTable) (w : Words) (run : Run) (m : KnownMachine) (cpus : Lis
         counts = refl;
       })
 
-  last_phases : (f : ℕ) (u : ChargedUnit) → spot_at m.spots f ≡ Head u → (x : ℕ) →
-      phase_of (record c { back = c.back ++ f ∷ [] }) x (spot_at m.spots x)
+  last_phases : (f : ℕ) (u : ChargedUnit) → frame_state_at m.frame_states f ≡ Head u → (x : ℕ) →
+      phase_of (record c { back = c.back ++ f ∷ [] }) x (frame_state_at m.frame_states x)
       ≡ with_at (local_of t m c).phases f (at_stage (stage_after_last q) ((local_of t m c).phases f)) x
-  last_phases f u spot x =
+  last_phases f u frame_state x =
       let d : KnownCpu = record c { back = c.back ++ f ∷ [] } in
       let to : Phase = at_stage (stage_after_last q) ((local_of t m c).phases f) in
       elim (cases_eq x f) [
         | inl e ↦
             let stage : stage_after_last q ≡ BackAt q = cond-false (q == 0) Ended (BackAt q) (ne_eqb q 0 some) in
             let stands : 1 ≤ parts.times f d.back = let a = times_end f f c.back in let b = times_same f in omega arith in
-            ap (λ (y : ℕ). phase_of d y (spot_at m.spots y)) e ∙ ap (phase_of d f) spot
+            ap (λ (y : ℕ). phase_of d y (frame_state_at m.frame_states y)) e ∙ ap (phase_of d f) frame_state
             ∙ cond-true (nat_le 1 (parts.times f d.back)) _ _ (le-leb 1 (parts.times f d.back) stands)
-            ∙ sym (ap (λ s. at_stage s ((local_of t m c).phases f)) stage ∙ ap (λ (y : Spot). at_stage (BackAt q) (phase_of c f y)) spot
+            ∙ sym (ap (λ s. at_stage s ((local_of t m c).phases f)) stage ∙ ap (λ (y : FrameState). at_stage (BackAt q) (phase_of c f y)) frame_state
             ∙ staged (nat_le 1 (parts.times f c.back)))
             ∙ sym (at_same (local_of t m c).phases f to) ∙ sym (ap (with_at (local_of t m c).phases f to) e)
-        | inr ne ↦ other_phase x ne (spot_at m.spots x) ∙ sym (at_other (local_of t m c).phases f to x ne)
+        | inr ne ↦ other_phase x ne (frame_state_at m.frame_states x) ∙ sym (at_other (local_of t m c).phases f to x ne)
       ]
     where
       staged : (b : Bool) → at_stage (BackAt q) (cond b (phase.Head u (BackAt q)) (phase.Head u Live)) ≡ phase.Head u (BackAt q)
       staged true = refl
       staged false = refl
 
-      other_phase : (x : ℕ) → (x ≡ f → ⊥) → (y : Spot) → phase_of (record c { back = c.back ++ f ∷ [] }) x y ≡ phase_of c x y
+      other_phase : (x : ℕ) → (x ≡ f → ⊥) → (y : FrameState) → phase_of (record c { back = c.back ++ f ∷ [] }) x y ≡ phase_of c x y
       other_phase x ne Free = refl
       other_phase x ne (Lent r) = refl
       other_phase x ne (Tail g) = refl
@@ -306,7 +306,7 @@ module _ (t : KnownTable) (w : Words) (run : Run) (m : KnownMachine) (cpus : Lis
   own_part_is : (local_of t m c).parts q ≡ part_with c.list c.fresh c.back (account_of m.stock_seat.view q)
   own_part_is = own_shown t m c q refl
 
-  other_phase : (d : KnownCpu) (x : ℕ) (y : Spot) → d.number ≡ q → d.back ≡ c.back → fresh_group d ≡ fresh_group c →
+  other_phase : (d : KnownCpu) (x : ℕ) (y : FrameState) → d.number ≡ q → d.back ≡ c.back → fresh_group d ≡ fresh_group c →
       parts.times x d.fresh ≡ parts.times x c.fresh → phase_of d x y ≡ phase_of c x y
   other_phase d x Free named back group fresh = refl
   other_phase d x (Tail g) named back group fresh = refl
@@ -322,7 +322,7 @@ module _ (t : KnownTable) (w : Words) (run : Run) (m : KnownMachine) (cpus : Lis
   leads_took d g f rest stock front room now was_group is_group answered =
       let e : KnownCpu = record c { list = rest; fresh = c.fresh ++ f ∷ []; stock_seat = stock } in
       let on_list : 1 ≤ parts.times f c.list = let a = ap (parts.times f) front in let b = times_front f f rest in let h = times_same f in omega arith in
-      let spot = listed_lent f on_list in
+      let frame_state = listed_lent f on_list in
       let noted = is.tied.noted f in
       let once = noted.once in
       let none_in_rest : parts.times f rest ≡ 0 = let a = ap (parts.times f) front in let b = times_front f f rest in let h = times_same f in omega arith in
@@ -341,17 +341,17 @@ module _ (t : KnownTable) (w : Words) (run : Run) (m : KnownMachine) (cpus : Lis
       let some_listed : 1 ≤ length ((local_of t m c).parts q).list = let h = ap (λ (x : Part). length x.list) own_part_is in let l = ap length front in omega arith in
       let some_room : length ((local_of t m c).parts q).fresh < 32 = let h = ap (λ (x : Part). length x.fresh) own_part_is in omega arith in
       let group : fresh_group e ≡ fresh_group c = is_group ∙ sym was_group in
-      let phases_are : (x : ℕ) → phase_of e x (spot_at m.spots x)
+      let phases_are : (x : ℕ) → phase_of e x (frame_state_at m.frame_states x)
       ≡ with_at (local_of t m c).phases (front_of ((local_of t m c).parts q).list) (consumed q g) x =
       λ x. (elim (cases_eq x f) [
         | inl at ↦
             let stands : parts.times f e.fresh ≡ 1 = let h = times_end f f c.fresh in let l = times_same f in omega arith in
-            ap (λ (y : ℕ). phase_of e y (spot_at m.spots y)) at ∙ fresh_phase e f (spot_at m.spots f) spot stands
+            ap (λ (y : ℕ). phase_of e y (frame_state_at m.frame_states y)) at ∙ fresh_phase e f (frame_state_at m.frame_states f) frame_state stands
             ∙ ap (λ (h : ℕ). phase.Head (record { group = h; order = 0 }) (FreshAt q)) is_group
             ∙ sym (at_same (local_of t m c).phases f (consumed q g)) ∙ sym (ap (with_at (local_of t m c).phases f (consumed q g)) at)
         | inr ne ↦
             let same : parts.times x e.fresh ≡ parts.times x c.fresh = let h = times_end x f c.fresh in let l = times_other f x (λ z. ne (sym z)) in omega arith in
-            other_phase e x (spot_at m.spots x) refl refl group same ∙ sym (at_other (local_of t m c).phases f (consumed q g) x ne)
+            other_phase e x (frame_state_at m.frame_states x) refl refl group same ∙ sym (at_other (local_of t m c).phases f (consumed q g) x ne)
       ]) ∙ ap (λ (h : ℕ). with_at (local_of t m c).phases h (consumed q g) x) (sym front_is) in
       subst (λ (x : KnownCpu). Makes t (side m c) (cpu_makes q (Consume g) Took ∷ []) (side m x)) (sym now) (record {
         leads = (
@@ -381,7 +381,7 @@ module _ (t : KnownTable) (w : Words) (run : Run) (m : KnownMachine) (cpus : Lis
       let stands = stands_at f c.fresh i inside at in
       let counted = same_times f c.fresh in
       let alone : times f c.fresh ≡ 1 = omega arith in
-      let spot = fresh_lent f (omega arith) in
+      let frame_state = fresh_lent f (omega arith) in
       let removed : remove c.fresh i ≡ without f c.fresh = removed_once f c.fresh i inside at alone in
       let a = account_of m.stock_seat.view q in
       let below : f < t.frames = elim (cases_lt f t.frames) [
@@ -391,7 +391,7 @@ module _ (t : KnownTable) (w : Words) (run : Run) (m : KnownMachine) (cpus : Lis
       let seen : times f (whole.parts q).fresh ≡ one_if (has_as FreshFrame q (whole.phases f)) = sound.lists q FreshFrame f in
       let same_fresh : times f (whole.parts q).fresh ≡ times f c.fresh = ap (times f) own.fresh in
       let has : has_as FreshFrame q ((local_of t m c).phases f) ≡ true =
-      ap (has_as FreshFrame q) (fresh_phase c f (spot_at m.spots f) spot (omega arith)) ∙ eq-eqb q q refl in
+      ap (has_as FreshFrame q) (fresh_phase c f (frame_state_at m.frame_states f) frame_state (omega arith)) ∙ eq-eqb q q refl in
       let booked = sound.booked q in
       let part_seen : part_with c.list c.fresh c.back a ≡ whole.parts q =
       sym own_part_is ∙ ap (λ (x : State). x.parts q) (is.shows.each k c is.is_part).sees ∙ own_part q whole.parts q refl in
@@ -408,17 +408,17 @@ module _ (t : KnownTable) (w : Words) (run : Run) (m : KnownMachine) (cpus : Lis
       let part_is : (local_of t m e).parts q ≡ credited ((local_of t m c).parts q) f =
       own_shown t m e q refl ∙ part ∙ sym (ap (λ (x : Part). credited x f) own_part_is) in
       let group : fresh_group e ≡ fresh_group c = ap number_or_0 same_group in
-      let phases_are : (x : ℕ) → phase_of e x (spot_at m.spots x) ≡ with_at (local_of t m c).phases f (phase.Lent q OnList) x =
+      let phases_are : (x : ℕ) → phase_of e x (frame_state_at m.frame_states x) ≡ with_at (local_of t m c).phases f (phase.Lent q OnList) x =
       λ x. elim (cases_eq x f) [
         | inl here ↦
             let none : parts.times f e.fresh ≡ 0 = ap (parts.times f) removed ∙ same_times f (without f c.fresh) ∙ times_without f c.fresh in
-            ap (λ (y : ℕ). phase_of e y (spot_at m.spots y)) here ∙ ap (phase_of e f) spot
+            ap (λ (y : ℕ). phase_of e y (frame_state_at m.frame_states y)) here ∙ ap (phase_of e f) frame_state
             ∙ cond-false (q == q && nat_le 1 (parts.times f e.fresh)) _ _ (and_right (q == q) _ (ap (nat_le 1) none))
             ∙ sym (at_same (local_of t m c).phases f (phase.Lent q OnList)) ∙ sym (ap (with_at (local_of t m c).phases f (phase.Lent q OnList)) here)
         | inr ne ↦
             let same : parts.times x e.fresh ≡ parts.times x c.fresh =
             ap (parts.times x) removed ∙ same_times x (without f c.fresh) ∙ times_without_other x f c.fresh ne ∙ sym (same_times x c.fresh) in
-            other_phase e x (spot_at m.spots x) refl refl group same ∙ sym (at_other (local_of t m c).phases f (phase.Lent q OnList) x ne)
+            other_phase e x (frame_state_at m.frame_states x) refl refl group same ∙ sym (at_other (local_of t m c).phases f (phase.Lent q OnList) x ne)
       ] in
       subst (λ (x : KnownCpu). Makes t (side m c) (cpu_makes q (Credit f) Back ∷ []) (side m x)) (sym now) (record {
         leads = (

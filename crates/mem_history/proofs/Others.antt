@@ -20,7 +20,7 @@ use Rattle.step_rules.proofs.Sound.{IsSound, PhasePaid, groups_in}
 use Rattle.step_rules.proofs.PhaseLemmas.{fresh_is}
 use Rattle.step_rules.proofs.CoverParts.{own_part, other_part, own_reference}
 use Rattle.step_rules.proofs.CoverPhases.{own_fresh}
-use Rattle.mem_machine.specs.Spots.{spot_at}
+use Rattle.mem_machine.specs.FrameStates.{frame_state_at}
 use Rattle.mem_machine.specs.Machines.{KnownMachine}
 use Rattle.mem_machine.specs.Local.{local_of, phase_of, part_of, part_with, references_of, hold_of}
 use Rattle.mem_machine.proofs.Shown.{fresh_unit}
@@ -120,7 +120,7 @@ has_own t m c s ne sees =
       list = lists.0;
       fresh = lists.1;
       back = lists.2;
-      unit = λ f u is. fresh_unit_is c f (spot_at m.spots f) u q
+      unit = λ f u is. fresh_unit_is c f (frame_state_at m.frame_states f) u q
           (ap (λ (x : State). x.phases f) sees ∙ ap (hide_phase q) is ∙ own_fresh u q);
     }
 
@@ -164,9 +164,9 @@ module _ (t : KnownTable) (n : KnownMachine) (d c : KnownCpu) (s : State) (sound
   abbrev p : ℕ
   p = d.number
 
-  phases_seen : (f : ℕ) → phase_of c f (spot_at n.spots f) ≡ hide_phase q (s.phases f)
-  phases_seen f = phase_seen c q f (spot_at n.spots f) (s.phases f) refl
-      (sym (cover_hidden p (s.phases f)) ∙ sym (ap (λ (x : State). cover (x.phases f)) sees) ∙ cover_shown d f (spot_at n.spots f))
+  phases_seen : (f : ℕ) → phase_of c f (frame_state_at n.frame_states f) ≡ hide_phase q (s.phases f)
+  phases_seen f = phase_seen c q f (frame_state_at n.frame_states f) (s.phases f) refl
+      (sym (cover_hidden p (s.phases f)) ∙ sym (ap (λ (x : State). cover (x.phases f)) sees) ∙ cover_shown d f (frame_state_at n.frame_states f))
       (same_times f c.fresh ∙ ap (times f) (sym own.fresh) ∙ sound.lists q FreshFrame f)
       (same_times f c.back ∙ ap (times f) (sym own.back) ∙ sound.lists q BackFrame f)
       (λ u is. own.unit f u is)

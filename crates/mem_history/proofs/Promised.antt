@@ -31,10 +31,10 @@ use Rattle.step_rules.proofs.CoverParts.{own_part, other_part}
 use Rattle.step_rules.proofs.Freeing.{zone_of_run}
 use Rattle.step_rules.proofs.LentTo.{frames_are_lent}
 use Rattle.step_rules.proofs.Promising.{the_promise_is_kept}
-use Rattle.mem_machine.specs.declared.spot.Spot.{Spot}
-use Rattle.mem_machine.specs.declared.spot.Spot.TheVariants.{Free, Lent, Head, Tail}
-use Rattle.mem_machine.specs.Spots as spots
-use Rattle.mem_machine.specs.Spots.{spot_at, free_of}
+use Rattle.mem_machine.specs.declared.frame_state.FrameState.{FrameState}
+use Rattle.mem_machine.specs.declared.frame_state.FrameState.TheVariants.{Free, Lent, Head, Tail}
+use Rattle.mem_machine.specs.FrameStates as frame_states
+use Rattle.mem_machine.specs.FrameStates.{frame_state_at, free_of}
 use Rattle.mem_machine.specs.Machines.{KnownMachine, IsConsistent}
 use Rattle.mem_machine.specs.Local.{part_with}
 use Rattle.mem_machine.specs.Interleaving.{zone_of}
@@ -44,7 +44,7 @@ use Rattle.mem_history.proofs.Covers.{cover, plain, lent_plain, same_times}
 use Rattle.mem_history.proofs.Others.{HasOwn, has_own, own_shown, other_shown}
 use Rattle.mem_history.proofs.Together.{there}
 use Rattle.mem_history.proofs.Wholes.{whole_sound}
-use Rattle.mem_history.proofs.Currents.{spot_covers, current_is}
+use Rattle.mem_history.proofs.Currents.{frame_state_covers, current_is}
 
 -- a list that has no frame is empty
 none_stands : (xs : List ℕ) → ((f : ℕ) → times f xs ≡ 0) → xs ≡ []
@@ -61,41 +61,41 @@ free_covered (phase.Head u (FreshAt q)) = refl
 free_covered (phase.Head u (BackAt q)) = refl
 free_covered (phase.Head u stage) = refl
 
-free_plain : (x : Spot) → phases.is_free (plain x) ≡ spots.is_free x
+free_plain : (x : FrameState) → phases.is_free (plain x) ≡ frame_states.is_free x
 free_plain Free = refl
 free_plain (Lent q) = refl
 free_plain (Head unit) = refl
 free_plain (Tail g) = refl
 
-free_each : (xs : List Spot) (F : ℕ → Bool) (a : ℕ) → ((i j : ℕ) → a + i ≡ j → F j ≡ spots.is_free (slice_index_or xs i Free)) →
-    map F (range_with_len a (length xs)) ≡ map spots.is_free xs
+free_each : (xs : List FrameState) (F : ℕ → Bool) (a : ℕ) → ((i j : ℕ) → a + i ≡ j → F j ≡ frame_states.is_free (slice_index_or xs i Free)) →
+    map F (range_with_len a (length xs)) ≡ map frame_states.is_free xs
 free_each [] F a each = refl
 free_each (x ∷ xs) F a each =
-    let here : F a ≡ spots.is_free x = each 0 a (omega arith) in
+    let here : F a ≡ frame_states.is_free x = each 0 a (omega arith) in
     let rest = free_each xs F (a + 1) (λ i j e. each (suc i) j (omega arith)) in
     λ j. here j ∷ rest j
 
 -- ---- records, by their phases
 
-in_zone_plain : (x : Spot) → phase.InZone ≡ plain x → x ≡ Free
+in_zone_plain : (x : FrameState) → phase.InZone ≡ plain x → x ≡ Free
 in_zone_plain Free e = refl
 in_zone_plain (Lent q) e = cc
 in_zone_plain (Head unit) e = cc
 in_zone_plain (Tail g) e = cc
 
-tail_plain : (x : Spot) (g : ℕ) → phase.Tail g ≡ plain x → x ≡ Tail g
+tail_plain : (x : FrameState) (g : ℕ) → phase.Tail g ≡ plain x → x ≡ Tail g
 tail_plain Free g e = cc
 tail_plain (Lent q) g e = cc
 tail_plain (Head unit) g e = cc
 tail_plain (Tail h) g e = cc
 
-any_lent_plain : (x : Spot) (q : ℕ) (way : Way) → phase.Lent q way ≡ plain x → x ≡ Lent q
+any_lent_plain : (x : FrameState) (q : ℕ) (way : Way) → phase.Lent q way ≡ plain x → x ≡ Lent q
 any_lent_plain Free q way e = cc
 any_lent_plain (Lent r) q way e = cc
 any_lent_plain (Head unit) q way e = cc
 any_lent_plain (Tail g) q way e = cc
 
-any_head_plain : (x : Spot) (u : ChargedUnit) (stage : Stage) → phase.Head u stage ≡ plain x → x ≡ Head u
+any_head_plain : (x : FrameState) (u : ChargedUnit) (stage : Stage) → phase.Head u stage ≡ plain x → x ≡ Head u
 any_head_plain Free u stage e = cc
 any_head_plain (Lent r) u stage e = cc
 any_head_plain (Head unit) u stage e = cc
@@ -206,7 +206,7 @@ module _ (t : KnownTable) (w : Words) (run : Run) (m : KnownMachine) (cpus : Lis
   lent_keeper f p true e = cond-true _ _ _ (le-leb 1 (parts.times f (fresh_frames_by cpus p)) (let a = fresh_times f p in let b = ap one_if e in omega arith))
   lent_keeper f p false e = cond-false _ _ _ (ap (nat_le 1) (fresh_times f p ∙ ap one_if e))
 
-  keeper_is : (f : ℕ) (x : Spot) (y : Phase) → whole.phases f ≡ y → cover y ≡ plain x → keeper_by m cpus f x ≡ keeper_of y
+  keeper_is : (f : ℕ) (x : FrameState) (y : Phase) → whole.phases f ≡ y → cover y ≡ plain x → keeper_by m cpus f x ≡ keeper_of y
   keeper_is f x phase.InZone e same = ap (keeper_by m cpus f) (in_zone_plain x same)
   keeper_is f x (phase.Tail g) e same = ap (keeper_by m cpus f) (tail_plain x g same)
   keeper_is f x (phase.Lent q way) e same =
@@ -219,16 +219,16 @@ module _ (t : KnownTable) (w : Words) (run : Run) (m : KnownMachine) (cpus : Lis
   keeper_is f x (phase.Head u (BackAt q)) e same = ap (keeper_by m cpus f) (any_head_plain x u Live same)
   keeper_is f x (phase.Head u stage) e same = ap (keeper_by m cpus f) (any_head_plain x u stage same)
 
-  covers_at : (f : ℕ) → cover (whole.phases f) ≡ plain (spot_at m.spots f)
-  covers_at = spot_covers t m first.0 whole (seen 0 first.0 first.1).sees
+  covers_at : (f : ℕ) → cover (whole.phases f) ≡ plain (frame_state_at m.frame_states f)
+  covers_at = frame_state_covers t m first.0 whole (seen 0 first.0 first.1).sees
 
-  free_is : free_in whole.zone whole.phases ≡ free_of m.spots
+  free_is : free_in whole.zone whole.phases ≡ free_of m.frame_states
   free_is =
-      let sized : whole.zone.frames ≡ length m.spots = ap (λ (z : Zone). z.frames) (zone_of_run zone run) ∙ sym is.sizes.spots in
+      let sized : whole.zone.frames ≡ length m.frame_states = ap (λ (z : Zone). z.frames) (zone_of_run zone run) ∙ sym is.sizes.frame_states in
       ap (λ (n : ℕ). map (λ f. phases.is_free (whole.phases f)) (range_with_len 0 n)) sized
-      ∙ free_each m.spots (λ f. phases.is_free (whole.phases f)) 0
+      ∙ free_each m.frame_states (λ f. phases.is_free (whole.phases f)) 0
       (λ i j e. ap (λ (f : ℕ). phases.is_free (whole.phases f)) (sym (the_same i j e))
-      ∙ free_covered (whole.phases i) ∙ ap phases.is_free (covers_at i) ∙ free_plain (spot_at m.spots i))
+      ∙ free_covered (whole.phases i) ∙ ap phases.is_free (covers_at i) ∙ free_plain (frame_state_at m.frame_states i))
     where
       the_same : (i j : ℕ) → 0 + i ≡ j → i ≡ j
       the_same i j e = omega arith
@@ -237,7 +237,7 @@ module _ (t : KnownTable) (w : Words) (run : Run) (m : KnownMachine) (cpus : Lis
   is_shown = record {
     areas = subst (λ (free : List Bool). AreMaximalBlocks free m.blocks) (sym free_is) is.areas;
     lists = list_is;
-    keeper = λ f. keeper_is f (spot_at m.spots f) (whole.phases f) refl (covers_at f);
+    keeper = λ f. keeper_is f (frame_state_at m.frame_states f) (whole.phases f) refl (covers_at f);
     groups = ap (λ (x : State). x.groups) (seen 0 first.0 first.1).sees;
     stocks = stock_is;
     current = λ g known. current_is t w run m cpus 0 first.0 shows first.1 is (tied 0 first.0 first.1) charges g;

@@ -31,9 +31,9 @@ use Rattle.step_rules.proofs.Sound.{IsSound}
 use Rattle.step_rules.proofs.Runs.{sound_run, state_more}
 use Rattle.step_rules.proofs.Freeing.{zone_of_run}
 use Rattle.step_rules.proofs.Seeing.{the_lock_is_passed_on}
-use Rattle.mem_machine.specs.declared.spot.Spot.{Spot}
-use Rattle.mem_machine.specs.declared.spot.Spot.TheVariants.{Free, Lent, Head, Tail}
-use Rattle.mem_machine.specs.Spots.{spot_at}
+use Rattle.mem_machine.specs.declared.frame_state.FrameState.{FrameState}
+use Rattle.mem_machine.specs.declared.frame_state.FrameState.TheVariants.{Free, Lent, Head, Tail}
+use Rattle.mem_machine.specs.FrameStates.{frame_state_at}
 use Rattle.mem_machine.specs.Machines.{KnownMachine}
 use Rattle.mem_machine.specs.Local.{local_of, phase_of, fresh_group, hold_of}
 use Rattle.mem_machine.specs.Interleaving.{zone_of}
@@ -66,7 +66,7 @@ head_still : (b : Bool) (u : ChargedUnit) (q : ℕ) → is_passing (cond b (phas
 head_still true u q = refl
 head_still false u q = refl
 
-phase_still : (c : KnownCpu) (f : ℕ) (x : Spot) → is_passing (phase_of c f x) ≡ false
+phase_still : (c : KnownCpu) (f : ℕ) (x : FrameState) → is_passing (phase_of c f x) ≡ false
 phase_still c f Free = refl
 phase_still c f (Lent q) = lent_still (q == c.number && nat_le 1 (parts.times f c.fresh)) (record { group = fresh_group c; order = 0 }) q
 phase_still c f (Head unit) = head_still (nat_le 1 (parts.times f c.back)) unit c.number
@@ -80,7 +80,7 @@ may_unlock t m c cpu shut =
     ap (is_held_by c.number) (hold_shut m.frame_seat c.number shut) ∙ eq-eqb c.number c.number refl in
     let settled : is_settled s ≡ true = all_each 64 (λ g. s.pending g == 0) (λ g below. eq-eqb (s.pending g) 0 refl) in
     let still : no_frame_passes s ≡ true =
-    all_each t.frames (λ f. not (is_passing (s.phases f))) (λ f below. ap not (phase_still c f (spot_at m.spots f))) in
+    all_each t.frames (λ f. not (is_passing (s.phases f))) (λ f below. ap not (phase_still c f (frame_state_at m.frame_states f))) in
     and_from _ _ (and_from _ _ (and_from _ _ cpu held) settled) still
 
 -- ---- the whole, by one part

@@ -12,9 +12,9 @@ use Rattle.step_rules.specs.State.{Stock}
 use Rattle.step_rules.specs.Usage.{frames_kept, pages_prepaid}
 use Rattle.step_rules.specs.After.{Run, state_of}
 use Rattle.step_rules.specs.Promise.{Shown, Promise}
-use Rattle.mem_machine.specs.declared.spot.Spot.{Spot}
-use Rattle.mem_machine.specs.declared.spot.Spot.TheVariants.{Free, Lent, Head, Tail}
-use Rattle.mem_machine.specs.Spots.{spot_at}
+use Rattle.mem_machine.specs.declared.frame_state.FrameState.{FrameState}
+use Rattle.mem_machine.specs.declared.frame_state.FrameState.TheVariants.{Free, Lent, Head, Tail}
+use Rattle.mem_machine.specs.FrameStates.{frame_state_at}
 use Rattle.mem_machine.specs.Machines.{KnownMachine, IsConsistent, IsFirst, side}
 use Rattle.mem_machine.specs.Local.{part_with}
 use Rattle.mem_machine.specs.Interleaving.{zone_of, Shows}
@@ -81,7 +81,7 @@ fresh_frames_by cpus (suc index) = option_map_or (λ cpu. cpu.fresh) (slice_get 
 
 -- the group that keeps the frame, by the frame's record; the group of a CPU's stock keeps a frame that is lent to
 -- that CPU and fresh there
-abbrev pub keeper_by : KnownMachine → List KnownCpu → ℕ → Spot → Option ℕ
+abbrev pub keeper_by : KnownMachine → List KnownCpu → ℕ → FrameState → Option ℕ
 keeper_by machine cpus frame Free = None
 keeper_by machine cpus frame (Lent processor) =
     if nat_le 1 (times frame (fresh_frames_by cpus processor))
@@ -99,7 +99,7 @@ abbrev pub shown_of : KnownMachine → List KnownCpu → Shown
 shown_of machine cpus = record {
   areas = machine.blocks;
   lists = list_by cpus;
-  keeper = λ frame. keeper_by machine cpus frame (spot_at machine.spots frame);
+  keeper = λ frame. keeper_by machine cpus frame (frame_state_at machine.frame_states frame);
   groups = machine.ledger.groups;
   stocks = stock_by machine cpus;
   current = current_of machine.ledger;

@@ -13,7 +13,7 @@ use Rattle.stock_word.proofs.CallerLemmas.{account_of-with_account, account_of-w
 use Rattle.step_rules.specs.State.{sum_to, with_at}
 use Rattle.step_rules.proofs.Basics.{at_same, at_other, at_each}
 use Rattle.step_rules.proofs.Sums.{sum_change}
-use Rattle.mem_machine.specs.Spots.{count_of}
+use Rattle.mem_machine.specs.FrameStates.{count_of}
 use Rattle.mem_machine.specs.Machines.{booked, pages_booked}
 use Rattle.mem_machine.specs.Local.{number_or_0}
 use Rattle.mem_machine.specs.Settling.{with_page_absorbed}

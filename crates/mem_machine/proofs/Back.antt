@@ -20,11 +20,11 @@ use Rattle.step_rules.specs.declared.phase.ChargedUnit.{ChargedUnit}
 use Rattle.step_rules.specs.declared.phase.Stage.TheVariants.{BackAt, Ended}
 use Rattle.step_rules.specs.declared.phase.Phase.TheVariants as phase
 use Rattle.step_rules.specs.State.{State, one_if}
-use Rattle.mem_machine.specs.declared.spot.Spot.{Spot}
-use Rattle.mem_machine.specs.declared.spot.Spot.TheVariants.{Free, Head}
+use Rattle.mem_machine.specs.declared.frame_state.FrameState.{FrameState}
+use Rattle.mem_machine.specs.declared.frame_state.FrameState.TheVariants.{Free, Head}
 use Rattle.mem_machine.specs.declared.counts.Counts.{Counts}
-use Rattle.mem_machine.specs.Spots.{spot_at, free_of, head_group_of, some_cpu}
-use Rattle.mem_machine.specs.Machines.{KnownMachine, FitsSpot, IsConsistent, BalancesCounts, Visits, home_of}
+use Rattle.mem_machine.specs.FrameStates.{frame_state_at, free_of, head_group_of, some_cpu}
+use Rattle.mem_machine.specs.Machines.{KnownMachine, FitsFrameState, IsConsistent, BalancesCounts, Visits, home_of}
 use Rattle.mem_machine.specs.Local.{IsLocalRun, local_of, side, MakesAs}
 use Rattle.mem_machine.specs.Freeing.{FreesFrames}
 use Rattle.mem_machine.specs.Settling.{ReturnsBack, return_steps}
@@ -48,27 +48,27 @@ pub record WasBack (t : KnownTable) (m : KnownMachine) (f : ℕ) : Type 0 where
 
 -- it heads a unit
 pub back_heads : (t : KnownTable) (w : Words) (m : KnownMachine) → IsConsistent t w m → (f : ℕ) → WasBack t m f
-    → (unit : ChargedUnit) × (spot_at m.spots f ≡ Head unit)
+    → (unit : ChargedUnit) × (frame_state_at m.frame_states f ≡ Head unit)
 back_heads t w m ok f was =
-    let fits = ok.spots f was.inside in
+    let fits = ok.frame_states f was.inside in
     let none : (note_of m.frame_seat.view f).own ≡ 0 = let a = was.nothing.1 in omega (arith, a) in
-    heads_one (spot_at m.spots f) (ap some_cpu (sym was.lent) ∙ fits.lent) (sym none ∙ fits.own)
+    heads_one (frame_state_at m.frame_states f) (ap some_cpu (sym was.lent) ∙ fits.lent) (sym none ∙ fits.own)
 
 -- as its record is read
-pub read_head : (t : KnownTable) (w : Words) (m : KnownMachine) → IsConsistent t w m → (f i : ℕ) → WasBack t m f → i ≡ f → (x : Spot) → x ≡ get_or m.spots i x
-    → (unit : ChargedUnit) → x ≡ Head unit → spot_at m.spots i ≡ Head unit
+pub read_head : (t : KnownTable) (w : Words) (m : KnownMachine) → IsConsistent t w m → (f i : ℕ) → WasBack t m f → i ≡ f → (x : FrameState) → x ≡ get_or m.frame_states i x
+    → (unit : ChargedUnit) → x ≡ Head unit → frame_state_at m.frame_states i ≡ Head unit
 read_head t w m ok f i was index x read unit is =
-    let sized = ok.sizes.spots in
+    let sized = ok.sizes.frame_states in
     let inside = was.inside in
-    sym (read ∙ get_or_default m.spots i x Free (omega (arith, index, sized, inside))) ∙ is
+    sym (read ∙ get_or_default m.frame_states i x Free (omega (arith, index, sized, inside))) ∙ is
 
 -- what its return asks for
 pub back_in_use : (t : KnownTable) (w : Words) (m : KnownMachine) → IsConsistent t w m → (before : List Bool) (i : ℕ) (unit : ChargedUnit)
-    → before ≡ free_of m.spots → spot_at m.spots i ≡ Head unit → IsInUse before (record { at = i; order = unit.order })
-back_in_use t w m ok before i unit was heads = unit_in_use before m.spots i unit was ok.units heads
+    → before ≡ free_of m.frame_states → frame_state_at m.frame_states i ≡ Head unit → IsInUse before (record { at = i; order = unit.order })
+back_in_use t w m ok before i unit was heads = unit_in_use before m.frame_states i unit was ok.units heads
 
-pub back_inside : (t : KnownTable) (w : Words) (m : KnownMachine) → IsConsistent t w m → (i : ℕ) (unit : ChargedUnit) → spot_at m.spots i ≡ Head unit
-    → i + 2 ^ unit.order ≤ length m.spots
+pub back_inside : (t : KnownTable) (w : Words) (m : KnownMachine) → IsConsistent t w m → (i : ℕ) (unit : ChargedUnit) → frame_state_at m.frame_states i ≡ Head unit
+    → i + 2 ^ unit.order ≤ length m.frame_states
 back_inside t w m ok i unit heads = (ok.units.heads i unit heads).block.inside
 
 -- and passes once it was handed
@@ -80,8 +80,8 @@ back_passes t w m now same c h tied visit f seat inside hands is =
     (sym same) visit.still) h.frame_seat (ap (λ (x : KnownCpu). x.frame_seat) hands.2) inside)
 
 module _ (t : KnownTable) (w : Words) (m : KnownMachine) (c : KnownCpu) (tied : IsTied t w c) (ok : IsConsistent t w m) (visit : Visits t (side m c))
-    (f : ℕ) (was : WasBack t m f) (unit : ChargedUnit) (heads : spot_at m.spots f ≡ Head unit) (rest : List ℕ) (front : c.back ≡ f ∷ rest)
-    (new : List Spot) (frees : FreesFrames f (2 ^ unit.order) m.spots new) (blocks : List Block) (areas : AreMaximalBlocks (free_of new) blocks)
+    (f : ℕ) (was : WasBack t m f) (unit : ChargedUnit) (heads : frame_state_at m.frame_states f ≡ Head unit) (rest : List ℕ) (front : c.back ≡ f ∷ rest)
+    (new : List FrameState) (frees : FreesFrames f (2 ^ unit.order) m.frame_states new) (blocks : List Block) (areas : AreMaximalBlocks (free_of new) blocks)
     (counts : Counts) (counted : counts ≡ with_last_put m.counts) where
   at : IsBackFront c f rest
   at = back_front t w c tied f rest front
@@ -95,7 +95,7 @@ module _ (t : KnownTable) (w : Words) (m : KnownMachine) (c : KnownCpu) (tied : 
   abbrev pub returned : KnownMachine
   returned = record m {
     blocks = blocks;
-    spots = new;
+    frame_states = new;
     ledger = with_uncharge m.ledger unit.group (2 ^ unit.order);
     frame_seat = seat_with m.frame_seat f (collected_from c.number);
     counts = counts;
@@ -106,9 +106,9 @@ module _ (t : KnownTable) (w : Words) (m : KnownMachine) (c : KnownCpu) (tied : 
   no_home None is = refl
   no_home (Some h) is = absurd (omega (arith, is))
 
-  back_fits : FitsSpot t.cpus (collected_from c.number (note_of m.frame_seat.view f)) (home_of m.links f) Free
+  back_fits : FitsFrameState t.cpus (collected_from c.number (note_of m.frame_seat.view f)) (home_of m.links f) Free
   back_fits =
-      let fits = ok.spots f was.inside in
+      let fits = ok.frame_states f was.inside in
       let home = no_home (home_of m.links f) (sym was.nothing.0 ∙ fits.references) in
       record {
         own = refl;
@@ -123,23 +123,23 @@ module _ (t : KnownTable) (w : Words) (m : KnownMachine) (c : KnownCpu) (tied : 
       let seat = seat_with m.frame_seat f (collected_from c.number) in
       let sizes = ok.sizes in
       unit_freed_consistent t w m ok f unit heads new blocks m.links m.lists seat counts frees areas ok.seats.frames sizes.links sizes.lists ok.lists
-      (λ x inside ne. subst (λ (k : FrameNote). FitsSpot t.cpus k (home_of m.links x) (spot_at m.spots x))
-      (sym (note_else m.frame_seat.view f x (collected_from c.number) ne)) (ok.spots x inside))
-      (subst (λ (k : FrameNote). FitsSpot t.cpus k (home_of m.links f) Free) (sym (note_here m.frame_seat.view f (collected_from c.number))) back_fits)
+      (λ x inside ne. subst (λ (k : FrameNote). FitsFrameState t.cpus k (home_of m.links x) (frame_state_at m.frame_states x))
+      (sym (note_else m.frame_seat.view f x (collected_from c.number) ne)) (ok.frame_states x inside))
+      (subst (λ (k : FrameNote). FitsFrameState t.cpus k (home_of m.links f) Free) (sym (note_here m.frame_seat.view f (collected_from c.number))) back_fits)
       (subst BalancesCounts (sym counted) (balanced_last_put m.counts ok.balances))
 
   pub returned_steps : IsLocalRun c.number s (return_steps c.number f) (local_of t returned d)
   returned_steps =
       let v = is_visited t w m c tied visit f was.inside in
-      let ph = phases_freed c d m.spots f (back_else c f rest front) new unit Ended frees in
+      let ph = phases_freed c d m.frame_states f (back_else c f rest front) new unit Ended frees in
       let re = references_same m.frame_seat c d f c.number refl refl in
       let pa = parts_back m.stock_seat c f rest front at unit in
-      return_run s c.number f unit _ v (own_part m c) (local_of t returned d) (back_phase c f (spot_at m.spots f) unit heads at.once)
+      return_run s c.number f unit _ v (own_part m c) (local_of t returned d) (back_phase c f (frame_state_at m.frame_states f) unit heads at.once)
       (λ i. record s { phases = λ x. sym (ph x) i; references = λ q x. sym (re q x) i; parts = λ q. sym (pa q) i })
 
   pub returned_counts : counts ≡ counts_over s (return_steps c.number f) m.counts
   returned_counts = counted
-      ∙ comes_back s f (phase.Head unit (BackAt c.number)) (back_phase c f (spot_at m.spots f) unit heads at.once) true false refl refl m.counts
+      ∙ comes_back s f (phase.Head unit (BackAt c.number)) (back_phase c f (frame_state_at m.frame_states f) unit heads at.once) true false refl refl m.counts
 
   pub returned_visits : Visits t (side returned d)
   returned_visits = handed_visits t w m c tied visit f (collected_from c.number) (λ k. refl) returned d refl refl refl
@@ -160,44 +160,44 @@ module _ (t : KnownTable) (w : Words) (m : KnownMachine) (c : KnownCpu) (tied : 
 pub record AllReturned (t : KnownTable) (w : Words) (now : KnownMachine) (c : KnownCpu) (f : ℕ) (n : KnownMachine) (d : KnownCpu) (free : List Bool)
     : Type 0 where
   pub consistent : IsConsistent t w n
-  pub free_is : free ≡ free_of n.spots
+  pub free_is : free ≡ free_of n.frame_states
   pub returns : ReturnsBack f (side now c) (side n d)
   pub visit : Visits t (side n d)
   pub steps : MakesAs t c.number (side now c) (return_steps c.number f) (side n d)
 
 pub return_all : (t : KnownTable) (w : Words) (m now : KnownMachine) → m ≡ now → (c h d : KnownCpu) → IsTied t w c → IsConsistent t w m → Visits t (side now c)
-    → (before free : List Bool) → before ≡ free_of m.spots → (f : ℕ) → WasBack t m f → HandsBack f c h → d ≡ h → (i : ℕ) → i ≡ f
-    → (unit : ChargedUnit) → spot_at m.spots i ≡ Head unit
+    → (before free : List Bool) → before ≡ free_of m.frame_states → (f : ℕ) → WasBack t m f → HandsBack f c h → d ≡ h → (i : ℕ) → i ≡ f
+    → (unit : ChargedUnit) → frame_state_at m.frame_states i ≡ Head unit
     → (seat : KnownSeat) → seat ≡ seat_with m.frame_seat f (collected_from h.number)
-    → (spots : List Spot) → FreesFrames i (2 ^ unit.order) m.spots spots → (blocks : List Block)
+    → (frame_states : List FrameState) → FreesFrames i (2 ^ unit.order) m.frame_states frame_states → (blocks : List Block)
     → GivesFrames before (record { at = i; order = unit.order }) free → AreMaximalBlocks free blocks
     → (ledger : Ledger) → ledger ≡ with_uncharge m.ledger unit.group (2 ^ unit.order) → (counts : Counts) → counts ≡ with_last_put m.counts
-    → AllReturned t w now c f (record m { blocks = blocks; spots = spots; ledger = ledger; frame_seat = seat; counts = counts }) d free
-return_all t w m now same c h d tied ok visit_now before free free_was f was hands stays i index unit heads_i seat collects spots frees_i blocks gives_i areas_i
+    → AllReturned t w now c f (record m { blocks = blocks; frame_states = frame_states; ledger = ledger; frame_seat = seat; counts = counts }) d free
+return_all t w m now same c h d tied ok visit_now before free free_was f was hands stays i index unit heads_i seat collects frame_states frees_i blocks gives_i areas_i
     ledger uncharges counts counted =
     let visit : Visits t (side m c) = subst (λ (x : KnownMachine). Visits t (side x c)) (sym same) visit_now in
     let rest = hands.0 in
     let front : c.back ≡ f ∷ rest = hands.1 in
-    let heads : spot_at m.spots f ≡ Head unit = ap (spot_at m.spots) (sym index) ∙ heads_i in
-    let frees : FreesFrames f (2 ^ unit.order) m.spots spots = subst (λ (x : ℕ). FreesFrames x (2 ^ unit.order) m.spots spots) index frees_i in
+    let heads : frame_state_at m.frame_states f ≡ Head unit = ap (frame_state_at m.frame_states) (sym index) ∙ heads_i in
+    let frees : FreesFrames f (2 ^ unit.order) m.frame_states frame_states = subst (λ (x : ℕ). FreesFrames x (2 ^ unit.order) m.frame_states frame_states) index frees_i in
     let gives : GivesFrames before (record { at = f; order = unit.order }) free =
     subst (λ (x : ℕ). GivesFrames before (record { at = x; order = unit.order }) free) index gives_i in
-    let sized = ok.sizes.spots in
+    let sized = ok.sizes.frame_states in
     let inside = head_inside t w m ok f unit heads in
-    let free_is : free ≡ free_of spots = free_block_given before free m.spots spots f unit.order (omega (arith, sized, inside)) free_was gives frees in
-    let areas : AreMaximalBlocks (free_of spots) blocks = subst (λ (l : List Bool). AreMaximalBlocks l blocks) free_is areas_i in
-    let one : AllReturned t w m c f (returned t w m c tied ok visit f was unit heads rest front spots frees blocks areas counts counted)
+    let free_is : free ≡ free_of frame_states = free_block_given before free m.frame_states frame_states f unit.order (omega (arith, sized, inside)) free_was gives frees in
+    let areas : AreMaximalBlocks (free_of frame_states) blocks = subst (λ (l : List Bool). AreMaximalBlocks l blocks) free_is areas_i in
+    let one : AllReturned t w m c f (returned t w m c tied ok visit f was unit heads rest front frame_states frees blocks areas counts counted)
     (back_handed c f rest) free =
     record {
-      consistent = returned_consistent t w m c tied ok visit f was unit heads rest front spots frees blocks areas counts counted;
+      consistent = returned_consistent t w m c tied ok visit f was unit heads rest front frame_states frees blocks areas counts counted;
       free_is = free_is;
-      returns = returned_does t w m c tied ok visit f was unit heads rest front spots frees blocks areas counts counted;
-      visit = returned_visits t w m c tied ok visit f was unit heads rest front spots frees blocks areas counts counted;
+      returns = returned_does t w m c tied ok visit f was unit heads rest front frame_states frees blocks areas counts counted;
+      visit = returned_visits t w m c tied ok visit f was unit heads rest front frame_states frees blocks areas counts counted;
       steps = record {
-        leads = returned_steps t w m c tied ok visit f was unit heads rest front spots frees blocks areas counts counted;
+        leads = returned_steps t w m c tied ok visit f was unit heads rest front frame_states frees blocks areas counts counted;
         follows = follows_still _ m.ledger _ _ refl (uncharge_peaks m.ledger unit.group (2 ^ unit.order))
             (uncharge_events m.ledger unit.group (2 ^ unit.order));
-        counts = returned_counts t w m c tied ok visit f was unit heads rest front spots frees blocks areas counts counted;
+        counts = returned_counts t w m c tied ok visit f was unit heads rest front frame_states frees blocks areas counts counted;
       };
     } in
     let number : h.number ≡ c.number = ap (λ (x : KnownCpu). x.number) hands.2 in
@@ -205,6 +205,6 @@ return_all t w m now same c h d tied ok visit_now before free free_was f was han
     subst (λ (x : KnownMachine × KnownMachine × KnownCpu). AllReturned t w x.0 c f x.1 x.2 free)
     (λ j. (
       same j,
-      record m { blocks = blocks; spots = spots; ledger = sym uncharges j; frame_seat = sym seat_is j; counts = counts },
+      record m { blocks = blocks; frame_states = frame_states; ledger = sym uncharges j; frame_seat = sym seat_is j; counts = counts },
       sym (stays ∙ hands.2) j,
     )) one

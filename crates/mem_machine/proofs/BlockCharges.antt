@@ -8,9 +8,9 @@ use Rattle.step_rules.specs.State.{sum_to, one_if}
 use Rattle.step_rules.specs.After.{is_within}
 use Rattle.step_rules.proofs.Placing.{within_cases}
 use Rattle.step_rules.proofs.Sums.{sum_same, sum_both, sum_none}
-use Rattle.mem_machine.specs.declared.spot.Spot.{Spot}
-use Rattle.mem_machine.specs.declared.spot.Spot.TheVariants.{Head, Tail}
-use Rattle.mem_machine.specs.Spots.{spot_at, spot_group, count_of}
+use Rattle.mem_machine.specs.declared.frame_state.FrameState.{FrameState}
+use Rattle.mem_machine.specs.declared.frame_state.FrameState.TheVariants.{Head, Tail}
+use Rattle.mem_machine.specs.FrameStates.{frame_state_at, frame_state_group, count_of}
 use Rattle.mem_machine.specs.Machines.{frames_charged}
 use Rattle.mem_machine.specs.Blocks.{PlacesUnit}
 use Rattle.mem_machine.proofs.PlacesUnits.{in_block, off_block}
@@ -54,7 +54,7 @@ counted_all at size (suc n) inside = elim (cases_eq (at + size) (suc n)) [
 
 -- ---- the group's frames
 
-group_within : (g : ℕ) (b : Block) (x : Bool) → spot_group (cond x (Head (record { group = g; order = b.order })) (Tail g)) ≡ Some g
+group_within : (g : ℕ) (b : Block) (x : Bool) → frame_state_group (cond x (Head (record { group = g; order = b.order })) (Tail g)) ≡ Some g
 group_within g b true = refl
 group_within g b false = refl
 
@@ -68,28 +68,28 @@ counts_same h g e = ap (λ (x : Bool). cond x 1 0) (eq-eqb g h (sym e))
 counts_else : (h g : ℕ) → (h ≡ g → ⊥) → count_of h (Some g) ≡ 0
 counts_else h g ne = ap (λ (x : Bool). cond x 1 0) (ne_eqb g h (λ e. ne (sym e)))
 
-module _ (old new : List Spot) (g : ℕ) (b : Block) (placed : PlacesUnit g b old new) (block : IsBlock (length old) b)
-    (uncharged : (f : ℕ) → b.at ≤ f → f < b.at + 2 ^ b.order → spot_group (spot_at old f) ≡ None) (h : ℕ) where
+module _ (old new : List FrameState) (g : ℕ) (b : Block) (placed : PlacesUnit g b old new) (block : IsBlock (length old) b)
+    (uncharged : (f : ℕ) → b.at ≤ f → f < b.at + 2 ^ b.order → frame_state_group (frame_state_at old f) ≡ None) (h : ℕ) where
   abbrev size : ℕ
   size = 2 ^ b.order
 
   abbrev before : ℕ → ℕ
-  before f = count_of h (spot_group (spot_at old f))
+  before f = count_of h (frame_state_group (frame_state_at old f))
 
   abbrev after : ℕ → ℕ
-  after f = count_of h (spot_group (spot_at new f))
+  after f = count_of h (frame_state_group (frame_state_at new f))
 
   same_out : (f : ℕ) → is_within b.at size f ≡ false → after f ≡ before f
-  same_out f w = ap (λ (x : Spot). count_of h (spot_group x)) (placed.records f ∙ off_block old g b f w)
+  same_out f w = ap (λ (x : FrameState). count_of h (frame_state_group x)) (placed.records f ∙ off_block old g b f w)
 
   own_in : (f : ℕ) → is_within b.at size f ≡ true → after f ≡ count_of h (Some g)
-  own_in f w = ap (count_of h) (ap spot_group (placed.records f ∙ in_block old g b f w) ∙ group_within g b (f == b.at))
+  own_in f w = ap (count_of h) (ap frame_state_group (placed.records f ∙ in_block old g b f w) ∙ group_within g b (f == b.at))
 
   own_share : h ≡ g → (f : ℕ) → after f ≡ before f + within_one b.at size f
   own_share e f = elim (within_cases b.at size f) [
     | inl w ↦
         let now = own_in f w.0 ∙ counts_same h g e in
-        let was = none_counts h (spot_group (spot_at old f)) (uncharged f w.1 w.2) in
+        let was = none_counts h (frame_state_group (frame_state_at old f)) (uncharged f w.1 w.2) in
         let one : within_one b.at size f ≡ 1 = ap one_if w.0 in
         omega (arith, now, was, one)
     | inr out ↦
@@ -100,7 +100,7 @@ module _ (old new : List Spot) (g : ℕ) (b : Block) (placed : PlacesUnit g b ol
 
   other_share : (h ≡ g → ⊥) → (f : ℕ) → after f ≡ before f
   other_share ne f = elim (within_cases b.at size f) [
-    | inl w ↦ own_in f w.0 ∙ counts_else h g ne ∙ sym (none_counts h (spot_group (spot_at old f)) (uncharged f w.1 w.2))
+    | inl w ↦ own_in f w.0 ∙ counts_else h g ne ∙ sym (none_counts h (frame_state_group (frame_state_at old f)) (uncharged f w.1 w.2))
     | inr out ↦ same_out f out.0
   ]
 

@@ -237,11 +237,11 @@ room_booked t w m now same ok charges g n there fits h is =
 
 -- a group that isn't there has none
 pub frames_none : (t : KnownTable) (w : Words) (m now : KnownMachine) → m ≡ now → IsConsistent t w m → AreCharges m.ledger → (g : ℕ)
-    → has_group m.ledger.groups g ≡ false → 0 ≡ frames_charged now.spots g
+    → has_group m.ledger.groups g ≡ false → 0 ≡ frames_charged now.frame_states g
 frames_none t w m now same ok charges g gone = elim (cases_lt 0 (pages_of m.ledger g)) [
   | inl some ↦ absurd (false≢true (sym gone ∙ charged_there m.ledger g charges some))
   | inr none ↦
       let all = ok.charged g in
-      let here : ◌≡◌ {A = ℕ} 0 (frames_charged m.spots g) = omega (arith, all, none) in
-      here ∙ ap (λ (x : KnownMachine). frames_charged x.spots g) same
+      let here : ◌≡◌ {A = ℕ} 0 (frames_charged m.frame_states g) = omega (arith, all, none) in
+      here ∙ ap (λ (x : KnownMachine). frames_charged x.frame_states g) same
 ]

@@ -11,10 +11,10 @@ use Rattle.stock_word.specs.Stock.{Words}
 use Rattle.step_rules.specs.State.{one_if, sum_to}
 use Rattle.step_rules.proofs.Homes.{number_low}
 use Rattle.step_rules.proofs.Sums.{sum_none, sum_only, sum_same, sum_swap}
-use Rattle.mem_machine.specs.declared.spot.Spot.{Spot}
-use Rattle.mem_machine.specs.declared.spot.Spot.TheVariants.{Free, Lent, Head, Tail}
-use Rattle.mem_machine.specs.declared.spot.Place.TheVariants as place
-use Rattle.mem_machine.specs.Spots.{spot_at, place_of, spot_group, count_of}
+use Rattle.mem_machine.specs.declared.frame_state.FrameState.{FrameState}
+use Rattle.mem_machine.specs.declared.frame_state.FrameState.TheVariants.{Free, Lent, Head, Tail}
+use Rattle.mem_machine.specs.declared.frame_state.Place.TheVariants as place
+use Rattle.mem_machine.specs.FrameStates.{frame_state_at, place_of, frame_state_group, count_of}
 use Rattle.mem_machine.specs.Machines.{KnownMachine, IsConsistent, frames_charged}
 use Rattle.mem_machine.specs.Places.{frames_in_groups}
 use Rattle.mem_machine.proofs.Keepers.{keeper_there}
@@ -27,18 +27,18 @@ one_number k (Some n) few =
     ∙ ap (λ (b : Bool). cond b 1 0) (eq-eqb n n refl)
 
 -- a sum over the first frames, one after the other
-sum_over : (h : Spot → ℕ) (spots : List Spot) (k : ℕ) → k ≤ length spots → sum_to k (λ f. h (spot_at spots f)) ≡ sum_by h (take k spots)
+sum_over : (h : FrameState → ℕ) (frame_states : List FrameState) (k : ℕ) → k ≤ length frame_states → sum_to k (λ f. h (frame_state_at frame_states f)) ≡ sum_by h (take k frame_states)
 unfolding sum_to
-sum_over h spots zero within = refl
-sum_over h spots (suc k) within =
-    let rest = sum_over h spots k (omega arith) in
-    let inside : k < length spots = omega arith in
-    let more = ap (sum_by h) (take-suc spots k Free inside) in
-    let both = sum_by-append h (take k spots) (spot_at spots k ∷ []) in
+sum_over h frame_states zero within = refl
+sum_over h frame_states (suc k) within =
+    let rest = sum_over h frame_states k (omega arith) in
+    let inside : k < length frame_states = omega arith in
+    let more = ap (sum_by h) (take-suc frame_states k Free inside) in
+    let both = sum_by-append h (take k frame_states) (frame_state_at frame_states k ∷ []) in
     omega (arith, rest, more, both)
 
 -- the group that a frame is charged to is one of 64
-group_low : (s : Spot) → ((g : ℕ) → place_of s ≡ place.Charged g → g < 64) → IfSome (spot_group s) (λ g. g < 64)
+group_low : (s : FrameState) → ((g : ℕ) → place_of s ≡ place.Charged g → g < 64) → IfSome (frame_state_group s) (λ g. g < 64)
 group_low Free low = tt
 group_low (Lent p) low = tt
 group_low (Head unit) low = low unit.group refl
@@ -46,31 +46,31 @@ group_low (Tail g) low = low g refl
 
 -- what is charged to the groups are all frames that are charged
 all_charged : (t : KnownTable) (w : Words) (m : KnownMachine) → IsConsistent t w m → AreCharges m.ledger
-    → sum_to 64 (frames_charged m.spots) ≡ frames_in_groups m.spots
+    → sum_to 64 (frames_charged m.frame_states) ≡ frames_in_groups m.frame_states
 all_charged t w m ok legal =
-    let n : ℕ = length m.spots in
-    sum_swap 64 n (λ g f. count_of g (spot_group (spot_at m.spots f)))
-    ∙ sum_same n (λ f. sum_to 64 (λ g. count_of g (spot_group (spot_at m.spots f)))) (λ f. one_if (is_some (spot_group (spot_at m.spots f))))
-    (λ f inside. one_number 64 (spot_group (spot_at m.spots f)) (low f inside))
-    ∙ sum_over (λ s. one_if (is_some (spot_group s))) m.spots n (omega arith)
-    ∙ ap frames_in_groups (take_all n m.spots (omega arith))
+    let n : ℕ = length m.frame_states in
+    sum_swap 64 n (λ g f. count_of g (frame_state_group (frame_state_at m.frame_states f)))
+    ∙ sum_same n (λ f. sum_to 64 (λ g. count_of g (frame_state_group (frame_state_at m.frame_states f)))) (λ f. one_if (is_some (frame_state_group (frame_state_at m.frame_states f))))
+    (λ f inside. one_number 64 (frame_state_group (frame_state_at m.frame_states f)) (low f inside))
+    ∙ sum_over (λ s. one_if (is_some (frame_state_group s))) m.frame_states n (omega arith)
+    ∙ ap frames_in_groups (take_all n m.frame_states (omega arith))
   where
-    low : (f : ℕ) → f < length m.spots → IfSome (spot_group (spot_at m.spots f)) (λ g. g < 64)
+    low : (f : ℕ) → f < length m.frame_states → IfSome (frame_state_group (frame_state_at m.frame_states f)) (λ g. g < 64)
     low f inside =
-        let sized = ok.sizes.spots in
+        let sized = ok.sizes.frame_states in
         let below : f < t.frames = omega arith in
-        group_low (spot_at m.spots f) (λ g is. number_low m.ledger.groups g legal.groups (keeper_there t w m f g ok legal below is))
+        group_low (frame_state_at m.frame_states f) (λ g is. number_low m.ledger.groups g legal.groups (keeper_there t w m f g ok legal below is))
 
 one_at_most : (b : Bool) → one_if b ≤ 1
 one_at_most true = omega arith
 one_at_most false = omega arith
 
-charged_few : (spots : List Spot) → frames_in_groups spots ≤ length spots
+charged_few : (frame_states : List FrameState) → frames_in_groups frame_states ≤ length frame_states
 charged_few [] = omega arith
 charged_few (x ∷ xs) =
     let rest = charged_few xs in
-    let one = one_at_most (is_some (spot_group x)) in
-    let both = sum_by-append (λ (y : Spot). one_if (is_some (spot_group y))) (x ∷ []) xs in
+    let one = one_at_most (is_some (frame_state_group x)) in
+    let both = sum_by-append (λ (y : FrameState). one_if (is_some (frame_state_group y))) (x ∷ []) xs in
     omega (arith, rest, one, both)
 
 -- a sum grows with its bound
@@ -84,29 +84,29 @@ sum_grows (suc m) k h le = elim (cases_lt k (suc m)) [
 
 -- the first groups have no more frames than the zone
 some_charged : (t : KnownTable) (w : Words) (m : KnownMachine) → IsConsistent t w m → AreCharges m.ledger
-    → (k : ℕ) → k ≤ 64 → sum_to k (frames_charged m.spots) ≤ t.frames
+    → (k : ℕ) → k ≤ 64 → sum_to k (frames_charged m.frame_states) ≤ t.frames
 some_charged t w m ok legal k le =
-    let grows = sum_grows 64 k (frames_charged m.spots) le in
+    let grows = sum_grows 64 k (frames_charged m.frame_states) le in
     let all = all_charged t w m ok legal in
-    let few = charged_few m.spots in
-    let sized = ok.sizes.spots in
+    let few = charged_few m.frame_states in
+    let sized = ok.sizes.frame_states in
     omega (arith, grows, all, few, sized)
 
 -- What the first groups are charged for: with one more its frames more, at most the frames of the zone, and of all groups
 -- the frames that are charged
-pub record AreCounted (frames : ℕ) (spots : List Spot) : Type 0 where
-  pub next : (k : ℕ) → sum_to (k + 1) (frames_charged spots) ≡ sum_to k (frames_charged spots) + frames_charged spots k
-  pub within : (k : ℕ) → k ≤ 64 → sum_to k (frames_charged spots) ≤ frames
-  pub all : sum_to 64 (frames_charged spots) ≡ frames_in_groups spots
+pub record AreCounted (frames : ℕ) (frame_states : List FrameState) : Type 0 where
+  pub next : (k : ℕ) → sum_to (k + 1) (frames_charged frame_states) ≡ sum_to k (frames_charged frame_states) + frames_charged frame_states k
+  pub within : (k : ℕ) → k ≤ 64 → sum_to k (frames_charged frame_states) ≤ frames
+  pub all : sum_to 64 (frames_charged frame_states) ≡ frames_in_groups frame_states
 
 sum_next : (k : ℕ) (h : ℕ → ℕ) → sum_to (k + 1) h ≡ sum_to k h + h k
 unfolding sum_to
 sum_next k h = let e : k + 1 ≡ suc k = omega arith in rw e refl
 
 pub are_counted : (t : KnownTable) (w : Words) (m now : KnownMachine) → m ≡ now → IsConsistent t w m → AreCharges m.ledger
-    → AreCounted t.frames now.spots
-are_counted t w m now same ok legal = subst (λ (x : KnownMachine). AreCounted t.frames x.spots) same (record {
-  next = λ k. sum_next k (frames_charged m.spots);
+    → AreCounted t.frames now.frame_states
+are_counted t w m now same ok legal = subst (λ (x : KnownMachine). AreCounted t.frames x.frame_states) same (record {
+  next = λ k. sum_next k (frames_charged m.frame_states);
   within = some_charged t w m ok legal;
   all = all_charged t w m ok legal;
 })

@@ -13,7 +13,7 @@ use Rattle.lru_lists.specs.declared.record.LruList.TheVariants.{Inactive, Active
 use Rattle.lru_lists.specs.declared.lru.Lru.{Lru}
 use Rattle.lru_lists.specs.Lists.{OthersStand, OneOfAllChanges, StandsIn, AllStand, ChangesOwn, list_of, place_of, entries_of, changed_at, dirtied}
 use Rattle.cpu_part.specs.Cpus.{KnownCpu}
-use Rattle.mem_machine.specs.Spots.{spot_at, head_group_of}
+use Rattle.mem_machine.specs.FrameStates.{frame_state_at, head_group_of}
 use Rattle.mem_machine.specs.Machines.{KnownMachine, IsConsistent, OthersStay, home_of, lists_at, no_lists, group_lists, lists_of}
 use Rattle.mem_machine.specs.Marks.{Dirties}
 use Rattle.mem_machine.specs.Local.{MakesAs, side}
@@ -24,7 +24,7 @@ use Rattle.mem_machine.proofs.Followed.{makes_stay}
 pub owner_bound : (t : KnownTable) (w : Words) (m : KnownMachine) → IsConsistent t w m → (f : ℕ) (h : Home) → f < t.frames
     → home_of m.links f ≡ Some h → h.owner < 64
 owner_bound t w m ok f h inside is = (subst (λ (x : Option Home). IfSome x (λ y. (y.owner < 64) × (head_group_of
-    (spot_at m.spots f) ≡ Some y.owner))) is (ok.spots f inside).kept).0
+    (frame_state_at m.frame_states f) ≡ Some y.owner))) is (ok.frame_states f inside).kept).0
 
 pub on_list : (links : List Link) (f : ℕ) (h : Home) → home_of links f ≡ Some h → list_of links h.owner f ≢ None
 on_list links f h is none = none-some h.list (sym none ∙ ap (λ (x : Option Home). place_of x h.owner) is ∙ place_here h.owner h.list)
@@ -59,10 +59,10 @@ module _ (t : KnownTable) (w : Words) (m : KnownMachine) (ok : IsConsistent t w 
 
     pub dirty_consistent : IsConsistent t w (record m { links = links })
     dirty_consistent = record {
-      sizes = let s = ok.sizes in record { spots = s.spots; links = changes.frames ∙ s.links; lists = s.lists; killed = s.killed; cpus = s.cpus };
+      sizes = let s = ok.sizes in record { frame_states = s.frame_states; links = changes.frames ∙ s.links; lists = s.lists; killed = s.killed; cpus = s.cpus };
       seats = ok.seats;
       areas = ok.areas;
-      spots = λ g within. fits_home t.cpus (note_of m.frame_seat.view g) (home_of m.links g) (home_of links g) (spot_at m.spots g) (owners g) (ok.spots g within);
+      frame_states = λ g within. fits_home t.cpus (note_of m.frame_seat.view g) (home_of m.links g) (home_of links g) (frame_state_at m.frame_states g) (owners g) (ok.frame_states g within);
       units = ok.units;
       lists = all_stand;
       absorbed = ok.absorbed;

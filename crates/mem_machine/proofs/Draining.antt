@@ -24,7 +24,7 @@ use Rattle.step_rules.specs.State.{State, Part, with_at, sum_to, may_zone_act}
 use Rattle.step_rules.specs.After.{drained, with_more, with_part}
 use Rattle.step_rules.proofs.Basics.{at_same, at_other, at_each, at_itself, cond-ap}
 use Rattle.step_rules.proofs.Sums.{sum_part, sum_change}
-use Rattle.mem_machine.specs.Spots.{count_of}
+use Rattle.mem_machine.specs.FrameStates.{count_of}
 use Rattle.mem_machine.specs.Machines.{KnownMachine, IsConsistent, booked, frames_charged, pages_booked}
 use Rattle.mem_machine.specs.Local.{local_of, part_of, part_with, IsLocalRun, MakesAs, side}
 use Rattle.mem_machine.specs.Steps.{ungrant_steps, drain_steps}
@@ -140,13 +140,13 @@ booked_within t stock q g inside group =
 pub stocks_consistent : (t : KnownTable) (w : Words) (m : KnownMachine) (l : Ledger) (stock : Seated)
     → IsConsistent t w m → stock.table ≡ m.stock_seat.table → IsZoneStock stock.view
     → ((p : ℕ) → (account_of stock.view p).unabsorbed ≡ 0) → ((p : ℕ) → (account_of stock.view p).book < 65536)
-    → ((g : ℕ) → pages_of l g ≡ frames_charged m.spots g + pages_booked t stock g)
+    → ((g : ℕ) → pages_of l g ≡ frames_charged m.frame_states g + pages_booked t stock g)
     → IsConsistent t w (record m { ledger = l; stock_seat = stock })
 stocks_consistent t w m l stock ok table machine noted bounded charged = record {
-  sizes = let s = ok.sizes in record { spots = s.spots; links = s.links; lists = s.lists; killed = s.killed; cpus = s.cpus };
+  sizes = let s = ok.sizes in record { frame_states = s.frame_states; links = s.links; lists = s.lists; killed = s.killed; cpus = s.cpus };
   seats = let s = ok.seats in record { frames = s.frames; table = table ∙ s.table; stocks = machine };
   areas = ok.areas;
-  spots = ok.spots;
+  frame_states = ok.frame_states;
   units = ok.units;
   lists = ok.lists;
   absorbed = noted;
@@ -170,7 +170,7 @@ module _ (t : KnownTable) (w : Words) (m : KnownMachine) (ok : IsConsistent t w 
       ∙ sum_change (t.cpus + 1) (λ p. booked h (account_of m.stock_seat.view p)) q (booked h (drained_account m.stock_seat.view q k)) (omega (arith, inside))
 
   charged_after : (o : Option ℕ) → stock_group m q ≡ o → (o ≡ None → k ≡ 0) → (h : ℕ) → pages_of (uncharged m.ledger o k) h
-      ≡ frames_charged m.spots h + pages_booked t emptied h
+      ≡ frames_charged m.frame_states h + pages_booked t emptied h
   charged_after None is none h =
       let a = ok.charged h in
       let b = books_change h in

@@ -21,10 +21,10 @@ use Rattle.step_rules.specs.declared.step.Action.TheVariants.{Freeze}
 use Rattle.step_rules.specs.declared.step.Answer.TheVariants as answer
 use Rattle.step_rules.specs.Legal.{is_legal}
 use Rattle.mem_machine.specs.declared.counts.Counts.{Counts}
-use Rattle.mem_machine.specs.declared.spot.Spot.{Spot}
-use Rattle.mem_machine.specs.declared.spot.Spot.TheVariants.{Head}
-use Rattle.mem_machine.specs.Spots.{spot_at, free_of, head_group_of, some_cpu}
-use Rattle.mem_machine.specs.Machines.{KnownMachine, FitsSpot, IsConsistent, Visits, home_of, group_lists, lists_of}
+use Rattle.mem_machine.specs.declared.frame_state.FrameState.{FrameState}
+use Rattle.mem_machine.specs.declared.frame_state.FrameState.TheVariants.{Head}
+use Rattle.mem_machine.specs.FrameStates.{frame_state_at, free_of, head_group_of, some_cpu}
+use Rattle.mem_machine.specs.Machines.{KnownMachine, FitsFrameState, IsConsistent, Visits, home_of, group_lists, lists_of}
 use Rattle.mem_machine.specs.Local.{MakesForAny, local_of, references_of, side}
 use Rattle.mem_machine.specs.Freeing.{FreesFrames}
 use Rattle.mem_machine.specs.Counts.{with_freeze, with_miss}
@@ -64,9 +64,9 @@ pub record AllMissed (t : KnownTable) (w : Words) (now : KnownMachine) (f : ℕ)
   pub steps : MakesForAny t now (evict_steps f None) n
 
 missed_fits : (t : KnownTable) (w : Words) (m : KnownMachine) → IsConsistent t w m → (f word g : ℕ) → g < t.frames
-    → FitsSpot t.cpus (note_of (seat_with m.frame_seat f (missed word)).view g) (home_of m.links g) (spot_at m.spots g)
+    → FitsFrameState t.cpus (note_of (seat_with m.frame_seat f (missed word)).view g) (home_of m.links g) (frame_state_at m.frame_states g)
 missed_fits t w m ok f word g within =
-    let old = ok.spots g within in
+    let old = ok.frame_states g within in
     let change : FrameNote → FrameNote = missed word in
     record {
       own = note_keeps m.frame_seat f change (λ k. k.own) (λ k. refl) g ∙ old.own;
@@ -85,10 +85,10 @@ missed_all t w m now same ok f inside kept seat answered counts counted =
     let n : KnownMachine = record m { frame_seat = seat_with m.frame_seat f (missed word); counts = with_miss m.counts } in
     let all : AllMissed t w m f n = record {
       consistent = record {
-        sizes = let s = ok.sizes in record { spots = s.spots; links = s.links; lists = s.lists; killed = s.killed; cpus = s.cpus };
+        sizes = let s = ok.sizes in record { frame_states = s.frame_states; links = s.links; lists = s.lists; killed = s.killed; cpus = s.cpus };
         seats = let s = ok.seats in record { frames = s.frames; table = s.table; stocks = s.stocks };
         areas = ok.areas;
-        spots = missed_fits t w m ok f word;
+        frame_states = missed_fits t w m ok f word;
         units = ok.units;
         lists = ok.lists;
         absorbed = ok.absorbed;
@@ -119,14 +119,14 @@ some_same a b e = cc
 
 -- the unit's group is that of its list
 same_group : (t : KnownTable) (w : Words) (m : KnownMachine) → IsConsistent t w m → (f : ℕ) → f < t.frames → (unit : ChargedUnit)
-    → spot_at m.spots f ≡ Head unit → (h : Home) → home_of m.links f ≡ Some h → unit.group ≡ h.owner
+    → frame_state_at m.frame_states f ≡ Head unit → (h : Home) → home_of m.links f ≡ Some h → unit.group ≡ h.owner
 same_group t w m ok f inside unit heads h home =
-    let kept = subst (λ (x : Option Home). IfSome x (λ y. (y.owner < 64) × (head_group_of (spot_at m.spots f) ≡ Some y.owner))) home (ok.spots f inside).kept in
+    let kept = subst (λ (x : Option Home). IfSome x (λ y. (y.owner < 64) × (head_group_of (frame_state_at m.frame_states f) ≡ Some y.owner))) home (ok.frame_states f inside).kept in
     some_same unit.group h.owner (sym (ap head_group_of heads) ∙ kept.1)
 
 pub record AllEvicted (t : KnownTable) (w : Words) (now : KnownMachine) (f pages : ℕ) (free : List Bool) (n : KnownMachine) : Type 0 where
   pub consistent : IsConsistent t w n
-  pub free_is : free ≡ free_of n.spots
+  pub free_is : free ≡ free_of n.frame_states
   pub evicts : EvictsUnit f pages now n
   pub visit : (c : KnownCpu) → Visits t (side now c) → Visits t (side n c)
   pub steps : MakesForAny t now (evict_steps f (Some pages)) n
@@ -134,25 +134,25 @@ pub record AllEvicted (t : KnownTable) (w : Words) (now : KnownMachine) (f pages
 pub evicted_all : (t : KnownTable) (w : Words) (m now : KnownMachine) → m ≡ now → IsConsistent t w m → (f i : ℕ)
     → f < t.frames → i ≡ f → home_of now.links f ≢ None → (links : List Link) (lists : List Lru) → LeavesList i (lists_of m) (group_lists links lists)
     → AllStand links lists → length links ≡ length m.links → length lists ≡ 64 → (seat : KnownSeat) → FreezeAnswers m.frame_seat f 1 true seat
-    → (unit : ChargedUnit) → spot_at m.spots i ≡ Head unit
-    → (before free : List Bool) (blocks : List Block) (spots : List Spot) (ledger : Ledger) (counts : Counts) (pages : ℕ)
-    → before ≡ free_of m.spots → FreesFrames i (2 ^ unit.order) m.spots spots → GivesFrames before (record { at = i; order = unit.order }) free
+    → (unit : ChargedUnit) → frame_state_at m.frame_states i ≡ Head unit
+    → (before free : List Bool) (blocks : List Block) (frame_states : List FrameState) (ledger : Ledger) (counts : Counts) (pages : ℕ)
+    → before ≡ free_of m.frame_states → FreesFrames i (2 ^ unit.order) m.frame_states frame_states → GivesFrames before (record { at = i; order = unit.order }) free
     → AreMaximalBlocks free blocks → ledger ≡ with_uncharge m.ledger unit.group (2 ^ unit.order)
     → UsageRises ledger m.ledger unit.group (2 ^ unit.order) → counts ≡ with_freeze m.counts → pages ≡ 2 ^ unit.order
     → AllEvicted t w now f pages free (record m {
       blocks = blocks;
-      spots = spots;
+      frame_states = frame_states;
       ledger = ledger;
       links = links;
       lists = lists;
       frame_seat = seat;
       counts = counts;
     })
-evicted_all t w m now same ok f i inside is kept_now links lists left_list stand linked listed seat answered unit head before free blocks spots
+evicted_all t w m now same ok f i inside is kept_now links lists left_list stand linked listed seat answered unit head before free blocks frame_states
     ledger counts pages was frees_i gives_i areas_free uncharged usage counted size =
     let n : KnownMachine = record m {
       blocks = blocks;
-      spots = spots;
+      frame_states = frame_states;
       ledger = ledger;
       links = links;
       lists = lists;
@@ -162,8 +162,8 @@ evicted_all t w m now same ok f i inside is kept_now links lists left_list stand
     let back = back_all t w m now same ok f i inside is kept_now links lists left_list stand linked listed (frozen 1) frozen_in_hand seat answered.1
     (Freeze f 1) answer.Done (λ c held. zone_step (local_of t m c) c.number (Freeze f 1) answer.Done refl (may_freeze t m f inside held c) tt) refl (λ c. refl)
     (with_one_frozen m.counts) (λ c. refl)
-    unit head before free blocks spots ledger counts was frees_i gives_i areas_free uncharged (rw counted (balanced_freeze m.counts ok.balances)) counted in
-    let here : spot_at m.spots f ≡ Head unit = subst (λ (x : ℕ). spot_at m.spots x ≡ Head unit) is head in
+    unit head before free blocks frame_states ledger counts was frees_i gives_i areas_free uncharged (rw counted (balanced_freeze m.counts ok.balances)) counted in
+    let here : frame_state_at m.frame_states f ≡ Head unit = subst (λ (x : ℕ). frame_state_at m.frame_states x ≡ Head unit) is head in
     let list : LeavesList f (lists_of now) (group_lists links lists) = back.list in
     let home : home_of m.links f ≡ Some (record { owner = list.group; list = list.list }) =
     ap (λ (x : KnownMachine). home_of x.links f) same ∙ list.stands in
@@ -181,7 +181,7 @@ evicted_all t w m now same ok f i inside is kept_now links lists left_list stand
         areas = back.areas;
         machine = λ j. record (same j) {
           blocks = blocks;
-          spots = spots;
+          frame_states = frame_states;
           ledger = (uncharged ∙ ap (λ (x : KnownMachine). with_uncharge x.ledger unit.group (2 ^ unit.order)) same) j;
           links = links;
           lists = lists;

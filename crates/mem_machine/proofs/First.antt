@@ -16,12 +16,12 @@ use Rattle.lru_lists.specs.Lists.{AllStand, StandsIn, HasNoUnits, place_of}
 use Rattle.lru_lists.specs.Queue.{AreNowhere}
 use Rattle.step_rules.specs.declared.phase.ChargedUnit.{ChargedUnit}
 use Rattle.step_rules.proofs.Sums.{sum_none}
-use Rattle.mem_machine.specs.declared.spot.Spot.{Spot}
-use Rattle.mem_machine.specs.declared.spot.Spot.TheVariants.{Free, Head, Tail}
-use Rattle.mem_machine.specs.Spots.{spot_at, free_of, spot_group, count_of, AreUnits}
+use Rattle.mem_machine.specs.declared.frame_state.FrameState.{FrameState}
+use Rattle.mem_machine.specs.declared.frame_state.FrameState.TheVariants.{Free, Head, Tail}
+use Rattle.mem_machine.specs.FrameStates.{frame_state_at, free_of, frame_state_group, count_of, AreUnits}
 use Rattle.mem_machine.specs.Start.{AreEmpty}
 use Rattle.mem_machine.specs.Counts.{no_counts}
-use Rattle.mem_machine.specs.Machines.{KnownMachine, FitsSpot, IsConsistent, IsFirst, BalancesCounts, home_of, frames_charged, pages_booked, booked}
+use Rattle.mem_machine.specs.Machines.{KnownMachine, FitsFrameState, IsConsistent, IsFirst, BalancesCounts, home_of, frames_charged, pages_booked, booked}
 
 pub empty_none : (lists : List Lru) → lists ≡ [] → AreEmpty lists 0
 empty_none lists none = record {
@@ -70,16 +70,16 @@ repeated n i x = elim (cases_lt i n) [ inl inside ↦ get_or-replicate n i x x i
     beyond (suc n) (suc i) x past = beyond n i x (omega arith)
 
 not_head : (unit : ChargedUnit) → Free ≡ Head unit → ⊥
-not_head unit e = subst (λ (x : Spot). is_kind x) e tt
+not_head unit e = subst (λ (x : FrameState). is_kind x) e tt
   where
-    is_kind : Spot → Type 0
+    is_kind : FrameState → Type 0
     is_kind Free = Unit {0}
     is_kind _ = ⊥
 
 not_tail : (g : ℕ) → Free ≡ Tail g → ⊥
-not_tail g e = subst (λ (x : Spot). is_kind x) e tt
+not_tail g e = subst (λ (x : FrameState). is_kind x) e tt
   where
-    is_kind : Spot → Type 0
+    is_kind : FrameState → Type 0
     is_kind Free = Unit {0}
     is_kind _ = ⊥
 
@@ -91,10 +91,10 @@ no_pages g = elim (cases_eq 0 g) [
 ]
 
 module _ (t : KnownTable) (w : Words) (m : KnownMachine) (first : IsFirst t w m) where
-  all_free : (f : ℕ) → spot_at m.spots f ≡ Free
-  all_free f = ap (λ (l : List Spot). get_or l f Free) first.spots ∙ repeated t.frames f Free
+  all_free : (f : ℕ) → frame_state_at m.frame_states f ≡ Free
+  all_free f = ap (λ (l : List FrameState). get_or l f Free) first.frame_states ∙ repeated t.frames f Free
 
-  pub units_first : AreUnits m.spots
+  pub units_first : AreUnits m.frame_states
   units_first = record {
     heads = λ f unit is. absurd (not_head unit (sym (all_free f) ∙ is));
     tails = λ x g is. absurd (not_tail g (sym (all_free x) ∙ is));
@@ -103,19 +103,19 @@ module _ (t : KnownTable) (w : Words) (m : KnownMachine) (first : IsFirst t w m)
   note_first : (f : ℕ) → f < t.frames → note_of m.frame_seat.view f ≡ record blank { own = 1 }
   note_first f inside = ap (λ (s : KnownSeat). note_of s.view f) first.frame_seat ∙ get_or-replicate t.frames f (record blank { own = 1 }) blank inside
 
-  pub spots_first : (f : ℕ) → f < t.frames → FitsSpot t.cpus (note_of m.frame_seat.view f) (home_of m.links f) (spot_at m.spots f)
-  spots_first f inside =
+  pub frame_states_first : (f : ℕ) → f < t.frames → FitsFrameState t.cpus (note_of m.frame_seat.view f) (home_of m.links f) (frame_state_at m.frame_states f)
+  frame_states_first f inside =
       let note = note_first f inside in
       let home : home_of m.links f ≡ None = ap (λ (l : Link). l.home) (first.nowhere f) in
-      let spot = all_free f in
-      subst (λ (x : FrameNote × Option Home × Spot). FitsSpot t.cpus x.0 x.1 x.2) (λ i. (sym note i, sym home i, sym spot i))
+      let frame_state = all_free f in
+      subst (λ (x : FrameNote × Option Home × FrameState). FitsFrameState t.cpus x.0 x.1 x.2) (λ i. (sym note i, sym home i, sym frame_state i))
       (record { own = refl; lent = refl; borrower = tt; references = refl; kept = tt })
 
-  pub charged_first : (g : ℕ) → pages_of m.ledger g ≡ frames_charged m.spots g + pages_booked t m.stock_seat g
+  pub charged_first : (g : ℕ) → pages_of m.ledger g ≡ frames_charged m.frame_states g + pages_booked t m.stock_seat g
   charged_first g =
       let pages : pages_of m.ledger g ≡ 0 = ap (λ (l : Ledger). pages_of l g) first.ledger ∙ no_pages g in
-      let frames : frames_charged m.spots g ≡ 0 =
-      sum_none (length m.spots) (λ f. count_of g (spot_group (spot_at m.spots f))) (λ f inside. ap (λ (x : Spot). count_of g (spot_group x)) (all_free f)) in
+      let frames : frames_charged m.frame_states g ≡ 0 =
+      sum_none (length m.frame_states) (λ f. count_of g (frame_state_group (frame_state_at m.frame_states f))) (λ f inside. ap (λ (x : FrameState). count_of g (frame_state_group x)) (all_free f)) in
       let books : pages_booked t m.stock_seat g ≡ 0 =
       sum_none (t.cpus + 1) (λ p. booked g (account_of m.stock_seat.view p)) (λ p inside. ap (λ (x : Seated). booked g (account_of x.view p)) first.stock_seat) in
       omega (arith, pages, frames, books)
@@ -123,11 +123,11 @@ module _ (t : KnownTable) (w : Words) (m : KnownMachine) (first : IsFirst t w m)
   balances_first : BalancesCounts m.counts
   balances_first = subst BalancesCounts (sym first.counts) refl
 
-  pub consistent_first : AreMaximalBlocks (free_of m.spots) m.blocks → length m.links ≡ t.frames → length m.lists ≡ 64 → AllStand m.links m.lists
+  pub consistent_first : AreMaximalBlocks (free_of m.frame_states) m.blocks → length m.links ≡ t.frames → length m.lists ≡ 64 → AllStand m.links m.lists
       → w.cpus ≡ t.cpus → IsConsistent t w m
   consistent_first areas links lists stand cpus = record {
     sizes = record {
-      spots = ap length first.spots ∙ length-replicate t.frames Free;
+      frame_states = ap length first.frame_states ∙ length-replicate t.frames Free;
       links = links;
       lists = lists;
       killed = ap length first.killed ∙ length-replicate 64 false;
@@ -139,7 +139,7 @@ module _ (t : KnownTable) (w : Words) (m : KnownMachine) (first : IsFirst t w m)
       stocks = ap (λ (s : Seated). s.view.number) first.stock_seat;
     };
     areas = areas;
-    spots = spots_first;
+    frame_states = frame_states_first;
     units = units_first;
     lists = stand;
     absorbed = λ p. ap (λ (s : Seated). (account_of s.view p).unabsorbed) first.stock_seat;
@@ -150,20 +150,20 @@ module _ (t : KnownTable) (w : Words) (m : KnownMachine) (first : IsFirst t w m)
 
 -- what the parts of the first machine are made of
 pub starts : (t : KnownTable) (w : Words) (m : KnownMachine) (free : List Bool) (frames : ℕ) → IsFirst t w m → frames ≡ t.frames → length m.links ≡ frames
-    → AreEmpty m.lists 64 → free ≡ replicate frames true → AreMaximalBlocks free m.blocks → w.cpus ≡ t.cpus → IsConsistent t w m × (free ≡ free_of m.spots)
+    → AreEmpty m.lists 64 → free ≡ replicate frames true → AreMaximalBlocks free m.blocks → w.cpus ≡ t.cpus → IsConsistent t w m × (free ≡ free_of m.frame_states)
 starts t w m free frames first sized links empty all areas cpus =
-    let same : free ≡ free_of m.spots = all ∙ ap (λ (n : ℕ). replicate n true) sized ∙ sym (ap free_of first.spots ∙ free_all t.frames) in (
+    let same : free ≡ free_of m.frame_states = all ∙ ap (λ (n : ℕ). replicate n true) sized ∙ sym (ap free_of first.frame_states ∙ free_all t.frames) in (
       consistent_first t w m first (subst (λ (l : List Bool). AreMaximalBlocks l m.blocks) same areas) (links ∙ sized) empty.count
           (empty_stand m.lists 64 empty m.links first.nowhere) cpus,
       same,
     )
 
-pub first_is : (t : KnownTable) (w : Words) (m : KnownMachine) (frames : ℕ) → frames ≡ t.frames → m.spots ≡ replicate frames Free
+pub first_is : (t : KnownTable) (w : Words) (m : KnownMachine) (frames : ℕ) → frames ≡ t.frames → m.frame_states ≡ replicate frames Free
     → m.ledger ≡ initial_ledger → AreNowhere m.links → m.frame_seat ≡ record { table = t.table; view = first_zone_view t.frames }
     → m.stock_seat ≡ record { table = w.table; view = first_zone_stock } → m.killed ≡ replicate 64 false → m.counts ≡ no_counts
     → m.notes ≡ [] → IsFirst t w m
-first_is t w m frames sized spots ledger nowhere seat stock killed counts notes = record {
-  spots = spots ∙ ap (λ (n : ℕ). replicate n Free) sized;
+first_is t w m frames sized frame_states ledger nowhere seat stock killed counts notes = record {
+  frame_states = frame_states ∙ ap (λ (n : ℕ). replicate n Free) sized;
   ledger = ledger;
   nowhere = nowhere;
   frame_seat = seat;

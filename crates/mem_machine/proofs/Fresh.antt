@@ -25,11 +25,11 @@ use Rattle.step_rules.specs.declared.step.Action.TheVariants.{Unfreeze, Publish,
 use Rattle.step_rules.specs.declared.step.Answer.TheVariants.{Done}
 use Rattle.step_rules.specs.State.{State}
 use Rattle.step_rules.specs.After.{is_within}
-use Rattle.mem_machine.specs.declared.spot.Spot.{Spot}
-use Rattle.mem_machine.specs.declared.spot.Spot.TheVariants.{Free, Lent, Head}
+use Rattle.mem_machine.specs.declared.frame_state.FrameState.{FrameState}
+use Rattle.mem_machine.specs.declared.frame_state.FrameState.TheVariants.{Free, Lent, Head}
 use Rattle.mem_machine.specs.declared.counts.Counts.{Counts}
-use Rattle.mem_machine.specs.Spots.{spot_at, is_free, free_of, spot_group, head_group_of, some_cpu}
-use Rattle.mem_machine.specs.Machines.{KnownMachine, FitsSpot, IsConsistent, BalancesCounts, Visits, home_of, is_killed, pages_booked}
+use Rattle.mem_machine.specs.FrameStates.{frame_state_at, is_free, free_of, frame_state_group, head_group_of, some_cpu}
+use Rattle.mem_machine.specs.Machines.{KnownMachine, FitsFrameState, IsConsistent, BalancesCounts, Visits, home_of, is_killed, pages_booked}
 use Rattle.mem_machine.specs.Local.{IsLocalRun, local_of, fresh_group, number_or_0, side, MakesAs}
 use Rattle.mem_machine.specs.Steps.{zone_makes}
 use Rattle.mem_machine.specs.Blocks.{PlacesUnit}
@@ -38,7 +38,7 @@ use Rattle.mem_machine.specs.Counting.{counts_over}
 use Rattle.mem_machine.specs.Freeing.{FreesFrames}
 use Rattle.mem_machine.specs.Settling.{KeepsFresh, DropsFresh, with_page_absorbed, keep_steps, drop_steps}
 use Rattle.mem_machine.proofs.Holds.{own_part}
-use Rattle.mem_machine.proofs.Records.{free_at, free_set, lent_spot, spots_changed, units_stay, charges_stay}
+use Rattle.mem_machine.proofs.Records.{free_at, free_set, lent_frame_state, frame_states_changed, units_stay, charges_stay}
 use Rattle.mem_machine.proofs.PlacesUnits.{head_of_block, off_block}
 use Rattle.mem_machine.proofs.Joins.{AllJoin}
 use Rattle.mem_machine.proofs.KeptUnits.{unit_kept}
@@ -68,47 +68,47 @@ pub in_hand_then : (seat new : KnownSeat) (f p : ℕ) → new ≡ seat_with seat
 in_hand_then seat new f p is = subst (λ (s : KnownSeat). IsInOwnHand s f) (sym is) (ap (λ (k : FrameNote). k.own) (note_here seat.view f (collected_from p)))
 
 -- one record changed, and which frames are free did not
-free_stays : (spots : List Spot) (f : ℕ) (x : Spot) → f < length spots → is_free (spot_at spots f) ≡ false → is_free x ≡ false
-    → free_of spots ≡ free_of (slice_set spots f x)
-free_stays spots f x inside was now =
-    free_set (free_of spots) (free_of spots) spots f x inside refl refl (λ a. absurd (false≢true (sym was ∙ sym (free_at spots f inside) ∙ a)))
+free_stays : (frame_states : List FrameState) (f : ℕ) (x : FrameState) → f < length frame_states → is_free (frame_state_at frame_states f) ≡ false → is_free x ≡ false
+    → free_of frame_states ≡ free_of (slice_set frame_states f x)
+free_stays frame_states f x inside was now =
+    free_set (free_of frame_states) (free_of frame_states) frame_states f x inside refl refl (λ a. absurd (false≢true (sym was ∙ sym (free_at frame_states f inside) ∙ a)))
     (λ a. absurd (false≢true (sym now ∙ a))) (λ g ne. (λ a. a, λ a. a))
 
 -- a unit of one frame
-placed_one : (spots : List Spot) (g f : ℕ) → f < length spots
-    → PlacesUnit g (record { at = f; order = 0 }) spots (slice_set spots f (Head (record { group = g; order = 0 })))
-placed_one spots g f inside =
+placed_one : (frame_states : List FrameState) (g f : ℕ) → f < length frame_states
+    → PlacesUnit g (record { at = f; order = 0 }) frame_states (slice_set frame_states f (Head (record { group = g; order = 0 })))
+placed_one frame_states g f inside =
     let b : Block = record { at = f; order = 0 } in
     record {
-      frames = length-set spots f (Head (record { group = g; order = 0 }));
+      frames = length-set frame_states f (Head (record { group = g; order = 0 }));
       records = λ x. elim (cases_eq x f) [
-        | inl e ↦ ap (spot_at (slice_set spots f (Head (record { group = g; order = 0 })))) e
-            ∙ get_or-set_same spots f (Head (record { group = g; order = 0 })) Free inside ∙ sym (head_of_block spots g b x e)
-        | inr ne ↦ get_or-set_other spots f x (Head (record { group = g; order = 0 })) Free ne
-            ∙ sym (off_block spots g b x (is_out f (2 ^ 0) x (λ low high. ne (omega (arith, low, high)))))
+        | inl e ↦ ap (frame_state_at (slice_set frame_states f (Head (record { group = g; order = 0 })))) e
+            ∙ get_or-set_same frame_states f (Head (record { group = g; order = 0 })) Free inside ∙ sym (head_of_block frame_states g b x e)
+        | inr ne ↦ get_or-set_other frame_states f x (Head (record { group = g; order = 0 })) Free ne
+            ∙ sym (off_block frame_states g b x (is_out f (2 ^ 0) x (λ low high. ne (omega (arith, low, high)))))
       ];
     }
 
 -- one frame was freed
-frees_one : (spots new : List Spot) (f k : ℕ) → k ≡ 0 → f < length spots → FreesFrames f (2 ^ k) spots new → new ≡ slice_set spots f Free
-frees_one spots new f k zero_is inside frees =
+frees_one : (frame_states new : List FrameState) (f k : ℕ) → k ≡ 0 → f < length frame_states → FreesFrames f (2 ^ k) frame_states new → new ≡ slice_set frame_states f Free
+frees_one frame_states new f k zero_is inside frees =
     let one : 2 ^ k ≡ 1 = ap (λ (j : ℕ). 2 ^ j) zero_is in
-    ext_get_or Free new (slice_set spots f Free) (frees.frames ∙ sym (length-set spots f Free)) (λ g within.
-    frees.records g ∙ ap (λ (n : ℕ). cond (is_within f n g) Free (spot_at spots g)) one
+    ext_get_or Free new (slice_set frame_states f Free) (frees.frames ∙ sym (length-set frame_states f Free)) (λ g within.
+    frees.records g ∙ ap (λ (n : ℕ). cond (is_within f n g) Free (frame_state_at frame_states g)) one
     ∙ elim (cases_eq g f) [
-      | inl e ↦ ap (λ (b : Bool). cond b Free (spot_at spots g)) (is_in f 1 g (omega (arith, e)) (omega (arith, e)))
-          ∙ sym (ap (spot_at (slice_set spots f Free)) e ∙ get_or-set_same spots f Free Free inside)
-      | inr ne ↦ ap (λ (b : Bool). cond b Free (spot_at spots g)) (is_out f 1 g (λ low high. ne (omega (arith, low, high))))
-          ∙ sym (get_or-set_other spots f g Free Free ne)
+      | inl e ↦ ap (λ (b : Bool). cond b Free (frame_state_at frame_states g)) (is_in f 1 g (omega (arith, e)) (omega (arith, e)))
+          ∙ sym (ap (frame_state_at (slice_set frame_states f Free)) e ∙ get_or-set_same frame_states f Free Free inside)
+      | inr ne ↦ ap (λ (b : Bool). cond b Free (frame_state_at frame_states g)) (is_out f 1 g (λ low high. ne (omega (arith, low, high))))
+          ∙ sym (get_or-set_other frame_states f g Free Free ne)
     ])
 
 module _ (t : KnownTable) (w : Words) (m : KnownMachine) (c : KnownCpu) (tied : IsTied t w c) (ok : IsConsistent t w m) (visit : Visits t (side m c))
     (f g : ℕ) (was : WasFresh t m c f g) (rest : List ℕ) (front : c.fresh ≡ f ∷ rest) where
-  within : f < length m.spots
-  within = let s = ok.sizes.spots in let a = was.inside in omega (arith, s, a)
+  within : f < length m.frame_states
+  within = let s = ok.sizes.frame_states in let a = was.inside in omega (arith, s, a)
 
-  pub is_lent : spot_at m.spots f ≡ Lent c.number
-  is_lent = lent_spot (spot_at m.spots f) c.number tied.seats.some_number (ap some_cpu (sym was.lent) ∙ (ok.spots f was.inside).lent)
+  pub is_lent : frame_state_at m.frame_states f ≡ Lent c.number
+  is_lent = lent_frame_state (frame_state_at m.frame_states f) c.number tied.seats.some_number (ap some_cpu (sym was.lent) ∙ (ok.frame_states f was.inside).lent)
 
   at : IsFreshFront c f rest
   at = fresh_front t w c tied f rest front
@@ -126,7 +126,7 @@ module _ (t : KnownTable) (w : Words) (m : KnownMachine) (c : KnownCpu) (tied : 
   s = local_of t m c
 
   fresh_now : s.phases f ≡ phase.Head (fresh_unit c) (FreshAt c.number)
-  fresh_now = fresh_phase c f (spot_at m.spots f) is_lent at.once
+  fresh_now = fresh_phase c f (frame_state_at m.frame_states f) is_lent at.once
 
   -- ---- kept
 
@@ -139,22 +139,22 @@ module _ (t : KnownTable) (w : Words) (m : KnownMachine) (c : KnownCpu) (tied : 
 
     abbrev kept : KnownMachine
     kept = record m {
-      spots = slice_set m.spots f (Head (record { group = g; order = 0 }));
+      frame_states = slice_set m.frame_states f (Head (record { group = g; order = 0 }));
       links = links;
       lists = lists;
       frame_seat = seat_with m.frame_seat f used;
       stock_seat = with_page_absorbed m.stock_seat c.number;
     }
 
-    kept_free : free_of m.spots ≡ free_of kept.spots
-    kept_free = free_stays m.spots f (Head (record { group = g; order = 0 })) within (ap is_free is_lent) refl
+    kept_free : free_of m.frame_states ≡ free_of kept.frame_states
+    kept_free = free_stays m.frame_states f (Head (record { group = g; order = 0 })) within (ap is_free is_lent) refl
 
     kept_consistent : IsConsistent t w kept
     kept_consistent =
         let b : Block = record { at = f; order = 0 } in
         let seats = ok.seats in
-        unit_kept t w m ok g was.fits b (record { order = omega arith; aligned = omega arith; inside = let a = within in omega (arith, a) }) kept.spots
-        (placed_one m.spots g f within) (ap spot_group is_lent) (λ x low high ne. absurd (ne (omega (arith, low, high)))) links lists joined used
+        unit_kept t w m ok g was.fits b (record { order = omega arith; aligned = omega arith; inside = let a = within in omega (arith, a) }) kept.frame_states
+        (placed_one m.frame_states g f within) (ap frame_state_group is_lent) (λ x low high ne. absurd (ne (omega (arith, low, high)))) links lists joined used
         (record { own = refl; lent = refl; references = let a = was.nothing.0 in omega (arith, a) }) m.blocks m.ledger
         (with_page_absorbed m.stock_seat c.number)
         m.counts (record {
@@ -169,7 +169,7 @@ module _ (t : KnownTable) (w : Words) (m : KnownMachine) (c : KnownCpu) (tied : 
     kept_steps : IsLocalRun c.number s (keep_steps c.number f) (local_of t kept d)
     kept_steps =
         let v = is_visited t w m c tied visit f was.inside in
-        let ph = phases_set c d m.spots f (fresh_else c f rest front) (Head (record { group = g; order = 0 })) (phase.Head (fresh_unit c) Live) within
+        let ph = phases_set c d m.frame_states f (fresh_else c f rest front) (Head (record { group = g; order = 0 })) (phase.Head (fresh_unit c) Live) within
         (ap (λ (n : ℕ). cond (nat_le 1 n) (phase.Head (record { group = g; order = 0 }) (BackAt c.number))
         (phase.Head (record { group = g; order = 0 }) Live)) at.none_back
         ∙ (λ i. phase.Head (record { group = sym was.named i; order = 0 }) Live)) in
@@ -188,20 +188,20 @@ module _ (t : KnownTable) (w : Words) (m : KnownMachine) (c : KnownCpu) (tied : 
 
   -- ---- dropped
 
-  module _ (new : List Spot) (frees : FreesFrames f (2 ^ 0) m.spots new) (blocks : List Block) (areas : AreMaximalBlocks (free_of new) blocks)
+  module _ (new : List FrameState) (frees : FreesFrames f (2 ^ 0) m.frame_states new) (blocks : List Block) (areas : AreMaximalBlocks (free_of new) blocks)
       (counts : Counts) (counted : counts ≡ with_drop m.counts) where
     abbrev dropped : KnownMachine
     dropped = record m {
       blocks = blocks;
-      spots = new;
+      frame_states = new;
       ledger = with_uncharge m.ledger g 1;
       frame_seat = seat_with m.frame_seat f (collected_from c.number);
       stock_seat = with_page_absorbed m.stock_seat c.number;
       counts = counts;
     }
 
-    one_set : new ≡ slice_set m.spots f Free
-    one_set = frees_one m.spots new f 0 refl within frees
+    one_set : new ≡ slice_set m.frame_states f Free
+    one_set = frees_one m.frame_states new f 0 refl within frees
 
     -- a lent frame has no list
     homeless : (h : Option Home) → IfSome h (λ x. (x.owner < 64) × (head_group_of (Lent c.number) ≡ Some x.owner))
@@ -209,10 +209,10 @@ module _ (t : KnownTable) (w : Words) (m : KnownMachine) (c : KnownCpu) (tied : 
     homeless None is = tt
     homeless (Some x) is = is
 
-    dropped_fits : FitsSpot t.cpus (collected_from c.number (note_of m.frame_seat.view f)) (home_of m.links f) Free
+    dropped_fits : FitsFrameState t.cpus (collected_from c.number (note_of m.frame_seat.view f)) (home_of m.links f) Free
     dropped_fits =
-        let old : FitsSpot t.cpus (note_of m.frame_seat.view f) (home_of m.links f) (Lent c.number) =
-        subst (λ (x : Spot). FitsSpot t.cpus (note_of m.frame_seat.view f) (home_of m.links f) x) is_lent (ok.spots f was.inside) in
+        let old : FitsFrameState t.cpus (note_of m.frame_seat.view f) (home_of m.links f) (Lent c.number) =
+        subst (λ (x : FrameState). FitsFrameState t.cpus (note_of m.frame_seat.view f) (home_of m.links f) x) is_lent (ok.frame_states f was.inside) in
         record { own = refl; lent = refl; borrower = tt; references = old.references; kept = homeless (home_of m.links f) old.kept }
 
     charged_one : 1 ≤ pages_of m.ledger g
@@ -222,38 +222,38 @@ module _ (t : KnownTable) (w : Words) (m : KnownMachine) (c : KnownCpu) (tied : 
         let z : ◌≡◌ {A = ℕ} (cond (g == g) 1 0) 1 = cond-true (g == g) 1 0 (eq-eqb g g refl) in
         omega (arith, a, b, z)
 
-    dropped_set : IsConsistent t w (record dropped { spots = slice_set m.spots f Free })
+    dropped_set : IsConsistent t w (record dropped { frame_states = slice_set m.frame_states f Free })
     dropped_set = record {
       sizes = let z = ok.sizes in record {
-        spots = length-set m.spots f Free ∙ z.spots;
+        frame_states = length-set m.frame_states f Free ∙ z.frame_states;
         links = z.links;
         lists = z.lists;
         killed = z.killed;
         cpus = z.cpus;
       };
       seats = let z = ok.seats in record { frames = z.frames; table = z.table; stocks = z.stocks };
-      areas = subst (λ (l : List Spot). AreMaximalBlocks (free_of l) blocks) one_set areas;
-      spots = spots_changed t.cpus m.frame_seat m.links m.spots f (collected_from c.number) Free t.frames within ok.spots dropped_fits;
-      units = units_stay m.spots f Free within (ap spot_group is_lent) refl ok.units;
+      areas = subst (λ (l : List FrameState). AreMaximalBlocks (free_of l) blocks) one_set areas;
+      frame_states = frame_states_changed t.cpus m.frame_seat m.links m.frame_states f (collected_from c.number) Free t.frames within ok.frame_states dropped_fits;
+      units = units_stay m.frame_states f Free within (ap frame_state_group is_lent) refl ok.units;
       lists = ok.lists;
       absorbed = none_noted m.stock_seat.view c.number ok.absorbed;
       bounded = still_bounded m.stock_seat.view c.number ok.bounded;
       charged = λ h.
           let a = ok.charged h in
           let b = books h in
-          let e = charges_stay m.spots f Free within (ap spot_group is_lent) refl h in
+          let e = charges_stay m.frame_states f Free within (ap frame_state_group is_lent) refl h in
           let l = uncharge_pages m.ledger g 1 charged_one h in
           omega (arith, a, b, e, l);
       balances = subst BalancesCounts (sym counted) (balanced_drop m.counts ok.balances);
     }
 
     dropped_consistent : IsConsistent t w dropped
-    dropped_consistent = subst (λ (l : List Spot). IsConsistent t w (record dropped { spots = l })) (sym one_set) dropped_set
+    dropped_consistent = subst (λ (l : List FrameState). IsConsistent t w (record dropped { frame_states = l })) (sym one_set) dropped_set
 
     dropped_steps : is_killed m.killed g ≡ true → IsLocalRun c.number s (drop_steps c.number f) (local_of t dropped d)
     dropped_steps killed =
         let v = is_visited t w m c tied visit f was.inside in
-        let ph = phases_freed c d m.spots f (fresh_else c f rest front) new (fresh_unit c) Collected frees in
+        let ph = phases_freed c d m.frame_states f (fresh_else c f rest front) new (fresh_unit c) Collected frees in
         let re = references_same m.frame_seat c d f c.number refl refl in
         let pa = parts_absorbed m.stock_seat c f rest front at noted (fresh_unit c) in
         collect_run s c.number f (fresh_unit c) _ v (own_part m c) fresh_now noted (zone_makes (Return f) Done ∷ []) (local_of t dropped d)
@@ -275,18 +275,18 @@ module _ (t : KnownTable) (w : Words) (m : KnownMachine) (c : KnownCpu) (tied : 
 pub record AllKept (t : KnownTable) (w : Words) (now : KnownMachine) (c : KnownCpu) (g f : ℕ) (n : KnownMachine) (d : KnownCpu) (free : List Bool)
     : Type 0 where
   pub consistent : IsConsistent t w n
-  pub free_is : free ≡ free_of n.spots
+  pub free_is : free ≡ free_of n.frame_states
   pub keeps : KeepsFresh g f (side now c) (side n d)
   pub visit : Visits t (side n d)
   pub steps : MakesAs t c.number (side now c) (keep_steps c.number f) (side n d)
 
 pub keep_all : (t : KnownTable) (w : Words) (m now : KnownMachine) → m ≡ now → (c h : KnownCpu) → IsTied t w c → IsConsistent t w m → Visits t (side now c)
-    → (free : List Bool) → free ≡ free_of m.spots → (f g : ℕ) → WasFresh t m c f g → HandsFresh f c h → (i k : ℕ) → i ≡ f → k ≡ 0
+    → (free : List Bool) → free ≡ free_of m.frame_states → (f g : ℕ) → WasFresh t m c f g → HandsFresh f c h → (i k : ℕ) → i ≡ f → k ≡ 0
     → (mid seat : KnownSeat) → mid ≡ seat_with m.frame_seat f (collected_from c.number) → seat ≡ seat_with mid f (unfrozen 1)
     → (stock : Seated) → stock ≡ with_page_absorbed m.stock_seat c.number
     → (links : List Link) (lists : List Lru) → AllJoin m.links m.lists g i links lists
     → AllKept t w now c g f (record m {
-      spots = slice_set m.spots i (Head (record { group = g; order = k }));
+      frame_states = slice_set m.frame_states i (Head (record { group = g; order = k }));
       links = links;
       lists = lists;
       frame_seat = seat;
@@ -317,7 +317,7 @@ keep_all t w m now same c h tied ok visit_now free free_is f g was hands i k ind
     (λ j. (
       same j,
       record m {
-        spots = slice_set m.spots (sym index j) (Head (record { group = g; order = sym zero_is j }));
+        frame_states = slice_set m.frame_states (sym index j) (Head (record { group = g; order = sym zero_is j }));
         links = links;
         lists = lists;
         frame_seat = sym seat_is j;
@@ -329,49 +329,49 @@ keep_all t w m now same c h tied ok visit_now free free_is f g was hands i k ind
 pub record AllDropped (t : KnownTable) (w : Words) (now : KnownMachine) (c : KnownCpu) (g f : ℕ) (n : KnownMachine) (d : KnownCpu) (free : List Bool)
     : Type 0 where
   pub consistent : IsConsistent t w n
-  pub free_is : free ≡ free_of n.spots
+  pub free_is : free ≡ free_of n.frame_states
   pub drops : DropsFresh g f (side now c) (side n d)
   pub visit : Visits t (side n d)
   pub steps : MakesAs t c.number (side now c) (drop_steps c.number f) (side n d)
 
 pub drop_all : (t : KnownTable) (w : Words) (m now : KnownMachine) → m ≡ now → (c h : KnownCpu) → IsTied t w c → IsConsistent t w m → Visits t (side now c)
-    → (before free : List Bool) → before ≡ free_of m.spots → (f g : ℕ) → WasFresh t m c f g → is_killed now.killed g ≡ true → HandsFresh f c h
+    → (before free : List Bool) → before ≡ free_of m.frame_states → (f g : ℕ) → WasFresh t m c f g → is_killed now.killed g ≡ true → HandsFresh f c h
     → (i k : ℕ) → i ≡ f → k ≡ 0
     → (seat : KnownSeat) → seat ≡ seat_with m.frame_seat f (collected_from c.number)
     → (stock : Seated) → stock ≡ with_page_absorbed m.stock_seat c.number
-    → (spots : List Spot) → FreesFrames i (2 ^ k) m.spots spots → (blocks : List Block) → GivesFrames before (record { at = i; order = k }) free
+    → (frame_states : List FrameState) → FreesFrames i (2 ^ k) m.frame_states frame_states → (blocks : List Block) → GivesFrames before (record { at = i; order = k }) free
     → AreMaximalBlocks free blocks → (ledger : Ledger) → ledger ≡ with_uncharge m.ledger g (2 ^ k) → (counts : Counts) → counts ≡ with_drop m.counts
-    → AllDropped t w now c g f (record m { blocks = blocks; spots = spots; ledger = ledger; frame_seat = seat; stock_seat = stock; counts = counts }) h free
-drop_all t w m now same c h tied ok visit_now before free free_was f g was killed_now hands i k index zero_is seat collects stock absorbs spots frees_i blocks
+    → AllDropped t w now c g f (record m { blocks = blocks; frame_states = frame_states; ledger = ledger; frame_seat = seat; stock_seat = stock; counts = counts }) h free
+drop_all t w m now same c h tied ok visit_now before free free_was f g was killed_now hands i k index zero_is seat collects stock absorbs frame_states frees_i blocks
     gives_i areas_i ledger uncharges counts counted =
     let visit : Visits t (side m c) = subst (λ (x : KnownMachine). Visits t (side x c)) (sym same) visit_now in
     let killed : is_killed m.killed g ≡ true = ap (λ (x : KnownMachine). is_killed x.killed g) same ∙ killed_now in
     let rest = hands.0 in
     let front : c.fresh ≡ f ∷ rest = hands.1 in
-    let frees : FreesFrames f (2 ^ 0) m.spots spots = subst (λ (x : ℕ × ℕ). FreesFrames x.0 (2 ^ x.1) m.spots spots) (λ j. (index j, zero_is j)) frees_i in
+    let frees : FreesFrames f (2 ^ 0) m.frame_states frame_states = subst (λ (x : ℕ × ℕ). FreesFrames x.0 (2 ^ x.1) m.frame_states frame_states) (λ j. (index j, zero_is j)) frees_i in
     let gives : GivesFrames before (record { at = f; order = 0 }) free =
     subst (λ (x : ℕ × ℕ). GivesFrames before (record { at = x.0; order = x.1 }) free) (λ j. (index j, zero_is j)) gives_i in
-    let sized = ok.sizes.spots in
+    let sized = ok.sizes.frame_states in
     let inside = was.inside in
-    let free_is : free ≡ free_of spots = free_block_given before free m.spots spots f 0 (omega (arith, sized, inside)) free_was gives frees in
-    let areas : AreMaximalBlocks (free_of spots) blocks = subst (λ (l : List Bool). AreMaximalBlocks l blocks) free_is areas_i in
-    let one : AllDropped t w m c g f (dropped t w m c tied ok visit f g was rest front spots frees blocks areas counts counted) (fresh_handed c f rest) free =
+    let free_is : free ≡ free_of frame_states = free_block_given before free m.frame_states frame_states f 0 (omega (arith, sized, inside)) free_was gives frees in
+    let areas : AreMaximalBlocks (free_of frame_states) blocks = subst (λ (l : List Bool). AreMaximalBlocks l blocks) free_is areas_i in
+    let one : AllDropped t w m c g f (dropped t w m c tied ok visit f g was rest front frame_states frees blocks areas counts counted) (fresh_handed c f rest) free =
     record {
-      consistent = dropped_consistent t w m c tied ok visit f g was rest front spots frees blocks areas counts counted;
+      consistent = dropped_consistent t w m c tied ok visit f g was rest front frame_states frees blocks areas counts counted;
       free_is = free_is;
-      drops = dropped_does t w m c tied ok visit f g was rest front spots frees blocks areas counts counted;
-      visit = dropped_visits t w m c tied ok visit f g was rest front spots frees blocks areas counts counted;
+      drops = dropped_does t w m c tied ok visit f g was rest front frame_states frees blocks areas counts counted;
+      visit = dropped_visits t w m c tied ok visit f g was rest front frame_states frees blocks areas counts counted;
       steps = record {
-        leads = dropped_steps t w m c tied ok visit f g was rest front spots frees blocks areas counts counted killed;
+        leads = dropped_steps t w m c tied ok visit f g was rest front frame_states frees blocks areas counts counted killed;
         follows = follows_still _ m.ledger _ _ refl (uncharge_peaks m.ledger g 1) (uncharge_events m.ledger g 1);
-        counts = dropped_counts t w m c tied ok visit f g was rest front spots frees blocks areas counts counted killed;
+        counts = dropped_counts t w m c tied ok visit f g was rest front frame_states frees blocks areas counts counted killed;
       };
     } in
     let uncharged_one : ledger ≡ with_uncharge m.ledger g 1 = uncharges ∙ ap (λ (j : ℕ). with_uncharge m.ledger g (2 ^ j)) zero_is in
     subst (λ (x : KnownMachine × KnownMachine × KnownCpu). AllDropped t w x.0 c g f x.1 x.2 free)
     (λ j. (
       same j,
-      record m { blocks = blocks; spots = spots; ledger = sym uncharged_one j; frame_seat = sym collects j; stock_seat = sym absorbs j; counts = counts },
+      record m { blocks = blocks; frame_states = frame_states; ledger = sym uncharged_one j; frame_seat = sym collects j; stock_seat = sym absorbs j; counts = counts },
       sym hands.2 j,
     )) one
 
@@ -401,5 +401,5 @@ drop_charged t w m c tied ok f g was k zero_is =
 
 -- the frame is in use
 pub drop_in_use : (t : KnownTable) (w : Words) (m : KnownMachine) (c : KnownCpu) → IsTied t w c → IsConsistent t w m → (before : List Bool) (f g i k : ℕ)
-    → before ≡ free_of m.spots → WasFresh t m c f g → i ≡ f → k ≡ 0 → IsInUse before (record { at = i; order = k })
+    → before ≡ free_of m.frame_states → WasFresh t m c f g → i ≡ f → k ≡ 0 → IsInUse before (record { at = i; order = k })
 drop_in_use t w m c tied ok before f g i k free_was was index zero_is = may_give t w m c tied ok before f i k free_was was.inside was.lent index zero_is

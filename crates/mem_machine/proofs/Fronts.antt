@@ -19,10 +19,10 @@ use Rattle.step_rules.specs.Usage.{is_below}
 use Rattle.step_rules.specs.After.{paid, consumed}
 use Rattle.step_rules.specs.Legal.{is_legal, IsAnswer}
 use Rattle.step_rules.proofs.Basics.{at_same, at_other}
-use Rattle.mem_machine.specs.declared.spot.Spot.{Spot}
-use Rattle.mem_machine.specs.declared.spot.Spot.TheVariants.{Free, Lent, Head, Tail}
-use Rattle.mem_machine.specs.Spots.{spot_at, some_cpu}
-use Rattle.mem_machine.specs.Spots.{spot_group as charged_to}
+use Rattle.mem_machine.specs.declared.frame_state.FrameState.{FrameState}
+use Rattle.mem_machine.specs.declared.frame_state.FrameState.TheVariants.{Free, Lent, Head, Tail}
+use Rattle.mem_machine.specs.FrameStates.{frame_state_at, some_cpu}
+use Rattle.mem_machine.specs.FrameStates.{frame_state_group as charged_to}
 use Rattle.mem_machine.proofs.Ledgers.{ledger_side}
 use Rattle.mem_machine.specs.Machines.{KnownMachine, IsConsistent, Visits}
 use Rattle.mem_machine.specs.Local.{local_of, phase_of, part_of, part_with, side, MakesAs}
@@ -30,7 +30,7 @@ use Rattle.mem_machine.specs.Steps.{take_front_steps}
 use Rattle.mem_machine.specs.Paying.{IsOfSize, IsOwnStock, HoldsPage, PaysForFront, HasRoomFor, pages_held}
 use Rattle.mem_machine.proofs.Reaching.{cpu_step, run_one}
 use Rattle.mem_machine.proofs.Holds.{own_part, seated_cpu}
-use Rattle.mem_machine.proofs.Records.{lent_spot}
+use Rattle.mem_machine.proofs.Records.{lent_frame_state}
 use Rattle.mem_machine.proofs.Lends.{parts_changed, lent_listed}
 use Rattle.mem_machine.proofs.Takes.{without_front}
 use Rattle.cpu_part.proofs.Counts.{test_here, times_front}
@@ -68,8 +68,8 @@ usage_small : (t : KnownTable) (w : Words) (m : KnownMachine) → IsConsistent t
     → current_of m.ledger g ≤ t.frames * 1 + (t.cpus + 1) * 65535
 usage_small t w m ok charges g =
     let groups = m.ledger.groups in
-    let charged = at_most t.frames 1 (λ f. one_if (is_below groups g (charged_to (spot_at m.spots f))))
-    (λ f. one_at_most (is_below groups g (charged_to (spot_at m.spots f)))) in
+    let charged = at_most t.frames 1 (λ f. one_if (is_below groups g (charged_to (frame_state_at m.frame_states f))))
+    (λ f. one_at_most (is_below groups g (charged_to (frame_state_at m.frame_states f)))) in
     let booked = at_most (t.cpus + 1) 65535 (λ q. cond (is_below groups g (account_of m.stock_seat.view q).group) (account_of m.stock_seat.view q).book 0)
     (λ q. let a = cond_at_most (is_below groups g (account_of m.stock_seat.view q).group) (account_of m.stock_seat.view q).book in
     let b = ok.bounded q in omega (arith, a, b)) in
@@ -137,30 +137,30 @@ module _ (t : KnownTable) (w : Words) (m : KnownMachine) (c : KnownCpu) (tied : 
   once : (times f c.list ≡ 1) × (times f rest ≡ 0)
   once = let n = tied.noted f in let o = n.once in let b = n.borrowed_is in let l = listed_times in (omega (arith, o, b, l), omega (arith, o, b, l))
 
-  is_lent : spot_at m.spots f ≡ Lent c.number
+  is_lent : frame_state_at m.frame_states f ≡ Lent c.number
   is_lent =
       let n = tied.noted f in
       let b = n.borrowed_is in
       let o = n.once in
       let l = once.0 in
       let borrowed : (note_of c.frame_seat.view f).borrowed ≡ 1 = omega (arith, b, o, l) in
-      lent_spot (spot_at m.spots f) c.number tied.seats.some_number
-      (ap some_cpu (sym ((visit.lent f inside).1 borrowed ∙ tied.seats.frame_number)) ∙ (ok.spots f inside).lent)
+      lent_frame_state (frame_state_at m.frame_states f) c.number tied.seats.some_number
+      (ap some_cpu (sym ((visit.lent f inside).1 borrowed ∙ tied.seats.frame_number)) ∙ (ok.frame_states f inside).lent)
 
-  phase_here : phase_of d f (spot_at m.spots f) ≡ consumed c.number g
-  phase_here = fresh_phase d f (spot_at m.spots f) is_lent (ap (times f) fresh_is ∙ one_time f)
+  phase_here : phase_of d f (frame_state_at m.frame_states f) ≡ consumed c.number g
+  phase_here = fresh_phase d f (frame_state_at m.frame_states f) is_lent (ap (times f) fresh_is ∙ one_time f)
 
-  phase_else : (h : ℕ) (x : Spot) → (h ≡ f → ⊥) → phase_of d h x ≡ phase_of c h x
+  phase_else : (h : ℕ) (x : FrameState) → (h ≡ f → ⊥) → phase_of d h x ≡ phase_of c h x
   phase_else h Free ne = refl
   phase_else h (Lent q) ne = lent_listed d h q (ap (times h) fresh_is ∙ no_time h f ne) ∙ sym (lent_listed c h q (ap (times h) none))
   phase_else h (Head unit) ne = refl
   phase_else h (Tail k) ne = refl
 
-  phases_paid : (h : ℕ) → phase_of d h (spot_at m.spots h) ≡ with_at (λ y. phase_of c y (spot_at m.spots y)) f (consumed c.number g) h
+  phases_paid : (h : ℕ) → phase_of d h (frame_state_at m.frame_states h) ≡ with_at (λ y. phase_of c y (frame_state_at m.frame_states y)) f (consumed c.number g) h
   phases_paid h = elim (cases_eq h f) [
-    | inl e ↦ subst (λ (k : ℕ). phase_of d k (spot_at m.spots k) ≡ with_at (λ y. phase_of c y (spot_at m.spots y)) f (consumed c.number g) k) (sym e)
-        (phase_here ∙ sym (at_same (λ y. phase_of c y (spot_at m.spots y)) f (consumed c.number g)))
-    | inr ne ↦ phase_else h (spot_at m.spots h) ne ∙ sym (at_other (λ y. phase_of c y (spot_at m.spots y)) f (consumed c.number g) h ne)
+    | inl e ↦ subst (λ (k : ℕ). phase_of d k (frame_state_at m.frame_states k) ≡ with_at (λ y. phase_of c y (frame_state_at m.frame_states y)) f (consumed c.number g) k) (sym e)
+        (phase_here ∙ sym (at_same (λ y. phase_of c y (frame_state_at m.frame_states y)) f (consumed c.number g)))
+    | inr ne ↦ phase_else h (frame_state_at m.frame_states h) ne ∙ sym (at_other (λ y. phase_of c y (frame_state_at m.frame_states y)) f (consumed c.number g) h ne)
   ]
 
   fronted : front_of c.list ≡ f

@@ -8,8 +8,8 @@ use Rattle.frame_word.specs.Views.{note_of, in_hands, passed_out_to, took_in}
 use Rattle.frame_word.specs.Seats.{KnownTable, KnownSeat, seat_with, IsInOwnHand}
 use Rattle.stock_word.specs.Stock.{Words}
 use Rattle.cpu_part.specs.Cpus.{KnownCpu, IsTied}
-use Rattle.mem_machine.specs.declared.spot.Spot.TheVariants.{Free, Lent}
-use Rattle.mem_machine.specs.Spots.{spot_at, is_free, free_of}
+use Rattle.mem_machine.specs.declared.frame_state.FrameState.TheVariants.{Free, Lent}
+use Rattle.mem_machine.specs.FrameStates.{frame_state_at, is_free, free_of}
 use Rattle.mem_machine.specs.Machines.{KnownMachine, IsConsistent, Visits}
 use Rattle.mem_machine.specs.Lending.{LendsFrame}
 use Rattle.mem_machine.specs.Steps.{lend_steps}
@@ -20,28 +20,28 @@ use Rattle.mem_machine.proofs.Lends.{lend_consistent, lend_runs, lend_visits, zo
 -- all of it, of the machine as it was seen before
 pub record AllGiven (t : KnownTable) (w : Words) (now : KnownMachine) (c : KnownCpu) (f : ℕ) (n : KnownMachine) (d : KnownCpu) (free : List Bool) : Type 0 where
   pub consistent : IsConsistent t w n
-  pub free_is : free ≡ free_of n.spots
+  pub free_is : free ≡ free_of n.frame_states
   pub lends : LendsFrame f (side now c) (side n d)
   pub visit : Visits t (side n d)
   pub steps : MakesAs t c.number (side now c) (lend_steps c.number f) (side n d)
 
 pub given_all : (t : KnownTable) (w : Words) (m now : KnownMachine) → m ≡ now → (c d : KnownCpu) → IsTied t w c → IsConsistent t w m → Visits t (side now c)
-    → (before free : List Bool) (blocks : List Block) (f i q : ℕ) (seat seat' : KnownSeat) → before ≡ free_of m.spots → f < t.frames
-    → spot_at now.spots f ≡ Free → TakesFrames before (record { at = i; order = 0 }) free → AreMaximalBlocks free blocks → i ≡ f → q ≡ c.number
+    → (before free : List Bool) (blocks : List Block) (f i q : ℕ) (seat seat' : KnownSeat) → before ≡ free_of m.frame_states → f < t.frames
+    → frame_state_at now.frame_states f ≡ Free → TakesFrames before (record { at = i; order = 0 }) free → AreMaximalBlocks free blocks → i ≡ f → q ≡ c.number
     → seat ≡ seat_with m.frame_seat f (passed_out_to q) → seat' ≡ seat → d ≡ record c { list = c.list ++ f ∷ []; frame_seat = seat_with c.frame_seat f took_in }
     → in_hands (note_of c.frame_seat.view f) ≡ 0
-    → AllGiven t w now c f (record m { blocks = blocks; spots = slice_set m.spots i (Lent q); frame_seat = seat' }) d free
+    → AllGiven t w now c f (record m { blocks = blocks; frame_states = slice_set m.frame_states i (Lent q); frame_seat = seat' }) d free
 given_all t w m now same c d tied ok visit_now before free blocks f i q seat seat' was inside free_now takes areas index number passed stays cpu none =
     let visit : Visits t (side m c) = subst (λ (x : KnownMachine). Visits t (side x c)) (sym same) visit_now in
-    let there : spot_at m.spots f ≡ Free = ap (λ (x : KnownMachine). spot_at x.spots f) same ∙ free_now in
+    let there : frame_state_at m.frame_states f ≡ Free = ap (λ (x : KnownMachine). frame_state_at x.frame_states f) same ∙ free_now in
     let takes_f : TakesFrames before (record { at = f; order = 0 }) free =
     subst (λ (x : ℕ). TakesFrames before (record { at = x; order = 0 }) free) index takes in
-    let sized = ok.sizes.spots in
-    let below : f < length m.spots = omega (arith, inside, sized) in
-    let free_is : free ≡ free_of (slice_set m.spots f (Lent c.number)) = free_taken before free m.spots f (Lent c.number) below was takes_f refl in
-    let n : KnownMachine = record m { blocks = blocks; spots = slice_set m.spots f (Lent c.number); frame_seat = seat_with m.frame_seat f (passed_out_to c.number) } in
+    let sized = ok.sizes.frame_states in
+    let below : f < length m.frame_states = omega (arith, inside, sized) in
+    let free_is : free ≡ free_of (slice_set m.frame_states f (Lent c.number)) = free_taken before free m.frame_states f (Lent c.number) below was takes_f refl in
+    let n : KnownMachine = record m { blocks = blocks; frame_states = slice_set m.frame_states f (Lent c.number); frame_seat = seat_with m.frame_seat f (passed_out_to c.number) } in
     let e : KnownCpu = record c { list = c.list ++ f ∷ []; frame_seat = seat_with c.frame_seat f took_in } in
-    let areas_f : AreMaximalBlocks (free_of (slice_set m.spots f (Lent c.number))) blocks =
+    let areas_f : AreMaximalBlocks (free_of (slice_set m.frame_states f (Lent c.number))) blocks =
     subst (λ (l : List Bool). AreMaximalBlocks l blocks) free_is areas in
     let all : AllGiven t w m c f n e free = record {
       consistent = lend_consistent t w m c tied ok visit f inside there blocks areas_f;
@@ -55,7 +55,7 @@ given_all t w m now same c d tied ok visit_now before free blocks f i q seat sea
       same j,
       record m {
         blocks = blocks;
-        spots = slice_set m.spots (sym index j) (Lent (sym number j));
+        frame_states = slice_set m.frame_states (sym index j) (Lent (sym number j));
         frame_seat = sym (stays ∙ passed ∙ ap (λ (x : ℕ). seat_with m.frame_seat f (passed_out_to x)) number) j;
       },
       sym cpu j,
@@ -64,17 +64,17 @@ given_all t w m now same c d tied ok visit_now before free blocks f i q seat sea
 -- ---- what the steps on the way ask for
 
 -- the zone's areas have the frame
-pub given_free : (t : KnownTable) (w : Words) (m now : KnownMachine) → m ≡ now → IsConsistent t w m → (before : List Bool) (f i : ℕ) → before ≡ free_of m.spots
-    → f < t.frames → spot_at now.spots f ≡ Free → i ≡ f → IsFree before i
+pub given_free : (t : KnownTable) (w : Words) (m now : KnownMachine) → m ≡ now → IsConsistent t w m → (before : List Bool) (f i : ℕ) → before ≡ free_of m.frame_states
+    → f < t.frames → frame_state_at now.frame_states f ≡ Free → i ≡ f → IsFree before i
 given_free t w m now same ok before f i was inside free index =
-    let sized = ok.sizes.spots in
-    let below : f < length m.spots = omega (arith, inside, sized) in
-    ap (λ (x : ℕ). get_or before x false) index ∙ ap (λ (l : List Bool). get_or l f false) was ∙ free_at m.spots f below
-    ∙ ap (λ (x : KnownMachine). is_free (spot_at x.spots f)) same ∙ ap is_free free
+    let sized = ok.sizes.frame_states in
+    let below : f < length m.frame_states = omega (arith, inside, sized) in
+    ap (λ (x : ℕ). get_or before x false) index ∙ ap (λ (l : List Bool). get_or l f false) was ∙ free_at m.frame_states f below
+    ∙ ap (λ (x : KnownMachine). is_free (frame_state_at x.frame_states f)) same ∙ ap is_free free
 
 -- and the zone has it in its hand
-pub given_hand : (t : KnownTable) (w : Words) (m now : KnownMachine) → m ≡ now → IsConsistent t w m → (f : ℕ) → f < t.frames → spot_at now.spots f ≡ Free
+pub given_hand : (t : KnownTable) (w : Words) (m now : KnownMachine) → m ≡ now → IsConsistent t w m → (f : ℕ) → f < t.frames → frame_state_at now.frame_states f ≡ Free
     → IsInOwnHand m.frame_seat f
 given_hand t w m now same ok f inside free =
-    let sized = ok.sizes.spots in
-    zone_hand t w m ok f f (omega (arith, inside, sized)) (ap (λ (x : KnownMachine). spot_at x.spots f) same ∙ free) refl
+    let sized = ok.sizes.frame_states in
+    zone_hand t w m ok f f (omega (arith, inside, sized)) (ap (λ (x : KnownMachine). frame_state_at x.frame_states f) same ∙ free) refl

@@ -29,9 +29,9 @@ use Rattle.step_rules.specs.Legal.{is_legal}
 use Rattle.step_rules.specs.Laws.{IsLocalStep}
 use Rattle.step_rules.proofs.Basics.{at_same, at_other}
 use Rattle.step_rules.proofs.Placing.{block_free}
-use Rattle.mem_machine.specs.declared.spot.Spot.{Spot}
-use Rattle.mem_machine.specs.declared.spot.Spot.TheVariants.{Free, Lent, Head, Tail}
-use Rattle.mem_machine.specs.Spots.{spot_at, is_free, free_of}
+use Rattle.mem_machine.specs.declared.frame_state.FrameState.{FrameState}
+use Rattle.mem_machine.specs.declared.frame_state.FrameState.TheVariants.{Free, Lent, Head, Tail}
+use Rattle.mem_machine.specs.FrameStates.{frame_state_at, is_free, free_of}
 use Rattle.mem_machine.specs.Machines.{KnownMachine, is_killed}
 use Rattle.mem_machine.specs.Local.{fresh_group, phase_of, local_of, side, MakesAs}
 use Rattle.mem_machine.specs.Steps.{zone_makes}
@@ -93,7 +93,7 @@ module _ (t : KnownTable) (m : KnownMachine) (c : KnownCpu) (g n : ℕ) (there :
 -- ---- free blocks
 
 -- a frame that is free by the rules is free by its record
-phase_free : (c : KnownCpu) (f : ℕ) (x : Spot) → phases.is_free (phase_of c f x) ≡ true → is_free x ≡ true
+phase_free : (c : KnownCpu) (f : ℕ) (x : FrameState) → phases.is_free (phase_of c f x) ≡ true → is_free x ≡ true
 phase_free c f Free e = refl
 phase_free c f (Lent q) e = absurd (false≢true (sym (not_free (q == c.number && nat_le 1 (times f c.fresh))) ∙ e))
   where
@@ -108,36 +108,36 @@ phase_free c f (Head unit) e = absurd (false≢true (sym (not_free (nat_le 1 (ti
 phase_free c f (Tail h) e = absurd (false≢true e)
 
 -- a free block by the rules is one of the machine
-free_block : (t : KnownTable) (m : KnownMachine) (c : KnownCpu) → length m.spots ≡ t.frames → (b : Block)
-    → IsFreeBlock (free_in (local_of t m c).zone (local_of t m c).phases) b → IsFreeBlock (free_of m.spots) b
+free_block : (t : KnownTable) (m : KnownMachine) (c : KnownCpu) → length m.frame_states ≡ t.frames → (b : Block)
+    → IsFreeBlock (free_in (local_of t m c).zone (local_of t m c).phases) b → IsFreeBlock (free_of m.frame_states) b
 free_block t m c sized b is =
-    let size : length (free_in (local_of t m c).zone (local_of t m c).phases) ≡ length (free_of m.spots) =
-    length-map-range_with_len (λ f. phases.is_free ((local_of t m c).phases f)) 0 t.frames ∙ sym sized ∙ sym (length_free m.spots) in
+    let size : length (free_in (local_of t m c).zone (local_of t m c).phases) ≡ length (free_of m.frame_states) =
+    length-map-range_with_len (λ f. phases.is_free ((local_of t m c).phases f)) 0 t.frames ∙ sym sized ∙ sym (length_free m.frame_states) in
     record {
       block = subst (λ (n : ℕ). IsBlock n b) size is.block;
       all_free = λ f inside.
           let both = block_free (local_of t m c).zone (local_of t m c).phases b is f inside.from inside.before in
-          let below : f < length m.spots = let h = both.0 in omega arith in
-          free_at m.spots f below ∙ phase_free c f (spot_at m.spots f) both.1;
+          let below : f < length m.frame_states = let h = both.0 in omega arith in
+          free_at m.frame_states f below ∙ phase_free c f (frame_state_at m.frame_states f) both.1;
     }
 
 -- if the machine has no block of the order or above, there is none to place
-pub none_to_place : (t : KnownTable) (m : KnownMachine) (c : KnownCpu) → length m.spots ≡ t.frames → AreMaximalBlocks (free_of m.spots) m.blocks
+pub none_to_place : (t : KnownTable) (m : KnownMachine) (c : KnownCpu) → length m.frame_states ≡ t.frames → AreMaximalBlocks (free_of m.frame_states) m.blocks
     → (k : ℕ) → HasNoneFrom m.blocks k → (b : Block) → b.order ≡ k
     → IsFreeBlock (free_in (local_of t m c).zone (local_of t m c).phases) b → ⊥
 none_to_place t m c sized areas k none b order is =
     let own = free_block t m c sized b is in
     let some = pow_pos b.order in
     let here : Covers b b.at = record { from = omega arith; before = omega arith } in
-    let top = in_maximal (free_of m.spots) b.at (own.all_free b.at here) in
+    let top = in_maximal (free_of m.frame_states) b.at (own.all_free b.at here) in
     let low = none top.0 (areas.all top.0 top.1) in
-    greater_denied (free_of m.spots) top.0 b top.1 own b.at top.2 here (omega arith)
+    greater_denied (free_of m.frame_states) top.0 b top.1 own b.at top.2 here (omega arith)
 
 -- ---- a block that isn't there
 
 module _ (t : KnownTable) (m : KnownMachine) (c : KnownCpu) (g n : ℕ) (there : has_group m.ledger.groups g ≡ true) (alive : is_killed m.killed g ≡ false)
-    (usage : (h : ℕ) → usage_of (local_of t m c) h ≡ current_of m.ledger h) (k : ℕ) (pages : 2 ^ k ≤ n) (sized : length m.spots ≡ t.frames)
-    (areas : AreMaximalBlocks (free_of m.spots) m.blocks) (none : HasNoneFrom m.blocks k) where
+    (usage : (h : ℕ) → usage_of (local_of t m c) h ≡ current_of m.ledger h) (k : ℕ) (pages : 2 ^ k ≤ n) (sized : length m.frame_states ≡ t.frames)
+    (areas : AreMaximalBlocks (free_of m.frame_states) m.blocks) (none : HasNoneFrom m.blocks k) where
   abbrev granted : State
   granted = with_granted t m c g n there alive usage
 

@@ -18,9 +18,9 @@ use Rattle.step_rules.specs.declared.phase.Phase.{Phase}
 use Rattle.step_rules.specs.declared.phase.Phase.TheVariants as phase
 use Rattle.step_rules.specs.Legal.{rests, nothing_passes, is_legal}
 use Rattle.step_rules.proofs.Sums.{all_each}
-use Rattle.mem_machine.specs.declared.spot.Spot.{Spot}
-use Rattle.mem_machine.specs.declared.spot.Spot.TheVariants.{Free, Lent, Head, Tail}
-use Rattle.mem_machine.specs.Spots.{spot_at}
+use Rattle.mem_machine.specs.declared.frame_state.FrameState.{FrameState}
+use Rattle.mem_machine.specs.declared.frame_state.FrameState.TheVariants.{Free, Lent, Head, Tail}
+use Rattle.mem_machine.specs.FrameStates.{frame_state_at}
 use Rattle.mem_machine.specs.Machines.{KnownMachine, Visits}
 use Rattle.mem_machine.specs.Local.{hold_of, local_of, phase_of, part_of, part_with, fresh_group, side, MakesAs}
 use Rattle.mem_machine.specs.Steps.{open_steps, shut_steps}
@@ -67,7 +67,7 @@ head_rests true p q unit = refl
 head_rests false p q unit = refl
 
 -- no phase that the machine shows passes
-no_pass : (c : KnownCpu) (p f : ℕ) (x : Spot) → resting p (phase_of c f x) ≡ true
+no_pass : (c : KnownCpu) (p f : ℕ) (x : FrameState) → resting p (phase_of c f x) ≡ true
 unfolding resting
 no_pass c p f Free = refl
 no_pass c p f (Lent q) = lent_rests (q == c.number && nat_le 1 (times f c.fresh)) p q (fresh_group c)
@@ -78,7 +78,7 @@ no_pass c p f (Tail g) = refl
 pub own_part : (m : KnownMachine) (c : KnownCpu) → part_of m.stock_seat c c.number ≡ part_with c.list c.fresh c.back (account_of m.stock_seat.view c.number)
 own_part m c = cond-true (c.number == c.number) _ _ (eq-eqb c.number c.number refl)
 
-unfolded_rest : (c : KnownCpu) (p f : ℕ) (x : Spot) → (not (passes_out p (phase_of c f x)) && not (passes_back p (phase_of c f x))) ≡ true
+unfolded_rest : (c : KnownCpu) (p f : ℕ) (x : FrameState) → (not (passes_out p (phase_of c f x)) && not (passes_back p (phase_of c f x))) ≡ true
 unfolding resting
 unfolded_rest c p f x = no_pass c p f x
 
@@ -104,7 +104,7 @@ shut_runs t m n c is was_open noted =
     let own = own_part m c in
     let unreported : ((part_of m.stock_seat c p).unreported == 0) ≡ true = ap (λ (x : Part). x.unreported == 0) own in
     let reported : ((part_of m.stock_seat c p).reported == 0) ≡ true = ap (λ (x : Part). x.reported == 0) own ∙ eq-eqb _ 0 noted in
-    let still : nothing_passes s p ≡ true = all_each t.frames (rests s p) (λ f inside. unfolded_rest c p f (spot_at m.spots f)) in
+    let still : nothing_passes s p ≡ true = all_each t.frames (rests s p) (λ f inside. unfolded_rest c p f (frame_state_at m.frame_states f)) in
     let legal : is_legal s 0 (ShutVisit p) ≡ true =
     and_from _ _ (and_from _ _ (and_from _ _ (and_from _ _ (zone_may_act m.frame_seat p) (visits_open m.frame_seat p was_open)) still) unreported) reported in
     let shut : hold_of (seat_with_visit m.frame_seat p 0) p ≡ HeldBy p = hold_shut (seat_with_visit m.frame_seat p 0) p (put_here 0 m.frame_seat.view.opened p 0) in

@@ -6,15 +6,15 @@ use Rattle.group_charge.specs.Charges.{AreCharges}
 use Rattle.frame_word.specs.Seats.{KnownTable}
 use Rattle.stock_word.specs.Stock.{Words}
 use Rattle.step_rules.proofs.Sums.{sum_part}
-use Rattle.mem_machine.specs.declared.spot.Spot.{Spot}
-use Rattle.mem_machine.specs.declared.spot.Spot.TheVariants.{Free, Lent, Head, Tail}
-use Rattle.mem_machine.specs.declared.spot.Place.TheVariants as place
-use Rattle.mem_machine.specs.Spots.{spot_at, place_of, spot_group, count_of}
+use Rattle.mem_machine.specs.declared.frame_state.FrameState.{FrameState}
+use Rattle.mem_machine.specs.declared.frame_state.FrameState.TheVariants.{Free, Lent, Head, Tail}
+use Rattle.mem_machine.specs.declared.frame_state.Place.TheVariants as place
+use Rattle.mem_machine.specs.FrameStates.{frame_state_at, place_of, frame_state_group, count_of}
 use Rattle.mem_machine.specs.Machines.{KnownMachine, IsConsistent, frames_charged}
 use Rattle.mem_machine.proofs.Draining.{charged_there}
 
 -- a frame that is charged to the group counts as one
-counts : (s : Spot) (g : ℕ) → place_of s ≡ place.Charged g → count_of g (spot_group s) ≡ 1
+counts : (s : FrameState) (g : ℕ) → place_of s ≡ place.Charged g → count_of g (frame_state_group s) ≡ 1
 counts Free g is = cc
 counts (Lent p) g is = cc
 counts (Head unit) g is = let e : unit.group ≡ g = cc in ap (λ b. cond b 1 0) (eq-eqb unit.group g e)
@@ -22,11 +22,11 @@ counts (Tail h) g is = let e : h ≡ g = cc in ap (λ b. cond b 1 0) (eq-eqb h g
 
 -- the group that a frame is charged to is there
 pub keeper_there : (t : KnownTable) (w : Words) (m : KnownMachine) (f g : ℕ) → IsConsistent t w m → AreCharges m.ledger → f < t.frames
-    → place_of (spot_at m.spots f) ≡ place.Charged g → has_group m.ledger.groups g ≡ true
+    → place_of (frame_state_at m.frame_states f) ≡ place.Charged g → has_group m.ledger.groups g ≡ true
 keeper_there t w m f g good legal inside is =
-    let one = counts (spot_at m.spots f) g is in
-    let sized = good.sizes.spots in
-    let part = sum_part (length m.spots) (λ (x : ℕ). count_of g (spot_group (spot_at m.spots x))) f (omega arith) in
+    let one = counts (frame_state_at m.frame_states f) g is in
+    let sized = good.sizes.frame_states in
+    let part = sum_part (length m.frame_states) (λ (x : ℕ). count_of g (frame_state_group (frame_state_at m.frame_states x))) f (omega arith) in
     let all = good.charged g in
-    let some : 1 ≤ frames_charged m.spots g = omega (arith, one, part) in
+    let some : 1 ≤ frames_charged m.frame_states g = omega (arith, one, part) in
     charged_there m.ledger g legal (omega (arith, all, some))

@@ -19,8 +19,8 @@ use Rattle.frame_word.specs.Seats.{KnownTable}
 use Rattle.step_rules.specs.State.{one_if, sum_to}
 use Rattle.step_rules.specs.Usage.{is_below}
 use Rattle.step_rules.proofs.Sums.{sum_same, sum_none, sum_both, sum_part, sum_swap, sum_only}
-use Rattle.mem_machine.specs.declared.spot.Spot.{Spot}
-use Rattle.mem_machine.specs.Spots.{spot_at, spot_group, count_of}
+use Rattle.mem_machine.specs.declared.frame_state.FrameState.{FrameState}
+use Rattle.mem_machine.specs.FrameStates.{frame_state_at, frame_state_group, count_of}
 use Rattle.mem_machine.specs.Machines.{KnownMachine, IsConsistent, booked, pages_booked}
 
 abbrev nothing : ℕ
@@ -154,26 +154,26 @@ module _ (t : KnownTable) (w : Words) (m : KnownMachine) (is : IsConsistent t w 
   abbrev groups : List Group
   groups = m.ledger.groups
 
-  abbrev spot : ℕ → Spot
-  spot f = spot_at m.spots f
+  abbrev frame_state : ℕ → FrameState
+  frame_state f = frame_state_at m.frame_states f
 
   abbrev book : ℕ → Book
   book p = account_of m.stock_seat.view p
 
   abbrev frame_count : ℕ → ℕ → ℕ
-  frame_count h f = count_of h (spot_group (spot f))
+  frame_count h f = count_of h (frame_state_group (frame_state f))
 
   abbrev book_count : ℕ → ℕ → ℕ
   book_count h p = booked h (book p)
 
-  charged_frame : (f k : ℕ) → f < t.frames → spot_group (spot f) ≡ Some k → k < 64
+  charged_frame : (f k : ℕ) → f < t.frames → frame_state_group (frame_state f) ≡ Some k → k < 64
   charged_frame f k inside at = elim (cases_lt k 64) [
     | inl lt ↦ lt
     | inr beyond ↦ absurd (
         let none = none_beyond m.ledger k charges beyond in
         let all = is.charged k in
-        let sized = is.sizes.spots in
-        let part = sum_part (length m.spots) (frame_count k) f (omega arith) in
+        let sized = is.sizes.frame_states in
+        let part = sum_part (length m.frame_states) (frame_count k) f (omega arith) in
         let one : frame_count k f ≡ 1 = ap (λ (o : Option ℕ). count_of k o) at ∙ ap (λ (b : Bool). cond b 1 0) (eq-eqb k k refl) in
         omega arith)
   ]
@@ -191,7 +191,7 @@ module _ (t : KnownTable) (w : Words) (m : KnownMachine) (is : IsConsistent t w 
   ]
 
   -- the usage of the group, by its frames and by the books of the stocks
-  pub ledger_side : current_of m.ledger g ≡ sum_to t.frames (λ f. one_if (is_below groups g (spot_group (spot f))))
+  pub ledger_side : current_of m.ledger g ≡ sum_to t.frames (λ f. one_if (is_below groups g (frame_state_group (frame_state f))))
       + sum_to (t.cpus + 1) (λ q. cond (is_below groups g (book q).group) (book q).book 0)
   ledger_side =
       let by = usage_by_number m.ledger g charges in
@@ -199,7 +199,7 @@ module _ (t : KnownTable) (w : Words) (m : KnownMachine) (is : IsConsistent t w 
       (λ h. sum_to t.frames (λ f. cond (in_subtree groups g h) (frame_count h f) 0) + sum_to (t.cpus + 1)
       (λ p. cond (in_subtree groups g h) (book_count h p) 0))
       (λ h lt. ap (λ (n : ℕ). cond (in_subtree groups g h) n 0) (is.charged h
-      ∙ ap (λ (n : ℕ). sum_to n (frame_count h) + pages_booked t m.stock_seat h) is.sizes.spots)
+      ∙ ap (λ (n : ℕ). sum_to n (frame_count h) + pages_booked t m.stock_seat h) is.sizes.frame_states)
       ∙ cond_plus (in_subtree groups g h) (sum_to t.frames (frame_count h)) (sum_to (t.cpus + 1) (book_count h))
       ∙ (λ i. cond_sum (in_subtree groups g h) t.frames (frame_count h) i + cond_sum (in_subtree groups g h) (t.cpus + 1) (book_count h) i)) in
       let both = sum_both 64 (λ h. sum_to t.frames (λ f. cond (in_subtree groups g h) (frame_count h f) 0))
@@ -207,8 +207,8 @@ module _ (t : KnownTable) (w : Words) (m : KnownMachine) (is : IsConsistent t w 
       let turned = sum_swap 64 t.frames (λ h f. cond (in_subtree groups g h) (frame_count h f) 0) in
       let turned_too = sum_swap 64 (t.cpus + 1) (λ h p. cond (in_subtree groups g h) (book_count h p) 0) in
       let frames = sum_same t.frames (λ f. sum_to 64 (λ h. cond (in_subtree groups g h) (frame_count h f) 0))
-      (λ f. one_if (is_below groups g (spot_group (spot f))))
-      (λ f lt. frame_counts groups g (spot_group (spot f)) (λ k at. charged_frame f k lt at)) in
+      (λ f. one_if (is_below groups g (frame_state_group (frame_state f))))
+      (λ f lt. frame_counts groups g (frame_state_group (frame_state f)) (λ k at. charged_frame f k lt at)) in
       let books = sum_same (t.cpus + 1) (λ p. sum_to 64 (λ h. cond (in_subtree groups g h) (book_count h p) 0))
       (λ q. cond (is_below groups g (book q).group) (book q).book 0)
       (λ p lt. book_counts groups g (book p).group (book p).book (λ k at. booked_pages p k lt at)) in

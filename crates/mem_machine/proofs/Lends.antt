@@ -26,16 +26,16 @@ use Rattle.step_rules.specs.State.{State, Part, with_at, is_frame, one_if}
 use Rattle.step_rules.specs.Legal.{is_legal}
 use Rattle.step_rules.specs.After.{after}
 use Rattle.step_rules.proofs.Basics.{at_same, at_other}
-use Rattle.mem_machine.specs.declared.spot.Spot.{Spot}
-use Rattle.mem_machine.specs.declared.spot.Spot.TheVariants.{Free, Lent, Head, Tail}
-use Rattle.mem_machine.specs.Spots.{spot_at, free_of, spot_group, head_group_of, is_in_hand}
-use Rattle.mem_machine.specs.Machines.{KnownMachine, FitsSpot, IsConsistent, Visits, home_of}
+use Rattle.mem_machine.specs.declared.frame_state.FrameState.{FrameState}
+use Rattle.mem_machine.specs.declared.frame_state.FrameState.TheVariants.{Free, Lent, Head, Tail}
+use Rattle.mem_machine.specs.FrameStates.{frame_state_at, free_of, frame_state_group, head_group_of, is_in_hand}
+use Rattle.mem_machine.specs.Machines.{KnownMachine, FitsFrameState, IsConsistent, Visits, home_of}
 use Rattle.mem_machine.specs.Lending.{LendsByStep, LendsNone}
 use Rattle.mem_machine.specs.Local.{local_of, phase_of, part_of, part_with, fresh_group, side, MakesAs}
 use Rattle.mem_machine.specs.Steps.{lend_steps}
 use Rattle.mem_machine.proofs.Reaching.{zone_step, cpu_step}
 use Rattle.mem_machine.proofs.Holds.{IsSeated, zone_may_act, visits_open, seated_cpu}
-use Rattle.mem_machine.proofs.Records.{free_at, free_is, free_inside, covers_one, free_taken, some_cpu_is, spots_changed, holds_same, units_stay, charges_stay}
+use Rattle.mem_machine.proofs.Records.{free_at, free_is, free_inside, covers_one, free_taken, some_cpu_is, frame_states_changed, holds_same, units_stay, charges_stay}
 use Rattle.mem_machine.proofs.Followed.{follows_same}
 
 -- ---- parts of the local state
@@ -67,15 +67,15 @@ lent_listed c f q none =
     ∙ ap (λ (b : Bool). cond b (phase.Head (record { group = fresh_group c; order = 0 }) (FreshAt q)) (phase.Lent q OnList)) (and_no (q == c.number))
 
 -- the phases after one frame's record changed, and no other frame's place at the CPU
-pub phases_changed : (c d : KnownCpu) (spots : List Spot) (f : ℕ) (x : Spot) (a b : Phase) → f < length spots → phase_of d f x ≡ b
-    → ((g : ℕ) (y : Spot) → (g ≡ f → ⊥) → phase_of d g y ≡ phase_of c g y) → (g : ℕ)
-    → phase_of d g (spot_at (slice_set spots f x) g) ≡ with_at (with_at (λ y. phase_of c y (spot_at spots y)) f a) f b g
-phases_changed c d spots f x a b inside here others g =
-    let h : ℕ → Phase = λ y. phase_of c y (spot_at spots y) in
+pub phases_changed : (c d : KnownCpu) (frame_states : List FrameState) (f : ℕ) (x : FrameState) (a b : Phase) → f < length frame_states → phase_of d f x ≡ b
+    → ((g : ℕ) (y : FrameState) → (g ≡ f → ⊥) → phase_of d g y ≡ phase_of c g y) → (g : ℕ)
+    → phase_of d g (frame_state_at (slice_set frame_states f x) g) ≡ with_at (with_at (λ y. phase_of c y (frame_state_at frame_states y)) f a) f b g
+phases_changed c d frame_states f x a b inside here others g =
+    let h : ℕ → Phase = λ y. phase_of c y (frame_state_at frame_states y) in
     elim (cases_eq g f) [
-      | inl e ↦ subst (λ (k : ℕ). phase_of d k (spot_at (slice_set spots f x) k) ≡ with_at (with_at h f a) f b k) (sym e)
-          (ap (phase_of d f) (get_or-set_same spots f x Free inside) ∙ here ∙ sym (at_same (with_at h f a) f b))
-      | inr ne ↦ ap (phase_of d g) (get_or-set_other spots f g x Free ne) ∙ others g (spot_at spots g) ne
+      | inl e ↦ subst (λ (k : ℕ). phase_of d k (frame_state_at (slice_set frame_states f x) k) ≡ with_at (with_at h f a) f b k) (sym e)
+          (ap (phase_of d f) (get_or-set_same frame_states f x Free inside) ∙ here ∙ sym (at_same (with_at h f a) f b))
+      | inr ne ↦ ap (phase_of d g) (get_or-set_other frame_states f g x Free ne) ∙ others g (frame_state_at frame_states g) ne
           ∙ sym (at_other (with_at h f a) f b g ne ∙ at_other h f a g ne)
     ]
 
@@ -84,23 +84,23 @@ phases_changed c d spots f x a b inside here others g =
 pub front_is : (k : ℕ) (b : Block) (blocks : List Block) → IsFrontOfSmallest blocks k b → k ≡ 0 → b ≡ record { at = b.at; order = 0 }
 front_is k b blocks taken zero_is = λ i. record { at = b.at; order = (taken.order_is ∙ zero_is) i }
 
-pub taken_free : (before after : List Bool) (spots : List Spot) (f : ℕ) → before ≡ free_of spots → TakesFrames before (record { at = f; order = 0 }) after
-    → (f < length spots) × (spot_at spots f ≡ Free)
-taken_free before after spots f was takes =
-    let is : IsFree (free_of spots) f = subst (λ (l : List Bool). IsFree l f) was (takes.were_free f (covers_one f)) in
-    let inside = free_inside spots f is in
-    (inside, free_is (spot_at spots f) (sym (free_at spots f inside) ∙ is))
+pub taken_free : (before after : List Bool) (frame_states : List FrameState) (f : ℕ) → before ≡ free_of frame_states → TakesFrames before (record { at = f; order = 0 }) after
+    → (f < length frame_states) × (frame_state_at frame_states f ≡ Free)
+taken_free before after frame_states f was takes =
+    let is : IsFree (free_of frame_states) f = subst (λ (l : List Bool). IsFree l f) was (takes.were_free f (covers_one f)) in
+    let inside = free_inside frame_states f is in
+    (inside, free_is (frame_state_at frame_states f) (sym (free_at frame_states f inside) ∙ is))
 
 module _ (t : KnownTable) (w : Words) (m : KnownMachine) (c : KnownCpu) (tied : IsTied t w c) (ok : IsConsistent t w m) (visit : Visits t (side m c))
-    (f : ℕ) (inside : f < t.frames) (free : spot_at m.spots f ≡ Free) where
+    (f : ℕ) (inside : f < t.frames) (free : frame_state_at m.frame_states f ≡ Free) where
   p : ℕ
   p = c.number
 
-  within : f < length m.spots
-  within = let s = ok.sizes.spots in omega (arith, s, inside)
+  within : f < length m.frame_states
+  within = let s = ok.sizes.frame_states in omega (arith, s, inside)
 
   pub free_in_hand : IsInOwnHand m.frame_seat f
-  free_in_hand = (ok.spots f inside).own ∙ ap (λ (x : Spot). one_if (is_in_hand x)) free
+  free_in_hand = (ok.frame_states f inside).own ∙ ap (λ (x : FrameState). one_if (is_in_hand x)) free
 
   pub lent_passes : Passes (seat_with m.frame_seat f (passed_out_to c.number)) c.frame_seat f
   lent_passes = passed_out_passes t m.frame_seat c.frame_seat c.number tied.seats.frame_number f visit.still (seat_with m.frame_seat f (passed_out_to c.number)) refl inside
@@ -119,17 +119,17 @@ module _ (t : KnownTable) (w : Words) (m : KnownMachine) (c : KnownCpu) (tied : 
   seated : IsSeated t c
   seated = record { some_number = tied.seats.some_number; cpus = tied.seats.frame_cpus }
 
-  lent_fits : FitsSpot t.cpus (passed_out_to c.number (note_of m.frame_seat.view f)) (home_of m.links f) (Lent c.number)
+  lent_fits : FitsFrameState t.cpus (passed_out_to c.number (note_of m.frame_seat.view f)) (home_of m.links f) (Lent c.number)
   lent_fits =
-      let old : FitsSpot t.cpus (note_of m.frame_seat.view f) (home_of m.links f) Free = subst (λ (x : Spot). FitsSpot t.cpus (note_of m.frame_seat.view f)
-      (home_of m.links f) x) free (ok.spots f inside) in
+      let old : FitsFrameState t.cpus (note_of m.frame_seat.view f) (home_of m.links f) Free = subst (λ (x : FrameState). FitsFrameState t.cpus (note_of m.frame_seat.view f)
+      (home_of m.links f) x) free (ok.frame_states f inside) in
       record { own = refl; lent = some_cpu_is c.number tied.seats.some_number; borrower = (tied.seats.some_number, tied.seats.frame_cpus); references = old.references; kept = homeless (home_of m.links f) old.kept }
 
-  pub lend_consistent : (blocks : List Block) → AreMaximalBlocks (free_of (slice_set m.spots f (Lent c.number))) blocks
-      → IsConsistent t w (record m { blocks = blocks; spots = slice_set m.spots f (Lent c.number); frame_seat = seat_with m.frame_seat f (passed_out_to c.number) })
+  pub lend_consistent : (blocks : List Block) → AreMaximalBlocks (free_of (slice_set m.frame_states f (Lent c.number))) blocks
+      → IsConsistent t w (record m { blocks = blocks; frame_states = slice_set m.frame_states f (Lent c.number); frame_seat = seat_with m.frame_seat f (passed_out_to c.number) })
   lend_consistent blocks areas = record {
     sizes = let s = ok.sizes in record {
-      spots = length-set m.spots f (Lent c.number) ∙ s.spots;
+      frame_states = length-set m.frame_states f (Lent c.number) ∙ s.frame_states;
       links = s.links;
       lists = s.lists;
       killed = s.killed;
@@ -137,16 +137,16 @@ module _ (t : KnownTable) (w : Words) (m : KnownMachine) (c : KnownCpu) (tied : 
     };
     seats = let s = ok.seats in record { frames = s.frames; table = s.table; stocks = s.stocks };
     areas = areas;
-    spots = spots_changed t.cpus m.frame_seat m.links m.spots f (passed_out_to c.number) (Lent c.number) t.frames within ok.spots lent_fits;
-    units = units_stay m.spots f (Lent c.number) within (ap spot_group free) refl ok.units;
+    frame_states = frame_states_changed t.cpus m.frame_seat m.links m.frame_states f (passed_out_to c.number) (Lent c.number) t.frames within ok.frame_states lent_fits;
+    units = units_stay m.frame_states f (Lent c.number) within (ap frame_state_group free) refl ok.units;
     lists = ok.lists;
     absorbed = ok.absorbed;
     bounded = ok.bounded;
-    charged = λ g. let a = ok.charged g in let b = charges_stay m.spots f (Lent c.number) within (ap spot_group free) refl g in omega (arith, a, b);
+    charged = λ g. let a = ok.charged g in let b = charges_stay m.frame_states f (Lent c.number) within (ap frame_state_group free) refl g in omega (arith, a, b);
     balances = ok.balances;
   }
 
-  pub lend_visits : (blocks : List Block) → Visits t (side (record m { blocks = blocks; spots = slice_set m.spots f (Lent c.number); frame_seat = seat_with m.frame_seat f (passed_out_to c.number) }) (record c { list = c.list ++ f ∷ []; frame_seat = seat_with c.frame_seat f took_in }))
+  pub lend_visits : (blocks : List Block) → Visits t (side (record m { blocks = blocks; frame_states = slice_set m.frame_states f (Lent c.number); frame_seat = seat_with m.frame_seat f (passed_out_to c.number) }) (record c { list = c.list ++ f ∷ []; frame_seat = seat_with c.frame_seat f took_in }))
   lend_visits blocks = record {
     is_open = visit.is_open;
     still = accepted_is_still t m.frame_seat c.frame_seat c.number tied.seats.frame_number f visit.still (seat_with m.frame_seat f (passed_out_to c.number))
@@ -161,13 +161,13 @@ module _ (t : KnownTable) (w : Words) (m : KnownMachine) (c : KnownCpu) (tied : 
   }
 
   pub lend_runs : (blocks : List Block) → in_hands (note_of c.frame_seat.view f) ≡ 0 → MakesAs t c.number (side m c) (lend_steps c.number f)
-      (side (record m { blocks = blocks; spots = slice_set m.spots f (Lent c.number); frame_seat = seat_with m.frame_seat f (passed_out_to c.number) }) (record c { list = c.list ++ f ∷ []; frame_seat = seat_with c.frame_seat f took_in }))
+      (side (record m { blocks = blocks; frame_states = slice_set m.frame_states f (Lent c.number); frame_seat = seat_with m.frame_seat f (passed_out_to c.number) }) (record c { list = c.list ++ f ∷ []; frame_seat = seat_with c.frame_seat f took_in }))
   lend_runs blocks none =
       let s = local_of t m c in
       let d : KnownCpu = record c { list = c.list ++ f ∷ []; frame_seat = seat_with c.frame_seat f took_in } in
       let out : State = after s 0 (PassOut f c.number) Done in
       let framed : is_frame s.zone f ≡ true = lt-ltb f t.frames inside in
-      let is_zone_free : phases.is_free (phase_of c f (spot_at m.spots f)) ≡ true = ap (λ (x : Spot). phases.is_free (phase_of c f x)) free in
+      let is_zone_free : phases.is_free (phase_of c f (frame_state_at m.frame_states f)) ≡ true = ap (λ (x : FrameState). phases.is_free (phase_of c f x)) free in
       let may_pass : is_legal s 0 (PassOut f c.number) ≡ true =
       and_from _ _ (and_from _ _ (and_from _ _ (zone_may_act m.frame_seat c.number) framed) (visits_open m.frame_seat c.number visit.is_open)) is_zone_free in
       let passing : phases.passes_out c.number (with_at s.phases f (phase.Lent c.number PassingOut) f) ≡ true =
@@ -175,7 +175,7 @@ module _ (t : KnownTable) (w : Words) (m : KnownMachine) (c : KnownCpu) (tied : 
       let may_take : is_legal out c.number (TakeIn f) ≡ true = and_from _ _ (and_from _ _ (seated_cpu t c seated) framed) passing in
       let borrowed = (tied.noted f).borrowed_is in
       let not_fresh : times f d.fresh ≡ 0 = omega (arith, borrowed, none) in
-      let ph = phases_changed c d m.spots f (Lent c.number) (phase.Lent c.number PassingOut) (phase.Lent c.number OnList) within
+      let ph = phases_changed c d m.frame_states f (Lent c.number) (phase.Lent c.number PassingOut) (phase.Lent c.number OnList) within
       (lent_listed d f c.number not_fresh) (λ g y ne. same_phase g y) in
       let re = references_stay m.frame_seat (seat_with m.frame_seat f (passed_out_to c.number)) c.frame_seat (seat_with c.frame_seat f took_in) c.number
       (holds_same m.frame_seat f (passed_out_to c.number) (λ k. refl)) (holds_same c.frame_seat f took_in (λ k. refl)) in
@@ -198,7 +198,7 @@ module _ (t : KnownTable) (w : Words) (m : KnownMachine) (c : KnownCpu) (tied : 
         counts = refl;
       }
     where
-      same_phase : (g : ℕ) (y : Spot) → phase_of (record c { list = c.list ++ f ∷ []; frame_seat = seat_with c.frame_seat f took_in }) g y ≡ phase_of c g y
+      same_phase : (g : ℕ) (y : FrameState) → phase_of (record c { list = c.list ++ f ∷ []; frame_seat = seat_with c.frame_seat f took_in }) g y ≡ phase_of c g y
       same_phase g Free = refl
       same_phase g (Lent q) = refl
       same_phase g (Head unit) = refl
@@ -207,29 +207,29 @@ module _ (t : KnownTable) (w : Words) (m : KnownMachine) (c : KnownCpu) (tied : 
 -- all of it, of the machine as it was seen before
 pub record AllLent (t : KnownTable) (w : Words) (now : KnownMachine) (c : KnownCpu) (n : KnownMachine) (d : KnownCpu) (free : List Bool) : Type 0 where
   pub consistent : IsConsistent t w n
-  pub free_is : free ≡ free_of n.spots
+  pub free_is : free ≡ free_of n.frame_states
   pub lends : LendsByStep t (side now c) (side n d)
   pub visit : Visits t (side n d)
 
 pub lend_all : (t : KnownTable) (w : Words) (m now : KnownMachine) → m ≡ now → (c d : KnownCpu) → IsTied t w c → IsConsistent t w m → Visits t (side now c)
     → (before free : List Bool) (k : ℕ) (b : Block) (blocks : List Block) (f i q : ℕ) (seat seat' : KnownSeat)
-    → before ≡ free_of m.spots → k ≡ 0 → IsFrontOfSmallest m.blocks k b → TakesFrames before b free → AreMaximalBlocks free blocks
+    → before ≡ free_of m.frame_states → k ≡ 0 → IsFrontOfSmallest m.blocks k b → TakesFrames before b free → AreMaximalBlocks free blocks
     → f ≡ b.at → i ≡ f → q ≡ c.number → seat ≡ seat_with m.frame_seat f (passed_out_to q) → seat' ≡ seat
     → d ≡ record c { list = c.list ++ f ∷ []; frame_seat = seat_with c.frame_seat f took_in } → in_hands (note_of c.frame_seat.view f) ≡ 0
-    → AllLent t w now c (record m { blocks = blocks; spots = slice_set m.spots i (Lent q); frame_seat = seat' }) d free
+    → AllLent t w now c (record m { blocks = blocks; frame_states = slice_set m.frame_states i (Lent q); frame_seat = seat' }) d free
 lend_all t w m now same c d tied ok visit_now before free k b blocks f i q seat seat' was zero_is taken takes areas at index number passed stays cpu none =
     let visit : Visits t (side m c) = subst (λ (x : KnownMachine). Visits t (side x c)) (sym same) visit_now in
     let block : b ≡ record { at = f; order = 0 } = λ j. record { at = sym at j; order = (taken.order_is ∙ zero_is) j } in
     let takes_f : TakesFrames before (record { at = f; order = 0 }) free = subst (λ (x : Block). TakesFrames before x free) block takes in
     let front : IsFrontOfSmallest m.blocks 0 (record { at = f; order = 0 }) = subst (λ (x : ℕ × Block). IsFrontOfSmallest m.blocks x.0 x.1) (λ j.
     (zero_is j, block j)) taken in
-    let there = taken_free before free m.spots f was takes_f in
-    let sized = ok.sizes.spots in
+    let there = taken_free before free m.frame_states f was takes_f in
+    let sized = ok.sizes.frame_states in
     let inside : f < t.frames = let h = there.0 in omega (arith, h, sized) in
-    let free_is : free ≡ free_of (slice_set m.spots f (Lent c.number)) = free_taken before free m.spots f (Lent c.number) there.0 was takes_f refl in
-    let n : KnownMachine = record m { blocks = blocks; spots = slice_set m.spots f (Lent c.number); frame_seat = seat_with m.frame_seat f (passed_out_to c.number) } in
+    let free_is : free ≡ free_of (slice_set m.frame_states f (Lent c.number)) = free_taken before free m.frame_states f (Lent c.number) there.0 was takes_f refl in
+    let n : KnownMachine = record m { blocks = blocks; frame_states = slice_set m.frame_states f (Lent c.number); frame_seat = seat_with m.frame_seat f (passed_out_to c.number) } in
     let e : KnownCpu = record c { list = c.list ++ f ∷ []; frame_seat = seat_with c.frame_seat f took_in } in
-    let areas_f : AreMaximalBlocks (free_of (slice_set m.spots f (Lent c.number))) blocks = subst (λ
+    let areas_f : AreMaximalBlocks (free_of (slice_set m.frame_states f (Lent c.number))) blocks = subst (λ
     (l : List Bool). AreMaximalBlocks l blocks) free_is areas in
     let all : AllLent t w m c n e free = record {
       consistent = lend_consistent t w m c tied ok visit f inside there.1 blocks areas_f;
@@ -246,7 +246,7 @@ lend_all t w m now same c d tied ok visit_now before free k b blocks f i q seat 
       same j,
       record m {
         blocks = blocks;
-        spots = slice_set m.spots (sym index j) (Lent (sym number j));
+        frame_states = slice_set m.frame_states (sym index j) (Lent (sym number j));
         frame_seat = sym (stays ∙ passed ∙ ap (λ (x : ℕ). seat_with m.frame_seat f (passed_out_to x)) number) j;
       },
       sym cpu j,
@@ -263,17 +263,17 @@ lent_to_none m now same c blocks k zero_is none is = record {
 }
 
 -- the block that was taken is one frame of the zone, which was free
-pub block_inside : (spots : List Spot) (blocks : List Block) (before free : List Bool) (k : ℕ) (b : Block) → before ≡ free_of spots → k ≡ 0
-    → IsFrontOfSmallest blocks k b → TakesFrames before b free → (b.at < length spots) × (spot_at spots b.at ≡ Free)
-block_inside spots blocks before free k b was zero_is taken takes =
-    taken_free before free spots b.at was (subst (λ (x : Block). TakesFrames before x free) (front_is k b blocks taken zero_is) takes)
+pub block_inside : (frame_states : List FrameState) (blocks : List Block) (before free : List Bool) (k : ℕ) (b : Block) → before ≡ free_of frame_states → k ≡ 0
+    → IsFrontOfSmallest blocks k b → TakesFrames before b free → (b.at < length frame_states) × (frame_state_at frame_states b.at ≡ Free)
+block_inside frame_states blocks before free k b was zero_is taken takes =
+    taken_free before free frame_states b.at was (subst (λ (x : Block). TakesFrames before x free) (front_is k b blocks taken zero_is) takes)
 
 -- the zone has it in its hand
-pub zone_hand : (t : KnownTable) (w : Words) (m : KnownMachine) → IsConsistent t w m → (f g : ℕ) → f < length m.spots → spot_at m.spots f ≡ Free → g ≡ f
+pub zone_hand : (t : KnownTable) (w : Words) (m : KnownMachine) → IsConsistent t w m → (f g : ℕ) → f < length m.frame_states → frame_state_at m.frame_states f ≡ Free → g ≡ f
     → IsInOwnHand m.frame_seat g
 zone_hand t w m ok f g inside free is =
-    let s = ok.sizes.spots in
-    subst (λ (x : ℕ). IsInOwnHand m.frame_seat x) (sym is) ((ok.spots f (omega (arith, s, inside))).own ∙ ap (λ (x : Spot). one_if (is_in_hand x)) free)
+    let s = ok.sizes.frame_states in
+    subst (λ (x : ℕ). IsInOwnHand m.frame_seat x) (sym is) ((ok.frame_states f (omega (arith, s, inside))).own ∙ ap (λ (x : FrameState). one_if (is_in_hand x)) free)
 
 -- and once it passed it out, it passes for the CPU and is lent to it
 pub passes_to : (t : KnownTable) (w : Words) (m now : KnownMachine) → m ≡ now → (c : KnownCpu) → IsTied t w c → Visits t (side now c) → (f q : ℕ) (seat : KnownSeat)

@@ -19,8 +19,8 @@ use Rattle.lru_lists.specs.Lists.{changed_at}
 use Rattle.lru_lists.specs.Lists.{entries_without, dirtied, marked}
 use Rattle.lru_lists.specs.declared.lru.Touched.{Touched}
 use Rattle.lru_lists.specs.declared.lru.Touched.TheVariants as touch
-use Rattle.mem_machine.specs.declared.spot.Spot.{Spot}
-use Rattle.mem_machine.specs.Machines.{FitsSpot, OthersStay, no_lists, group_lists}
+use Rattle.mem_machine.specs.declared.frame_state.FrameState.{FrameState}
+use Rattle.mem_machine.specs.Machines.{FitsFrameState, OthersStay, no_lists, group_lists}
 
 cases_none : (o : Option LruList) → (o ≡ None) ⊎ (o ≢ None)
 cases_none None = inl refl
@@ -59,12 +59,12 @@ owner_of : Option Home → Option ℕ
 owner_of home = option_map (λ h. h.owner) home
 
 -- a record fits as before if the frame is on a list of the same owner
-pub fits_home : (cpus : ℕ) (note : FrameNote) (h k : Option Home) (spot : Spot) → option_map (λ (x : Home). x.owner) k ≡ option_map (λ (x : Home). x.owner) h
-    → FitsSpot cpus note h spot → FitsSpot cpus note k spot
-fits_home cpus note None None spot same fits = fits
-fits_home cpus note None (Some k) spot same fits = absurd (none-some k.owner (sym same))
-fits_home cpus note (Some h) None spot same fits = absurd (none-some h.owner same)
-fits_home cpus note (Some h) (Some k) spot same fits = record {
+pub fits_home : (cpus : ℕ) (note : FrameNote) (h k : Option Home) (frame_state : FrameState) → option_map (λ (x : Home). x.owner) k ≡ option_map (λ (x : Home). x.owner) h
+    → FitsFrameState cpus note h frame_state → FitsFrameState cpus note k frame_state
+fits_home cpus note None None frame_state same fits = fits
+fits_home cpus note None (Some k) frame_state same fits = absurd (none-some k.owner (sym same))
+fits_home cpus note (Some h) None frame_state same fits = absurd (none-some h.owner same)
+fits_home cpus note (Some h) (Some k) frame_state same fits = record {
   own = fits.own;
   lent = fits.lent;
   borrower = fits.borrower;

@@ -11,9 +11,9 @@ use Rattle.frame_word.specs.Seats.{KnownTable, IsLent, IsBorrowed, LentIsBorrowe
 use Rattle.stock_word.specs.Stock.{Words}
 use Rattle.cpu_part.specs.Cpus.{KnownCpu, IsTied, times}
 use Rattle.step_rules.specs.State.{one_if}
-use Rattle.mem_machine.specs.declared.spot.Spot.{Spot}
-use Rattle.mem_machine.specs.declared.spot.Spot.TheVariants.{Free, Lent, Head, Tail}
-use Rattle.mem_machine.specs.Spots.{spot_at, is_free, spot_group, some_cpu, lent_to}
+use Rattle.mem_machine.specs.declared.frame_state.FrameState.{FrameState}
+use Rattle.mem_machine.specs.declared.frame_state.FrameState.TheVariants.{Free, Lent, Head, Tail}
+use Rattle.mem_machine.specs.FrameStates.{frame_state_at, is_free, frame_state_group, some_cpu, lent_to}
 use Rattle.mem_machine.specs.Machines.{KnownMachine, IsConsistent}
 use Rattle.mem_machine.specs.Places.{frames_free, frames_in_groups, NoneLentTo}
 
@@ -33,25 +33,25 @@ pub past_free : (p : ℕ) → Free ≡ Lent p → ⊥
 past_free p e = none-some p (ap lent_to e)
 
 -- a frame that is lent is one of the zone's, and the zone's seat notes whom it is lent to
-lent_noted : (t : KnownTable) (w : Words) (m : KnownMachine) → IsConsistent t w m → (f p : ℕ) → spot_at m.spots f ≡ Lent p
+lent_noted : (t : KnownTable) (w : Words) (m : KnownMachine) → IsConsistent t w m → (f p : ℕ) → frame_state_at m.frame_states f ≡ Lent p
     → (f < t.frames) × ((note_of m.frame_seat.view f).lent ≡ p) × (1 ≤ p)
 lent_noted t w m ok f p is = elim (cases_lt f t.frames) [
   | inl inside ↦
-      let noted = lent_is (note_of m.frame_seat.view f).lent p ((ok.spots f inside).lent ∙ ap lent_to is) in
+      let noted = lent_is (note_of m.frame_seat.view f).lent p ((ok.frame_states f inside).lent ∙ ap lent_to is) in
       (inside, noted.0, noted.1)
   | inr past ↦
-      let sized = ok.sizes.spots in
-      absurd (past_free p (sym (get_or_past m.spots f Free (omega (arith, past, sized))) ∙ is))
+      let sized = ok.sizes.frame_states in
+      absurd (past_free p (sym (get_or_past m.frame_states f Free (omega (arith, past, sized))) ∙ is))
 ]
 
 -- who a frame is lent to is one of the CPUs
-pub lent_to_cpu : (t : KnownTable) (w : Words) (m : KnownMachine) → IsConsistent t w m → (f p : ℕ) → spot_at m.spots f ≡ Lent p → (1 ≤ p) × (p ≤ t.cpus)
+pub lent_to_cpu : (t : KnownTable) (w : Words) (m : KnownMachine) → IsConsistent t w m → (f p : ℕ) → frame_state_at m.frame_states f ≡ Lent p → (1 ≤ p) × (p ≤ t.cpus)
 lent_to_cpu t w m ok f p is =
-    subst (λ (x : Spot). IfSome (lent_to x) (λ q. (1 ≤ q) × (q ≤ t.cpus))) is (ok.spots f (lent_noted t w m ok f p is).0).borrower
+    subst (λ (x : FrameState). IfSome (lent_to x) (λ q. (1 ≤ q) × (q ≤ t.cpus))) is (ok.frame_states f (lent_noted t w m ok f p is).0).borrower
 
 -- a CPU with no listed and no fresh frame has none that is lent to it
 pub none_lent : (t : KnownTable) (w : Words) (m : KnownMachine) (c : KnownCpu) → IsConsistent t w m → IsTied t w c → LentIsBorrowed t m.frame_seat c.frame_seat
-    → c.list ≡ [] → c.fresh ≡ [] → NoneLentTo c.number m.spots
+    → c.list ≡ [] → c.fresh ≡ [] → NoneLentTo c.number m.frame_states
 none_lent t w m c ok tied lent no_list no_fresh f is =
     let noted = lent_noted t w m ok f c.number is in
     let its : IsLent m.frame_seat f (number_of c.frame_seat) = noted.1 ∙ sym tied.seats.frame_number in
@@ -62,17 +62,17 @@ none_lent t w m c ok tied lent no_list no_fresh f is =
     omega (arith, borrowed, listed, fresh, counted)
 
 -- if no frame is lent, each is free or charged
-pub each_is_placed : (spots : List Spot) → ((f p : ℕ) → spot_at spots f ≡ Lent p → ⊥) → frames_free spots + frames_in_groups spots ≡ length spots
+pub each_is_placed : (frame_states : List FrameState) → ((f p : ℕ) → frame_state_at frame_states f ≡ Lent p → ⊥) → frames_free frame_states + frames_in_groups frame_states ≡ length frame_states
 each_is_placed [] none = refl
 each_is_placed (x ∷ xs) none =
     let rest = each_is_placed xs (λ f p is. none (suc f) p is) in
     let this = one_place x (λ p is. none 0 p is) in
-    let free : frames_free (x ∷ xs) ≡ 0 + one_if (is_free x) + frames_free xs = sum_by-append (λ (y : Spot). one_if (is_free y)) (x ∷ []) xs in
-    let charged : frames_in_groups (x ∷ xs) ≡ 0 + one_if (is_some (spot_group x)) + frames_in_groups xs =
-    sum_by-append (λ (y : Spot). one_if (is_some (spot_group y))) (x ∷ []) xs in
+    let free : frames_free (x ∷ xs) ≡ 0 + one_if (is_free x) + frames_free xs = sum_by-append (λ (y : FrameState). one_if (is_free y)) (x ∷ []) xs in
+    let charged : frames_in_groups (x ∷ xs) ≡ 0 + one_if (is_some (frame_state_group x)) + frames_in_groups xs =
+    sum_by-append (λ (y : FrameState). one_if (is_some (frame_state_group y))) (x ∷ []) xs in
     omega (arith, rest, this, free, charged)
   where
-    one_place : (x : Spot) → ((p : ℕ) → x ≡ Lent p → ⊥) → one_if (is_free x) + one_if (is_some (spot_group x)) ≡ 1
+    one_place : (x : FrameState) → ((p : ℕ) → x ≡ Lent p → ⊥) → one_if (is_free x) + one_if (is_some (frame_state_group x)) ≡ 1
     one_place Free none = refl
     one_place (Lent p) none = absurd (none p refl)
     one_place (Head unit) none = refl

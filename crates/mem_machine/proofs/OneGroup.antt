@@ -13,7 +13,7 @@ use Rattle.lru_lists.specs.declared.record.LruList.{LruList}
 use Rattle.lru_lists.specs.declared.lru.Lru.{Lru}
 use Rattle.lru_lists.specs.Lists.{OthersStand, OneOfAllChanges, StandsIn, AllStand, ChangesOwn, SameOwners, Ages, owner_of, list_of, place_of, entries_of}
 use Rattle.lru_lists.specs.Lists.{inactive_of, active_of, entries_without, entry_of, marked, first_entry, entry_after}
-use Rattle.mem_machine.specs.Spots.{spot_at}
+use Rattle.mem_machine.specs.FrameStates.{frame_state_at}
 use Rattle.mem_machine.specs.Machines.{KnownMachine, IsConsistent, OthersStay, LooseStay, home_of, lists_at, entries_in, no_lists, lists_of}
 use Rattle.mem_machine.specs.Ageing.{AgesGroup, RenewsUnit}
 use Rattle.mem_machine.specs.Local.{MakesForAny}
@@ -99,7 +99,7 @@ module _ (t : KnownTable) (w : Words) (m : KnownMachine) (ok : IsConsistent t w 
   group_changed = record {
     consistent = record {
       sizes = let s = ok.sizes in record {
-        spots = s.spots;
+        frame_states = s.frame_states;
         links = changes.frames ∙ s.links;
         lists = length-set m.lists g new ∙ s.lists;
         killed = s.killed;
@@ -107,7 +107,7 @@ module _ (t : KnownTable) (w : Words) (m : KnownMachine) (ok : IsConsistent t w 
       };
       seats = ok.seats;
       areas = ok.areas;
-      spots = λ f within. fits_home t.cpus (note_of m.frame_seat.view f) (home_of m.links f) (home_of links f) (spot_at m.spots f) (mapped f) (ok.spots f within);
+      frame_states = λ f within. fits_home t.cpus (note_of m.frame_seat.view f) (home_of m.links f) (home_of links f) (frame_state_at m.frame_states f) (mapped f) (ok.frame_states f within);
       units = ok.units;
       lists = all_stand;
       absorbed = ok.absorbed;

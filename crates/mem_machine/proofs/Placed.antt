@@ -21,11 +21,11 @@ use Rattle.step_rules.specs.Usage.{usage_of}
 use Rattle.step_rules.specs.After.{after, is_within, placed_phase}
 use Rattle.step_rules.specs.Legal.{is_legal}
 use Rattle.step_rules.proofs.Basics.{at_same, at_other}
-use Rattle.mem_machine.specs.declared.spot.Spot.TheVariants.{Head, Tail}
-use Rattle.mem_machine.specs.Spots.{spot_at}
+use Rattle.mem_machine.specs.declared.frame_state.FrameState.TheVariants.{Head, Tail}
+use Rattle.mem_machine.specs.FrameStates.{frame_state_at}
 use Rattle.mem_machine.specs.Machines.{KnownMachine, is_killed}
 use Rattle.mem_machine.specs.Local.{hold_of, references_of, phase_of, part_of, local_of, MakesAs, side}
-use Rattle.mem_machine.specs.Blocks.{placed_spot, taken_steps}
+use Rattle.mem_machine.specs.Blocks.{placed_frame_state, taken_steps}
 use Rattle.mem_machine.proofs.Reaching.{zone_step}
 use Rattle.mem_machine.proofs.Holds.{zone_may_act}
 use Rattle.mem_machine.proofs.Grants.{with_granted, is_granted, pending_is, none_pends}
@@ -34,7 +34,7 @@ use Rattle.mem_machine.specs.Steps.{zone_makes}
 
 -- the second machine has the block, with one reference of the zone on its head, and all else that is seen is the same
 pub record IsPlaced (m : KnownMachine) (c : KnownCpu) (g : ℕ) (b : Block) (n : KnownMachine) : Type 0 where
-  pub spots : (f : ℕ) → spot_at n.spots f ≡ placed_spot m.spots g b f
+  pub frame_states : (f : ℕ) → frame_state_at n.frame_states f ≡ placed_frame_state m.frame_states g b f
   pub references : (f : ℕ) → holds n.frame_seat f ≡ with_at (holds m.frame_seat) b.at (holds m.frame_seat b.at + 1) f
   pub hold : hold_of n.frame_seat c.number ≡ hold_of m.frame_seat c.number
   pub groups : n.ledger.groups ≡ m.ledger.groups
@@ -95,25 +95,25 @@ module _ (t : KnownTable) (m : KnownMachine) (c : KnownCpu) (g : ℕ) (b : Block
       (le-leb 1 (kept.references 0 b.at) (let e = head_held in omega arith))
 
   module _ (n : KnownMachine) (is : IsPlaced m c g b n) where
-    head_phase : phase_of c b.at (spot_at n.spots b.at) ≡ phase.Head unit Live
+    head_phase : phase_of c b.at (frame_state_at n.frame_states b.at) ≡ phase.Head unit Live
     head_phase =
-        ap (phase_of c b.at) (is.spots b.at
-        ∙ ap (λ (x : Bool). cond x (cond (b.at == b.at) (Head unit) (Tail g)) (spot_at m.spots b.at)) head_within
+        ap (phase_of c b.at) (is.frame_states b.at
+        ∙ ap (λ (x : Bool). cond x (cond (b.at == b.at) (Head unit) (Tail g)) (frame_state_at m.frame_states b.at)) head_within
         ∙ ap (λ (x : Bool). cond x (Head unit) (Tail g)) (eq-eqb b.at b.at refl))
         ∙ ap (λ (k : ℕ). cond (nat_le 1 k) (phase.Head unit (BackAt c.number)) (phase.Head unit Live)) not_back
 
     -- any other frame: a tail if it is in the block, else unchanged
     other_phase : (f : ℕ) (x y : Bool) → y ≡ false
-        → cond x (cond y (phase.Head unit Bare) (phase.Tail g)) (s.phases f) ≡ phase_of c f (cond x (cond y (Head unit) (Tail g)) (spot_at m.spots f))
+        → cond x (cond y (phase.Head unit Bare) (phase.Tail g)) (s.phases f) ≡ phase_of c f (cond x (cond y (Head unit) (Tail g)) (frame_state_at m.frame_states f))
     other_phase f true y e =
         ap (λ (z : Bool). cond z (phase.Head unit Bare) (phase.Tail g)) e ∙ sym (ap (λ (z : Bool). phase_of c f (cond z (Head unit) (Tail g))) e)
     other_phase f false y e = refl
 
-    phases_are : (f : ℕ) → phase_of c f (spot_at n.spots f) ≡ kept.phases f
+    phases_are : (f : ℕ) → phase_of c f (frame_state_at n.frame_states f) ≡ kept.phases f
     phases_are f = elim (cases_eq f b.at) [
-      | inl e ↦ ap (λ (h : ℕ). phase_of c h (spot_at n.spots h)) e ∙ head_phase ∙ sym head_live ∙ sym (ap kept.phases e)
+      | inl e ↦ ap (λ (h : ℕ). phase_of c h (frame_state_at n.frame_states h)) e ∙ head_phase ∙ sym head_live ∙ sym (ap kept.phases e)
       | inr ne ↦
-          ap (phase_of c f) (is.spots f) ∙ sym (other_phase f (is_within b.at (2 ^ b.order) f) (f == b.at) (ne_eqb f b.at ne))
+          ap (phase_of c f) (is.frame_states f) ∙ sym (other_phase f (is_within b.at (2 ^ b.order) f) (f == b.at) (ne_eqb f b.at ne))
           ∙ sym (at_other placed.phases b.at (at_stage Live (placed.phases b.at)) f ne)
     ]
 

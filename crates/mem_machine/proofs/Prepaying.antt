@@ -29,9 +29,9 @@ use Rattle.step_rules.specs.After.{filled, with_pending}
 use Rattle.step_rules.specs.Usage as local
 use Rattle.step_rules.proofs.Basics.{at_same, at_other, at_each}
 use Rattle.step_rules.proofs.Sums.{sum_change}
-use Rattle.mem_machine.specs.declared.spot.Spot.{Spot}
-use Rattle.mem_machine.specs.declared.spot.Spot.TheVariants.{Free, Lent, Head, Tail}
-use Rattle.mem_machine.specs.Spots.{spot_at, count_of}
+use Rattle.mem_machine.specs.declared.frame_state.FrameState.{FrameState}
+use Rattle.mem_machine.specs.declared.frame_state.FrameState.TheVariants.{Free, Lent, Head, Tail}
+use Rattle.mem_machine.specs.FrameStates.{frame_state_at, count_of}
 use Rattle.mem_machine.specs.Machines.{KnownMachine, IsConsistent, Visits, is_killed, booked, pages_booked}
 use Rattle.mem_machine.specs.Local.{local_of, phase_of, part_of, part_with, Makes, side, MakesAs}
 use Rattle.mem_machine.specs.Steps.{drain_steps, fill_steps, over_steps, zone_makes}
@@ -152,7 +152,7 @@ module _ (stock : Seated) (c : KnownCpu) (g n : ℕ) (none : length c.fresh ≡ 
   parts_filled = λ i. λ p. part_filled_at p i
 
 -- without fresh frames no phase depends on the stock's group
-phase_stays : (c : KnownCpu) (s : Seated) (f : ℕ) (x : Spot) → times f c.fresh ≡ 0 → phase_of (record c { stock_seat = s }) f x ≡ phase_of c f x
+phase_stays : (c : KnownCpu) (s : Seated) (f : ℕ) (x : FrameState) → times f c.fresh ≡ 0 → phase_of (record c { stock_seat = s }) f x ≡ phase_of c f x
 phase_stays c s f Free none = refl
 phase_stays c s f (Lent q) none = lent_listed (record c { stock_seat = s }) f q none ∙ sym (lent_listed c f q none)
 phase_stays c s f (Head unit) none = refl
@@ -186,8 +186,8 @@ fill_runs t w m c g k ok facts tied visit none there alive empty has =
     = le-leb k (with_at nothing g (0 + k) g) (let a = at_same nothing g (0 + k) in omega (arith, a)) in
     let legal = and_from _ _ (and_from _ _ (and_from _ _ (and_from _ _ acts (visits_open m.frame_seat p visit.is_open)) there) may) enough in
     let d : KnownCpu = record c { stock_seat = with_view c.stock_seat (after_fill c.stock_seat.view g k) } in
-    let phases : (λ (f : ℕ). phase_of d f (spot_at m.spots f)) ≡ (λ f. phase_of c f (spot_at m.spots f))
-    = λ i. λ f. phase_stays c (with_view c.stock_seat (after_fill c.stock_seat.view g k)) f (spot_at m.spots f) (ap (times f) none) i in
+    let phases : (λ (f : ℕ). phase_of d f (frame_state_at m.frame_states f)) ≡ (λ f. phase_of c f (frame_state_at m.frame_states f))
+    = λ i. λ f. phase_stays c (with_view c.stock_seat (after_fill c.stock_seat.view g k)) f (frame_state_at m.frame_states f) (ap (times f) none) i in
     let parts = parts_filled m.stock_seat c g k len noted empty in
     let back = pending_back g (0 + k) k (omega arith) in
     record {

@@ -17,29 +17,29 @@ use Rattle.step_rules.specs.declared.phase.ChargedUnit.{ChargedUnit}
 use Rattle.step_rules.specs.State.{sum_to, one_if}
 use Rattle.step_rules.proofs.Sums.{sum_same}
 use Rattle.lru_lists.specs.declared.record.Link.{Link}
-use Rattle.mem_machine.specs.declared.spot.Spot.{Spot}
-use Rattle.mem_machine.specs.declared.spot.Spot.TheVariants.{Free, Lent, Head, Tail}
-use Rattle.mem_machine.specs.Spots.{spot_at, is_free, free_of, spot_group, count_of, is_in_hand, some_cpu, lent_to, AreUnits}
-use Rattle.mem_machine.specs.Machines.{FitsSpot, home_of, frames_charged}
+use Rattle.mem_machine.specs.declared.frame_state.FrameState.{FrameState}
+use Rattle.mem_machine.specs.declared.frame_state.FrameState.TheVariants.{Free, Lent, Head, Tail}
+use Rattle.mem_machine.specs.FrameStates.{frame_state_at, is_free, free_of, frame_state_group, count_of, is_in_hand, some_cpu, lent_to, AreUnits}
+use Rattle.mem_machine.specs.Machines.{FitsFrameState, home_of, frames_charged}
 
 -- ---- which frames are free
 
-pub length_free : (spots : List Spot) → length (free_of spots) ≡ length spots
+pub length_free : (frame_states : List FrameState) → length (free_of frame_states) ≡ length frame_states
 length_free [] = refl
 length_free (x ∷ xs) = let e = length_free xs in omega (arith, e)
 
-pub free_at : (spots : List Spot) (f : ℕ) → f < length spots → get_or (free_of spots) f false ≡ is_free (spot_at spots f)
+pub free_at : (frame_states : List FrameState) (f : ℕ) → f < length frame_states → get_or (free_of frame_states) f false ≡ is_free (frame_state_at frame_states f)
 free_at [] f inside = absurd (omega arith)
 free_at (x ∷ xs) zero inside = refl
 free_at (x ∷ xs) (suc f) inside = free_at xs f (omega arith)
 
 -- a free frame has the record of one
-pub free_is : (x : Spot) → is_free x ≡ true → x ≡ Free
+pub free_is : (x : FrameState) → is_free x ≡ true → x ≡ Free
 free_is Free e = refl
 free_is x e = absurd (false≢true e)
 
 -- a frame that is in the free areas is one of the records
-pub free_inside : (spots : List Spot) (f : ℕ) → IsFree (free_of spots) f → f < length spots
+pub free_inside : (frame_states : List FrameState) (f : ℕ) → IsFree (free_of frame_states) f → f < length frame_states
 free_inside [] f is = absurd (false≢true is)
 free_inside (x ∷ xs) zero is = omega arith
 free_inside (x ∷ xs) (suc f) is = let h = free_inside xs f is in omega (arith, h)
@@ -52,41 +52,41 @@ pub one_covered : (f g : ℕ) → Covers (record { at = f; order = 0 }) g → g 
 one_covered f g h = let a = h.from in let b : g < f + 1 = h.before in omega (arith, a, b)
 
 -- the free frames of two sets that differ at one frame
-pub free_set : (before after : List Bool) (spots : List Spot) (f : ℕ) (x : Spot) → f < length spots → before ≡ free_of spots → length after ≡ length before
+pub free_set : (before after : List Bool) (frame_states : List FrameState) (f : ℕ) (x : FrameState) → f < length frame_states → before ≡ free_of frame_states → length after ≡ length before
     → (IsFree after f → is_free x ≡ true) → (is_free x ≡ true → IsFree after f)
     → ((g : ℕ) → (g ≡ f → ⊥) → (IsFree after g → IsFree before g) × (IsFree before g → IsFree after g))
-    → after ≡ free_of (slice_set spots f x)
-free_set before after spots f x inside was same to from others =
-    let sized : length after ≡ length (free_of (slice_set spots f x)) =
-    same ∙ ap length was ∙ length_free spots ∙ sym (length-set spots f x) ∙ sym (length_free (slice_set spots f x)) in
-    ext_get_or false after (free_of (slice_set spots f x)) sized (λ g within.
-    let room : g < length (slice_set spots f x) = subst (λ (n : ℕ). g < n) (sized ∙ length_free (slice_set spots f x)) within in
-    let now = free_at (slice_set spots f x) g room in
+    → after ≡ free_of (slice_set frame_states f x)
+free_set before after frame_states f x inside was same to from others =
+    let sized : length after ≡ length (free_of (slice_set frame_states f x)) =
+    same ∙ ap length was ∙ length_free frame_states ∙ sym (length-set frame_states f x) ∙ sym (length_free (slice_set frame_states f x)) in
+    ext_get_or false after (free_of (slice_set frame_states f x)) sized (λ g within.
+    let room : g < length (slice_set frame_states f x) = subst (λ (n : ℕ). g < n) (sized ∙ length_free (slice_set frame_states f x)) within in
+    let now = free_at (slice_set frame_states f x) g room in
     elim (cases_eq g f) [
       | inl e ↦
-          let here : is_free (spot_at (slice_set spots f x) g) ≡ is_free x =
-          ap (λ (h : ℕ). is_free (spot_at (slice_set spots f x) h)) e ∙ ap is_free (get_or-set_same spots f x Free inside) in
+          let here : is_free (frame_state_at (slice_set frame_states f x) g) ≡ is_free x =
+          ap (λ (h : ℕ). is_free (frame_state_at (slice_set frame_states f x) h)) e ∙ ap is_free (get_or-set_same frame_states f x Free inside) in
           both_ways _ _ (λ a. now ∙ here ∙ to (subst (λ (h : ℕ). IsFree after h) e a))
           (λ b. subst (λ (h : ℕ). IsFree after h) (sym e) (from (sym here ∙ sym now ∙ b)))
       | inr ne ↦
-          let there : g < length spots = subst (λ (n : ℕ). g < n) (length-set spots f x) room in
-          let old : get_or before g false ≡ is_free (spot_at spots g) = ap (λ (l : List Bool). get_or l g false) was ∙ free_at spots g there in
-          let else_ : is_free (spot_at (slice_set spots f x) g) ≡ is_free (spot_at spots g) = ap is_free (get_or-set_other spots f g x Free ne) in
+          let there : g < length frame_states = subst (λ (n : ℕ). g < n) (length-set frame_states f x) room in
+          let old : get_or before g false ≡ is_free (frame_state_at frame_states g) = ap (λ (l : List Bool). get_or l g false) was ∙ free_at frame_states g there in
+          let else_ : is_free (frame_state_at (slice_set frame_states f x) g) ≡ is_free (frame_state_at frame_states g) = ap is_free (get_or-set_other frame_states f g x Free ne) in
           both_ways _ _ (λ a. now ∙ else_ ∙ sym old ∙ (others g ne).0 a) (λ b. (others g ne).1 (old ∙ sym else_ ∙ sym now ∙ b))
     ])
 
 -- after a frame was taken
-pub free_taken : (before after : List Bool) (spots : List Spot) (f : ℕ) (x : Spot) → f < length spots → before ≡ free_of spots
-    → TakesFrames before (record { at = f; order = 0 }) after → is_free x ≡ false → after ≡ free_of (slice_set spots f x)
-free_taken before after spots f x inside was takes used =
-    free_set before after spots f x inside was takes.same_length (λ a. absurd (takes.in_use f (covers_one f) a)) (λ a. absurd (false≢true (sym used ∙ a)))
+pub free_taken : (before after : List Bool) (frame_states : List FrameState) (f : ℕ) (x : FrameState) → f < length frame_states → before ≡ free_of frame_states
+    → TakesFrames before (record { at = f; order = 0 }) after → is_free x ≡ false → after ≡ free_of (slice_set frame_states f x)
+free_taken before after frame_states f x inside was takes used =
+    free_set before after frame_states f x inside was takes.same_length (λ a. absurd (takes.in_use f (covers_one f) a)) (λ a. absurd (false≢true (sym used ∙ a)))
     (λ g ne. let o = takes.others g (λ h. ne (one_covered f g h)) in (o.0, o.1))
 
 -- after a frame was freed
-pub free_given : (before after : List Bool) (spots : List Spot) (f : ℕ) (x : Spot) → f < length spots → before ≡ free_of spots
-    → TakesFrames after (record { at = f; order = 0 }) before → is_free x ≡ true → after ≡ free_of (slice_set spots f x)
-free_given before after spots f x inside was gives free =
-    free_set before after spots f x inside was (sym gives.same_length) (λ a. free) (λ a. gives.were_free f (covers_one f))
+pub free_given : (before after : List Bool) (frame_states : List FrameState) (f : ℕ) (x : FrameState) → f < length frame_states → before ≡ free_of frame_states
+    → TakesFrames after (record { at = f; order = 0 }) before → is_free x ≡ true → after ≡ free_of (slice_set frame_states f x)
+free_given before after frame_states f x inside was gives free =
+    free_set before after frame_states f x inside was (sym gives.same_length) (λ a. free) (λ a. gives.were_free f (covers_one f))
     (λ g ne. let o = gives.others g (λ h. ne (one_covered f g h)) in (o.1, o.0))
 
 -- ---- what the zone's seat notes
@@ -104,30 +104,30 @@ lent_number None = 0
 lent_number (Some p) = p
 
 -- a frame that is lent to a CPU has the record of one
-pub lent_spot : (x : Spot) (p : ℕ) → 1 ≤ p → some_cpu p ≡ lent_to x → x ≡ Lent p
-lent_spot Free p some is = absurd (none-some p (sym is ∙ some_cpu_is p some))
-lent_spot (Lent q) p some is = ap Lent (ap lent_number (sym is ∙ some_cpu_is p some))
-lent_spot (Head unit) p some is = absurd (none-some p (sym is ∙ some_cpu_is p some))
-lent_spot (Tail g) p some is = absurd (none-some p (sym is ∙ some_cpu_is p some))
+pub lent_frame_state : (x : FrameState) (p : ℕ) → 1 ≤ p → some_cpu p ≡ lent_to x → x ≡ Lent p
+lent_frame_state Free p some is = absurd (none-some p (sym is ∙ some_cpu_is p some))
+lent_frame_state (Lent q) p some is = ap Lent (ap lent_number (sym is ∙ some_cpu_is p some))
+lent_frame_state (Head unit) p some is = absurd (none-some p (sym is ∙ some_cpu_is p some))
+lent_frame_state (Tail g) p some is = absurd (none-some p (sym is ∙ some_cpu_is p some))
 
 -- a frame that is lent to none, and isn't in the zone's hand, heads a unit
-pub heads_one : (x : Spot) → some_cpu 0 ≡ lent_to x → 0 ≡ one_if (is_in_hand x) → (unit : ChargedUnit) × (x ≡ Head unit)
+pub heads_one : (x : FrameState) → some_cpu 0 ≡ lent_to x → 0 ≡ one_if (is_in_hand x) → (unit : ChargedUnit) × (x ≡ Head unit)
 heads_one Free is hand = absurd (omega (arith, hand))
 heads_one (Lent q) is hand = absurd (none-some q is)
 heads_one (Head unit) is hand = (unit, refl)
 heads_one (Tail g) is hand = absurd (omega (arith, hand))
 
-pub spots_changed : (cpus : ℕ) (seat : KnownSeat) (links : List Link) (spots : List Spot) (f : ℕ) (change : FrameNote → FrameNote) (x : Spot) (frames : ℕ)
-    → f < length spots
-    → ((g : ℕ) → g < frames → FitsSpot cpus (note_of seat.view g) (home_of links g) (spot_at spots g))
-    → FitsSpot cpus (change (note_of seat.view f)) (home_of links f) x
-    → (g : ℕ) → g < frames → FitsSpot cpus (note_of (seat_with seat f change).view g) (home_of links g) (spot_at (slice_set spots f x) g)
-spots_changed cpus seat links spots f change x frames inside fits here g within = elim (cases_eq g f) [
-  | inl e ↦ subst (λ (h : ℕ). FitsSpot cpus (note_of (seat_with seat f change).view h) (home_of links h) (spot_at (slice_set spots f x) h)) (sym e)
-      (subst (λ (z : FrameNote × Spot). FitsSpot cpus z.0 (home_of links f) z.1)
-      (λ i. (sym (note_here seat.view f change) i, sym (get_or-set_same spots f x Free inside) i)) here)
-  | inr ne ↦ subst (λ (z : FrameNote × Spot). FitsSpot cpus z.0 (home_of links g) z.1)
-      (λ i. (sym (note_else seat.view f g change ne) i, sym (get_or-set_other spots f g x Free ne) i)) (fits g within)
+pub frame_states_changed : (cpus : ℕ) (seat : KnownSeat) (links : List Link) (frame_states : List FrameState) (f : ℕ) (change : FrameNote → FrameNote) (x : FrameState) (frames : ℕ)
+    → f < length frame_states
+    → ((g : ℕ) → g < frames → FitsFrameState cpus (note_of seat.view g) (home_of links g) (frame_state_at frame_states g))
+    → FitsFrameState cpus (change (note_of seat.view f)) (home_of links f) x
+    → (g : ℕ) → g < frames → FitsFrameState cpus (note_of (seat_with seat f change).view g) (home_of links g) (frame_state_at (slice_set frame_states f x) g)
+frame_states_changed cpus seat links frame_states f change x frames inside fits here g within = elim (cases_eq g f) [
+  | inl e ↦ subst (λ (h : ℕ). FitsFrameState cpus (note_of (seat_with seat f change).view h) (home_of links h) (frame_state_at (slice_set frame_states f x) h)) (sym e)
+      (subst (λ (z : FrameNote × FrameState). FitsFrameState cpus z.0 (home_of links f) z.1)
+      (λ i. (sym (note_here seat.view f change) i, sym (get_or-set_same frame_states f x Free inside) i)) here)
+  | inr ne ↦ subst (λ (z : FrameNote × FrameState). FitsFrameState cpus z.0 (home_of links g) z.1)
+      (λ i. (sym (note_else seat.view f g change ne) i, sym (get_or-set_other frame_states f g x Free ne) i)) (fits g within)
 ]
 
 pub holds_same : (s : KnownSeat) (f : ℕ) (change : FrameNote → FrameNote) → ((k : FrameNote) → (change k).references ≡ k.references)
@@ -140,48 +140,48 @@ holds_same s f change same g = elim (cases_eq g f) [
 
 -- ---- units and charges, if the frame is charged neither before nor after
 
-module _ (spots : List Spot) (f : ℕ) (x : Spot) (inside : f < length spots) (was : spot_group (spot_at spots f) ≡ None) (now : spot_group x ≡ None) where
+module _ (frame_states : List FrameState) (f : ℕ) (x : FrameState) (inside : f < length frame_states) (was : frame_state_group (frame_state_at frame_states f) ≡ None) (now : frame_state_group x ≡ None) where
   -- another frame's record stays, and one that is charged is another's
-  charged_else : (g h : ℕ) → spot_group (spot_at (slice_set spots f x) g) ≡ Some h → spot_at (slice_set spots f x) g ≡ spot_at spots g
+  charged_else : (g h : ℕ) → frame_state_group (frame_state_at (slice_set frame_states f x) g) ≡ Some h → frame_state_at (slice_set frame_states f x) g ≡ frame_state_at frame_states g
   charged_else g h is = elim (cases_eq g f) [
-    | inl e ↦ absurd (none-some h (sym now ∙ sym (ap spot_group (get_or-set_same spots f x Free inside))
-        ∙ ap (λ (k : ℕ). spot_group (spot_at (slice_set spots f x) k)) (sym e) ∙ is))
-    | inr ne ↦ get_or-set_other spots f g x Free ne
+    | inl e ↦ absurd (none-some h (sym now ∙ sym (ap frame_state_group (get_or-set_same frame_states f x Free inside))
+        ∙ ap (λ (k : ℕ). frame_state_group (frame_state_at (slice_set frame_states f x) k)) (sym e) ∙ is))
+    | inr ne ↦ get_or-set_other frame_states f g x Free ne
   ]
 
   -- a frame that was charged keeps its record
-  charged_stays : (g h : ℕ) → spot_group (spot_at spots g) ≡ Some h → spot_at (slice_set spots f x) g ≡ spot_at spots g
+  charged_stays : (g h : ℕ) → frame_state_group (frame_state_at frame_states g) ≡ Some h → frame_state_at (slice_set frame_states f x) g ≡ frame_state_at frame_states g
   charged_stays g h is = elim (cases_eq g f) [
-    | inl e ↦ absurd (none-some h (sym was ∙ ap (λ (k : ℕ). spot_group (spot_at spots k)) (sym e) ∙ is))
-    | inr ne ↦ get_or-set_other spots f g x Free ne
+    | inl e ↦ absurd (none-some h (sym was ∙ ap (λ (k : ℕ). frame_state_group (frame_state_at frame_states k)) (sym e) ∙ is))
+    | inr ne ↦ get_or-set_other frame_states f g x Free ne
   ]
 
-  pub units_stay : AreUnits spots → AreUnits (slice_set spots f x)
+  pub units_stay : AreUnits frame_states → AreUnits (slice_set frame_states f x)
   units_stay units = record {
     heads = λ g unit is.
-        let old = units.heads g unit (sym (charged_else g unit.group (ap spot_group is)) ∙ is) in
+        let old = units.heads g unit (sym (charged_else g unit.group (ap frame_state_group is)) ∙ is) in
         record {
-          block = subst (λ (n : ℕ). IsBlock n (record { at = g; order = unit.order })) (sym (length-set spots f x)) old.block;
-          tails = λ y from before. charged_stays y unit.group (ap spot_group (old.tails y from before)) ∙ old.tails y from before;
+          block = subst (λ (n : ℕ). IsBlock n (record { at = g; order = unit.order })) (sym (length-set frame_states f x)) old.block;
+          tails = λ y from before. charged_stays y unit.group (ap frame_state_group (old.tails y from before)) ∙ old.tails y from before;
         };
     tails = λ y g is.
-        let old = units.tails y g (sym (charged_else y g (ap spot_group is)) ∙ is) in
+        let old = units.tails y g (sym (charged_else y g (ap frame_state_group is)) ∙ is) in
         record {
           head = old.head;
           unit = old.unit;
-          heads = charged_stays old.head old.unit.group (ap spot_group old.heads) ∙ old.heads;
+          heads = charged_stays old.head old.unit.group (ap frame_state_group old.heads) ∙ old.heads;
           group = old.group;
           from = old.from;
           before = old.before;
         };
   }
 
-  pub charges_stay : (g : ℕ) → frames_charged (slice_set spots f x) g ≡ frames_charged spots g
+  pub charges_stay : (g : ℕ) → frames_charged (slice_set frame_states f x) g ≡ frames_charged frame_states g
   charges_stay g =
-      ap (λ (n : ℕ). sum_to n (λ y. count_of g (spot_group (spot_at (slice_set spots f x) y)))) (length-set spots f x)
-      ∙ sum_same (length spots) (λ y. count_of g (spot_group (spot_at (slice_set spots f x) y))) (λ y. count_of g (spot_group (spot_at spots y)))
+      ap (λ (n : ℕ). sum_to n (λ y. count_of g (frame_state_group (frame_state_at (slice_set frame_states f x) y)))) (length-set frame_states f x)
+      ∙ sum_same (length frame_states) (λ y. count_of g (frame_state_group (frame_state_at (slice_set frame_states f x) y))) (λ y. count_of g (frame_state_group (frame_state_at frame_states y)))
       (λ y within. elim (cases_eq y f) [
-        | inl e ↦ ap (count_of g) (ap (λ (k : ℕ). spot_group (spot_at (slice_set spots f x) k)) e ∙ ap spot_group (get_or-set_same spots f x Free inside) ∙ now
-            ∙ sym was ∙ ap (λ (k : ℕ). spot_group (spot_at spots k)) (sym e))
-        | inr ne ↦ ap (λ (z : Spot). count_of g (spot_group z)) (get_or-set_other spots f y x Free ne)
+        | inl e ↦ ap (count_of g) (ap (λ (k : ℕ). frame_state_group (frame_state_at (slice_set frame_states f x) k)) e ∙ ap frame_state_group (get_or-set_same frame_states f x Free inside) ∙ now
+            ∙ sym was ∙ ap (λ (k : ℕ). frame_state_group (frame_state_at frame_states k)) (sym e))
+        | inr ne ↦ ap (λ (z : FrameState). count_of g (frame_state_group z)) (get_or-set_other frame_states f y x Free ne)
       ])

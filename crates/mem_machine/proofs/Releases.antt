@@ -35,10 +35,10 @@ use Rattle.step_rules.specs.After.{Run, after, is_within, without_unit, unit_siz
 use Rattle.step_rules.specs.Laws.{IsLocalStep}
 use Rattle.step_rules.proofs.Basics.{at_same, at_other}
 use Rattle.step_rules.proofs.Placing.{within_cases}
-use Rattle.mem_machine.specs.declared.spot.Spot.{Spot}
-use Rattle.mem_machine.specs.declared.spot.Spot.TheVariants.{Free, Head}
-use Rattle.mem_machine.specs.Spots.{spot_at, free_of, head_group_of, lent_to, some_cpu}
-use Rattle.mem_machine.specs.Machines.{KnownMachine, FitsSpot, IsConsistent, Visits, BalancesCounts, home_of, is_killed, group_lists, lists_of}
+use Rattle.mem_machine.specs.declared.frame_state.FrameState.{FrameState}
+use Rattle.mem_machine.specs.declared.frame_state.FrameState.TheVariants.{Free, Head}
+use Rattle.mem_machine.specs.FrameStates.{frame_state_at, free_of, head_group_of, lent_to, some_cpu}
+use Rattle.mem_machine.specs.Machines.{KnownMachine, FitsFrameState, IsConsistent, Visits, BalancesCounts, home_of, is_killed, group_lists, lists_of}
 use Rattle.mem_machine.specs.Local.{IsLocalRun, MakesForAny, local_of, phase_of, references_of, side, MakesAs}
 use Rattle.mem_machine.specs.Counts.{with_last_put}
 use Rattle.mem_machine.specs.Counting.{counts_after, with_one_put_last, with_one_returned}
@@ -122,12 +122,12 @@ may_put_one t m f inside held c =
 -- ---- the unit
 
 -- the record of a head names its unit
-head_unit : (x : Spot) (g : ℕ) → head_group_of x ≡ Some g → (unit : ChargedUnit) × (x ≡ Head unit)
+head_unit : (x : FrameState) (g : ℕ) → head_group_of x ≡ Some g → (unit : ChargedUnit) × (x ≡ Head unit)
 head_unit (Head unit) g is = (unit, refl)
 head_unit x g is = absurd (none-some g is)
 
 -- the owner's number of a home that is there
-kept_group : (home : Option Home) (x : Spot) → IfSome home (λ h. (h.owner < 64) × (head_group_of x ≡ Some h.owner)) → home ≢ None
+kept_group : (home : Option Home) (x : FrameState) → IfSome home (λ h. (h.owner < 64) × (head_group_of x ≡ Some h.owner)) → home ≢ None
     → (unit : ChargedUnit) × (x ≡ Head unit)
 kept_group None x kept some = absurd (some refl)
 kept_group (Some h) x kept some = head_unit x h.owner kept.1
@@ -138,27 +138,27 @@ kept_once None n is some = absurd (some refl)
 kept_once (Some h) n is some = is
 
 -- its owner is a group number
-kept_owner : (home : Option Home) (x : Spot) → IfSome home (λ h. (h.owner < 64) × (head_group_of x ≡ Some h.owner)) → IfSome home (λ h. h.owner < 64)
+kept_owner : (home : Option Home) (x : FrameState) → IfSome home (λ h. (h.owner < 64) × (head_group_of x ≡ Some h.owner)) → IfSome home (λ h. h.owner < 64)
 kept_owner None x kept = tt
 kept_owner (Some h) x kept = kept.0
 
 module _ (t : KnownTable) (w : Words) (m : KnownMachine) (ok : IsConsistent t w m) (f : ℕ) (inside : f < t.frames) (kept : home_of m.links f ≢ None) where
   pub owner_is : IfSome (home_of m.links f) (λ h. h.owner < 64)
-  owner_is = kept_owner (home_of m.links f) (spot_at m.spots f) (ok.spots f inside).kept
+  owner_is = kept_owner (home_of m.links f) (frame_state_at m.frame_states f) (ok.frame_states f inside).kept
 
   -- a kept unit has a head, and one reference of the zone
-  pub kept_head : (unit : ChargedUnit) × (spot_at m.spots f ≡ Head unit)
-  kept_head = kept_group (home_of m.links f) (spot_at m.spots f) (ok.spots f inside).kept kept
+  pub kept_head : (unit : ChargedUnit) × (frame_state_at m.frame_states f ≡ Head unit)
+  kept_head = kept_group (home_of m.links f) (frame_state_at m.frame_states f) (ok.frame_states f inside).kept kept
 
   pub held_once : holds m.frame_seat f ≡ 1
-  held_once = kept_once (home_of m.links f) (holds m.frame_seat f) (ok.spots f inside).references kept
+  held_once = kept_once (home_of m.links f) (holds m.frame_seat f) (ok.frame_states f inside).references kept
 
   module _ (links : List Link) (lists : List Lru) (leaves : LeavesList f (lists_of m) (group_lists links lists)) (stand : AllStand links lists)
       (linked : length links ≡ t.frames) (listed : length lists ≡ 64) where
     homeless : home_of links f ≡ None
     homeless = ap (λ (k : Link). k.home) leaves.forgotten
 
-    no_home : (x : Spot) → IfSome (home_of links f) (λ h. (h.owner < 64) × (head_group_of x ≡ Some h.owner))
+    no_home : (x : FrameState) → IfSome (home_of links f) (λ h. (h.owner < 64) × (head_group_of x ≡ Some h.owner))
     no_home x = subst (λ (k : Option Home). IfSome k (λ h. (h.owner < 64) × (head_group_of x ≡ Some h.owner))) (sym homeless) tt
 
     no_reference : holds m.frame_seat f - 1 ≡ one_if (is_some (home_of links f))
@@ -169,9 +169,9 @@ module _ (t : KnownTable) (w : Words) (m : KnownMachine) (ok : IsConsistent t w 
 
     -- every other frame fits its record as before
     pub others_fit : (change : FrameNote → FrameNote) (g : ℕ) → g < t.frames → (g ≡ f → ⊥)
-        → FitsSpot t.cpus (note_of (seat_with m.frame_seat f change).view g) (home_of links g) (spot_at m.spots g)
-    others_fit change g within ne = subst (λ (x : FrameNote × Option Home). FitsSpot t.cpus x.0 x.1 (spot_at m.spots g))
-        (λ i. (sym (note_else m.frame_seat.view f g change ne) i, sym (leaves.homes g ne) i)) (ok.spots g within)
+        → FitsFrameState t.cpus (note_of (seat_with m.frame_seat f change).view g) (home_of links g) (frame_state_at m.frame_states g)
+    others_fit change g within ne = subst (λ (x : FrameNote × Option Home). FitsFrameState t.cpus x.0 x.1 (frame_state_at m.frame_states g))
+        (λ i. (sym (note_else m.frame_seat.view f g change ne) i, sym (leaves.homes g ne) i)) (ok.frame_states g within)
 
     may_put : (c : KnownCpu) → is_legal (local_of t m c) 0 (Put f) ≡ true
     may_put c = may_put_one t m f inside held_once c
@@ -182,20 +182,20 @@ module _ (t : KnownTable) (w : Words) (m : KnownMachine) (ok : IsConsistent t w 
       abbrev left_seat : KnownSeat
       left_seat = seat_with m.frame_seat f (let_go left)
 
-      left_fits : (g : ℕ) → g < t.frames → FitsSpot t.cpus (note_of left_seat.view g) (home_of links g) (spot_at m.spots g)
+      left_fits : (g : ℕ) → g < t.frames → FitsFrameState t.cpus (note_of left_seat.view g) (home_of links g) (frame_state_at m.frame_states g)
       left_fits g within = elim (cases_eq g f) [
-        | inl e ↦ subst (λ (k : ℕ). FitsSpot t.cpus (note_of left_seat.view k) (home_of links k) (spot_at m.spots k)) (sym e)
-            (subst (λ (k : FrameNote). FitsSpot t.cpus k (home_of links f) (spot_at m.spots f)) (sym (note_here m.frame_seat.view f (let_go left)))
-            (let old = ok.spots f inside in record { own = old.own; lent = old.lent; borrower = old.borrower; references = no_reference; kept = no_home (spot_at m.spots f) }))
+        | inl e ↦ subst (λ (k : ℕ). FitsFrameState t.cpus (note_of left_seat.view k) (home_of links k) (frame_state_at m.frame_states k)) (sym e)
+            (subst (λ (k : FrameNote). FitsFrameState t.cpus k (home_of links f) (frame_state_at m.frame_states f)) (sym (note_here m.frame_seat.view f (let_go left)))
+            (let old = ok.frame_states f inside in record { own = old.own; lent = old.lent; borrower = old.borrower; references = no_reference; kept = no_home (frame_state_at m.frame_states f) }))
         | inr ne ↦ others_fit (let_go left) g within ne
       ]
 
       pub left_consistent : IsConsistent t w (record m { links = links; lists = lists; frame_seat = left_seat })
       left_consistent = record {
-        sizes = let s = ok.sizes in record { spots = s.spots; links = linked; lists = listed; killed = s.killed; cpus = s.cpus };
+        sizes = let s = ok.sizes in record { frame_states = s.frame_states; links = linked; lists = listed; killed = s.killed; cpus = s.cpus };
         seats = let s = ok.seats in record { frames = s.frames; table = s.table; stocks = s.stocks };
         areas = ok.areas;
-        spots = left_fits;
+        frame_states = left_fits;
         units = ok.units;
         lists = stand;
         absorbed = ok.absorbed;
@@ -219,13 +219,13 @@ module _ (t : KnownTable) (w : Words) (m : KnownMachine) (ok : IsConsistent t w 
 
     -- ---- it comes into the zone's hand
 
-    module _ (unit : ChargedUnit) (heads : spot_at m.spots f ≡ Head unit) where
+    module _ (unit : ChargedUnit) (heads : frame_state_at m.frame_states f ≡ Head unit) where
       -- the head in the zone's hand fits the record of a free frame
-      pub hand_fits : (change : FrameNote → FrameNote) → TakesInHand change → FitsSpot t.cpus (note_of (seat_with m.frame_seat f change).view f) (home_of links f) Free
-      hand_fits change takes = subst (λ (k : FrameNote). FitsSpot t.cpus k (home_of links f) Free) (sym (note_here m.frame_seat.view f change))
+      pub hand_fits : (change : FrameNote → FrameNote) → TakesInHand change → FitsFrameState t.cpus (note_of (seat_with m.frame_seat f change).view f) (home_of links f) Free
+      hand_fits change takes = subst (λ (k : FrameNote). FitsFrameState t.cpus k (home_of links f) Free) (sym (note_here m.frame_seat.view f change))
           (record {
             own = takes.own (note_of m.frame_seat.view f);
-            lent = ap some_cpu (takes.lent (note_of m.frame_seat.view f)) ∙ (ok.spots f inside).lent ∙ ap lent_to heads;
+            lent = ap some_cpu (takes.lent (note_of m.frame_seat.view f)) ∙ (ok.frame_states f inside).lent ∙ ap lent_to heads;
             borrower = tt;
             references = takes.references (note_of m.frame_seat.view f) ∙ no_reference;
             kept = no_home Free;
@@ -242,57 +242,57 @@ module _ (t : KnownTable) (w : Words) (m : KnownMachine) (ok : IsConsistent t w 
 
         head_ended : ended.phases f ≡ phase.Head unit Ended
         head_ended =
-            at_same (local_of t m c).phases f (at_stage Ended (phase_of c f (spot_at m.spots f)))
-            ∙ ap (λ (x : Spot). at_stage Ended (phase_of c f x)) heads ∙ ended_stage (nat_le 1 (times f c.back))
+            at_same (local_of t m c).phases f (at_stage Ended (phase_of c f (frame_state_at m.frame_states f)))
+            ∙ ap (λ (x : FrameState). at_stage Ended (phase_of c f x)) heads ∙ ended_stage (nat_le 1 (times f c.back))
 
         may_come_back : is_legal ended 0 (Return f) ≡ true
         may_come_back =
             and_from _ _ (and_from _ _ (zone_may_act m.frame_seat c.number) (lt-ltb f t.frames inside)) (ap (may_return (is_killed m.killed)) head_ended)
 
         -- the frames of the unit are free, and all others have the phases that they had
-        phases_after : (spots : List Spot) → FreesFrames f (2 ^ unit.order) m.spots spots → (x : ℕ)
-            → without_unit ended.phases f x ≡ phase_of c x (spot_at spots x)
-        phases_after spots frees x =
+        phases_after : (frame_states : List FrameState) → FreesFrames f (2 ^ unit.order) m.frame_states frame_states → (x : ℕ)
+            → without_unit ended.phases f x ≡ phase_of c x (frame_state_at frame_states x)
+        phases_after frame_states frees x =
             let some = pow_pos unit.order in
             let size : unit_size (unit_of (ended.phases f)) ≡ 2 ^ unit.order = ap (λ (p : Phase). unit_size (unit_of p)) head_ended in
             ap (λ (n : ℕ). cond (is_within f n x) phase.InZone (ended.phases x)) size
             ∙ elim (within_cases f (2 ^ unit.order) x) [
               | inl w ↦ ap (λ (b : Bool). cond b phase.InZone (ended.phases x)) w.0
-                  ∙ sym (ap (phase_of c x) (frees.records x ∙ ap (λ (b : Bool). cond b Free (spot_at m.spots x)) w.0))
+                  ∙ sym (ap (phase_of c x) (frees.records x ∙ ap (λ (b : Bool). cond b Free (frame_state_at m.frame_states x)) w.0))
               | inr out ↦ ap (λ (b : Bool). cond b phase.InZone (ended.phases x)) out.0
-                  ∙ at_other (local_of t m c).phases f (at_stage Ended (phase_of c f (spot_at m.spots f))) x
+                  ∙ at_other (local_of t m c).phases f (at_stage Ended (phase_of c f (frame_state_at m.frame_states f))) x
                   (λ e. out.1 (omega (arith, e)) (omega (arith, e, some)))
-                  ∙ sym (ap (phase_of c x) (frees.records x ∙ ap (λ (b : Bool). cond b Free (spot_at m.spots x)) out.0))
+                  ∙ sym (ap (phase_of c x) (frees.records x ∙ ap (λ (b : Bool). cond b Free (frame_state_at m.frame_states x)) out.0))
             ]
 
         -- its return leads to the machine in which its frames are free
-        pub return_runs : (change : FrameNote → FrameNote) → TakesInHand change → (spots : List Spot) (blocks : List Block) (counts : Counts)
-            → FreesFrames f (2 ^ unit.order) m.spots spots
+        pub return_runs : (change : FrameNote → FrameNote) → TakesInHand change → (frame_states : List FrameState) (blocks : List Block) (counts : Counts)
+            → FreesFrames f (2 ^ unit.order) m.frame_states frame_states
             → IsLocalRun c.number ended (zone_makes (Return f) answer.Done ∷ []) (local_of t (record m {
               blocks = blocks;
-              spots = spots;
+              frame_states = frame_states;
               ledger = with_uncharge m.ledger unit.group (2 ^ unit.order);
               links = links;
               lists = lists;
               frame_seat = seat_with m.frame_seat f change;
               counts = counts;
             }) c)
-        return_runs change takes spots blocks counts frees =
+        return_runs change takes frame_states blocks counts frees =
             let s = local_of t m c in (
               zone_step ended c.number (Return f) answer.Done refl may_come_back tt,
               λ i. record s {
-                phases = λ x. phases_after spots frees x i;
+                phases = λ x. phases_after frame_states frees x i;
                 references = λ q x. references_less m.frame_seat c f change takes.references q x i;
               },
             )
 
 -- the record that was read is the frame's
-pub read_head : (t : KnownTable) (w : Words) (m : KnownMachine) → IsConsistent t w m → (f i : ℕ) → f < t.frames → i ≡ f → (x : Spot) (unit : ChargedUnit)
-    → x ≡ get_or m.spots i x → x ≡ Head unit → spot_at m.spots i ≡ Head unit
+pub read_head : (t : KnownTable) (w : Words) (m : KnownMachine) → IsConsistent t w m → (f i : ℕ) → f < t.frames → i ≡ f → (x : FrameState) (unit : ChargedUnit)
+    → x ≡ get_or m.frame_states i x → x ≡ Head unit → frame_state_at m.frame_states i ≡ Head unit
 read_head t w m ok f i inside is x unit read head =
-    let sized = ok.sizes.spots in
-    let bound : i < length m.spots = omega (arith, inside, is, sized) in
-    sym (get_or_default m.spots i x Free bound) ∙ sym read ∙ head
+    let sized = ok.sizes.frame_states in
+    let bound : i < length m.frame_states = omega (arith, inside, is, sized) in
+    sym (get_or_default m.frame_states i x Free bound) ∙ sym read ∙ head
 
 -- ---- all of it, of the machine as it was seen before
 
@@ -319,11 +319,11 @@ left_all t w m now same ok f i inside is kept_now links lists left_list stand li
 -- what is left after a kept unit came into the zone's hand by the step before the last one, and was freed
 pub record AllBack (t : KnownTable) (w : Words) (now : KnownMachine) (f : ℕ) (unit : ChargedUnit) (free : List Bool) (steps : Run) (n : KnownMachine) : Type 0 where
   pub consistent : IsConsistent t w n
-  pub free_is : free ≡ free_of n.spots
-  pub heads : spot_at now.spots f ≡ Head unit
+  pub free_is : free ≡ free_of n.frame_states
+  pub heads : frame_state_at now.frame_states f ≡ Head unit
   pub list : LeavesList f (lists_of now) (lists_of n)
-  pub frees : FreesFrames f (2 ^ unit.order) now.spots n.spots
-  pub areas : AreMaximalBlocks (free_of n.spots) n.blocks
+  pub frees : FreesFrames f (2 ^ unit.order) now.frame_states n.frame_states
+  pub areas : AreMaximalBlocks (free_of n.frame_states) n.blocks
   pub visit : (c : KnownCpu) → Visits t (side now c) → Visits t (side n c)
   pub runs : MakesForAny t now steps n
 
@@ -336,14 +336,14 @@ pub back_all : (t : KnownTable) (w : Words) (m now : KnownMachine) → m ≡ now
     → ((c : KnownCpu) → holds m.frame_seat f ≡ 1 → IsLocalStep (local_of t m c) c.number 0 action answered) → is_still action answered ≡ true
     → ((c : KnownCpu) → after (local_of t m c) 0 action answered ≡ after (local_of t m c) 0 (Put f) answer.Last)
     → (one : Counts) → ((c : KnownCpu) → counts_after (local_of t m c) 0 action answered m.counts ≡ one)
-    → (unit : ChargedUnit) → spot_at m.spots i ≡ Head unit
-    → (before free : List Bool) (blocks : List Block) (spots : List Spot) (ledger : Ledger) (counts : Counts)
-    → before ≡ free_of m.spots → FreesFrames i (2 ^ unit.order) m.spots spots → GivesFrames before (record { at = i; order = unit.order }) free
+    → (unit : ChargedUnit) → frame_state_at m.frame_states i ≡ Head unit
+    → (before free : List Bool) (blocks : List Block) (frame_states : List FrameState) (ledger : Ledger) (counts : Counts)
+    → before ≡ free_of m.frame_states → FreesFrames i (2 ^ unit.order) m.frame_states frame_states → GivesFrames before (record { at = i; order = unit.order }) free
     → AreMaximalBlocks free blocks → ledger ≡ with_uncharge m.ledger unit.group (2 ^ unit.order) → BalancesCounts counts
     → counts ≡ with_one_returned one
     → AllBack t w now f unit free (zone_makes action answered ∷ zone_makes (Return f) answer.Done ∷ []) (record m {
       blocks = blocks;
-      spots = spots;
+      frame_states = frame_states;
       ledger = ledger;
       links = links;
       lists = lists;
@@ -351,21 +351,21 @@ pub back_all : (t : KnownTable) (w : Words) (m now : KnownMachine) → m ≡ now
       counts = counts;
     })
 back_all t w m now same ok f i inside is kept_now links lists left_list stand linked listed change takes seat put action answered first still ends one ending unit
-    head before free blocks spots ledger counts was frees_i gives_i areas_free uncharged balances counted =
+    head before free blocks frame_states ledger counts was frees_i gives_i areas_free uncharged balances counted =
     let kept : home_of m.links f ≢ None = subst (λ (x : KnownMachine). home_of x.links f ≢ None) (sym same) kept_now in
     let leaves : LeavesList f (lists_of m) (group_lists links lists) = subst (λ (x : ℕ). LeavesList x (lists_of m) (group_lists links lists)) is left_list in
     let sized : length links ≡ t.frames = linked ∙ ok.sizes.links in
-    let heads : spot_at m.spots f ≡ Head unit = subst (λ (x : ℕ). spot_at m.spots x ≡ Head unit) is head in
-    let frees : FreesFrames f (2 ^ unit.order) m.spots spots = subst (λ (x : ℕ). FreesFrames x (2 ^ unit.order) m.spots spots) is frees_i in
+    let heads : frame_state_at m.frame_states f ≡ Head unit = subst (λ (x : ℕ). frame_state_at m.frame_states x ≡ Head unit) is head in
+    let frees : FreesFrames f (2 ^ unit.order) m.frame_states frame_states = subst (λ (x : ℕ). FreesFrames x (2 ^ unit.order) m.frame_states frame_states) is frees_i in
     let gives : GivesFrames before (record { at = f; order = unit.order }) free =
     subst (λ (x : ℕ). GivesFrames before (record { at = x; order = unit.order }) free) is gives_i in
-    let free_is : free ≡ free_of spots =
-    free_block_given before free m.spots spots f unit.order (ok.units.heads f unit heads).block.inside was gives frees in
-    let areas : AreMaximalBlocks (free_of spots) blocks = subst (λ (l : List Bool). AreMaximalBlocks l blocks) free_is areas_free in
+    let free_is : free ≡ free_of frame_states =
+    free_block_given before free m.frame_states frame_states f unit.order (ok.units.heads f unit heads).block.inside was gives frees in
+    let areas : AreMaximalBlocks (free_of frame_states) blocks = subst (λ (l : List Bool). AreMaximalBlocks l blocks) free_is areas_free in
     let steps : Run = zone_makes action answered ∷ zone_makes (Return f) answer.Done ∷ [] in
     let n : KnownMachine = record m {
       blocks = blocks;
-      spots = spots;
+      frame_states = frame_states;
       ledger = with_uncharge m.ledger unit.group (2 ^ unit.order);
       links = links;
       lists = lists;
@@ -373,7 +373,7 @@ back_all t w m now same ok f i inside is kept_now links lists left_list stand li
       counts = counts;
     } in
     let all : AllBack t w m f unit free steps n = record {
-      consistent = unit_freed_consistent t w m ok f unit heads spots blocks links lists (seat_with m.frame_seat f change) counts frees areas
+      consistent = unit_freed_consistent t w m ok f unit heads frame_states blocks links lists (seat_with m.frame_seat f change) counts frees areas
           (let s = ok.seats.frames in (s.0, s.1)) sized listed stand
           (others_fit t w m ok f inside kept links lists leaves stand sized listed change)
           (hand_fits t w m ok f inside kept links lists leaves stand sized listed unit heads change takes) balances;
@@ -387,7 +387,7 @@ back_all t w m now same ok f i inside is kept_now links lists left_list stand li
         leads = (
           first c (held_once t w m ok f inside kept),
           subst (λ (s : State). IsLocalRun c.number s (zone_makes (Return f) answer.Done ∷ []) (local_of t n c)) (sym (ends c))
-              (return_runs t w m ok f inside kept links lists leaves stand sized listed unit heads c change takes spots blocks counts frees),
+              (return_runs t w m ok f inside kept links lists leaves stand sized listed unit heads c change takes frame_states blocks counts frees),
         );
         counts = counted ∙ sym (ap (λ (s : State). counts_after s 0 (Return f) answer.Done (counts_after (local_of t m c) 0 action answered m.counts)) (ends c)
             ∙ returned_ended (local_of t m c) f (counts_after (local_of t m c) 0 action answered m.counts) ∙ ap with_one_returned (ending c));
@@ -399,7 +399,7 @@ back_all t w m now same ok f i inside is kept_now links lists left_list stand li
       same j,
       record m {
         blocks = blocks;
-        spots = spots;
+        frame_states = frame_states;
         ledger = sym uncharged j;
         links = links;
         lists = lists;
@@ -410,7 +410,7 @@ back_all t w m now same ok f i inside is kept_now links lists left_list stand li
 
 pub record AllReturned (t : KnownTable) (w : Words) (now : KnownMachine) (f : ℕ) (free : List Bool) (n : KnownMachine) : Type 0 where
   pub consistent : IsConsistent t w n
-  pub free_is : free ≡ free_of n.spots
+  pub free_is : free ≡ free_of n.frame_states
   pub returns : ReturnsUnit f now n
   pub visit : (c : KnownCpu) → Visits t (side now c) → Visits t (side n c)
   pub steps : MakesForAny t now (release_steps f Returned) n
@@ -418,25 +418,25 @@ pub record AllReturned (t : KnownTable) (w : Words) (now : KnownMachine) (f : �
 pub returned_all : (t : KnownTable) (w : Words) (m now : KnownMachine) → m ≡ now → IsConsistent t w m → (f i : ℕ)
     → f < t.frames → i ≡ f → home_of now.links f ≢ None → (links : List Link) (lists : List Lru) → LeavesList i (lists_of m) (group_lists links lists)
     → AllStand links lists → length links ≡ length m.links → length lists ≡ 64 → (seat : KnownSeat) → seat ≡ seat_with m.frame_seat f let_go_last
-    → (unit : ChargedUnit) → spot_at m.spots i ≡ Head unit
-    → (before free : List Bool) (blocks : List Block) (spots : List Spot) (ledger : Ledger) (counts : Counts)
-    → before ≡ free_of m.spots → FreesFrames i (2 ^ unit.order) m.spots spots → GivesFrames before (record { at = i; order = unit.order }) free
+    → (unit : ChargedUnit) → frame_state_at m.frame_states i ≡ Head unit
+    → (before free : List Bool) (blocks : List Block) (frame_states : List FrameState) (ledger : Ledger) (counts : Counts)
+    → before ≡ free_of m.frame_states → FreesFrames i (2 ^ unit.order) m.frame_states frame_states → GivesFrames before (record { at = i; order = unit.order }) free
     → AreMaximalBlocks free blocks → ledger ≡ with_uncharge m.ledger unit.group (2 ^ unit.order) → counts ≡ with_last_put m.counts
     → AllReturned t w now f free (record m {
       blocks = blocks;
-      spots = spots;
+      frame_states = frame_states;
       ledger = ledger;
       links = links;
       lists = lists;
       frame_seat = seat;
       counts = counts;
     })
-returned_all t w m now same ok f i inside is kept_now links lists left_list stand linked listed seat put unit head before free blocks spots
+returned_all t w m now same ok f i inside is kept_now links lists left_list stand linked listed seat put unit head before free blocks frame_states
     ledger counts was frees_i gives_i areas_free uncharged counted =
     let back = back_all t w m now same ok f i inside is kept_now links lists left_list stand linked listed let_go_last last_in_hand seat put
     (Put f) answer.Last (λ c held. zone_step (local_of t m c) c.number (Put f) answer.Last refl (may_put_one t m f inside held c) tt) refl (λ c. refl)
     (with_one_put_last m.counts) (λ c. refl)
-    unit head before free blocks spots ledger counts was frees_i gives_i areas_free uncharged (rw counted (balanced_last_put m.counts ok.balances)) counted in
+    unit head before free blocks frame_states ledger counts was frees_i gives_i areas_free uncharged (rw counted (balanced_last_put m.counts ok.balances)) counted in
     record {
       consistent = back.consistent;
       free_is = back.free_is;
@@ -448,7 +448,7 @@ returned_all t w m now same ok f i inside is kept_now links lists left_list stan
         areas = back.areas;
         machine = λ j. record (same j) {
           blocks = blocks;
-          spots = spots;
+          frame_states = frame_states;
           ledger = (uncharged ∙ ap (λ (x : KnownMachine). with_uncharge x.ledger unit.group (2 ^ unit.order)) same) j;
           links = links;
           lists = lists;

@@ -25,9 +25,9 @@ use Rattle.step_rules.specs.State.{Part, with_at, one_if}
 use Rattle.step_rules.specs.After.{is_within, unit_size, without_unit, without_frame}
 use Rattle.step_rules.proofs.Basics.{at_same, at_other}
 use Rattle.step_rules.proofs.Placing.{within_cases}
-use Rattle.mem_machine.specs.declared.spot.Spot.{Spot}
-use Rattle.mem_machine.specs.declared.spot.Spot.TheVariants.{Free, Lent, Head, Tail}
-use Rattle.mem_machine.specs.Spots.{spot_at}
+use Rattle.mem_machine.specs.declared.frame_state.FrameState.{FrameState}
+use Rattle.mem_machine.specs.declared.frame_state.FrameState.TheVariants.{Free, Lent, Head, Tail}
+use Rattle.mem_machine.specs.FrameStates.{frame_state_at}
 use Rattle.mem_machine.specs.Machines.{KnownMachine, Visits}
 use Rattle.mem_machine.specs.Local.{local_of, phase_of, part_of, part_with, references_of, fresh_group, side}
 use Rattle.mem_machine.specs.Freeing.{FreesFrames}
@@ -51,13 +51,13 @@ is_visited t w m c tied visit f inside = record {
 abbrev pub fresh_unit : KnownCpu → ChargedUnit
 fresh_unit c = record { group = fresh_group c; order = 0 }
 
-pub fresh_phase : (c : KnownCpu) (f : ℕ) (x : Spot) → x ≡ Lent c.number → times f c.fresh ≡ 1 → phase_of c f x ≡ phase.Head (fresh_unit c) (FreshAt c.number)
+pub fresh_phase : (c : KnownCpu) (f : ℕ) (x : FrameState) → x ≡ Lent c.number → times f c.fresh ≡ 1 → phase_of c f x ≡ phase.Head (fresh_unit c) (FreshAt c.number)
 fresh_phase c f x is once =
     ap (phase_of c f) is
     ∙ cond-true (c.number == c.number && nat_le 1 (times f c.fresh)) _ _
     (and_from _ _ (eq-eqb c.number c.number refl) (le-leb 1 (times f c.fresh) (omega (arith, once))))
 
-pub back_phase : (c : KnownCpu) (f : ℕ) (x : Spot) (unit : ChargedUnit) → x ≡ Head unit → times f c.back ≡ 1
+pub back_phase : (c : KnownCpu) (f : ℕ) (x : FrameState) (unit : ChargedUnit) → x ≡ Head unit → times f c.back ≡ 1
     → phase_of c f x ≡ phase.Head unit (BackAt c.number)
 back_phase c f x unit is once = ap (phase_of c f) is ∙ cond-true (nat_le 1 (times f c.back)) _ _ (le-leb 1 (times f c.back) (omega (arith, once)))
 
@@ -70,7 +70,7 @@ abbrev pub back_handed : KnownCpu → ℕ → List ℕ → KnownCpu
 back_handed c f rest = record c { back = rest; frame_seat = seat_with c.frame_seat f gave_back }
 
 -- other frames' phases stay
-pub fresh_else : (c : KnownCpu) (f : ℕ) (rest : List ℕ) → c.fresh ≡ f ∷ rest → (g : ℕ) (y : Spot) → (g ≡ f → ⊥)
+pub fresh_else : (c : KnownCpu) (f : ℕ) (rest : List ℕ) → c.fresh ≡ f ∷ rest → (g : ℕ) (y : FrameState) → (g ≡ f → ⊥)
     → phase_of (fresh_handed c f rest) g y ≡ phase_of c g y
 fresh_else c f rest front g Free ne = refl
 fresh_else c f rest front g (Lent q) ne =
@@ -78,7 +78,7 @@ fresh_else c f rest front g (Lent q) ne =
 fresh_else c f rest front g (Head unit) ne = refl
 fresh_else c f rest front g (Tail h) ne = refl
 
-pub back_else : (c : KnownCpu) (f : ℕ) (rest : List ℕ) → c.back ≡ f ∷ rest → (g : ℕ) (y : Spot) → (g ≡ f → ⊥)
+pub back_else : (c : KnownCpu) (f : ℕ) (rest : List ℕ) → c.back ≡ f ∷ rest → (g : ℕ) (y : FrameState) → (g ≡ f → ⊥)
     → phase_of (back_handed c f rest) g y ≡ phase_of c g y
 back_else c f rest front g Free ne = refl
 back_else c f rest front g (Lent q) ne = refl
@@ -88,32 +88,32 @@ back_else c f rest front g (Tail h) ne = refl
 
 -- ---- phases
 
-module _ (c d : KnownCpu) (spots : List Spot) (f : ℕ) (others : (g : ℕ) (y : Spot) → (g ≡ f → ⊥) → phase_of d g y ≡ phase_of c g y) where
+module _ (c d : KnownCpu) (frame_states : List FrameState) (f : ℕ) (others : (g : ℕ) (y : FrameState) → (g ≡ f → ⊥) → phase_of d g y ≡ phase_of c g y) where
   abbrev old : ℕ → Phase
-  old g = phase_of c g (spot_at spots g)
+  old g = phase_of c g (frame_state_at frame_states g)
 
   -- after one record changed
-  pub phases_set : (x : Spot) (b : Phase) → f < length spots → phase_of d f x ≡ b → (g : ℕ)
-      → phase_of d g (spot_at (slice_set spots f x) g) ≡ with_at old f b g
+  pub phases_set : (x : FrameState) (b : Phase) → f < length frame_states → phase_of d f x ≡ b → (g : ℕ)
+      → phase_of d g (frame_state_at (slice_set frame_states f x) g) ≡ with_at old f b g
   phases_set x b inside here g = elim (cases_eq g f) [
-    | inl e ↦ subst (λ (k : ℕ). phase_of d k (spot_at (slice_set spots f x) k) ≡ with_at old f b k) (sym e)
-        (ap (phase_of d f) (get_or-set_same spots f x Free inside) ∙ here ∙ sym (at_same old f b))
-    | inr ne ↦ ap (phase_of d g) (get_or-set_other spots f g x Free ne) ∙ others g (spot_at spots g) ne ∙ sym (at_other old f b g ne)
+    | inl e ↦ subst (λ (k : ℕ). phase_of d k (frame_state_at (slice_set frame_states f x) k) ≡ with_at old f b k) (sym e)
+        (ap (phase_of d f) (get_or-set_same frame_states f x Free inside) ∙ here ∙ sym (at_same old f b))
+    | inr ne ↦ ap (phase_of d g) (get_or-set_other frame_states f g x Free ne) ∙ others g (frame_state_at frame_states g) ne ∙ sym (at_other old f b g ne)
   ]
 
   -- after the frames of the unit were freed
-  pub phases_freed : (new : List Spot) (unit : ChargedUnit) (stage : Stage) → FreesFrames f (2 ^ unit.order) spots new → (g : ℕ)
-      → phase_of d g (spot_at new g) ≡ without_unit (with_at old f (phase.Head unit stage)) f g
+  pub phases_freed : (new : List FrameState) (unit : ChargedUnit) (stage : Stage) → FreesFrames f (2 ^ unit.order) frame_states new → (g : ℕ)
+      → phase_of d g (frame_state_at new g) ≡ without_unit (with_at old f (phase.Head unit stage)) f g
   phases_freed new unit stage frees g =
       let x : Phase = phase.Head unit stage in
       let some = pow_pos unit.order in
       let size : unit_size (phases.unit_of (with_at old f x f)) ≡ 2 ^ unit.order = ap (λ (y : Phase). unit_size (phases.unit_of y)) (at_same old f x) in
       ap (phase_of d g) (frees.records g)
       ∙ (elim (within_cases f (2 ^ unit.order) g) [
-        | inl w ↦ ap (λ (b : Bool). phase_of d g (cond b Free (spot_at spots g))) w.0
+        | inl w ↦ ap (λ (b : Bool). phase_of d g (cond b Free (frame_state_at frame_states g))) w.0
             ∙ sym (ap (λ (b : Bool). cond b phase.InZone (with_at old f x g)) w.0)
-        | inr out ↦ ap (λ (b : Bool). phase_of d g (cond b Free (spot_at spots g))) out.0
-            ∙ others g (spot_at spots g) (λ e. out.1 (omega (arith, e)) (omega (arith, e, some)))
+        | inr out ↦ ap (λ (b : Bool). phase_of d g (cond b Free (frame_state_at frame_states g))) out.0
+            ∙ others g (frame_state_at frame_states g) (λ e. out.1 (omega (arith, e)) (omega (arith, e, some)))
             ∙ sym (at_other old f x g (λ e. out.1 (omega (arith, e)) (omega (arith, e, some))))
             ∙ sym (ap (λ (b : Bool). cond b phase.InZone (with_at old f x g)) out.0)
       ])

@@ -26,16 +26,16 @@ use Rattle.step_rules.specs.State.{State, Part, is_frame, without, front_of}
 use Rattle.step_rules.specs.Legal.{is_legal, may_pass_back}
 use Rattle.step_rules.specs.After.{after, without_frame}
 use Rattle.step_rules.proofs.Basics.{at_same}
-use Rattle.mem_machine.specs.declared.spot.Spot.{Spot}
-use Rattle.mem_machine.specs.declared.spot.Spot.TheVariants.{Free, Lent, Head, Tail}
-use Rattle.mem_machine.specs.Spots.{spot_at, is_free, free_of, spot_group, head_group_of, some_cpu}
-use Rattle.mem_machine.specs.Machines.{KnownMachine, FitsSpot, IsConsistent, Visits, home_of}
+use Rattle.mem_machine.specs.declared.frame_state.FrameState.{FrameState}
+use Rattle.mem_machine.specs.declared.frame_state.FrameState.TheVariants.{Free, Lent, Head, Tail}
+use Rattle.mem_machine.specs.FrameStates.{frame_state_at, is_free, free_of, frame_state_group, head_group_of, some_cpu}
+use Rattle.mem_machine.specs.Machines.{KnownMachine, FitsFrameState, IsConsistent, Visits, home_of}
 use Rattle.mem_machine.specs.Lending.{TakesBackByStep, TakesNoneBack}
 use Rattle.mem_machine.specs.Local.{local_of, phase_of, part_of, part_with, side, MakesAs}
 use Rattle.mem_machine.specs.Steps.{unlist_steps}
 use Rattle.mem_machine.proofs.Reaching.{zone_step, cpu_step}
 use Rattle.mem_machine.proofs.Holds.{IsSeated, zone_may_act, visits_open, seated_cpu}
-use Rattle.mem_machine.proofs.Records.{free_at, one_covered, length_free, free_given, lent_spot, spots_changed, holds_same, units_stay, charges_stay}
+use Rattle.mem_machine.proofs.Records.{free_at, one_covered, length_free, free_given, lent_frame_state, frame_states_changed, holds_same, units_stay, charges_stay}
 use Rattle.mem_machine.proofs.Lends.{parts_changed, references_stay, lent_listed, phases_changed}
 use Rattle.mem_machine.proofs.Followed.{follows_same}
 use Rattle.mem_machine.proofs.Counted.{collects_none}
@@ -64,11 +64,11 @@ without_front f xs rest front none =
 
 module _ (t : KnownTable) (w : Words) (m : KnownMachine) (c : KnownCpu) (tied : IsTied t w c) (ok : IsConsistent t w m) (visit : Visits t (side m c))
     (f : ℕ) (rest : List ℕ) (front : c.list ≡ f ∷ rest) (inside : f < t.frames) (lent : IsLent m.frame_seat f c.number) where
-  within : f < length m.spots
-  within = let s = ok.sizes.spots in omega (arith, s, inside)
+  within : f < length m.frame_states
+  within = let s = ok.sizes.frame_states in omega (arith, s, inside)
 
-  pub is_lent_spot : spot_at m.spots f ≡ Lent c.number
-  is_lent_spot = lent_spot (spot_at m.spots f) c.number tied.seats.some_number (ap some_cpu (sym lent) ∙ (ok.spots f inside).lent)
+  pub is_lent_frame_state : frame_state_at m.frame_states f ≡ Lent c.number
+  is_lent_frame_state = lent_frame_state (frame_state_at m.frame_states f) c.number tied.seats.some_number (ap some_cpu (sym lent) ∙ (ok.frame_states f inside).lent)
 
   -- the frame is once on the list, and on no other list
   listed_once : times f c.list ≡ 1 + times f rest
@@ -92,17 +92,17 @@ module _ (t : KnownTable) (w : Words) (m : KnownMachine) (c : KnownCpu) (tied : 
   homeless None is = tt
   homeless (Some x) is = is
 
-  taken_fits : FitsSpot t.cpus (collected_from c.number (note_of m.frame_seat.view f)) (home_of m.links f) Free
+  taken_fits : FitsFrameState t.cpus (collected_from c.number (note_of m.frame_seat.view f)) (home_of m.links f) Free
   taken_fits =
-      let old : FitsSpot t.cpus (note_of m.frame_seat.view f) (home_of m.links f) (Lent c.number) =
-      subst (λ (x : Spot). FitsSpot t.cpus (note_of m.frame_seat.view f) (home_of m.links f) x) is_lent_spot (ok.spots f inside) in
+      let old : FitsFrameState t.cpus (note_of m.frame_seat.view f) (home_of m.links f) (Lent c.number) =
+      subst (λ (x : FrameState). FitsFrameState t.cpus (note_of m.frame_seat.view f) (home_of m.links f) x) is_lent_frame_state (ok.frame_states f inside) in
       record { own = refl; lent = refl; borrower = tt; references = old.references; kept = homeless (home_of m.links f) old.kept }
 
-  pub take_consistent : (blocks : List Block) → AreMaximalBlocks (free_of (slice_set m.spots f Free)) blocks
-      → IsConsistent t w (record m { blocks = blocks; spots = slice_set m.spots f Free; frame_seat = seat_with m.frame_seat f (collected_from c.number) })
+  pub take_consistent : (blocks : List Block) → AreMaximalBlocks (free_of (slice_set m.frame_states f Free)) blocks
+      → IsConsistent t w (record m { blocks = blocks; frame_states = slice_set m.frame_states f Free; frame_seat = seat_with m.frame_seat f (collected_from c.number) })
   take_consistent blocks areas = record {
     sizes = let s = ok.sizes in record {
-      spots = length-set m.spots f Free ∙ s.spots;
+      frame_states = length-set m.frame_states f Free ∙ s.frame_states;
       links = s.links;
       lists = s.lists;
       killed = s.killed;
@@ -110,12 +110,12 @@ module _ (t : KnownTable) (w : Words) (m : KnownMachine) (c : KnownCpu) (tied : 
     };
     seats = let s = ok.seats in record { frames = s.frames; table = s.table; stocks = s.stocks };
     areas = areas;
-    spots = spots_changed t.cpus m.frame_seat m.links m.spots f (collected_from c.number) Free t.frames within ok.spots taken_fits;
-    units = units_stay m.spots f Free within (ap spot_group is_lent_spot) refl ok.units;
+    frame_states = frame_states_changed t.cpus m.frame_seat m.links m.frame_states f (collected_from c.number) Free t.frames within ok.frame_states taken_fits;
+    units = units_stay m.frame_states f Free within (ap frame_state_group is_lent_frame_state) refl ok.units;
     lists = ok.lists;
     absorbed = ok.absorbed;
     bounded = ok.bounded;
-    charged = λ g. let a = ok.charged g in let b = charges_stay m.spots f Free within (ap spot_group is_lent_spot) refl g in omega (arith, a, b);
+    charged = λ g. let a = ok.charged g in let b = charges_stay m.frame_states f Free within (ap frame_state_group is_lent_frame_state) refl g in omega (arith, a, b);
     balances = ok.balances;
   }
 
@@ -126,7 +126,7 @@ module _ (t : KnownTable) (w : Words) (m : KnownMachine) (c : KnownCpu) (tied : 
   no_one : ◌≡◌ {A = ℕ} 0 1 → ⊥
   no_one is = omega (arith, is)
 
-  pub take_visits : (blocks : List Block) → Visits t (side (record m { blocks = blocks; spots = slice_set m.spots f Free; frame_seat = seat_with m.frame_seat f (collected_from c.number) }) (record c { list = rest; frame_seat = seat_with c.frame_seat f gave_back }))
+  pub take_visits : (blocks : List Block) → Visits t (side (record m { blocks = blocks; frame_states = slice_set m.frame_states f Free; frame_seat = seat_with m.frame_seat f (collected_from c.number) }) (record c { list = rest; frame_seat = seat_with c.frame_seat f gave_back }))
   take_visits blocks = record {
     is_open = visit.is_open;
     still = collected_is_still t m.frame_seat c.frame_seat c.number tied.seats.frame_number f visit.still (seat_with c.frame_seat f gave_back)
@@ -142,19 +142,19 @@ module _ (t : KnownTable) (w : Words) (m : KnownMachine) (c : KnownCpu) (tied : 
     ];
   }
 
-  same_phase : (g : ℕ) (y : Spot) → phase_of (record c { list = rest; frame_seat = seat_with c.frame_seat f gave_back }) g y ≡ phase_of c g y
+  same_phase : (g : ℕ) (y : FrameState) → phase_of (record c { list = rest; frame_seat = seat_with c.frame_seat f gave_back }) g y ≡ phase_of c g y
   same_phase g Free = refl
   same_phase g (Lent q) = refl
   same_phase g (Head unit) = refl
   same_phase g (Tail h) = refl
 
   pub take_runs : (blocks : List Block) → MakesAs t c.number (side m c) (unlist_steps c.number f)
-      (side (record m { blocks = blocks; spots = slice_set m.spots f Free; frame_seat = seat_with m.frame_seat f (collected_from c.number) }) (record c { list = rest; frame_seat = seat_with c.frame_seat f gave_back }))
+      (side (record m { blocks = blocks; frame_states = slice_set m.frame_states f Free; frame_seat = seat_with m.frame_seat f (collected_from c.number) }) (record c { list = rest; frame_seat = seat_with c.frame_seat f gave_back }))
   take_runs blocks =
       let p = c.number in
       let s = local_of t m c in
       let d : KnownCpu = record c { list = rest; frame_seat = seat_with c.frame_seat f gave_back } in
-      let was : s.phases f ≡ phase.Lent p OnList = ap (phase_of c f) is_lent_spot ∙ lent_listed c f p none_fresh in
+      let was : s.phases f ≡ phase.Lent p OnList = ap (phase_of c f) is_lent_frame_state ∙ lent_listed c f p none_fresh in
       let own : part_of m.stock_seat c p ≡ part_with c.list c.fresh c.back (account_of m.stock_seat.view p) = cond-true (p == p)
       (part_with c.list c.fresh c.back (account_of m.stock_seat.view p)) (part_with [] [] [] (account_of m.stock_seat.view p)) (eq-eqb p p refl) in
       let framed : is_frame s.zone f ≡ true = lt-ltb f t.frames inside in
@@ -169,7 +169,7 @@ module _ (t : KnownTable) (w : Words) (m : KnownMachine) (c : KnownCpu) (tied : 
       let returns : phases.passes_back p (mid.phases f) ≡ true = ap (phases.passes_back p) passing ∙ eq-eqb p p refl in
       let may_collect : is_legal mid 0 (Collect f p) ≡ true =
       and_from _ _ (and_from _ _ (and_from _ _ (zone_may_act m.frame_seat p) framed) (seated_cpu t c seated)) returns in
-      let ph = phases_changed c d m.spots f Free (phases.passed_back (s.phases f)) (phases.collected (mid.phases f)) within
+      let ph = phases_changed c d m.frame_states f Free (phases.passed_back (s.phases f)) (phases.collected (mid.phases f)) within
       (sym (ap phases.collected passing)) (λ g y ne. same_phase g y) in
       let re = references_stay m.frame_seat (seat_with m.frame_seat f (collected_from p)) c.frame_seat (seat_with c.frame_seat f gave_back) p
       (holds_same m.frame_seat f (collected_from p) (λ k. refl)) (holds_same c.frame_seat f gave_back (λ k. refl)) in
@@ -196,26 +196,26 @@ module _ (t : KnownTable) (w : Words) (m : KnownMachine) (c : KnownCpu) (tied : 
 -- all of it, of the machine as it was seen before
 pub record AllTaken (t : KnownTable) (w : Words) (now : KnownMachine) (c : KnownCpu) (n : KnownMachine) (d : KnownCpu) (free : List Bool) : Type 0 where
   pub consistent : IsConsistent t w n
-  pub free_is : free ≡ free_of n.spots
+  pub free_is : free ≡ free_of n.frame_states
   pub takes : TakesBackByStep t (side now c) (side n d)
   pub visit : Visits t (side n d)
 
 pub take_all : (t : KnownTable) (w : Words) (m now : KnownMachine) → m ≡ now → (c h d : KnownCpu) → IsTied t w c → IsConsistent t w m → Visits t (side now c)
     → (before free : List Bool) (k : ℕ) (blocks : List Block) (f i : ℕ) (seat : KnownSeat)
-    → before ≡ free_of m.spots → k ≡ 0 → GivesFrames before (record { at = i; order = k }) free → AreMaximalBlocks free blocks
+    → before ≡ free_of m.frame_states → k ≡ 0 → GivesFrames before (record { at = i; order = k }) free → AreMaximalBlocks free blocks
     → f < t.frames → IsLent m.frame_seat f c.number → i ≡ f → HandsFront f c h → seat ≡ seat_with m.frame_seat f (collected_from h.number) → d ≡ h
-    → AllTaken t w now c (record m { blocks = blocks; spots = slice_set m.spots i Free; frame_seat = seat }) d free
+    → AllTaken t w now c (record m { blocks = blocks; frame_states = slice_set m.frame_states i Free; frame_seat = seat }) d free
 take_all t w m now same c h d tied ok visit_now before free k blocks f i seat was zero_is gives areas inside lent index hands collected stays =
     let visit : Visits t (side m c) = subst (λ (x : KnownMachine). Visits t (side x c)) (sym same) visit_now in
     let rest = hands.0 in
     let e : KnownCpu = record c { list = rest; frame_seat = seat_with c.frame_seat f gave_back } in
-    let n : KnownMachine = record m { blocks = blocks; spots = slice_set m.spots f Free; frame_seat = seat_with m.frame_seat f (collected_from c.number) } in
+    let n : KnownMachine = record m { blocks = blocks; frame_states = slice_set m.frame_states f Free; frame_seat = seat_with m.frame_seat f (collected_from c.number) } in
     let gives_f : GivesFrames before (record { at = f; order = 0 }) free =
     subst (λ (x : ℕ × ℕ). GivesFrames before (record { at = x.0; order = x.1 }) free) (λ j. (index j, zero_is j)) gives in
-    let sized = ok.sizes.spots in
-    let within : f < length m.spots = omega (arith, inside, sized) in
-    let free_is : free ≡ free_of (slice_set m.spots f Free) = free_given before free m.spots f Free within was gives_f refl in
-    let areas_f : AreMaximalBlocks (free_of (slice_set m.spots f Free)) blocks = subst (λ (l : List Bool). AreMaximalBlocks l blocks) free_is areas in
+    let sized = ok.sizes.frame_states in
+    let within : f < length m.frame_states = omega (arith, inside, sized) in
+    let free_is : free ≡ free_of (slice_set m.frame_states f Free) = free_given before free m.frame_states f Free within was gives_f refl in
+    let areas_f : AreMaximalBlocks (free_of (slice_set m.frame_states f Free)) blocks = subst (λ (l : List Bool). AreMaximalBlocks l blocks) free_is areas in
     let all : AllTaken t w m c n e free = record {
       consistent = take_consistent t w m c tied ok visit f rest hands.1 inside lent blocks areas_f;
       free_is = free_is;
@@ -232,7 +232,7 @@ take_all t w m now same c h d tied ok visit_now before free k blocks f i seat wa
       same j,
       record m {
         blocks = blocks;
-        spots = slice_set m.spots (sym index j) Free;
+        frame_states = slice_set m.frame_states (sym index j) Free;
         frame_seat = sym (collected ∙ ap (λ (x : ℕ). seat_with m.frame_seat f (collected_from x)) number) j;
       },
       sym (stays ∙ hands.2) j,
@@ -257,14 +257,14 @@ passes_back_to t w m now same c h tied visit f seat inside hands is =
 
 -- its frame may be freed
 pub may_give : (t : KnownTable) (w : Words) (m : KnownMachine) (c : KnownCpu) → IsTied t w c → IsConsistent t w m → (before : List Bool) (f i k : ℕ)
-    → before ≡ free_of m.spots → f < t.frames → IsLent m.frame_seat f c.number → i ≡ f → k ≡ 0 → IsInUse before (record { at = i; order = k })
+    → before ≡ free_of m.frame_states → f < t.frames → IsLent m.frame_seat f c.number → i ≡ f → k ≡ 0 → IsInUse before (record { at = i; order = k })
 may_give t w m c tied ok before f i k was inside lent index zero_is =
-    let sized = ok.sizes.spots in
-    let within : f < length m.spots = omega (arith, inside, sized) in
-    let spot : spot_at m.spots f ≡ Lent c.number =
-    lent_spot (spot_at m.spots f) c.number tied.seats.some_number (ap some_cpu (sym lent) ∙ (ok.spots f inside).lent) in
-    let used : get_or before f false ≡ false = ap (λ (l : List Bool). get_or l f false) was ∙ free_at m.spots f within ∙ ap is_free spot in
-    let long : length before ≡ length m.spots = ap length was ∙ length_free m.spots in
+    let sized = ok.sizes.frame_states in
+    let within : f < length m.frame_states = omega (arith, inside, sized) in
+    let frame_state : frame_state_at m.frame_states f ≡ Lent c.number =
+    lent_frame_state (frame_state_at m.frame_states f) c.number tied.seats.some_number (ap some_cpu (sym lent) ∙ (ok.frame_states f inside).lent) in
+    let used : get_or before f false ≡ false = ap (λ (l : List Bool). get_or l f false) was ∙ free_at m.frame_states f within ∙ ap is_free frame_state in
+    let long : length before ≡ length m.frame_states = ap length was ∙ length_free m.frame_states in
     subst (λ (x : ℕ × ℕ). IsInUse before (record { at = x.0; order = x.1 })) (λ j. (sym index j, sym zero_is j))
     (record {
       block = record { order = omega arith; aligned = omega arith; inside = omega (arith, long, within) };

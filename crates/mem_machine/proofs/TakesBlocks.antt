@@ -28,9 +28,9 @@ use Rattle.step_rules.specs.State.{with_at, free_in, one_if}
 use Rattle.step_rules.specs.Usage.{usage_of}
 use Rattle.step_rules.proofs.Basics.{at_same, at_other}
 use Rattle.step_rules.proofs.Placing.{within_cases}
-use Rattle.mem_machine.specs.declared.spot.Spot.{Spot}
-use Rattle.mem_machine.specs.declared.spot.Spot.TheVariants.{Free, Head, Tail}
-use Rattle.mem_machine.specs.Spots.{spot_at, is_free, is_in_hand, lent_to, free_of, spot_group}
+use Rattle.mem_machine.specs.declared.frame_state.FrameState.{FrameState}
+use Rattle.mem_machine.specs.declared.frame_state.FrameState.TheVariants.{Free, Head, Tail}
+use Rattle.mem_machine.specs.FrameStates.{frame_state_at, is_free, is_in_hand, lent_to, free_of, frame_state_group}
 use Rattle.mem_machine.specs.Machines.{KnownMachine, IsConsistent, Visits, is_killed}
 use Rattle.mem_machine.specs.Blocks.{PlacesUnit, TakesBlock, TakesNoBlock, taken_steps, unplaced_steps}
 use Rattle.mem_machine.specs.Local.{local_of, phase_of, side, MakesAs}
@@ -56,7 +56,7 @@ used_in_block : (g : ℕ) (b : Block) (x : Bool) → is_free (cond x (Head (reco
 used_in_block g b true = refl
 used_in_block g b false = refl
 
-module _ (old : List Spot) (blocks : List Block) (areas : AreMaximalBlocks (free_of old) blocks) (before free : List Bool) (was : before ≡ free_of old)
+module _ (old : List FrameState) (blocks : List Block) (areas : AreMaximalBlocks (free_of old) blocks) (before free : List Bool) (was : before ≡ free_of old)
     (k : ℕ) (b : Block) (front : IsFrontOfSmallest blocks k b) (takes : TakesFrames before b free) where
   pub taken_inside : IsBlock (length old) b
   taken_inside =
@@ -70,45 +70,45 @@ module _ (old : List Spot) (blocks : List Block) (areas : AreMaximalBlocks (free
       subst (IsBlock (length old)) (λ i. record { at = sym front.front i; order = sym front.order_is i })
       (front_is_block (length old) front.smallest.at k (front.smallest.order - k) named)
 
-  pub taken_free : (f : ℕ) → b.at ≤ f → f < b.at + 2 ^ b.order → spot_at old f ≡ Free
+  pub taken_free : (f : ℕ) → b.at ≤ f → f < b.at + 2 ^ b.order → frame_state_at old f ≡ Free
   taken_free f low high =
       let is : IsFree (free_of old) f = subst (λ (l : List Bool). IsFree l f) was (takes.were_free f (record { from = low; before = high })) in
       let inside = free_inside old f is in
-      free_is (spot_at old f) (sym (free_at old f inside) ∙ is)
+      free_is (frame_state_at old f) (sym (free_at old f inside) ∙ is)
 
-  pub head_free : spot_at old b.at ≡ Free
+  pub head_free : frame_state_at old b.at ≡ Free
   head_free = let some = pow_pos b.order in taken_free b.at (omega arith) (omega (arith, some))
 
   pub head_inside : b.at < length old
   head_inside = let h = taken_inside.inside in let some = pow_pos b.order in omega (arith, h, some)
 
   -- the free frames are those of the records once the unit is placed
-  pub free_then : (spots : List Spot) (g : ℕ) → PlacesUnit g b old spots → free ≡ free_of spots
-  free_then spots g placed =
-      let sized : length free ≡ length (free_of spots) =
-      takes.same_length ∙ ap (λ (l : List Bool). length l) was ∙ length_free old ∙ sym placed.frames ∙ sym (length_free spots) in
-      ext_get_or false free (free_of spots) sized (λ f within.
-      let room : f < length spots = subst (λ (n : ℕ). f < n) (sized ∙ length_free spots) within in
-      let now = free_at spots f room in
+  pub free_then : (frame_states : List FrameState) (g : ℕ) → PlacesUnit g b old frame_states → free ≡ free_of frame_states
+  free_then frame_states g placed =
+      let sized : length free ≡ length (free_of frame_states) =
+      takes.same_length ∙ ap (λ (l : List Bool). length l) was ∙ length_free old ∙ sym placed.frames ∙ sym (length_free frame_states) in
+      ext_get_or false free (free_of frame_states) sized (λ f within.
+      let room : f < length frame_states = subst (λ (n : ℕ). f < n) (sized ∙ length_free frame_states) within in
+      let now = free_at frame_states f room in
       elim (within_cases b.at (2 ^ b.order) f) [
         | inl w ↦
-            let used : is_free (spot_at spots f) ≡ false =
+            let used : is_free (frame_state_at frame_states f) ≡ false =
             ap is_free (placed.records f ∙ in_block old g b f w.0) ∙ used_in_block g b (f == b.at) in
             both_ways _ _ (λ a. absurd (takes.in_use f (record { from = w.1; before = w.2 }) a)) (λ c. absurd (false≢true (sym used ∙ sym now ∙ c)))
         | inr out ↦
             let there : f < length old = subst (λ (n : ℕ). f < n) placed.frames room in
-            let earlier : get_or before f false ≡ is_free (spot_at old f) = ap (λ (l : List Bool). get_or l f false) was ∙ free_at old f there in
-            let same : is_free (spot_at spots f) ≡ is_free (spot_at old f) = ap is_free (placed.records f ∙ off_block old g b f out.0) in
+            let earlier : get_or before f false ≡ is_free (frame_state_at old f) = ap (λ (l : List Bool). get_or l f false) was ∙ free_at old f there in
+            let same : is_free (frame_state_at frame_states f) ≡ is_free (frame_state_at old f) = ap is_free (placed.records f ∙ off_block old g b f out.0) in
             let o = takes.others f (λ c. out.1 c.from c.before) in
             both_ways _ _ (λ a. now ∙ same ∙ sym earlier ∙ o.0 a) (λ c. o.1 (earlier ∙ sym same ∙ sym now ∙ c))
       ])
 
 -- the rules of the steps see it free
-seen_free : (t : KnownTable) (m : KnownMachine) (c : KnownCpu) → length m.spots ≡ t.frames → (b : Block) → IsBlock (length m.spots) b
-    → ((f : ℕ) → b.at ≤ f → f < b.at + 2 ^ b.order → spot_at m.spots f ≡ Free) → IsFreeBlock (free_in (local_of t m c).zone (local_of t m c).phases) b
+seen_free : (t : KnownTable) (m : KnownMachine) (c : KnownCpu) → length m.frame_states ≡ t.frames → (b : Block) → IsBlock (length m.frame_states) b
+    → ((f : ℕ) → b.at ≤ f → f < b.at + 2 ^ b.order → frame_state_at m.frame_states f ≡ Free) → IsFreeBlock (free_in (local_of t m c).zone (local_of t m c).phases) b
 seen_free t m c sized b block free =
     let s = local_of t m c in
-    let long : length m.spots ≡ length (free_in s.zone s.phases) = sized ∙ sym (length-map-range_with_len (λ f. phases.is_free (s.phases f)) 0 t.frames) in
+    let long : length m.frame_states ≡ length (free_in s.zone s.phases) = sized ∙ sym (length-map-range_with_len (λ f. phases.is_free (s.phases f)) 0 t.frames) in
     record {
       block = subst (λ (n : ℕ). IsBlock n b) long block;
       all_free = λ f inside.
@@ -116,7 +116,7 @@ seen_free t m c sized b block free =
           let before = inside.before in
           let below : f < t.frames = omega (arith, high, before, sized) in
           get_or-map-range_with_len (λ x. phases.is_free (s.phases x)) 0 t.frames f f false below (omega arith)
-          ∙ ap (λ (x : Spot). phases.is_free (phase_of c f x)) (free f inside.from inside.before);
+          ∙ ap (λ (x : FrameState). phases.is_free (phase_of c f x)) (free f inside.from inside.before);
     }
 
 -- ---- the zone's seat
@@ -158,18 +158,18 @@ one_more_reference s f x = elim (cases_eq x f) [
 ]
 
 -- the frame that the zone finds free is in its hand
-pub free_in_hand : (t : KnownTable) (w : Words) (m : KnownMachine) → IsConsistent t w m → (f g : ℕ) → f < length m.spots → spot_at m.spots f ≡ Free → g ≡ f
+pub free_in_hand : (t : KnownTable) (w : Words) (m : KnownMachine) → IsConsistent t w m → (f g : ℕ) → f < length m.frame_states → frame_state_at m.frame_states f ≡ Free → g ≡ f
     → IsInOwnHand m.frame_seat g
 free_in_hand t w m ok f g inside is named =
-    let s = ok.sizes.spots in
-    subst (λ (x : ℕ). IsInOwnHand m.frame_seat x) (sym named) ((ok.spots f (omega (arith, s, inside))).own ∙ ap (λ (x : Spot). one_if (is_in_hand x)) is)
+    let s = ok.sizes.frame_states in
+    subst (λ (x : ℕ). IsInOwnHand m.frame_seat x) (sym named) ((ok.frame_states f (omega (arith, s, inside))).own ∙ ap (λ (x : FrameState). one_if (is_in_hand x)) is)
 
 -- ---- all of it
 
 -- what `take_block` leaves if there is a block, of the machine as it was seen before
 pub record AllTaken (t : KnownTable) (w : Words) (now : KnownMachine) (c : KnownCpu) (g k at : ℕ) (n : KnownMachine) (d : KnownCpu) (free : List Bool) : Type 0 where
   pub consistent : IsConsistent t w n
-  pub free_is : free ≡ free_of n.spots
+  pub free_is : free ≡ free_of n.frame_states
   pub takes : TakesBlock g k at now n
   pub visit : Visits t (side n d)
   pub steps : MakesAs t c.number (side now c) (taken_steps g k at) (side n d)
@@ -182,10 +182,10 @@ pub record MayTake (t : KnownTable) (m : KnownMachine) (c : KnownCpu) (g : ℕ) 
   pub there : has_group m.ledger.groups g ≡ true
   pub alive : is_killed m.killed g ≡ false
 
-abbrev taken_machine : KnownMachine → ℕ → Block → List Block → List Spot → List Link → List Lru → KnownMachine
-taken_machine m g b blocks spots links lists = record {
+abbrev taken_machine : KnownMachine → ℕ → Block → List Block → List FrameState → List Link → List Lru → KnownMachine
+taken_machine m g b blocks frame_states links lists = record {
   blocks = blocks;
-  spots = spots;
+  frame_states = frame_states;
   ledger = with_charge m.ledger g (2 ^ b.order);
   links = links;
   lists = lists;
@@ -198,25 +198,25 @@ taken_machine m g b blocks spots links lists = record {
 
 taken_here : (t : KnownTable) (w : Words) (m : KnownMachine) (c : KnownCpu) → IsConsistent t w m → AreCharges m.ledger → (g : ℕ) → g < 64 → (b : Block)
     → MayTake t m c g → PathHasRoom m.ledger.groups (current_of m.ledger) g (2 ^ b.order) → PagesRise m.ledger (with_charge m.ledger g (2 ^ b.order)) g (2 ^ b.order)
-    → (before free : List Bool) (blocks : List Block) → before ≡ free_of m.spots → IsFrontOfSmallest m.blocks b.order b → TakesFrames before b free
-    → AreMaximalBlocks free blocks → (spots : List Spot) → PlacesUnit g b m.spots spots → holds m.frame_seat b.at ≡ 0
+    → (before free : List Bool) (blocks : List Block) → before ≡ free_of m.frame_states → IsFrontOfSmallest m.blocks b.order b → TakesFrames before b free
+    → AreMaximalBlocks free blocks → (frame_states : List FrameState) → PlacesUnit g b m.frame_states frame_states → holds m.frame_seat b.at ≡ 0
     → (links : List Link) (lists : List Lru) → AllJoin m.links m.lists g b.at links lists
-    → AllTaken t w m c g b.order b.at (taken_machine m g b blocks spots links lists) c free
-taken_here t w m c ok facts g fits b may room rise before free blocks was front takes areas spots placed unreferred links lists joined =
-    let n = taken_machine m g b blocks spots links lists in
-    let block = taken_inside m.spots m.blocks ok.areas before free was b.order b front takes in
-    let were_free = taken_free m.spots m.blocks ok.areas before free was b.order b front takes in
-    let head = head_free m.spots m.blocks ok.areas before free was b.order b front takes in
-    let sized = ok.sizes.spots in
-    let inside : b.at < t.frames = let h = head_inside m.spots m.blocks ok.areas before free was b.order b front takes in omega (arith, h, sized) in
-    let frees : free ≡ free_of spots = free_then m.spots m.blocks ok.areas before free was b.order b front takes spots g placed in
-    let maximal : AreMaximalBlocks (free_of spots) blocks = subst (λ (l : List Bool). AreMaximalBlocks l blocks) frees areas in
+    → AllTaken t w m c g b.order b.at (taken_machine m g b blocks frame_states links lists) c free
+taken_here t w m c ok facts g fits b may room rise before free blocks was front takes areas frame_states placed unreferred links lists joined =
+    let n = taken_machine m g b blocks frame_states links lists in
+    let block = taken_inside m.frame_states m.blocks ok.areas before free was b.order b front takes in
+    let were_free = taken_free m.frame_states m.blocks ok.areas before free was b.order b front takes in
+    let head = head_free m.frame_states m.blocks ok.areas before free was b.order b front takes in
+    let sized = ok.sizes.frame_states in
+    let inside : b.at < t.frames = let h = head_inside m.frame_states m.blocks ok.areas before free was b.order b front takes in omega (arith, h, sized) in
+    let frees : free ≡ free_of frame_states = free_then m.frame_states m.blocks ok.areas before free was b.order b front takes frame_states g placed in
+    let maximal : AreMaximalBlocks (free_of frame_states) blocks = subst (λ (l : List Bool). AreMaximalBlocks l blocks) frees areas in
     let used : IsUsed (unfrozen 1 (note_of m.frame_seat.view b.at)) = record {
       own = refl;
-      lent = no_cpu_is (note_of m.frame_seat.view b.at).lent ((ok.spots b.at inside).lent ∙ ap lent_to head);
+      lent = no_cpu_is (note_of m.frame_seat.view b.at).lent ((ok.frame_states b.at inside).lent ∙ ap lent_to head);
       references = let r : (note_of m.frame_seat.view b.at).references ≡ 0 = unreferred in omega (arith, r);
     } in
-    let joins : JoinsCharges t w m g (2 ^ b.order) spots blocks (with_charge m.ledger g (2 ^ b.order)) m.stock_seat = record {
+    let joins : JoinsCharges t w m g (2 ^ b.order) frame_states blocks (with_charge m.ledger g (2 ^ b.order)) m.stock_seat = record {
       areas = maximal;
       table = ok.seats.table;
       stocks = ok.seats.stocks;
@@ -225,7 +225,7 @@ taken_here t w m c ok facts g fits b may room rise before free blocks was front 
       charged = λ h. let a = rise h in let old = ok.charged h in omega (arith, a, old);
     } in
     record {
-      consistent = unit_kept t w m ok g fits b block spots placed (ap spot_group head) (λ x low high ne. were_free x low high) links lists joined
+      consistent = unit_kept t w m ok g fits b block frame_states placed (ap frame_state_group head) (λ x low high ne. were_free x low high) links lists joined
           (unfrozen 1) used blocks (with_charge m.ledger g (2 ^ b.order)) m.stock_seat m.counts joins ok.balances;
       free_is = frees;
       takes = record {
@@ -239,7 +239,7 @@ taken_here t w m c ok facts g fits b may room rise before free blocks was front 
       visit = unfrozen_visits t m n c b.at refl may.visit;
       steps = taken_run t m c g b may.there may.alive may.usage room inside (seen_free t m c sized b block were_free) (ap (times b.at) may.none_back) n
           (record {
-            spots = placed.records;
+            frame_states = placed.records;
             references = one_more_reference m.frame_seat b.at;
             hold = refl;
             groups = refl;
@@ -251,12 +251,12 @@ taken_here t w m c ok facts g fits b may room rise before free blocks was front 
 
 pub taken_all : (t : KnownTable) (w : Words) (m now : KnownMachine) → m ≡ now → (c d : KnownCpu) → d ≡ c → IsConsistent t w m → AreCharges m.ledger → (g : ℕ) → g < 64
     → (k pages : ℕ) → pages ≡ 2 ^ k → MayTake t now c g → PathHasRoom m.ledger.groups (current_of m.ledger) g pages → (ledger : Ledger) → ledger ≡ with_charge m.ledger g pages
-    → PagesRise m.ledger ledger g pages → (before free : List Bool) (b : Block) (blocks : List Block) → before ≡ free_of m.spots
-    → IsFrontOfSmallest m.blocks k b → TakesFrames before b free → AreMaximalBlocks free blocks → (spots : List Spot) → PlacesUnit g b m.spots spots
+    → PagesRise m.ledger ledger g pages → (before free : List Bool) (b : Block) (blocks : List Block) → before ≡ free_of m.frame_states
+    → IsFrontOfSmallest m.blocks k b → TakesFrames before b free → AreMaximalBlocks free blocks → (frame_states : List FrameState) → PlacesUnit g b m.frame_states frame_states
     → (f u : ℕ) → f ≡ b.at → u ≡ f → holds m.frame_seat f ≡ 0 → (seat : KnownSeat) → seat ≡ seat_with m.frame_seat f (unfrozen 1)
     → (links : List Link) (lists : List Lru) → AllJoin m.links m.lists g u links lists
-    → AllTaken t w now c g k f (record m { blocks = blocks; spots = spots; ledger = ledger; links = links; lists = lists; frame_seat = seat }) d free
-taken_all t w m now same c d stays ok facts g fits k pages size may room ledger charged rise before free b blocks was front takes areas spots placed f u at unit
+    → AllTaken t w now c g k f (record m { blocks = blocks; frame_states = frame_states; ledger = ledger; links = links; lists = lists; frame_seat = seat }) d free
+taken_all t w m now same c d stays ok facts g fits k pages size may room ledger charged rise before free b blocks was front takes areas frame_states placed f u at unit
     unreferred seat seat_is links lists joined =
     let order : k ≡ b.order = sym front.order_is in
     let so_many : pages ≡ 2 ^ b.order = size ∙ ap (λ (x : ℕ). 2 ^ x) order in
@@ -275,7 +275,7 @@ taken_all t w m now same c d stays ok facts g fits k pages size may room ledger 
       same j,
       record m {
         blocks = blocks;
-        spots = spots;
+        frame_states = frame_states;
         ledger = sym ledger_is j;
         links = links;
         lists = lists;
@@ -285,7 +285,7 @@ taken_all t w m now same c d stays ok facts g fits k pages size may room ledger 
       sym order j,
       sym at j,
     ))
-    (taken_here t w m c ok facts g fits b may_here room_here rise_here before free blocks was front_here takes areas spots placed unreferred_here links lists joined_here)
+    (taken_here t w m c ok facts g fits b may_here room_here rise_here before free blocks was front_here takes areas frame_states placed unreferred_here links lists joined_here)
 
 -- ---- no block
 
@@ -308,6 +308,6 @@ none_all t w m now same c d stays ok facts g k pages size may room charged ledge
     (λ j. (same j, record m { blocks = sym kept j; ledger = sym ledger_is j }, sym stays j))
     (record {
       none = record { room = room_here; none = none; machine = refl };
-      steps = unplaced_run t m c g (2 ^ k) may_here.there may_here.alive may_here.usage k enough ok.sizes.spots ok.areas none facts room_here n refl refl
+      steps = unplaced_run t m c g (2 ^ k) may_here.there may_here.alive may_here.usage k enough ok.sizes.frame_states ok.areas none facts room_here n refl refl
           (uncharge_peaks (with_charge m.ledger g (2 ^ k)) g (2 ^ k)) (uncharge_events (with_charge m.ledger g (2 ^ k)) g (2 ^ k));
     })

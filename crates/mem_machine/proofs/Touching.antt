@@ -11,7 +11,7 @@ use Rattle.lru_lists.specs.declared.lru.Lru.{Lru}
 use Rattle.lru_lists.specs.declared.lru.Touched.{Touched}
 use Rattle.lru_lists.specs.Lists.{OthersStand, OneOfAllChanges, StandsIn, AllStand, ChangesOwn, Touches, list_of}
 use Rattle.cpu_part.specs.Cpus.{KnownCpu}
-use Rattle.mem_machine.specs.Spots.{spot_at}
+use Rattle.mem_machine.specs.FrameStates.{frame_state_at}
 use Rattle.mem_machine.specs.Machines.{KnownMachine, IsConsistent, home_of, no_lists}
 use Rattle.mem_machine.specs.Marks.{TouchesUnit}
 use Rattle.mem_machine.specs.Local.{MakesAs, side}
@@ -42,7 +42,7 @@ module _ (t : KnownTable) (w : Words) (m : KnownMachine) (ok : IsConsistent t w 
   pub touch_consistent : IsConsistent t w (record m { links = links; lists = slice_set m.lists h.owner new })
   touch_consistent = record {
     sizes = let s = ok.sizes in record {
-      spots = s.spots;
+      frame_states = s.frame_states;
       links = changes.frames ∙ s.links;
       lists = length-set m.lists h.owner new ∙ s.lists;
       killed = s.killed;
@@ -50,7 +50,7 @@ module _ (t : KnownTable) (w : Words) (m : KnownMachine) (ok : IsConsistent t w 
     };
     seats = ok.seats;
     areas = ok.areas;
-    spots = λ g within. fits_home t.cpus (note_of m.frame_seat.view g) (home_of m.links g) (home_of links g) (spot_at m.spots g) (owners g) (ok.spots g within);
+    frame_states = λ g within. fits_home t.cpus (note_of m.frame_seat.view g) (home_of m.links g) (home_of links g) (frame_state_at m.frame_states g) (owners g) (ok.frame_states g within);
     units = ok.units;
     lists = all_stand;
     absorbed = ok.absorbed;

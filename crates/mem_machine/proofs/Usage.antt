@@ -26,13 +26,13 @@ use Rattle.step_rules.specs.State.{one_if, sum_to}
 use Rattle.step_rules.specs.Usage.{is_below, frames_kept, stock_below, pages_prepaid, pages_pending, usage_of}
 use Rattle.step_rules.proofs.Sums.{sum_same, sum_none, sum_both, sum_only}
 use Rattle.step_rules.proofs.Lists as steps
-use Rattle.mem_machine.specs.declared.spot.Spot.{Spot}
-use Rattle.mem_machine.specs.declared.spot.Spot.TheVariants.{Free, Lent, Head, Tail}
-use Rattle.mem_machine.specs.Spots.{spot_at, some_cpu, spot_group}
+use Rattle.mem_machine.specs.declared.frame_state.FrameState.{FrameState}
+use Rattle.mem_machine.specs.declared.frame_state.FrameState.TheVariants.{Free, Lent, Head, Tail}
+use Rattle.mem_machine.specs.FrameStates.{frame_state_at, some_cpu, frame_state_group}
 use Rattle.mem_machine.specs.Machines.{KnownMachine, IsConsistent}
 use Rattle.mem_machine.specs.Local.{number_or_0, fresh_group, phase_of, part_with, part_of, local_of}
 use Rattle.mem_machine.proofs.Ledgers.{cond_zero, cond_one, cond_sum, ledger_side}
-use Rattle.mem_machine.proofs.Records.{lent_spot}
+use Rattle.mem_machine.proofs.Records.{lent_frame_state}
 
 -- ---- what the caller's part shows
 
@@ -56,14 +56,14 @@ module _ (t : KnownTable) (w : Words) (m : KnownMachine) (c : KnownCpu) (is : Is
   abbrev groups : List Group
   groups = m.ledger.groups
 
-  abbrev spot : ℕ → Spot
-  spot f = spot_at m.spots f
+  abbrev frame_state : ℕ → FrameState
+  frame_state f = frame_state_at m.frame_states f
 
   abbrev book : ℕ → Book
   book p = account_of m.stock_seat.view p
 
   -- a fresh frame is lent to the caller
-  fresh_lent : (f : ℕ) → f < t.frames → 1 ≤ times f c.fresh → (spot f ≡ Lent c.number) × (times f c.fresh ≡ 1)
+  fresh_lent : (f : ℕ) → f < t.frames → 1 ≤ times f c.fresh → (frame_state f ≡ Lent c.number) × (times f c.fresh ≡ 1)
   fresh_lent f inside some =
       let noted = tied.noted f in
       let once = noted.once in
@@ -71,7 +71,7 @@ module _ (t : KnownTable) (w : Words) (m : KnownMachine) (c : KnownCpu) (is : Is
       let borrowed_is = noted.borrowed_is in
       let borrowed : (note_of c.frame_seat.view f).borrowed ≡ 1 = omega arith in
       let to = (lent f inside).1 borrowed in
-      (lent_spot (spot f) c.number tied.seats.some_number (ap some_cpu (sym (to ∙ tied.seats.frame_number)) ∙ (is.spots f inside).lent), one)
+      (lent_frame_state (frame_state f) c.number tied.seats.some_number (ap some_cpu (sym (to ∙ tied.seats.frame_number)) ∙ (is.frame_states f inside).lent), one)
 
   lent_keeper : (a b : Bool) (u : ChargedUnit) (q : ℕ) → b ≡ false → keeper_of (cond (a && b) (phase.Head u (FreshAt q)) (phase.Lent q OnList)) ≡ None
   lent_keeper true b u q e = ap (λ (x : Bool). keeper_of (cond x (phase.Head u (FreshAt q)) (phase.Lent q OnList))) e
@@ -82,19 +82,19 @@ module _ (t : KnownTable) (w : Words) (m : KnownMachine) (c : KnownCpu) (is : Is
   back_keeper false u q = refl
 
   -- a frame that isn't fresh counts for the group that it is charged to
-  keeper_plain : (f : ℕ) (x : Spot) → nat_le 1 (times f c.fresh) ≡ false → keeper_of (phase_of c f x) ≡ spot_group x
+  keeper_plain : (f : ℕ) (x : FrameState) → nat_le 1 (times f c.fresh) ≡ false → keeper_of (phase_of c f x) ≡ frame_state_group x
   keeper_plain f Free e = refl
   keeper_plain f (Lent q) e = lent_keeper (q == c.number) (nat_le 1 (times f c.fresh)) (record { group = fresh_group c; order = 0 }) q e
   keeper_plain f (Head unit) e = back_keeper (nat_le 1 (times f c.back)) unit c.number
   keeper_plain f (Tail h) e = refl
 
-  kept_each : (f : ℕ) → f < t.frames → one_if (is_below groups g (keeper_of (phase_of c f (spot f))))
-      ≡ one_if (is_below groups g (spot_group (spot f))) + cond (in_subtree groups g (fresh_group c)) (times f c.fresh) 0
+  kept_each : (f : ℕ) → f < t.frames → one_if (is_below groups g (keeper_of (phase_of c f (frame_state f))))
+      ≡ one_if (is_below groups g (frame_state_group (frame_state f))) + cond (in_subtree groups g (fresh_group c)) (times f c.fresh) 0
   kept_each f inside = elim (cases_lt (times f c.fresh) 1) [
     | inl none ↦
         let zero_is : times f c.fresh ≡ 0 = omega arith in
-        let a : one_if (is_below groups g (keeper_of (phase_of c f (spot f)))) ≡ one_if (is_below groups g (spot_group (spot f))) =
-        ap (λ (o : Option ℕ). one_if (is_below groups g o)) (keeper_plain f (spot f) (ap (λ (n : ℕ). nat_le 1 n) zero_is)) in
+        let a : one_if (is_below groups g (keeper_of (phase_of c f (frame_state f)))) ≡ one_if (is_below groups g (frame_state_group (frame_state f))) =
+        ap (λ (o : Option ℕ). one_if (is_below groups g o)) (keeper_plain f (frame_state f) (ap (λ (n : ℕ). nat_le 1 n) zero_is)) in
         let b : cond (in_subtree groups g (fresh_group c)) (times f c.fresh) 0 ≡ 0 =
         ap (λ (n : ℕ). cond (in_subtree groups g (fresh_group c)) n 0) zero_is ∙ cond_zero (in_subtree groups g (fresh_group c)) in
         omega arith
@@ -103,11 +103,11 @@ module _ (t : KnownTable) (w : Words) (m : KnownMachine) (c : KnownCpu) (is : Is
         let p = c.number in
         let test : (p == p && nat_le 1 (times f c.fresh)) ≡ true = and_from (p == p) (nat_le 1 (times f c.fresh)) (eq-eqb p p refl)
         (le-leb 1 (times f c.fresh) some) in
-        let a : one_if (is_below groups g (keeper_of (phase_of c f (spot f)))) ≡ one_if (in_subtree groups g (fresh_group c)) =
-        ap (λ (x : Spot). one_if (is_below groups g (keeper_of (phase_of c f x)))) both.0
+        let a : one_if (is_below groups g (keeper_of (phase_of c f (frame_state f)))) ≡ one_if (in_subtree groups g (fresh_group c)) =
+        ap (λ (x : FrameState). one_if (is_below groups g (keeper_of (phase_of c f x)))) both.0
         ∙ ap (λ (b : Bool). one_if (is_below groups g (keeper_of (cond b (phase.Head (record { group = fresh_group c; order = 0 }) (FreshAt p))
         (phase.Lent p OnList))))) test in
-        let b : one_if (is_below groups g (spot_group (spot f))) ≡ 0 = ap (λ (x : Spot). one_if (is_below groups g (spot_group x))) both.0 in
+        let b : one_if (is_below groups g (frame_state_group (frame_state f))) ≡ 0 = ap (λ (x : FrameState). one_if (is_below groups g (frame_state_group x))) both.0 in
         let d : cond (in_subtree groups g (fresh_group c)) (times f c.fresh) 0 ≡ one_if (in_subtree groups g (fresh_group c)) =
         ap (λ (n : ℕ). cond (in_subtree groups g (fresh_group c)) n 0) both.1 ∙ cond_one (in_subtree groups g (fresh_group c)) in
         omega arith
@@ -124,10 +124,10 @@ module _ (t : KnownTable) (w : Words) (m : KnownMachine) (c : KnownCpu) (is : Is
       (sum_same t.frames (λ f. times f c.fresh) (λ f. steps.times f c.fresh) (λ f lt. as_steps f c.fresh)
       ∙ steps.count_length t.frames c.fresh (λ f beyond. let none = (tied.noted f).in_table beyond in let same = as_steps f c.fresh in omega arith))
 
-  kept : frames_kept groups (λ f. phase_of c f (spot f)) t.frames g ≡ sum_to t.frames (λ f. one_if (is_below groups g (spot_group (spot f)))) + fresh_pages
+  kept : frames_kept groups (λ f. phase_of c f (frame_state f)) t.frames g ≡ sum_to t.frames (λ f. one_if (is_below groups g (frame_state_group (frame_state f)))) + fresh_pages
   kept =
       let a = sum_same t.frames _ _ kept_each in
-      let b = sum_both t.frames (λ f. one_if (is_below groups g (spot_group (spot f)))) (λ f. cond (in_subtree groups g (fresh_group c)) (times f c.fresh) 0) in
+      let b = sum_both t.frames (λ f. one_if (is_below groups g (frame_state_group (frame_state f)))) (λ f. cond (in_subtree groups g (fresh_group c)) (times f c.fresh) 0) in
       let d = fresh_counted in
       omega arith
 

@@ -10,39 +10,39 @@ use Rattle.group_charge.specs.Charges.{current_of, with_charge, with_uncharge}
 use Rattle.step_rules.specs.declared.step.Action.TheVariants.{Grant, Ungrant, PlaceBlock, Unfreeze, Publish}
 use Rattle.step_rules.specs.declared.step.Answer.TheVariants.{Done, Granted, Placed, NoFreeBlock}
 use Rattle.step_rules.specs.After.{Run, is_within}
-use Rattle.mem_machine.specs.declared.spot.Spot.{Spot}
-use Rattle.mem_machine.specs.declared.spot.Spot.TheVariants.{Head, Tail}
+use Rattle.mem_machine.specs.declared.frame_state.FrameState.{FrameState}
+use Rattle.mem_machine.specs.declared.frame_state.FrameState.TheVariants.{Head, Tail}
 use Rattle.mem_machine.specs.declared.blocks.TakeFault.{TakeFault}
 use Rattle.mem_machine.specs.declared.blocks.TakeFault.TheVariants as fault
-use Rattle.mem_machine.specs.Spots.{spot_at, free_of}
+use Rattle.mem_machine.specs.FrameStates.{frame_state_at, free_of}
 use Rattle.mem_machine.specs.Lists.{ListsUnit}
 use Rattle.mem_machine.specs.Machines.{KnownMachine, LacksRoom}
 use Rattle.mem_machine.specs.Steps.{over_steps, zone_makes}
 
 -- the record of a frame after the block became a unit of the group: the block's first frame is the head, its other
 -- frames are tails
-abbrev pub placed_spot : List Spot → ℕ → Block → ℕ → Spot
-placed_spot spots group block frame =
+abbrev pub placed_frame_state : List FrameState → ℕ → Block → ℕ → FrameState
+placed_frame_state frame_states group block frame =
     if is_within block.at (2 ^ block.order) frame
     then (if frame == block.at then Head (record { group = group; order = block.order }) else Tail group)
-    else spot_at spots frame
+    else frame_state_at frame_states frame
 
 -- the block is a unit of the group, and all other frames keep their records
-pub record PlacesUnit (group : ℕ) (block : Block) (before after : List Spot) : Type 0 where
+pub record PlacesUnit (group : ℕ) (block : Block) (before after : List FrameState) : Type 0 where
   pub frames : length after ≡ length before
-  pub records : (frame : ℕ) → spot_at after frame ≡ placed_spot before group block frame
+  pub records : (frame : ℕ) → frame_state_at after frame ≡ placed_frame_state before group block frame
 
 -- The group is charged for a block of this order and gets it. It is the front of the free block of the least sufficient
 -- order with the least address. The head is in use, has one reference of the zone, and is on the group's inactive list.
 pub record TakesBlock (group order at : ℕ) (before after : KnownMachine) : Type 0 where
   pub room : PathHasRoom before.ledger.groups (current_of before.ledger) group (2 ^ order)
   pub front : IsFrontOfSmallest before.blocks order (record { at = at; order = order })
-  pub areas : AreMaximalBlocks (free_of after.spots) after.blocks
-  pub unit : PlacesUnit group (record { at = at; order = order }) before.spots after.spots
+  pub areas : AreMaximalBlocks (free_of after.frame_states) after.blocks
+  pub unit : PlacesUnit group (record { at = at; order = order }) before.frame_states after.frame_states
   pub listed : ListsUnit group at before after
   pub machine : after ≡ record before {
     blocks = after.blocks;
-    spots = after.spots;
+    frame_states = after.frame_states;
     ledger = with_charge before.ledger group (2 ^ order);
     links = after.links;
     lists = after.lists;

@@ -8,8 +8,8 @@ use Rattle.step_rules.specs.declared.phase.ChargedUnit.{ChargedUnit}
 use Rattle.step_rules.specs.declared.step.Action.TheVariants.{Freeze, Return}
 use Rattle.step_rules.specs.declared.step.Answer.TheVariants.{Done, Missed}
 use Rattle.step_rules.specs.After.{Run}
-use Rattle.mem_machine.specs.declared.spot.Spot.TheVariants.{Head}
-use Rattle.mem_machine.specs.Spots.{spot_at, free_of}
+use Rattle.mem_machine.specs.declared.frame_state.FrameState.TheVariants.{Head}
+use Rattle.mem_machine.specs.FrameStates.{frame_state_at, free_of}
 use Rattle.mem_machine.specs.Machines.{KnownMachine, lists_of}
 use Rattle.mem_machine.specs.Counts.{with_freeze, with_miss}
 use Rattle.mem_machine.specs.Freeing.{FreesFrames}
@@ -30,16 +30,16 @@ pub record MissesUnit (frame : ℕ) (before after : KnownMachine) : Type 0 where
 -- its group. Nothing else changed.
 pub record EvictsUnit (frame pages : ℕ) (before after : KnownMachine) : Type 0 where
   pub unit : ChargedUnit
-  pub heads : spot_at before.spots frame ≡ Head unit
+  pub heads : frame_state_at before.frame_states frame ≡ Head unit
   pub size : pages ≡ 2 ^ unit.order
   pub list : LeavesList frame (lists_of before) (lists_of after)
   pub own : unit.group ≡ list.group
   pub usage : UsageRises after.ledger before.ledger unit.group pages
-  pub frees : FreesFrames frame (2 ^ unit.order) before.spots after.spots
-  pub areas : AreMaximalBlocks (free_of after.spots) after.blocks
+  pub frees : FreesFrames frame (2 ^ unit.order) before.frame_states after.frame_states
+  pub areas : AreMaximalBlocks (free_of after.frame_states) after.blocks
   pub machine : after ≡ record before {
     blocks = after.blocks;
-    spots = after.spots;
+    frame_states = after.frame_states;
     ledger = with_uncharge before.ledger unit.group (2 ^ unit.order);
     links = after.links;
     lists = after.lists;

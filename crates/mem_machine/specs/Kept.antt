@@ -3,14 +3,14 @@ use Rattle.std.specs.Prelude.{◌≡◌}
 use Rattle.frame_word.specs.Seats.{KnownTable}
 use Rattle.stock_word.specs.Stock.{Words}
 use Rattle.mem_machine.specs.declared.machine.Machine.TheInside.{Inside}
-use Rattle.mem_machine.specs.Spots.{free_of}
+use Rattle.mem_machine.specs.FrameStates.{free_of}
 use Rattle.mem_machine.specs.Machines.{KnownMachine, IsConsistent}
 
 -- what contracts see of these fields
 abbrev pub machine_of : {N : Type 0} → Inside N → KnownMachine
 machine_of fields = record {
   blocks = fields.zone.blocks;
-  spots = fields.spots.items;
+  frame_states = fields.frame_states.items;
   ledger = fields.charges;
   links = fields.links;
   lists = fields.lists.items;
@@ -24,4 +24,4 @@ machine_of fields = record {
 -- what the fields show is consistent, and the zone's free frames are those whose record is Free
 pub record AreKept {N : Type 0} (table : KnownTable) (words : Words) (fields : Inside N) : Type 0 where
   pub consistent : IsConsistent table words (machine_of fields)
-  pub free : fields.zone.free ≡ free_of fields.spots.items
+  pub free : fields.zone.free ≡ free_of fields.frame_states.items

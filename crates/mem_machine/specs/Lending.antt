@@ -6,18 +6,18 @@ use Rattle.frame_word.specs.Views.{passed_out_to, took_in, gave_back, collected_
 use Rattle.frame_word.specs.Seats.{KnownTable, seat_with}
 use Rattle.cpu_part.specs.Cpus.{KnownCpu, most_listed}
 use Rattle.step_rules.specs.After.{Run}
-use Rattle.mem_machine.specs.declared.spot.Spot.TheVariants.{Free, Lent}
-use Rattle.mem_machine.specs.Spots.{free_of}
+use Rattle.mem_machine.specs.declared.frame_state.FrameState.TheVariants.{Free, Lent}
+use Rattle.mem_machine.specs.FrameStates.{free_of}
 use Rattle.mem_machine.specs.Machines.{OneByOne, SideStays}
 use Rattle.mem_machine.specs.Local.{Side, Makes}
 use Rattle.mem_machine.specs.Steps.{lend_steps, unlist_steps, refill_steps, drain_list_steps}
 
 -- the frame was free and is now at the end of the CPU's list; nothing else changed
 pub record LendsFrame (frame : ℕ) (before after : Side) : Type 0 where
-  pub areas : AreMaximalBlocks (free_of after.machine.spots) after.machine.blocks
+  pub areas : AreMaximalBlocks (free_of after.machine.frame_states) after.machine.blocks
   pub machine : after.machine ≡ record before.machine {
     blocks = after.machine.blocks;
-    spots = slice_set before.machine.spots frame (Lent before.cpu.number);
+    frame_states = slice_set before.machine.frame_states frame (Lent before.cpu.number);
     frame_seat = seat_with before.machine.frame_seat frame (passed_out_to before.cpu.number);
   }
   pub cpu : after.cpu ≡ record before.cpu {
@@ -66,10 +66,10 @@ pub record Refills (table : KnownTable) (count : ℕ) (before after : Side) : Ty
 pub record TakesOneBack (frame : ℕ) (before after : Side) : Type 0 where
   pub rest : List ℕ
   pub front : before.cpu.list ≡ frame ∷ rest
-  pub areas : AreMaximalBlocks (free_of after.machine.spots) after.machine.blocks
+  pub areas : AreMaximalBlocks (free_of after.machine.frame_states) after.machine.blocks
   pub machine : after.machine ≡ record before.machine {
     blocks = after.machine.blocks;
-    spots = slice_set before.machine.spots frame Free;
+    frame_states = slice_set before.machine.frame_states frame Free;
     frame_seat = seat_with before.machine.frame_seat frame (collected_from before.cpu.number);
   }
   pub cpu : after.cpu ≡ record before.cpu { list = rest; frame_seat = seat_with before.cpu.frame_seat frame gave_back }

@@ -1,4 +1,4 @@
-pub mod Spots
+pub mod FrameStates
 pub mod Counts
 pub mod Machines
 pub mod Kept

@@ -18,9 +18,9 @@ use Rattle.step_rules.specs.After.{Run}
 pub use Rattle.step_rules.specs.Reaches.{IsLocalRun}
 -- the machine, and the part of the CPU that holds its lock
 pub use Rattle.mem_machine.specs.Machines.{Side, side}
-use Rattle.mem_machine.specs.declared.spot.Spot.{Spot}
-use Rattle.mem_machine.specs.declared.spot.Spot.TheVariants.{Free, Lent, Head, Tail}
-use Rattle.mem_machine.specs.Spots.{spot_at}
+use Rattle.mem_machine.specs.declared.frame_state.FrameState.{FrameState}
+use Rattle.mem_machine.specs.declared.frame_state.FrameState.TheVariants.{Free, Lent, Head, Tail}
+use Rattle.mem_machine.specs.FrameStates.{frame_state_at}
 use Rattle.mem_machine.specs.Machines.{KnownMachine, is_killed}
 use Rattle.mem_machine.specs.Following.{FollowsSteps}
 use Rattle.mem_machine.specs.Counting.{counts_over}
@@ -36,7 +36,7 @@ fresh_group cpu = number_or_0 (stocks.group_of cpu.stock_seat.view.last)
 
 -- The phase of a frame with this record, as the CPU sees it. A lent frame is fresh if it is one of the CPU's own fresh
 -- frames, else listed. The head of a unit is back if it is one of the CPU's back frames, else live.
-abbrev pub phase_of : KnownCpu → ℕ → Spot → Phase
+abbrev pub phase_of : KnownCpu → ℕ → FrameState → Phase
 phase_of cpu frame Free = phase.InZone
 phase_of cpu frame (Lent processor) =
     if processor == cpu.number && nat_le 1 (times frame cpu.fresh)
@@ -88,7 +88,7 @@ local_of table machine cpu = record {
   hold = hold_of machine.frame_seat cpu.number;
   groups = machine.ledger.groups;
   killed = is_killed machine.killed;
-  phases = λ frame. phase_of cpu frame (spot_at machine.spots frame);
+  phases = λ frame. phase_of cpu frame (frame_state_at machine.frame_states frame);
   references = references_of machine.frame_seat cpu;
   parts = part_of machine.stock_seat cpu;
   pending = λ group. 0;

@@ -25,16 +25,16 @@ use Rattle.lru_lists.specs.Queue.{link_at, AreNowhere}
 use Rattle.lru_lists.specs.Lists.{AllStand, entries_of}
 use Rattle.step_rules.specs.State.{sum_to, one_if}
 use Rattle.cpu_part.specs.Cpus.{KnownCpu}
-use Rattle.mem_machine.specs.declared.spot.Spot.{Spot}
-use Rattle.mem_machine.specs.declared.spot.Spot.TheVariants.{Free}
+use Rattle.mem_machine.specs.declared.frame_state.FrameState.{FrameState}
+use Rattle.mem_machine.specs.declared.frame_state.FrameState.TheVariants.{Free}
 use Rattle.mem_machine.specs.declared.counts.Counts.{Counts}
 use Rattle.kill_notes.specs.declared.note.Note.{Note}
 use Rattle.kill_notes.specs.Notes.{noted}
 -- the units freed are the last puts, the freezes and the drops together, or the greatest count if that is less
 pub use Rattle.mem_machine.specs.Counts.{BalancesCounts}
 use Rattle.mem_machine.specs.Counts.{no_counts}
-use Rattle.mem_machine.specs.Spots.{AreUnits, spot_at, free_of, is_in_hand, some_cpu, lent_to}
-use Rattle.mem_machine.specs.Spots.{spot_group, head_group_of, count_of}
+use Rattle.mem_machine.specs.FrameStates.{AreUnits, frame_state_at, free_of, is_in_hand, some_cpu, lent_to}
+use Rattle.mem_machine.specs.FrameStates.{frame_state_group, head_group_of, count_of}
 
 -- The machine holds the free areas, a record for each frame, and the groups with their charges. It holds the links of
 -- all kept units, and two lists for each group number. It holds the zone's seats at the two tables, and which group
@@ -42,7 +42,7 @@ use Rattle.mem_machine.specs.Spots.{spot_group, head_group_of, count_of}
 -- the last `forget_notes`.
 pub record KnownMachine : Type 0 where
   pub blocks : List Block
-  pub spots : List Spot
+  pub frame_states : List FrameState
   pub ledger : Ledger
   pub links : List Link
   pub lists : List Lru
@@ -123,8 +123,8 @@ abbrev pub is_killed : List Bool → ℕ → Bool
 is_killed killed group = slice_index_or killed group false
 
 -- how many frames are charged to the group itself
-abbrev pub frames_charged : List Spot → ℕ → ℕ
-frames_charged spots group = sum_to (length spots) (λ frame. count_of group (spot_group (spot_at spots frame)))
+abbrev pub frames_charged : List FrameState → ℕ → ℕ
+frames_charged frame_states group = sum_to (length frame_states) (λ frame. count_of group (frame_state_group (frame_state_at frame_states frame)))
 
 -- the pages of a CPU's book if its stock is of the group, else 0
 abbrev pub booked : ℕ → Account → ℕ
@@ -138,16 +138,16 @@ pages_booked table stock group =
 -- The zone's seat and the lists agree with the frame's record. The frame is in the zone's hand exactly if it is free or
 -- a tail. It is lent to the CPU that its record names, whose number is between 1 and `cpus`. The zone has one reference
 -- on it if it is on a list, else none. That list is of the group whose unit the frame heads.
-pub record FitsSpot (cpus : ℕ) (note : FrameNote) (home : Option Home) (spot : Spot) : Type 0 where
-  pub own : note.own ≡ one_if (is_in_hand spot)
-  pub lent : some_cpu note.lent ≡ lent_to spot
-  pub borrower : IfSome (lent_to spot) (λ processor. (1 ≤ processor) × (processor ≤ cpus))
+pub record FitsFrameState (cpus : ℕ) (note : FrameNote) (home : Option Home) (frame_state : FrameState) : Type 0 where
+  pub own : note.own ≡ one_if (is_in_hand frame_state)
+  pub lent : some_cpu note.lent ≡ lent_to frame_state
+  pub borrower : IfSome (lent_to frame_state) (λ processor. (1 ≤ processor) × (processor ≤ cpus))
   pub references : note.references ≡ one_if (is_some home)
-  pub kept : IfSome home (λ list. (list.owner < most_groups) × (head_group_of spot ≡ Some list.owner))
+  pub kept : IfSome home (λ list. (list.owner < most_groups) × (head_group_of frame_state ≡ Some list.owner))
 
 -- the parts have the sizes of the tables, and both tables have the same number of CPUs
 pub record AreSized (table : KnownTable) (words : Words) (machine : KnownMachine) : Type 0 where
-  pub spots : length machine.spots ≡ table.frames
+  pub frame_states : length machine.frame_states ≡ table.frames
   pub links : length machine.links ≡ table.frames
   pub lists : length machine.lists ≡ most_groups
   pub killed : length machine.killed ≡ most_groups
@@ -167,16 +167,16 @@ pub record AreZoneSeats (frame_table : KnownTable) (words : Words) (seat : Known
 pub record IsConsistent (table : KnownTable) (words : Words) (machine : KnownMachine) : Type 0 where
   pub sizes : AreSized table words machine
   pub seats : AreZoneSeats table words machine.frame_seat machine.stock_seat
-  pub areas : AreMaximalBlocks (free_of machine.spots) machine.blocks
-  pub spots : (frame : ℕ) → frame < table.frames
-      → FitsSpot table.cpus (note_of machine.frame_seat.view frame) (home_of machine.links frame)
-      (spot_at machine.spots frame)
-  pub units : AreUnits machine.spots
+  pub areas : AreMaximalBlocks (free_of machine.frame_states) machine.blocks
+  pub frame_states : (frame : ℕ) → frame < table.frames
+      → FitsFrameState table.cpus (note_of machine.frame_seat.view frame) (home_of machine.links frame)
+      (frame_state_at machine.frame_states frame)
+  pub units : AreUnits machine.frame_states
   pub lists : AllStand machine.links machine.lists
   pub absorbed : (processor : ℕ) → (account_of machine.stock_seat.view processor).unabsorbed ≡ 0
   pub bounded : (processor : ℕ) → (account_of machine.stock_seat.view processor).book < 65536
   pub charged : (group : ℕ)
-      → pages_of machine.ledger group ≡ frames_charged machine.spots group + pages_booked table machine.stock_seat group
+      → pages_of machine.ledger group ≡ frames_charged machine.frame_states group + pages_booked table machine.stock_seat group
   pub balances : BalancesCounts machine.counts
 
 -- a group of this path was made: it has the least free number, and it isn't killed
@@ -245,7 +245,7 @@ IsCpuOf table processor = (1 ≤ processor) × (processor ≤ table.cpus)
 -- The machine of a new boot. All frames are free and on no list, only the root exists, and no group is killed. All
 -- counts are 0, there are no notes, and the zone's seats have done nothing yet.
 pub record IsFirst (table : KnownTable) (words : Words) (machine : KnownMachine) : Type 0 where
-  pub spots : machine.spots ≡ replicate table.frames Free
+  pub frame_states : machine.frame_states ≡ replicate table.frames Free
   pub ledger : machine.ledger ≡ initial_ledger
   pub nowhere : AreNowhere machine.links
   pub frame_seat : machine.frame_seat ≡ record { table = table.table; view = first_zone_view table.frames }

@@ -1,18 +1,18 @@
 -- How many frames are at each place.
 use Rattle.std.specs.Prelude.{◌≢◌, ℕ, List, is_some, sum_by}
 use Rattle.step_rules.specs.State.{one_if}
-use Rattle.mem_machine.specs.declared.spot.Spot.{Spot}
-use Rattle.mem_machine.specs.declared.spot.Spot.TheVariants.{Lent}
-use Rattle.mem_machine.specs.Spots.{is_free, spot_group, spot_at}
+use Rattle.mem_machine.specs.declared.frame_state.FrameState.{FrameState}
+use Rattle.mem_machine.specs.declared.frame_state.FrameState.TheVariants.{Lent}
+use Rattle.mem_machine.specs.FrameStates.{is_free, frame_state_group, frame_state_at}
 
 -- how many frames are free
-abbrev pub frames_free : List Spot → ℕ
-frames_free spots = sum_by (λ spot. one_if (is_free spot)) spots
+abbrev pub frames_free : List FrameState → ℕ
+frames_free frame_states = sum_by (λ frame_state. one_if (is_free frame_state)) frame_states
 
 -- how many frames are charged to a group
-abbrev pub frames_in_groups : List Spot → ℕ
-frames_in_groups spots = sum_by (λ spot. one_if (is_some (spot_group spot))) spots
+abbrev pub frames_in_groups : List FrameState → ℕ
+frames_in_groups frame_states = sum_by (λ frame_state. one_if (is_some (frame_state_group frame_state))) frame_states
 
 -- no frame is lent to the CPU
-abbrev pub NoneLentTo : ℕ → List Spot → Type 0
-NoneLentTo processor spots = (frame : ℕ) → spot_at spots frame ≢ Lent processor
+abbrev pub NoneLentTo : ℕ → List FrameState → Type 0
+NoneLentTo processor frame_states = (frame : ℕ) → frame_state_at frame_states frame ≢ Lent processor

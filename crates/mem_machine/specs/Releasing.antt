@@ -8,10 +8,10 @@ use Rattle.step_rules.specs.declared.phase.ChargedUnit.{ChargedUnit}
 use Rattle.step_rules.specs.declared.step.Action.TheVariants.{Put, Return}
 use Rattle.step_rules.specs.declared.step.Answer.TheVariants as answer
 use Rattle.step_rules.specs.After.{Run}
-use Rattle.mem_machine.specs.declared.spot.Spot.TheVariants.{Head}
+use Rattle.mem_machine.specs.declared.frame_state.FrameState.TheVariants.{Head}
 use Rattle.mem_machine.specs.declared.releasing.Released.{Released}
 use Rattle.mem_machine.specs.declared.releasing.Released.TheVariants.{Left, Returned}
-use Rattle.mem_machine.specs.Spots.{spot_at, free_of}
+use Rattle.mem_machine.specs.FrameStates.{frame_state_at, free_of}
 use Rattle.mem_machine.specs.Lists.{LeavesList}
 use Rattle.mem_machine.specs.Machines.{KnownMachine, lists_of}
 use Rattle.mem_machine.specs.Counts.{with_last_put}
@@ -32,13 +32,13 @@ pub record LeavesReferences (frame left : ℕ) (before after : KnownMachine) : T
 -- changed
 pub record ReturnsUnit (frame : ℕ) (before after : KnownMachine) : Type 0 where
   pub unit : ChargedUnit
-  pub heads : spot_at before.spots frame ≡ Head unit
+  pub heads : frame_state_at before.frame_states frame ≡ Head unit
   pub list : LeavesList frame (lists_of before) (lists_of after)
-  pub frees : FreesFrames frame (2 ^ unit.order) before.spots after.spots
-  pub areas : AreMaximalBlocks (free_of after.spots) after.blocks
+  pub frees : FreesFrames frame (2 ^ unit.order) before.frame_states after.frame_states
+  pub areas : AreMaximalBlocks (free_of after.frame_states) after.blocks
   pub machine : after ≡ record before {
     blocks = after.blocks;
-    spots = after.spots;
+    frame_states = after.frame_states;
     ledger = with_uncharge before.ledger unit.group (2 ^ unit.order);
     links = after.links;
     lists = after.lists;

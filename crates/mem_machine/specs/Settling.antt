@@ -17,8 +17,8 @@ use Rattle.step_rules.specs.declared.step.Action.TheVariants.{PassBack, Collect,
 use Rattle.step_rules.specs.declared.step.Action.TheVariants.{Unfreeze, Publish, Return}
 use Rattle.step_rules.specs.declared.step.Answer.TheVariants.{Done, Pages}
 use Rattle.step_rules.specs.After.{Run}
-use Rattle.mem_machine.specs.declared.spot.Spot.TheVariants.{Head}
-use Rattle.mem_machine.specs.Spots.{spot_at, free_of}
+use Rattle.mem_machine.specs.declared.frame_state.FrameState.TheVariants.{Head}
+use Rattle.mem_machine.specs.FrameStates.{frame_state_at, free_of}
 use Rattle.mem_machine.specs.Machines.{OneByOne, Side, SideStays, is_killed}
 use Rattle.mem_machine.specs.Local.{Makes, fresh_group}
 use Rattle.mem_machine.specs.Steps.{zone_makes, cpu_makes}
@@ -65,7 +65,7 @@ pub record HandsOver (frame : ℕ) (before after : KnownCpu) : Type 0 where
 pub record KeepsFresh (group frame : ℕ) (before after : Side) : Type 0 where
   pub listed : ListsUnit group frame before.machine after.machine
   pub machine : after.machine ≡ record before.machine {
-    spots = slice_set before.machine.spots frame (Head (record { group = group; order = 0 }));
+    frame_states = slice_set before.machine.frame_states frame (Head (record { group = group; order = 0 }));
     links = after.machine.links;
     lists = after.machine.lists;
     frame_seat = seat_with before.machine.frame_seat frame (λ note. unfrozen 1 (collected_from before.cpu.number note));
@@ -75,11 +75,11 @@ pub record KeepsFresh (group frame : ℕ) (before after : Side) : Type 0 where
 
 -- a drop: the oldest fresh frame is free again, and its page leaves the book and the group's charge
 pub record DropsFresh (group frame : ℕ) (before after : Side) : Type 0 where
-  pub frees : FreesFrames frame 1 before.machine.spots after.machine.spots
-  pub areas : AreMaximalBlocks (free_of after.machine.spots) after.machine.blocks
+  pub frees : FreesFrames frame 1 before.machine.frame_states after.machine.frame_states
+  pub areas : AreMaximalBlocks (free_of after.machine.frame_states) after.machine.blocks
   pub machine : after.machine ≡ record before.machine {
     blocks = after.machine.blocks;
-    spots = after.machine.spots;
+    frame_states = after.machine.frame_states;
     ledger = with_uncharge before.machine.ledger group 1;
     frame_seat = seat_with before.machine.frame_seat frame (collected_from before.cpu.number);
     stock_seat = with_page_absorbed before.machine.stock_seat before.cpu.number;
@@ -90,12 +90,12 @@ pub record DropsFresh (group frame : ℕ) (before after : Side) : Type 0 where
 -- the unit that the oldest back frame heads is freed, and its pages leave the charge of its group
 pub record ReturnsBack (frame : ℕ) (before after : Side) : Type 0 where
   pub unit : ChargedUnit
-  pub heads : spot_at before.machine.spots frame ≡ Head unit
-  pub frees : FreesFrames frame (2 ^ unit.order) before.machine.spots after.machine.spots
-  pub areas : AreMaximalBlocks (free_of after.machine.spots) after.machine.blocks
+  pub heads : frame_state_at before.machine.frame_states frame ≡ Head unit
+  pub frees : FreesFrames frame (2 ^ unit.order) before.machine.frame_states after.machine.frame_states
+  pub areas : AreMaximalBlocks (free_of after.machine.frame_states) after.machine.blocks
   pub machine : after.machine ≡ record before.machine {
     blocks = after.machine.blocks;
-    spots = after.machine.spots;
+    frame_states = after.machine.frame_states;
     ledger = with_uncharge before.machine.ledger unit.group (2 ^ unit.order);
     frame_seat = seat_with before.machine.frame_seat frame (collected_from before.cpu.number);
     counts = with_last_put before.machine.counts;

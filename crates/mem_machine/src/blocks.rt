@@ -8,7 +8,7 @@ ghost use Rattle.mem_machine.specs.Local.{Makes, side};
 
 use crate::lists::join_list;
 use crate::machine::Machine;
-use crate::spot::Spot;
+use crate::frame_state::FrameState;
 use cpu_part::{BootName, Cpu, Tables};
 use frame_word::Frame;
 use group_charge::charges::Over;
@@ -27,17 +27,17 @@ pub enum TakeFault {
 }
 
 // Records the block as a unit of the group: its first frame is the head, the others are tails.
-fn place_unit(spots: &mut Vec<Spot>, block: Block, group: GroupId)
-    requires { block.at + 2 ^ block.order ≤ length spots.old.items }
-    ensures { PlacesUnit group block spots.old.items spots.new.items }
+fn place_unit(frame_states: &mut Vec<FrameState>, block: Block, group: GroupId)
+    requires { block.at + 2 ^ block.order ≤ length frame_states.old.items }
+    ensures { PlacesUnit group block frame_states.old.items frame_states.new.items }
 {
     let first = block.at as usize;
     let end = first + block.order.frames() as usize;
     for frame in first..end {
-        spots[frame] = Spot::Tail(group);
+        frame_states[frame] = FrameState::Tail(group);
     }
     let order = block.order;
-    spots[first] = Spot::Head(ChargedUnit { group, order });
+    frame_states[first] = FrameState::Head(ChargedUnit { group, order });
 }
 
 impl<N: BootName> Machine<N> {
@@ -77,7 +77,7 @@ impl<N: BootName> Machine<N> {
         let Some(head) = tables.frames.frame(block.at) else {
             unreachable!()
         };
-        place_unit(&mut self.spots, block, group);
+        place_unit(&mut self.frame_states, block, group);
         tables.frames.unfreeze(&mut self.frame_seat, head, 1);
         join_list(&mut self.links, &mut self.lists, group, head.number());
         Ok(head)

@@ -8,7 +8,7 @@ ghost use Rattle.mem_machine.specs.Local.{MakesForAny};
 use crate::freed::free_unit;
 use crate::lists::leave_list;
 use crate::machine::Machine;
-use crate::spot::Spot;
+use crate::frame_state::FrameState;
 use cpu_part::{BootName, Tables};
 use frame_word::Frame;
 
@@ -28,12 +28,12 @@ impl<N: BootName> Machine<N> {
             return None;
         }
         let at = head.number();
-        let Spot::Head(unit) = self.spots[at as usize] else {
+        let FrameState::Head(unit) = self.frame_states[at as usize] else {
             unreachable!()
         };
         let order = unit.order;
         leave_list(&mut self.links, &mut self.lists, at);
-        free_unit(&mut self.zone, &mut self.spots, &mut self.charges, at, unit);
+        free_unit(&mut self.zone, &mut self.frame_states, &mut self.charges, at, unit);
         self.counts = self.counts.with_freeze();
         Some(order.frames())
     }

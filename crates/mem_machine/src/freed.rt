@@ -6,34 +6,34 @@ ghost use Rattle.zone_buddy.specs.Zone.{IsInUse, GivesFrames};
 ghost use Rattle.group_charge.specs.Charges.{pages_of, with_uncharge, UsageRises};
 ghost use Rattle.mem_machine.specs.Freeing.{FreesFrames};
 
-use crate::spot::Spot;
+use crate::frame_state::FrameState;
 use group_charge::charges::Charges;
 use step_rules::phase::ChargedUnit;
 use zone_blocks::block::Block;
 use zone_buddy::buddy::Buddy;
 
 // Records this many frames from `at` on as free.
-fn free_frames(spots: &mut Vec<Spot>, at: u32, frames: u32)
-    requires { at + frames ≤ length spots.old.items }
-    ensures { FreesFrames at frames spots.old.items spots.new.items }
+fn free_frames(frame_states: &mut Vec<FrameState>, at: u32, frames: u32)
+    requires { at + frames ≤ length frame_states.old.items }
+    ensures { FreesFrames at frames frame_states.old.items frame_states.new.items }
 {
     for k in 0..frames as usize {
-        spots[at as usize + k] = Spot::Free;
+        frame_states[at as usize + k] = FrameState::Free;
     }
 }
 
 /// Returns the frames of a charged unit to the zone, and uncharges its pages from its group.
 pub(crate) fn free_unit(
     zone: &mut Buddy,
-    spots: &mut Vec<Spot>,
+    frame_states: &mut Vec<FrameState>,
     charges: &mut Charges,
     at: u32,
     unit: ChargedUnit,
 )
     requires in_use { IsInUse zone.old.free (record { at = at; order = unit.order }) }
-    requires inside { at + 2 ^ unit.order ≤ length spots.old.items }
+    requires inside { at + 2 ^ unit.order ≤ length frame_states.old.items }
     requires charged { 2 ^ unit.order ≤ pages_of charges.old unit.group }
-    ensures spots { FreesFrames at (2 ^ unit.order) spots.old.items spots.new.items }
+    ensures frame_states { FreesFrames at (2 ^ unit.order) frame_states.old.items frame_states.new.items }
     ensures frames { GivesFrames zone.old.free (record { at = at; order = unit.order }) zone.new.free }
     ensures areas { AreMaximalBlocks zone.new.free zone.new.blocks }
     ensures charges { charges.new ≡ with_uncharge charges.old unit.group (2 ^ unit.order) }
@@ -41,7 +41,7 @@ pub(crate) fn free_unit(
 {
     let _tree = charges.tree(); // Called for its contract.
     let order = unit.order;
-    free_frames(spots, at, order.frames());
+    free_frames(frame_states, at, order.frames());
     zone.give(Block { at, order });
     charges.uncharge(unit.group, order.frames());
 }

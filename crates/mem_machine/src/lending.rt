@@ -2,8 +2,8 @@
 
 ghost use Rattle.std.specs.Prelude.{◌≡◌, ◌<◌, ◌≤◌, [], length, take};
 ghost use Rattle.zone_blocks.specs.Areas.{HasNoneFrom};
-ghost use Rattle.mem_machine.specs.declared.spot.Spot.TheVariants.{Free};
-ghost use Rattle.mem_machine.specs.Spots.{spot_at};
+ghost use Rattle.mem_machine.specs.declared.frame_state.FrameState.TheVariants.{Free};
+ghost use Rattle.mem_machine.specs.FrameStates.{frame_state_at};
 ghost use Rattle.mem_machine.specs.Machines.{Visits};
 ghost use Rattle.mem_machine.specs.Lending.{HasListRoom, LendsIfFree, LendsFrame, Refills};
 ghost use Rattle.mem_machine.specs.Lending.{TakesBackIfListed, TakesManyBack, unlist_front_steps};
@@ -11,7 +11,7 @@ ghost use Rattle.mem_machine.specs.Local.{Makes, MakesBy, side};
 ghost use Rattle.mem_machine.specs.Steps.{lend_steps};
 
 use crate::machine::Machine;
-use crate::spot::Spot;
+use crate::frame_state::FrameState;
 use cpu_part::{BootName, Cpu, Tables};
 use frame_word::Frame;
 use zone_blocks::block::Block;
@@ -34,7 +34,7 @@ impl<N: BootName> Machine<N> {
             unreachable!()
         };
         tables.frames.pass_out(&mut self.frame_seat, frame, number);
-        self.spots[frame.number() as usize] = Spot::Lent(number as u8);
+        self.frame_states[frame.number() as usize] = FrameState::Lent(number as u8);
         cpu.accept(tables, &mut self.frame_seat, frame);
         true
     }
@@ -62,7 +62,7 @@ impl<N: BootName> Machine<N> {
     pub fn lend(&mut self, tables: &Tables<N>, cpu: &mut Cpu<N>, frame: Frame)
         requires visit { Visits N.frames (side self.old cpu.old) }
         requires frame { frame < N.frames.frames }
-        requires free { spot_at self.old.spots frame ≡ Free }
+        requires free { frame_state_at self.old.frame_states frame ≡ Free }
         requires room { HasListRoom cpu.old 1 }
         ensures lends { LendsFrame frame (side self.old cpu.old) (side self.new cpu.new) }
         ensures visit { Visits N.frames (side self.new cpu.new) }
@@ -74,7 +74,7 @@ impl<N: BootName> Machine<N> {
         let at = frame.number();
         self.zone.take_frame(at);
         tables.frames.pass_out(&mut self.frame_seat, frame, number);
-        self.spots[at as usize] = Spot::Lent(number as u8);
+        self.frame_states[at as usize] = FrameState::Lent(number as u8);
         cpu.accept(tables, &mut self.frame_seat, frame);
     }
 
@@ -90,7 +90,7 @@ impl<N: BootName> Machine<N> {
         };
         cpu.collect(tables, &mut self.frame_seat, frame);
         let at = frame.number();
-        self.spots[at as usize] = Spot::Free;
+        self.frame_states[at as usize] = FrameState::Free;
         self.zone.give(Block {
             at,
             order: Order::of(0).unwrap(),

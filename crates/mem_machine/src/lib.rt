@@ -7,7 +7,7 @@
 //!
 //! Some terms of the contracts:
 //!
-//! - A `Spot` is the record of one frame: free, lent, or in a charged unit.
+//! - A `FrameState` is the record of one frame: free, lent, or in a charged unit.
 //! - A lent frame is fresh from the time it is taken and paid for until the CPU is settled. A back frame heads a unit
 //!   whose last reference the CPU put.
 //! - A stock's book is all that was charged through it: the pages in it, those that paid for fresh frames, and those
@@ -39,7 +39,7 @@ mod places;
 mod readers;
 mod releasing;
 mod settling;
-mod spot;
+mod frame_state;
 mod start;
 mod stocks;
 mod visits;
@@ -48,5 +48,5 @@ pub use blocks::TakeFault;
 pub use counts::Counts;
 pub use machine::Machine;
 pub use releasing::Released;
-pub use spot::{Place, Spot};
+pub use frame_state::{Place, FrameState};
 pub use step_rules::laws::{other_step, own_step};

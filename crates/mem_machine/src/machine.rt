@@ -7,7 +7,7 @@ ghost use Rattle.mem_machine.specs.Machines.{IsConsistent, IsFirst};
 
 use crate::books::Books;
 use crate::counts::Counts;
-use crate::spot::Spot;
+use crate::frame_state::FrameState;
 use crate::start::{frame_rooms, group_rooms};
 use cpu_part::{BootName, Tables};
 use frame_word::FrameSeat;
@@ -26,7 +26,7 @@ pub struct Machine<N: BootName> {
     // The free areas: the maximal blocks of the frames whose record is Free.
     pub(crate) zone: Buddy,
     // A record for each frame, by its number.
-    pub(crate) spots: Vec<Spot>,
+    pub(crate) frame_states: Vec<FrameState>,
     // The groups, with the pages charged to each: its frames, and the books of its stocks.
     pub(crate) charges: Charges,
     // A link for each frame, by its number. Only the heads of kept units are linked into their groups' lists.
@@ -76,12 +76,12 @@ impl<N: BootName> Machine<N> {
         requires cpus { N.stocks.cpus ≡ N.frames.cpus }
         ensures { IfOk result (λ machine. IsFirst N.frames N.stocks machine) }
     {
-        let (zone, spots, links) = frame_rooms(alloc, tables.frames.frames())?;
+        let (zone, frame_states, links) = frame_rooms(alloc, tables.frames.frames())?;
         let (charges, lists, killed) = group_rooms(alloc)?;
         let notes = Notes::new(alloc)?;
         Ok(Machine {
             zone,
-            spots,
+            frame_states,
             charges,
             links,
             lists,
@@ -109,7 +109,7 @@ impl<N: BootName> Machine<N> {
     {
         let Machine {
             zone: _,
-            spots: _,
+            frame_states: _,
             charges: _,
             links: _,
             lists: _,

@@ -12,7 +12,7 @@ impl<N: BootName> Machine<N> {
     /// How many frames are charged to a group. The sum is taken over the groups' charges: a zone has at most 64 groups,
     /// but up to 1,048,576 frames.
     pub fn count_charged(&self, tables: &Tables<N>) -> u32
-        ensures charged { result ≡ frames_in_groups self.now.spots }
+        ensures charged { result ≡ frames_in_groups self.now.frame_states }
         ensures at_most { result ≤ N.frames.frames }
     {
         let _frames = tables.frames.frames(); // Called for its contract.
@@ -29,7 +29,7 @@ impl<N: BootName> Machine<N> {
         requires lent { LentIsBorrowed N.frames self.now.frame_seat cpu.now.frame_seat }
         requires none_listed { cpu.now.list ≡ [] }
         requires none_fresh { cpu.now.fresh ≡ [] }
-        ensures { NoneLentTo cpu.now.number self.now.spots }
+        ensures { NoneLentTo cpu.now.number self.now.frame_states }
     {
         let _ = &self.frame_seat; // Called for its contract.
         let _number = cpu.number(); // Called for its contract.

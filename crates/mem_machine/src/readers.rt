@@ -4,12 +4,12 @@ ghost use Rattle.std.specs.Prelude.{◌≡◌, ◌<◌, ◌↔◌, IsTrue};
 ghost use Rattle.group_tree.specs.Groups.{has_group};
 ghost use Rattle.group_charge.specs.Charges.{current_of};
 ghost use Rattle.zone_blocks.specs.Areas.{AreMaximalBlocks};
-ghost use Rattle.mem_machine.specs.Spots.{spot_at, free_of, place_of, unit_of};
+ghost use Rattle.mem_machine.specs.FrameStates.{frame_state_at, free_of, place_of, unit_of};
 ghost use Rattle.mem_machine.specs.Machines.{HeadsKeptUnit, IsConsistent, frames_charged, is_killed};
 
 use crate::counts::Counts;
 use crate::machine::Machine;
-use crate::spot::{Place, Spot};
+use crate::frame_state::{Place, FrameState};
 use cpu_part::BootName;
 use frame_word::Frame;
 use group_charge::charges::Charges;
@@ -21,24 +21,24 @@ impl<N: BootName> Machine<N> {
     /// The place of the frame: free, lent to a CPU, or charged to a group.
     pub fn place(&self, frame: Frame) -> Place
         requires { frame < N.frames.frames }
-        ensures place { result ≡ place_of (spot_at self.now.spots frame) }
+        ensures place { result ≡ place_of (frame_state_at self.now.frame_states frame) }
         ensures consistent { IsConsistent N.frames N.stocks self.now }
     {
-        self.spots[frame.number() as usize].place()
+        self.frame_states[frame.number() as usize].place()
     }
 
     /// The records of all frames, by their numbers.
-    pub fn spots(&self) -> &[Spot]
-        ensures spots { result.now ≡ self.now.spots }
+    pub fn frame_states(&self) -> &[FrameState]
+        ensures frame_states { result.now ≡ self.now.frame_states }
         ensures consistent { IsConsistent N.frames N.stocks self.now }
     {
-        self.spots.as_slice()
+        self.frame_states.as_slice()
     }
 
     /// The maximal free blocks, by order and then by address.
     pub fn blocks(&self) -> Walk<'_>
         ensures blocks { result ≡ self.now.blocks }
-        ensures areas { AreMaximalBlocks (free_of self.now.spots) self.now.blocks }
+        ensures areas { AreMaximalBlocks (free_of self.now.frame_states) self.now.blocks }
     {
         self.zone.blocks()
     }
@@ -46,10 +46,10 @@ impl<N: BootName> Machine<N> {
     /// The unit that the frame heads; None exactly if it heads none.
     pub fn unit(&self, frame: Frame) -> Option<ChargedUnit>
         requires { frame < N.frames.frames }
-        ensures { result ≡ unit_of (spot_at self.now.spots frame) }
+        ensures { result ≡ unit_of (frame_state_at self.now.frame_states frame) }
     {
-        match self.spots[frame.number() as usize] {
-            Spot::Head(unit) => Some(unit),
+        match self.frame_states[frame.number() as usize] {
+            FrameState::Head(unit) => Some(unit),
             _ => None,
         }
     }
@@ -94,7 +94,7 @@ impl<N: BootName> Machine<N> {
     /// How many frames are charged to the group itself, those of units that aren't kept any more included. These are
     /// its pages without those booked to its stocks.
     pub fn frames_of(&self, group: GroupId) -> u64
-        ensures { result ≡ frames_charged self.now.spots group }
+        ensures { result ≡ frames_charged self.now.frame_states group }
     {
         if !self.charges.tree().contains(group) {
             return 0;

@@ -8,7 +8,7 @@ ghost use Rattle.mem_machine.specs.Local.{Makes, MakesForAny, side};
 use crate::freed::free_unit;
 use crate::lists::leave_list;
 use crate::machine::Machine;
-use crate::spot::Spot;
+use crate::frame_state::FrameState;
 use cpu_part::{BootName, Cpu, Tables};
 use frame_word::{Frame, Put};
 
@@ -37,10 +37,10 @@ impl<N: BootName> Machine<N> {
         match tables.frames.put(&mut self.frame_seat, head) {
             Put::Left(left) => Released::Left(left),
             Put::Last => {
-                let Spot::Head(unit) = self.spots[at as usize] else {
+                let FrameState::Head(unit) = self.frame_states[at as usize] else {
                     unreachable!()
                 };
-                free_unit(&mut self.zone, &mut self.spots, &mut self.charges, at, unit);
+                free_unit(&mut self.zone, &mut self.frame_states, &mut self.charges, at, unit);
                 self.counts = self.counts.with_last_put();
                 Released::Returned
             }

@@ -12,7 +12,7 @@ ghost use Rattle.mem_machine.specs.Settling.{all_fresh_steps, return_all_steps, 
 use crate::freed::free_unit;
 use crate::lists::join_list;
 use crate::machine::Machine;
-use crate::spot::Spot;
+use crate::frame_state::FrameState;
 use cpu_part::{BootName, Cpu, Tables};
 use frame_word::Frame;
 use group_tree::group::GroupId;
@@ -37,7 +37,7 @@ impl<N: BootName> Machine<N> {
         tables.frames.unfreeze(&mut self.frame_seat, frame, 1);
         let at = frame.number();
         let order = Order::of(0).unwrap();
-        self.spots[at as usize] = Spot::Head(ChargedUnit { group, order });
+        self.frame_states[at as usize] = FrameState::Head(ChargedUnit { group, order });
         join_list(&mut self.links, &mut self.lists, group, at);
         frame
     }
@@ -61,7 +61,7 @@ impl<N: BootName> Machine<N> {
         let unit = ChargedUnit { group, order };
         free_unit(
             &mut self.zone,
-            &mut self.spots,
+            &mut self.frame_states,
             &mut self.charges,
             frame.number(),
             unit,
@@ -83,10 +83,10 @@ impl<N: BootName> Machine<N> {
         };
         cpu.collect(tables, &mut self.frame_seat, frame);
         let at = frame.number();
-        let Spot::Head(unit) = self.spots[at as usize] else {
+        let FrameState::Head(unit) = self.frame_states[at as usize] else {
             unreachable!()
         };
-        free_unit(&mut self.zone, &mut self.spots, &mut self.charges, at, unit);
+        free_unit(&mut self.zone, &mut self.frame_states, &mut self.charges, at, unit);
         self.counts = self.counts.with_last_put();
         Some(frame)
     }

@@ -5,10 +5,10 @@ ghost use Rattle.zone_blocks.specs.Areas.{AreMaximalBlocks};
 ghost use Rattle.lru_lists.specs.Queue.{AreNowhere};
 ghost use Rattle.group_charge.specs.Charges.{initial_ledger};
 ghost use Rattle.mem_machine.specs.Start.{AreEmpty};
-ghost use Rattle.mem_machine.specs.declared.spot.Spot.TheVariants.{Free};
+ghost use Rattle.mem_machine.specs.declared.frame_state.FrameState.TheVariants.{Free};
 ghost use Rattle.group_tree.specs.Bounds.{most_groups};
 
-use crate::spot::Spot;
+use crate::frame_state::FrameState;
 use group_charge::charges::Charges;
 use group_tree::group::MAX_GROUPS;
 use lru_lists::links::Links;
@@ -20,17 +20,17 @@ use zone_buddy::buddy::Buddy;
 pub(crate) fn frame_rooms(
     alloc: Global,
     frames: u32,
-) -> Result<(Buddy, Vec<Spot>, Links), AllocError>
+) -> Result<(Buddy, Vec<FrameState>, Links), AllocError>
     ensures free { IfOk result (λ rooms. rooms.0.free ≡ replicate frames true) }
     ensures areas { IfOk result (λ rooms. AreMaximalBlocks rooms.0.free rooms.0.blocks) }
-    ensures spots { IfOk result (λ rooms. rooms.1.items ≡ replicate frames Free) }
+    ensures frame_states { IfOk result (λ rooms. rooms.1.items ≡ replicate frames Free) }
     ensures frames { IfOk result (λ rooms. length rooms.2 ≡ frames) }
     ensures nowhere { IfOk result (λ rooms. AreNowhere rooms.2) }
 {
     let zone = Buddy::new(alloc, frames)?;
-    let spots = free_spots(alloc, frames)?;
+    let frame_states = free_frame_states(alloc, frames)?;
     let links = Links::new(alloc, frames)?;
-    Ok((zone, spots, links))
+    Ok((zone, frame_states, links))
 }
 
 /// The parts that have a place for each group number: charges, two empty lists each, and the marks of killed groups.
@@ -47,10 +47,10 @@ pub(crate) fn group_rooms(alloc: Global) -> Result<(Charges, Vec<Lru>, Vec<bool>
 }
 
 // A record for each frame, all free.
-fn free_spots(alloc: Global, frames: u32) -> Result<Vec<Spot>, AllocError>
-    ensures { IfOk result (λ spots. spots.items ≡ replicate frames Free) }
+fn free_frame_states(alloc: Global, frames: u32) -> Result<Vec<FrameState>, AllocError>
+    ensures { IfOk result (λ frame_states. frame_states.items ≡ replicate frames Free) }
 {
-    vec![in alloc; Spot::Free; frames as usize]
+    vec![in alloc; FrameState::Free; frames as usize]
 }
 
 // A mark for each group number, all false.

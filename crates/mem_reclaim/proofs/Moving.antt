@@ -20,9 +20,9 @@ use Rattle.step_rules.specs.Phases.{at_stage, unit_of}
 use Rattle.step_rules.specs.State.{State}
 use Rattle.step_rules.specs.After.{Run, after, unit_size}
 use Rattle.step_rules.proofs.Basics.{at_same}
-use Rattle.mem_machine.specs.declared.spot.Spot.{Spot}
-use Rattle.mem_machine.specs.declared.spot.Spot.TheVariants.{Head}
-use Rattle.mem_machine.specs.Spots.{spot_at}
+use Rattle.mem_machine.specs.declared.frame_state.FrameState.{FrameState}
+use Rattle.mem_machine.specs.declared.frame_state.FrameState.TheVariants.{Head}
+use Rattle.mem_machine.specs.FrameStates.{frame_state_at}
 use Rattle.mem_machine.specs.Machines.{KnownMachine}
 use Rattle.mem_machine.specs.Local.{IsLocalRun, MakesForAny, local_of, phase_of, side}
 use Rattle.mem_machine.specs.Evicting.{MissesUnit, EvictsUnit, Evicts, evict_steps}
@@ -91,11 +91,11 @@ frozen_unit : (b : Bool) (p : ℕ) (unit : ChargedUnit) → unit_of (at_stage En
 frozen_unit true p unit = refl
 frozen_unit false p unit = refl
 
-unit_frozen : (t : KnownTable) (m : KnownMachine) (f : ℕ) (unit : ChargedUnit) → spot_at m.spots f ≡ Head unit → (c : KnownCpu)
+unit_frozen : (t : KnownTable) (m : KnownMachine) (f : ℕ) (unit : ChargedUnit) → frame_state_at m.frame_states f ≡ Head unit → (c : KnownCpu)
     → unit_of ((after (local_of t m c) 0 (Freeze f 1) Done).phases f) ≡ Some unit
 unit_frozen t m f unit heads c =
-    ap unit_of (at_same (local_of t m c).phases f (at_stage Ended (phase_of c f (spot_at m.spots f))))
-    ∙ ap (λ (x : Spot). unit_of (at_stage Ended (phase_of c f x))) heads ∙ frozen_unit (nat_le 1 (times f c.back)) c.number unit
+    ap unit_of (at_same (local_of t m c).phases f (at_stage Ended (phase_of c f (frame_state_at m.frame_states f))))
+    ∙ ap (λ (x : FrameState). unit_of (at_stage Ended (phase_of c f x))) heads ∙ frozen_unit (nat_le 1 (times f c.back)) c.number unit
 
 missed_here : (f g : ℕ) → ◌≡◌ {A = ℕ} (missed_in g (zone_makes (Freeze f 1) Missed ∷ [])) (cond (f == g) 1 0)
 missed_here f g = omega arith

@@ -15,7 +15,7 @@ may_be_killed machine group other = in_subtree machine.ledger.groups group other
 -- The frames by which the victim is chosen: those charged to the group itself. Frames of units that aren't kept any
 -- more count; a CPU's fresh frames don't.
 abbrev pub own_frames : KnownMachine → ℕ → ℕ
-own_frames machine group = frames_charged machine.spots group
+own_frames machine group = frames_charged machine.frame_states group
 
 -- of the groups that the test chooses, this one has the most frames of its own, at least one, and the least number
 -- among those with as many

@@ -33,7 +33,7 @@ fn let_go_all<N: BootName>(
     ensures stocks { KeepsStocks machine.old machine.new }
 {
     for _unit in 0..machine.listed(group, list) {
-        let _spots = machine.spots(); // Called for its contract.
+        let _frame_states = machine.frame_states(); // Called for its contract.
         let Some(unit) = machine.oldest(group, list) else {
             unreachable!()
         };
@@ -58,9 +58,9 @@ fn kill_group<N: BootName>(machine: &mut Machine<N>, tables: &Tables<N>, group: 
     machine.mark_killed(group);
     machine.drain_group_stocks(tables, group);
     let_go_all(machine, tables, group, LruList::Inactive);
-    let _records = machine.spots(); // Called for its contract.
+    let _records = machine.frame_states(); // Called for its contract.
     let_go_all(machine, tables, group, LruList::Active);
-    let _spots = machine.spots(); // Called for its contract.
+    let _frame_states = machine.frame_states(); // Called for its contract.
 }
 
 // Kills a group that isn't killed for the group `limited`, and notes what became of its units.

@@ -129,6 +129,6 @@ pub(crate) fn reclaim_pass<N: BootName>(
         };
         given += reclaim_group(machine, tables, group, turn, want - given, is_first);
     }
-    let _spots = machine.spots(); // Called for its contract.
+    let _frame_states = machine.frame_states(); // Called for its contract.
     given
 }

@@ -32,7 +32,7 @@ pub(crate) fn scan<N: BootName>(
     ensures leaves { marks_count ≡ false → OnlyLeave machine.old machine.new }
     ensures missed { marks_count ≡ false → result < want → MissedOnList group list machine.old machine.new }
 {
-    let _records = machine.spots(); // Called for its contract.
+    let _records = machine.frame_states(); // Called for its contract.
     let _usage = machine.current(group); // At most this much is freed, so no sum overflows.
     let units = machine.listed(group, list);
     let mut next = machine.oldest(group, list);
@@ -41,7 +41,7 @@ pub(crate) fn scan<N: BootName>(
         if want <= given {
             return given;
         }
-        let _spots = machine.spots(); // Called for its contract.
+        let _frame_states = machine.frame_states(); // Called for its contract.
         let Some(unit) = next else { unreachable!() };
         let Some(frame) = tables.frames.frame(unit.number) else {
             unreachable!()

@@ -115,7 +115,7 @@ module _ (t : KnownTable) (w : Words) (m : KnownMachine) (cpus : List KnownCpu) 
   word_of_frame : (f : ℕ) → f < t.frames → slice_index closed.frame_words f ≡ kept f
   word_of_frame f inside =
       let rule = closed.rule.each_frame f inside in
-      let zone : (note_of m.frame_seat.view f).references ≡ kept f = (ok.spots f inside).references in
+      let zone : (note_of m.frame_seat.view f).references ≡ kept f = (ok.frame_states f inside).references in
       let none = no_reference f in
       elim rule.one_case [
         | inl referenced ↦ let same = referenced.2 in omega (arith, same, zone, none)
@@ -172,11 +172,11 @@ module _ (t : KnownTable) (w : Words) (m : KnownMachine) (cpus : List KnownCpu) 
       subst (λ (z : ℕ × StockView). IsStockOf closed.stock_words z.0 m.stock_seat.view z.1) (λ i. (number i, view i))
       (closed.stocks k (omega (arith, long, inside)))
 
-  none_lent : (p : ℕ) → NoneLentTo p m.spots
+  none_lent : (p : ℕ) → NoneLentTo p m.frame_states
   none_lent p f is =
       let cpu = lent_to_cpu t w m ok f p is in
       let its = found p cpu.0 cpu.1 in
-      subst (λ (q : ℕ). NoneLentTo q m.spots) its.1 its.2.none_lent f is
+      subst (λ (q : ℕ). NoneLentTo q m.frame_states) its.1 its.2.none_lent f is
 
 -- the CPUs' own drops count as returns too
 drops_join : (a b c k most : ℕ) → min (min (a + b + c) most + k) most ≡ min (a + b + min (c + k) most) most
@@ -186,15 +186,15 @@ drops_join a b c k most = omega arith
 pub all_ends : (t : KnownTable) (w : Words) (l : KnownLocked) (cpus : List KnownCpu) (x : KnownMachine) (rested : List KnownCpu) (y : KnownMachine)
     (spent : List KnownCpu) (a : Audit) (frame_seats : List KnownSeat) (stock_seats : List Seated) (drops : ℕ) → IsQuiet t w l → pins_of cpus ≡ 0
     → drops ≡ min (drops_of cpus) max_count
-    → ForEachCpu (BySteps t SettlesInVisit) l.machine cpus x rested → ForEachCpu (BySteps t Empties) x rested y spent → AllShut y → All (λ c. IsSpent t w y c) spent → (((p : ℕ) → NoneLentTo p y.spots) → IsAuditOf t y drops a)
+    → ForEachCpu (BySteps t SettlesInVisit) l.machine cpus x rested → ForEachCpu (BySteps t Empties) x rested y spent → AllShut y → All (λ c. IsSpent t w y c) spent → (((p : ℕ) → NoneLentTo p y.frame_states) → IsAuditOf t y drops a)
     → IsClosed t w y frame_seats stock_seats → frame_seats ≡ map frame_seat_of spent → stock_seats ≡ map stock_seat_of spent → Ends t w l cpus a
 all_ends t w l cpus x rested y spent a frame_seats stock_seats drops quiet no_pin drops_are rests empties shut all tells_then closing frames stocks =
     let closed : IsClosed t w y (map frame_seat_of spent) (map stock_seat_of spent) =
     subst (λ (z : List KnownSeat × List Seated). IsClosed t w y z.0 z.1) (λ i. (frames i, stocks i)) closing in
     let none = none_lent t w y spent shut all closed in
     let tells = tells_then (λ p f is. none p f is) in
-    let placed = each_is_placed y.spots (λ f p is. none p f is) in
-    let sized = closed.consistent.sizes.spots in
+    let placed = each_is_placed y.frame_states (λ f p is. none p f is) in
+    let sized = closed.consistent.sizes.frame_states in
     let free = tells.free in
     let charged = tells.charged in
     let count = tells.frames in

@@ -6,10 +6,10 @@ use Rattle.std.proofs.lemmas.List.{length-append, length-take-le}
 use Rattle.frame_word.specs.Seats.{KnownTable}
 use Rattle.cpu_part.specs.Cpus.{KnownCpu}
 use Rattle.zone_sizes.specs.declared.config.Config.{Config}
-use Rattle.mem_machine.specs.declared.spot.Spot.{Spot}
-use Rattle.mem_machine.specs.declared.spot.Spot.TheVariants.{Free}
+use Rattle.mem_machine.specs.declared.frame_state.FrameState.{FrameState}
+use Rattle.mem_machine.specs.declared.frame_state.FrameState.TheVariants.{Free}
 use Rattle.mem_machine.specs.declared.releasing.Released.TheVariants.{Returned}
-use Rattle.mem_machine.specs.Spots.{spot_at}
+use Rattle.mem_machine.specs.FrameStates.{frame_state_at}
 use Rattle.mem_machine.specs.Machines.{KnownMachine}
 use Rattle.mem_machine.specs.Lending.{TakesManyBack}
 use Rattle.mem_machine.specs.Local.{side, MakesAs}
@@ -19,7 +19,7 @@ use Rattle.mem_system.specs.Releases.{ListsFrame, ReturnsFrames}
 use Rattle.mem_machine.proofs.Followed.{makes_both}
 
 -- another frame that is free now leaves a free one free
-set_free : (spots : List Spot) (f g : ℕ) → spot_at spots g ≡ Free → spot_at (slice_set spots f Free) g ≡ Free
+set_free : (frame_states : List FrameState) (f g : ℕ) → frame_state_at frame_states g ≡ Free → frame_state_at (slice_set frame_states f Free) g ≡ Free
 set_free [] f g is = refl
 set_free (x ∷ xs) zero zero is = refl
 set_free (x ∷ xs) zero (suc g) is = is
@@ -33,7 +33,7 @@ pub record Cut (frames : List ℕ) (m : KnownMachine) (c : KnownCpu) (n : KnownM
   pub fresh : d.fresh ≡ c.fresh
   pub back : d.back ≡ c.back
   pub opened : n.frame_seat.view.opened ≡ m.frame_seat.view.opened
-  pub free : (f : ℕ) → spot_at m.spots f ≡ Free → spot_at n.spots f ≡ Free
+  pub free : (f : ℕ) → frame_state_at m.frame_states f ≡ Free → frame_state_at n.frame_states f ≡ Free
 
 pub cut_off : (frames : List ℕ) (m : KnownMachine) (c : KnownCpu) (n : KnownMachine) (d : KnownCpu) → TakesManyBack frames (side m c) (side n d) → Cut frames m c n d
 cut_off [] m c n d t = record {
@@ -42,7 +42,7 @@ cut_off [] m c n d t = record {
   fresh = ap (λ (e : KnownCpu). e.fresh) t.cpu;
   back = ap (λ (e : KnownCpu). e.back) t.cpu;
   opened = ap (λ (k : KnownMachine). k.frame_seat.view.opened) t.machine;
-  free = λ f is. ap (λ (k : KnownMachine). spot_at k.spots f) t.machine ∙ is;
+  free = λ f is. ap (λ (k : KnownMachine). frame_state_at k.frame_states f) t.machine ∙ is;
 }
 cut_off (f ∷ rest) m c n d t =
     let one = t.first in
@@ -53,7 +53,7 @@ cut_off (f ∷ rest) m c n d t =
       fresh = more.fresh ∙ ap (λ (e : KnownCpu). e.fresh) one.cpu;
       back = more.back ∙ ap (λ (e : KnownCpu). e.back) one.cpu;
       opened = more.opened ∙ ap (λ (k : KnownMachine). k.frame_seat.view.opened) one.machine;
-      free = λ g is. more.free g (ap (λ (k : KnownMachine). spot_at k.spots g) one.machine ∙ set_free m.spots f g is);
+      free = λ g is. more.free g (ap (λ (k : KnownMachine). frame_state_at k.frame_states g) one.machine ∙ set_free m.frame_states f g is);
     }
 
 -- a list of at least `high` frames has a whole batch

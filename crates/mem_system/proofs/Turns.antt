@@ -8,9 +8,9 @@ use Rattle.stock_word.specs.declared.view.Account.{Account}
 use Rattle.stock_word.specs.Stock.{Seated, account_at, account_of}
 use Rattle.stock_word.specs.Kinds.{draining}
 use Rattle.cpu_part.specs.Cpus.{KnownCpu}
-use Rattle.mem_machine.specs.declared.spot.Spot.{Spot}
-use Rattle.mem_machine.specs.declared.spot.Spot.TheVariants.{Free, Lent}
-use Rattle.mem_machine.specs.Spots.{spot_at}
+use Rattle.mem_machine.specs.declared.frame_state.FrameState.{FrameState}
+use Rattle.mem_machine.specs.declared.frame_state.FrameState.TheVariants.{Free, Lent}
+use Rattle.mem_machine.specs.FrameStates.{frame_state_at}
 use Rattle.mem_machine.specs.Machines.{KnownMachine}
 use Rattle.mem_machine.specs.Lending.{TakesManyBack}
 use Rattle.mem_machine.specs.Stocks.{Drains, stock_group}
@@ -75,7 +75,7 @@ whole_list k count list left listed all fewer split =
 -- ---- what a visit leaves that returns the list and drains the stock
 
 -- a frame that is free now is lent to no one
-still_lent : (spots : List Spot) (f g p : ℕ) → spot_at (slice_set spots f Free) g ≡ Lent p → spot_at spots g ≡ Lent p
+still_lent : (frame_states : List FrameState) (f g p : ℕ) → frame_state_at (slice_set frame_states f Free) g ≡ Lent p → frame_state_at frame_states g ≡ Lent p
 still_lent [] f g p is = is
 still_lent (x ∷ xs) zero zero p is = absurd (past_free p is)
 still_lent (x ∷ xs) zero (suc g) p is = is
@@ -83,13 +83,13 @@ still_lent (x ∷ xs) (suc f) zero p is = is
 still_lent (x ∷ xs) (suc f) (suc g) p is = still_lent xs f g p is
 
 pub record TakenAlone (m : KnownMachine) (c : KnownCpu) (n : KnownMachine) (d : KnownCpu) : Type 0 where
-  pub lent : (f p : ℕ) → spot_at n.spots f ≡ Lent p → spot_at m.spots f ≡ Lent p
+  pub lent : (f p : ℕ) → frame_state_at n.frame_states f ≡ Lent p → frame_state_at m.frame_states f ≡ Lent p
   pub stock_seat : n.stock_seat ≡ m.stock_seat
   pub pins : d.pins ≡ c.pins
 
 pub taken_alone : (frames : List ℕ) (m : KnownMachine) (c : KnownCpu) (n : KnownMachine) (d : KnownCpu) → TakesManyBack frames (side m c) (side n d) → TakenAlone m c n d
 taken_alone [] m c n d t = record {
-  lent = λ f p is. sym (ap (λ (k : KnownMachine). spot_at k.spots f) t.machine) ∙ is;
+  lent = λ f p is. sym (ap (λ (k : KnownMachine). frame_state_at k.frame_states f) t.machine) ∙ is;
   stock_seat = ap (λ (k : KnownMachine). k.stock_seat) t.machine;
   pins = ap (λ (e : KnownCpu). e.pins) t.cpu;
 }
@@ -97,7 +97,7 @@ taken_alone (f ∷ rest) m c n d t =
     let one = t.first in
     let more = taken_alone rest t.between.machine t.between.cpu n d t.rest in
     record {
-      lent = λ g p is. still_lent m.spots f g p (sym (ap (λ (k : KnownMachine). spot_at k.spots g) one.machine) ∙ more.lent g p is);
+      lent = λ g p is. still_lent m.frame_states f g p (sym (ap (λ (k : KnownMachine). frame_state_at k.frame_states g) one.machine) ∙ more.lent g p is);
       stock_seat = more.stock_seat ∙ ap (λ (k : KnownMachine). k.stock_seat) one.machine;
       pins = more.pins ∙ ap (λ (e : KnownCpu). e.pins) one.cpu;
     }
@@ -107,14 +107,14 @@ pub emptied_alone : (m entered x y n : KnownMachine) (c1 c2 : KnownCpu) (frames 
     → TakesManyBack frames (side entered c1) (side x c2) → Drains q k x y → n ≡ with_visit_of y p 0 → LendsAndFillsNone m n
 emptied_alone m entered x y n c1 c2 frames p q k opened takes drains shut =
     let taken = taken_alone frames entered c1 x c2 takes in
-    let spots : n.spots ≡ x.spots = ap (λ (z : KnownMachine). z.spots) shut ∙ ap (λ (z : KnownMachine). z.spots) drains.machine in
-    let first : entered.spots ≡ m.spots = ap (λ (z : KnownMachine). z.spots) opened in
+    let frame_states : n.frame_states ≡ x.frame_states = ap (λ (z : KnownMachine). z.frame_states) shut ∙ ap (λ (z : KnownMachine). z.frame_states) drains.machine in
+    let first : entered.frame_states ≡ m.frame_states = ap (λ (z : KnownMachine). z.frame_states) opened in
     let accounts : n.stock_seat.view.accounts ≡ (draining m.stock_seat.view q k).accounts =
     ap (λ (z : KnownMachine). z.stock_seat.view.accounts) shut ∙ ap (λ (z : KnownMachine). z.stock_seat.view.accounts) drains.machine
     ∙ ap (λ (z : Seated). (draining z.view q k).accounts) (taken.stock_seat ∙ ap (λ (z : KnownMachine). z.stock_seat) opened) in
     record {
-      none_lent = λ r none f is. none f (sym (ap (λ (l : List Spot). spot_at l f) first)
-          ∙ taken.lent f r (sym (ap (λ (l : List Spot). spot_at l f) spots) ∙ is));
+      none_lent = λ r none f is. none f (sym (ap (λ (l : List FrameState). frame_state_at l f) first)
+          ∙ taken.lent f r (sym (ap (λ (l : List FrameState). frame_state_at l f) frame_states) ∙ is));
       drained = λ r was. ap (λ (l : List Account). (account_at l r).filled) accounts ∙ elim (cases_eq r q) [
         | inl e ↦ ap (λ (j : ℕ). (account_of (draining m.stock_seat.view q k) j).filled) e ∙ ap (λ (a : Account). a.filled) (drained_at m.stock_seat.view q k)
         | inr ne ↦ ap (λ (a : Account). a.filled) (drained_else m.stock_seat.view q k r ne) ∙ was

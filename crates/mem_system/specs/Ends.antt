@@ -76,12 +76,12 @@ pub record IsSettledUnpinned (cpu : KnownCpu) : Type 0 where
 pub record IsSpent (table : KnownTable) (stock_table : Words) (machine : KnownMachine) (cpu : KnownCpu) : Type 0 where
   pub tied : IsTied table stock_table cpu
   pub idle : IsIdle cpu
-  pub none_lent : NoneLentTo cpu.number machine.spots
+  pub none_lent : NoneLentTo cpu.number machine.frame_states
   pub drained : (account_of machine.stock_seat.view cpu.number).filled ≡ false
 
 -- no frame was lent to a CPU that had none, and no drained stock was filled
 pub record LendsAndFillsNone (before after : KnownMachine) : Type 0 where
-  pub none_lent : (processor : ℕ) → NoneLentTo processor before.spots → NoneLentTo processor after.spots
+  pub none_lent : (processor : ℕ) → NoneLentTo processor before.frame_states → NoneLentTo processor after.frame_states
   pub drained : (processor : ℕ) → (account_of before.stock_seat.view processor).filled ≡ false
       → (account_of after.stock_seat.view processor).filled ≡ false
 
@@ -89,8 +89,8 @@ pub record LendsAndFillsNone (before after : KnownMachine) : Type 0 where
 -- own drops added, each of which is also a return. A count stays at its greatest value.
 pub record IsAuditOf (table : KnownTable) (machine : KnownMachine) (own : ℕ) (audit : Audit) : Type 0 where
   pub frames : audit.frames ≡ table.frames
-  pub free : audit.free ≡ frames_free machine.spots
-  pub charged : audit.charged ≡ frames_in_groups machine.spots
+  pub free : audit.free ≡ frames_free machine.frame_states
+  pub charged : audit.charged ≡ frames_in_groups machine.frame_states
   pub last_puts : audit.last_puts ≡ machine.counts.last_puts
   pub freezes : audit.freezes ≡ machine.counts.freezes
   pub drops : audit.drops ≡ min (machine.counts.drops + own) max_count
@@ -165,7 +165,7 @@ pub record Ends (table : KnownTable) (stock_table : Words) (locked : KnownLocked
   pub spent : List KnownCpu
   pub empties : ForEachCpu (BySteps table Empties) settled settled_cpus last spent
   pub all_spent : All (λ cpu. IsSpent table stock_table last cpu) spent
-  pub none_lent : (processor : ℕ) → NoneLentTo processor last.spots
+  pub none_lent : (processor : ℕ) → NoneLentTo processor last.frame_states
   pub stock_words : List ℕ
   pub told : All (λ cpu. IsStockOf stock_words cpu.number last.stock_seat.view cpu.stock_seat.view) spent
   pub no_page : (processor : ℕ) → 1 ≤ processor → processor ≤ table.cpus → HasNoPage last stock_words processor

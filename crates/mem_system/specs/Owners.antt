@@ -1,16 +1,16 @@
 -- The place of a frame, as Owner reports it.
 use Rattle.std.specs.Prelude.{◌≡◌, ℕ, Some}
 use Rattle.group_tree.specs.Groups.{path_of}
-use Rattle.mem_machine.specs.declared.spot.Place.TheVariants as place
-use Rattle.mem_machine.specs.Spots.{spot_at, place_of}
+use Rattle.mem_machine.specs.declared.frame_state.Place.TheVariants as place
+use Rattle.mem_machine.specs.FrameStates.{frame_state_at, place_of}
 use Rattle.mem_machine.specs.Machines.{KnownMachine}
 use Rattle.mem_system.specs.declared.command.Reply.{Reply}
 use Rattle.mem_system.specs.declared.command.Reply.TheVariants.{Free, Lent, Charged}
 
 -- Owner: the place of the frame, with the path of the group that it is charged to
 abbrev pub TellsPlace : KnownMachine → (frame : ℕ) → Reply → Type 0
-TellsPlace machine frame Free = place_of (spot_at machine.spots frame) ≡ place.Free
-TellsPlace machine frame (Lent processor) = place_of (spot_at machine.spots frame) ≡ place.Lent processor
+TellsPlace machine frame Free = place_of (frame_state_at machine.frame_states frame) ≡ place.Free
+TellsPlace machine frame (Lent processor) = place_of (frame_state_at machine.frame_states frame) ≡ place.Lent processor
 TellsPlace machine frame (Charged group path) =
-    (place_of (spot_at machine.spots frame) ≡ place.Charged group) × (path_of machine.ledger.groups group ≡ Some path)
+    (place_of (frame_state_at machine.frame_states frame) ≡ place.Charged group) × (path_of machine.ledger.groups group ≡ Some path)
 TellsPlace machine frame other = ⊥

@@ -44,7 +44,7 @@ impl<N: BootName> Locked<N> {
         ensures consistent { IsConsistent N.frames N.stocks self.now.machine }
         ensures charges { AreCharges self.now.machine.ledger }
     {
-        let _spots = self.machine.spots(); // Called for its contract.
+        let _frame_states = self.machine.frame_states(); // Called for its contract.
         let _tree = self.machine.charges().tree(); // Called for its contract.
     }
 
@@ -53,7 +53,7 @@ impl<N: BootName> Locked<N> {
         ensures machine { result.now ≡ self.now.machine }
         ensures consistent { IsConsistent N.frames N.stocks self.now.machine }
     {
-        let _spots = self.machine.spots(); // Called for its contract.
+        let _frame_states = self.machine.frame_states(); // Called for its contract.
         &self.machine
     }
 

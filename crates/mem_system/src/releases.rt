@@ -3,8 +3,8 @@
 ghost use Rattle.std.specs.Prelude.{◌≡◌, ◌↔◌, ◌<◌, ◌≤◌, IsTrue, [], length};
 ghost use Rattle.zone_sizes.specs.Config.{IsValidConfig};
 ghost use Rattle.step_rules.specs.declared.phase.ChargedUnit.{ChargedUnit};
-ghost use Rattle.mem_machine.specs.declared.spot.Spot.TheVariants.{Free, Head};
-ghost use Rattle.mem_machine.specs.Spots.{spot_at};
+ghost use Rattle.mem_machine.specs.declared.frame_state.FrameState.TheVariants.{Free, Head};
+ghost use Rattle.mem_machine.specs.FrameStates.{frame_state_at};
 ghost use Rattle.mem_machine.specs.Machines.{KeepsVisit, Visits};
 ghost use Rattle.mem_system.specs.Outcomes.{ComesTo, HasItsGroups};
 ghost use Rattle.mem_system.specs.Releases.{CutsList, ListsFrame, ReleasesFrame};
@@ -22,7 +22,7 @@ use zone_sizes::config::Config;
 // Whether the unit that the frame heads is a single frame.
 fn is_single<N: BootName>(machine: &Machine<N>, frame: Frame) -> bool
     requires { frame < N.frames.frames }
-    ensures { (unit : ChargedUnit) → spot_at machine.now.spots frame ≡ Head unit → IsTrue result ↔ (unit.order ≡ 0) }
+    ensures { (unit : ChargedUnit) → frame_state_at machine.now.frame_states frame ≡ Head unit → IsTrue result ↔ (unit.order ≡ 0) }
 {
     match machine.unit(frame) {
         Some(unit) => unit.order.exponent() == 0,
@@ -60,7 +60,7 @@ fn list_frame<N: BootName>(
     requires visit { Visits N.frames (side machine.old cpu.old) }
     requires sizes { IsValidConfig sizes }
     requires frame { frame < N.frames.frames }
-    requires free { spot_at machine.old.spots frame ≡ Free }
+    requires free { frame_state_at machine.old.frame_states frame ≡ Free }
     requires none_fresh { cpu.old.fresh ≡ [] }
     ensures lists { BySteps N.frames (ListsFrame sizes frame) (side machine.old cpu.old) (side machine.new cpu.new) }
     ensures stays { KeepsVisit N.frames (side machine.old cpu.old) (side machine.new cpu.new) }

@@ -33,9 +33,9 @@ use Rattle.step_rules.specs.declared.step.Answer.{Answer as Said}
 use Rattle.step_rules.specs.declared.step.Answer.TheVariants as says
 use Rattle.step_rules.specs.State.{State}
 use Rattle.step_rules.specs.After.{Run, state_of, IsLegalRun}
-use Rattle.mem_machine.specs.declared.spot.Spot.{Spot}
-use Rattle.mem_machine.specs.declared.spot.Spot.TheVariants as spot_is
-use Rattle.mem_machine.specs.Spots.{spot_at}
+use Rattle.mem_machine.specs.declared.frame_state.FrameState.{FrameState}
+use Rattle.mem_machine.specs.declared.frame_state.FrameState.TheVariants as frame_state_is
+use Rattle.mem_machine.specs.FrameStates.{frame_state_at}
 use Rattle.mem_machine.specs.Machines.{KnownMachine, side}
 use Rattle.mem_machine.specs.Local.{local_of, phase_of, number_or_0, Makes, IsLocalRun}
 use Rattle.mem_machine.specs.Interleaving.{zone_of}
@@ -82,20 +82,20 @@ module _ (t : KnownTable) (m : KnownMachine) (c : KnownCpu) where
   pub unseen_same : (d : KnownCpu) → d ≡ c → IsUnseen t m c d
   unseen_same d is = record { number = ap (λ (x : KnownCpu). x.number) is; same = ap (local_of t m) is }
 
-  stock_phase : (stock : Seated) → group_of stock.view.last ≡ group_of c.stock_seat.view.last → (f : ℕ) (x : Spot) →
+  stock_phase : (stock : Seated) → group_of stock.view.last ≡ group_of c.stock_seat.view.last → (f : ℕ) (x : FrameState) →
       phase_of (record c { stock_seat = stock }) f x ≡ phase_of c f x
-  stock_phase stock group f spot_is.Free = refl
-  stock_phase stock group f (spot_is.Lent q) =
+  stock_phase stock group f frame_state_is.Free = refl
+  stock_phase stock group f (frame_state_is.Lent q) =
       λ i. cond (q == c.number && nat_le 1 (parts.times f c.fresh)) (phase.Head (record { group = number_or_0 (group i); order = 0 }) (FreshAt q))
       (phase.Lent q OnList)
-  stock_phase stock group f (spot_is.Head unit) = refl
-  stock_phase stock group f (spot_is.Tail g) = refl
+  stock_phase stock group f (frame_state_is.Head unit) = refl
+  stock_phase stock group f (frame_state_is.Tail g) = refl
 
   -- it saw something of its stock, not of which group that is
   unseen_stock : (d : KnownCpu) (stock : Seated) → d ≡ record c { stock_seat = stock } → group_of stock.view.last ≡ group_of c.stock_seat.view.last → IsUnseen t m c d
   unseen_stock d stock is group = subst (IsUnseen t m c) (sym is) (record {
     number = refl;
-    same = λ i. record (local_of t m c) { phases = λ f. stock_phase stock group f (spot_at m.spots f) i };
+    same = λ i. record (local_of t m c) { phases = λ f. stock_phase stock group f (frame_state_at m.frame_states f) i };
   })
 
   -- it noted something of a frame, not how many references it has

@@ -1,30 +1,30 @@
 use Rattle.std.proofs.Common.{◌≡◌, ◌+◌, ◌-◌, ◌∙◌, ◌++◌, List, ℕ, ap, sym, append_assoc, arith, length, drop, take}
 use Rattle.std.proofs.lemmas.List.{length-drop, take_all}
 use Rattle.std.specs.String.{string_bytes}
-use Rattle.mem_machine.specs.declared.spot.Spot.{Spot}
+use Rattle.mem_machine.specs.declared.frame_state.FrameState.{FrameState}
 use Rattle.machine_texts.specs.Places.{run_length, run_text}
 use Rattle.machine_texts.proofs.Runs.{is_run, rest_text}
 use Rattle.machine_texts.proofs.places.write_places.Goals as goal
 
 pub overflow_add-next : goal.overflow_add-next
 overflow_add-next c =
-    let left = length-drop c.loop-first.first c.args.spots.now in
-    let all : take (length c.args.spots.now - c.loop-first.first) (drop c.loop-first.first c.args.spots.now) ≡ drop c.loop-first.first c.args.spots.now
-    = take_all (length c.args.spots.now - c.loop-first.first) (drop c.loop-first.first c.args.spots.now) (omega (arith, left)) in
-    let run = is_run c.args.tree.now c.args.spots.now c.loop-first.first c.run_length.result c.place-place.result c.index-spots-first.result c.loop-first-test.true
-    c.index-spots-first.is c.place-place.ensures (c.run_length.ensures ∙ ap (λ (s : List Spot). run_length c.place-place.result s) all) in
+    let left = length-drop c.loop-first.first c.args.frame_states.now in
+    let all : take (length c.args.frame_states.now - c.loop-first.first) (drop c.loop-first.first c.args.frame_states.now) ≡ drop c.loop-first.first c.args.frame_states.now
+    = take_all (length c.args.frame_states.now - c.loop-first.first) (drop c.loop-first.first c.args.frame_states.now) (omega (arith, left)) in
+    let run = is_run c.args.tree.now c.args.frame_states.now c.loop-first.first c.run_length.result c.place-place.result c.index-frame_states-first.result c.loop-first-test.true
+    c.index-frame_states-first.is c.place-place.ensures (c.run_length.ensures ∙ ap (λ (s : List FrameState). run_length c.place-place.result s) all) in
     let within = run.within in
     omega (arith, within)
 
 pub loop-first-preserved : goal.loop-first-preserved
 loop-first-preserved c =
-    let left = length-drop c.loop-first.first c.args.spots.now in
-    let all : take (length c.args.spots.now - c.loop-first.first) (drop c.loop-first.first c.args.spots.now) ≡ drop c.loop-first.first c.args.spots.now
-    = take_all (length c.args.spots.now - c.loop-first.first) (drop c.loop-first.first c.args.spots.now) (omega (arith, left)) in
-    let run = is_run c.args.tree.now c.args.spots.now c.loop-first.first c.run_length.result c.place-place.result c.index-spots-first.result c.loop-first-test.true
-    c.index-spots-first.is c.place-place.ensures (c.run_length.ensures ∙ ap (λ (s : List Spot). run_length c.place-place.result s) all) in
+    let left = length-drop c.loop-first.first c.args.frame_states.now in
+    let all : take (length c.args.frame_states.now - c.loop-first.first) (drop c.loop-first.first c.args.frame_states.now) ≡ drop c.loop-first.first c.args.frame_states.now
+    = take_all (length c.args.frame_states.now - c.loop-first.first) (drop c.loop-first.first c.args.frame_states.now) (omega (arith, left)) in
+    let run = is_run c.args.tree.now c.args.frame_states.now c.loop-first.first c.run_length.result c.place-place.result c.index-frame_states-first.result c.loop-first-test.true
+    c.index-frame_states-first.is c.place-place.ensures (c.run_length.ensures ∙ ap (λ (s : List FrameState). run_length c.place-place.result s) all) in
     let line = run_text c.args.tree.now c.loop-first.first (c.loop-first.first + c.run_length.result - 1) c.place-place.result in
-    let rest = rest_text c.args.tree.now (c.loop-first.first + c.run_length.result) (drop (c.loop-first.first + c.run_length.result) c.args.spots.now) in
+    let rest = rest_text c.args.tree.now (c.loop-first.first + c.run_length.result) (drop (c.loop-first.first + c.run_length.result) c.args.frame_states.now) in
     let wrote : string_bytes c.write_run.new.text ≡ string_bytes c.loop-first.text ++ line = c.in_ok-write_run.ensures in
     record {
       within = run.within;

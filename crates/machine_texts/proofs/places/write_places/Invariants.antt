@@ -5,10 +5,10 @@ use Rattle.machine_texts.proofs.Runs.{rest_text}
 use Rattle.machine_texts.proofs.places.write_places.Given as goal
 
 abbrev pub decreases-loop-first : goal.decreases-loop-first
-decreases-loop-first l = length l.spots - l.first
+decreases-loop-first l = length l.frame_states - l.first
 
 abbrev pub invariant-loop-first : goal.invariant-loop-first
 invariant-loop-first l = record {
-  within : l.first ≤ length l.spots;
-  told : string_bytes l.text ++ rest_text l.tree l.first (drop l.first l.spots) ≡ string_bytes l.initial.text ++ places_text l.tree l.spots;
+  within : l.first ≤ length l.frame_states;
+  told : string_bytes l.text ++ rest_text l.tree l.first (drop l.first l.frame_states) ≡ string_bytes l.initial.text ++ places_text l.tree l.frame_states;
 }

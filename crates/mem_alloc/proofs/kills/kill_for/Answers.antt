@@ -62,7 +62,7 @@ kills-smaller g c =
     let kills : IsKilledBy t c.args.limited killed x n = subst (λ (o : Option Killed). KillsVictim t c.args.limited o x n) c.in-Some.is c.kill.ensures.kills in
     let marked : n.killed ≡ with_all_killed x.killed (kill_set x killed) =
     subst (λ (o : Option Killed). IfSome o (λ k. n.killed ≡ with_all_killed x.killed (kill_set x k))) c.in-Some.is c.kill.ensures.marked in
-    fewer_alive t g.N.BootName.stocks x n c.args.limited killed c.spots-spots.ensures.consistent charges most kills.head_is marked
+    fewer_alive t g.N.BootName.stocks x n c.args.limited killed c.frame_states-frame_states.ensures.consistent charges most kills.head_is marked
 
 pub kills-preserved : goal.kills-preserved
 kills-preserved g c =
@@ -77,5 +77,5 @@ kills-preserved g c =
     let marked : n.killed ≡ with_all_killed x.killed (kill_set x killed) =
     subst (λ (o : Option Killed). IfSome o (λ k. n.killed ≡ with_all_killed x.killed (kill_set x k))) c.in-Some.is c.kill.ensures.marked in
     so_far_killed c.args.requester t g.N.BootName.stocks c.args.limited c.args.pages killed (with_oom_noted_at c.args.machine.now c.args.limited)
-    x n c.kills.invariant (c.is_wanting.ensures.0 c.if-not-is_wanting.false) c.spots-spots.ensures.consistent charges most kills
+    x n c.kills.invariant (c.is_wanting.ensures.0 c.if-not-is_wanting.false) c.frame_states-frame_states.ensures.consistent charges most kills
     marked c.kill.ensures.stocks c.kill.ensures.keeps

@@ -9,7 +9,7 @@ use Rattle.mem_reclaim.proofs.scan.scan.Goals as goal
 pub loop-met-init : goal.loop-met-init
 loop-met-init g c =
     let fits : c.args.group < 64 = search rules in
-    scan_first g.N.BootName.frames g.N.BootName.stocks c.args.machine.now c.spots-records.ensures.consistent c.args.marks_count c.args.group fits c.args.list
+    scan_first g.N.BootName.frames g.N.BootName.stocks c.args.machine.now c.frame_states-records.ensures.consistent c.args.marks_count c.args.group fits c.args.list
     c.args.want c.oldest-next.result c.oldest-next.ensures
 
 pub returns-then-want-given-clause-scans : goal.returns-then-want-given-clause-scans
@@ -21,7 +21,7 @@ pub unreachable-requires-in_default-frame : goal.unreachable-requires-in_default
 unreachable-requires-in_default-frame g c =
     let fits : c.args.group < 64 = search rules in
     let h = scan_here g.N.BootName.frames g.N.BootName.stocks c.args.marks_count c.args.group fits c.args.list c.args.want c.args.machine.now
-    c.loop-met._met c.loop-met.given c.loop-met.next c.loop-met.machine c.spots-spots.ensures.consistent c.loop-met.invariant c.listed-units.result
+    c.loop-met._met c.loop-met.given c.loop-met.next c.loop-met.machine c.frame_states-frame_states.ensures.consistent c.loop-met.invariant c.listed-units.result
     c.listed-units.ensures c.loop-met-test.true c.in-Some.unit c.in-Some.is in
     let lt = h.inside in
     let le : c.args.tables.now.frames.frames ≤ c.in-Some.unit.number = c.in_default-frame.ensures {u = tt} in
@@ -32,7 +32,7 @@ pub newer-next-requires-clause-stands : goal.newer-next-requires-clause-stands
 newer-next-requires-clause-stands g c =
     let fits : c.args.group < 64 = search rules in
     let h = scan_here g.N.BootName.frames g.N.BootName.stocks c.args.marks_count c.args.group fits c.args.list c.args.want c.args.machine.now
-    c.loop-met._met c.loop-met.given c.loop-met.next c.loop-met.machine c.spots-spots.ensures.consistent c.loop-met.invariant c.listed-units.result
+    c.loop-met._met c.loop-met.given c.loop-met.next c.loop-met.machine c.frame_states-frame_states.ensures.consistent c.loop-met.invariant c.listed-units.result
     c.listed-units.ensures c.loop-met-test.true c.in-Some.unit c.in-Some.is in
     ap (home_of c.loop-met.machine.links) c.in-Some-frame.ensures.0 ∙ h.home
 
@@ -40,7 +40,7 @@ pub try_reclaim-requires-clause-unit : goal.try_reclaim-requires-clause-unit
 try_reclaim-requires-clause-unit g c =
     let fits : c.args.group < 64 = search rules in
     let h = scan_here g.N.BootName.frames g.N.BootName.stocks c.args.marks_count c.args.group fits c.args.list c.args.want c.args.machine.now
-    c.loop-met._met c.loop-met.given c.loop-met.next c.loop-met.machine c.spots-spots.ensures.consistent c.loop-met.invariant c.listed-units.result
+    c.loop-met._met c.loop-met.given c.loop-met.next c.loop-met.machine c.frame_states-frame_states.ensures.consistent c.loop-met.invariant c.listed-units.result
     c.listed-units.ensures c.loop-met-test.true c.in-Some.unit c.in-Some.is in
     h.read ∙ ap (entry_of c.loop-met.machine.links) (sym c.in-Some-frame.ensures.0)
 
@@ -48,7 +48,7 @@ pub try_reclaim-requires-clause-stands : goal.try_reclaim-requires-clause-stands
 try_reclaim-requires-clause-stands g c =
     let fits : c.args.group < 64 = search rules in
     let h = scan_here g.N.BootName.frames g.N.BootName.stocks c.args.marks_count c.args.group fits c.args.list c.args.want c.args.machine.now
-    c.loop-met._met c.loop-met.given c.loop-met.next c.loop-met.machine c.spots-spots.ensures.consistent c.loop-met.invariant c.listed-units.result
+    c.loop-met._met c.loop-met.given c.loop-met.next c.loop-met.machine c.frame_states-frame_states.ensures.consistent c.loop-met.invariant c.listed-units.result
     c.listed-units.ensures c.loop-met-test.true c.in-Some.unit c.in-Some.is in
     ap (home_of c.loop-met.machine.links) c.in-Some-frame.ensures.0 ∙ h.home
 
@@ -59,7 +59,7 @@ loop-met-preserved g c =
     let e = c.from-given.ensures in
     rw e
     (scan_more g.N.BootName.frames g.N.BootName.stocks c.args.marks_count c.args.group fits c.args.list c.args.want c.args.machine.now
-    c.loop-met._met c.loop-met.given c.loop-met.next c.loop-met.machine c.spots-spots.ensures.consistent c.loop-met.invariant c.listed-units.result
+    c.loop-met._met c.loop-met.given c.loop-met.next c.loop-met.machine c.frame_states-frame_states.ensures.consistent c.loop-met.invariant c.listed-units.result
     c.listed-units.ensures c.loop-met-test.true c.in-Some.unit c.in-Some.is c.try_reclaim.result c.try_reclaim.new.machine c.requires.inactive c.if-want-given.false
     (omega (arith, small)) c.try_reclaim.ensures.attempts c.try_reclaim.ensures.keeps c.try_reclaim.ensures.usage c.newer-next.result c.in-Some-frame.frame c.in-Some-frame.ensures.0
     c.newer-next.ensures)

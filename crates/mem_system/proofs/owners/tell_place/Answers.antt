@@ -1,7 +1,7 @@
 use Rattle.std.proofs.Common.{◌≡◌, ℕ, ◌<◌, rules, sym, subst}
 use Rattle.group_charge.specs.Charges.{AreCharges}
-use Rattle.mem_machine.specs.declared.spot.Place.TheVariants as place
-use Rattle.mem_machine.specs.Spots.{spot_at, place_of}
+use Rattle.mem_machine.specs.declared.frame_state.Place.TheVariants as place
+use Rattle.mem_machine.specs.FrameStates.{frame_state_at, place_of}
 use Rattle.mem_machine.proofs.Keepers.{keeper_there}
 use Rattle.mem_system.proofs.Telling.{path_told}
 use Rattle.mem_system.proofs.owners.tell_place.Goals as goal
@@ -13,7 +13,7 @@ returns-in-Charged-clause-told g c =
     let there = keeper_there g.N.BootName.frames g.N.BootName.stocks c.args.machine.now c.unwrap-frame.result c.in-Charged.group
     c.in-Charged.ensures.consistent legal inside (sym c.in-Charged.ensures.place) in
     let same : c.unwrap-frame.result ≡ c.args.frame = search rules in (
-      subst (λ (f : ℕ). place_of (spot_at c.args.machine.now.spots f) ≡ place.Charged c.in-Charged.group) same (sym c.in-Charged.ensures.place),
+      subst (λ (f : ℕ). place_of (frame_state_at c.args.machine.now.frame_states f) ≡ place.Charged c.in-Charged.group) same (sym c.in-Charged.ensures.place),
       path_told _ _ there,
     )
 

@@ -15,7 +15,7 @@ overflow_add-charged g c =
     let counted = are_counted g.N.BootName.frames g.N.BootName.stocks _ _ c.self.view_is c.self.invariant.consistent c.tree-charges.ensures.legal in
     let number : c.unwrap.result ≡ c.loop-number.number = search rules in
     let next = counted.next c.loop-number.number in
-    let same = c.frames_of-charged.ensures ∙ ap (frames_charged c.args.self.now.spots) number in
+    let same = c.frames_of-charged.ensures ∙ ap (frames_charged c.args.self.now.frame_states) number in
     let below = c.loop-number-test.true in
     let within = counted.within (c.loop-number.number + 1) (omega arith) in
     let so_far = c.loop-number.invariant in
@@ -26,7 +26,7 @@ loop-number-preserved g c =
     let counted = are_counted g.N.BootName.frames g.N.BootName.stocks _ _ c.self.view_is c.self.invariant.consistent c.tree-charges.ensures.legal in
     let number : c.unwrap.result ≡ c.loop-number.number = search rules in
     let next = counted.next c.loop-number.number in
-    let same = c.frames_of-charged.ensures ∙ ap (frames_charged c.args.self.now.spots) number in
+    let same = c.frames_of-charged.ensures ∙ ap (frames_charged c.args.self.now.frame_states) number in
     let so_far = c.loop-number.invariant in
     omega (arith, next, same, so_far)
 
@@ -44,7 +44,7 @@ pub returns-clause-charged : goal.returns-clause-charged
 returns-clause-charged g c =
     let counted = are_counted g.N.BootName.frames g.N.BootName.stocks _ _ c.self.view_is c.self.invariant.consistent c.tree-charges.ensures.legal in
     let end : c.loop-number.number ≡ 64 = omega (arith, c.loop-number.auto.number-end) in
-    c.loop-number.invariant ∙ ap (λ (k : ℕ). sum_to k (frames_charged c.args.self.now.spots)) end ∙ counted.all
+    c.loop-number.invariant ∙ ap (λ (k : ℕ). sum_to k (frames_charged c.args.self.now.frame_states)) end ∙ counted.all
 
 pub returns-clause-at_most : goal.returns-clause-at_most
 returns-clause-at_most g c =

@@ -32,7 +32,7 @@ invariant_of-self g c =
     let u = c.free_unit.ensures in
     let all = (drop_all g.N.BootName.frames g.N.BootName.stocks _ _ c.self.view_is c.args.cpu.now _ c.number-number.ensures.tied c.self.invariant.consistent
     c.requires.visit _ _ c.self.invariant.free _ c.args.group was c.requires.killed e.cpu _ c.unwrap-order.result c.number.ensures k0 _ e.zone _ e.seat
-    _ u.spots _ u.frames u.areas _ u.charges _
+    _ u.frame_states _ u.frames u.areas _ u.charges _
     c.with_drop-self-inside.ensures) in
     record { consistent = all.consistent; free = all.free_is }
 
@@ -46,6 +46,6 @@ returns g c =
     let u = c.free_unit.ensures in
     let all = drop_all g.N.BootName.frames g.N.BootName.stocks _ _ c.self.view_is c.args.cpu.now _ c.number-number.ensures.tied c.self.invariant.consistent
     c.requires.visit _ _ c.self.invariant.free _ c.args.group was c.requires.killed e.cpu _ c.unwrap-order.result c.number.ensures k0 _ e.zone _ e.seat
-    _ u.spots _ u.frames u.areas _ u.charges _
+    _ u.frame_states _ u.frames u.areas _ u.charges _
     c.with_drop-self-inside.ensures in
     record { drops = all.drops; visit = all.visit; steps = all.steps }

@@ -48,7 +48,7 @@ unreachable-requires g c =
     let there = block_inside _ _ _ _ c.unwrap.result c.in-Some.block c.self.invariant.free k0 c.in-Some.ensures.taken c.in-Some.ensures.frames in
     let past : g.N.BootName.frames.frames ≤ c.in-Some.block.at = search rules in
     let inside = there.0 in
-    let sized = c.self.invariant.consistent.sizes.spots in
+    let sized = c.self.invariant.consistent.sizes.frame_states in
     omega (arith, past, inside, sized)
 
 pub invariant_of-self : goal.invariant_of-self

@@ -47,7 +47,7 @@ invariant_of-self-2 g c =
     let u = c.free_unit.ensures in
     let all = (return_all g.N.BootName.frames g.N.BootName.stocks _ _ c.self.view_is c.args.cpu.now c.hand_back.new.self _ c.number-number.ensures.tied
     c.self.invariant.consistent c.requires _ _ c.self.invariant.free _ was c.in-Some.ensures.answer c.collect.ensures.cpu _ c.number-at.ensures _ heads _ collected
-    _ u.spots _ u.frames u.areas _ u.charges _
+    _ u.frame_states _ u.frames u.areas _ u.charges _
     c.with_last_put-self-inside.ensures) in
     record { consistent = all.consistent; free = all.free_is }
 
@@ -62,6 +62,6 @@ returns g c =
     let u = c.free_unit.ensures in
     let all = return_all g.N.BootName.frames g.N.BootName.stocks _ _ c.self.view_is c.args.cpu.now c.hand_back.new.self _ c.number-number.ensures.tied
     c.self.invariant.consistent c.requires _ _ c.self.invariant.free _ was c.in-Some.ensures.answer c.collect.ensures.cpu _ c.number-at.ensures _ heads _ collected
-    _ u.spots _ u.frames u.areas _ u.charges _
+    _ u.frame_states _ u.frames u.areas _ u.charges _
     c.with_last_put-self-inside.ensures in
     record { returns = all.returns; visit = all.visit; steps = all.steps }

@@ -30,7 +30,7 @@ pub unreachable-requires : goal.unreachable-requires
 unreachable-requires g c =
     let past : g.N.BootName.frames.frames ≤ c.in-Some.block.at = search rules in
     let inside = head_inside _ _ c.self.invariant.consistent.areas _ _ c.self.invariant.free _ c.in-Some.block c.in-Some.ensures.taken c.in-Some.ensures.frames in
-    let sized = c.self.invariant.consistent.sizes.spots in
+    let sized = c.self.invariant.consistent.sizes.frame_states in
     omega (arith, past, inside, sized)
 
 pub place_unit-requires : goal.place_unit-requires

@@ -1,7 +1,7 @@
 //! What the machine records of one frame.
 
 ghost use Rattle.std.specs.Prelude.{◌≡◌};
-ghost use Rattle.mem_machine.specs.Spots.{place_of};
+ghost use Rattle.mem_machine.specs.FrameStates.{place_of};
 
 use group_tree::group::GroupId;
 use step_rules::phase::ChargedUnit;
@@ -9,7 +9,7 @@ use step_rules::phase::ChargedUnit;
 /// The record of one frame: what the machine uses it for. There is one for each frame, so it takes only 3 bytes: one
 /// each for the variant, the CPU or the group, and the order.
 #[derive(Clone, Copy, Debug, PartialEq, Eq)]
-pub enum Spot {
+pub enum FrameState {
     /// In the zone's free areas.
     Free,
     /// Lent to this CPU, whose number is at most 64: on its list, or fresh there.
@@ -31,16 +31,16 @@ pub enum Place {
     Charged(GroupId),
 }
 
-impl Spot {
+impl FrameState {
     /// Where a frame with this record is.
     pub fn place(&self) -> Place
         ensures { result ≡ place_of self.now }
     {
         match *self {
-            Spot::Free => Place::Free,
-            Spot::Lent(cpu) => Place::Lent(u32::from(cpu)),
-            Spot::Head(unit) => Place::Charged(unit.group),
-            Spot::Tail(group) => Place::Charged(group),
+            FrameState::Free => Place::Free,
+            FrameState::Lent(cpu) => Place::Lent(u32::from(cpu)),
+            FrameState::Head(unit) => Place::Charged(unit.group),
+            FrameState::Tail(group) => Place::Charged(group),
         }
     }
 }

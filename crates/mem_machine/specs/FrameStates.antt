@@ -4,26 +4,26 @@ use Rattle.std.specs.Prelude.{Option, Some, None, List, length, map, if◌then�
 use Rattle.std.specs.List.{slice_index_or}
 use Rattle.zone_blocks.specs.Block.{IsBlock}
 use Rattle.step_rules.specs.declared.phase.ChargedUnit.{ChargedUnit}
-use Rattle.mem_machine.specs.declared.spot.Spot.{Spot}
-use Rattle.mem_machine.specs.declared.spot.Spot.TheVariants.{Free, Lent, Head, Tail}
-use Rattle.mem_machine.specs.declared.spot.Place.{Place}
-use Rattle.mem_machine.specs.declared.spot.Place.TheVariants as place
+use Rattle.mem_machine.specs.declared.frame_state.FrameState.{FrameState}
+use Rattle.mem_machine.specs.declared.frame_state.FrameState.TheVariants.{Free, Lent, Head, Tail}
+use Rattle.mem_machine.specs.declared.frame_state.Place.{Place}
+use Rattle.mem_machine.specs.declared.frame_state.Place.TheVariants as place
 
 -- the record of the frame; Free past the last frame
-abbrev pub spot_at : List Spot → ℕ → Spot
-spot_at spots frame = slice_index_or spots frame Free
+abbrev pub frame_state_at : List FrameState → ℕ → FrameState
+frame_state_at frame_states frame = slice_index_or frame_states frame Free
 
 -- the frame is in the free areas
-abbrev pub is_free : Spot → Bool
+abbrev pub is_free : FrameState → Bool
 is_free Free = true
 is_free _ = false
 
 -- which frames are free
-abbrev pub free_of : List Spot → List Bool
-free_of spots = map is_free spots
+abbrev pub free_of : List FrameState → List Bool
+free_of frame_states = map is_free frame_states
 
 -- the frame is in the zone's hand: it is free, or a tail of a charged unit
-abbrev pub is_in_hand : Spot → Bool
+abbrev pub is_in_hand : FrameState → Bool
 is_in_hand Free = true
 is_in_hand (Tail group) = true
 is_in_hand _ = false
@@ -34,28 +34,28 @@ some_cpu zero = None
 some_cpu (suc before) = Some (suc before)
 
 -- the CPU that the frame is lent to
-abbrev pub lent_to : Spot → Option ℕ
+abbrev pub lent_to : FrameState → Option ℕ
 lent_to (Lent processor) = Some processor
 lent_to _ = None
 
 -- the unit that the frame heads
-abbrev pub unit_of : Spot → Option ChargedUnit
+abbrev pub unit_of : FrameState → Option ChargedUnit
 unit_of (Head unit) = Some unit
 unit_of _ = None
 
 -- the group that the frame is charged to
-abbrev pub spot_group : Spot → Option ℕ
-spot_group (Head unit) = Some unit.group
-spot_group (Tail group) = Some group
-spot_group _ = None
+abbrev pub frame_state_group : FrameState → Option ℕ
+frame_state_group (Head unit) = Some unit.group
+frame_state_group (Tail group) = Some group
+frame_state_group _ = None
 
 -- the group of the unit that the frame heads
-abbrev pub head_group_of : Spot → Option ℕ
+abbrev pub head_group_of : FrameState → Option ℕ
 head_group_of (Head unit) = Some unit.group
 head_group_of _ = None
 
 -- the place of the frame: free, lent to a CPU, or charged to a group
-abbrev pub place_of : Spot → Place
+abbrev pub place_of : FrameState → Place
 place_of Free = place.Free
 place_of (Lent processor) = place.Lent processor
 place_of (Head unit) = place.Charged unit.group
@@ -67,20 +67,20 @@ count_of wanted None = 0
 count_of wanted (Some number) = if number == wanted then 1 else 0
 
 -- the unit's frames are a block of the zone, and all but the head are tails of the unit's group
-pub record IsUnitAt (spots : List Spot) (frame : ℕ) (unit : ChargedUnit) : Type 0 where
-  pub block : IsBlock (length spots) (record { at = frame; order = unit.order })
-  pub tails : (tail : ℕ) → frame < tail → tail < frame + 2 ^ unit.order → spot_at spots tail ≡ Tail unit.group
+pub record IsUnitAt (frame_states : List FrameState) (frame : ℕ) (unit : ChargedUnit) : Type 0 where
+  pub block : IsBlock (length frame_states) (record { at = frame; order = unit.order })
+  pub tails : (tail : ℕ) → frame < tail → tail < frame + 2 ^ unit.order → frame_state_at frame_states tail ≡ Tail unit.group
 
 -- the frame is in a unit of the group, and isn't its head
-pub record IsTailOf (spots : List Spot) (frame owner : ℕ) : Type 0 where
+pub record IsTailOf (frame_states : List FrameState) (frame owner : ℕ) : Type 0 where
   pub head : ℕ
   pub unit : ChargedUnit
-  pub heads : spot_at spots head ≡ Head unit
+  pub heads : frame_state_at frame_states head ≡ Head unit
   pub group : unit.group ≡ owner
   pub from : head < frame
   pub before : frame < head + 2 ^ unit.order
 
 -- each head has its unit, and each tail is in a unit
-pub record AreUnits (spots : List Spot) : Type 0 where
-  pub heads : (frame : ℕ) (unit : ChargedUnit) → spot_at spots frame ≡ Head unit → IsUnitAt spots frame unit
-  pub tails : (frame group : ℕ) → spot_at spots frame ≡ Tail group → IsTailOf spots frame group
+pub record AreUnits (frame_states : List FrameState) : Type 0 where
+  pub heads : (frame : ℕ) (unit : ChargedUnit) → frame_state_at frame_states frame ≡ Head unit → IsUnitAt frame_states frame unit
+  pub tails : (frame group : ℕ) → frame_state_at frame_states frame ≡ Tail group → IsTailOf frame_states frame group
