@@ -23,7 +23,7 @@
 
 mod ageing;
 mod blocks;
-mod books;
+mod stock_ledger;
 mod counts;
 mod evicting;
 mod freed;

@@ -5,7 +5,7 @@ ghost use Rattle.frame_word.specs.Seats.{first_zone_view};
 ghost use Rattle.stock_word.specs.Stock.{first_zone_stock};
 ghost use Rattle.mem_machine.specs.Machines.{IsConsistent, IsFirst};
 
-use crate::books::Books;
+use crate::stock_ledger::StockLedger;
 use crate::counts::Counts;
 use crate::frame_state::FrameState;
 use crate::start::{frame_rooms, group_rooms};
@@ -38,7 +38,7 @@ pub struct Machine<N: BootName> {
     pub(crate) frame_seat: FrameSeat,
     // The zone's seat at the stocks' table: the group and the book of each CPU's stock, 0 to 65,535 pages. Between two
     // calls no reported page is unabsorbed.
-    pub(crate) stock_seat: Books<N>,
+    pub(crate) stock_seat: StockLedger<N>,
     // Whether each of the 64 group numbers is killed, by the number.
     pub(crate) killed: Vec<bool>,
     // How many units ended, were freed, or were missed since the boot.
@@ -86,7 +86,7 @@ impl<N: BootName> Machine<N> {
             links,
             lists,
             frame_seat,
-            stock_seat: Books::new(stock_seat),
+            stock_seat: StockLedger::new(stock_seat),
             killed,
             counts: Counts {
                 last_puts: 0,

@@ -22,14 +22,14 @@ use stock_word::{Stock, StockSeat};
 /// The zone's seat at the stocks, which contracts see. Each CPU's book exists only in proofs, as a part of what the
 /// seat knows. The code keeps the sums of the books by group.
 #[derive(Drop)]
-pub(crate) struct Books<N: BootName> {
+pub(crate) struct StockLedger<N: BootName> {
     seat: StockSeat,
     // By group number: the sum of the books of the group's stocks, 0 to 2^32 - 1 pages.
     sums: [u32; MAX_GROUPS],
     of: PhantomData<N>,
 }
 
-impl<N: BootName> Model for Books<N> {
+impl<N: BootName> Model for StockLedger<N> {
     ghost use Rattle.stock_word.specs.Stock.{Seated};
     ghost use Rattle.mem_machine.specs.Booked.{AreBooked};
 
@@ -40,15 +40,15 @@ impl<N: BootName> Model for Books<N> {
     ghost invariant = { λ books. AreBooked N.frames N.stocks books.seat books.sums };
 }
 
-impl<N: BootName> Books<N> {
+impl<N: BootName> StockLedger<N> {
     /// The books of a new boot, in which nothing is booked. The seat is the zone's at the boot's table.
-    pub(crate) fn new(seat: StockSeat) -> Books<N>
+    pub(crate) fn new(seat: StockSeat) -> StockLedger<N>
         requires first { seat.view ≡ first_zone_stock }
         requires table { seat.table ≡ N.stocks.table }
         requires cpus { N.stocks.cpus ≡ N.frames.cpus }
         ensures { result ≡ seat }
     {
-        Books {
+        StockLedger {
             seat,
             sums: [0; MAX_GROUPS],
             of: PhantomData,
@@ -59,7 +59,7 @@ impl<N: BootName> Books<N> {
     pub(crate) fn into_seat(self) -> StockSeat
         ensures { result ≡ self }
     {
-        let Books {
+        let StockLedger {
             seat,
             sums: _,
             of: _,
