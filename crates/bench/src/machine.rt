@@ -3,7 +3,7 @@ ghost use Rattle.std.specs.Prelude.{◌≡◌, ◌+◌, ◌<◌, ◌^◌, false,
 ghost use Rattle.group_tree.specs.Groups.{has_group};
 ghost use Rattle.group_charge.specs.Charges.{current_of};
 ghost use Rattle.mem_machine.specs.Machines.{Visits, is_killed};
-ghost use Rattle.mem_machine.specs.Local.{side};
+ghost use Rattle.mem_machine.specs.Local.{visit_state};
 
 use crate::costs::{Pace, Row, Subject, tell_rows};
 use anyhow::{Context, Result, ensure};
@@ -28,7 +28,7 @@ pub struct Visited<N: BootName> {
     pub group: GroupId,
     pub order: Order,
     pub heads: Vec<u32>,
-    pub ghost visits: { Visits N.frames (side machine cpu) },
+    pub ghost visits: { Visits N.frames (visit_state machine cpu) },
 }
 
 // Whether this many pages may be charged to the group at all: it exists, it isn't killed, and the pages fit.

@@ -15,7 +15,7 @@ use Rattle.zone_sizes.specs.declared.config.Config.{Config}
 use Rattle.zone_sizes.specs.Config.{IsValidConfig}
 use Rattle.step_rules.specs.After.{Run}
 use Rattle.mem_machine.specs.Machines.{KnownMachine, Visits, is_killed}
-use Rattle.mem_machine.specs.Local.{Side, side, MakesAs}
+use Rattle.mem_machine.specs.Local.{VisitState, visit_state, MakesAs}
 use Rattle.mem_machine.specs.Lending.{LendsMany, Refills}
 use Rattle.mem_machine.specs.Paying.{HoldsPage, PaysForFront}
 use Rattle.mem_machine.specs.Stocks.{Drains, Fills, stock_group, with_look}
@@ -62,7 +62,7 @@ lowers_keep t m n c d l same = record {
   back = ap (λ (e : KnownCpu). e.back) same;
 }
 
-fills_keep : (g k : ℕ) (m n : KnownMachine) (c d : KnownCpu) → Fills g k (side m c) (side n d) → KeepsPart m c n d
+fills_keep : (g k : ℕ) (m n : KnownMachine) (c d : KnownCpu) → Fills g k (visit_state m c) (visit_state n d) → KeepsPart m c n d
 fills_keep g k m n c d f = record {
   opened = ap (λ (y : KnownMachine). y.frame_seat.view.opened) f.machine;
   number = ap (λ (e : KnownCpu). e.number) f.cpu;
@@ -82,36 +82,36 @@ makes_lower t g pages (over ∷ later) m n steps h =
     (makes_lower t g pages later h.between n h.later h.second)
 
 -- after room was made, what is kept is what the rest keeps
-after_room_keeps : (t : KnownTable) (g pages : ℕ) (Does : Course Side → Type 0) (m n : KnownMachine) (c d : KnownCpu) (steps : Run)
-    → ((x : KnownMachine) (later : Run) → Does (course t (side x c) later (side n d)) → KeepsPart x c n d)
-    → AfterRoom g pages Does (course t (side m c) steps (side n d)) → KeepsPart m c n d
+after_room_keeps : (t : KnownTable) (g pages : ℕ) (Does : Course VisitState → Type 0) (m n : KnownMachine) (c d : KnownCpu) (steps : Run)
+    → ((x : KnownMachine) (later : Run) → Does (course t (visit_state x c) later (visit_state n d)) → KeepsPart x c n d)
+    → AfterRoom g pages Does (course t (visit_state m c) steps (visit_state n d)) → KeepsPart m c n d
 after_room_keeps t g pages Does m n c d steps keeps h =
     keeps_both m h.cleared n c c d (lowers_keep t m h.cleared c c (makes_lower t g pages h.refused_at m h.cleared h.making h.makes) refl)
     (keeps h.cleared h.later h.does)
 
 refusal_keeps : (t : KnownTable) (g pages : ℕ) (cause : AllocFault) (m n : KnownMachine) (c d : KnownCpu) (steps : Run)
-    → IsRefusedFor g pages cause (course t (side m c) steps (side n d)) → KeepsPart m c n d
+    → IsRefusedFor g pages cause (course t (visit_state m c) steps (visit_state n d)) → KeepsPart m c n d
 refusal_keeps t g pages cause m n c d steps h =
     after_room_keeps t g pages (OfMachineAlone (IsRefusedAtSome g pages cause)) m n c d steps
     (λ x later r. lowers_keep t x n c d (refused_lowers t g pages r.does.0 (Err cause) x n later r.does.1) r.cpu) h
 
 one_keeps : (t : KnownTable) (g : ℕ) (r : Result (Unit {0}) AllocFault) (m n : KnownMachine) (c d : KnownCpu) (steps : Run)
-    → ChargesOne g r (course t (side m c) steps (side n d)) → KeepsPart m c n d
+    → ChargesOne g r (course t (visit_state m c) steps (visit_state n d)) → KeepsPart m c n d
 one_keeps t g (Ok v) m n c d steps h =
     after_room_keeps t g 1 (FillsStock g 1) m n c d steps (λ x later f. fills_keep g 1 x n c d f.fills) h
 one_keeps t g (Err e) m n c d steps h = refusal_keeps t g 1 e m n c d steps h
 
 charges_keep : (t : KnownTable) (sizes : Config) (g : ℕ) (r : Result (Unit {0}) AllocFault) (m n : KnownMachine) (c d : KnownCpu) (steps : Run)
-    → ChargesFrame sizes g r (course t (side m c) steps (side n d)) → KeepsPart m c n d
+    → ChargesFrame sizes g r (course t (visit_state m c) steps (visit_state n d)) → KeepsPart m c n d
 charges_keep t sizes g (Ok v) m n c d steps (inl h) = fills_keep g sizes.stock m n c d h.fills
 charges_keep t sizes g (Ok v) m n c d steps (inr h) = one_keeps t g (Ok v) m n c d h.later h.does
 charges_keep t sizes g (Err e) m n c d steps h = one_keeps t g (Err e) m n c d h.later h.does
 
-own_drain_keeps : (t : KnownTable) (m n : KnownMachine) (c d : KnownCpu) (steps : Run) → DrainsStock (course t (side m c) steps (side n d)) → KeepsPart m c n d
+own_drain_keeps : (t : KnownTable) (m n : KnownMachine) (c d : KnownCpu) (steps : Run) → DrainsStock (course t (visit_state m c) steps (visit_state n d)) → KeepsPart m c n d
 own_drain_keeps t m n c d steps h = lowers_keep t m n c d (drain_lowers t m n c.number h.drained h.drains) h.cpu
 
 drain_charges_keep : (t : KnownTable) (sizes : Config) (g : ℕ) (r : Result (Unit {0}) AllocFault) (m n : KnownMachine) (c d : KnownCpu) (steps : Run)
-    → ChargesAfterDrain sizes g r (course t (side m c) steps (side n d)) → KeepsPart m c n d
+    → ChargesAfterDrain sizes g r (course t (visit_state m c) steps (visit_state n d)) → KeepsPart m c n d
 drain_charges_keep t sizes g r m n c d steps h =
     let x = h.does.between in
     let k = with_look m in
@@ -120,7 +120,7 @@ drain_charges_keep t sizes g r m n c d steps h =
     (charges_keep t sizes g r x.machine n x.cpu d h.does.later h.does.second))
 
 pub pays_keep : (t : KnownTable) (sizes : Config) (g : ℕ) (r : Result (Unit {0}) AllocFault) (m n : KnownMachine) (c d : KnownCpu) (steps : Run)
-    → PaysForFrame sizes g r (course t (side m c) steps (side n d)) → KeepsPart m c n d
+    → PaysForFrame sizes g r (course t (visit_state m c) steps (visit_state n d)) → KeepsPart m c n d
 pays_keep t sizes g (Ok v) m n c d steps (inl h) =
     lowers_keep t m n c d (subst (λ (x : KnownMachine). Lowers t m x) (sym h.does.machine) (looked_lowers t m)) h.does.cpu
 pays_keep t sizes g (Ok v) m n c d steps (inr h) = drain_charges_keep t sizes g (Ok v) m n c d steps h
@@ -128,7 +128,7 @@ pays_keep t sizes g (Err e) m n c d steps h = drain_charges_keep t sizes g (Err 
 
 -- ---- the stock holds a page
 
-filled_page : (g k : ℕ) (m n : KnownMachine) (c d : KnownCpu) → Fills g k (side m c) (side n d) → 1 ≤ k → c.fresh ≡ [] → HoldsPage (side n d) g
+filled_page : (g k : ℕ) (m n : KnownMachine) (c d : KnownCpu) → Fills g k (visit_state m c) (visit_state n d) → 1 ≤ k → c.fresh ≡ [] → HoldsPage (visit_state n d) g
 filled_page g k m n c d f some none =
     let at : account_of n.stock_seat.view d.number ≡ filled_account m.stock_seat.view c.number g k =
     (λ i. account_of (f.machine i).stock_seat.view (f.cpu i).number) ∙ filled_at m.stock_seat.view c.number g k in
@@ -137,7 +137,7 @@ filled_page g k m n c d f some none =
     record { group = ap (λ (a : Account). a.group) at; held = ap (λ (a : Account). a.filled) at; some = omega (arith, book, fresh, some) }
 
 pub charged_page : (t : KnownTable) (sizes : Config) (g : ℕ) (r : Result (Unit {0}) AllocFault) (m n : KnownMachine) (c d : KnownCpu) (steps : Run)
-    → IsValidConfig sizes → ChargesFrame sizes g r (course t (side m c) steps (side n d)) → c.fresh ≡ [] → OnOk r (HoldsPage (side n d) g)
+    → IsValidConfig sizes → ChargesFrame sizes g r (course t (visit_state m c) steps (visit_state n d)) → c.fresh ≡ [] → OnOk r (HoldsPage (visit_state n d) g)
 charged_page t sizes g (Ok v) m n c d steps valid (inl h) none = filled_page g sizes.stock m n c d h.fills valid.stock_low none
 charged_page t sizes g (Ok v) m n c d steps valid (inr h) none =
     filled_page g 1 h.does.cleared n c d h.does.does.fills (omega arith) none
@@ -146,19 +146,19 @@ charged_page t sizes g (Err e) m n c d steps valid h none = tt
 -- ---- a look at the own stock
 
 module _ (t : KnownTable) (m n : KnownMachine) (c d : KnownCpu) (seen : n ≡ with_look m) (mine : d ≡ c) where
-  pub looked_visit : Visits t (side m c) → Visits t (side n d)
+  pub looked_visit : Visits t (visit_state m c) → Visits t (visit_state n d)
   looked_visit visit = lowered_visit t m n c d (subst (λ (x : KnownMachine). Lowers t m x) (sym seen) (looked_lowers t m)) mine visit
 
-  pub looked_page : (g : ℕ) → HoldsPage (side m c) g → HoldsPage (side n d) g
-  looked_page g page = subst (λ (z : KnownMachine × KnownCpu). HoldsPage (side z.0 z.1) g) (λ i. (sym seen i, sym mine i))
+  pub looked_page : (g : ℕ) → HoldsPage (visit_state m c) g → HoldsPage (visit_state n d) g
+  looked_page g page = subst (λ (z : KnownMachine × KnownCpu). HoldsPage (visit_state z.0 z.1) g) (λ i. (sym seen i, sym mine i))
       (record { group = page.group; held = page.held; some = page.some })
 
   -- it shows a page of the group
-  pub pays_none : (sizes : Config) (g : ℕ) → HoldsPage (side m c) g → BySteps t (PaysForFrame sizes g (Ok tt)) (side m c) (side n d)
+  pub pays_none : (sizes : Config) (g : ℕ) → HoldsPage (visit_state m c) g → BySteps t (PaysForFrame sizes g (Ok tt)) (visit_state m c) (visit_state n d)
   pays_none sizes g page = record {
     steps = [];
     does = inl (record { is = page; does = record { machine = seen; cpu = mine; steps_are = refl } });
-    makes = subst (λ (z : KnownMachine × KnownCpu). MakesAs t c.number (side m c) [] (side z.0 z.1)) (λ i. (sym seen i, sym mine i))
+    makes = subst (λ (z : KnownMachine × KnownCpu). MakesAs t c.number (visit_state m c) [] (visit_state z.0 z.1)) (λ i. (sym seen i, sym mine i))
         (makes_stay t m (with_look m) c c refl refl refl);
   }
 
@@ -172,7 +172,7 @@ pub record LentPart (frames : List ℕ) (m : KnownMachine) (c : KnownCpu) (n : K
   pub back : d.back ≡ c.back
   pub stock_seat : n.stock_seat ≡ m.stock_seat
 
-pub lent_part : (frames : List ℕ) (m n : KnownMachine) (c d : KnownCpu) → LendsMany frames (side m c) (side n d) → LentPart frames m c n d
+pub lent_part : (frames : List ℕ) (m n : KnownMachine) (c d : KnownCpu) → LendsMany frames (visit_state m c) (visit_state n d) → LentPart frames m c n d
 lent_part [] m n c d h = record {
   opened = ap (λ (y : KnownMachine). y.frame_seat.view.opened) h.machine;
   number = ap (λ (e : KnownCpu). e.number) h.cpu;
@@ -193,7 +193,7 @@ lent_part (f ∷ frames) m n c d h =
       stock_seat = more.stock_seat ∙ ap (λ (y : KnownMachine). y.stock_seat) one.machine;
     }
 
-pub lent_page : (frames : List ℕ) (g : ℕ) (m n : KnownMachine) (c d : KnownCpu) → LendsMany frames (side m c) (side n d) → HoldsPage (side m c) g → HoldsPage (side n d) g
+pub lent_page : (frames : List ℕ) (g : ℕ) (m n : KnownMachine) (c d : KnownCpu) → LendsMany frames (visit_state m c) (visit_state n d) → HoldsPage (visit_state m c) g → HoldsPage (visit_state n d) g
 lent_page frames g m n c d lends page =
     let l = lent_part frames m n c d lends in
     let at : account_of n.stock_seat.view d.number ≡ account_of m.stock_seat.view c.number = λ i. account_of (l.stock_seat i).view (l.number i) in
@@ -209,43 +209,43 @@ lent_page frames g m n c d lends page =
 -- ---- the parts put together
 
 -- the batch fits
-pub batch_fits : (t : KnownTable) (sizes : Config) (g : ℕ) (m n : KnownMachine) (c d : KnownCpu) → Fills g sizes.stock (side m c) (side n d)
-    → MakesAs t c.number (side m c) (fill_steps c.number g sizes.stock) (side n d) → BySteps t (ChargesFrame sizes g (Ok tt)) (side m c) (side n d)
+pub batch_fits : (t : KnownTable) (sizes : Config) (g : ℕ) (m n : KnownMachine) (c d : KnownCpu) → Fills g sizes.stock (visit_state m c) (visit_state n d)
+    → MakesAs t c.number (visit_state m c) (fill_steps c.number g sizes.stock) (visit_state n d) → BySteps t (ChargesFrame sizes g (Ok tt)) (visit_state m c) (visit_state n d)
 batch_fits t sizes g m n c d fills steps = record { steps = fill_steps c.number g sizes.stock; does = inl (record { fills = fills; steps_are = refl }); makes = steps }
 
 -- the batch doesn't fit, and then one page is charged, or is refused
 module _ (t : KnownTable) (sizes : Config) (g over : ℕ) (m x n : KnownMachine) (c y d : KnownCpu) (stays : x ≡ m) (its : y ≡ c)
     (lowest : IsLowestOver m.ledger.groups (current_of m.ledger) g sizes.stock over)
-    (refused : MakesAs t c.number (side m c) (over_steps g sizes.stock over) (side m c)) where
-  lacks : (r : Result (Unit {0}) AllocFault) → BySteps t (ChargesOne g r) (side x y) (side n d)
-      → BySteps t (AfterBatchRefused sizes g (ChargesOne g r)) (side m c) (side n d)
+    (refused : MakesAs t c.number (visit_state m c) (over_steps g sizes.stock over) (visit_state m c)) where
+  lacks : (r : Result (Unit {0}) AllocFault) → BySteps t (ChargesOne g r) (visit_state x y) (visit_state n d)
+      → BySteps t (AfterBatchRefused sizes g (ChargesOne g r)) (visit_state m c) (visit_state n d)
   lacks r b =
-      let here = subst (λ (z : KnownMachine × KnownCpu). BySteps t (ChargesOne g r) (side z.0 z.1) (side n d)) (λ i. (stays i, its i)) b in record {
+      let here = subst (λ (z : KnownMachine × KnownCpu). BySteps t (ChargesOne g r) (visit_state z.0 z.1) (visit_state n d)) (λ i. (stays i, its i)) b in record {
         steps = over_steps g sizes.stock over ++ here.steps;
         does = record { over = over; batch = lowest; later = here.steps; does = here.does; steps_are = refl };
-        makes = makes_both t c.number (over_steps g sizes.stock over) here.steps (side m c) (side m c) (side n d) refused here.makes;
+        makes = makes_both t c.number (over_steps g sizes.stock over) here.steps (visit_state m c) (visit_state m c) (visit_state n d) refused here.makes;
       }
 
-  pub one_charged : (r : Result (Unit {0}) AllocFault) → BySteps t (ChargesOne g r) (side x y) (side n d)
-      → BySteps t (ChargesFrame sizes g r) (side m c) (side n d)
+  pub one_charged : (r : Result (Unit {0}) AllocFault) → BySteps t (ChargesOne g r) (visit_state x y) (visit_state n d)
+      → BySteps t (ChargesFrame sizes g r) (visit_state m c) (visit_state n d)
   one_charged (Ok v) b = let l = lacks (Ok v) b in record { steps = l.steps; does = inr l.does; makes = l.makes }
   one_charged (Err e) b = lacks (Err e) b
 
 -- the own stock is drained first
 module _ (t : KnownTable) (pages q : ℕ) (m k x : KnownMachine) (c e : KnownCpu) (same : k ≡ m) (mine : e ≡ c) (named : q ≡ e.number)
-    (drains : Drains q pages k x) (draining : (h : KnownCpu) → MakesAs t h.number (side k h)
-    (drain_steps q (stock_group k q) pages) (side x h)) where
+    (drains : Drains q pages k x) (draining : (h : KnownCpu) → MakesAs t h.number (visit_state k h)
+    (drain_steps q (stock_group k q) pages) (visit_state x h)) where
   number_is : q ≡ c.number
   number_is = named ∙ ap (λ (h : KnownCpu). h.number) mine
 
   abbrev own_steps : Run
   own_steps = drain_steps c.number (stock_group m c.number) pages
 
-  by_drain : MakesAs t c.number (side m c) own_steps (side x c)
-  by_drain = subst (λ (z : KnownMachine × ℕ). MakesAs t c.number (side z.0 c) (drain_steps z.1 (stock_group z.0 z.1) pages) (side x c))
+  by_drain : MakesAs t c.number (visit_state m c) own_steps (visit_state x c)
+  by_drain = subst (λ (z : KnownMachine × ℕ). MakesAs t c.number (visit_state z.0 c) (drain_steps z.1 (stock_group z.0 z.1) pages) (visit_state x c))
       (λ i. (same i, number_is i)) (draining c)
 
-  drains_own : DrainsStock (course t (side m c) own_steps (side x c))
+  drains_own : DrainsStock (course t (visit_state m c) own_steps (visit_state x c))
   drains_own = record {
     drained = pages;
     drains = subst (λ (z : KnownMachine × ℕ). Drains z.1 pages z.0 x) (λ i. (same i, number_is i)) drains;
@@ -254,25 +254,25 @@ module _ (t : KnownTable) (pages q : ℕ) (m k x : KnownMachine) (c e : KnownCpu
     steps_are = refl;
   }
 
-  pub drained_own : BySteps t DrainsStock (side m c) (side x c)
+  pub drained_own : BySteps t DrainsStock (visit_state m c) (visit_state x c)
   drained_own = record { steps = own_steps; does = drains_own; makes = by_drain }
 
   -- after a look, which showed no page of the group
   module _ (sizes : Config) (g : ℕ) (n : KnownMachine) (d : KnownCpu) (start : KnownMachine) (seen : m ≡ with_look start)
-      (lacks : ¬ HoldsPage (side start c) g) where
-    charges_anew : (r : Result (Unit {0}) AllocFault) → BySteps t (ChargesFrame sizes g r) (side x e) (side n d)
-        → BySteps t (ChargesAfterDrain sizes g r) (side start c) (side n d)
+      (lacks : ¬ HoldsPage (visit_state start c) g) where
+    charges_anew : (r : Result (Unit {0}) AllocFault) → BySteps t (ChargesFrame sizes g r) (visit_state x e) (visit_state n d)
+        → BySteps t (ChargesAfterDrain sizes g r) (visit_state start c) (visit_state n d)
     charges_anew r b =
-        let here = subst (λ (z : KnownCpu). BySteps t (ChargesFrame sizes g r) (side x z) (side n d)) mine b in
+        let here = subst (λ (z : KnownCpu). BySteps t (ChargesFrame sizes g r) (visit_state x z) (visit_state n d)) mine b in
         let all = own_steps ++ here.steps in
-        let made = makes_both t c.number own_steps here.steps (side m c) (side x c) (side n d) by_drain here.makes in
-        let looked : MakesAs t c.number (side (with_look start) c) all (side n d) =
-        subst (λ (z : KnownMachine). MakesAs t c.number (side z c) all (side n d)) seen made in record {
+        let made = makes_both t c.number own_steps here.steps (visit_state m c) (visit_state x c) (visit_state n d) by_drain here.makes in
+        let looked : MakesAs t c.number (visit_state (with_look start) c) all (visit_state n d) =
+        subst (λ (z : KnownMachine). MakesAs t c.number (visit_state z c) all (visit_state n d)) seen made in record {
           steps = all;
           does = record {
             is = lacks;
-            does = subst (λ (z : KnownMachine). InTurn DrainsStock (ChargesFrame sizes g r) (course t (side z c) all (side n d))) seen (record {
-              between = side x c;
+            does = subst (λ (z : KnownMachine). InTurn DrainsStock (ChargesFrame sizes g r) (course t (visit_state z c) all (visit_state n d))) seen (record {
+              between = visit_state x c;
               earlier = own_steps;
               later = here.steps;
               first = drains_own;
@@ -283,26 +283,26 @@ module _ (t : KnownTable) (pages q : ℕ) (m k x : KnownMachine) (c e : KnownCpu
           makes = record { leads = looked.leads; follows = looked.follows; counts = looked.counts };
         }
 
-    pub pays_anew : (r : Result (Unit {0}) AllocFault) → BySteps t (ChargesFrame sizes g r) (side x e) (side n d)
-        → BySteps t (PaysForFrame sizes g r) (side start c) (side n d)
+    pub pays_anew : (r : Result (Unit {0}) AllocFault) → BySteps t (ChargesFrame sizes g r) (visit_state x e) (visit_state n d)
+        → BySteps t (PaysForFrame sizes g r) (visit_state start c) (visit_state n d)
     pays_anew (Ok v) b = let h = charges_anew (Ok v) b in record { steps = h.steps; does = inr h.does; makes = h.makes }
     pays_anew (Err cause) b = charges_anew (Err cause) b
 
 -- ---- the list
 
-none_lent : (frames : List ℕ) (m n : KnownMachine) (c d : KnownCpu) → length frames ≡ 0 → LendsMany frames (side m c) (side n d) → (n ≡ m) × (d ≡ c)
+none_lent : (frames : List ℕ) (m n : KnownMachine) (c d : KnownCpu) → length frames ≡ 0 → LendsMany frames (visit_state m c) (visit_state n d) → (n ≡ m) × (d ≡ c)
 none_lent [] m n c d none h = (h.machine, h.cpu)
 none_lent (f ∷ frames) m n c d none h = absurd (omega (arith, none))
 
 -- no frame was lent, since none is free
 no_steps : (t : KnownTable) (frames : List ℕ) (m n : KnownMachine) (c d : KnownCpu) → length frames ≡ 0
-    → MakesAs t c.number (side m c) (refill_steps c.number frames) (side n d)
-    → MakesAs t c.number (side m c) [] (side n d)
+    → MakesAs t c.number (visit_state m c) (refill_steps c.number frames) (visit_state n d)
+    → MakesAs t c.number (visit_state m c) [] (visit_state n d)
 no_steps t [] m n c d none run = run
 no_steps t (f ∷ frames) m n c d none run = absurd (omega (arith, none))
 
-pub lent_none : (t : KnownTable) (count batch : ℕ) (m n : KnownMachine) (c d : KnownCpu) → Refills t count (side m c) (side n d)
-    → count ≤ 0 → (count < batch → HasNoneFrom n.blocks 0) → 1 ≤ batch → BySteps t LendsNoFrame (side m c) (side n d)
+pub lent_none : (t : KnownTable) (count batch : ℕ) (m n : KnownMachine) (c d : KnownCpu) → Refills t count (visit_state m c) (visit_state n d)
+    → count ≤ 0 → (count < batch → HasNoneFrom n.blocks 0) → 1 ≤ batch → BySteps t LendsNoFrame (visit_state m c) (visit_state n d)
 lent_none t count batch m n c d refills few fewer some =
     let all = refills.all in
     let none : length refills.frames ≡ 0 = omega (arith, few, all) in
@@ -314,9 +314,9 @@ lent_none t count batch m n c d refills few fewer some =
     }
 
 -- some were lent
-pub lent_batch : (t : KnownTable) (count batch : ℕ) (m n : KnownMachine) (c d : KnownCpu) (refills : Refills t count (side m c) (side n d))
+pub lent_batch : (t : KnownTable) (count batch : ℕ) (m n : KnownMachine) (c d : KnownCpu) (refills : Refills t count (visit_state m c) (visit_state n d))
     → 1 ≤ count → count ≤ batch → (count < batch → HasNoneFrom n.blocks 0)
-    → LendsBatch batch (course t (side m c) (refill_steps c.number refills.frames) (side n d))
+    → LendsBatch batch (course t (visit_state m c) (refill_steps c.number refills.frames) (visit_state n d))
 lent_batch t count batch m n c d refills many low fewer =
     let all = refills.all in
     record {
@@ -334,7 +334,7 @@ pub no_frame_spares : (t : KnownTable) → FailureSpares t LendsNoFrame
 no_frame_spares t m n c d steps h = spares_same t m n c d h.does.machine h.does.cpu
 
 none_after : (t : KnownTable) (rounds : ℕ) (m n : KnownMachine) (c d : KnownCpu) (steps : Run) → HasNoneFrom m.blocks 0
-    → FailsInRounds rounds 1 LendsNoFrame (course t (side m c) steps (side n d)) → HasNoneFrom n.blocks 0
+    → FailsInRounds rounds 1 LendsNoFrame (course t (visit_state m c) steps (visit_state n d)) → HasNoneFrom n.blocks 0
 none_after t zero m n c d steps none h = subst (λ (x : KnownMachine). HasNoneFrom x.blocks 0) (sym h.machine) none
 none_after t (suc more) m n c d steps none (inl h) =
     subst (λ (x : KnownMachine). HasNoneFrom x.blocks 0) (sym h.tries.does.machine) h.tries.is
@@ -346,15 +346,15 @@ none_after t (suc more) m n c d steps none (inr h) =
 
 -- no frame is free, also after rounds of reclaim, and the stock is drained
 module _ (t : KnownTable) (sizes : Config) (m k x n : KnownMachine) (c e y : KnownCpu) (empty : c.list ≡ [])
-    (first : BySteps t LendsNoFrame (side m c) (side k e)) where
+    (first : BySteps t LendsNoFrame (visit_state m c) (visit_state k e)) where
   from_first : (P : KnownMachine → KnownCpu → Type 0) → P k e → P m c
   from_first P p = subst (λ (z : KnownMachine × KnownCpu). P z.0 z.1) (λ i. (first.does.does.machine i, first.does.does.cpu i)) p
 
-  pub no_frame : (pages q : ℕ) → BySteps t (RefillsInRounds sizes.batch false) (side k e) (side x y) → q ≡ y.number → Drains q pages x n
-      → ((h : KnownCpu) → MakesAs t h.number (side x h) (drain_steps q (stock_group x q) pages) (side n h))
-      → BySteps t (FillsList sizes (Err NoFrames)) (side m c) (side n y)
+  pub no_frame : (pages q : ℕ) → BySteps t (RefillsInRounds sizes.batch false) (visit_state k e) (visit_state x y) → q ≡ y.number → Drains q pages x n
+      → ((h : KnownCpu) → MakesAs t h.number (visit_state x h) (drain_steps q (stock_group x q) pages) (visit_state n h))
+      → BySteps t (FillsList sizes (Err NoFrames)) (visit_state m c) (visit_state n y)
   no_frame pages q rounds named drains steps =
-      let there = from_first (λ u v. BySteps t (RefillsInRounds sizes.batch false) (side u v) (side x y)) rounds in
+      let there = from_first (λ u v. BySteps t (RefillsInRounds sizes.batch false) (visit_state u v) (visit_state x y)) rounds in
       let cpu : y ≡ c = (fails_spare t 1 LendsNoFrame (no_frame_spares t) 16 m x c y there.steps there.does).cpu in
       let last = drained_own t pages q x x n y y refl refl named drains steps in
       let number = ap (λ (h : KnownCpu). h.number) cpu in record {
@@ -364,7 +364,7 @@ module _ (t : KnownTable) (sizes : Config) (m k x n : KnownMachine) (c e y : Kno
           does = record {
             is = first.does.is;
             does = record {
-              between = side x y;
+              between = visit_state x y;
               earlier = there.steps;
               later = last.steps;
               first = there.does;
@@ -373,22 +373,22 @@ module _ (t : KnownTable) (sizes : Config) (m k x n : KnownMachine) (c e y : Kno
             };
           };
         };
-        makes = makes_both t c.number there.steps last.steps (side m c) (side x y) (side n y) there.makes
-            (subst (λ (p : ℕ). MakesAs t p (side x y) last.steps (side n y)) number last.makes);
+        makes = makes_both t c.number there.steps last.steps (visit_state m c) (visit_state x y) (visit_state n y) there.makes
+            (subst (λ (p : ℕ). MakesAs t p (visit_state x y) last.steps (visit_state n y)) number last.makes);
       }
 
   -- or free frames come to the list after rounds
-  pub reclaims_for : BySteps t (RefillsInRounds sizes.batch true) (side k e) (side x y)
-      → BySteps t (Where HasNoFreeFrame (RefillsInRounds sizes.batch true)) (side m c) (side x y)
+  pub reclaims_for : BySteps t (RefillsInRounds sizes.batch true) (visit_state k e) (visit_state x y)
+      → BySteps t (Where HasNoFreeFrame (RefillsInRounds sizes.batch true)) (visit_state m c) (visit_state x y)
   reclaims_for rounds =
-      let here = from_first (λ u v. BySteps t (RefillsInRounds sizes.batch true) (side u v) (side x y)) rounds in record {
+      let here = from_first (λ u v. BySteps t (RefillsInRounds sizes.batch true) (visit_state u v) (visit_state x y)) rounds in record {
         steps = here.steps;
         does = record { is = first.does.is; does = here.does };
         makes = here.makes;
       }
 
 pub no_frame_keeps : (t : KnownTable) (sizes : Config) (cause : AllocFault) (m n : KnownMachine) (c d : KnownCpu) (steps : Run)
-    → FillsList sizes (Err cause) (course t (side m c) steps (side n d)) → KeepsPart m c n d
+    → FillsList sizes (Err cause) (course t (visit_state m c) steps (visit_state n d)) → KeepsPart m c n d
 no_frame_keeps t sizes (Over over) m n c d steps h = absurd h
 no_frame_keeps t sizes RequesterKilled m n c d steps h = absurd h
 no_frame_keeps t sizes NoFrames m n c d steps h =
@@ -399,7 +399,7 @@ no_frame_keeps t sizes NoFrames m n c d steps h =
     (own_drain_keeps t x.machine n x.cpu d all.later all.second.does)
 
 -- a reclaim leaves the stock's page
-spared_page : (t : KnownTable) (g : ℕ) (m n : KnownMachine) (c d : KnownCpu) → Spares t m c n d → HoldsPage (side m c) g → HoldsPage (side n d) g
+spared_page : (t : KnownTable) (g : ℕ) (m n : KnownMachine) (c d : KnownCpu) → Spares t m c n d → HoldsPage (visit_state m c) g → HoldsPage (visit_state n d) g
 spared_page t g m n c d s page =
     let at : account_of n.stock_seat.view d.number ≡ account_of m.stock_seat.view c.number = λ i. account_of (s.stock_seat i).view (s.cpu i).number in
     let book : (account_of n.stock_seat.view d.number).book ≡ (account_of m.stock_seat.view c.number).book = ap (λ (a : Account). a.book) at in
@@ -412,11 +412,11 @@ spared_page t g m n c d s page =
     }
 
 module _ (t : KnownTable) (sizes : Config) (m n : KnownMachine) (c d : KnownCpu) (steps : Run)
-    (h : Where HasNoFreeFrame (RefillsInRounds sizes.batch true) (course t (side m c) steps (side n d))) where
-  abbrev last : InTheEnd t 1 LendsNoFrame (no_frame_spares t) (LendsBatch sizes.batch) m c (side n d)
-  last = in_the_end t 1 LendsNoFrame (no_frame_spares t) (LendsBatch sizes.batch) 16 m c (side n d) steps h.does
+    (h : Where HasNoFreeFrame (RefillsInRounds sizes.batch true) (course t (visit_state m c) steps (visit_state n d))) where
+  abbrev last : InTheEnd t 1 LendsNoFrame (no_frame_spares t) (LendsBatch sizes.batch) m c (visit_state n d)
+  last = in_the_end t 1 LendsNoFrame (no_frame_spares t) (LendsBatch sizes.batch) 16 m c (visit_state n d) steps h.does
 
-  pub reclaimed_page : (g : ℕ) → HoldsPage (side m c) g → HoldsPage (side n d) g
+  pub reclaimed_page : (g : ℕ) → HoldsPage (visit_state m c) g → HoldsPage (visit_state n d) g
   reclaimed_page g page =
       lent_page last.succeeds.frames g last.before n last.cpu d last.succeeds.lends
       (spared_page t g m last.before c last.cpu last.spares page)
@@ -437,7 +437,7 @@ pub record FilledPart (sizes : Config) (m : KnownMachine) (c : KnownCpu) (n : Kn
   pub high : length c.list ≤ sizes.high → length d.list ≤ sizes.high
 
 batch_part : (t : KnownTable) (sizes : Config) (m n : KnownMachine) (c d : KnownCpu) (steps : Run) → IsValidConfig sizes → c.list ≡ []
-    → LendsBatch sizes.batch (course t (side m c) steps (side n d)) → FilledPart sizes m c n d
+    → LendsBatch sizes.batch (course t (visit_state m c) steps (visit_state n d)) → FilledPart sizes m c n d
 batch_part t sizes m n c d steps valid empty h =
     let l = lent_part h.frames m n c d h.lends in
     record {
@@ -454,10 +454,10 @@ batch_part t sizes m n c d steps valid empty h =
     }
 
 refilled_part : (t : KnownTable) (sizes : Config) (m n : KnownMachine) (c d : KnownCpu) (steps : Run) → IsValidConfig sizes → c.list ≡ []
-    → RefillsList sizes.batch (course t (side m c) steps (side n d)) → FilledPart sizes m c n d
+    → RefillsList sizes.batch (course t (visit_state m c) steps (visit_state n d)) → FilledPart sizes m c n d
 refilled_part t sizes m n c d steps valid empty (inl h) = batch_part t sizes m n c d steps valid empty h
 refilled_part t sizes m n c d steps valid empty (inr h) =
-    let e = in_the_end t 1 LendsNoFrame (no_frame_spares t) (LendsBatch sizes.batch) 16 m c (side n d) steps h.does in
+    let e = in_the_end t 1 LendsNoFrame (no_frame_spares t) (LendsBatch sizes.batch) 16 m c (visit_state n d) steps h.does in
     let cpu = e.spares.cpu in
     let b = batch_part t sizes e.before n e.cpu d e.trying valid (ap (λ (y : KnownCpu). y.list) cpu ∙ empty) e.succeeds in
     record {
@@ -468,7 +468,7 @@ refilled_part t sizes m n c d steps valid empty (inr h) =
       high = λ low. let a : length e.cpu.list ≡ length c.list = ap (λ (y : KnownCpu). length y.list) cpu in b.high (omega (arith, a, low));
     }
 
-pub filled_part : (t : KnownTable) (sizes : Config) (m n : KnownMachine) (c d : KnownCpu) (steps : Run) → IsValidConfig sizes → FillsList sizes (Ok tt) (course t (side m c) steps (side n d))
+pub filled_part : (t : KnownTable) (sizes : Config) (m n : KnownMachine) (c d : KnownCpu) (steps : Run) → IsValidConfig sizes → FillsList sizes (Ok tt) (course t (visit_state m c) steps (visit_state n d))
     → FilledPart sizes m c n d
 filled_part t sizes m n c d steps valid (inl h) = record {
   opened = ap (λ (y : KnownMachine). y.frame_seat.view.opened) h.does.machine;
@@ -483,57 +483,57 @@ filled_part t sizes m n c d steps valid (inr h) = refilled_part t sizes m n c d 
 
 module _ (t : KnownTable) (sizes : Config) (g : ℕ) (m : KnownMachine) (c : KnownCpu) (alive : is_killed m.killed g ≡ false) where
   -- a charge is refused for good
-  refused_for : (x : AllocFault) (n : KnownMachine) (d : KnownCpu) → BySteps t (PaysForFrame sizes g (Err x)) (side m c) (side n d)
-      → BySteps t (AllocatesFrame sizes g (Err x)) (side m c) (side n d)
+  refused_for : (x : AllocFault) (n : KnownMachine) (d : KnownCpu) → BySteps t (PaysForFrame sizes g (Err x)) (visit_state m c) (visit_state n d)
+      → BySteps t (AllocatesFrame sizes g (Err x)) (visit_state m c) (visit_state n d)
   refused_for (Over over) n d b = record { steps = b.steps; does = record { is = alive; does = b.does }; makes = b.makes }
   refused_for NoFrames n d b = absurd b.does.does.second.does.does.does.1.room
   refused_for RequesterKilled n d b = record { steps = b.steps; does = inr (record { is = alive; does = b.does }); makes = b.makes }
 
   pub not_paid : (r : Result ℕ AllocFault) (x : AllocFault) (n : KnownMachine) (d : KnownCpu) → IsErr r → IfErr r (λ e. e ≡ x)
-      → BySteps t (PaysForFrame sizes g (Err x)) (side m c) (side n d) → BySteps t (AllocatesFrame sizes g r) (side m c) (side n d)
+      → BySteps t (PaysForFrame sizes g (Err x)) (visit_state m c) (visit_state n d) → BySteps t (AllocatesFrame sizes g r) (visit_state m c) (visit_state n d)
   not_paid r x n d not is b =
-      subst (λ (z : Result ℕ AllocFault). BySteps t (AllocatesFrame sizes g z) (side m c) (side n d))
+      subst (λ (z : Result ℕ AllocFault). BySteps t (AllocatesFrame sizes g z) (visit_state m c) (visit_state n d))
       (sym (answer_is r x not is))
       (refused_for x n d b)
 
-  module _ (k : KnownMachine) (y : KnownCpu) (number : y.number ≡ c.number) (pays : BySteps t (PaysForFrame sizes g (Ok tt)) (side m c) (side k y)) where
+  module _ (k : KnownMachine) (y : KnownCpu) (number : y.number ≡ c.number) (pays : BySteps t (PaysForFrame sizes g (Ok tt)) (visit_state m c) (visit_state k y)) where
     -- no frame is free
-    none_found : (x : AllocFault) (n : KnownMachine) (d : KnownCpu) → BySteps t (FillsList sizes (Err x)) (side k y) (side n d)
-        → BySteps t (AllocatesFrame sizes g (Err x)) (side m c) (side n d)
+    none_found : (x : AllocFault) (n : KnownMachine) (d : KnownCpu) → BySteps t (FillsList sizes (Err x)) (visit_state k y) (visit_state n d)
+        → BySteps t (AllocatesFrame sizes g (Err x)) (visit_state m c) (visit_state n d)
     none_found (Over over) n d b = absurd b.does
     none_found RequesterKilled n d b = absurd b.does
     none_found NoFrames n d b = record {
       steps = pays.steps ++ b.steps;
       does = record {
         is = alive;
-        does = record { between = side k y; earlier = pays.steps; later = b.steps; first = pays.does; second = b.does; steps_are = refl };
+        does = record { between = visit_state k y; earlier = pays.steps; later = b.steps; first = pays.does; second = b.does; steps_are = refl };
       };
-      makes = makes_both t c.number pays.steps b.steps (side m c) (side k y) (side n d) pays.makes
-          (subst (λ (p : ℕ). MakesAs t p (side k y) b.steps (side n d)) number b.makes);
+      makes = makes_both t c.number pays.steps b.steps (visit_state m c) (visit_state k y) (visit_state n d) pays.makes
+          (subst (λ (p : ℕ). MakesAs t p (visit_state k y) b.steps (visit_state n d)) number b.makes);
     }
 
     pub not_found : (r : Result ℕ AllocFault) (x : AllocFault) (n : KnownMachine) (d : KnownCpu) → IsErr r → IfErr r (λ e. e ≡ x)
-        → BySteps t (FillsList sizes (Err x)) (side k y) (side n d) → BySteps t (AllocatesFrame sizes g r) (side m c) (side n d)
+        → BySteps t (FillsList sizes (Err x)) (visit_state k y) (visit_state n d) → BySteps t (AllocatesFrame sizes g r) (visit_state m c) (visit_state n d)
     not_found r x n d not is b =
-        subst (λ (z : Result ℕ AllocFault). BySteps t (AllocatesFrame sizes g z) (side m c) (side n d))
+        subst (λ (z : Result ℕ AllocFault). BySteps t (AllocatesFrame sizes g z) (visit_state m c) (visit_state n d))
         (sym (answer_is r x not is))
         (none_found x n d b)
 
     -- the front of the list is paid for
-    pub gets_frame : (f : ℕ) (l n : KnownMachine) (z d : KnownCpu) → z.number ≡ y.number → BySteps t (FillsList sizes (Ok tt)) (side k y) (side l z)
-        → PaysForFront g f (side l z) (side n d) → MakesAs t z.number (side l z) (take_front_steps z.number g) (side n d)
-        → BySteps t (AllocatesFrame sizes g (Ok f)) (side m c) (side n d)
+    pub gets_frame : (f : ℕ) (l n : KnownMachine) (z d : KnownCpu) → z.number ≡ y.number → BySteps t (FillsList sizes (Ok tt)) (visit_state k y) (visit_state l z)
+        → PaysForFront g f (visit_state l z) (visit_state n d) → MakesAs t z.number (visit_state l z) (take_front_steps z.number g) (visit_state n d)
+        → BySteps t (AllocatesFrame sizes g (Ok f)) (visit_state m c) (visit_state n d)
     gets_frame f l n z d named fills takes steps =
-        let last : MakesAs t c.number (side l z) (take_front_steps c.number g) (side n d) =
-        subst (λ (p : ℕ). MakesAs t p (side l z) (take_front_steps p g) (side n d)) (named ∙ number) steps in
-        let next : MakesAs t c.number (side k y) fills.steps (side l z) =
-        subst (λ (p : ℕ). MakesAs t p (side k y) fills.steps (side l z)) number fills.makes in record {
+        let last : MakesAs t c.number (visit_state l z) (take_front_steps c.number g) (visit_state n d) =
+        subst (λ (p : ℕ). MakesAs t p (visit_state l z) (take_front_steps p g) (visit_state n d)) (named ∙ number) steps in
+        let next : MakesAs t c.number (visit_state k y) fills.steps (visit_state l z) =
+        subst (λ (p : ℕ). MakesAs t p (visit_state k y) fills.steps (visit_state l z)) number fills.makes in record {
           steps = pays.steps ++ (fills.steps ++ take_front_steps c.number g);
           does = record {
             is = alive;
             does = record {
-              paid = side k y;
-              filled = side l z;
+              paid = visit_state k y;
+              filled = visit_state l z;
               paying = pays.steps;
               filling = fills.steps;
               pays = pays.does;
@@ -542,6 +542,6 @@ module _ (t : KnownTable) (sizes : Config) (g : ℕ) (m : KnownMachine) (c : Kno
               steps_are = refl;
             };
           };
-          makes = makes_both t c.number pays.steps (fills.steps ++ take_front_steps c.number g) (side m c) (side k y) (side n d) pays.makes
-              (makes_both t c.number fills.steps (take_front_steps c.number g) (side k y) (side l z) (side n d) next last);
+          makes = makes_both t c.number pays.steps (fills.steps ++ take_front_steps c.number g) (visit_state m c) (visit_state k y) (visit_state n d) pays.makes
+              (makes_both t c.number fills.steps (take_front_steps c.number g) (visit_state k y) (visit_state l z) (visit_state n d) next last);
         }

@@ -17,7 +17,7 @@ use Rattle.stock_word.specs.Stock.{Words}
 use Rattle.step_rules.specs.State.{sum_to}
 use Rattle.step_rules.specs.After.{Run}
 use Rattle.mem_machine.specs.Machines.{IsConsistent, KnownMachine, is_killed}
-use Rattle.mem_machine.specs.Local.{MakesForAny, side}
+use Rattle.mem_machine.specs.Local.{MakesForAny, visit_state}
 use Rattle.mem_machine.specs.Steps.{note_oom_steps}
 use Rattle.mem_reclaim.specs.declared.sets.Killed.{Killed}
 use Rattle.mem_reclaim.specs.Killing.{IsKilledBy, OnlyDrains, OnlyLetsGo, with_all_killed}
@@ -188,7 +188,7 @@ pub record KillsSoFar (r : Option ℕ) (t : KnownTable) (g pages : ℕ) (m n : K
   pub runs : MakesForAny t m killing n
 
 pub so_far_nobody : (r : Option ℕ) (t : KnownTable) (g pages : ℕ) (m : KnownMachine) → KillsSoFar r t g pages m m
-so_far_nobody r t g pages m = record { victims = []; killing = []; kills = record { machine = refl; steps_are = refl }; runs = λ c. makes_none t c.number (side m c) }
+so_far_nobody r t g pages m = record { victims = []; killing = []; kills = record { machine = refl; steps_are = refl }; runs = λ c. makes_none t c.number (visit_state m c) }
 
 pub so_far_killed : (r : Option ℕ) (t : KnownTable) (w : Words) (g pages : ℕ) (killed : Killed) (m x n : KnownMachine) → KillsSoFar r t g pages m x
     → IsWanting r g pages x → IsConsistent t w x → AreCharges x.ledger → IsVictim x g (Some killed.victim) → IsKilledBy t g killed x n
@@ -208,7 +208,7 @@ so_far_killed r t w g pages killed m x n so_far wanting whole charges chosen kil
     stocks = stocks;
     keeps = keeps;
   });
-  runs = λ c. makes_both t c.number so_far.killing kills.steps (side m c) (side x c) (side n c) (so_far.runs c) (kills.runs c);
+  runs = λ c. makes_both t c.number so_far.killing kills.steps (visit_state m c) (visit_state x c) (visit_state n c) (so_far.runs c) (kills.runs c);
 }
 
 pub so_far_there : (r : Option ℕ) (t : KnownTable) (g pages : ℕ) (m n : KnownMachine) → KillsSoFar r t g pages m n → has_group m.ledger.groups g ≡ true
@@ -234,7 +234,7 @@ kills_end r t g pages m x n over noted noting so_far ended = record {
       steps_are = refl;
     };
   };
-  makes = λ c. makes_both t c.number (note_oom_steps g) so_far.killing (side m c) (side (with_oom_noted_at m g) c) (side n c) (told c) (so_far.runs c);
+  makes = λ c. makes_both t c.number (note_oom_steps g) so_far.killing (visit_state m c) (visit_state (with_oom_noted_at m g) c) (visit_state n c) (told c) (so_far.runs c);
 }
   where
     noting_m : MakesForAny t m (note_oom_steps g) (record m { ledger = with_oom_noted m.ledger g })
@@ -253,5 +253,5 @@ pub many_rest : (t : KnownTable) (r g pages : ℕ) (m : KnownMachine) → 8 < pa
 many_rest t r g pages m many = record {
   steps = [];
   does = record { few = λ few. absurd (omega (arith, few, many)); many = λ _. record { machine = refl; steps_are = refl } };
-  makes = λ c. makes_none t c.number (side m c);
+  makes = λ c. makes_none t c.number (visit_state m c);
 }

@@ -29,19 +29,19 @@ use Rattle.mem_machine.proofs.Prepaying.{current_falls}
 use Rattle.mem_reclaim.specs.Staying.{Keeps}
 use Rattle.mem_alloc.specs.Stepping.{course}
 use Rattle.mem_alloc.specs.Room.{ClearsBelow, has_room_at, with_max_noted_at}
-use Rattle.mem_machine.specs.Local.{side}
+use Rattle.mem_machine.specs.Local.{visit_state}
 
 -- the groups and the visits stay, who was killed stays killed, no usage is higher, and no stock is filled that wasn't
 pub record Lowers (t : KnownTable) (m n : KnownMachine) : Type 0 where
   pub groups : n.ledger.groups ≡ m.ledger.groups
   pub killed : (v : ℕ) → is_killed m.killed v ≡ true → is_killed n.killed v ≡ true
   pub opened : n.frame_seat.view.opened ≡ m.frame_seat.view.opened
-  pub visit : (c : KnownCpu) → Visits t (side m c) → Visits t (side n c)
+  pub visit : (c : KnownCpu) → Visits t (visit_state m c) → Visits t (visit_state n c)
   pub falls : (h : ℕ) → current_of n.ledger h ≤ current_of m.ledger h
   pub emptied : (p : ℕ) → (account_of m.stock_seat.view p).filled ≡ false → (account_of n.stock_seat.view p).filled ≡ false
 
 -- a visit stays if the zone's seat does
-pub same_visit : (t : KnownTable) (m n : KnownMachine) → n.frame_seat ≡ m.frame_seat → (c : KnownCpu) → Visits t (side m c) → Visits t (side n c)
+pub same_visit : (t : KnownTable) (m n : KnownMachine) → n.frame_seat ≡ m.frame_seat → (c : KnownCpu) → Visits t (visit_state m c) → Visits t (visit_state n c)
 same_visit t m n seat c v = record {
   is_open = subst (λ (s : KnownSeat). IsOpen s c.number) (sym seat) v.is_open;
   still = subst (λ (s : KnownSeat). NothingPasses t s c.frame_seat) (sym seat) v.still;
@@ -161,8 +161,8 @@ keeps_lower t m n keeps = record {
 
 -- ---- what stays
 
-pub lowered_visit : (t : KnownTable) (m n : KnownMachine) (c d : KnownCpu) → Lowers t m n → d ≡ c → Visits t (side m c) → Visits t (side n d)
-lowered_visit t m n c d l cpu v = subst (λ (x : KnownCpu). Visits t (side n x)) (sym cpu) (l.visit c v)
+pub lowered_visit : (t : KnownTable) (m n : KnownMachine) (c d : KnownCpu) → Lowers t m n → d ≡ c → Visits t (visit_state m c) → Visits t (visit_state n d)
+lowered_visit t m n c d l cpu v = subst (λ (x : KnownCpu). Visits t (visit_state n x)) (sym cpu) (l.visit c v)
 
 pub lowered_there : (t : KnownTable) (m n : KnownMachine) (g : ℕ) → Lowers t m n → has_group m.ledger.groups g ≡ true → has_group n.ledger.groups g ≡ true
 lowered_there t m n g l there = ap (λ (x : List Group). has_group x g) l.groups ∙ there

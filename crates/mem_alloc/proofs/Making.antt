@@ -10,7 +10,7 @@ use Rattle.group_charge.specs.Charges.{current_of, with_max_noted}
 use Rattle.cpu_part.specs.Cpus.{KnownCpu}
 use Rattle.step_rules.specs.After.{Run}
 use Rattle.mem_machine.specs.Machines.{KnownMachine, is_killed}
-use Rattle.mem_machine.specs.Local.{MakesForAny, Side, side, MakesAs}
+use Rattle.mem_machine.specs.Local.{MakesForAny, VisitState, visit_state, MakesAs}
 use Rattle.mem_machine.specs.Steps.{over_steps, note_max_steps, drain_stocks_steps, fill_steps}
 use Rattle.mem_machine.specs.Stocks.{Fills, DrainsSubtree, DrainsAllBelow, AreDrained}
 use Rattle.mem_alloc.specs.Stepping.{BySteps, ByStepsOfAny, Course, course}
@@ -28,7 +28,7 @@ use Rattle.mem_machine.proofs.Followed.{makes_both, makes_none}
 note_then_drains : (t : KnownTable) (g pages : ℕ) (m x n : KnownMachine) → MakesForAny t m (note_max_steps g) x → (drains : DrainsSubtree t g pages x n)
     → MakesForAny t m (note_max_steps g ++ drain_stocks_steps drains.drains) n
 note_then_drains t g pages m x n noting drains c =
-    makes_both t c.number (note_max_steps g) (drain_stocks_steps drains.drains) (side m c) (side x c) (side n c) (noting c) (drains.steps c)
+    makes_both t c.number (note_max_steps g) (drain_stocks_steps drains.drains) (visit_state m c) (visit_state x c) (visit_state n c) (noting c) (drains.steps c)
 
 -- the notes, and then the drains. Serves `make_room`
 pub clears_by : (t : KnownTable) (g pages back : ℕ) (m y x n : KnownMachine) → y ≡ with_limit_noted m g pages → x ≡ record y { ledger = with_max_noted y.ledger g }
@@ -62,8 +62,8 @@ relieves_by t r g pages m x y n first next last = record {
     second = record { between = y; earlier = next.steps; later = last.steps; first = next.does; second = last.does; steps_are = refl };
     steps_are = refl;
   };
-  makes = λ c. makes_both t c.number first.steps (next.steps ++ last.steps) (side m c) (side x c) (side n c) (first.makes c)
-      (makes_both t c.number next.steps last.steps (side x c) (side y c) (side n c) (next.makes c) (last.makes c));
+  makes = λ c. makes_both t c.number first.steps (next.steps ++ last.steps) (visit_state m c) (visit_state x c) (visit_state n c) (first.makes c)
+      (makes_both t c.number next.steps last.steps (visit_state x c) (visit_state y c) (visit_state n c) (next.makes c) (last.makes c));
 }
 
 -- there is no limit
@@ -77,7 +77,7 @@ no_rounds t g pages m none = record {
     keeps = keeps_none t m;
     moves = moves_rest t m;
   };
-  makes = λ c. makes_none t c.number (side m c);
+  makes = λ c. makes_none t c.number (visit_state m c);
 }
 
 -- charges that were refused, and then one more
@@ -105,7 +105,7 @@ pub record RoomSoFar (t : KnownTable) (g pages : ℕ) (c : KnownCpu) (m n : Know
   pub refused_at : List ℕ
   pub making : Run
   pub makes : MakesRoom g refused_at pages (course t m making n)
-  pub runs : MakesAs t c.number (side m c) making (side n c)
+  pub runs : MakesAs t c.number (visit_state m c) making (visit_state n c)
   pub lowers : Lowers t m n
   pub alive : is_killed n.killed g ≡ false
 
@@ -114,7 +114,7 @@ so_far_none t g pages c m alive = record {
   refused_at = [];
   making = [];
   makes = record { machine = refl; steps_are = refl };
-  runs = makes_none t c.number (side m c);
+  runs = makes_none t c.number (visit_state m c);
   lowers = lowers_none t m;
   alive = alive;
 }
@@ -123,7 +123,7 @@ module _ (t : KnownTable) (g pages : ℕ) (c : KnownCpu) (m x : KnownMachine) (s
   -- one more charge was refused, by its steps
   module _ (y z n : KnownMachine) (d : KnownCpu) (over : ℕ) (same : y ≡ x) (mine : d ≡ c)
       (low : IsLowestOver z.ledger.groups (current_of z.ledger) g pages over) (before_it : z ≡ x)
-      (refusing : MakesAs t d.number (side z d) (over_steps g pages over) (side z d)) (relieves : ByStepsOfAny t (RelievesLimit g over pages) y n) where
+      (refusing : MakesAs t d.number (visit_state z d) (over_steps g pages over) (visit_state z d)) (relieves : ByStepsOfAny t (RelievesLimit g over pages) y n) where
     its : ByStepsOfAny t (RelievesLimit g over pages) x n
     its = subst (λ (k : KnownMachine). ByStepsOfAny t (RelievesLimit g over pages) k n) same relieves
 
@@ -137,13 +137,13 @@ module _ (t : KnownTable) (g pages : ℕ) (c : KnownCpu) (m x : KnownMachine) (s
       steps_are = refl;
     }
 
-    runs_on : MakesAs t c.number (side m c) (so_far.making ++ (over_steps g pages over ++ its.steps))
-        (side n c)
-    runs_on = makes_both t c.number so_far.making (over_steps g pages over ++ its.steps) (side m c)
-        (side x c) (side n c) so_far.runs
-        (makes_both t c.number (over_steps g pages over) its.steps (side x c) (side x c)
-        (side n c)
-        (subst (λ (k : KnownMachine × KnownCpu). MakesAs t k.1.number (side k.0 k.1) (over_steps g pages over) (side k.0 k.1))
+    runs_on : MakesAs t c.number (visit_state m c) (so_far.making ++ (over_steps g pages over ++ its.steps))
+        (visit_state n c)
+    runs_on = makes_both t c.number so_far.making (over_steps g pages over ++ its.steps) (visit_state m c)
+        (visit_state x c) (visit_state n c) so_far.runs
+        (makes_both t c.number (over_steps g pages over) its.steps (visit_state x c) (visit_state x c)
+        (visit_state n c)
+        (subst (λ (k : KnownMachine × KnownCpu). MakesAs t k.1.number (visit_state k.0 k.1) (over_steps g pages over) (visit_state k.0 k.1))
         (λ i. (before_it i, mine i)) refusing)
         (its.makes c))
 
@@ -160,7 +160,7 @@ module _ (t : KnownTable) (g pages : ℕ) (c : KnownCpu) (m x : KnownMachine) (s
     }
 
     -- or it is refused for good
-    pub so_far_over : (cause : AllocFault) → TellsRoom g over pages (Err cause) n → BySteps t (IsRefusedFor g pages cause) (side m c) (side n c)
+    pub so_far_over : (cause : AllocFault) → TellsRoom g over pages (Err cause) n → BySteps t (IsRefusedFor g pages cause) (visit_state m c) (visit_state n c)
     so_far_over cause is = record {
       steps = so_far.making ++ (over_steps g pages over ++ its.steps);
       does = record {
@@ -176,8 +176,8 @@ module _ (t : KnownTable) (g pages : ℕ) (c : KnownCpu) (m x : KnownMachine) (s
     }
 
   -- this is done by steps of its own, now that there is room
-  pub so_far_does : (Does : Course Side → Type 0) (n : KnownMachine) (d : KnownCpu) → BySteps t Does (side x c) (side n d)
-      → BySteps t (AfterRoom g pages Does) (side m c) (side n d)
+  pub so_far_does : (Does : Course VisitState → Type 0) (n : KnownMachine) (d : KnownCpu) → BySteps t Does (visit_state x c) (visit_state n d)
+      → BySteps t (AfterRoom g pages Does) (visit_state m c) (visit_state n d)
   so_far_does Does n d b = record {
     steps = so_far.making ++ b.steps;
     does = record {
@@ -189,17 +189,17 @@ module _ (t : KnownTable) (g pages : ℕ) (c : KnownCpu) (m x : KnownMachine) (s
       does = b.does;
       steps_are = refl;
     };
-    makes = makes_both t c.number so_far.making b.steps (side m c) (side x c) (side n d) so_far.runs b.makes;
+    makes = makes_both t c.number so_far.making b.steps (visit_state m c) (visit_state x c) (visit_state n d) so_far.runs b.makes;
   }
 
   -- the pages are granted, and fill the stock
-  pub so_far_fills : (y : KnownCpu) → y ≡ c → (n : KnownMachine) (d : KnownCpu) → Fills g pages (side x y) (side n d)
-      → MakesAs t y.number (side x y) (fill_steps y.number g pages) (side n d)
-      → BySteps t (AfterRoom g pages (FillsStock g pages)) (side m c) (side n d)
+  pub so_far_fills : (y : KnownCpu) → y ≡ c → (n : KnownMachine) (d : KnownCpu) → Fills g pages (visit_state x y) (visit_state n d)
+      → MakesAs t y.number (visit_state x y) (fill_steps y.number g pages) (visit_state n d)
+      → BySteps t (AfterRoom g pages (FillsStock g pages)) (visit_state m c) (visit_state n d)
   so_far_fills y mine n d fills steps =
-      let there : BySteps t (FillsStock g pages) (side x y) (side n d) =
+      let there : BySteps t (FillsStock g pages) (visit_state x y) (visit_state n d) =
       record { steps = fill_steps y.number g pages; does = record { fills = fills; steps_are = refl }; makes = steps } in
-      so_far_does (FillsStock g pages) n d (subst (λ (k : KnownCpu). BySteps t (FillsStock g pages) (side x k) (side n d)) mine there)
+      so_far_does (FillsStock g pages) n d (subst (λ (k : KnownCpu). BySteps t (FillsStock g pages) (visit_state x k) (visit_state n d)) mine there)
 
 -- an answer that is a refusal, of this cause
 pub refused_with : {T E : Type 0} (r : Result T E) (x : E) (P : T → Type 0) (Q : E → Type 0) → IsErr r → IfErr r (λ e. e ≡ x)
@@ -214,9 +214,9 @@ answer_is (Err e) x not is = ap (λ (z : AllocFault). Err z) is
 
 -- a refusal for good of a charge of one page
 pub refuses_one : (t : KnownTable) (g : ℕ) (r : Result (Unit {0}) AllocFault) (cause : AllocFault) (m : KnownMachine) (c : KnownCpu) (n : KnownMachine) (d : KnownCpu)
-    → r ≡ Err cause → d ≡ c → BySteps t (IsRefusedFor g 1 cause) (side m c) (side n c) → BySteps t (ChargesOne g r) (side m c) (side n d)
+    → r ≡ Err cause → d ≡ c → BySteps t (IsRefusedFor g 1 cause) (visit_state m c) (visit_state n c) → BySteps t (ChargesOne g r) (visit_state m c) (visit_state n d)
 refuses_one t g r cause m c n d is cpu b =
-    subst (λ (z : KnownCpu × Result (Unit {0}) AllocFault). BySteps t (ChargesOne g z.1) (side m c) (side n z.0))
+    subst (λ (z : KnownCpu × Result (Unit {0}) AllocFault). BySteps t (ChargesOne g z.1) (visit_state m c) (visit_state n z.0))
     (λ i. (sym cpu i, sym is i)) b
 
 pub if_ok_none : {T E : Type 0} (r : Result T E) (P : T → Type 0) → IsErr r → IfOk r P

@@ -7,7 +7,7 @@ use Rattle.frame_word.specs.Views.{collected_from, passed_out_to, unfrozen}
 use Rattle.zone_sizes.specs.declared.config.Config.{Config}
 use Rattle.step_rules.specs.After.{Run}
 use Rattle.mem_machine.specs.Machines.{KnownMachine}
-use Rattle.mem_machine.specs.Local.{Side, side}
+use Rattle.mem_machine.specs.Local.{VisitState, visit_state}
 use Rattle.mem_machine.specs.Blocks.{taken_steps, unplaced_steps}
 use Rattle.mem_machine.specs.Lending.{LendsMany, TakesManyBack}
 use Rattle.mem_machine.specs.Stocks.{Drains, DrainsAllBelow, stock_group, with_look}
@@ -147,13 +147,13 @@ pub back_calm : (p : ℕ) (frames : List ℕ) → AreQuiet (drain_list_steps p f
 back_calm p [] = calm
 back_calm p (f ∷ frames) = quiet_both (unlist_steps p f) (drain_list_steps p frames) (record { quiet = refl; no_miss = λ g. refl }) (back_calm p frames)
 
-lent_same : (frames : List ℕ) (m n : Side) → LendsMany frames m n → (g : ℕ) → misses_of n.machine.frame_seat g ≡ misses_of m.machine.frame_seat g
+lent_same : (frames : List ℕ) (m n : VisitState) → LendsMany frames m n → (g : ℕ) → misses_of n.machine.frame_seat g ≡ misses_of m.machine.frame_seat g
 lent_same [] m n h g = ap (λ (x : KnownMachine). misses_of x.frame_seat g) h.machine
 lent_same (f ∷ frames) m n h g =
     lent_same frames h.between n h.rest g ∙ ap (λ (x : KnownMachine). misses_of x.frame_seat g) h.first.lends.machine
     ∙ misses_put m.machine.frame_seat f g (passed_out_to m.cpu.number) (λ k. refl)
 
-pub back_same : (frames : List ℕ) (m n : Side) → TakesManyBack frames m n → (g : ℕ) → misses_of n.machine.frame_seat g ≡ misses_of m.machine.frame_seat g
+pub back_same : (frames : List ℕ) (m n : VisitState) → TakesManyBack frames m n → (g : ℕ) → misses_of n.machine.frame_seat g ≡ misses_of m.machine.frame_seat g
 back_same [] m n h g = ap (λ (x : KnownMachine). misses_of x.frame_seat g) h.machine
 back_same (f ∷ frames) m n h g =
     back_same frames h.between n h.rest g ∙ ap (λ (x : KnownMachine). misses_of x.frame_seat g) h.first.machine
@@ -162,13 +162,13 @@ back_same (f ∷ frames) m n h g =
 -- ---- parts put together
 
 -- the misses are counted in each such course
-abbrev pub AllCounted : (Course Side → Type 0) → Type 0
-AllCounted P = (way : Course Side) → P way → CountsMisses (of_machine way)
+abbrev pub AllCounted : (Course VisitState → Type 0) → Type 0
+AllCounted P = (way : Course VisitState) → P way → CountsMisses (of_machine way)
 
 counts_stay : AllCounted Stays
 counts_stay way h = counts_rest way.table way.before.machine way.after.machine way.steps h.machine h.steps_are
 
-counts_turns : (First Second : Course Side → Type 0) → AllCounted First → AllCounted Second → AllCounted (InTurn First Second)
+counts_turns : (First Second : Course VisitState → Type 0) → AllCounted First → AllCounted Second → AllCounted (InTurn First Second)
 counts_turns First Second one two way h =
     counts_as way.table way.before.machine way.after.machine way.steps (h.earlier ++ h.later) h.steps_are
     (counts_both way.table way.before.machine h.between.machine way.after.machine h.earlier h.later
@@ -179,14 +179,14 @@ counts_alone : (Does : Course KnownMachine → Type 0)
     → AllCounted (OfMachineAlone Does)
 counts_alone Does counts way h = counts way.table way.before.machine way.after.machine way.steps h.does
 
-after_room_counts : (g pages : ℕ) (Does : Course Side → Type 0) → AllCounted Does → AllCounted (AfterRoom g pages Does)
+after_room_counts : (g pages : ℕ) (Does : Course VisitState → Type 0) → AllCounted Does → AllCounted (AfterRoom g pages Does)
 after_room_counts g pages Does counts way h =
     let t = way.table in
     let m = way.before.machine in
     let n = way.after.machine in
     counts_as t m n way.steps (h.making ++ h.later) h.steps_are (counts_both t m h.cleared n h.making h.later
     (counts_room t g pages h.refused_at m h.cleared h.making h.makes)
-    (counts (course t (side h.cleared way.before.cpu) h.later way.after) h.does))
+    (counts (course t (visit_state h.cleared way.before.cpu) h.later way.after) h.does))
 
 refusal_counts : (g pages : ℕ) (cause : AllocFault) → AllCounted (IsRefusedFor g pages cause)
 refusal_counts g pages cause way h =
@@ -195,13 +195,13 @@ refusal_counts g pages cause way h =
 
 -- ---- rounds of reclaim
 
-module _ (want : ℕ) (Fails : Course Side → Type 0) (failing : AllCounted Fails) where
-  round_counts : (given : ℕ) (Tries : Course Side → Type 0) → AllCounted Tries → AllCounted (MakesRound want given Tries)
+module _ (want : ℕ) (Fails : Course VisitState → Type 0) (failing : AllCounted Fails) where
+  round_counts : (given : ℕ) (Tries : Course VisitState → Type 0) → AllCounted Tries → AllCounted (MakesRound want given Tries)
   round_counts given Tries trying way h =
       let m = way.before.machine in
       let n = way.after.machine in
       counts_as way.table m n way.steps (h.reclaiming ++ h.trying) h.steps_are (counts_both way.table m h.reclaimed n h.reclaiming h.trying h.moves.misses
-      (trying (course way.table (side h.reclaimed way.before.cpu) h.trying way.after) h.tries))
+      (trying (course way.table (visit_state h.reclaimed way.before.cpu) h.trying way.after) h.tries))
 
   gives_count : AllCounted (GivesInRound want Fails)
   gives_count way h = round_counts h.given Fails failing way h.round
@@ -212,7 +212,7 @@ module _ (want : ℕ) (Fails : Course Side → Type 0) (failing : AllCounted Fai
   fails_count (suc more) way (inr h) =
       counts_turns (GivesInRound want Fails) (FailsInRounds more want Fails) gives_count (fails_count more) way h
 
-  succeeds_count : (rounds : ℕ) (Succeeds : Course Side → Type 0) → AllCounted Succeeds → AllCounted (SucceedsInRounds rounds want Succeeds Fails)
+  succeeds_count : (rounds : ℕ) (Succeeds : Course VisitState → Type 0) → AllCounted Succeeds → AllCounted (SucceedsInRounds rounds want Succeeds Fails)
   succeeds_count zero Succeeds succeeding way h = absurd h
   succeeds_count (suc more) Succeeds succeeding way (inl h) = round_counts h.0 Succeeds succeeding way h.1
   succeeds_count (suc more) Succeeds succeeding way (inr h) =
@@ -277,8 +277,8 @@ charges_count sizes g (Ok v) way (inr h) = lacks_counts sizes g (Ok v) way h
 charges_count sizes g (Err cause) way h = lacks_counts sizes g (Err cause) way h
 
 -- the same, after a look at the own stock
-abbrev looked_way : Course Side → Course Side
-looked_way way = course way.table (side (with_look way.before.machine) way.before.cpu) way.steps way.after
+abbrev looked_way : Course VisitState → Course VisitState
+looked_way way = course way.table (visit_state (with_look way.before.machine) way.before.cpu) way.steps way.after
 
 anew_counts : (sizes : Config) (g : ℕ) (answer : Result (Unit {0}) AllocFault) → AllCounted (ChargesAfterDrain sizes g answer)
 anew_counts sizes g answer way h =
@@ -348,8 +348,8 @@ drained_counts g k answer way h =
     counts_as way.table way.before.machine way.after.machine way.steps (first ++ h.later) h.steps_are
     (counts_both way.table way.before.machine h.drained way.after.machine first h.later
     (counts_none way.table way.before.machine h.drained first (back_calm way.before.cpu.number way.before.cpu.list)
-    (back_same way.before.cpu.list way.before (side h.drained way.after.cpu) h.drains))
-    (or_reclaims_count g k answer (course way.table (side h.drained way.after.cpu) h.later way.after) h.takes))
+    (back_same way.before.cpu.list way.before (visit_state h.drained way.after.cpu) h.drains))
+    (or_reclaims_count g k answer (course way.table (visit_state h.drained way.after.cpu) h.later way.after) h.takes))
 
 charged_counts : (g k : ℕ) (answer : Result ℕ AllocFault) → AllCounted (ChargesBlock g k answer)
 charged_counts g k (Ok head) way h = after_room_counts g (2 ^ k) (TakesFreeBlock g k head) (takes_count g k head) way h

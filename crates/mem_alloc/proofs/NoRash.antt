@@ -21,7 +21,7 @@ use Rattle.step_rules.specs.declared.step.Step.{Step}
 use Rattle.step_rules.specs.State.{State}
 use Rattle.step_rules.specs.After.{Run, after}
 use Rattle.mem_machine.specs.Machines.{KnownMachine, home_of, with_note}
-use Rattle.mem_machine.specs.Local.{IsLocalRun, MakesForAny, Side, local_of, side}
+use Rattle.mem_machine.specs.Local.{IsLocalRun, MakesForAny, VisitState, local_of, visit_state}
 use Rattle.mem_machine.specs.Steps.{Drain, drain_stocks_steps, note_group_kill_steps, note_max_steps, note_oom_steps, over_steps}
 use Rattle.mem_machine.specs.Stocks.{AreDrained, Drains, DrainsBelow, DrainsAllBelow, of_subtree, stock_group}
 use Rattle.mem_machine.proofs.Draining.{groups_stay}
@@ -545,11 +545,11 @@ module _ (t : KnownTable) (MayAsk : List Group → ℕ → ℕ → Type 0) (s : 
         subst (λ (k : Run). Tame made m k n) (sym h.steps_are) (tame_both made m x n first last one two)
 
     -- this is done after room was made for the charge, and comes no kill of it too early
-    pub after_room_rash : (Does : Course Side → Type 0) (made : Run) (m : KnownMachine) (steps rest : Run) (n : Side) (z : State) → m.ledger.groups ≡ base
+    pub after_room_rash : (Does : Course VisitState → Type 0) (made : Run) (m : KnownMachine) (steps rest : Run) (n : VisitState) (z : State) → m.ledger.groups ≡ base
         → Passes t c s made m → IsLocalRun c.number (local_of t m c) (steps ++ rest) z
         → ((done later : Run) (x : KnownMachine) → x.ledger.groups ≡ base → Passes t c s done x → IsLocalRun c.number (local_of t x c) (later ++ rest) z
-        → Does (course t (side x c) later n) → RashFree t MayAsk s c done later)
-        → AfterRoom g pages Does (course t (side m c) steps n) → RashFree t MayAsk s c made steps
+        → Does (course t (visit_state x c) later n) → RashFree t MayAsk s c done later)
+        → AfterRoom g pages Does (course t (visit_state m c) steps n) → RashFree t MayAsk s c made steps
     after_room_rash Does made m steps rest n z is since whole free h =
         let x = h.cleared in
         let all : IsLocalRun c.number (local_of t m c) (h.making ++ (h.later ++ rest)) z =
@@ -561,16 +561,16 @@ module _ (t : KnownTable) (MayAsk : List Group → ℕ → ℕ → Type 0) (s : 
         (free (made ++ h.making) h.later x (one.groups ∙ is) done on h.does))
 
     -- the same if what is done after that kills nobody
-    pub quiet_after_room : (Does : Course Side → Type 0) (made : Run) (m : KnownMachine) (steps rest : Run) (n : Side) (z : State) → m.ledger.groups ≡ base
-        → Passes t c s made m → IsLocalRun c.number (local_of t m c) (steps ++ rest) z → ((way : Course Side) → Does way → has_kill way.steps ≡ false)
-        → AfterRoom g pages Does (course t (side m c) steps n) → RashFree t MayAsk s c made steps
+    pub quiet_after_room : (Does : Course VisitState → Type 0) (made : Run) (m : KnownMachine) (steps rest : Run) (n : VisitState) (z : State) → m.ledger.groups ≡ base
+        → Passes t c s made m → IsLocalRun c.number (local_of t m c) (steps ++ rest) z → ((way : Course VisitState) → Does way → has_kill way.steps ≡ false)
+        → AfterRoom g pages Does (course t (visit_state m c) steps n) → RashFree t MayAsk s c made steps
     quiet_after_room Does made m steps rest n z is since whole quiet h =
         after_room_rash Does made m steps rest n z is since whole
-        (λ done later x groups passes on does. rash_quiet done later (quiet (course t (side x c) later n) does)) h
+        (λ done later x groups passes on does. rash_quiet done later (quiet (course t (visit_state x c) later n) does)) h
 
     -- the same if the charge is refused for good
-    pub refusal_rash : (cause : AllocFault) (made : Run) (m : KnownMachine) (steps rest : Run) (n : Side) (z : State) → m.ledger.groups ≡ base
-        → Passes t c s made m → IsLocalRun c.number (local_of t m c) (steps ++ rest) z → IsRefusedFor g pages cause (course t (side m c) steps n)
+    pub refusal_rash : (cause : AllocFault) (made : Run) (m : KnownMachine) (steps rest : Run) (n : VisitState) (z : State) → m.ledger.groups ≡ base
+        → Passes t c s made m → IsLocalRun c.number (local_of t m c) (steps ++ rest) z → IsRefusedFor g pages cause (course t (visit_state m c) steps n)
         → RashFree t MayAsk s c made steps
     refusal_rash cause made m steps rest n z is since whole h =
         after_room_rash (OfMachineAlone (IsRefusedAtSome g pages cause)) made m steps rest n z is since whole

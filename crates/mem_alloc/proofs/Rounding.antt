@@ -6,7 +6,7 @@ use Rattle.frame_word.specs.Seats.{KnownTable}
 use Rattle.cpu_part.specs.Cpus.{KnownCpu}
 use Rattle.step_rules.specs.After.{Run}
 use Rattle.mem_machine.specs.Machines.{KnownMachine}
-use Rattle.mem_machine.specs.Local.{Side, side, MakesAs}
+use Rattle.mem_machine.specs.Local.{VisitState, visit_state, MakesAs}
 use Rattle.mem_reclaim.specs.Moves.{Leads}
 use Rattle.mem_reclaim.specs.Passes.{Reclaims}
 use Rattle.mem_reclaim.specs.Staying.{Keeps, MissedAll}
@@ -47,21 +47,21 @@ spares_reclaim : (t : KnownTable) (m n : KnownMachine) (c : KnownCpu) → Keeps 
 spares_reclaim t m n c keeps = record { lowers = keeps_lower t m n keeps; killed = keeps.killed; stock_seat = keeps.stock_seat; cpu = refl }
 
 -- a try that fails keeps this
-abbrev pub FailureSpares : KnownTable → (Course Side → Type 0) → Type 0
+abbrev pub FailureSpares : KnownTable → (Course VisitState → Type 0) → Type 0
 FailureSpares t Fails =
-    (m n : KnownMachine) (c d : KnownCpu) (steps : Run) → Fails (course t (side m c) steps (side n d)) → Spares t m c n d
+    (m n : KnownMachine) (c d : KnownCpu) (steps : Run) → Fails (course t (visit_state m c) steps (visit_state n d)) → Spares t m c n d
 
-module _ (t : KnownTable) (want : ℕ) (Fails : Course Side → Type 0) (failure : FailureSpares t Fails) where
+module _ (t : KnownTable) (want : ℕ) (Fails : Course VisitState → Type 0) (failure : FailureSpares t Fails) where
   -- a round in which the try fails keeps it too
   round_spares : (given : ℕ) (m n : KnownMachine) (c d : KnownCpu) (steps : Run)
-      → MakesRound want given Fails (course t (side m c) steps (side n d)) → Spares t m c n d
+      → MakesRound want given Fails (course t (visit_state m c) steps (visit_state n d)) → Spares t m c n d
   round_spares given m n c d steps h =
       spares_both t m h.reclaimed n c c d (spares_reclaim t m h.reclaimed c h.keeps)
       (failure h.reclaimed n c d h.trying h.tries)
 
   -- all such rounds keep it too
   pub fails_spare : (rounds : ℕ) (m n : KnownMachine) (c d : KnownCpu) (steps : Run)
-      → FailsInRounds rounds want Fails (course t (side m c) steps (side n d)) → Spares t m c n d
+      → FailsInRounds rounds want Fails (course t (visit_state m c) steps (visit_state n d)) → Spares t m c n d
   fails_spare zero m n c d steps h = spares_same t m n c d h.machine h.cpu
   fails_spare (suc more) m n c d steps (inl last) = round_spares 0 m n c d steps last
   fails_spare (suc more) m n c d steps (inr h) =
@@ -70,15 +70,15 @@ module _ (t : KnownTable) (want : ℕ) (Fails : Course Side → Type 0) (failure
       (fails_spare more x.machine n x.cpu d h.later h.second)
 
   -- if the try succeeds in a round, this was kept until then
-  pub record InTheEnd (Succeeds : Course Side → Type 0) (m : KnownMachine) (c : KnownCpu) (n : Side) : Type 0 where
+  pub record InTheEnd (Succeeds : Course VisitState → Type 0) (m : KnownMachine) (c : KnownCpu) (n : VisitState) : Type 0 where
     pub before : KnownMachine
     pub cpu : KnownCpu
     pub trying : Run
     pub spares : Spares t m c before cpu
-    pub succeeds : Succeeds (course t (side before cpu) trying n)
+    pub succeeds : Succeeds (course t (visit_state before cpu) trying n)
 
-  pub in_the_end : (Succeeds : Course Side → Type 0) (rounds : ℕ) (m : KnownMachine) (c : KnownCpu) (n : Side) (steps : Run)
-      → SucceedsInRounds rounds want Succeeds Fails (course t (side m c) steps n) → InTheEnd Succeeds m c n
+  pub in_the_end : (Succeeds : Course VisitState → Type 0) (rounds : ℕ) (m : KnownMachine) (c : KnownCpu) (n : VisitState) (steps : Run)
+      → SucceedsInRounds rounds want Succeeds Fails (course t (visit_state m c) steps n) → InTheEnd Succeeds m c n
   in_the_end Succeeds zero m c n steps h = absurd h
   in_the_end Succeeds (suc more) m c n steps (inl h) = record {
     before = h.1.reclaimed;
@@ -102,53 +102,53 @@ module _ (t : KnownTable) (want : ℕ) (Fails : Course Side → Type 0) (failure
 -- ---- the rounds of a loop
 
 -- this many rounds were made in which the try failed, so the result of the remaining rounds is the result of all
-pub record RoundsSoFar (t : KnownTable) (want : ℕ) (Fails : Course Side → Type 0) (Succeeds : ℕ → Course Side → Type 0)
+pub record RoundsSoFar (t : KnownTable) (want : ℕ) (Fails : Course VisitState → Type 0) (Succeeds : ℕ → Course VisitState → Type 0)
     (m : KnownMachine) (c : KnownCpu) (made : ℕ) (now : KnownMachine) (d : KnownCpu) : Type 0 where
   pub steps : Run
-  pub fails : (rest : Run) (n : Side) → FailsInRounds (16 - made) want Fails (course t (side now d) rest n)
-      → FailsInRounds 16 want Fails (course t (side m c) (steps ++ rest) n)
-  pub succeeds : (k : ℕ) (rest : Run) (n : Side)
-      → SucceedsInRounds (16 - made) want (Succeeds k) Fails (course t (side now d) rest n)
-      → SucceedsInRounds 16 want (Succeeds k) Fails (course t (side m c) (steps ++ rest) n)
-  pub runs : MakesAs t c.number (side m c) steps (side now d)
+  pub fails : (rest : Run) (n : VisitState) → FailsInRounds (16 - made) want Fails (course t (visit_state now d) rest n)
+      → FailsInRounds 16 want Fails (course t (visit_state m c) (steps ++ rest) n)
+  pub succeeds : (k : ℕ) (rest : Run) (n : VisitState)
+      → SucceedsInRounds (16 - made) want (Succeeds k) Fails (course t (visit_state now d) rest n)
+      → SucceedsInRounds 16 want (Succeeds k) Fails (course t (visit_state m c) (steps ++ rest) n)
+  pub runs : MakesAs t c.number (visit_state m c) steps (visit_state now d)
   pub spares : Spares t m c now d
 
-module _ (t : KnownTable) (want : ℕ) (Fails : Course Side → Type 0) (Succeeds : ℕ → Course Side → Type 0)
+module _ (t : KnownTable) (want : ℕ) (Fails : Course VisitState → Type 0) (Succeeds : ℕ → Course VisitState → Type 0)
     (m : KnownMachine) (c : KnownCpu) where
   pub rounds_none : RoundsSoFar t want Fails Succeeds m c 0 m c
   rounds_none = record {
     steps = [];
     fails = λ rest n h. h;
     succeeds = λ k rest n h. h;
-    runs = makes_none t c.number (side m c);
+    runs = makes_none t c.number (visit_state m c);
     spares = spares_none t m c;
   }
 
   module _ (made : ℕ) (now : KnownMachine) (d : KnownCpu) (so : RoundsSoFar t want Fails Succeeds m c made now d) where
     -- it failed in all rounds
-    pub rounds_done : 16 ≤ made → BySteps t (FailsInRounds 16 want Fails) (side m c) (side now d)
+    pub rounds_done : 16 ≤ made → BySteps t (FailsInRounds 16 want Fails) (visit_state m c) (visit_state now d)
     rounds_done all =
         let e : 0 ≡ 16 - made = omega (arith, all) in
-        let none : FailsInRounds 0 want Fails (course t (side now d) [] (side now d)) =
+        let none : FailsInRounds 0 want Fails (course t (visit_state now d) [] (visit_state now d)) =
         record { machine = refl; cpu = refl; steps_are = refl } in record {
           steps = so.steps ++ [];
-          does = so.fails [] (side now d)
-              (subst (λ (k : ℕ). FailsInRounds k want Fails (course t (side now d) [] (side now d))) e none);
-          makes = subst (λ (r : Run). MakesAs t c.number (side m c) r (side now d)) (sym (append-nil so.steps)) so.runs;
+          does = so.fails [] (visit_state now d)
+              (subst (λ (k : ℕ). FailsInRounds k want Fails (course t (visit_state now d) [] (visit_state now d))) e none);
+          makes = subst (λ (r : Run). MakesAs t c.number (visit_state m c) r (visit_state now d)) (sym (append-nil so.steps)) so.runs;
         }
 
     -- one round more
     module _ (left : made < 16) (given : ℕ) (x : KnownMachine) (leads : Leads t given now x (Reclaims 0 want))
         (missed : given < want → MissedAll 0 now x) (keeps : Keeps t now x) (then : KnownMachine) (e : KnownCpu) (trying : Run)
-        (tries : MakesAs t d.number (side x d) trying (side then e)) where
+        (tries : MakesAs t d.number (visit_state x d) trying (visit_state then e)) where
       next_left : suc (16 - (made + 1)) ≡ 16 - made
       next_left = omega (arith, left)
 
       abbrev first : Run
       first = leads.steps ++ trying
 
-      round : (Tries : Course Side → Type 0) → Tries (course t (side x d) trying (side then e))
-          → MakesRound want given Tries (course t (side now d) first (side then e))
+      round : (Tries : Course VisitState → Type 0) → Tries (course t (visit_state x d) trying (visit_state then e))
+          → MakesRound want given Tries (course t (visit_state now d) first (visit_state then e))
       round Tries does = record {
         reclaimed = x;
         reclaiming = leads.steps;
@@ -161,37 +161,37 @@ module _ (t : KnownTable) (want : ℕ) (Fails : Course Side → Type 0) (Succeed
         steps_are = refl;
       }
 
-      runs_on : MakesAs t c.number (side m c) (so.steps ++ first) (side then e)
+      runs_on : MakesAs t c.number (visit_state m c) (so.steps ++ first) (visit_state then e)
       runs_on =
           let number = ap (λ (y : KnownCpu). y.number) so.spares.cpu in
-          makes_both t c.number so.steps first (side m c) (side now d) (side then e) so.runs
-          (subst (λ (p : ℕ). MakesAs t p (side now d) first (side then e)) number
-          (makes_both t d.number leads.steps trying (side now d) (side x d) (side then e) (leads.moves.runs d) tries))
+          makes_both t c.number so.steps first (visit_state m c) (visit_state now d) (visit_state then e) so.runs
+          (subst (λ (p : ℕ). MakesAs t p (visit_state now d) first (visit_state then e)) number
+          (makes_both t d.number leads.steps trying (visit_state now d) (visit_state x d) (visit_state then e) (leads.moves.runs d) tries))
 
       -- in which it succeeded
-      pub rounds_succeed : (k : ℕ) → Succeeds k (course t (side x d) trying (side then e))
-          → BySteps t (SucceedsInRounds 16 want (Succeeds k) Fails) (side m c) (side then e)
+      pub rounds_succeed : (k : ℕ) → Succeeds k (course t (visit_state x d) trying (visit_state then e))
+          → BySteps t (SucceedsInRounds 16 want (Succeeds k) Fails) (visit_state m c) (visit_state then e)
       rounds_succeed k does = record {
         steps = so.steps ++ first;
-        does = so.succeeds k first (side then e)
-            (subst (λ (j : ℕ). SucceedsInRounds j want (Succeeds k) Fails (course t (side now d) first (side then e))) next_left
+        does = so.succeeds k first (visit_state then e)
+            (subst (λ (j : ℕ). SucceedsInRounds j want (Succeeds k) Fails (course t (visit_state now d) first (visit_state then e))) next_left
             (inl (given, round (Succeeds k) does)));
         makes = runs_on;
       }
 
-      module _ (does : Fails (course t (side x d) trying (side then e))) where
+      module _ (does : Fails (course t (visit_state x d) trying (visit_state then e))) where
         -- the try failed, and no page was freed
-        pub rounds_end : given ≡ 0 → BySteps t (FailsInRounds 16 want Fails) (side m c) (side then e)
+        pub rounds_end : given ≡ 0 → BySteps t (FailsInRounds 16 want Fails) (visit_state m c) (visit_state then e)
         rounds_end none =
-            let last : FailsInRounds (suc (16 - (made + 1))) want Fails (course t (side now d) first (side then e)) =
-            inl (subst (λ (k : ℕ). MakesRound want k Fails (course t (side now d) first (side then e))) none (round Fails does)) in record {
+            let last : FailsInRounds (suc (16 - (made + 1))) want Fails (course t (visit_state now d) first (visit_state then e)) =
+            inl (subst (λ (k : ℕ). MakesRound want k Fails (course t (visit_state now d) first (visit_state then e))) none (round Fails does)) in record {
               steps = so.steps ++ first;
-              does = so.fails first (side then e)
-                  (subst (λ (j : ℕ). FailsInRounds j want Fails (course t (side now d) first (side then e))) next_left last);
+              does = so.fails first (visit_state then e)
+                  (subst (λ (j : ℕ). FailsInRounds j want Fails (course t (visit_state now d) first (visit_state then e))) next_left last);
               makes = runs_on;
             }
 
-        gave_pages : given ≢ 0 → GivesInRound want Fails (course t (side now d) first (side then e))
+        gave_pages : given ≢ 0 → GivesInRound want Fails (course t (visit_state now d) first (visit_state then e))
         gave_pages gave = record { given = given; some = omega (arith, gave); round = round Fails does }
 
         -- the try failed, and pages were freed
@@ -199,17 +199,17 @@ module _ (t : KnownTable) (want : ℕ) (Fails : Course Side → Type 0) (Succeed
         rounds_more gave spares = record {
           steps = so.steps ++ first;
           fails = λ rest n h.
-              let one : FailsInRounds (suc (16 - (made + 1))) want Fails (course t (side now d) (first ++ rest) n) =
-              inr (record { between = side then e; earlier = first; later = rest; first = gave_pages gave; second = h; steps_are = refl }) in
-              subst (λ (r : Run). FailsInRounds 16 want Fails (course t (side m c) r n)) (sym (append_assoc so.steps first rest))
+              let one : FailsInRounds (suc (16 - (made + 1))) want Fails (course t (visit_state now d) (first ++ rest) n) =
+              inr (record { between = visit_state then e; earlier = first; later = rest; first = gave_pages gave; second = h; steps_are = refl }) in
+              subst (λ (r : Run). FailsInRounds 16 want Fails (course t (visit_state m c) r n)) (sym (append_assoc so.steps first rest))
               (so.fails (first ++ rest) n
-              (subst (λ (j : ℕ). FailsInRounds j want Fails (course t (side now d) (first ++ rest) n)) next_left one));
+              (subst (λ (j : ℕ). FailsInRounds j want Fails (course t (visit_state now d) (first ++ rest) n)) next_left one));
           succeeds = λ k rest n h.
-              let one : SucceedsInRounds (suc (16 - (made + 1))) want (Succeeds k) Fails (course t (side now d) (first ++ rest) n) =
-              inr (record { between = side then e; earlier = first; later = rest; first = gave_pages gave; second = h; steps_are = refl }) in
-              subst (λ (r : Run). SucceedsInRounds 16 want (Succeeds k) Fails (course t (side m c) r n)) (sym (append_assoc so.steps first rest))
+              let one : SucceedsInRounds (suc (16 - (made + 1))) want (Succeeds k) Fails (course t (visit_state now d) (first ++ rest) n) =
+              inr (record { between = visit_state then e; earlier = first; later = rest; first = gave_pages gave; second = h; steps_are = refl }) in
+              subst (λ (r : Run). SucceedsInRounds 16 want (Succeeds k) Fails (course t (visit_state m c) r n)) (sym (append_assoc so.steps first rest))
               (so.succeeds k (first ++ rest) n
-              (subst (λ (j : ℕ). SucceedsInRounds j want (Succeeds k) Fails (course t (side now d) (first ++ rest) n)) next_left one));
+              (subst (λ (j : ℕ). SucceedsInRounds j want (Succeeds k) Fails (course t (visit_state now d) (first ++ rest) n)) next_left one));
           runs = runs_on;
           spares = spares_both t m now then c d e so.spares
               (spares_both t now x then d d e (spares_reclaim t now x d keeps) spares);

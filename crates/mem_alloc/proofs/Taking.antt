@@ -15,7 +15,7 @@ use Rattle.step_rules.specs.After.{Run}
 use Rattle.mem_machine.specs.declared.blocks.TakeFault.{TakeFault}
 use Rattle.mem_machine.specs.declared.blocks.TakeFault.TheVariants as fault
 use Rattle.mem_machine.specs.Machines.{KnownMachine, is_killed}
-use Rattle.mem_machine.specs.Local.{side, MakesAs, Side}
+use Rattle.mem_machine.specs.Local.{visit_state, MakesAs, VisitState}
 use Rattle.mem_machine.specs.Lending.{TakesManyBack}
 use Rattle.mem_machine.specs.Blocks.{TakesBlock, TakesNoBlock, RefusesBlock, block_steps, taken_steps, unplaced_steps}
 use Rattle.mem_machine.specs.Paying.{HasRoomFor}
@@ -38,7 +38,7 @@ pub is_refused : (m n : KnownMachine) (g k : ℕ) (e : TakeFault) (o : OverLimit
     → IsLowestOver m.ledger.groups (current_of m.ledger) g (2 ^ k) o.group × (n ≡ m)
 is_refused m n g k e o is refuses = subst (λ (x : TakeFault). RefusesBlock g k x m n) is refuses
 
-pub by_refusal : {t : KnownTable} (p g k : ℕ) (a b : Side) (e : TakeFault) (o : OverLimit) → e ≡ fault.Over o → MakesAs t p a (block_steps g k (Err e)) b
+pub by_refusal : {t : KnownTable} (p g k : ℕ) (a b : VisitState) (e : TakeFault) (o : OverLimit) → e ≡ fault.Over o → MakesAs t p a (block_steps g k (Err e)) b
     → MakesAs t p a (over_steps g (2 ^ k) o.group) b
 by_refusal {t = t} p g k a b e o is steps = subst (λ (x : TakeFault). MakesAs t p a (block_steps g k (Err x)) b) is steps
 
@@ -46,7 +46,7 @@ by_refusal {t = t} p g k a b e o is steps = subst (λ (x : TakeFault). MakesAs t
 pub is_none : (m n : KnownMachine) (g k : ℕ) (e : TakeFault) → e ≡ fault.NoBlock → RefusesBlock g k e m n → TakesNoBlock g k m n
 is_none m n g k e is refuses = subst (λ (x : TakeFault). RefusesBlock g k x m n) is refuses
 
-pub by_none : {t : KnownTable} (p g k : ℕ) (a b : Side) (e : TakeFault) → e ≡ fault.NoBlock → MakesAs t p a (block_steps g k (Err e)) b
+pub by_none : {t : KnownTable} (p g k : ℕ) (a b : VisitState) (e : TakeFault) → e ≡ fault.NoBlock → MakesAs t p a (block_steps g k (Err e)) b
     → MakesAs t p a (unplaced_steps g k) b
 by_none {t = t} p g k a b e is steps = subst (λ (x : TakeFault). MakesAs t p a (block_steps g k (Err x)) b) is steps
 
@@ -54,17 +54,17 @@ by_none {t = t} p g k a b e is steps = subst (λ (x : TakeFault). MakesAs t p a 
 
 module _ (t : KnownTable) (g k : ℕ) (c : KnownCpu) (m x : KnownMachine) (so_far : RoomSoFar t g (2 ^ k) c m x) (y : KnownCpu) (mine : y ≡ c)
     (n : KnownMachine) (d : KnownCpu) where
-  does_here : (Does : Course Side → Type 0) → BySteps t Does (side x y) (side n d) → BySteps t (AfterRoom g (2 ^ k) Does) (side m c) (side n d)
-  does_here Does b = so_far_does t g (2 ^ k) c m x so_far Does n d (subst (λ (e : KnownCpu). BySteps t Does (side x e) (side n d)) mine b)
+  does_here : (Does : Course VisitState → Type 0) → BySteps t Does (visit_state x y) (visit_state n d) → BySteps t (AfterRoom g (2 ^ k) Does) (visit_state m c) (visit_state n d)
+  does_here Does b = so_far_does t g (2 ^ k) c m x so_far Does n d (subst (λ (e : KnownCpu). BySteps t Does (visit_state x e) (visit_state n d)) mine b)
 
-  pub so_far_takes : (head : ℕ) → TakesBlock g k head x n → d ≡ y → MakesAs t y.number (side x y) (taken_steps g k head) (side n d)
-      → BySteps t (AfterRoom g (2 ^ k) (TakesFreeBlock g k head)) (side m c) (side n d)
+  pub so_far_takes : (head : ℕ) → TakesBlock g k head x n → d ≡ y → MakesAs t y.number (visit_state x y) (taken_steps g k head) (visit_state n d)
+      → BySteps t (AfterRoom g (2 ^ k) (TakesFreeBlock g k head)) (visit_state m c) (visit_state n d)
   so_far_takes head takes cpu run =
       does_here (TakesFreeBlock g k head)
       (record { steps = taken_steps g k head; does = record { takes = takes; cpu = cpu; steps_are = refl }; makes = run })
 
-  pub so_far_no_block : TakesNoBlock g k x n → d ≡ y → MakesAs t y.number (side x y) (unplaced_steps g k) (side n d)
-      → BySteps t (AfterRoom g (2 ^ k) (FindsNoBlock g k)) (side m c) (side n d)
+  pub so_far_no_block : TakesNoBlock g k x n → d ≡ y → MakesAs t y.number (visit_state x y) (unplaced_steps g k) (visit_state n d)
+      → BySteps t (AfterRoom g (2 ^ k) (FindsNoBlock g k)) (visit_state m c) (visit_state n d)
   so_far_no_block none cpu run =
       does_here (FindsNoBlock g k)
       (record { steps = unplaced_steps g k; does = record { none = none; cpu = cpu; steps_are = refl }; makes = run })
@@ -89,17 +89,17 @@ module _ (t : KnownTable) (g k : ℕ) (c : KnownCpu) (m x : KnownMachine) (so_fa
   none_opened none = ap (λ (z : KnownMachine). z.frame_seat.view.opened) none.machine ∙ so_far.lowers.opened
 
 -- a charge is refused for good
-charges_refused : (t : KnownTable) (g k : ℕ) (e : AllocFault) (a b : Side)
+charges_refused : (t : KnownTable) (g k : ℕ) (e : AllocFault) (a b : VisitState)
     → BySteps t (IsRefusedFor g (2 ^ k) e) a b → BySteps t (ChargesBlock g k (Err e)) a b
 charges_refused t g k (Over over) a b by = by
 charges_refused t g k NoFrames a b by = absurd by.does.does.does.1.room
 charges_refused t g k RequesterKilled a b by = by
 
 pub over_charges : (t : KnownTable) (g k : ℕ) (r : Result ℕ AllocFault) (x : AllocFault) (m n : KnownMachine) (c d : KnownCpu) → r ≡ Err x
-    → d ≡ c → BySteps t (IsRefusedFor g (2 ^ k) x) (side m c) (side n c) → BySteps t (ChargesBlock g k r) (side m c) (side n d)
+    → d ≡ c → BySteps t (IsRefusedFor g (2 ^ k) x) (visit_state m c) (visit_state n c) → BySteps t (ChargesBlock g k r) (visit_state m c) (visit_state n d)
 over_charges t g k r x m n c d is cpu by =
-    subst (λ (z : KnownCpu × Result ℕ AllocFault). BySteps t (ChargesBlock g k z.1) (side m c) (side n z.0)) (λ i. (sym cpu i, sym is i))
-    (charges_refused t g k x (side m c) (side n c) by)
+    subst (λ (z : KnownCpu × Result ℕ AllocFault). BySteps t (ChargesBlock g k z.1) (visit_state m c) (visit_state n z.0)) (λ i. (sym cpu i, sym is i))
+    (charges_refused t g k x (visit_state m c) (visit_state n c) by)
 
 abbrev fault_of : Result ℕ AllocFault → AllocFault
 fault_of (Ok head) = RequesterKilled
@@ -123,7 +123,7 @@ pub record BackPart (frames : List ℕ) (m : KnownMachine) (c : KnownCpu) (n : K
   pub ledger : n.ledger ≡ m.ledger
   pub killed : n.killed ≡ m.killed
 
-pub back_part : (frames : List ℕ) (m n : KnownMachine) (c d : KnownCpu) → TakesManyBack frames (side m c) (side n d) → BackPart frames m c n d
+pub back_part : (frames : List ℕ) (m n : KnownMachine) (c d : KnownCpu) → TakesManyBack frames (visit_state m c) (visit_state n d) → BackPart frames m c n d
 back_part [] m n c d h = record {
   split = sym (ap (λ (e : KnownCpu). e.list) h.cpu);
   number = ap (λ (e : KnownCpu). e.number) h.cpu;
@@ -189,9 +189,9 @@ taken_opens : (m n : KnownMachine) (g k head : ℕ) → TakesBlock g k head m n 
 taken_opens m n g k head takes = ap (λ (y : KnownMachine). y.frame_seat.view.opened) takes.machine
 
 rounds_open : (t : KnownTable) (g k : ℕ) (r : Result ℕ AllocFault) (m n : KnownMachine) (c d : KnownCpu) (steps : Run)
-    → TakesInRounds g k r (course t (side m c) steps (side n d)) → n.frame_seat.view.opened ≡ m.frame_seat.view.opened
+    → TakesInRounds g k r (course t (visit_state m c) steps (visit_state n d)) → n.frame_seat.view.opened ≡ m.frame_seat.view.opened
 rounds_open t g k (Ok head) m n c d steps h =
-    let last = in_the_end t (2 ^ k) (FindsNoBlock g k) (none_spares t g k) (TakesFreeBlock g k head) 16 m c (side n d) steps h in
+    let last = in_the_end t (2 ^ k) (FindsNoBlock g k) (none_spares t g k) (TakesFreeBlock g k head) 16 m c (visit_state n d) steps h in
     taken_opens last.before n g k head last.succeeds.takes ∙ last.spares.lowers.opened
 rounds_open t g k (Err NoFrames) m n c d steps h =
     (fails_spare t (2 ^ k) (FindsNoBlock g k) (none_spares t g k) 16 m n c d steps h).lowers.opened
@@ -200,69 +200,69 @@ rounds_open t g k (Err RequesterKilled) m n c d steps h = absurd h
 
 -- ---- what the second try leaves
 module _ (t : KnownTable) (g k : ℕ) (m x n : KnownMachine) (c y d : KnownCpu) (count listed : ℕ) (counts : listed ≡ length c.list) (few : count ≤ listed)
-    (gives : TakesManyBack (take count c.list) (side m c) (side x y)) (rest : count < listed → y.list ≡ []) (stays : d ≡ y)
-    (giving : MakesAs t c.number (side m c) (drain_list_steps c.number (take count c.list)) (side x y)) where
+    (gives : TakesManyBack (take count c.list) (visit_state m c) (visit_state x y)) (rest : count < listed → y.list ≡ []) (stays : d ≡ y)
+    (giving : MakesAs t c.number (visit_state m c) (drain_list_steps c.number (take count c.list)) (visit_state x y)) where
   part : BackPart (take count c.list) m c x y
   part = back_part (take count c.list) m x c y gives
 
   whole : take count c.list ≡ c.list
   whole = all_back count listed c.list y.list few counts rest part.split
 
-  given : TakesManyBack c.list (side m c) (side x d)
-  given = subst (λ (z : List ℕ × KnownCpu). TakesManyBack z.0 (side m c) (side x z.1)) (λ i. (whole i, sym stays i)) gives
+  given : TakesManyBack c.list (visit_state m c) (visit_state x d)
+  given = subst (λ (z : List ℕ × KnownCpu). TakesManyBack z.0 (visit_state m c) (visit_state x z.1)) (λ i. (whole i, sym stays i)) gives
 
-  by_giving : MakesAs t c.number (side m c) (drain_list_steps c.number c.list) (side x y)
-  by_giving = subst (λ (z : List ℕ). MakesAs t c.number (side m c) (drain_list_steps c.number z) (side x y)) whole giving
+  by_giving : MakesAs t c.number (visit_state m c) (drain_list_steps c.number c.list) (visit_state x y)
+  by_giving = subst (λ (z : List ℕ). MakesAs t c.number (visit_state m c) (drain_list_steps c.number z) (visit_state x y)) whole giving
 
-  then : (steps : Run) → MakesAs t y.number (side x y) steps (side n d)
-      → MakesAs t c.number (side m c) (drain_list_steps c.number c.list ++ steps) (side n d)
-  then steps run = makes_both t c.number (drain_list_steps c.number c.list) steps (side m c) (side x y) (side n d) by_giving
-      (subst (λ (p : ℕ). MakesAs t p (side x y) steps (side n d)) part.number run)
+  then : (steps : Run) → MakesAs t y.number (visit_state x y) steps (visit_state n d)
+      → MakesAs t c.number (visit_state m c) (drain_list_steps c.number c.list ++ steps) (visit_state n d)
+  then steps run = makes_both t c.number (drain_list_steps c.number c.list) steps (visit_state m c) (visit_state x y) (visit_state n d) by_giving
+      (subst (λ (p : ℕ). MakesAs t p (visit_state x y) steps (visit_state n d)) part.number run)
 
-  takes_drained : (r : Result ℕ AllocFault) → BySteps t (TakesOrReclaims g k r) (side x y) (side n d)
-      → BySteps t (TakesAfterDrain g k r) (side m c) (side n d)
+  takes_drained : (r : Result ℕ AllocFault) → BySteps t (TakesOrReclaims g k r) (visit_state x y) (visit_state n d)
+      → BySteps t (TakesAfterDrain g k r) (visit_state m c) (visit_state n d)
   takes_drained r b = record {
     steps = drain_list_steps c.number c.list ++ b.steps;
     does = record {
       drained = x;
       later = b.steps;
       drains = given;
-      takes = subst (λ (z : KnownCpu). TakesOrReclaims g k r (course t (side x z) b.steps (side n d))) (sym stays) b.does;
+      takes = subst (λ (z : KnownCpu). TakesOrReclaims g k r (course t (visit_state x z) b.steps (visit_state n d))) (sym stays) b.does;
       steps_are = refl;
     };
     makes = then b.steps b.makes;
   }
 
   -- it takes the block
-  pub takes_after : (head : ℕ) → TakesBlock g k head x n → MakesAs t y.number (side x y) (taken_steps g k head) (side n d)
-      → BySteps t (TakesAfterDrain g k (Ok head)) (side m c) (side n d)
+  pub takes_after : (head : ℕ) → TakesBlock g k head x n → MakesAs t y.number (visit_state x y) (taken_steps g k head) (visit_state n d)
+      → BySteps t (TakesAfterDrain g k (Ok head)) (visit_state m c) (visit_state n d)
   takes_after head takes run =
       takes_drained (Ok head)
       (record { steps = taken_steps g k head; does = inl (record { takes = takes; cpu = stays; steps_are = refl }); makes = run })
 
   -- or finds none, and rounds of reclaim follow
   module _ (w : KnownMachine) (z : KnownCpu) (none : TakesNoBlock g k x w) (same : z ≡ y)
-      (vain : MakesAs t y.number (side x y) (unplaced_steps g k) (side w z)) where
-    in_rounds : (r : Result ℕ AllocFault) → BySteps t (TakesInRounds g k r) (side w z) (side n d) → BySteps t (TakesOrReclaims g k r) (side x y) (side n d)
+      (vain : MakesAs t y.number (visit_state x y) (unplaced_steps g k) (visit_state w z)) where
+    in_rounds : (r : Result ℕ AllocFault) → BySteps t (TakesInRounds g k r) (visit_state w z) (visit_state n d) → BySteps t (TakesOrReclaims g k r) (visit_state x y) (visit_state n d)
     in_rounds r there =
-        let rounds = subst (λ (u : KnownCpu). BySteps t (TakesInRounds g k r) (side w u) (side n d)) same there in
-        let first = subst (λ (u : KnownCpu). MakesAs t y.number (side x y) (unplaced_steps g k) (side w u)) same vain in record {
+        let rounds = subst (λ (u : KnownCpu). BySteps t (TakesInRounds g k r) (visit_state w u) (visit_state n d)) same there in
+        let first = subst (λ (u : KnownCpu). MakesAs t y.number (visit_state x y) (unplaced_steps g k) (visit_state w u)) same vain in record {
           steps = unplaced_steps g k ++ rounds.steps;
           does = inr (record {
-            between = side w y;
+            between = visit_state w y;
             earlier = unplaced_steps g k;
             later = rounds.steps;
             first = record { none = none; cpu = refl; steps_are = refl };
             second = rounds.does;
             steps_are = refl;
           });
-          makes = makes_both t y.number (unplaced_steps g k) rounds.steps (side x y) (side w y) (side n d) first rounds.makes;
+          makes = makes_both t y.number (unplaced_steps g k) rounds.steps (visit_state x y) (visit_state w y) (visit_state n d) first rounds.makes;
         }
 
-    pub reclaims_after : (r : Result ℕ AllocFault) → BySteps t (TakesInRounds g k r) (side w z) (side n d) → BySteps t (TakesAfterDrain g k r) (side m c) (side n d)
+    pub reclaims_after : (r : Result ℕ AllocFault) → BySteps t (TakesInRounds g k r) (visit_state w z) (visit_state n d) → BySteps t (TakesAfterDrain g k r) (visit_state m c) (visit_state n d)
     reclaims_after r there = takes_drained r (in_rounds r there)
 
-    pub reclaims_open : (r : Result ℕ AllocFault) → BySteps t (TakesInRounds g k r) (side w z) (side n d) → n.frame_seat.view.opened ≡ m.frame_seat.view.opened
+    pub reclaims_open : (r : Result ℕ AllocFault) → BySteps t (TakesInRounds g k r) (visit_state w z) (visit_state n d) → n.frame_seat.view.opened ≡ m.frame_seat.view.opened
     reclaims_open r there =
         rounds_open t g k r w n z d there.steps there.does ∙ ap (λ (u : KnownMachine). u.frame_seat.view.opened) none.machine ∙ part.opened
 
@@ -275,20 +275,20 @@ module _ (t : KnownTable) (g k : ℕ) (m x n : KnownMachine) (c y d : KnownCpu) 
 -- ---- the whole allocation
 
 -- after the list was drained no limit is in the way, and nobody is killed
-no_over : (g k over : ℕ) (way : Course Side) → TakesAfterDrain g k (Err (Over over)) way → ⊥
+no_over : (g k over : ℕ) (way : Course VisitState) → TakesAfterDrain g k (Err (Over over)) way → ⊥
 no_over g k over way h = elim h.takes [
   | inl none ↦ none
   | inr rounds ↦ rounds.second
 ]
 
-no_kill : (g k : ℕ) (way : Course Side) → TakesAfterDrain g k (Err RequesterKilled) way → ⊥
+no_kill : (g k : ℕ) (way : Course VisitState) → TakesAfterDrain g k (Err RequesterKilled) way → ⊥
 no_kill g k way h = elim h.takes [
   | inl none ↦ none
   | inr rounds ↦ rounds.second
 ]
 
 module _ (t : KnownTable) (g k : ℕ) (m : KnownMachine) (c : KnownCpu) (alive : is_killed m.killed g ≡ false) where
-  by_answer : (r : Result ℕ AllocFault) (n : Side) → BySteps t (RetriesBlock g k r) (side m c) n → BySteps t (AllocatesBlock g k r) (side m c) n
+  by_answer : (r : Result ℕ AllocFault) (n : VisitState) → BySteps t (RetriesBlock g k r) (visit_state m c) n → BySteps t (AllocatesBlock g k r) (visit_state m c) n
   by_answer (Ok head) n b = record { steps = b.steps; does = inr (record { is = alive; does = b.does }); makes = b.makes }
   by_answer (Err NoFrames) n b = record { steps = b.steps; does = record { is = alive; does = b.does }; makes = b.makes }
   by_answer (Err (Over over)) n b = absurd (no_over g k over _ b.does.second)
@@ -296,21 +296,21 @@ module _ (t : KnownTable) (g k : ℕ) (m : KnownMachine) (c : KnownCpu) (alive :
 
   -- no block is free at first, and what comes of the drained list decides
   pub decides_drained : (r : Result ℕ AllocFault) (cause : AllocFault) (x n : KnownMachine) (y d : KnownCpu) → cause ≡ NoFrames → y ≡ c
-      → BySteps t (ChargesBlock g k (Err cause)) (side m c) (side x y)
-      → BySteps t (TakesAfterDrain g k r) (side x y) (side n d) → BySteps t (AllocatesBlock g k r) (side m c) (side n d)
+      → BySteps t (ChargesBlock g k (Err cause)) (visit_state m c) (visit_state x y)
+      → BySteps t (TakesAfterDrain g k r) (visit_state x y) (visit_state n d) → BySteps t (AllocatesBlock g k r) (visit_state m c) (visit_state n d)
   decides_drained r cause x n y d named mine charged drained =
-      let first = subst (λ (f : AllocFault). BySteps t (ChargesBlock g k (Err f)) (side m c) (side x y)) named charged in
+      let first = subst (λ (f : AllocFault). BySteps t (ChargesBlock g k (Err f)) (visit_state m c) (visit_state x y)) named charged in
       let number = ap (λ (z : KnownCpu). z.number) mine in
-      by_answer r (side n d) (record {
+      by_answer r (visit_state n d) (record {
         steps = first.steps ++ drained.steps;
         does = record {
-          between = side x y;
+          between = visit_state x y;
           earlier = first.steps;
           later = drained.steps;
           first = first.does;
           second = drained.does;
           steps_are = refl;
         };
-        makes = makes_both t c.number first.steps drained.steps (side m c) (side x y) (side n d) first.makes
-            (subst (λ (p : ℕ). MakesAs t p (side x y) drained.steps (side n d)) number drained.makes);
+        makes = makes_both t c.number first.steps drained.steps (visit_state m c) (visit_state x y) (visit_state n d) first.makes
+            (subst (λ (p : ℕ). MakesAs t p (visit_state x y) drained.steps (visit_state n d)) number drained.makes);
       })

@@ -13,7 +13,7 @@ use Rattle.step_rules.specs.declared.step.Answer.{Answer}
 use Rattle.step_rules.specs.declared.step.Step.{Step}
 use Rattle.step_rules.specs.After.{Run}
 use Rattle.mem_machine.specs.Machines.{IsConsistent, KnownMachine, home_of}
-use Rattle.mem_machine.specs.Local.{IsLocalRun, Side, local_of}
+use Rattle.mem_machine.specs.Local.{IsLocalRun, VisitState, local_of}
 use Rattle.mem_machine.specs.Stocks.{AreDrained}
 use Rattle.mem_reclaim.specs.declared.sets.Killed.{Killed}
 use Rattle.mem_reclaim.specs.Moves.{kills_in, missed_in}
@@ -80,5 +80,5 @@ KillsEndInTime =
 -- a refill adds a whole batch, or no frame is free after it
 abbrev pub RefillsAreWhole : Type 0
 RefillsAreWhole =
-    (batch : ℕ) (way : Course Side) → LendsBatch batch way
+    (batch : ℕ) (way : Course VisitState) → LendsBatch batch way
     → (length way.after.cpu.list ≡ length way.before.cpu.list + batch) ⊎ HasNoFreeFrame way.after

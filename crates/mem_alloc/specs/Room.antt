@@ -8,7 +8,7 @@ use Rattle.kill_notes.specs.declared.note.Note.TheVariants.{Limit}
 use Rattle.kill_notes.specs.Notes.{noted}
 use Rattle.step_rules.specs.After.{Run}
 use Rattle.mem_machine.specs.Machines.{KnownMachine, LacksRoom, is_killed}
-use Rattle.mem_machine.specs.Local.{MakesForAny, Side, side}
+use Rattle.mem_machine.specs.Local.{MakesForAny, VisitState, visit_state}
 use Rattle.mem_machine.specs.Steps.{Drain, over_steps, note_max_steps, drain_stocks_steps}
 use Rattle.mem_machine.specs.Stocks.{DrainsAllBelow, AreDrained}
 use Rattle.mem_reclaim.specs.Wanted.{GivesNothing, Reclaiming, progress}
@@ -109,13 +109,13 @@ MakesRoom requester (limited ∷ others) pages way =
 
 -- A charge of this many pages to the requester may first be refused at the groups `refused_at`, which then get room.
 -- After that `Does` holds.
-pub record AfterRoom (requester pages : ℕ) (Does : Course Side → Type 0) (way : Course Side) : Type 0 where
+pub record AfterRoom (requester pages : ℕ) (Does : Course VisitState → Type 0) (way : Course VisitState) : Type 0 where
   pub refused_at : List ℕ
   pub cleared : KnownMachine
   pub making : Run
   pub later : Run
   pub makes : MakesRoom requester refused_at pages (course way.table way.before.machine making cleared)
-  pub does : Does (course way.table (side cleared way.before.cpu) later way.after)
+  pub does : Does (course way.table (visit_state cleared way.before.cpu) later way.after)
   pub steps_are : way.steps ≡ making ++ later
 
 -- a charge is refused at some group; after that the group still has no room, or the requester was killed: this is the
@@ -124,6 +124,6 @@ abbrev pub IsRefusedAtSome : ℕ → ℕ → AllocFault → Course KnownMachine 
 IsRefusedAtSome requester pages cause way = (limited : ℕ) × IsRefusedAt requester limited pages (Err cause) way
 
 -- a charge is refused for good, for this cause; other groups may have refused it before, and then got room
-abbrev pub IsRefusedFor : ℕ → ℕ → AllocFault → Course Side → Type 0
+abbrev pub IsRefusedFor : ℕ → ℕ → AllocFault → Course VisitState → Type 0
 IsRefusedFor requester pages cause way =
     AfterRoom requester pages (OfMachineAlone (IsRefusedAtSome requester pages cause)) way

@@ -4,11 +4,11 @@ use Rattle.frame_word.specs.Seats.{KnownTable, misses_of}
 use Rattle.step_rules.specs.After.{Run}
 use Rattle.cpu_part.specs.Cpus.{KnownCpu}
 use Rattle.mem_machine.specs.Machines.{KnownMachine}
-use Rattle.mem_machine.specs.Local.{Side, Makes, MakesForAny}
+use Rattle.mem_machine.specs.Local.{VisitState, Makes, MakesForAny}
 use Rattle.mem_reclaim.specs.Moves.{missed_in}
 
 -- The course of a call at a table: the state before, its steps with their answers, and the state after. The state is a
--- side, or the machine alone. A parameter named `way` is always the course of a call.
+-- visit state, or the machine alone. A parameter named `way` is always the course of a call.
 pub record Course (Stand : Type 0) : Type 0 where
   pub table : KnownTable
   pub before : Stand
@@ -20,15 +20,15 @@ abbrev pub course : {Stand : Type 0} → KnownTable → Stand → Run → Stand 
 course table before steps after = record { table = table; before = before; steps = steps; after = after }
 
 -- the course of the machine alone
-abbrev pub of_machine : Course Side → Course KnownMachine
+abbrev pub of_machine : Course VisitState → Course KnownMachine
 of_machine way = course way.table way.before.machine way.steps way.after.machine
 
 -- `Does` holds of the machine's course, whatever happens to the CPU's part
-abbrev pub OfMachine : (Course KnownMachine → Type 0) → Course Side → Type 0
+abbrev pub OfMachine : (Course KnownMachine → Type 0) → Course VisitState → Type 0
 OfMachine Does way = Does (of_machine way)
 
 -- `Does` holds of the machine's course, and the CPU's part stays the same
-pub record OfMachineAlone (Does : Course KnownMachine → Type 0) (way : Course Side) : Type 0 where
+pub record OfMachineAlone (Does : Course KnownMachine → Type 0) (way : Course VisitState) : Type 0 where
   pub does : Does (of_machine way)
   pub cpu : way.after.cpu ≡ way.before.cpu
 
@@ -48,8 +48,8 @@ pub record Where {Stand : Type 0} (Is : Stand → Type 0) (Does : Course Stand �
   pub is : Is way.before
   pub does : Does way
 
--- a list of local steps with their answers leads from one side to another, and `Does` holds of that course
-pub record BySteps (table : KnownTable) (Does : Course Side → Type 0) (before after : Side) : Type 0 where
+-- a list of local steps with their answers leads from one visit state to another, and `Does` holds of that course
+pub record BySteps (table : KnownTable) (Does : Course VisitState → Type 0) (before after : VisitState) : Type 0 where
   pub steps : Run
   pub does : Does (course table before steps after)
   pub makes : Makes table before steps after
@@ -74,7 +74,7 @@ pub record MachineStays (way : Course KnownMachine) : Type 0 where
   pub steps_are : way.steps ≡ []
 
 -- nothing changed, and no step was made
-pub record Stays (way : Course Side) : Type 0 where
+pub record Stays (way : Course VisitState) : Type 0 where
   pub machine : way.after.machine ≡ way.before.machine
   pub cpu : way.after.cpu ≡ way.before.cpu
   pub steps_are : way.steps ≡ []

@@ -8,7 +8,7 @@ ghost use Rattle.mem_alloc.specs.declared.faults.AllocFault.TheVariants.{NoFrame
 ghost use Rattle.mem_alloc.specs.Stepping.{BySteps, IsSettled};
 ghost use Rattle.mem_alloc.specs.Blocks.{AllocatesBlock, ChargesBlock, MayHaveBlock};
 ghost use Rattle.mem_alloc.specs.Blocks.{TakesAfterDrain, TakesInRounds};
-ghost use Rattle.mem_machine.specs.Local.{side};
+ghost use Rattle.mem_machine.specs.Local.{visit_state};
 
 use crate::faults::AllocFault;
 use crate::reclaims::reclaim_anywhere;
@@ -28,14 +28,14 @@ fn charge_block<N: BootName>(
     group: GroupId,
     order: Order,
 ) -> Result<Frame, AllocFault>
-    requires visit { Visits N.frames (side machine.old cpu.old) }
+    requires visit { Visits N.frames (visit_state machine.old cpu.old) }
     requires may_charge { MayCharge machine.old group (2 ^ order) }
     requires none_fresh { cpu.old.fresh ≡ [] }
     requires none_back { cpu.old.back ≡ [] }
     ensures charges { BySteps N.frames (ChargesBlock group order result)
-        (side machine.old cpu.old) (side machine.new cpu.new) }
+        (visit_state machine.old cpu.old) (visit_state machine.new cpu.new) }
     ensures cpu { cpu.new ≡ cpu.old }
-    ensures visit { Visits N.frames (side machine.new cpu.new) }
+    ensures visit { Visits N.frames (visit_state machine.new cpu.new) }
     ensures opened { machine.new.frame_seat.view.opened ≡ machine.old.frame_seat.view.opened }
     ensures room { result ≡ Err NoFrames → MayHaveBlock machine.new group order }
 {
@@ -58,14 +58,14 @@ fn take_in_rounds<N: BootName>(
     group: GroupId,
     order: Order,
 ) -> Result<Frame, AllocFault>
-    requires visit { Visits N.frames (side machine.old cpu.old) }
+    requires visit { Visits N.frames (visit_state machine.old cpu.old) }
     requires room { MayHaveBlock machine.old group order }
     requires none_fresh { cpu.old.fresh ≡ [] }
     requires none_back { cpu.old.back ≡ [] }
     ensures takes { BySteps N.frames (TakesInRounds group order result)
-        (side machine.old cpu.old) (side machine.new cpu.new) }
+        (visit_state machine.old cpu.old) (visit_state machine.new cpu.new) }
     ensures cpu { cpu.new ≡ cpu.old }
-    ensures visit { Visits N.frames (side machine.new cpu.new) }
+    ensures visit { Visits N.frames (visit_state machine.new cpu.new) }
 {
     let pages = order.frames();
     for _round in 0..MAX_ROUNDS {
@@ -89,12 +89,12 @@ fn take_after_drain<N: BootName>(
     group: GroupId,
     order: Order,
 ) -> Result<Frame, AllocFault>
-    requires visit { Visits N.frames (side machine.old cpu.old) }
+    requires visit { Visits N.frames (visit_state machine.old cpu.old) }
     requires room { MayHaveBlock machine.old group order }
     requires settled { IsSettled cpu.old }
     ensures takes { BySteps N.frames (TakesAfterDrain group order result)
-        (side machine.old cpu.old) (side machine.new cpu.new) }
-    ensures stays { KeepsVisit N.frames (side machine.old cpu.old) (side machine.new cpu.new) }
+        (visit_state machine.old cpu.old) (visit_state machine.new cpu.new) }
+    ensures stays { KeepsVisit N.frames (visit_state machine.old cpu.old) (visit_state machine.new cpu.new) }
     ensures fresh { cpu.new.fresh ≡ [] }
     ensures list { length cpu.new.list ≤ length cpu.old.list }
 {
@@ -127,13 +127,13 @@ pub fn alloc_block<N: BootName>(
     group: GroupId,
     order: Order,
 ) -> Result<Frame, AllocFault>
-    requires visit { Visits N.frames (side machine.old cpu.old) }
+    requires visit { Visits N.frames (visit_state machine.old cpu.old) }
     requires size { IsOfSize N.frames }
     requires there { IsTrue (has_group machine.old.ledger.groups group) }
     requires settled { IsSettled cpu.old }
     ensures allocates { BySteps N.frames (AllocatesBlock group order result)
-        (side machine.old cpu.old) (side machine.new cpu.new) }
-    ensures stays { KeepsVisit N.frames (side machine.old cpu.old) (side machine.new cpu.new) }
+        (visit_state machine.old cpu.old) (visit_state machine.new cpu.new) }
+    ensures stays { KeepsVisit N.frames (visit_state machine.old cpu.old) (visit_state machine.new cpu.new) }
     ensures fresh { cpu.new.fresh ≡ [] }
     ensures list { length cpu.new.list ≤ length cpu.old.list }
 {

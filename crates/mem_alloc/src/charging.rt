@@ -8,7 +8,7 @@ ghost use Rattle.mem_machine.specs.Paying.{HoldsPage, IsOfSize, MayCharge};
 ghost use Rattle.mem_machine.specs.Stocks.{IsDrained, with_look};
 ghost use Rattle.mem_alloc.specs.Stepping.{BySteps};
 ghost use Rattle.mem_alloc.specs.Charging.{ChargesFrame, ChargesOne, PaysForFrame};
-ghost use Rattle.mem_machine.specs.Local.{side};
+ghost use Rattle.mem_machine.specs.Local.{visit_state};
 
 use crate::faults::AllocFault;
 use crate::room::make_room;
@@ -25,7 +25,7 @@ fn holds_page<N: BootName>(
     cpu: &mut Cpu<N>,
     group: GroupId,
 ) -> bool
-    ensures holds { IsTrue result ↔ HoldsPage (side machine.old cpu.old) group }
+    ensures holds { IsTrue result ↔ HoldsPage (visit_state machine.old cpu.old) group }
     ensures machine { machine.new ≡ with_look machine.old }
     ensures cpu { cpu.new ≡ cpu.old }
 {
@@ -43,13 +43,13 @@ fn fill_one<N: BootName>(
     cpu: &mut Cpu<N>,
     group: GroupId,
 ) -> Result<(), AllocFault>
-    requires visit { Visits N.frames (side machine.old cpu.old) }
+    requires visit { Visits N.frames (visit_state machine.old cpu.old) }
     requires may_charge { MayCharge machine.old group 1 }
     requires none_fresh { cpu.old.fresh ≡ [] }
     requires drained { IsDrained machine.old cpu.old.number }
     ensures charges { BySteps N.frames (ChargesOne group result)
-        (side machine.old cpu.old) (side machine.new cpu.new) }
-    ensures visit { Visits N.frames (side machine.new cpu.new) }
+        (visit_state machine.old cpu.old) (visit_state machine.new cpu.new) }
+    ensures visit { Visits N.frames (visit_state machine.new cpu.new) }
 {
     'tries: loop {
         let Err(over) = machine.fill_stock(tables, cpu, group, 1) else {
@@ -68,7 +68,7 @@ fn charge_frame<N: BootName>(
     sizes: Config,
     group: GroupId,
 ) -> Result<(), AllocFault>
-    requires visit { Visits N.frames (side machine.old cpu.old) }
+    requires visit { Visits N.frames (visit_state machine.old cpu.old) }
     requires size { IsOfSize N.frames }
     requires sizes { IsValidConfig sizes }
     requires there { IsTrue (has_group machine.old.ledger.groups group) }
@@ -76,8 +76,8 @@ fn charge_frame<N: BootName>(
     requires none_fresh { cpu.old.fresh ≡ [] }
     requires drained { IsDrained machine.old cpu.old.number }
     ensures charges { BySteps N.frames (ChargesFrame sizes group result)
-        (side machine.old cpu.old) (side machine.new cpu.new) }
-    ensures visit { Visits N.frames (side machine.new cpu.new) }
+        (visit_state machine.old cpu.old) (visit_state machine.new cpu.new) }
+    ensures visit { Visits N.frames (visit_state machine.new cpu.new) }
 {
     machine.see_room();
     let Err(_batch) = machine.fill_stock(tables, cpu, group, sizes.stock) else {
@@ -94,16 +94,16 @@ pub(crate) fn pay_for_frame<N: BootName>(
     sizes: Config,
     group: GroupId,
 ) -> Result<(), AllocFault>
-    requires visit { Visits N.frames (side machine.old cpu.old) }
+    requires visit { Visits N.frames (visit_state machine.old cpu.old) }
     requires size { IsOfSize N.frames }
     requires sizes { IsValidConfig sizes }
     requires there { IsTrue (has_group machine.old.ledger.groups group) }
     requires alive { is_killed machine.old.killed group ≡ false }
     requires none_fresh { cpu.old.fresh ≡ [] }
     ensures pays { BySteps N.frames (PaysForFrame sizes group result)
-        (side machine.old cpu.old) (side machine.new cpu.new) }
-    ensures visit { Visits N.frames (side machine.new cpu.new) }
-    ensures page { OnOk result (HoldsPage (side machine.new cpu.new) group) }
+        (visit_state machine.old cpu.old) (visit_state machine.new cpu.new) }
+    ensures visit { Visits N.frames (visit_state machine.new cpu.new) }
+    ensures page { OnOk result (HoldsPage (visit_state machine.new cpu.new) group) }
 {
     if holds_page(machine, tables, cpu, group) {
         return Ok(());

@@ -9,7 +9,7 @@ ghost use Rattle.mem_machine.specs.Paying.{HoldsPage, IsOfSize};
 ghost use Rattle.mem_alloc.specs.Stepping.{BySteps, IsSettled};
 ghost use Rattle.mem_machine.specs.Lending.{HasListRoom};
 ghost use Rattle.mem_alloc.specs.Frames.{AllocatesFrame, FillsList, RefillsInRounds};
-ghost use Rattle.mem_machine.specs.Local.{side};
+ghost use Rattle.mem_machine.specs.Local.{visit_state};
 
 use crate::charging::pay_for_frame;
 use crate::faults::AllocFault;
@@ -29,12 +29,12 @@ fn refill_in_rounds<N: BootName>(
     cpu: &mut Cpu<N>,
     batch: u32,
 ) -> bool
-    requires visit { Visits N.frames (side machine.old cpu.old) }
+    requires visit { Visits N.frames (visit_state machine.old cpu.old) }
     requires room { HasListRoom cpu.old batch }
     requires some { 1 ≤ batch }
     ensures refills { BySteps N.frames (RefillsInRounds batch result)
-        (side machine.old cpu.old) (side machine.new cpu.new) }
-    ensures visit { Visits N.frames (side machine.new cpu.new) }
+        (visit_state machine.old cpu.old) (visit_state machine.new cpu.new) }
+    ensures visit { Visits N.frames (visit_state machine.new cpu.new) }
 {
     for _round in 0..MAX_ROUNDS {
         let given = reclaim_anywhere(machine, tables, 1);
@@ -57,14 +57,14 @@ fn fill_list<N: BootName>(
     sizes: Config,
     group: GroupId,
 ) -> Result<(), AllocFault>
-    requires visit { Visits N.frames (side machine.old cpu.old) }
+    requires visit { Visits N.frames (visit_state machine.old cpu.old) }
     requires sizes { IsValidConfig sizes }
     requires none_fresh { cpu.old.fresh ≡ [] }
-    requires page { HoldsPage (side machine.old cpu.old) group }
+    requires page { HoldsPage (visit_state machine.old cpu.old) group }
     ensures fills { BySteps N.frames (FillsList sizes result)
-        (side machine.old cpu.old) (side machine.new cpu.new) }
-    ensures visit { Visits N.frames (side machine.new cpu.new) }
-    ensures page { OnOk result (HoldsPage (side machine.new cpu.new) group) }
+        (visit_state machine.old cpu.old) (visit_state machine.new cpu.new) }
+    ensures visit { Visits N.frames (visit_state machine.new cpu.new) }
+    ensures page { OnOk result (HoldsPage (visit_state machine.new cpu.new) group) }
     ensures front { OnOk result (1 ≤ length cpu.new.list) }
 {
     if cpu.list_len() > 0 {
@@ -101,14 +101,14 @@ pub fn alloc_frame<N: BootName>(
     sizes: Config,
     group: GroupId,
 ) -> Result<Frame, AllocFault>
-    requires visit { Visits N.frames (side machine.old cpu.old) }
+    requires visit { Visits N.frames (visit_state machine.old cpu.old) }
     requires size { IsOfSize N.frames }
     requires sizes { IsValidConfig sizes }
     requires there { IsTrue (has_group machine.old.ledger.groups group) }
     requires settled { IsSettled cpu.old }
     ensures allocates { BySteps N.frames (AllocatesFrame sizes group result)
-        (side machine.old cpu.old) (side machine.new cpu.new) }
-    ensures stays { KeepsVisit N.frames (side machine.old cpu.old) (side machine.new cpu.new) }
+        (visit_state machine.old cpu.old) (visit_state machine.new cpu.new) }
+    ensures stays { KeepsVisit N.frames (visit_state machine.old cpu.old) (visit_state machine.new cpu.new) }
     ensures fresh { MatchResult result (λ f. cpu.new.fresh ≡ f ∷ []) (λ cause. cpu.new.fresh ≡ []) }
     ensures at_most_high { length cpu.old.list + length cpu.old.fresh ≤ sizes.high
         → length cpu.new.list + length cpu.new.fresh ≤ sizes.high }

@@ -126,7 +126,7 @@ module _ (t : KnownTable) (run : Run) (m : KnownMachine) (cpus : List KnownCpu) 
       }))
 
 pub legal_lines_are_decided : LegalLinesAreDecided
-legal_lines_are_decided t run cpus k before steps after_side shows is_part leads legal =
+legal_lines_are_decided t run cpus k before steps after_visit_state shows is_part leads legal =
     let zone = zone_of t in
     let m = before.machine in
     let c = before.cpu in
@@ -140,7 +140,7 @@ legal_lines_are_decided t run cpus k before steps after_side shows is_part leads
     ∙ append_assoc run (cpu_makes p Lock Done ∷ []) (steps ++ cpu_makes p Unlock Done ∷ []) in
     legal_along zone p whole (λ x seat action answer. IsDecided (seen_together cpus p x) seat action answer)
     (λ s seat action answer zoned stays own made. whole_decides t run m cpus k c shows is_part s zoned stays seat action answer own made)
-    lock (local_of t m c) steps (local_of t after_side.machine after_side.cpu) (takes t run m cpus k c shows is_part, start)
+    lock (local_of t m c) steps (local_of t after_visit_state.machine after_visit_state.cpu) (takes t run m cpus k c shows is_part, start)
     (λ r. zone_of_run zone r ∙ sym (zone_of_run zone run)) leads.leads
     (legal_front zone (lock ++ steps) (cpu_makes p Unlock Done ∷ []) (subst (IsLegalRun zone) (sym joined) legal))
 

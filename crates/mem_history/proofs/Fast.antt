@@ -85,12 +85,12 @@ fast_after s hold p (Credit f) answer fast = refl
 fast_after s hold p action answer fast = absurd (false≢true fast)
 
 pub fast_lines_follow : FastLinesFollow
-fast_lines_follow t run cpus k before action answer after_side shows serves =
+fast_lines_follow t run cpus k before action answer after_visit_state shows serves =
     let zone = zone_of t in
     let m = before.machine in
-    let n = after_side.machine in
+    let n = after_visit_state.machine in
     let c = before.cpu in
-    let d = after_side.cpu in
+    let d = after_visit_state.cpu in
     let p = c.number in
     let whole = state_of zone run in
     let held : State = record whole { hold = HeldBy p } in

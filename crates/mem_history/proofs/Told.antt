@@ -118,12 +118,12 @@ module _ (zone : Zone) (p : ℕ) (start : State) (D : State → ℕ → Action �
           (append_assoc run (e ∷ []) (take j steps)) (rest j)
 
 pub lines_tell : LinesTell
-lines_tell t run cpus k before steps after_side shows serves told =
+lines_tell t run cpus k before steps after_visit_state shows serves told =
     let zone = zone_of t in
     let m = before.machine in
-    let n = after_side.machine in
+    let n = after_visit_state.machine in
     let c = before.cpu in
-    let d = after_side.cpu in
+    let d = after_visit_state.cpu in
     let p = c.number in
     let whole = state_of zone run in
     let lock = locked t run m cpus k c shows serves.is_part in
@@ -140,11 +140,11 @@ lines_tell t run cpus k before steps after_side shows serves told =
     let made : Run = lock ++ steps in
     let own = own_all p (local_of t m c) steps (local_of t n d) serves.leads.leads in
     let told_made : TellsRun t made n.ledger =
-    ledgers_tell t lock steps steps before after_side took told_lock serves.leads (record { own = own; follows = mixed }) in
+    ledgers_tell t lock steps steps before after_visit_state took told_lock serves.leads (record { own = own; follows = mixed }) in
     let joined : pushed made (record { seat = p; action = Unlock }) Done ≡ run ++ under_lock p steps =
     append_assoc (run ++ cpu_makes p Lock Done ∷ []) steps (cpu_makes p Unlock Done ∷ [])
     ∙ append_assoc run (cpu_makes p Lock Done ∷ []) (steps ++ cpu_makes p Unlock Done ∷ []) in
-    let all = (lines_follow t run cpus k before steps after_side shows serves).legal in
+    let all = (lines_follow t run cpus k before steps after_visit_state shows serves).legal in
     let done : IsLegalRun zone (pushed made (record { seat = p; action = Unlock }) Done) = subst (IsLegalRun zone) (sym joined) all in
     let shown = made_shows zone lock p (local_of t m c) steps (local_of t n d) took serves.leads.leads mixed own in
     let groups : n.ledger.groups ≡ (state_of zone (pushed made (record { seat = p; action = Unlock }) Done)).groups =
@@ -167,12 +167,12 @@ fast_still (Credit f) answer fast = refl
 fast_still action answer fast = absurd (false≢true fast)
 
 pub fast_lines_tell : FastLinesTell
-fast_lines_tell t run cpus k before action answer after_side shows serves told =
+fast_lines_tell t run cpus k before action answer after_visit_state shows serves told =
     let zone = zone_of t in
     let m = before.machine in
     let p = before.cpu.number in
     let step : Step = record { seat = p; action = action } in
-    let goes = fast_lines_follow t run cpus k before action answer after_side shows serves in
+    let goes = fast_lines_follow t run cpus k before action answer after_visit_state shows serves in
     let seen = serves.leads.leads in
     let groups : m.ledger.groups ≡ (state_of zone (pushed run step answer)).groups =
     ap (λ (l : Ledger). l.groups) (sym (ap (λ x. x.ledger) serves.machine)) ∙ sym (ap (λ (s : State). s.groups) seen.1)

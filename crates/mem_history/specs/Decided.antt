@@ -6,7 +6,7 @@ use Rattle.step_rules.specs.declared.step.Action.{Action}
 use Rattle.step_rules.specs.declared.step.Answer.{Answer}
 use Rattle.step_rules.specs.declared.step.Answer.TheVariants.{Illegal}
 use Rattle.step_rules.specs.After.{Run, IsLegalRun}
-use Rattle.mem_machine.specs.Machines.{KnownMachine, Side, side}
+use Rattle.mem_machine.specs.Machines.{KnownMachine, VisitState, visit_state}
 use Rattle.mem_machine.specs.Local.{Makes}
 use Rattle.mem_machine.specs.Interleaving.{zone_of}
 use Rattle.mem_machine.specs.Steps.{cpu_makes}
@@ -15,8 +15,8 @@ use Rattle.mem_history.specs.Whole.{ShowsAll, AreDecided, under_lock, is_fast}
 -- Suppose a run shows the whole, and continues legally with the steps of a line under the lock. Then each of these
 -- steps was answered as all parts together decide.
 abbrev pub LegalLinesAreDecided : Type 0
-LegalLinesAreDecided = (table : KnownTable) (run : Run) (cpus : List KnownCpu) (index : ℕ) (before : Side) (steps : Run)
-    (after : Side) → ShowsAll table run before.machine cpus → slice_get cpus index ≡ Some before.cpu
+LegalLinesAreDecided = (table : KnownTable) (run : Run) (cpus : List KnownCpu) (index : ℕ) (before : VisitState) (steps : Run)
+    (after : VisitState) → ShowsAll table run before.machine cpus → slice_get cpus index ≡ Some before.cpu
     → Makes table before steps after → IsLegalRun (zone_of table) (run ++ under_lock before.cpu.number steps)
     → AreDecided table cpus before steps
 
@@ -27,4 +27,4 @@ LegalFastStepsAreDecided = (table : KnownTable) (run : Run) (cpus : List KnownCp
     (cpu : KnownCpu) (action : Action) (answer : Answer) → ShowsAll table run machine cpus
     → slice_get cpus index ≡ Some cpu → is_fast action ≡ true → answer ≢ Illegal
     → IsLegalRun (zone_of table) (run ++ cpu_makes cpu.number action answer ∷ [])
-    → AreDecided table cpus (side machine cpu) (cpu_makes cpu.number action answer ∷ [])
+    → AreDecided table cpus (visit_state machine cpu) (cpu_makes cpu.number action answer ∷ [])

@@ -15,7 +15,7 @@ use Rattle.step_rules.specs.Promise.{Shown, Promise}
 use Rattle.mem_machine.specs.declared.frame_state.FrameState.{FrameState}
 use Rattle.mem_machine.specs.declared.frame_state.FrameState.TheVariants.{Free, Lent, Head, Tail}
 use Rattle.mem_machine.specs.FrameStates.{frame_state_at}
-use Rattle.mem_machine.specs.Machines.{KnownMachine, IsConsistent, IsFirst, side}
+use Rattle.mem_machine.specs.Machines.{KnownMachine, IsConsistent, IsFirst, visit_state}
 use Rattle.mem_machine.specs.Local.{part_with}
 use Rattle.mem_machine.specs.Interleaving.{zone_of, Shows}
 use Rattle.mem_machine.specs.Steps.{cpu_makes}
@@ -40,7 +40,7 @@ ABootIsShown = (table : KnownTable) (words : Words) (first : KnownMachine) (cpus
 abbrev pub TheFirstHolderIsShown : Type 0
 TheFirstHolderIsShown = (table : KnownTable) (words : Words) (first : KnownMachine) (cpus : List KnownCpu) (index : ℕ)
     (cpu : KnownCpu) → IsNewBoot table words first cpus → slice_get cpus index ≡ Some cpu
-    → Shows table (cpu_makes cpu.number Lock Done ∷ []) (side first cpu)
+    → Shows table (cpu_makes cpu.number Lock Done ∷ []) (visit_state first cpu)
 
 -- ---- what always holds of the parts
 

@@ -13,7 +13,7 @@ use Rattle.step_rules.specs.declared.step.Action.TheVariants.{Get, Put, Consume,
 use Rattle.step_rules.specs.declared.step.Answer.{Answer}
 use Rattle.step_rules.specs.declared.step.Answer.TheVariants.{Held, Left, Last, Took, Back}
 use Rattle.step_rules.specs.After.{Run}
-use Rattle.mem_machine.specs.Machines.{KnownMachine, side}
+use Rattle.mem_machine.specs.Machines.{KnownMachine, visit_state}
 use Rattle.mem_machine.specs.Local.{Makes}
 use Rattle.mem_machine.specs.Steps.{cpu_makes}
 use Rattle.mem_history.specs.Whole.{ShowsAll, AreDecided}
@@ -37,18 +37,18 @@ pub record FastCallsLead : Type 0 where
   pub held : (table : KnownTable) (words : Words) (run : Run) (machine : KnownMachine) (cpus : List KnownCpu)
       (index : ℕ) (cpu later : KnownCpu) → IsPart table words run machine cpus index cpu → (frame : ℕ)
       → frame < table.frames → length cpu.back + length cpu.pins < most_pins → PinAnswers frame get.Held cpu later
-      → Makes table (side machine cpu) (cpu_makes cpu.number (Get frame) Held ∷ []) (side machine later)
+      → Makes table (visit_state machine cpu) (cpu_makes cpu.number (Get frame) Held ∷ []) (visit_state machine later)
   pub putted : (table : KnownTable) (words : Words) (run : Run) (machine : KnownMachine) (cpus : List KnownCpu)
       (index : ℕ) (cpu later : KnownCpu) → IsPart table words run machine cpus index cpu → (frame : ℕ)
       (answer : Putted) → UnpinAnswers frame answer cpu later
-      → Makes table (side machine cpu) (cpu_makes cpu.number (Put frame) (put_answer answer) ∷ []) (side machine later)
+      → Makes table (visit_state machine cpu) (cpu_makes cpu.number (Put frame) (put_answer answer) ∷ []) (visit_state machine later)
   pub got : (table : KnownTable) (words : Words) (run : Run) (machine : KnownMachine) (cpus : List KnownCpu)
       (index : ℕ) (cpu later : KnownCpu) → IsPart table words run machine cpus index cpu → (group frame : ℕ)
       → FastAnswers group (Got frame) cpu later
-      → AreDecided table cpus (side machine cpu) (cpu_makes cpu.number (Consume group) Took ∷ [])
-      → Makes table (side machine cpu) (cpu_makes cpu.number (Consume group) Took ∷ []) (side machine later)
+      → AreDecided table cpus (visit_state machine cpu) (cpu_makes cpu.number (Consume group) Took ∷ [])
+      → Makes table (visit_state machine cpu) (cpu_makes cpu.number (Consume group) Took ∷ []) (visit_state machine later)
   pub listed : (table : KnownTable) (words : Words) (run : Run) (machine : KnownMachine) (cpus : List KnownCpu)
       (index : ℕ) (cpu later : KnownCpu) → IsPart table words run machine cpus index cpu → (frame : ℕ)
       → 1 ≤ times frame cpu.fresh → DropAnswers frame Listed cpu later
-      → AreDecided table cpus (side machine cpu) (cpu_makes cpu.number (Credit frame) Back ∷ [])
-      → Makes table (side machine cpu) (cpu_makes cpu.number (Credit frame) Back ∷ []) (side machine later)
+      → AreDecided table cpus (visit_state machine cpu) (cpu_makes cpu.number (Credit frame) Back ∷ [])
+      → Makes table (visit_state machine cpu) (cpu_makes cpu.number (Credit frame) Back ∷ []) (visit_state machine later)

@@ -7,7 +7,7 @@ use Rattle.cpu_part.specs.Cpus.{KnownCpu}
 use Rattle.step_rules.specs.declared.step.Action.{Action}
 use Rattle.step_rules.specs.declared.step.Answer.{Answer}
 use Rattle.step_rules.specs.After.{Run}
-use Rattle.mem_machine.specs.Machines.{KnownMachine, Side, IsFirst}
+use Rattle.mem_machine.specs.Machines.{KnownMachine, VisitState, IsFirst}
 use Rattle.mem_machine.specs.Steps.{cpu_makes}
 use Rattle.mem_machine.specs.Telling.{TellsRun}
 use Rattle.mem_history.specs.Whole.{ShowsAll, ServesAt, ServesFast, under_lock}
@@ -20,14 +20,14 @@ ABootTells = (table : KnownTable) (words : Words) (machine : KnownMachine) → I
 -- if a run shows the whole and the ledger has its peaks and counts, then after a line under the lock the ledger has
 -- those of the longer run
 abbrev pub LinesTell : Type 0
-LinesTell = (table : KnownTable) (run : Run) (cpus : List KnownCpu) (index : ℕ) (before : Side) (steps : Run)
-    (after : Side) → ShowsAll table run before.machine cpus → ServesAt table cpus index before steps after
+LinesTell = (table : KnownTable) (run : Run) (cpus : List KnownCpu) (index : ℕ) (before : VisitState) (steps : Run)
+    (after : VisitState) → ShowsAll table run before.machine cpus → ServesAt table cpus index before steps after
     → TellsRun table run before.machine.ledger
     → TellsRun table (run ++ under_lock before.cpu.number steps) after.machine.ledger
 
 -- the same holds for a step that takes no lock
 abbrev pub FastLinesTell : Type 0
-FastLinesTell = (table : KnownTable) (run : Run) (cpus : List KnownCpu) (index : ℕ) (before : Side) (action : Action)
-    (answer : Answer) (after : Side) → ShowsAll table run before.machine cpus
+FastLinesTell = (table : KnownTable) (run : Run) (cpus : List KnownCpu) (index : ℕ) (before : VisitState) (action : Action)
+    (answer : Answer) (after : VisitState) → ShowsAll table run before.machine cpus
     → ServesFast table cpus index before action answer after → TellsRun table run before.machine.ledger
     → TellsRun table (run ++ cpu_makes before.cpu.number action answer ∷ []) after.machine.ledger

@@ -15,7 +15,7 @@ use Rattle.step_rules.specs.Legal.{IsAnswer, IsCounted}
 use Rattle.step_rules.specs.After.{Run, after, state_of, IsLegalRun}
 use Rattle.step_rules.specs.Cover.{hide}
 use Rattle.step_rules.specs.Reaches.{is_own}
-use Rattle.mem_machine.specs.Machines.{KnownMachine, Side, side}
+use Rattle.mem_machine.specs.Machines.{KnownMachine, VisitState, visit_state}
 use Rattle.mem_machine.specs.Local.{local_of, Makes}
 use Rattle.mem_machine.specs.Interleaving.{zone_of, Shows}
 use Rattle.mem_machine.specs.Steps.{cpu_makes}
@@ -45,7 +45,7 @@ pub record ShowsAll (table : KnownTable) (run : Run) (machine : KnownMachine) (c
 abbrev pub TheHolderIsShown : Type 0
 TheHolderIsShown = (table : KnownTable) (run : Run) (machine : KnownMachine) (cpus : List KnownCpu) (index : ℕ)
     (cpu : KnownCpu) → ShowsAll table run machine cpus → slice_get cpus index ≡ Some cpu
-    → Shows table (run ++ cpu_makes cpu.number Lock Done ∷ []) (side machine cpu)
+    → Shows table (run ++ cpu_makes cpu.number Lock Done ∷ []) (visit_state machine cpu)
 
 -- ---- what all parts decide together
 
@@ -80,9 +80,9 @@ IsDecided state seat action answer = IsCounted state action answer
 abbrev pub state_after : State → Run → State
 state_after state steps = fold (λ now made. after now made.0.seat made.0.action made.1) state steps
 
--- These steps of the CPU and the zone's seat begin at this side. Each answer of a Get, Put, Freeze, DrainStock,
+-- These steps of the CPU and the zone's seat begin at this visit state. Each answer of a Get, Put, Freeze, DrainStock,
 -- Consume or Credit is what all parts together decide when the step is made.
-abbrev pub AreDecided : KnownTable → List KnownCpu → Side → Run → Type 0
+abbrev pub AreDecided : KnownTable → List KnownCpu → VisitState → Run → Type 0
 AreDecided table cpus before steps = (index : ℕ) → IfSome (slice_get steps index) (λ made. IsDecided
     (seen_together cpus before.cpu.number
     (state_after (local_of table before.machine before.cpu) (take index steps))) made.0.seat made.0.action made.1)
@@ -96,7 +96,7 @@ under_lock processor steps = cpu_makes processor Lock Done ∷ (steps ++ cpu_mak
 -- the CPU whose part is at this index makes these steps under the lock, answered as all parts decide; afterwards
 -- every visit is shut
 pub record ServesAt (table : KnownTable) (cpus : List KnownCpu) (index : ℕ)
-    (before : Side) (steps : Run) (after : Side) : Type 0 where
+    (before : VisitState) (steps : Run) (after : VisitState) : Type 0 where
   pub is_part : slice_get cpus index ≡ Some before.cpu
   pub leads : Makes table before steps after
   pub decided : AreDecided table cpus before steps
@@ -104,8 +104,8 @@ pub record ServesAt (table : KnownTable) (cpus : List KnownCpu) (index : ℕ)
 
 -- if a run shows the whole, then the run that continues with the line shows the whole after the line
 abbrev pub LinesFollow : Type 0
-LinesFollow = (table : KnownTable) (run : Run) (cpus : List KnownCpu) (index : ℕ) (before : Side) (steps : Run)
-    (after : Side) → ShowsAll table run before.machine cpus → ServesAt table cpus index before steps after
+LinesFollow = (table : KnownTable) (run : Run) (cpus : List KnownCpu) (index : ℕ) (before : VisitState) (steps : Run)
+    (after : VisitState) → ShowsAll table run before.machine cpus → ServesAt table cpus index before steps after
     → ShowsAll table (run ++ under_lock before.cpu.number steps) after.machine (slice_set cpus index after.cpu)
 
 -- ---- a call that takes no lock
@@ -121,7 +121,7 @@ is_fast _ = false
 -- the CPU whose part is at this index makes one such step, answered as all parts decide; what lies behind the lock
 -- stays
 pub record ServesFast (table : KnownTable) (cpus : List KnownCpu) (index : ℕ)
-    (before : Side) (action : Action) (answer : Answer) (after : Side) : Type 0 where
+    (before : VisitState) (action : Action) (answer : Answer) (after : VisitState) : Type 0 where
   pub is_part : slice_get cpus index ≡ Some before.cpu
   pub number : after.cpu.number ≡ before.cpu.number
   pub fast : is_fast action ≡ true
@@ -131,8 +131,8 @@ pub record ServesFast (table : KnownTable) (cpus : List KnownCpu) (index : ℕ)
 
 -- if a run shows the whole, then the run that continues with that step shows the whole after the step
 abbrev pub FastLinesFollow : Type 0
-FastLinesFollow = (table : KnownTable) (run : Run) (cpus : List KnownCpu) (index : ℕ) (before : Side) (action : Action)
-    (answer : Answer) (after : Side) → ShowsAll table run before.machine cpus
+FastLinesFollow = (table : KnownTable) (run : Run) (cpus : List KnownCpu) (index : ℕ) (before : VisitState) (action : Action)
+    (answer : Answer) (after : VisitState) → ShowsAll table run before.machine cpus
     → ServesFast table cpus index before action answer after
     → ShowsAll table (run ++ cpu_makes before.cpu.number action answer ∷ []) after.machine
     (slice_set cpus index after.cpu)

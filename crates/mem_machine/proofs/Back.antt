@@ -25,7 +25,7 @@ use Rattle.mem_machine.specs.declared.frame_state.FrameState.TheVariants.{Free, 
 use Rattle.mem_machine.specs.declared.counts.Counts.{Counts}
 use Rattle.mem_machine.specs.FrameStates.{frame_state_at, free_of, head_group_of, some_cpu}
 use Rattle.mem_machine.specs.Machines.{KnownMachine, FitsFrameState, IsConsistent, BalancesCounts, Visits, home_of}
-use Rattle.mem_machine.specs.Local.{IsLocalRun, local_of, side, MakesAs}
+use Rattle.mem_machine.specs.Local.{IsLocalRun, local_of, visit_state, MakesAs}
 use Rattle.mem_machine.specs.Freeing.{FreesFrames}
 use Rattle.mem_machine.specs.Settling.{ReturnsBack, return_steps}
 use Rattle.mem_machine.specs.Counts.{with_last_put}
@@ -72,14 +72,14 @@ pub back_inside : (t : KnownTable) (w : Words) (m : KnownMachine) → IsConsiste
 back_inside t w m ok i unit heads = (ok.units.heads i unit heads).block.inside
 
 -- and passes once it was handed
-pub back_passes : (t : KnownTable) (w : Words) (m now : KnownMachine) → m ≡ now → (c h : KnownCpu) → IsTied t w c → Visits t (side now c)
+pub back_passes : (t : KnownTable) (w : Words) (m now : KnownMachine) → m ≡ now → (c h : KnownCpu) → IsTied t w c → Visits t (visit_state now c)
     → (f : ℕ) (seat : KnownSeat) → f < t.frames → HandsBack f c h → seat ≡ m.frame_seat → Passes seat h.frame_seat f
 back_passes t w m now same c h tied visit f seat inside hands is =
     subst (λ (s : KnownSeat). Passes s h.frame_seat f) (sym is)
     (handed_passes t m.frame_seat c.frame_seat c.number tied.seats.frame_number f (subst (λ (x : KnownMachine). NothingPasses t x.frame_seat c.frame_seat)
     (sym same) visit.still) h.frame_seat (ap (λ (x : KnownCpu). x.frame_seat) hands.2) inside)
 
-module _ (t : KnownTable) (w : Words) (m : KnownMachine) (c : KnownCpu) (tied : IsTied t w c) (ok : IsConsistent t w m) (visit : Visits t (side m c))
+module _ (t : KnownTable) (w : Words) (m : KnownMachine) (c : KnownCpu) (tied : IsTied t w c) (ok : IsConsistent t w m) (visit : Visits t (visit_state m c))
     (f : ℕ) (was : WasBack t m f) (unit : ChargedUnit) (heads : frame_state_at m.frame_states f ≡ Head unit) (rest : List ℕ) (front : c.back ≡ f ∷ rest)
     (new : List FrameState) (frees : FreesFrames f (2 ^ unit.order) m.frame_states new) (blocks : List Block) (areas : AreMaximalBlocks (free_of new) blocks)
     (counts : Counts) (counted : counts ≡ with_last_put m.counts) where
@@ -141,10 +141,10 @@ module _ (t : KnownTable) (w : Words) (m : KnownMachine) (c : KnownCpu) (tied : 
   returned_counts = counted
       ∙ comes_back s f (phase.Head unit (BackAt c.number)) (back_phase c f (frame_state_at m.frame_states f) unit heads at.once) true false refl refl m.counts
 
-  pub returned_visits : Visits t (side returned d)
+  pub returned_visits : Visits t (visit_state returned d)
   returned_visits = handed_visits t w m c tied visit f (collected_from c.number) (λ k. refl) returned d refl refl refl
 
-  pub returned_does : ReturnsBack f (side m c) (side returned d)
+  pub returned_does : ReturnsBack f (visit_state m c) (visit_state returned d)
   returned_does = record {
     unit = unit;
     heads = heads;
@@ -161,11 +161,11 @@ pub record AllReturned (t : KnownTable) (w : Words) (now : KnownMachine) (c : Kn
     : Type 0 where
   pub consistent : IsConsistent t w n
   pub free_is : free ≡ free_of n.frame_states
-  pub returns : ReturnsBack f (side now c) (side n d)
-  pub visit : Visits t (side n d)
-  pub steps : MakesAs t c.number (side now c) (return_steps c.number f) (side n d)
+  pub returns : ReturnsBack f (visit_state now c) (visit_state n d)
+  pub visit : Visits t (visit_state n d)
+  pub steps : MakesAs t c.number (visit_state now c) (return_steps c.number f) (visit_state n d)
 
-pub return_all : (t : KnownTable) (w : Words) (m now : KnownMachine) → m ≡ now → (c h d : KnownCpu) → IsTied t w c → IsConsistent t w m → Visits t (side now c)
+pub return_all : (t : KnownTable) (w : Words) (m now : KnownMachine) → m ≡ now → (c h d : KnownCpu) → IsTied t w c → IsConsistent t w m → Visits t (visit_state now c)
     → (before free : List Bool) → before ≡ free_of m.frame_states → (f : ℕ) → WasBack t m f → HandsBack f c h → d ≡ h → (i : ℕ) → i ≡ f
     → (unit : ChargedUnit) → frame_state_at m.frame_states i ≡ Head unit
     → (seat : KnownSeat) → seat ≡ seat_with m.frame_seat f (collected_from h.number)
@@ -175,7 +175,7 @@ pub return_all : (t : KnownTable) (w : Words) (m now : KnownMachine) → m ≡ n
     → AllReturned t w now c f (record m { blocks = blocks; frame_states = frame_states; ledger = ledger; frame_seat = seat; counts = counts }) d free
 return_all t w m now same c h d tied ok visit_now before free free_was f was hands stays i index unit heads_i seat collects frame_states frees_i blocks gives_i areas_i
     ledger uncharges counts counted =
-    let visit : Visits t (side m c) = subst (λ (x : KnownMachine). Visits t (side x c)) (sym same) visit_now in
+    let visit : Visits t (visit_state m c) = subst (λ (x : KnownMachine). Visits t (visit_state x c)) (sym same) visit_now in
     let rest = hands.0 in
     let front : c.back ≡ f ∷ rest = hands.1 in
     let heads : frame_state_at m.frame_states f ≡ Head unit = ap (frame_state_at m.frame_states) (sym index) ∙ heads_i in

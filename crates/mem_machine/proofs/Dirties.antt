@@ -16,7 +16,7 @@ use Rattle.cpu_part.specs.Cpus.{KnownCpu}
 use Rattle.mem_machine.specs.FrameStates.{frame_state_at, head_group_of}
 use Rattle.mem_machine.specs.Machines.{KnownMachine, IsConsistent, OthersStay, home_of, lists_at, no_lists, group_lists, lists_of}
 use Rattle.mem_machine.specs.Marks.{Dirties}
-use Rattle.mem_machine.specs.Local.{MakesAs, side}
+use Rattle.mem_machine.specs.Local.{MakesAs, visit_state}
 use Rattle.mem_machine.proofs.Listed.{dirtied_owners, fits_home, place_here, loose_stay, others_stay}
 use Rattle.mem_machine.proofs.Followed.{makes_stay}
 
@@ -94,7 +94,7 @@ has_home m now same f i is kept none =
 pub record AllDirtied (t : KnownTable) (w : Words) (now : KnownMachine) (f : ℕ) (d : Bool) (n : KnownMachine) : Type 0 where
   pub consistent : IsConsistent t w n
   pub dirties : Dirties f d now n
-  pub steps : (c : KnownCpu) → MakesAs t c.number (side now c) [] (side n c)
+  pub steps : (c : KnownCpu) → MakesAs t c.number (visit_state now c) [] (visit_state n c)
 
 pub dirty_all : (t : KnownTable) (w : Words) (m now : KnownMachine) → m ≡ now → IsConsistent t w m → (f i : ℕ) → f < t.frames → i ≡ f → (h : Home)
     → Some h ≡ home_of m.links i → (lru : Lru) → lru ≡ get_or m.lists h.owner lru → (links : List Link) (d : Bool) → StandsIn links lru

@@ -26,7 +26,7 @@ use Rattle.step_rules.proofs.Basics.{at_same, at_other, at_each, at_itself, cond
 use Rattle.step_rules.proofs.Sums.{sum_part, sum_change}
 use Rattle.mem_machine.specs.FrameStates.{count_of}
 use Rattle.mem_machine.specs.Machines.{KnownMachine, IsConsistent, booked, frames_charged, pages_booked}
-use Rattle.mem_machine.specs.Local.{local_of, part_of, part_with, IsLocalRun, MakesAs, side}
+use Rattle.mem_machine.specs.Local.{local_of, part_of, part_with, IsLocalRun, MakesAs, visit_state}
 use Rattle.mem_machine.specs.Steps.{ungrant_steps, drain_steps}
 use Rattle.mem_machine.specs.Stocks.{uncharged, stock_group, steps_to_drain, with_look, Drains, DrainsBy}
 use Rattle.mem_machine.proofs.Reaching.{zone_step, run_one}
@@ -294,7 +294,7 @@ drain_follows s l (Some g) q (suc k) = follows_still s l (drain_steps q (Some g)
 pub drain_runs : (t : KnownTable) (m n : KnownMachine) (steps q k : ℕ)
     → n ≡ record m { ledger = uncharged m.ledger (stock_group m q) k; stock_seat = with_view m.stock_seat (with_steps steps (draining m.stock_seat.view q k)) }
     → 1 ≤ q → q ≤ t.cpus → ((g : ℕ) → stock_group m q ≡ Some g → 1 ≤ k → has_group m.ledger.groups g ≡ true) → (c : KnownCpu)
-    → MakesAs t c.number (side m c) (drain_steps q (stock_group m q) k) (side n c)
+    → MakesAs t c.number (visit_state m c) (drain_steps q (stock_group m q) k) (visit_state n c)
 drain_runs t m n steps q k is some inside there c =
     let s = local_of t m c in
     let part = drained (part_of m.stock_seat c q) k in
@@ -305,7 +305,7 @@ drain_runs t m n steps q k is some inside there c =
     = ungrants c.number (with_part s q part) (part_of m.stock_seat c q).stock.group k acts (λ g of. there g (sym group ∙ of)) in
     let parts = parts_drained m.stock_seat c q k in
     let groups = groups_stay m.ledger (stock_group m q) k in
-    subst (λ (x : KnownMachine). MakesAs t c.number (side m c) (drain_steps q (stock_group m q) k) (side x c)) (sym is) (record {
+    subst (λ (x : KnownMachine). MakesAs t c.number (visit_state m c) (drain_steps q (stock_group m q) k) (visit_state x c)) (sym is) (record {
       leads = subst (λ (x : State × Option ℕ). IsLocalRun c.number s (drain_steps q x.1 k) x.0)
           (λ i. (record s { groups = sym groups i; parts = sym parts i }, group i)) (
             zone_step s c.number (DrainStock q) (Pages k) refl
@@ -320,8 +320,8 @@ drain_runs t m n steps q k is some inside there c =
 pub record Drained (t : KnownTable) (w : Words) (m now : KnownMachine) (count q k : ℕ) (l : Ledger) (stock : Seated) : Type 0 where
   pub consistent : IsConsistent t w (record m { ledger = l; stock_seat = stock })
   pub drains : DrainsBy count q k now (record m { ledger = l; stock_seat = stock })
-  pub steps : (c : KnownCpu) → MakesAs t c.number (side now c) (drain_steps q (stock_group now q) k)
-      (side (record m { ledger = l; stock_seat = stock }) c)
+  pub steps : (c : KnownCpu) → MakesAs t c.number (visit_state now c) (drain_steps q (stock_group now q) k)
+      (visit_state (record m { ledger = l; stock_seat = stock }) c)
 
 drained_here : (t : KnownTable) (w : Words) (m : KnownMachine) (steps q k : ℕ) → IsConsistent t w m → (1 ≤ k → AreCharges m.ledger) → 1 ≤ q → q ≤ t.cpus
     → k ≤ (account_of m.stock_seat.view q).book → ((account_of m.stock_seat.view q).filled ≡ false → k ≡ 0) → (stock_group m q ≡ None → k ≡ 0)
@@ -415,9 +415,9 @@ module _ (m now : KnownMachine) (same : m ≡ now) (stock : Seated) (is : stock 
       (subst (λ (x : KnownMachine). DrainsBy 2 q k x n) (looked_now m now same stock is) drains)
 
   pub runs_looked : (t : KnownTable)
-      → ((c : KnownCpu) → MakesAs t c.number (side (record m { stock_seat = stock }) c) (drain_steps q (stock_group (record m { stock_seat = stock }) q) k) (side n c))
-      → (c : KnownCpu) → MakesAs t c.number (side now c) (drain_steps q (stock_group now q) k) (side n c)
+      → ((c : KnownCpu) → MakesAs t c.number (visit_state (record m { stock_seat = stock }) c) (drain_steps q (stock_group (record m { stock_seat = stock }) q) k) (visit_state n c))
+      → (c : KnownCpu) → MakesAs t c.number (visit_state now c) (drain_steps q (stock_group now q) k) (visit_state n c)
   runs_looked t runs c =
-      let here : MakesAs t c.number (side (with_look now) c) (drain_steps q (stock_group (with_look now) q) k) (side n c) =
-      subst (λ (x : KnownMachine). MakesAs t c.number (side x c) (drain_steps q (stock_group x q) k) (side n c)) (looked_now m now same stock is) (runs c) in
+      let here : MakesAs t c.number (visit_state (with_look now) c) (drain_steps q (stock_group (with_look now) q) k) (visit_state n c) =
+      subst (λ (x : KnownMachine). MakesAs t c.number (visit_state x c) (drain_steps q (stock_group x q) k) (visit_state n c)) (looked_now m now same stock is) (runs c) in
       record { leads = here.leads; follows = here.follows; counts = here.counts }

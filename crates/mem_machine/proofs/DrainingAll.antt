@@ -23,7 +23,7 @@ use Rattle.kill_notes.specs.Notes.{noted as added}
 use Rattle.mem_machine.specs.Machines.{KnownMachine}
 use Rattle.step_rules.specs.State.{Part}
 use Rattle.step_rules.specs.After.{Run}
-use Rattle.mem_machine.specs.Local.{local_of, part_with, MakesAs, side}
+use Rattle.mem_machine.specs.Local.{local_of, part_with, MakesAs, visit_state}
 use Rattle.mem_machine.specs.Steps.{Drain, drain_steps, drain_stocks_steps, pages_drained}
 use Rattle.mem_machine.specs.Stocks.{stock_group, steps_to_drain, with_look, DrainsBy, DrainsNoted, DrainsIf, DrainsAllIf, DrainsBySteps, AreDrainedIf}
 use Rattle.mem_machine.proofs.Draining.{drained_at, drained_else, drained_looked, groups_stay, runs_looked}
@@ -67,19 +67,19 @@ module _ (test : List Group → Option ℕ → Bool) (q : ℕ) (x n : KnownMachi
 -- it is of the subtree, and is drained
 pub drained_one : (t : KnownTable) (test : List Group → Option ℕ → Bool) (q pages : ℕ) (m n : KnownMachine) → test m.ledger.groups (stock_group m q) ≡ true
     → DrainsNoted (steps_to_drain (stock_group m q)) q pages m n
-    → ((c : KnownCpu) → MakesAs t c.number (side m c) (drain_steps q (stock_group m q) pages) (side n c)) → DrainsBySteps t (DrainsIf test q) pages m n
+    → ((c : KnownCpu) → MakesAs t c.number (visit_state m c) (drain_steps q (stock_group m q) pages) (visit_state n c)) → DrainsBySteps t (DrainsIf test q) pages m n
 drained_one t test q pages m n below drains steps = record {
   drains = record { cpu = q; group = stock_group m q; pages = pages } ∷ [];
   all = (below, record { cpu = refl; group = refl; drains = drains });
   sum = omega arith;
-  steps = λ c. subst (λ (r : Run). MakesAs t c.number (side m c) r (side n c))
+  steps = λ c. subst (λ (r : Run). MakesAs t c.number (visit_state m c) r (visit_state n c))
       (sym (append-nil (drain_steps q (stock_group m q) pages))) (steps c);
 }
 
 -- it is of another group, or of none
 pub drained_not : (t : KnownTable) (test : List Group → Option ℕ → Bool) (q : ℕ) (m n : KnownMachine) → test m.ledger.groups (stock_group m q) ≡ false
     → n ≡ record m { stock_seat = with_view m.stock_seat (with_steps 1 (after_look m.stock_seat.view q (stock_group m q))) }
-    → ((c : KnownCpu) → MakesAs t c.number (side m c) [] (side n c)) → DrainsBySteps t (DrainsIf test q) 0 m n
+    → ((c : KnownCpu) → MakesAs t c.number (visit_state m c) [] (visit_state n c)) → DrainsBySteps t (DrainsIf test q) 0 m n
 drained_not t test q m n other is steps = record { drains = []; all = (other, is); sum = refl; steps = steps }
 
 -- a part whose stock is of no group shows the same once that counts as drained
@@ -116,7 +116,7 @@ module _ (t : KnownTable) (m : KnownMachine) (q : ℕ) (none : stock_group m q �
   ]
 
   -- the look at a stock of no group changes nothing that is seen
-  pub looked_none : MakesAs t c.number (side m c) [] (side (record m { stock_seat = with_view m.stock_seat (with_steps 1 (draining m.stock_seat.view q 0)) }) c)
+  pub looked_none : MakesAs t c.number (visit_state m c) [] (visit_state (record m { stock_seat = with_view m.stock_seat (with_steps 1 (draining m.stock_seat.view q 0)) }) c)
   looked_none = makes_stay t m (record m { stock_seat = with_view m.stock_seat (with_steps 1 (draining m.stock_seat.view q 0)) }) c c
       (λ i. record (local_of t m c) { parts = λ p. sym (shown_same p) i }) refl refl
 
@@ -124,8 +124,8 @@ module _ (t : KnownTable) (m : KnownMachine) (q : ℕ) (none : stock_group m q �
 pub looked_own : (t : KnownTable) (m now : KnownMachine) → m ≡ now → (stock : Seated) → stock ≡ with_view m.stock_seat (with_steps 1 m.stock_seat.view)
     → (test : List Group → Option ℕ → Bool)
     → (q h pages : ℕ) (n : KnownMachine) → Some h ≡ stock_group m q → test m.ledger.groups (Some h) ≡ true → DrainsNoted 2 q pages (record m { stock_seat = stock }) n
-    → ((c : KnownCpu) → MakesAs t c.number (side (record m { stock_seat = stock }) c) (drain_steps q (stock_group (record m { stock_seat = stock }) q) pages)
-    (side n c)) → DrainsBySteps t (DrainsIf test q) pages now n
+    → ((c : KnownCpu) → MakesAs t c.number (visit_state (record m { stock_seat = stock }) c) (drain_steps q (stock_group (record m { stock_seat = stock }) q) pages)
+    (visit_state n c)) → DrainsBySteps t (DrainsIf test q) pages now n
 looked_own t m now same stock is test q h pages n of chosen noted steps =
     let its : Some h ≡ stock_group now q = of ∙ ap (λ (x : KnownMachine). stock_group x q) same in
     drained_one t test q pages now n
@@ -168,7 +168,7 @@ pub record DrainedSoFar (t : KnownTable) (test : List Group → Option ℕ → B
   pub sum : pages ≡ pages_drained drains
   pub groups : n.ledger.groups ≡ m.ledger.groups
   pub drained : AreDrainedIf test k n
-  pub steps : (c : KnownCpu) → MakesAs t c.number (side m c) (drain_stocks_steps drains) (side n c)
+  pub steps : (c : KnownCpu) → MakesAs t c.number (visit_state m c) (drain_stocks_steps drains) (visit_state n c)
   pub small : pages ≤ k * 4294967295
 
 pub drained_start : (t : KnownTable) (test : List Group → Option ℕ → Bool) (m : KnownMachine) → DrainedSoFar t test 0 0 m m
@@ -178,7 +178,7 @@ drained_start t test m = record {
   sum = refl;
   groups = refl;
   drained = λ q some few. absurd (omega (arith, some, few));
-  steps = λ c. makes_none t c.number (side m c);
+  steps = λ c. makes_none t c.number (visit_state m c);
   small = omega arith;
 }
 
@@ -220,8 +220,8 @@ drained_more t test k pages more m x n before last bound =
       sum = omega (arith, both, a, b);
       groups = below_groups test (k + 1) x n last.drains last.all ∙ before.groups;
       drained = drained_now test k x n last.drains last.all before.drained;
-      steps = λ c. subst (λ (r : Run). MakesAs t c.number (side m c) r (side n c)) list
-          (makes_both t c.number (drain_stocks_steps before.drains) (drain_stocks_steps last.drains) (side m c) (side x c) (side n c)
+      steps = λ c. subst (λ (r : Run). MakesAs t c.number (visit_state m c) r (visit_state n c)) list
+          (makes_both t c.number (drain_stocks_steps before.drains) (drain_stocks_steps last.drains) (visit_state m c) (visit_state x c) (visit_state n c)
           (before.steps c) (last.steps c));
       small = omega (arith, low, bound);
     }

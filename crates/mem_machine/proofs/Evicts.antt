@@ -25,7 +25,7 @@ use Rattle.mem_machine.specs.declared.frame_state.FrameState.{FrameState}
 use Rattle.mem_machine.specs.declared.frame_state.FrameState.TheVariants.{Head}
 use Rattle.mem_machine.specs.FrameStates.{frame_state_at, free_of, head_group_of, some_cpu}
 use Rattle.mem_machine.specs.Machines.{KnownMachine, FitsFrameState, IsConsistent, Visits, home_of, group_lists, lists_of}
-use Rattle.mem_machine.specs.Local.{MakesForAny, local_of, references_of, side}
+use Rattle.mem_machine.specs.Local.{MakesForAny, local_of, references_of, visit_state}
 use Rattle.mem_machine.specs.Freeing.{FreesFrames}
 use Rattle.mem_machine.specs.Counts.{with_freeze, with_miss}
 use Rattle.mem_machine.specs.Counting.{with_one_frozen}
@@ -60,7 +60,7 @@ references_stay seat c f word q x =
 pub record AllMissed (t : KnownTable) (w : Words) (now : KnownMachine) (f : ℕ) (n : KnownMachine) : Type 0 where
   pub consistent : IsConsistent t w n
   pub misses : MissesUnit f now n
-  pub visit : (c : KnownCpu) → Visits t (side now c) → Visits t (side n c)
+  pub visit : (c : KnownCpu) → Visits t (visit_state now c) → Visits t (visit_state n c)
   pub steps : MakesForAny t now (evict_steps f None) n
 
 missed_fits : (t : KnownTable) (w : Words) (m : KnownMachine) → IsConsistent t w m → (f word g : ℕ) → g < t.frames
@@ -128,7 +128,7 @@ pub record AllEvicted (t : KnownTable) (w : Words) (now : KnownMachine) (f pages
   pub consistent : IsConsistent t w n
   pub free_is : free ≡ free_of n.frame_states
   pub evicts : EvictsUnit f pages now n
-  pub visit : (c : KnownCpu) → Visits t (side now c) → Visits t (side n c)
+  pub visit : (c : KnownCpu) → Visits t (visit_state now c) → Visits t (visit_state n c)
   pub steps : MakesForAny t now (evict_steps f (Some pages)) n
 
 pub evicted_all : (t : KnownTable) (w : Words) (m now : KnownMachine) → m ≡ now → IsConsistent t w m → (f i : ℕ)

@@ -29,7 +29,7 @@ use Rattle.mem_machine.specs.Following.{Moves, moved_over, moves_peak, moves_cou
 use Rattle.mem_machine.specs.declared.counts.Counts.{Counts}
 use Rattle.mem_machine.specs.Counting.{counts_after, counts_over}
 use Rattle.mem_machine.specs.Machines.{KnownMachine}
-use Rattle.mem_machine.specs.Local.{Side, side, local_of, IsLocalRun, MakesAs}
+use Rattle.mem_machine.specs.Local.{VisitState, visit_state, local_of, IsLocalRun, MakesAs}
 use Rattle.mem_machine.proofs.Reaching.{run_both}
 
 -- ---- one list after another
@@ -111,7 +111,7 @@ counts_both p a (e ∷ rest) two b x run =
     counts_both p (after a e.0.seat e.0.action e.1) rest two b (counts_after a e.0.seat e.0.action e.1 x) run.1
 
 -- one list after another
-pub makes_both : (t : KnownTable) (p : ℕ) (one two : Run) (a b c : Side) → MakesAs t p a one b → MakesAs t p b two c → MakesAs t p a (one ++ two) c
+pub makes_both : (t : KnownTable) (p : ℕ) (one two : Run) (a b c : VisitState) → MakesAs t p a one b → MakesAs t p b two c → MakesAs t p a (one ++ two) c
 makes_both t p one two a b c first second =
     let s = local_of t a.machine a.cpu in
     let u = local_of t b.machine b.cpu in
@@ -209,12 +209,12 @@ follows_same s l steps still = follows_still s l steps l still (λ m. refl) (sam
 
 -- ---- no step
 
-pub makes_none : (t : KnownTable) (p : ℕ) (a : Side) → MakesAs t p a [] a
+pub makes_none : (t : KnownTable) (p : ℕ) (a : VisitState) → MakesAs t p a [] a
 makes_none t p a = record { leads = refl; follows = follows_same _ _ _ refl; counts = refl }
 
 -- what is seen stays, and the ledger and the counts
 pub makes_stay : (t : KnownTable) (m n : KnownMachine) (c d : KnownCpu) → local_of t m c ≡ local_of t n d → n.ledger ≡ m.ledger
-    → n.counts ≡ m.counts → MakesAs t c.number (side m c) [] (side n d)
+    → n.counts ≡ m.counts → MakesAs t c.number (visit_state m c) [] (visit_state n d)
 makes_stay t m n c d seen same counted = record {
   leads = seen;
   counts = counted;

@@ -30,7 +30,7 @@ use Rattle.mem_machine.specs.declared.frame_state.FrameState.TheVariants.{Free, 
 use Rattle.mem_machine.specs.declared.counts.Counts.{Counts}
 use Rattle.mem_machine.specs.FrameStates.{frame_state_at, is_free, free_of, frame_state_group, head_group_of, some_cpu}
 use Rattle.mem_machine.specs.Machines.{KnownMachine, FitsFrameState, IsConsistent, BalancesCounts, Visits, home_of, is_killed, pages_booked}
-use Rattle.mem_machine.specs.Local.{IsLocalRun, local_of, fresh_group, number_or_0, side, MakesAs}
+use Rattle.mem_machine.specs.Local.{IsLocalRun, local_of, fresh_group, number_or_0, visit_state, MakesAs}
 use Rattle.mem_machine.specs.Steps.{zone_makes}
 use Rattle.mem_machine.specs.Blocks.{PlacesUnit}
 use Rattle.mem_machine.specs.Counts.{with_drop}
@@ -102,7 +102,7 @@ frees_one frame_states new f k zero_is inside frees =
           ∙ sym (get_or-set_other frame_states f g Free Free ne)
     ])
 
-module _ (t : KnownTable) (w : Words) (m : KnownMachine) (c : KnownCpu) (tied : IsTied t w c) (ok : IsConsistent t w m) (visit : Visits t (side m c))
+module _ (t : KnownTable) (w : Words) (m : KnownMachine) (c : KnownCpu) (tied : IsTied t w c) (ok : IsConsistent t w m) (visit : Visits t (visit_state m c))
     (f g : ℕ) (was : WasFresh t m c f g) (rest : List ℕ) (front : c.fresh ≡ f ∷ rest) where
   within : f < length m.frame_states
   within = let s = ok.sizes.frame_states in let a = was.inside in omega (arith, s, a)
@@ -180,10 +180,10 @@ module _ (t : KnownTable) (w : Words) (m : KnownMachine) (c : KnownCpu) (tied : 
         (keep_run s c.number f (fresh_unit c) _ v (own_part m c) (local_of t kept d)
         (λ i. record s { phases = λ x. sym (ph x) i; references = λ q x. sym (re q x) i; parts = λ q. sym (pa q) i }))
 
-    kept_visits : Visits t (side kept d)
+    kept_visits : Visits t (visit_state kept d)
     kept_visits = handed_visits t w m c tied visit f used (λ k. refl) kept d refl refl refl
 
-    kept_does : KeepsFresh g f (side m c) (side kept d)
+    kept_does : KeepsFresh g f (visit_state m c) (visit_state kept d)
     kept_does = record { listed = joined.joins; machine = refl; cpu = record { front = front; cpu = refl } }
 
   -- ---- dropped
@@ -264,10 +264,10 @@ module _ (t : KnownTable) (w : Words) (m : KnownMachine) (c : KnownCpu) (tied : 
     dropped_counts killed = counted ∙ comes_back s f (phase.Head (fresh_unit c) (FreshAt c.number)) fresh_now false true refl
         (ap (is_killed m.killed) was.named ∙ killed) m.counts
 
-    dropped_visits : Visits t (side dropped d)
+    dropped_visits : Visits t (visit_state dropped d)
     dropped_visits = handed_visits t w m c tied visit f (collected_from c.number) (λ k. refl) dropped d refl refl refl
 
-    dropped_does : DropsFresh g f (side m c) (side dropped d)
+    dropped_does : DropsFresh g f (visit_state m c) (visit_state dropped d)
     dropped_does = record { frees = frees; areas = areas; machine = λ i. record dropped { counts = counted i }; cpu = record { front = front; cpu = refl } }
 
 -- ---- all of it, of the machine as it was seen before
@@ -276,11 +276,11 @@ pub record AllKept (t : KnownTable) (w : Words) (now : KnownMachine) (c : KnownC
     : Type 0 where
   pub consistent : IsConsistent t w n
   pub free_is : free ≡ free_of n.frame_states
-  pub keeps : KeepsFresh g f (side now c) (side n d)
-  pub visit : Visits t (side n d)
-  pub steps : MakesAs t c.number (side now c) (keep_steps c.number f) (side n d)
+  pub keeps : KeepsFresh g f (visit_state now c) (visit_state n d)
+  pub visit : Visits t (visit_state n d)
+  pub steps : MakesAs t c.number (visit_state now c) (keep_steps c.number f) (visit_state n d)
 
-pub keep_all : (t : KnownTable) (w : Words) (m now : KnownMachine) → m ≡ now → (c h : KnownCpu) → IsTied t w c → IsConsistent t w m → Visits t (side now c)
+pub keep_all : (t : KnownTable) (w : Words) (m now : KnownMachine) → m ≡ now → (c h : KnownCpu) → IsTied t w c → IsConsistent t w m → Visits t (visit_state now c)
     → (free : List Bool) → free ≡ free_of m.frame_states → (f g : ℕ) → WasFresh t m c f g → HandsFresh f c h → (i k : ℕ) → i ≡ f → k ≡ 0
     → (mid seat : KnownSeat) → mid ≡ seat_with m.frame_seat f (collected_from c.number) → seat ≡ seat_with mid f (unfrozen 1)
     → (stock : Seated) → stock ≡ with_page_absorbed m.stock_seat c.number
@@ -294,7 +294,7 @@ pub keep_all : (t : KnownTable) (w : Words) (m now : KnownMachine) → m ≡ now
     }) h free
 keep_all t w m now same c h tied ok visit_now free free_is f g was hands i k index zero_is mid seat collects unfreezes stock absorbs links
     lists joined_i =
-    let visit : Visits t (side m c) = subst (λ (x : KnownMachine). Visits t (side x c)) (sym same) visit_now in
+    let visit : Visits t (visit_state m c) = subst (λ (x : KnownMachine). Visits t (visit_state x c)) (sym same) visit_now in
     let rest = hands.0 in
     let front : c.fresh ≡ f ∷ rest = hands.1 in
     let joined : AllJoin m.links m.lists g f links lists = subst (λ (j : ℕ). AllJoin m.links m.lists g j links lists) index joined_i in
@@ -330,11 +330,11 @@ pub record AllDropped (t : KnownTable) (w : Words) (now : KnownMachine) (c : Kno
     : Type 0 where
   pub consistent : IsConsistent t w n
   pub free_is : free ≡ free_of n.frame_states
-  pub drops : DropsFresh g f (side now c) (side n d)
-  pub visit : Visits t (side n d)
-  pub steps : MakesAs t c.number (side now c) (drop_steps c.number f) (side n d)
+  pub drops : DropsFresh g f (visit_state now c) (visit_state n d)
+  pub visit : Visits t (visit_state n d)
+  pub steps : MakesAs t c.number (visit_state now c) (drop_steps c.number f) (visit_state n d)
 
-pub drop_all : (t : KnownTable) (w : Words) (m now : KnownMachine) → m ≡ now → (c h : KnownCpu) → IsTied t w c → IsConsistent t w m → Visits t (side now c)
+pub drop_all : (t : KnownTable) (w : Words) (m now : KnownMachine) → m ≡ now → (c h : KnownCpu) → IsTied t w c → IsConsistent t w m → Visits t (visit_state now c)
     → (before free : List Bool) → before ≡ free_of m.frame_states → (f g : ℕ) → WasFresh t m c f g → is_killed now.killed g ≡ true → HandsFresh f c h
     → (i k : ℕ) → i ≡ f → k ≡ 0
     → (seat : KnownSeat) → seat ≡ seat_with m.frame_seat f (collected_from c.number)
@@ -344,7 +344,7 @@ pub drop_all : (t : KnownTable) (w : Words) (m now : KnownMachine) → m ≡ now
     → AllDropped t w now c g f (record m { blocks = blocks; frame_states = frame_states; ledger = ledger; frame_seat = seat; stock_seat = stock; counts = counts }) h free
 drop_all t w m now same c h tied ok visit_now before free free_was f g was killed_now hands i k index zero_is seat collects stock absorbs frame_states frees_i blocks
     gives_i areas_i ledger uncharges counts counted =
-    let visit : Visits t (side m c) = subst (λ (x : KnownMachine). Visits t (side x c)) (sym same) visit_now in
+    let visit : Visits t (visit_state m c) = subst (λ (x : KnownMachine). Visits t (visit_state x c)) (sym same) visit_now in
     let killed : is_killed m.killed g ≡ true = ap (λ (x : KnownMachine). is_killed x.killed g) same ∙ killed_now in
     let rest = hands.0 in
     let front : c.fresh ≡ f ∷ rest = hands.1 in

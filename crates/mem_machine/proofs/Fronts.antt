@@ -23,9 +23,9 @@ use Rattle.mem_machine.specs.declared.frame_state.FrameState.{FrameState}
 use Rattle.mem_machine.specs.declared.frame_state.FrameState.TheVariants.{Free, Lent, Head, Tail}
 use Rattle.mem_machine.specs.FrameStates.{frame_state_at, some_cpu}
 use Rattle.mem_machine.specs.FrameStates.{frame_state_group as charged_to}
-use Rattle.mem_machine.proofs.Ledgers.{ledger_side}
+use Rattle.mem_machine.proofs.Ledgers.{ledger_visit_state}
 use Rattle.mem_machine.specs.Machines.{KnownMachine, IsConsistent, Visits}
-use Rattle.mem_machine.specs.Local.{local_of, phase_of, part_of, part_with, side, MakesAs}
+use Rattle.mem_machine.specs.Local.{local_of, phase_of, part_of, part_with, visit_state, MakesAs}
 use Rattle.mem_machine.specs.Steps.{take_front_steps}
 use Rattle.mem_machine.specs.Paying.{IsOfSize, IsOwnStock, HoldsPage, PaysForFront, HasRoomFor, pages_held}
 use Rattle.mem_machine.proofs.Reaching.{cpu_step, run_one}
@@ -41,8 +41,8 @@ use Rattle.mem_machine.proofs.Followed.{follows_same}
 
 pub own_is : (t : KnownTable) (w : Words) (m now : KnownMachine) → m ≡ now → (c : KnownCpu) (stock : Stock) → IsTied t w c → IsConsistent t w m
     → (account_of m.stock_seat.view c.number).book ≡ pages_of stock + c.stock_seat.view.fresh + (account_of m.stock_seat.view c.number).unabsorbed
-    → group_of stock ≡ (account_of m.stock_seat.view c.number).group → is_held stock ≡ (account_of m.stock_seat.view c.number).filled → IsOwnStock (side now c) stock
-own_is t w m now same c stock tied ok balanced group held = subst (λ (x : KnownMachine). IsOwnStock (side x c) stock) same (record {
+    → group_of stock ≡ (account_of m.stock_seat.view c.number).group → is_held stock ≡ (account_of m.stock_seat.view c.number).filled → IsOwnStock (visit_state now c) stock
+own_is t w m now same c stock tied ok balanced group held = subst (λ (x : KnownMachine). IsOwnStock (visit_state x c) stock) same (record {
   group = group;
   held = held;
   pages = let none = ok.absorbed c.number in let fresh = tied.within.pages_are in omega (arith, balanced, none, fresh);
@@ -73,7 +73,7 @@ usage_small t w m ok charges g =
     let booked = at_most (t.cpus + 1) 65535 (λ q. cond (is_below groups g (account_of m.stock_seat.view q).group) (account_of m.stock_seat.view q).book 0)
     (λ q. let a = cond_at_most (is_below groups g (account_of m.stock_seat.view q).group) (account_of m.stock_seat.view q).book in
     let b = ok.bounded q in omega (arith, a, b)) in
-    let both = ledger_side t w m ok charges g in
+    let both = ledger_visit_state t w m ok charges g in
     omega (arith, charged, booked, both)
 
 pub room_for : (t : KnownTable) (w : Words) (m now : KnownMachine) → m ≡ now → IsConsistent t w m → AreCharges m.ledger → IsOfSize t
@@ -86,10 +86,10 @@ room_for t w m now same ok charges size pages few =
 
 -- ---- the front that is paid for
 
-pub has_page : (t : KnownTable) (w : Words) (m now : KnownMachine) → m ≡ now → (c : KnownCpu) (g : ℕ) → IsTied t w c → IsConsistent t w m → HoldsPage (side now c) g
+pub has_page : (t : KnownTable) (w : Words) (m now : KnownMachine) → m ≡ now → (c : KnownCpu) (g : ℕ) → IsTied t w c → IsConsistent t w m → HoldsPage (visit_state now c) g
     → 0 < stocked m.stock_seat.view c.stock_seat.view
 has_page t w m now same c g tied ok page =
-    let some : 1 ≤ pages_held (side m c) = subst (λ (x : KnownMachine). 1 ≤ pages_held (side x c)) (sym same) page.some in
+    let some : 1 ≤ pages_held (visit_state m c) = subst (λ (x : KnownMachine). 1 ≤ pages_held (visit_state x c)) (sym same) page.some in
     let none = ok.absorbed c.number in
     let fresh = tied.within.pages_are in
     let at : stocked m.stock_seat.view c.stock_seat.view ≡ (account_of m.stock_seat.view c.number).book - c.stock_seat.view.fresh - (account_of m.stock_seat.view c.number).unabsorbed
@@ -97,7 +97,7 @@ has_page t w m now same c g tied ok page =
     omega (arith, some, none, fresh, at)
 
 pub left_after : (t : KnownTable) (w : Words) (m : KnownMachine) (c : KnownCpu) → IsTied t w c → IsConsistent t w m
-    → stocked m.stock_seat.view c.stock_seat.view - 1 ≡ pages_held (side m c) - 1
+    → stocked m.stock_seat.view c.stock_seat.view - 1 ≡ pages_held (visit_state m c) - 1
 left_after t w m c tied ok =
     let none = ok.absorbed c.number in
     let fresh = tied.within.pages_are in
@@ -121,10 +121,10 @@ and_no false = refl
 
 -- what the CPU that is visited is once its front was paid for
 abbrev paid_cpu : KnownMachine → KnownCpu → ℕ → ℕ → List ℕ → KnownCpu
-paid_cpu m c g f rest = record c { list = rest; fresh = c.fresh ++ f ∷ []; stock_seat = with_view c.stock_seat (after_took c.stock_seat.view g (pages_held (side m c) - 1)) }
+paid_cpu m c g f rest = record c { list = rest; fresh = c.fresh ++ f ∷ []; stock_seat = with_view c.stock_seat (after_took c.stock_seat.view g (pages_held (visit_state m c) - 1)) }
 
-module _ (t : KnownTable) (w : Words) (m : KnownMachine) (c : KnownCpu) (tied : IsTied t w c) (ok : IsConsistent t w m) (visit : Visits t (side m c))
-    (g f : ℕ) (rest : List ℕ) (front : c.list ≡ f ∷ rest) (inside : f < t.frames) (page : HoldsPage (side m c) g) (none : c.fresh ≡ []) where
+module _ (t : KnownTable) (w : Words) (m : KnownMachine) (c : KnownCpu) (tied : IsTied t w c) (ok : IsConsistent t w m) (visit : Visits t (visit_state m c))
+    (g f : ℕ) (rest : List ℕ) (front : c.list ≡ f ∷ rest) (inside : f < t.frames) (page : HoldsPage (visit_state m c) g) (none : c.fresh ≡ []) where
   abbrev d : KnownCpu
   d = paid_cpu m c g f rest
 
@@ -179,7 +179,7 @@ module _ (t : KnownTable) (w : Words) (m : KnownMachine) (c : KnownCpu) (tied : 
         stock = record { group = a.group; pages = sym pages i; is_drained = is_some a.group && not a.filled };
       }))
 
-  pub front_runs : MakesAs t c.number (side m c) (take_front_steps c.number g) (side m d)
+  pub front_runs : MakesAs t c.number (visit_state m c) (take_front_steps c.number g) (visit_state m d)
   front_runs =
       let p = c.number in
       let s = local_of t m c in
@@ -209,16 +209,16 @@ module _ (t : KnownTable) (w : Words) (m : KnownMachine) (c : KnownCpu) (tied : 
 -- all of it, of the machine as it was seen before
 pub record FrontPaid (t : KnownTable) (w : Words) (now : KnownMachine) (g f : ℕ) (c : KnownCpu) (n : KnownMachine) (d : KnownCpu) : Type 0 where
   pub consistent : IsConsistent t w n
-  pub pays : PaysForFront g f (side now c) (side n d)
-  pub visit : Visits t (side n d)
-  pub steps : MakesAs t c.number (side now c) (take_front_steps c.number g) (side n d)
+  pub pays : PaysForFront g f (visit_state now c) (visit_state n d)
+  pub visit : Visits t (visit_state n d)
+  pub steps : MakesAs t c.number (visit_state now c) (take_front_steps c.number g) (visit_state n d)
 
-pub front_paid : (t : KnownTable) (w : Words) (m now : KnownMachine) → m ≡ now → (c : KnownCpu) → IsTied t w c → IsConsistent t w m → Visits t (side now c)
-    → (g f h : ℕ) → h ≡ g → HoldsPage (side now c) g → c.fresh ≡ [] → f < t.frames → (stock : Seated) → stock ≡ m.stock_seat → (d : KnownCpu)
+pub front_paid : (t : KnownTable) (w : Words) (m now : KnownMachine) → m ≡ now → (c : KnownCpu) → IsTied t w c → IsConsistent t w m → Visits t (visit_state now c)
+    → (g f h : ℕ) → h ≡ g → HoldsPage (visit_state now c) g → c.fresh ≡ [] → f < t.frames → (stock : Seated) → stock ≡ m.stock_seat → (d : KnownCpu)
     → TakesFront h (stocked m.stock_seat.view c.stock_seat.view - 1) f c d → FrontPaid t w now g f c (record m { stock_seat = stock }) d
 front_paid t w m now same c tied ok visit_now g f h named page_now none inside stock is d takes =
-    let visit : Visits t (side m c) = subst (λ (x : KnownMachine). Visits t (side x c)) (sym same) visit_now in
-    let page : HoldsPage (side m c) g = subst (λ (x : KnownMachine). HoldsPage (side x c) g) (sym same) page_now in
+    let visit : Visits t (visit_state m c) = subst (λ (x : KnownMachine). Visits t (visit_state x c)) (sym same) visit_now in
+    let page : HoldsPage (visit_state m c) g = subst (λ (x : KnownMachine). HoldsPage (visit_state x c) g) (sym same) page_now in
     let rest = takes.0 in
     let left = left_after t w m c tied ok in
     let all : FrontPaid t w m g f c m (paid_cpu m c g f rest) = record {

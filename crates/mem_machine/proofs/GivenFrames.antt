@@ -13,7 +13,7 @@ use Rattle.mem_machine.specs.FrameStates.{frame_state_at, is_free, free_of}
 use Rattle.mem_machine.specs.Machines.{KnownMachine, IsConsistent, Visits}
 use Rattle.mem_machine.specs.Lending.{LendsFrame}
 use Rattle.mem_machine.specs.Steps.{lend_steps}
-use Rattle.mem_machine.specs.Local.{side, MakesAs}
+use Rattle.mem_machine.specs.Local.{visit_state, MakesAs}
 use Rattle.mem_machine.proofs.Records.{free_at, free_taken}
 use Rattle.mem_machine.proofs.Lends.{lend_consistent, lend_runs, lend_visits, zone_hand}
 
@@ -21,18 +21,18 @@ use Rattle.mem_machine.proofs.Lends.{lend_consistent, lend_runs, lend_visits, zo
 pub record AllGiven (t : KnownTable) (w : Words) (now : KnownMachine) (c : KnownCpu) (f : ℕ) (n : KnownMachine) (d : KnownCpu) (free : List Bool) : Type 0 where
   pub consistent : IsConsistent t w n
   pub free_is : free ≡ free_of n.frame_states
-  pub lends : LendsFrame f (side now c) (side n d)
-  pub visit : Visits t (side n d)
-  pub steps : MakesAs t c.number (side now c) (lend_steps c.number f) (side n d)
+  pub lends : LendsFrame f (visit_state now c) (visit_state n d)
+  pub visit : Visits t (visit_state n d)
+  pub steps : MakesAs t c.number (visit_state now c) (lend_steps c.number f) (visit_state n d)
 
-pub given_all : (t : KnownTable) (w : Words) (m now : KnownMachine) → m ≡ now → (c d : KnownCpu) → IsTied t w c → IsConsistent t w m → Visits t (side now c)
+pub given_all : (t : KnownTable) (w : Words) (m now : KnownMachine) → m ≡ now → (c d : KnownCpu) → IsTied t w c → IsConsistent t w m → Visits t (visit_state now c)
     → (before free : List Bool) (blocks : List Block) (f i q : ℕ) (seat seat' : KnownSeat) → before ≡ free_of m.frame_states → f < t.frames
     → frame_state_at now.frame_states f ≡ Free → TakesFrames before (record { at = i; order = 0 }) free → AreMaximalBlocks free blocks → i ≡ f → q ≡ c.number
     → seat ≡ seat_with m.frame_seat f (passed_out_to q) → seat' ≡ seat → d ≡ record c { list = c.list ++ f ∷ []; frame_seat = seat_with c.frame_seat f took_in }
     → in_hands (note_of c.frame_seat.view f) ≡ 0
     → AllGiven t w now c f (record m { blocks = blocks; frame_states = slice_set m.frame_states i (Lent q); frame_seat = seat' }) d free
 given_all t w m now same c d tied ok visit_now before free blocks f i q seat seat' was inside free_now takes areas index number passed stays cpu none =
-    let visit : Visits t (side m c) = subst (λ (x : KnownMachine). Visits t (side x c)) (sym same) visit_now in
+    let visit : Visits t (visit_state m c) = subst (λ (x : KnownMachine). Visits t (visit_state x c)) (sym same) visit_now in
     let there : frame_state_at m.frame_states f ≡ Free = ap (λ (x : KnownMachine). frame_state_at x.frame_states f) same ∙ free_now in
     let takes_f : TakesFrames before (record { at = f; order = 0 }) free =
     subst (λ (x : ℕ). TakesFrames before (record { at = x; order = 0 }) free) index takes in

@@ -27,7 +27,7 @@ use Rattle.step_rules.specs.After.{Run, after, without_frame, without_unit}
 use Rattle.step_rules.specs.Laws.{IsLocalStep}
 use Rattle.step_rules.proofs.Basics.{at_same}
 use Rattle.mem_machine.specs.Machines.{KnownMachine, Visits}
-use Rattle.mem_machine.specs.Local.{IsLocalRun, side}
+use Rattle.mem_machine.specs.Local.{IsLocalRun, visit_state}
 use Rattle.mem_machine.specs.Steps.{zone_makes, cpu_makes}
 use Rattle.mem_machine.specs.Settling.{collect_steps, return_steps}
 use Rattle.mem_machine.proofs.Reaching.{zone_step, cpu_step}
@@ -39,7 +39,7 @@ abbrev pub told : FrameNote → List ℕ × List ℕ × ℕ
 told k = (k.passed_out, k.collected, k.lent)
 
 -- a frame in the CPU's hand went to the zone, whose note says of hand-overs what a collect leaves
-module _ (t : KnownTable) (w : Words) (m : KnownMachine) (c : KnownCpu) (tied : IsTied t w c) (visit : Visits t (side m c)) (f : ℕ)
+module _ (t : KnownTable) (w : Words) (m : KnownMachine) (c : KnownCpu) (tied : IsTied t w c) (visit : Visits t (visit_state m c)) (f : ℕ)
     (change : FrameNote → FrameNote) (same : (k : FrameNote) → told (change k) ≡ told (collected_from c.number k)) where
   abbrev zone : KnownSeat
   zone = seat_with m.frame_seat f change
@@ -73,7 +73,7 @@ module _ (t : KnownTable) (w : Words) (m : KnownMachine) (c : KnownCpu) (tied : 
         (λ i. (sym (note_else m.frame_seat.view f g (collected_from c.number) ne) i, sym (note_else c.frame_seat.view f g gave_back ne) i)) (visit.lent g inside)
   ]
 
-  pub handed_visits : (n : KnownMachine) (d : KnownCpu) → n.frame_seat ≡ zone → d.frame_seat ≡ cpu → d.number ≡ c.number → Visits t (side n d)
+  pub handed_visits : (n : KnownMachine) (d : KnownCpu) → n.frame_seat ≡ zone → d.frame_seat ≡ cpu → d.number ≡ c.number → Visits t (visit_state n d)
   handed_visits n d zone_is cpu_is number = record {
     is_open = subst (λ (x : KnownSeat × ℕ). IsOpen x.0 x.1) (λ i. (sym zone_is i, sym number i)) visit.is_open;
     still = subst (λ (x : KnownSeat × KnownSeat). (g : ℕ) → g < t.frames

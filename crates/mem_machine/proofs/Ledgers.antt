@@ -191,9 +191,9 @@ module _ (t : KnownTable) (w : Words) (m : KnownMachine) (is : IsConsistent t w 
   ]
 
   -- the usage of the group, by its frames and by the books of the stocks
-  pub ledger_side : current_of m.ledger g ≡ sum_to t.frames (λ f. one_if (is_below groups g (frame_state_group (frame_state f))))
+  pub ledger_visit_state : current_of m.ledger g ≡ sum_to t.frames (λ f. one_if (is_below groups g (frame_state_group (frame_state f))))
       + sum_to (t.cpus + 1) (λ q. cond (is_below groups g (book q).group) (book q).book 0)
-  ledger_side =
+  ledger_visit_state =
       let by = usage_by_number m.ledger g charges in
       let split = sum_same 64 (λ h. cond (in_subtree groups g h) (pages_of m.ledger h) 0)
       (λ h. sum_to t.frames (λ f. cond (in_subtree groups g h) (frame_count h f) 0) + sum_to (t.cpus + 1)

@@ -31,7 +31,7 @@ use Rattle.mem_machine.specs.declared.frame_state.FrameState.TheVariants.{Free, 
 use Rattle.mem_machine.specs.FrameStates.{frame_state_at, free_of, frame_state_group, head_group_of, is_in_hand}
 use Rattle.mem_machine.specs.Machines.{KnownMachine, FitsFrameState, IsConsistent, Visits, home_of}
 use Rattle.mem_machine.specs.Lending.{LendsByStep, LendsNone}
-use Rattle.mem_machine.specs.Local.{local_of, phase_of, part_of, part_with, fresh_group, side, MakesAs}
+use Rattle.mem_machine.specs.Local.{local_of, phase_of, part_of, part_with, fresh_group, visit_state, MakesAs}
 use Rattle.mem_machine.specs.Steps.{lend_steps}
 use Rattle.mem_machine.proofs.Reaching.{zone_step, cpu_step}
 use Rattle.mem_machine.proofs.Holds.{IsSeated, zone_may_act, visits_open, seated_cpu}
@@ -91,7 +91,7 @@ taken_free before after frame_states f was takes =
     let inside = free_inside frame_states f is in
     (inside, free_is (frame_state_at frame_states f) (sym (free_at frame_states f inside) ∙ is))
 
-module _ (t : KnownTable) (w : Words) (m : KnownMachine) (c : KnownCpu) (tied : IsTied t w c) (ok : IsConsistent t w m) (visit : Visits t (side m c))
+module _ (t : KnownTable) (w : Words) (m : KnownMachine) (c : KnownCpu) (tied : IsTied t w c) (ok : IsConsistent t w m) (visit : Visits t (visit_state m c))
     (f : ℕ) (inside : f < t.frames) (free : frame_state_at m.frame_states f ≡ Free) where
   p : ℕ
   p = c.number
@@ -146,7 +146,7 @@ module _ (t : KnownTable) (w : Words) (m : KnownMachine) (c : KnownCpu) (tied : 
     balances = ok.balances;
   }
 
-  pub lend_visits : (blocks : List Block) → Visits t (side (record m { blocks = blocks; frame_states = slice_set m.frame_states f (Lent c.number); frame_seat = seat_with m.frame_seat f (passed_out_to c.number) }) (record c { list = c.list ++ f ∷ []; frame_seat = seat_with c.frame_seat f took_in }))
+  pub lend_visits : (blocks : List Block) → Visits t (visit_state (record m { blocks = blocks; frame_states = slice_set m.frame_states f (Lent c.number); frame_seat = seat_with m.frame_seat f (passed_out_to c.number) }) (record c { list = c.list ++ f ∷ []; frame_seat = seat_with c.frame_seat f took_in }))
   lend_visits blocks = record {
     is_open = visit.is_open;
     still = accepted_is_still t m.frame_seat c.frame_seat c.number tied.seats.frame_number f visit.still (seat_with m.frame_seat f (passed_out_to c.number))
@@ -160,8 +160,8 @@ module _ (t : KnownTable) (w : Words) (m : KnownMachine) (c : KnownCpu) (tied : 
     ];
   }
 
-  pub lend_runs : (blocks : List Block) → in_hands (note_of c.frame_seat.view f) ≡ 0 → MakesAs t c.number (side m c) (lend_steps c.number f)
-      (side (record m { blocks = blocks; frame_states = slice_set m.frame_states f (Lent c.number); frame_seat = seat_with m.frame_seat f (passed_out_to c.number) }) (record c { list = c.list ++ f ∷ []; frame_seat = seat_with c.frame_seat f took_in }))
+  pub lend_runs : (blocks : List Block) → in_hands (note_of c.frame_seat.view f) ≡ 0 → MakesAs t c.number (visit_state m c) (lend_steps c.number f)
+      (visit_state (record m { blocks = blocks; frame_states = slice_set m.frame_states f (Lent c.number); frame_seat = seat_with m.frame_seat f (passed_out_to c.number) }) (record c { list = c.list ++ f ∷ []; frame_seat = seat_with c.frame_seat f took_in }))
   lend_runs blocks none =
       let s = local_of t m c in
       let d : KnownCpu = record c { list = c.list ++ f ∷ []; frame_seat = seat_with c.frame_seat f took_in } in
@@ -208,17 +208,17 @@ module _ (t : KnownTable) (w : Words) (m : KnownMachine) (c : KnownCpu) (tied : 
 pub record AllLent (t : KnownTable) (w : Words) (now : KnownMachine) (c : KnownCpu) (n : KnownMachine) (d : KnownCpu) (free : List Bool) : Type 0 where
   pub consistent : IsConsistent t w n
   pub free_is : free ≡ free_of n.frame_states
-  pub lends : LendsByStep t (side now c) (side n d)
-  pub visit : Visits t (side n d)
+  pub lends : LendsByStep t (visit_state now c) (visit_state n d)
+  pub visit : Visits t (visit_state n d)
 
-pub lend_all : (t : KnownTable) (w : Words) (m now : KnownMachine) → m ≡ now → (c d : KnownCpu) → IsTied t w c → IsConsistent t w m → Visits t (side now c)
+pub lend_all : (t : KnownTable) (w : Words) (m now : KnownMachine) → m ≡ now → (c d : KnownCpu) → IsTied t w c → IsConsistent t w m → Visits t (visit_state now c)
     → (before free : List Bool) (k : ℕ) (b : Block) (blocks : List Block) (f i q : ℕ) (seat seat' : KnownSeat)
     → before ≡ free_of m.frame_states → k ≡ 0 → IsFrontOfSmallest m.blocks k b → TakesFrames before b free → AreMaximalBlocks free blocks
     → f ≡ b.at → i ≡ f → q ≡ c.number → seat ≡ seat_with m.frame_seat f (passed_out_to q) → seat' ≡ seat
     → d ≡ record c { list = c.list ++ f ∷ []; frame_seat = seat_with c.frame_seat f took_in } → in_hands (note_of c.frame_seat.view f) ≡ 0
     → AllLent t w now c (record m { blocks = blocks; frame_states = slice_set m.frame_states i (Lent q); frame_seat = seat' }) d free
 lend_all t w m now same c d tied ok visit_now before free k b blocks f i q seat seat' was zero_is taken takes areas at index number passed stays cpu none =
-    let visit : Visits t (side m c) = subst (λ (x : KnownMachine). Visits t (side x c)) (sym same) visit_now in
+    let visit : Visits t (visit_state m c) = subst (λ (x : KnownMachine). Visits t (visit_state x c)) (sym same) visit_now in
     let block : b ≡ record { at = f; order = 0 } = λ j. record { at = sym at j; order = (taken.order_is ∙ zero_is) j } in
     let takes_f : TakesFrames before (record { at = f; order = 0 }) free = subst (λ (x : Block). TakesFrames before x free) block takes in
     let front : IsFrontOfSmallest m.blocks 0 (record { at = f; order = 0 }) = subst (λ (x : ℕ × Block). IsFrontOfSmallest m.blocks x.0 x.1) (λ j.
@@ -256,7 +256,7 @@ lend_all t w m now same c d tied ok visit_now before free k b blocks f i q seat 
 
 -- there is no free frame
 pub lent_to_none : (m now : KnownMachine) → m ≡ now → (c : KnownCpu) (blocks : List Block) (k : ℕ) → k ≡ 0 → HasNoneFrom m.blocks k → blocks ≡ m.blocks
-    → LendsNone (side now c) (side (record m { blocks = blocks }) c)
+    → LendsNone (visit_state now c) (visit_state (record m { blocks = blocks }) c)
 lent_to_none m now same c blocks k zero_is none is = record {
   none = subst (λ (x : KnownMachine × ℕ). HasNoneFrom x.0.blocks x.1) (λ j. (same j, zero_is j)) none;
   stays = record { machine = (λ i. record m { blocks = is i }) ∙ same; cpu = refl };
@@ -276,7 +276,7 @@ zone_hand t w m ok f g inside free is =
     subst (λ (x : ℕ). IsInOwnHand m.frame_seat x) (sym is) ((ok.frame_states f (omega (arith, s, inside))).own ∙ ap (λ (x : FrameState). one_if (is_in_hand x)) free)
 
 -- and once it passed it out, it passes for the CPU and is lent to it
-pub passes_to : (t : KnownTable) (w : Words) (m now : KnownMachine) → m ≡ now → (c : KnownCpu) → IsTied t w c → Visits t (side now c) → (f q : ℕ) (seat : KnownSeat)
+pub passes_to : (t : KnownTable) (w : Words) (m now : KnownMachine) → m ≡ now → (c : KnownCpu) → IsTied t w c → Visits t (visit_state now c) → (f q : ℕ) (seat : KnownSeat)
     → f < t.frames → q ≡ c.number → seat ≡ seat_with m.frame_seat f (passed_out_to q) → Passes seat c.frame_seat f
 passes_to t w m now same c tied visit f q seat inside number is =
     passed_out_passes t m.frame_seat c.frame_seat c.number tied.seats.frame_number f (subst (λ (x : KnownMachine). NothingPasses t x.frame_seat c.frame_seat)

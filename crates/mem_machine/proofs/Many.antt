@@ -8,18 +8,18 @@ use Rattle.zone_blocks.specs.Areas.{HasNoneFrom}
 use Rattle.frame_word.specs.Seats.{KnownTable}
 use Rattle.cpu_part.specs.Cpus.{KnownCpu}
 use Rattle.step_rules.specs.After.{Run}
-use Rattle.mem_machine.specs.Machines.{KnownMachine, SideStays, Visits}
+use Rattle.mem_machine.specs.Machines.{KnownMachine, VisitStateStays, Visits}
 use Rattle.mem_machine.specs.Lending.{LendsOne, LendsNone, LendsMany, LendsByStep, Refills, TakesOneBack, TakesNoneBack, TakesManyBack, TakesBackByStep}
-use Rattle.mem_machine.specs.Local.{MakesAs, Side, side}
+use Rattle.mem_machine.specs.Local.{MakesAs, VisitState, visit_state}
 use Rattle.mem_machine.specs.Steps.{lend_steps, unlist_steps, drain_list_steps}
 use Rattle.mem_machine.proofs.Followed.{makes_none, makes_both}
 
--- a side that stays
-side_stays : (now : Side) → SideStays now now
-side_stays now = record { machine = refl; cpu = refl }
+-- a visit state that stays
+visit_state_stays : (now : VisitState) → VisitStateStays now now
+visit_state_stays now = record { machine = refl; cpu = refl }
 
 -- the steps of frames, and then of one more
-steps_more : (t : KnownTable) (p : ℕ) (steps : ℕ → Run) (frames : List ℕ) (f : ℕ) (a b c : Side) → MakesAs t p a (flat_map steps frames) b
+steps_more : (t : KnownTable) (p : ℕ) (steps : ℕ → Run) (frames : List ℕ) (f : ℕ) (a b c : VisitState) → MakesAs t p a (flat_map steps frames) b
     → MakesAs t p b (steps f) c → MakesAs t p a (flat_map steps (frames ++ f ∷ [])) c
 steps_more t p steps frames f a b c before one =
     let list : flat_map steps frames ++ steps f ≡ flat_map steps (frames ++ f ∷ []) =
@@ -31,12 +31,12 @@ length_more frames f k all = let a = length-append frames (f ∷ []) in omega (a
 
 -- frames that are lent, and then one more
 lends_more : (frames : List ℕ) (f : ℕ) (m : KnownMachine) (c : KnownCpu) (x : KnownMachine) (y : KnownCpu) (n : KnownMachine) (d : KnownCpu)
-    → LendsMany frames (side m c) (side x y) → LendsOne f (side x y) (side n d) → LendsMany (frames ++ f ∷ []) (side m c) (side n d)
+    → LendsMany frames (visit_state m c) (visit_state x y) → LendsOne f (visit_state x y) (visit_state n d) → LendsMany (frames ++ f ∷ []) (visit_state m c) (visit_state n d)
 lends_more [] f m c x y n d before one =
     record {
-      between = side n d;
-      first = subst (λ (z : KnownMachine × KnownCpu). LendsOne f (side z.0 z.1) (side n d)) (λ i. (before.machine i, before.cpu i)) one;
-      rest = side_stays (side n d);
+      between = visit_state n d;
+      first = subst (λ (z : KnownMachine × KnownCpu). LendsOne f (visit_state z.0 z.1) (visit_state n d)) (λ i. (before.machine i, before.cpu i)) one;
+      rest = visit_state_stays (visit_state n d);
     }
 lends_more (g ∷ frames) f m c x y n d before one = record {
   between = before.between;
@@ -46,21 +46,21 @@ lends_more (g ∷ frames) f m c x y n d before one = record {
 
 -- what the loop of `refill` keeps after k frames
 pub record LentSoFar (t : KnownTable) (k : ℕ) (m : KnownMachine) (c : KnownCpu) (n : KnownMachine) (d : KnownCpu) : Type 0 where
-  pub refills : Refills t k (side m c) (side n d)
-  pub visit : Visits t (side n d)
+  pub refills : Refills t k (visit_state m c) (visit_state n d)
+  pub visit : Visits t (visit_state n d)
   pub number : d.number ≡ c.number
   pub count : length d.list + length d.fresh ≡ length c.list + length c.fresh + k
 
-pub lent_start : (t : KnownTable) (m : KnownMachine) (c : KnownCpu) → Visits t (side m c) → LentSoFar t 0 m c m c
+pub lent_start : (t : KnownTable) (m : KnownMachine) (c : KnownCpu) → Visits t (visit_state m c) → LentSoFar t 0 m c m c
 lent_start t m c visit = record {
-  refills = record { frames = []; all = refl; lends = side_stays (side m c); steps = makes_none t c.number (side m c) };
+  refills = record { frames = []; all = refl; lends = visit_state_stays (visit_state m c); steps = makes_none t c.number (visit_state m c) };
   visit = visit;
   number = refl;
   count = omega arith;
 }
 
 pub lent_more : (t : KnownTable) (k : ℕ) (m : KnownMachine) (c : KnownCpu) (x : KnownMachine) (y : KnownCpu) (n : KnownMachine) (d : KnownCpu)
-    → LentSoFar t k m c x y → LendsByStep t (side x y) (side n d) → Visits t (side n d) → LentSoFar t (k + 1) m c n d
+    → LentSoFar t k m c x y → LendsByStep t (visit_state x y) (visit_state n d) → Visits t (visit_state n d) → LentSoFar t (k + 1) m c n d
 lent_more t k m c x y n d before one visit =
     let so_far = before.refills in
     let f = one.frame in
@@ -72,8 +72,8 @@ lent_more t k m c x y n d before one visit =
         frames = so_far.frames ++ f ∷ [];
         all = length_more so_far.frames f k so_far.all;
         lends = lends_more so_far.frames f m c x y n d so_far.lends one.lends;
-        steps = steps_more t c.number (lend_steps c.number) so_far.frames f (side m c) (side x y) (side n d) so_far.steps
-            (subst (λ (p : ℕ). MakesAs t p (side x y) (lend_steps p f) (side n d)) before.number one.steps);
+        steps = steps_more t c.number (lend_steps c.number) so_far.frames f (visit_state m c) (visit_state x y) (visit_state n d) so_far.steps
+            (subst (λ (p : ℕ). MakesAs t p (visit_state x y) (lend_steps p f) (visit_state n d)) before.number one.steps);
       };
       visit = visit;
       number = ap (λ (e : KnownCpu). e.number) one.lends.lends.cpu ∙ before.number;
@@ -82,7 +82,7 @@ lent_more t k m c x y n d before one visit =
 
 pub lent_end : (t : KnownTable) (k : ℕ) (m : KnownMachine) (c : KnownCpu) (x : KnownMachine) (y : KnownCpu) (n : KnownMachine) (d : KnownCpu)
     → LentSoFar t k m c x y
-    → LendsNone (side x y) (side n d) → LentSoFar t k m c n d × HasNoneFrom n.blocks 0
+    → LendsNone (visit_state x y) (visit_state n d) → LentSoFar t k m c n d × HasNoneFrom n.blocks 0
 lent_end t k m c x y n d before none = (
   subst (λ (z : KnownMachine × KnownCpu). LentSoFar t k m c z.0 z.1) (λ i. (sym none.stays.machine i, sym none.stays.cpu i)) before,
   subst (λ (z : KnownMachine). HasNoneFrom z.blocks 0) (sym none.stays.machine) none.none,
@@ -92,12 +92,12 @@ lent_end t k m c x y n d before none = (
 
 -- frames that are returned to the zone, and then one more
 takes_more : (frames : List ℕ) (f : ℕ) (m : KnownMachine) (c : KnownCpu) (x : KnownMachine) (y : KnownCpu) (n : KnownMachine) (d : KnownCpu)
-    → TakesManyBack frames (side m c) (side x y) → TakesOneBack f (side x y) (side n d) → TakesManyBack (frames ++ f ∷ []) (side m c) (side n d)
+    → TakesManyBack frames (visit_state m c) (visit_state x y) → TakesOneBack f (visit_state x y) (visit_state n d) → TakesManyBack (frames ++ f ∷ []) (visit_state m c) (visit_state n d)
 takes_more [] f m c x y n d before one =
     record {
-      between = side n d;
-      first = subst (λ (z : KnownMachine × KnownCpu). TakesOneBack f (side z.0 z.1) (side n d)) (λ i. (before.machine i, before.cpu i)) one;
-      rest = side_stays (side n d);
+      between = visit_state n d;
+      first = subst (λ (z : KnownMachine × KnownCpu). TakesOneBack f (visit_state z.0 z.1) (visit_state n d)) (λ i. (before.machine i, before.cpu i)) one;
+      rest = visit_state_stays (visit_state n d);
     }
 takes_more (g ∷ frames) f m c x y n d before one = record {
   between = before.between;
@@ -110,17 +110,17 @@ pub record TakenSoFar (t : KnownTable) (k : ℕ) (m : KnownMachine) (c : KnownCp
   pub frames : List ℕ
   pub all : k ≡ length frames
   pub split : c.list ≡ frames ++ d.list
-  pub takes : TakesManyBack frames (side m c) (side n d)
-  pub visit : Visits t (side n d)
-  pub steps : MakesAs t c.number (side m c) (drain_list_steps c.number frames) (side n d)
+  pub takes : TakesManyBack frames (visit_state m c) (visit_state n d)
+  pub visit : Visits t (visit_state n d)
+  pub steps : MakesAs t c.number (visit_state m c) (drain_list_steps c.number frames) (visit_state n d)
   pub number : d.number ≡ c.number
 
-pub taken_start : (t : KnownTable) (m : KnownMachine) (c : KnownCpu) → Visits t (side m c) → TakenSoFar t 0 m c m c
+pub taken_start : (t : KnownTable) (m : KnownMachine) (c : KnownCpu) → Visits t (visit_state m c) → TakenSoFar t 0 m c m c
 taken_start t m c visit =
-    record { frames = []; all = refl; split = refl; takes = side_stays (side m c); visit = visit; steps = makes_none t c.number (side m c); number = refl }
+    record { frames = []; all = refl; split = refl; takes = visit_state_stays (visit_state m c); visit = visit; steps = makes_none t c.number (visit_state m c); number = refl }
 
 pub taken_more : (t : KnownTable) (k : ℕ) (m : KnownMachine) (c : KnownCpu) (x : KnownMachine) (y : KnownCpu) (n : KnownMachine) (d : KnownCpu)
-    → TakenSoFar t k m c x y → TakesBackByStep t (side x y) (side n d) → Visits t (side n d) → TakenSoFar t (k + 1) m c n d
+    → TakenSoFar t k m c x y → TakesBackByStep t (visit_state x y) (visit_state n d) → Visits t (visit_state n d) → TakenSoFar t (k + 1) m c n d
 taken_more t k m c x y n d before one visit =
     let f = one.frame in
     let left : y.list ≡ f ∷ d.list = one.takes.front ∙ ap (λ (l : List ℕ). f ∷ l) (sym (ap (λ (e : KnownCpu). e.list) one.takes.cpu)) in
@@ -130,14 +130,14 @@ taken_more t k m c x y n d before one visit =
       split = before.split ∙ ap (λ (l : List ℕ). before.frames ++ l) left ∙ sym (append_assoc before.frames (f ∷ []) d.list);
       takes = takes_more before.frames f m c x y n d before.takes one.takes;
       visit = visit;
-      steps = steps_more t c.number (unlist_steps c.number) before.frames f (side m c) (side x y) (side n d) before.steps
-          (subst (λ (p : ℕ). MakesAs t p (side x y) (unlist_steps p f) (side n d)) before.number one.steps);
+      steps = steps_more t c.number (unlist_steps c.number) before.frames f (visit_state m c) (visit_state x y) (visit_state n d) before.steps
+          (subst (λ (p : ℕ). MakesAs t p (visit_state x y) (unlist_steps p f) (visit_state n d)) before.number one.steps);
       number = ap (λ (e : KnownCpu). e.number) one.takes.cpu ∙ before.number;
     }
 
 pub taken_end : (t : KnownTable) (k : ℕ) (m : KnownMachine) (c : KnownCpu) (x : KnownMachine) (y : KnownCpu) (n : KnownMachine) (d : KnownCpu)
     → TakenSoFar t k m c x y
-    → TakesNoneBack (side x y) (side n d) → TakenSoFar t k m c n d × (d.list ≡ [])
+    → TakesNoneBack (visit_state x y) (visit_state n d) → TakenSoFar t k m c n d × (d.list ≡ [])
 taken_end t k m c x y n d before none = (
   subst (λ (z : KnownMachine × KnownCpu). TakenSoFar t k m c z.0 z.1) (λ i. (sym none.stays.machine i, sym none.stays.cpu i)) before,
   ap (λ (e : KnownCpu). e.list) none.stays.cpu ∙ none.none,
@@ -146,8 +146,8 @@ taken_end t k m c x y n d before none = (
 -- what was taken after k frames, said of the front of the list
 pub record TakesFront (t : KnownTable) (k : ℕ) (m : KnownMachine) (c : KnownCpu) (n : KnownMachine) (d : KnownCpu) : Type 0 where
   pub listed : k ≤ length c.list
-  pub takes : TakesManyBack (take k c.list) (side m c) (side n d)
-  pub steps : MakesAs t c.number (side m c) (drain_list_steps c.number (take k c.list)) (side n d)
+  pub takes : TakesManyBack (take k c.list) (visit_state m c) (visit_state n d)
+  pub steps : MakesAs t c.number (visit_state m c) (drain_list_steps c.number (take k c.list)) (visit_state n d)
 
 pub taken_front : (t : KnownTable) (k : ℕ) (m : KnownMachine) (c : KnownCpu) (n : KnownMachine) (d : KnownCpu) → TakenSoFar t k m c n d
     → TakesFront t k m c n d
@@ -158,8 +158,8 @@ taken_front t k m c n d so_far =
     sym ((λ i. take (all i) (so_far.split i)) ∙ take-append_seam so_far.frames d.list) in
     record {
       listed = omega (arith, long, all);
-      takes = subst (λ (l : List ℕ). TakesManyBack l (side m c) (side n d)) front so_far.takes;
-      steps = subst (λ (l : List ℕ). MakesAs t c.number (side m c) (drain_list_steps c.number l) (side n d)) front so_far.steps;
+      takes = subst (λ (l : List ℕ). TakesManyBack l (visit_state m c) (visit_state n d)) front so_far.takes;
+      steps = subst (λ (l : List ℕ). MakesAs t c.number (visit_state m c) (drain_list_steps c.number l) (visit_state n d)) front so_far.steps;
     }
 
 -- the same if all that were asked for were returned

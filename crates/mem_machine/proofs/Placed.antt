@@ -24,7 +24,7 @@ use Rattle.step_rules.proofs.Basics.{at_same, at_other}
 use Rattle.mem_machine.specs.declared.frame_state.FrameState.TheVariants.{Head, Tail}
 use Rattle.mem_machine.specs.FrameStates.{frame_state_at}
 use Rattle.mem_machine.specs.Machines.{KnownMachine, is_killed}
-use Rattle.mem_machine.specs.Local.{hold_of, references_of, phase_of, part_of, local_of, MakesAs, side}
+use Rattle.mem_machine.specs.Local.{hold_of, references_of, phase_of, part_of, local_of, MakesAs, visit_state}
 use Rattle.mem_machine.specs.Blocks.{placed_frame_state, taken_steps}
 use Rattle.mem_machine.proofs.Reaching.{zone_step}
 use Rattle.mem_machine.proofs.Holds.{zone_may_act}
@@ -131,7 +131,7 @@ module _ (t : KnownTable) (m : KnownMachine) (c : KnownCpu) (g : ℕ) (b : Block
 
     -- the steps lead to what the second machine shows
     pub taken_run : AreCharges m.ledger → SamePeaks (with_charge m.ledger g (2 ^ b.order)) n.ledger → SameEvents (with_charge m.ledger g (2 ^ b.order)) n.ledger
-        → MakesAs t c.number (side m c) (taken_steps g b.order b.at) (side n c)
+        → MakesAs t c.number (visit_state m c) (taken_steps g b.order b.at) (visit_state n c)
     taken_run facts peaks events = record {
       leads = (
         is_granted t m c g (2 ^ b.order) there alive usage path,

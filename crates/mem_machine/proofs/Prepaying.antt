@@ -33,7 +33,7 @@ use Rattle.mem_machine.specs.declared.frame_state.FrameState.{FrameState}
 use Rattle.mem_machine.specs.declared.frame_state.FrameState.TheVariants.{Free, Lent, Head, Tail}
 use Rattle.mem_machine.specs.FrameStates.{frame_state_at, count_of}
 use Rattle.mem_machine.specs.Machines.{KnownMachine, IsConsistent, Visits, is_killed, booked, pages_booked}
-use Rattle.mem_machine.specs.Local.{local_of, phase_of, part_of, part_with, Makes, side, MakesAs}
+use Rattle.mem_machine.specs.Local.{local_of, phase_of, part_of, part_with, Makes, visit_state, MakesAs}
 use Rattle.mem_machine.specs.Steps.{drain_steps, fill_steps, over_steps, zone_makes}
 use Rattle.mem_machine.specs.Stocks.{uncharged, stock_group, with_look, Drains, Fills, Prepays, IsOver, own_drain_steps, pages_held}
 use Rattle.mem_machine.specs.Paying.{IsOwnStock}
@@ -159,10 +159,10 @@ phase_stays c s f (Head unit) none = refl
 phase_stays c s f (Tail g) none = refl
 
 pub fill_runs : (t : KnownTable) (w : Words) (m : KnownMachine) (c : KnownCpu) (g k : ℕ) → IsConsistent t w m
-    → AreCharges m.ledger → IsTied t w c → Visits t (side m c) → c.fresh ≡ []
+    → AreCharges m.ledger → IsTied t w c → Visits t (visit_state m c) → c.fresh ≡ []
     → has_group m.ledger.groups g ≡ true → is_killed m.killed g ≡ false → (account_of m.stock_seat.view c.number).book ≡ 0
     → room.PathHasRoom m.ledger.groups (current_of m.ledger) g k
-    → MakesAs t c.number (side m c) (fill_steps c.number g k) (side (record m {
+    → MakesAs t c.number (visit_state m c) (fill_steps c.number g k) (visit_state (record m {
       ledger = with_charge m.ledger g k;
       stock_seat =
           with_view m.stock_seat (filling m.stock_seat.view c.number g k);
@@ -203,12 +203,12 @@ fill_runs t w m c g k ok facts tied visit none there alive empty has =
 -- what `fill_stock` leaves, of the machine as it was seen before
 pub record Filled (t : KnownTable) (w : Words) (m now : KnownMachine) (g k : ℕ) (c : KnownCpu) (l : Ledger) (stock : Seated) (d : KnownCpu) : Type 0 where
   pub consistent : IsConsistent t w (record m { ledger = l; stock_seat = stock })
-  pub fills : Fills g k (side now c) (side (record m { ledger = l; stock_seat = stock }) d)
-  pub visit : Visits t (side (record m { ledger = l; stock_seat = stock }) d)
-  pub steps : MakesAs t c.number (side now c) (fill_steps c.number g k) (side (record m { ledger = l; stock_seat = stock }) d)
+  pub fills : Fills g k (visit_state now c) (visit_state (record m { ledger = l; stock_seat = stock }) d)
+  pub visit : Visits t (visit_state (record m { ledger = l; stock_seat = stock }) d)
+  pub steps : MakesAs t c.number (visit_state now c) (fill_steps c.number g k) (visit_state (record m { ledger = l; stock_seat = stock }) d)
 
 filled_here : (t : KnownTable) (w : Words) (m : KnownMachine) (c : KnownCpu) (g k : ℕ) → IsConsistent t w m
-    → AreCharges m.ledger → IsTied t w c → Visits t (side m c) → c.fresh ≡ [] → k < 65536
+    → AreCharges m.ledger → IsTied t w c → Visits t (visit_state m c) → c.fresh ≡ [] → k < 65536
     → has_group m.ledger.groups g ≡ true → is_killed m.killed g ≡ false → (account_of m.stock_seat.view c.number).book ≡ 0
     → room.PathHasRoom m.ledger.groups (current_of m.ledger) g k
     → Filled t w m m g k c (with_charge m.ledger g k) (with_view m.stock_seat (filling m.stock_seat.view c.number g k)) (record c {
@@ -223,13 +223,13 @@ filled_here t w m c g k ok facts tied visit none small there alive empty has = r
 }
 
 pub filled_all : (t : KnownTable) (w : Words) (m now : KnownMachine) (c : KnownCpu) (g k : ℕ) → m ≡ now
-    → IsConsistent t w m → AreCharges m.ledger → IsTied t w c → Visits t (side now c)
+    → IsConsistent t w m → AreCharges m.ledger → IsTied t w c → Visits t (visit_state now c)
     → c.fresh ≡ [] → k < 65536 → has_group now.ledger.groups g ≡ true → is_killed now.killed g ≡ false → (account_of m.stock_seat.view c.number).book ≡ 0
     → room.PathHasRoom m.ledger.groups (current_of m.ledger) g k → (l : Ledger) (stock : Seated) (d : KnownCpu) (h : ℕ) → h ≡ g → l ≡ with_charge m.ledger g k
     → stock ≡ with_view m.stock_seat (filling m.stock_seat.view c.number h k) → d
     ≡ record c { stock_seat = with_view c.stock_seat (after_fill c.stock_seat.view h k) } → Filled t w m now g k c l stock d
 filled_all t w m now c g k same ok facts tied visit none small there alive empty has l stock d h named charged filled seen =
-    let here = filled_here t w m c g k ok facts tied (subst (λ (x : KnownMachine). Visits t (side x c)) (sym same) visit) none small
+    let here = filled_here t w m c g k ok facts tied (subst (λ (x : KnownMachine). Visits t (visit_state x c)) (sym same) visit) none small
     (ap (λ (x : KnownMachine). has_group x.ledger.groups g) same ∙ there) (ap (λ (x : KnownMachine). is_killed x.killed g) same ∙ alive) empty has in
     let stock_is = filled ∙ ap (λ (n : ℕ). with_view m.stock_seat (filling m.stock_seat.view c.number n k)) named in
     let cpu_is = seen ∙ ap (λ (n : ℕ). record c { stock_seat = with_view c.stock_seat (after_fill c.stock_seat.view n k) }) named in
@@ -242,11 +242,11 @@ filled_all t w m now c g k same ok facts tied visit none small there alive empty
 
 -- the grant is refused if a limit has no room, and nothing changes
 pub refused_all : (t : KnownTable) (w : Words) (m now : KnownMachine) → m ≡ now → (c : KnownCpu) (g k over : ℕ) → IsConsistent t w m → AreCharges m.ledger
-    → IsTied t w c → Visits t (side now c) → c.fresh ≡ [] → has_group now.ledger.groups g ≡ true → is_killed now.killed g ≡ false
-    → room.IsLowestOver now.ledger.groups (current_of now.ledger) g k over → MakesAs t c.number (side now c) (over_steps g k over) (side now c)
+    → IsTied t w c → Visits t (visit_state now c) → c.fresh ≡ [] → has_group now.ledger.groups g ≡ true → is_killed now.killed g ≡ false
+    → room.IsLowestOver now.ledger.groups (current_of now.ledger) g k over → MakesAs t c.number (visit_state now c) (over_steps g k over) (visit_state now c)
 refused_all t w m now same c g k over ok facts tied visit none there alive low =
-    subst (λ (x : KnownMachine). MakesAs t c.number (side x c) (over_steps g k over) (side x c)) same
-    (let its : Visits t (side m c) = subst (λ (x : KnownMachine). Visits t (side x c)) (sym same) visit in
+    subst (λ (x : KnownMachine). MakesAs t c.number (visit_state x c) (over_steps g k over) (visit_state x c)) same
+    (let its : Visits t (visit_state m c) = subst (λ (x : KnownMachine). Visits t (visit_state x c)) (sym same) visit in
     let usage : (h : ℕ) → local.usage_of (local_of t m c) h ≡ current_of m.ledger h = usage_is t w m c ok facts its.lent tied (balanced_alone m c none) in
     refused_run t m c g k (ap (λ (x : KnownMachine). has_group x.ledger.groups g) same ∙ there)
     (ap (λ (x : KnownMachine). is_killed x.killed g) same ∙ alive) usage
@@ -289,8 +289,8 @@ none_in (HeldBy g n) is = absurd (false≢true (sym is))
 none_in (DrainedOf g) is = refl
 
 module _ (m x : KnownMachine) (q p k : ℕ) (named : q ≡ p) (d : Drains q k m x) where
-  pub emptied_visits : (t : KnownTable) (c : KnownCpu) → Visits t (side m c) → Visits t (side x c)
-  emptied_visits t c visit = subst (λ (y : KnownMachine). Visits t (side y c)) (sym d.machine) (record {
+  pub emptied_visits : (t : KnownTable) (c : KnownCpu) → Visits t (visit_state m c) → Visits t (visit_state x c)
+  emptied_visits t c visit = subst (λ (y : KnownMachine). Visits t (visit_state y c)) (sym d.machine) (record {
     is_open = visit.is_open;
     still =
         visit.still;
@@ -318,10 +318,10 @@ module _ (m x : KnownMachine) (q p k : ℕ) (named : q ≡ p) (d : Drains q k m 
   emptied_own = subst (λ (n : ℕ). Drains n k m x) named d
 
   -- the drain took all its pages, as a look at the stock shows
-  pub emptied_whole : (c : KnownCpu) (y : KnownMachine) (stock : Stock) → y ≡ x → c.number ≡ p → c.fresh ≡ [] → IsOwnStock (side y c) stock
-      → k ≡ pages_held (side m c)
+  pub emptied_whole : (c : KnownCpu) (y : KnownMachine) (stock : Stock) → y ≡ x → c.number ≡ p → c.fresh ≡ [] → IsOwnStock (visit_state y c) stock
+      → k ≡ pages_held (visit_state m c)
   emptied_whole c y stock same mine none looked =
-      let own : IsOwnStock (side x c) stock = subst (λ (z : KnownMachine). IsOwnStock (side z c) stock) same looked in
+      let own : IsOwnStock (visit_state x c) stock = subst (λ (z : KnownMachine). IsOwnStock (visit_state z c) stock) same looked in
       let its : c.number ≡ q = mine ∙ sym named in
       let account : account_of x.stock_seat.view c.number ≡ drained_account m.stock_seat.view q k =
       ap (account_of x.stock_seat.view) its ∙ ap (λ (z : KnownMachine). account_of z.stock_seat.view q) d.machine ∙ drained_at m.stock_seat.view q k in
@@ -335,40 +335,40 @@ module _ (m x : KnownMachine) (q p k : ℕ) (named : q ≡ p) (d : Drains q k m 
       whole
 
   -- the steps of the drain, and then those of the fill or of the grant that is refused
-  module _ (t : KnownTable) (c : KnownCpu) (mine : c.number ≡ p) (whole : k ≡ pages_held (side m c))
-      (drained : MakesAs t c.number (side m c) (drain_steps q (stock_group m q) k) (side x c)) where
+  module _ (t : KnownTable) (c : KnownCpu) (mine : c.number ≡ p) (whole : k ≡ pages_held (visit_state m c))
+      (drained : MakesAs t c.number (visit_state m c) (drain_steps q (stock_group m q) k) (visit_state x c)) where
     its_number : q ≡ c.number
     its_number = named ∙ sym mine
 
-    drained_own : MakesAs t c.number (side m c) (own_drain_steps (side m c)) (side x c)
-    drained_own = subst (λ (z : ℕ × ℕ). MakesAs t c.number (side m c) (drain_steps z.0 (stock_group m z.0) z.1) (side x c))
+    drained_own : MakesAs t c.number (visit_state m c) (own_drain_steps (visit_state m c)) (visit_state x c)
+    drained_own = subst (λ (z : ℕ × ℕ). MakesAs t c.number (visit_state m c) (drain_steps z.0 (stock_group m z.0) z.1) (visit_state x c))
         (λ i. (its_number i, whole i)) drained
 
-    own_drain : Drains c.number (pages_held (side m c)) m x
+    own_drain : Drains c.number (pages_held (visit_state m c)) m x
     own_drain = subst (λ (z : ℕ × ℕ). Drains z.0 z.1 m x) (λ i. (its_number i, whole i)) d
 
-    looked_own : MakesAs t c.number (side m c) (own_drain_steps (side m c)) (side (with_look x) c)
+    looked_own : MakesAs t c.number (visit_state m c) (own_drain_steps (visit_state m c)) (visit_state (with_look x) c)
     looked_own = record { leads = drained_own.leads; follows = drained_own.follows; counts = drained_own.counts }
 
     -- what follows begins at the machine and the part after the look
     module _ (y : KnownMachine) (e : KnownCpu) (same : y ≡ with_look x) (stays : e ≡ c) (g pages : ℕ) (n : KnownMachine) (f : KnownCpu) where
-      pub prepays : Fills g pages (side y e) (side n f) → Prepays g pages (side m c) (side n f)
+      pub prepays : Fills g pages (visit_state y e) (visit_state n f) → Prepays g pages (visit_state m c) (visit_state n f)
       prepays fills = record {
         emptied = x;
         drains = own_drain;
-        fills = subst (λ (z : KnownMachine × KnownCpu). Fills g pages (side z.0 z.1) (side n f)) (λ i. (same i, stays i)) fills;
+        fills = subst (λ (z : KnownMachine × KnownCpu). Fills g pages (visit_state z.0 z.1) (visit_state n f)) (λ i. (same i, stays i)) fills;
       }
 
-      pub prepay_runs : Makes t (side y e) (fill_steps e.number g pages) (side n f)
-          → Makes t (side m c) (own_drain_steps (side m c) ++ fill_steps c.number g pages) (side n f)
-      prepay_runs steps = makes_both t c.number (own_drain_steps (side m c)) (fill_steps c.number g pages) (side m c) (side (with_look x) c)
-          (side n f) looked_own
-          (subst (λ (z : KnownMachine × KnownCpu). Makes t (side z.0 z.1) (fill_steps z.1.number g pages) (side n f)) (λ i. (same i, stays i)) steps)
+      pub prepay_runs : Makes t (visit_state y e) (fill_steps e.number g pages) (visit_state n f)
+          → Makes t (visit_state m c) (own_drain_steps (visit_state m c) ++ fill_steps c.number g pages) (visit_state n f)
+      prepay_runs steps = makes_both t c.number (own_drain_steps (visit_state m c)) (fill_steps c.number g pages) (visit_state m c) (visit_state (with_look x) c)
+          (visit_state n f) looked_own
+          (subst (λ (z : KnownMachine × KnownCpu). Makes t (visit_state z.0 z.1) (fill_steps z.1.number g pages) (visit_state n f)) (λ i. (same i, stays i)) steps)
 
       -- the grant was refused, and nothing changed since
       module _ (over : ℕ) (kept : n ≡ y) (own_kept : f ≡ e) where
-        pub is_refused : room.IsLowestOver y.ledger.groups (current_of y.ledger) g pages over → IsOver g pages over (side m c) (side n f)
-        is_refused low = subst (λ (z : KnownMachine × KnownCpu). IsOver g pages over (side m c) (side z.0 z.1))
+        pub is_refused : room.IsLowestOver y.ledger.groups (current_of y.ledger) g pages over → IsOver g pages over (visit_state m c) (visit_state n f)
+        is_refused low = subst (λ (z : KnownMachine × KnownCpu). IsOver g pages over (visit_state m c) (visit_state z.0 z.1))
             (λ i. (sym (kept ∙ same) i, sym (own_kept ∙ stays) i)) (record {
               emptied = x;
               drains = own_drain;
@@ -377,9 +377,9 @@ module _ (m x : KnownMachine) (q p k : ℕ) (named : q ≡ p) (d : Drains q k m 
               cpu = refl;
             })
 
-        pub refused_runs : Makes t (side y e) (over_steps g pages over) (side y e)
-            → Makes t (side m c) (own_drain_steps (side m c) ++ over_steps g pages over) (side n f)
-        refused_runs steps = subst (λ (z : KnownMachine × KnownCpu). Makes t (side m c) (own_drain_steps (side m c) ++ over_steps g pages over) (side z.0 z.1))
+        pub refused_runs : Makes t (visit_state y e) (over_steps g pages over) (visit_state y e)
+            → Makes t (visit_state m c) (own_drain_steps (visit_state m c) ++ over_steps g pages over) (visit_state n f)
+        refused_runs steps = subst (λ (z : KnownMachine × KnownCpu). Makes t (visit_state m c) (own_drain_steps (visit_state m c) ++ over_steps g pages over) (visit_state z.0 z.1))
             (λ i. (sym (kept ∙ same) i, sym (own_kept ∙ stays) i))
-            (makes_both t c.number (own_drain_steps (side m c)) (over_steps g pages over) (side m c) (side (with_look x) c) (side (with_look x) c) looked_own
-            (subst (λ (z : KnownMachine × KnownCpu). Makes t (side z.0 z.1) (over_steps g pages over) (side z.0 z.1)) (λ i. (same i, stays i)) steps))
+            (makes_both t c.number (own_drain_steps (visit_state m c)) (over_steps g pages over) (visit_state m c) (visit_state (with_look x) c) (visit_state (with_look x) c) looked_own
+            (subst (λ (z : KnownMachine × KnownCpu). Makes t (visit_state z.0 z.1) (over_steps g pages over) (visit_state z.0 z.1)) (λ i. (same i, stays i)) steps))

@@ -39,7 +39,7 @@ use Rattle.mem_machine.specs.declared.frame_state.FrameState.{FrameState}
 use Rattle.mem_machine.specs.declared.frame_state.FrameState.TheVariants.{Free, Head}
 use Rattle.mem_machine.specs.FrameStates.{frame_state_at, free_of, head_group_of, lent_to, some_cpu}
 use Rattle.mem_machine.specs.Machines.{KnownMachine, FitsFrameState, IsConsistent, Visits, BalancesCounts, home_of, is_killed, group_lists, lists_of}
-use Rattle.mem_machine.specs.Local.{IsLocalRun, MakesForAny, local_of, phase_of, references_of, side, MakesAs}
+use Rattle.mem_machine.specs.Local.{IsLocalRun, MakesForAny, local_of, phase_of, references_of, visit_state, MakesAs}
 use Rattle.mem_machine.specs.Counts.{with_last_put}
 use Rattle.mem_machine.specs.Counting.{counts_after, with_one_put_last, with_one_returned}
 use Rattle.mem_machine.specs.Freeing.{FreesFrames}
@@ -71,7 +71,7 @@ module _ (s : KnownSeat) (f : ℕ) (change : FrameNote → FrameNote) where
 -- a visit stays open, with no frame in transit, if the change leaves what was lent and handed over
 pub visit_stays : (t : KnownTable) (m n : KnownMachine) (c : KnownCpu) (f : ℕ) (change : FrameNote → FrameNote) → n.frame_seat ≡ seat_with m.frame_seat f change
     → ((k : FrameNote) → (change k).lent ≡ k.lent) → ((k : FrameNote) → (change k).passed_out ≡ k.passed_out)
-    → ((k : FrameNote) → (change k).collected ≡ k.collected) → Visits t (side m c) → Visits t (side n c)
+    → ((k : FrameNote) → (change k).collected ≡ k.collected) → Visits t (visit_state m c) → Visits t (visit_state n c)
 visit_stays t m n c f change seat lent out back visit = record {
   is_open = subst (λ (s : KnownSeat). get_or s.view.opened c.number 0 ≡ 1) (sym seat) visit.is_open;
   still = λ g inside. subst (λ (s : KnownSeat). get_or (note_of s.view g).passed_out (number_of c.frame_seat) 0 + (note_of c.frame_seat.view g).passed_back
@@ -204,8 +204,8 @@ module _ (t : KnownTable) (w : Words) (m : KnownMachine) (ok : IsConsistent t w 
         balances = ok.balances;
       }
 
-      pub left_runs : (c : KnownCpu) → MakesAs t c.number (side m c) (release_steps f (Left left))
-          (side (record m { links = links; lists = lists; frame_seat = left_seat }) c)
+      pub left_runs : (c : KnownCpu) → MakesAs t c.number (visit_state m c) (release_steps f (Left left))
+          (visit_state (record m { links = links; lists = lists; frame_seat = left_seat }) c)
       left_runs c =
           let s = local_of t m c in
           record {
@@ -298,7 +298,7 @@ read_head t w m ok f i inside is x unit read head =
 
 pub record AllLeft (t : KnownTable) (w : Words) (now : KnownMachine) (f left : ℕ) (n : KnownMachine) : Type 0 where
   pub consistent : IsConsistent t w n
-  pub visit : (c : KnownCpu) → Visits t (side now c) → Visits t (side n c)
+  pub visit : (c : KnownCpu) → Visits t (visit_state now c) → Visits t (visit_state n c)
   pub steps : MakesForAny t now (release_steps f (Left left)) n
 
 pub left_all : (t : KnownTable) (w : Words) (m now : KnownMachine) → m ≡ now → IsConsistent t w m → (f i : ℕ) → f < t.frames → i ≡ f → home_of now.links f ≢ None → (links : List Link) (lists : List Lru) → LeavesList i (lists_of m) (group_lists links lists) → AllStand links lists
@@ -324,7 +324,7 @@ pub record AllBack (t : KnownTable) (w : Words) (now : KnownMachine) (f : ℕ) (
   pub list : LeavesList f (lists_of now) (lists_of n)
   pub frees : FreesFrames f (2 ^ unit.order) now.frame_states n.frame_states
   pub areas : AreMaximalBlocks (free_of n.frame_states) n.blocks
-  pub visit : (c : KnownCpu) → Visits t (side now c) → Visits t (side n c)
+  pub visit : (c : KnownCpu) → Visits t (visit_state now c) → Visits t (visit_state n c)
   pub runs : MakesForAny t now steps n
 
 -- the step before the last one leaves the state that the zone's last put leaves
@@ -412,7 +412,7 @@ pub record AllReturned (t : KnownTable) (w : Words) (now : KnownMachine) (f : �
   pub consistent : IsConsistent t w n
   pub free_is : free ≡ free_of n.frame_states
   pub returns : ReturnsUnit f now n
-  pub visit : (c : KnownCpu) → Visits t (side now c) → Visits t (side n c)
+  pub visit : (c : KnownCpu) → Visits t (visit_state now c) → Visits t (visit_state n c)
   pub steps : MakesForAny t now (release_steps f Returned) n
 
 pub returned_all : (t : KnownTable) (w : Words) (m now : KnownMachine) → m ≡ now → IsConsistent t w m → (f i : ℕ)

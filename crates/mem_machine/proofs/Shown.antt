@@ -29,7 +29,7 @@ use Rattle.mem_machine.specs.declared.frame_state.FrameState.{FrameState}
 use Rattle.mem_machine.specs.declared.frame_state.FrameState.TheVariants.{Free, Lent, Head, Tail}
 use Rattle.mem_machine.specs.FrameStates.{frame_state_at}
 use Rattle.mem_machine.specs.Machines.{KnownMachine, Visits}
-use Rattle.mem_machine.specs.Local.{local_of, phase_of, part_of, part_with, references_of, fresh_group, side}
+use Rattle.mem_machine.specs.Local.{local_of, phase_of, part_of, part_with, references_of, fresh_group, visit_state}
 use Rattle.mem_machine.specs.Freeing.{FreesFrames}
 use Rattle.mem_machine.specs.Settling.{with_page_absorbed}
 use Rattle.mem_machine.proofs.Holds.{zone_may_act, visits_open, seated_cpu}
@@ -38,7 +38,7 @@ use Rattle.mem_machine.proofs.Takes.{without_none, without_front}
 use Rattle.mem_machine.proofs.Absorbs.{absorbed_account, absorbed_at, absorbed_else}
 use Rattle.mem_machine.proofs.HandOvers.{IsVisited, IsFreshFront, IsBackFront, times_rest}
 
-pub is_visited : (t : KnownTable) (w : Words) (m : KnownMachine) (c : KnownCpu) → IsTied t w c → Visits t (side m c) → (f : ℕ) → f < t.frames
+pub is_visited : (t : KnownTable) (w : Words) (m : KnownMachine) (c : KnownCpu) → IsTied t w c → Visits t (visit_state m c) → (f : ℕ) → f < t.frames
     → IsVisited (local_of t m c) c.number f
 is_visited t w m c tied visit f inside = record {
   acts = zone_may_act m.frame_seat c.number;

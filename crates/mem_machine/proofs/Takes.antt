@@ -31,7 +31,7 @@ use Rattle.mem_machine.specs.declared.frame_state.FrameState.TheVariants.{Free, 
 use Rattle.mem_machine.specs.FrameStates.{frame_state_at, is_free, free_of, frame_state_group, head_group_of, some_cpu}
 use Rattle.mem_machine.specs.Machines.{KnownMachine, FitsFrameState, IsConsistent, Visits, home_of}
 use Rattle.mem_machine.specs.Lending.{TakesBackByStep, TakesNoneBack}
-use Rattle.mem_machine.specs.Local.{local_of, phase_of, part_of, part_with, side, MakesAs}
+use Rattle.mem_machine.specs.Local.{local_of, phase_of, part_of, part_with, visit_state, MakesAs}
 use Rattle.mem_machine.specs.Steps.{unlist_steps}
 use Rattle.mem_machine.proofs.Reaching.{zone_step, cpu_step}
 use Rattle.mem_machine.proofs.Holds.{IsSeated, zone_may_act, visits_open, seated_cpu}
@@ -62,7 +62,7 @@ pub without_front : (f : ℕ) (xs rest : List ℕ) → xs ≡ f ∷ rest → tim
 without_front f xs rest front none =
     ap (without f) front ∙ without_here f rest none
 
-module _ (t : KnownTable) (w : Words) (m : KnownMachine) (c : KnownCpu) (tied : IsTied t w c) (ok : IsConsistent t w m) (visit : Visits t (side m c))
+module _ (t : KnownTable) (w : Words) (m : KnownMachine) (c : KnownCpu) (tied : IsTied t w c) (ok : IsConsistent t w m) (visit : Visits t (visit_state m c))
     (f : ℕ) (rest : List ℕ) (front : c.list ≡ f ∷ rest) (inside : f < t.frames) (lent : IsLent m.frame_seat f c.number) where
   within : f < length m.frame_states
   within = let s = ok.sizes.frame_states in omega (arith, s, inside)
@@ -126,7 +126,7 @@ module _ (t : KnownTable) (w : Words) (m : KnownMachine) (c : KnownCpu) (tied : 
   no_one : ◌≡◌ {A = ℕ} 0 1 → ⊥
   no_one is = omega (arith, is)
 
-  pub take_visits : (blocks : List Block) → Visits t (side (record m { blocks = blocks; frame_states = slice_set m.frame_states f Free; frame_seat = seat_with m.frame_seat f (collected_from c.number) }) (record c { list = rest; frame_seat = seat_with c.frame_seat f gave_back }))
+  pub take_visits : (blocks : List Block) → Visits t (visit_state (record m { blocks = blocks; frame_states = slice_set m.frame_states f Free; frame_seat = seat_with m.frame_seat f (collected_from c.number) }) (record c { list = rest; frame_seat = seat_with c.frame_seat f gave_back }))
   take_visits blocks = record {
     is_open = visit.is_open;
     still = collected_is_still t m.frame_seat c.frame_seat c.number tied.seats.frame_number f visit.still (seat_with c.frame_seat f gave_back)
@@ -148,8 +148,8 @@ module _ (t : KnownTable) (w : Words) (m : KnownMachine) (c : KnownCpu) (tied : 
   same_phase g (Head unit) = refl
   same_phase g (Tail h) = refl
 
-  pub take_runs : (blocks : List Block) → MakesAs t c.number (side m c) (unlist_steps c.number f)
-      (side (record m { blocks = blocks; frame_states = slice_set m.frame_states f Free; frame_seat = seat_with m.frame_seat f (collected_from c.number) }) (record c { list = rest; frame_seat = seat_with c.frame_seat f gave_back }))
+  pub take_runs : (blocks : List Block) → MakesAs t c.number (visit_state m c) (unlist_steps c.number f)
+      (visit_state (record m { blocks = blocks; frame_states = slice_set m.frame_states f Free; frame_seat = seat_with m.frame_seat f (collected_from c.number) }) (record c { list = rest; frame_seat = seat_with c.frame_seat f gave_back }))
   take_runs blocks =
       let p = c.number in
       let s = local_of t m c in
@@ -197,16 +197,16 @@ module _ (t : KnownTable) (w : Words) (m : KnownMachine) (c : KnownCpu) (tied : 
 pub record AllTaken (t : KnownTable) (w : Words) (now : KnownMachine) (c : KnownCpu) (n : KnownMachine) (d : KnownCpu) (free : List Bool) : Type 0 where
   pub consistent : IsConsistent t w n
   pub free_is : free ≡ free_of n.frame_states
-  pub takes : TakesBackByStep t (side now c) (side n d)
-  pub visit : Visits t (side n d)
+  pub takes : TakesBackByStep t (visit_state now c) (visit_state n d)
+  pub visit : Visits t (visit_state n d)
 
-pub take_all : (t : KnownTable) (w : Words) (m now : KnownMachine) → m ≡ now → (c h d : KnownCpu) → IsTied t w c → IsConsistent t w m → Visits t (side now c)
+pub take_all : (t : KnownTable) (w : Words) (m now : KnownMachine) → m ≡ now → (c h d : KnownCpu) → IsTied t w c → IsConsistent t w m → Visits t (visit_state now c)
     → (before free : List Bool) (k : ℕ) (blocks : List Block) (f i : ℕ) (seat : KnownSeat)
     → before ≡ free_of m.frame_states → k ≡ 0 → GivesFrames before (record { at = i; order = k }) free → AreMaximalBlocks free blocks
     → f < t.frames → IsLent m.frame_seat f c.number → i ≡ f → HandsFront f c h → seat ≡ seat_with m.frame_seat f (collected_from h.number) → d ≡ h
     → AllTaken t w now c (record m { blocks = blocks; frame_states = slice_set m.frame_states i Free; frame_seat = seat }) d free
 take_all t w m now same c h d tied ok visit_now before free k blocks f i seat was zero_is gives areas inside lent index hands collected stays =
-    let visit : Visits t (side m c) = subst (λ (x : KnownMachine). Visits t (side x c)) (sym same) visit_now in
+    let visit : Visits t (visit_state m c) = subst (λ (x : KnownMachine). Visits t (visit_state x c)) (sym same) visit_now in
     let rest = hands.0 in
     let e : KnownCpu = record c { list = rest; frame_seat = seat_with c.frame_seat f gave_back } in
     let n : KnownMachine = record m { blocks = blocks; frame_states = slice_set m.frame_states f Free; frame_seat = seat_with m.frame_seat f (collected_from c.number) } in
@@ -242,11 +242,11 @@ take_all t w m now same c h d tied ok visit_now before free k blocks f i seat wa
 
 -- the list is empty
 pub taken_none : (m now : KnownMachine) → m ≡ now → (c d : KnownCpu) (seat : KnownSeat) → (c.list ≡ []) × (d ≡ c) → seat ≡ m.frame_seat
-    → TakesNoneBack (side now c) (side (record m { frame_seat = seat }) d)
+    → TakesNoneBack (visit_state now c) (visit_state (record m { frame_seat = seat }) d)
 taken_none m now same c d seat none is = record { none = none.0; stays = record { machine = (λ i. record m { frame_seat = is i }) ∙ same; cpu = none.1 } }
 
 -- the frame passes for the CPU once it was handed
-pub passes_back_to : (t : KnownTable) (w : Words) (m now : KnownMachine) → m ≡ now → (c h : KnownCpu) → IsTied t w c → Visits t (side now c)
+pub passes_back_to : (t : KnownTable) (w : Words) (m now : KnownMachine) → m ≡ now → (c h : KnownCpu) → IsTied t w c → Visits t (visit_state now c)
     → (f : ℕ) (seat : KnownSeat)
     → f < t.frames → HandsFront f c h → seat ≡ m.frame_seat → Passes seat h.frame_seat f
 passes_back_to t w m now same c h tied visit f seat inside hands is =

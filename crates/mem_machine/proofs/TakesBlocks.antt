@@ -33,7 +33,7 @@ use Rattle.mem_machine.specs.declared.frame_state.FrameState.TheVariants.{Free, 
 use Rattle.mem_machine.specs.FrameStates.{frame_state_at, is_free, is_in_hand, lent_to, free_of, frame_state_group}
 use Rattle.mem_machine.specs.Machines.{KnownMachine, IsConsistent, Visits, is_killed}
 use Rattle.mem_machine.specs.Blocks.{PlacesUnit, TakesBlock, TakesNoBlock, taken_steps, unplaced_steps}
-use Rattle.mem_machine.specs.Local.{local_of, phase_of, side, MakesAs}
+use Rattle.mem_machine.specs.Local.{local_of, phase_of, visit_state, MakesAs}
 use Rattle.mem_machine.proofs.Records.{length_free, free_at, free_is, free_inside, no_cpu_is}
 use Rattle.mem_machine.proofs.PlacesUnits.{in_block, off_block}
 use Rattle.mem_machine.proofs.Joins.{AllJoin}
@@ -130,7 +130,7 @@ note_kept s f n h same x = elim (cases_eq x f) [
   | inr ne ↦ ap h (note_else s.view f x (unfrozen n) ne)
 ]
 
-pub unfrozen_visits : (t : KnownTable) (m n : KnownMachine) (c : KnownCpu) (f : ℕ) → n.frame_seat ≡ seat_with m.frame_seat f (unfrozen 1) → Visits t (side m c) → Visits t (side n c)
+pub unfrozen_visits : (t : KnownTable) (m n : KnownMachine) (c : KnownCpu) (f : ℕ) → n.frame_seat ≡ seat_with m.frame_seat f (unfrozen 1) → Visits t (visit_state m c) → Visits t (visit_state n c)
 unfrozen_visits t m n c f is visit =
     let p = c.frame_seat.view.number in
     let out : (x : ℕ) → (note_of (seat_with m.frame_seat f (unfrozen 1)).view x).passed_out ≡ (note_of m.frame_seat.view x).passed_out =
@@ -171,12 +171,12 @@ pub record AllTaken (t : KnownTable) (w : Words) (now : KnownMachine) (c : Known
   pub consistent : IsConsistent t w n
   pub free_is : free ≡ free_of n.frame_states
   pub takes : TakesBlock g k at now n
-  pub visit : Visits t (side n d)
-  pub steps : MakesAs t c.number (side now c) (taken_steps g k at) (side n d)
+  pub visit : Visits t (visit_state n d)
+  pub steps : MakesAs t c.number (visit_state now c) (taken_steps g k at) (visit_state n d)
 
 -- what is asked of the CPU and of the group
 pub record MayTake (t : KnownTable) (m : KnownMachine) (c : KnownCpu) (g : ℕ) : Type 0 where
-  pub visit : Visits t (side m c)
+  pub visit : Visits t (visit_state m c)
   pub none_back : c.back ≡ []
   pub usage : (h : ℕ) → usage_of (local_of t m c) h ≡ current_of m.ledger h
   pub there : has_group m.ledger.groups g ≡ true
@@ -292,7 +292,7 @@ taken_all t w m now same c d stays ok facts g fits k pages size may room ledger 
 -- what it leaves if there is none
 pub record NoneTaken (t : KnownTable) (now : KnownMachine) (c : KnownCpu) (g k : ℕ) (n : KnownMachine) (d : KnownCpu) : Type 0 where
   pub none : TakesNoBlock g k now n
-  pub steps : MakesAs t c.number (side now c) (unplaced_steps g k) (side n d)
+  pub steps : MakesAs t c.number (visit_state now c) (unplaced_steps g k) (visit_state n d)
 
 pub none_all : (t : KnownTable) (w : Words) (m now : KnownMachine) → m ≡ now → (c d : KnownCpu) → d ≡ c → IsConsistent t w m → AreCharges m.ledger → (g k pages : ℕ) → pages ≡ 2 ^ k
     → MayTake t now c g → PathHasRoom m.ledger.groups (current_of m.ledger) g pages → (charged ledger : Ledger) → charged ≡ with_charge m.ledger g pages → ledger ≡ with_uncharge charged g pages

@@ -14,7 +14,7 @@ use Rattle.cpu_part.specs.Cpus.{KnownCpu}
 use Rattle.mem_machine.specs.FrameStates.{frame_state_at}
 use Rattle.mem_machine.specs.Machines.{KnownMachine, IsConsistent, home_of, no_lists}
 use Rattle.mem_machine.specs.Marks.{TouchesUnit}
-use Rattle.mem_machine.specs.Local.{MakesAs, side}
+use Rattle.mem_machine.specs.Local.{MakesAs, visit_state}
 use Rattle.mem_machine.proofs.Listed.{touched_owners, fits_home, loose_stay, others_stay}
 use Rattle.mem_machine.proofs.Dirties.{owner_bound, on_list, owned, stands, its_lists}
 use Rattle.mem_machine.proofs.Followed.{makes_stay}
@@ -75,7 +75,7 @@ module _ (t : KnownTable) (w : Words) (m : KnownMachine) (ok : IsConsistent t w 
 pub record AllTouched (t : KnownTable) (w : Words) (now : KnownMachine) (f : ℕ) (touched : Touched) (n : KnownMachine) : Type 0 where
   pub consistent : IsConsistent t w n
   pub touches : TouchesUnit f touched now n
-  pub steps : (c : KnownCpu) → MakesAs t c.number (side now c) [] (side n c)
+  pub steps : (c : KnownCpu) → MakesAs t c.number (visit_state now c) [] (visit_state n c)
 
 pub touch_all : (t : KnownTable) (w : Words) (m now : KnownMachine) → m ≡ now → IsConsistent t w m → (f i : ℕ) → f < t.frames → i ≡ f → (h : Home)
     → Some h ≡ home_of m.links i → (lru : Lru) → lru ≡ get_or m.lists h.owner lru → (links : List Link) (new : Lru) (touched : Touched) → StandsIn links new

@@ -31,7 +31,7 @@ use Rattle.mem_machine.specs.declared.frame_state.FrameState.TheVariants.{Free, 
 use Rattle.mem_machine.specs.FrameStates.{frame_state_at, some_cpu, frame_state_group}
 use Rattle.mem_machine.specs.Machines.{KnownMachine, IsConsistent}
 use Rattle.mem_machine.specs.Local.{number_or_0, fresh_group, phase_of, part_with, part_of, local_of}
-use Rattle.mem_machine.proofs.Ledgers.{cond_zero, cond_one, cond_sum, ledger_side}
+use Rattle.mem_machine.proofs.Ledgers.{cond_zero, cond_one, cond_sum, ledger_visit_state}
 use Rattle.mem_machine.proofs.Records.{lent_frame_state}
 
 -- ---- what the caller's part shows
@@ -194,7 +194,7 @@ module _ (t : KnownTable) (w : Words) (m : KnownMachine) (c : KnownCpu) (is : Is
       let a = kept in
       let b = prepaid in
       let d : pages_pending groups (λ h. 0) g ≡ 0 = sum_none 64 (λ h. cond (in_subtree groups g h) 0 0) (λ h lt. cond_zero (in_subtree groups g h)) in
-      let e = ledger_side t w m is charges g in
+      let e = ledger_visit_state t w m is charges g in
       omega arith
 
 -- the group of a stock is that of the stock seen last, whether it was drained since or not

@@ -5,14 +5,14 @@ use Rattle.step_rules.specs.State.{Zone}
 use Rattle.step_rules.specs.After.{Run}
 use Rattle.step_rules.specs.Laws.{ShowsLocal}
 use Rattle.step_rules.specs.Reaches.{own_steps, IsInterleaved}
-use Rattle.mem_machine.specs.Local.{Side, local_at, Makes}
+use Rattle.mem_machine.specs.Local.{VisitState, local_at, Makes}
 
 -- the sizes of the table's zone
 abbrev pub zone_of : KnownTable → Zone
 zone_of table = record { frames = table.frames; cpus = table.cpus }
 
 -- the run is legal, the CPU holds the lock after it, and what the CPU sees then is what the machine shows it
-abbrev pub Shows : KnownTable → Run → Side → Type 0
+abbrev pub Shows : KnownTable → Run → VisitState → Type 0
 Shows table run now = ShowsLocal (zone_of table) run now.cpu.number (local_at table now)
 
 -- `mixed` may follow the run. Its steps of this CPU and of the zone's seat are `steps`, in this order. Each of those
@@ -25,6 +25,6 @@ pub record IsMixed (table : KnownTable) (run : Run) (processor : ℕ) (steps mix
 -- Suppose that a run shows a CPU the machine, and that a call makes these steps. Mix in any steps that other CPUs may
 -- make. Then the longer run is legal, and shows the CPU the machine and the part that the call left.
 abbrev pub CallsInterleave : Type 0
-CallsInterleave = (table : KnownTable) (run steps mixed : Run) (before after : Side)
+CallsInterleave = (table : KnownTable) (run steps mixed : Run) (before after : VisitState)
     → after.cpu.number ≡ before.cpu.number → Shows table run before → Makes table before steps after
     → IsMixed table run before.cpu.number steps mixed → Shows table (run ++ mixed) after

@@ -8,12 +8,12 @@ use Rattle.cpu_part.specs.Cpus.{KnownCpu, most_listed}
 use Rattle.step_rules.specs.After.{Run}
 use Rattle.mem_machine.specs.declared.frame_state.FrameState.TheVariants.{Free, Lent}
 use Rattle.mem_machine.specs.FrameStates.{free_of}
-use Rattle.mem_machine.specs.Machines.{OneByOne, SideStays}
-use Rattle.mem_machine.specs.Local.{Side, Makes}
+use Rattle.mem_machine.specs.Machines.{OneByOne, VisitStateStays}
+use Rattle.mem_machine.specs.Local.{VisitState, Makes}
 use Rattle.mem_machine.specs.Steps.{lend_steps, unlist_steps, refill_steps, drain_list_steps}
 
 -- the frame was free and is now at the end of the CPU's list; nothing else changed
-pub record LendsFrame (frame : ℕ) (before after : Side) : Type 0 where
+pub record LendsFrame (frame : ℕ) (before after : VisitState) : Type 0 where
   pub areas : AreMaximalBlocks (free_of after.machine.frame_states) after.machine.blocks
   pub machine : after.machine ≡ record before.machine {
     blocks = after.machine.blocks;
@@ -27,43 +27,43 @@ pub record LendsFrame (frame : ℕ) (before after : Side) : Type 0 where
 
 -- of the free blocks of the least order, the one with the least address gave its first frame, which is now at the end
 -- of the CPU's list
-pub record LendsOne (frame : ℕ) (before after : Side) : Type 0 where
+pub record LendsOne (frame : ℕ) (before after : VisitState) : Type 0 where
   pub front : IsFrontOfSmallest before.machine.blocks 0 (record { at = frame; order = 0 })
   pub lends : LendsFrame frame before after
 
 -- there is no free frame, and nothing changed
-pub record LendsNone (before after : Side) : Type 0 where
+pub record LendsNone (before after : VisitState) : Type 0 where
   pub none : HasNoneFrom before.machine.blocks 0
-  pub stays : SideStays before after
+  pub stays : VisitStateStays before after
 
 -- the CPU's list has room for this many more frames: with them, listed and fresh frames are at most `most_listed`
 abbrev pub HasListRoom : KnownCpu → ℕ → Type 0
 HasListRoom cpu count = length cpu.list + length cpu.fresh + count ≤ most_listed
 
 -- these frames are lent, one after the other
-abbrev pub LendsMany : List ℕ → Side → Side → Type 0
+abbrev pub LendsMany : List ℕ → VisitState → VisitState → Type 0
 LendsMany frames before after = OneByOne LendsOne frames before after
 
 -- one frame is lent, by its steps
-pub record LendsByStep (table : KnownTable) (before after : Side) : Type 0 where
+pub record LendsByStep (table : KnownTable) (before after : VisitState) : Type 0 where
   pub frame : ℕ
   pub lends : LendsOne frame before after
   pub steps : Makes table before (lend_steps before.cpu.number frame) after
 
 -- what lending one frame leaves, by its result: true if a frame is lent, false if none is free
-abbrev pub LendsIfFree : KnownTable → Bool → Side → Side → Type 0
+abbrev pub LendsIfFree : KnownTable → Bool → VisitState → VisitState → Type 0
 LendsIfFree table true before after = LendsByStep table before after
 LendsIfFree table false before after = LendsNone before after
 
 -- this many frames are lent, one after the other, by their steps
-pub record Refills (table : KnownTable) (count : ℕ) (before after : Side) : Type 0 where
+pub record Refills (table : KnownTable) (count : ℕ) (before after : VisitState) : Type 0 where
   pub frames : List ℕ
   pub all : count ≡ length frames
   pub lends : LendsMany frames before after
   pub steps : Makes table before (refill_steps before.cpu.number frames) after
 
 -- the frame was at the front of the CPU's list and is free again
-pub record TakesOneBack (frame : ℕ) (before after : Side) : Type 0 where
+pub record TakesOneBack (frame : ℕ) (before after : VisitState) : Type 0 where
   pub rest : List ℕ
   pub front : before.cpu.list ≡ frame ∷ rest
   pub areas : AreMaximalBlocks (free_of after.machine.frame_states) after.machine.blocks
@@ -75,26 +75,26 @@ pub record TakesOneBack (frame : ℕ) (before after : Side) : Type 0 where
   pub cpu : after.cpu ≡ record before.cpu { list = rest; frame_seat = seat_with before.cpu.frame_seat frame gave_back }
 
 -- the list is empty, and nothing changed
-pub record TakesNoneBack (before after : Side) : Type 0 where
+pub record TakesNoneBack (before after : VisitState) : Type 0 where
   pub none : before.cpu.list ≡ []
-  pub stays : SideStays before after
+  pub stays : VisitStateStays before after
 
 -- these frames are returned to the zone, one after the other
-abbrev pub TakesManyBack : List ℕ → Side → Side → Type 0
+abbrev pub TakesManyBack : List ℕ → VisitState → VisitState → Type 0
 TakesManyBack frames before after = OneByOne TakesOneBack frames before after
 
 -- one frame is returned to the zone, by its steps
-pub record TakesBackByStep (table : KnownTable) (before after : Side) : Type 0 where
+pub record TakesBackByStep (table : KnownTable) (before after : VisitState) : Type 0 where
   pub frame : ℕ
   pub takes : TakesOneBack frame before after
   pub steps : Makes table before (unlist_steps before.cpu.number frame) after
 
 -- what returning one frame to the zone leaves, by its result: true if the front of the list is free again, false if the
 -- list is empty
-abbrev pub TakesBackIfListed : KnownTable → Bool → Side → Side → Type 0
+abbrev pub TakesBackIfListed : KnownTable → Bool → VisitState → VisitState → Type 0
 TakesBackIfListed table true before after = TakesBackByStep table before after
 TakesBackIfListed table false before after = TakesNoneBack before after
 
 -- the steps that return this many frames from the front of the CPU's list to the zone
-abbrev pub unlist_front_steps : ℕ → Side → Run
+abbrev pub unlist_front_steps : ℕ → VisitState → Run
 unlist_front_steps count now = drain_list_steps now.cpu.number (take count now.cpu.list)

@@ -17,7 +17,7 @@ use Rattle.step_rules.specs.After.{Run}
 -- the lists of local steps that lead from one local state to another
 pub use Rattle.step_rules.specs.Reaches.{IsLocalRun}
 -- the machine, and the part of the CPU that holds its lock
-pub use Rattle.mem_machine.specs.Machines.{Side, side}
+pub use Rattle.mem_machine.specs.Machines.{VisitState, visit_state}
 use Rattle.mem_machine.specs.declared.frame_state.FrameState.{FrameState}
 use Rattle.mem_machine.specs.declared.frame_state.FrameState.TheVariants.{Free, Lent, Head, Tail}
 use Rattle.mem_machine.specs.FrameStates.{frame_state_at}
@@ -80,7 +80,7 @@ references_of zone_seat cpu seat frame =
 abbrev pub hold_of : KnownSeat → ℕ → Hold
 hold_of seat processor = if slice_index seat.view.opened processor == 1 then Visiting processor else HeldBy processor
 
--- The local state of a side: what the machine shows to the CPU that holds the lock, in the words of the rules. No page
+-- The local state of a visit state: what the machine shows to the CPU that holds the lock, in the words of the rules. No page
 -- is pending between two calls.
 abbrev pub local_of : KnownTable → KnownMachine → KnownCpu → State
 local_of table machine cpu = record {
@@ -94,25 +94,25 @@ local_of table machine cpu = record {
   pending = λ group. 0;
 }
 
--- the local state of the side
-abbrev pub local_at : KnownTable → Side → State
+-- the local state of the visit state
+abbrev pub local_at : KnownTable → VisitState → State
 local_at table now = local_of table now.machine now.cpu
 
--- These steps, of the CPU of this number and of the zone's seat, lead from one side to another. They are local steps
+-- These steps, of the CPU of this number and of the zone's seat, lead from one visit state to another. They are local steps
 -- between the two local states. The ledger's peaks and event counts follow them, and so do the machine's counts.
-pub record MakesAs (table : KnownTable) (number : ℕ) (before : Side) (steps : Run) (after : Side) : Type 0 where
+pub record MakesAs (table : KnownTable) (number : ℕ) (before : VisitState) (steps : Run) (after : VisitState) : Type 0 where
   pub leads : IsLocalRun number (local_at table before) steps (local_at table after)
   pub follows : FollowsSteps (local_at table before) before.machine.ledger steps after.machine.ledger
   pub counts : after.machine.counts ≡ counts_over (local_at table before) steps before.machine.counts
 
--- these steps lead the CPU that holds the lock from one side to the other
-abbrev pub Makes : KnownTable → Side → Run → Side → Type 0
+-- these steps lead the CPU that holds the lock from one visit state to the other
+abbrev pub Makes : KnownTable → VisitState → Run → VisitState → Type 0
 Makes table before steps after = MakesAs table before.cpu.number before steps after
 
--- the steps that a function gives for the side before lead the CPU that holds the lock from that side to the other
-abbrev pub MakesBy : KnownTable → (Side → Run) → Side → Side → Type 0
+-- the steps that a function gives for the visit state before lead the CPU that holds the lock from that visit state to the other
+abbrev pub MakesBy : KnownTable → (VisitState → Run) → VisitState → VisitState → Type 0
 MakesBy table steps before after = Makes table before (steps before) after
 
 -- for each CPU that may hold the lock, these steps lead from one machine to the other, and its part stays the same
 abbrev pub MakesForAny : KnownTable → KnownMachine → Run → KnownMachine → Type 0
-MakesForAny table before steps after = (cpu : KnownCpu) → Makes table (side before cpu) steps (side after cpu)
+MakesForAny table before steps after = (cpu : KnownCpu) → Makes table (visit_state before cpu) steps (visit_state after cpu)

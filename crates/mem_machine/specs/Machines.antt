@@ -192,35 +192,35 @@ abbrev pub LacksRoom : KnownMachine → ℕ → ℕ → ℕ → Type 0
 LacksRoom machine group pages lowest =
     IsLowestOver machine.ledger.groups (current_of machine.ledger) group pages lowest
 
--- A side is the machine with the part of the CPU that holds its lock. A call of the machine leads from one side to
+-- A visit state is the machine with the part of the CPU that holds its lock. A call of the machine leads from one visit state to
 -- another.
-pub record Side : Type 0 where
+pub record VisitState : Type 0 where
   pub machine : KnownMachine
   pub cpu : KnownCpu
 
--- the side of this machine and this part
-abbrev pub side : KnownMachine → KnownCpu → Side
-side machine cpu = record { machine = machine; cpu = cpu }
+-- the visit state of this machine and this part
+abbrev pub visit_state : KnownMachine → KnownCpu → VisitState
+visit_state machine cpu = record { machine = machine; cpu = cpu }
 
--- nothing of the side changed
-pub record SideStays (before after : Side) : Type 0 where
+-- nothing of the visit state changed
+pub record VisitStateStays (before after : VisitState) : Type 0 where
   pub machine : after.machine ≡ before.machine
   pub cpu : after.cpu ≡ before.cpu
 
--- `First` leads from the side before to a side between, and `Rest` leads from there to the side after
-pub record FirstThen (First Rest : Side → Side → Type 0) (before after : Side) : Type 0 where
-  pub between : Side
+-- `First` leads from the visit state before to a visit state between, and `Rest` leads from there to the visit state after
+pub record FirstThen (First Rest : VisitState → VisitState → Type 0) (before after : VisitState) : Type 0 where
+  pub between : VisitState
   pub first : First before between
   pub rest : Rest between after
 
--- the relation leads on from side to side, once for each of these frames, in this order
-abbrev pub OneByOne : (ℕ → Side → Side → Type 0) → List ℕ → Side → Side → Type 0
-OneByOne IsDone [] before after = SideStays before after
+-- the relation leads on from visit state to visit state, once for each of these frames, in this order
+abbrev pub OneByOne : (ℕ → VisitState → VisitState → Type 0) → List ℕ → VisitState → VisitState → Type 0
+OneByOne IsDone [] before after = VisitStateStays before after
 OneByOne IsDone (frame ∷ others) before after = FirstThen (IsDone frame) (OneByOne IsDone others) before after
 
 -- The CPU is visited. Its visit is open, and no frame is in transit between it and the zone. The frames lent to it are
 -- those that its seat has borrowed: its listed and its fresh frames.
-pub record Visits (table : KnownTable) (now : Side) : Type 0 where
+pub record Visits (table : KnownTable) (now : VisitState) : Type 0 where
   pub is_open : IsOpen now.machine.frame_seat now.cpu.number
   pub still : NothingPasses table now.machine.frame_seat now.cpu.frame_seat
   pub lent : LentIsBorrowed table now.machine.frame_seat now.cpu.frame_seat
@@ -228,11 +228,11 @@ pub record Visits (table : KnownTable) (now : Side) : Type 0 where
 -- each CPU that was visited before is visited after
 abbrev pub StaysVisited : KnownTable → KnownMachine → KnownMachine → Type 0
 StaysVisited table before after =
-    (cpu : KnownCpu) → Visits table (side before cpu) → Visits table (side after cpu)
+    (cpu : KnownCpu) → Visits table (visit_state before cpu) → Visits table (visit_state after cpu)
 
 -- What a visit keeps. The CPU is still visited, no visit was opened or shut, and the CPU has the same number and the
 -- same back frames.
-pub record KeepsVisit (table : KnownTable) (before after : Side) : Type 0 where
+pub record KeepsVisit (table : KnownTable) (before after : VisitState) : Type 0 where
   pub visit : Visits table after
   pub opened : after.machine.frame_seat.view.opened ≡ before.machine.frame_seat.view.opened
   pub number : after.cpu.number ≡ before.cpu.number

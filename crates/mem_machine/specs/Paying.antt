@@ -7,25 +7,25 @@ use Rattle.cpu_part.specs.Calls.{TakesFront}
 use Rattle.group_tree.specs.Groups.{has_group}
 use Rattle.zone_sizes.specs.Config.{most_cpus, most_frames}
 use Rattle.group_charge.specs.Charges.{current_of}
-use Rattle.mem_machine.specs.Machines.{KnownMachine, Side, is_killed}
+use Rattle.mem_machine.specs.Machines.{KnownMachine, VisitState, is_killed}
 use Rattle.mem_machine.specs.Stocks.{stock_group}
 -- how many pages are in the CPU's stock
 pub use Rattle.mem_machine.specs.Stocks.{pages_held}
 
 -- this is the CPU's own stock: its group, its pages, and whether it is held
-pub record IsOwnStock (now : Side) (stock : Stock) : Type 0 where
+pub record IsOwnStock (now : VisitState) (stock : Stock) : Type 0 where
   pub group : group_of stock ≡ stock_group now.machine now.cpu.number
   pub held : is_held stock ≡ (account_of now.machine.stock_seat.view now.cpu.number).filled
   pub pages : pages_of stock ≡ pages_held now
 
 -- the CPU's stock is of this group, isn't drained, and has a page
-pub record HoldsPage (now : Side) (owner : ℕ) : Type 0 where
+pub record HoldsPage (now : VisitState) (owner : ℕ) : Type 0 where
   pub group : stock_group now.machine now.cpu.number ≡ Some owner
   pub held : (account_of now.machine.stock_seat.view now.cpu.number).filled ≡ true
   pub some : 1 ≤ pages_held now
 
 -- the frame at the front of the CPU's list is fresh now, and the stock of the group has one page less
-pub record PaysForFront (group frame : ℕ) (before after : Side) : Type 0 where
+pub record PaysForFront (group frame : ℕ) (before after : VisitState) : Type 0 where
   pub takes : TakesFront group (pages_held before - 1) frame before.cpu after.cpu
   pub machine : after.machine ≡ before.machine
 

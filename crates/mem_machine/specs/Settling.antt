@@ -19,7 +19,7 @@ use Rattle.step_rules.specs.declared.step.Answer.TheVariants.{Done, Pages}
 use Rattle.step_rules.specs.After.{Run}
 use Rattle.mem_machine.specs.declared.frame_state.FrameState.TheVariants.{Head}
 use Rattle.mem_machine.specs.FrameStates.{frame_state_at, free_of}
-use Rattle.mem_machine.specs.Machines.{OneByOne, Side, SideStays, is_killed}
+use Rattle.mem_machine.specs.Machines.{OneByOne, VisitState, VisitStateStays, is_killed}
 use Rattle.mem_machine.specs.Local.{Makes, fresh_group}
 use Rattle.mem_machine.specs.Steps.{zone_makes, cpu_makes}
 use Rattle.mem_machine.specs.Lists.{ListsUnit}
@@ -62,7 +62,7 @@ pub record HandsOver (frame : ℕ) (before after : KnownCpu) : Type 0 where
 
 -- The oldest fresh frame becomes a kept unit of one frame, of this group. It is in use, has one reference of the zone,
 -- and is on the group's inactive list. Its page leaves the book and stays charged, now for the frame.
-pub record KeepsFresh (group frame : ℕ) (before after : Side) : Type 0 where
+pub record KeepsFresh (group frame : ℕ) (before after : VisitState) : Type 0 where
   pub listed : ListsUnit group frame before.machine after.machine
   pub machine : after.machine ≡ record before.machine {
     frame_states = slice_set before.machine.frame_states frame (Head (record { group = group; order = 0 }));
@@ -74,7 +74,7 @@ pub record KeepsFresh (group frame : ℕ) (before after : Side) : Type 0 where
   pub cpu : HandsOver frame before.cpu after.cpu
 
 -- a drop: the oldest fresh frame is free again, and its page leaves the book and the group's charge
-pub record DropsFresh (group frame : ℕ) (before after : Side) : Type 0 where
+pub record DropsFresh (group frame : ℕ) (before after : VisitState) : Type 0 where
   pub frees : FreesFrames frame 1 before.machine.frame_states after.machine.frame_states
   pub areas : AreMaximalBlocks (free_of after.machine.frame_states) after.machine.blocks
   pub machine : after.machine ≡ record before.machine {
@@ -88,7 +88,7 @@ pub record DropsFresh (group frame : ℕ) (before after : Side) : Type 0 where
   pub cpu : HandsOver frame before.cpu after.cpu
 
 -- the unit that the oldest back frame heads is freed, and its pages leave the charge of its group
-pub record ReturnsBack (frame : ℕ) (before after : Side) : Type 0 where
+pub record ReturnsBack (frame : ℕ) (before after : VisitState) : Type 0 where
   pub unit : ChargedUnit
   pub heads : frame_state_at before.machine.frame_states frame ≡ Head unit
   pub frees : FreesFrames frame (2 ^ unit.order) before.machine.frame_states after.machine.frame_states
@@ -107,40 +107,40 @@ pub record ReturnsBack (frame : ℕ) (before after : Side) : Type 0 where
   }
 
 -- the group of the CPU's fresh frames is killed
-abbrev pub is_fresh_killed : Side → Bool
+abbrev pub is_fresh_killed : VisitState → Bool
 is_fresh_killed now = is_killed now.machine.killed (fresh_group now.cpu)
 
 -- the oldest fresh frame is kept for its group, or dropped if that group is killed
-pub record SettlesFresh (frame : ℕ) (before after : Side) : Type 0 where
+pub record SettlesFresh (frame : ℕ) (before after : VisitState) : Type 0 where
   pub keeps : is_fresh_killed before ≡ false → KeepsFresh (fresh_group before.cpu) frame before after
   pub drops : is_fresh_killed before ≡ true → DropsFresh (fresh_group before.cpu) frame before after
 
 -- no frame of the CPU is fresh, and nothing changed
-pub record FindsNoneFresh (before after : Side) : Type 0 where
+pub record FindsNoneFresh (before after : VisitState) : Type 0 where
   pub none_fresh : before.cpu.fresh ≡ []
-  pub stays : SideStays before after
+  pub stays : VisitStateStays before after
 
 -- the CPU has no back frame, and nothing changed
-pub record FindsNoneBack (before after : Side) : Type 0 where
+pub record FindsNoneBack (before after : VisitState) : Type 0 where
   pub none_back : before.cpu.back ≡ []
-  pub stays : SideStays before after
+  pub stays : VisitStateStays before after
 
 -- what settling the oldest fresh frame leaves, by its result: that frame, or None if there is no fresh frame
-abbrev pub SettlesNext : Option ℕ → Side → Side → Type 0
+abbrev pub SettlesNext : Option ℕ → VisitState → VisitState → Type 0
 SettlesNext None before after = FindsNoneFresh before after
 SettlesNext (Some frame) before after = SettlesFresh frame before after
 
 -- what freeing the unit of the oldest back frame leaves, by its result: that frame, or None if there is no back frame
-abbrev pub ReturnsNext : Option ℕ → Side → Side → Type 0
+abbrev pub ReturnsNext : Option ℕ → VisitState → VisitState → Type 0
 ReturnsNext None before after = FindsNoneBack before after
 ReturnsNext (Some frame) before after = ReturnsBack frame before after
 
 -- these fresh frames are settled, one after the other
-abbrev pub SettlesAllFresh : List ℕ → Side → Side → Type 0
+abbrev pub SettlesAllFresh : List ℕ → VisitState → VisitState → Type 0
 SettlesAllFresh frames before after = OneByOne SettlesFresh frames before after
 
 -- the units of these back frames are freed, one after the other
-abbrev pub ReturnsAllBack : List ℕ → Side → Side → Type 0
+abbrev pub ReturnsAllBack : List ℕ → VisitState → VisitState → Type 0
 ReturnsAllBack frames before after = OneByOne ReturnsBack frames before after
 
 -- the CPU keeps its number, its list and its pins
@@ -151,8 +151,8 @@ pub record LeavesOthers (before after : KnownCpu) : Type 0 where
 
 -- all fresh frames are settled, in the order in which they were taken; then the units of all back frames are freed, in
 -- the order of their last puts
-pub record Settles (before after : Side) : Type 0 where
-  pub mid : Side
+pub record Settles (before after : VisitState) : Type 0 where
+  pub mid : VisitState
   pub fresh : SettlesAllFresh before.cpu.fresh before mid
   pub back : ReturnsAllBack before.cpu.back mid after
 
@@ -190,23 +190,23 @@ fresh_steps is_killed processor frame =
     if is_killed then drop_steps processor frame else keep_steps processor frame
 
 -- the steps of all fresh frames, in the order in which they were taken
-abbrev pub all_fresh_steps : Side → Run
+abbrev pub all_fresh_steps : VisitState → Run
 all_fresh_steps now = flat_map (fresh_steps (is_fresh_killed now) now.cpu.number) now.cpu.fresh
 
 -- the steps of all back frames, in the order of their last puts
-abbrev pub return_all_steps : Side → Run
+abbrev pub return_all_steps : VisitState → Run
 return_all_steps now = flat_map (return_steps now.cpu.number) now.cpu.back
 
 -- the steps of a settle
-abbrev pub settle_steps : Side → Run
+abbrev pub settle_steps : VisitState → Run
 settle_steps now = all_fresh_steps now ++ return_all_steps now
 
--- if a fresh frame was settled, its steps lead from the side before to the side after
-abbrev pub MakesFreshSteps : KnownTable → Option ℕ → Side → Side → Type 0
+-- if a fresh frame was settled, its steps lead from the visit state before to the visit state after
+abbrev pub MakesFreshSteps : KnownTable → Option ℕ → VisitState → VisitState → Type 0
 MakesFreshSteps table next before after =
     IfSome next (λ frame. Makes table before (fresh_steps (is_fresh_killed before) before.cpu.number frame) after)
 
--- if the unit of a back frame was freed, its steps lead from the side before to the side after
-abbrev pub MakesReturnSteps : KnownTable → Option ℕ → Side → Side → Type 0
+-- if the unit of a back frame was freed, its steps lead from the visit state before to the visit state after
+abbrev pub MakesReturnSteps : KnownTable → Option ℕ → VisitState → VisitState → Type 0
 MakesReturnSteps table next before after =
     IfSome next (λ frame. Makes table before (return_steps before.cpu.number frame) after)

@@ -15,7 +15,7 @@ use Rattle.step_rules.specs.Usage.{is_below}
 use Rattle.step_rules.specs.Legal.{is_of_group}
 use Rattle.step_rules.specs.After.{Run}
 use Rattle.mem_machine.specs.Machines.{KnownMachine, LacksRoom}
-use Rattle.mem_machine.specs.Local.{Side, side, Makes, MakesForAny}
+use Rattle.mem_machine.specs.Local.{VisitState, visit_state, Makes, MakesForAny}
 use Rattle.mem_machine.specs.Steps.{Drain, drain_steps, drain_stocks_steps, fill_steps, over_steps, pages_drained}
 
 -- the ledger with this many pages less charged to the group, if there is one
@@ -36,7 +36,7 @@ abbrev pub FitsStock : ℕ → Type 0
 FitsStock pages = (0 < pages) × (pages < 65536)
 
 -- how many pages are in the CPU's stock: its book without the pages that paid for fresh frames
-abbrev pub pages_held : Side → ℕ
+abbrev pub pages_held : VisitState → ℕ
 pages_held now = (account_of now.machine.stock_seat.view now.cpu.number).book - length now.cpu.fresh
 
 -- the machine after the zone's seat looked at a stock once: one more step of the seat, and nothing else
@@ -163,7 +163,7 @@ abbrev pub AreOwnDrained : ℕ → ℕ → KnownMachine → Type 0
 AreOwnDrained group cpus machine = AreDrainedIf (of_group group) cpus machine
 
 -- the limits have room for this many pages; they are charged to the group and fill the CPU's stock
-pub record Fills (group pages : ℕ) (before after : Side) : Type 0 where
+pub record Fills (group pages : ℕ) (before after : VisitState) : Type 0 where
   pub room : PathHasRoom before.machine.ledger.groups (current_of before.machine.ledger) group pages
   pub machine : after.machine ≡ record before.machine {
     ledger = with_charge before.machine.ledger group pages;
@@ -175,26 +175,26 @@ pub record Fills (group pages : ℕ) (before after : Side) : Type 0 where
   }
 
 -- the steps that charge pages to the group and fill the CPU's stock with them
-abbrev pub own_fill_steps : ℕ → ℕ → Side → Run
+abbrev pub own_fill_steps : ℕ → ℕ → VisitState → Run
 own_fill_steps group pages now = fill_steps now.cpu.number group pages
 
 -- the charge is refused at the group that the error names, and nothing changes
-abbrev pub RefusesGrant : KnownTable → ℕ → ℕ → Over → Side → Type 0
+abbrev pub RefusesGrant : KnownTable → ℕ → ℕ → Over → VisitState → Type 0
 RefusesGrant table group pages over now = Makes table now (over_steps group pages over.group) now
 
 -- the steps that drain the CPU's own stock of all its pages
-abbrev pub own_drain_steps : Side → Run
+abbrev pub own_drain_steps : VisitState → Run
 own_drain_steps now = drain_steps now.cpu.number (stock_group now.machine now.cpu.number) (pages_held now)
 
 -- what `prepay` leaves: the CPU's own stock is drained of all its pages, looked at, and then filled
-pub record Prepays (group pages : ℕ) (before after : Side) : Type 0 where
+pub record Prepays (group pages : ℕ) (before after : VisitState) : Type 0 where
   pub emptied : KnownMachine
   pub drains : Drains before.cpu.number (pages_held before) before.machine emptied
-  pub fills : Fills group pages (side (with_look emptied) before.cpu) after
+  pub fills : Fills group pages (visit_state (with_look emptied) before.cpu) after
 
 -- What `prepay` leaves if a limit has no room. The CPU's own stock is drained of all its pages and looked at, and
 -- nothing is charged. Group `over` is the lowest without room.
-pub record IsOver (group pages over : ℕ) (before after : Side) : Type 0 where
+pub record IsOver (group pages over : ℕ) (before after : VisitState) : Type 0 where
   pub emptied : KnownMachine
   pub drains : Drains before.cpu.number (pages_held before) before.machine emptied
   pub machine : after.machine ≡ with_look emptied
@@ -202,9 +202,9 @@ pub record IsOver (group pages over : ℕ) (before after : Side) : Type 0 where
   pub cpu : after.cpu ≡ before.cpu
 
 -- the steps of `prepay` if the pages are charged
-abbrev pub prepay_steps : ℕ → ℕ → Side → Run
+abbrev pub prepay_steps : ℕ → ℕ → VisitState → Run
 prepay_steps group pages now = own_drain_steps now ++ fill_steps now.cpu.number group pages
 
 -- the steps of `prepay` if the charge is refused at group `over`, after the own stock was drained
-abbrev pub refused_prepay_steps : ℕ → ℕ → ℕ → Side → Run
+abbrev pub refused_prepay_steps : ℕ → ℕ → ℕ → VisitState → Run
 refused_prepay_steps group pages over now = own_drain_steps now ++ over_steps group pages over

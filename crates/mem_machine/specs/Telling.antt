@@ -8,7 +8,7 @@ use Rattle.group_charge.specs.Charges.{Ledger, peak_of, events_of, events_local_
 use Rattle.step_rules.specs.After.{Run}
 use Rattle.step_rules.specs.Peaks.{IsPeak}
 use Rattle.step_rules.specs.Events.{events_of as events_in, events_local_of as events_local_in}
-use Rattle.mem_machine.specs.Local.{Side, Makes}
+use Rattle.mem_machine.specs.Local.{VisitState, Makes}
 use Rattle.mem_machine.specs.Interleaving.{zone_of, Shows, IsMixed}
 
 -- for each existing group, the ledger has the peak that the group reached in the run, and the counts of the events that
@@ -25,6 +25,6 @@ pub record TellsRun (table : KnownTable) (run : Run) (ledger : Ledger) : Type 0 
 -- makes these steps. Mix in any steps that other CPUs may make. Then the ledger after the call has the peaks and event
 -- counts of the longer run.
 abbrev pub LedgersTell : Type 0
-LedgersTell = (table : KnownTable) (run steps mixed : Run) (before after : Side)
+LedgersTell = (table : KnownTable) (run steps mixed : Run) (before after : VisitState)
     → Shows table run before → TellsRun table run before.machine.ledger → Makes table before steps after
     → IsMixed table run before.cpu.number steps mixed → TellsRun table (run ++ mixed) after.machine.ledger

@@ -4,7 +4,7 @@ ghost use Rattle.std.specs.Prelude.{◌≡◌, ◌+◌, ◌^◌, ◌≤◌, IfOk
 ghost use Rattle.mem_machine.specs.Machines.{Visits};
 ghost use Rattle.mem_machine.specs.Paying.{MayCharge};
 ghost use Rattle.mem_machine.specs.Blocks.{PlacesUnit, TakesBlock, RefusesBlock, block_steps};
-ghost use Rattle.mem_machine.specs.Local.{Makes, side};
+ghost use Rattle.mem_machine.specs.Local.{Makes, visit_state};
 
 use crate::lists::join_list;
 use crate::machine::Machine;
@@ -53,16 +53,16 @@ impl<N: BootName> Machine<N> {
         group: GroupId,
         order: Order,
     ) -> Result<Frame, TakeFault>
-        requires visit { Visits N.frames (side self.old cpu.old) }
+        requires visit { Visits N.frames (visit_state self.old cpu.old) }
         requires charges { MayCharge self.old group (2 ^ order) }
         requires none_fresh { cpu.old.fresh ≡ [] }
         requires none_back { cpu.old.back ≡ [] }
         ensures takes { IfOk result (λ head. TakesBlock group order head self.old self.new) }
         ensures refuses { IfErr result (λ fault. RefusesBlock group order fault self.old self.new) }
         ensures cpu { cpu.new ≡ cpu.old }
-        ensures visit { Visits N.frames (side self.new cpu.new) }
-        ensures steps { Makes N.frames (side self.old cpu.old)
-            (block_steps group order result) (side self.new cpu.new) }
+        ensures visit { Visits N.frames (visit_state self.new cpu.new) }
+        ensures steps { Makes N.frames (visit_state self.old cpu.old)
+            (block_steps group order result) (visit_state self.new cpu.new) }
     {
         let pages = order.frames();
         let _number = cpu.number(); // Called for its contract.

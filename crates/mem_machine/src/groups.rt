@@ -6,7 +6,7 @@ ghost use Rattle.group_tree.specs.Groups.{has_group, has_child, make_fault};
 ghost use Rattle.group_charge.specs.Charges.{current_of, SameUsage, with_group_limit, with_group_removed, with_oom_flag};
 ghost use Rattle.group_charge.specs.Charges.{with_group_kill_noted, with_kill_noted, with_max_noted, with_oom_noted};
 ghost use Rattle.mem_machine.specs.Machines.{is_killed, AddsGroup, Visits};
-ghost use Rattle.mem_machine.specs.Local.{Makes, MakesForAny, side};
+ghost use Rattle.mem_machine.specs.Local.{Makes, MakesForAny, visit_state};
 ghost use Rattle.mem_machine.specs.Steps.{kill_steps, note_group_kill_steps, note_max_steps, note_oom_steps};
 ghost use Rattle.mem_machine.specs.Steps.{make_steps, remove_steps, set_max_steps, set_oom_group_steps};
 
@@ -83,14 +83,14 @@ impl<N: BootName> Machine<N> {
     /// Removes an existing group other than the root, if it has no child and nothing charged. The CPU has been settled:
     /// it has no fresh frame.
     pub fn remove(&mut self, cpu: &Cpu<N>, group: GroupId)
-        requires visit { Visits N.frames (side self.old cpu.now) }
+        requires visit { Visits N.frames (visit_state self.old cpu.now) }
         requires there { IsTrue (has_group self.old.ledger.groups group) }
         requires leaf { has_child self.old.ledger.groups group ≡ false }
         requires below_root { group ≢ 0 }
         requires empty { current_of self.old.ledger group ≡ 0 }
         requires none_fresh { cpu.now.fresh ≡ [] }
         ensures machine { self.new ≡ record self.old { ledger = with_group_removed self.old.ledger group } }
-        ensures steps { Makes N.frames (side self.old cpu.now) (remove_steps group) (side self.new cpu.now) }
+        ensures steps { Makes N.frames (visit_state self.old cpu.now) (remove_steps group) (visit_state self.new cpu.now) }
     {
         let _number = cpu.number(); // Called for its contract.
         let _tree = self.charges.tree(); // Called for its contract.

@@ -7,7 +7,7 @@ ghost use Rattle.mem_machine.specs.FrameStates.{frame_state_at};
 ghost use Rattle.mem_machine.specs.Machines.{Visits};
 ghost use Rattle.mem_machine.specs.Lending.{HasListRoom, LendsIfFree, LendsFrame, Refills};
 ghost use Rattle.mem_machine.specs.Lending.{TakesBackIfListed, TakesManyBack, unlist_front_steps};
-ghost use Rattle.mem_machine.specs.Local.{Makes, MakesBy, side};
+ghost use Rattle.mem_machine.specs.Local.{Makes, MakesBy, visit_state};
 ghost use Rattle.mem_machine.specs.Steps.{lend_steps};
 
 use crate::machine::Machine;
@@ -20,10 +20,10 @@ use zone_blocks::order::Order;
 impl<N: BootName> Machine<N> {
     // Lends one free frame to the CPU, if there is one, at the end of its list.
     fn lend_one(&mut self, tables: &Tables<N>, cpu: &mut Cpu<N>) -> bool
-        requires visit { Visits N.frames (side self.old cpu.old) }
+        requires visit { Visits N.frames (visit_state self.old cpu.old) }
         requires room { HasListRoom cpu.old 1 }
-        ensures lends { LendsIfFree N.frames result (side self.old cpu.old) (side self.new cpu.new) }
-        ensures visit { Visits N.frames (side self.new cpu.new) }
+        ensures lends { LendsIfFree N.frames result (visit_state self.old cpu.old) (visit_state self.new cpu.new) }
+        ensures visit { Visits N.frames (visit_state self.new cpu.new) }
     {
         let number = cpu.number();
         let _few = tables.stocks.cpus(); // Its contract bounds CPU numbers, so one fits a byte.
@@ -42,12 +42,12 @@ impl<N: BootName> Machine<N> {
     /// Lends up to `batch` free frames to the visited CPU, one after the other, and returns how many it lent. They are
     /// added to the end of its list, which has room for them: listed and fresh frames are at most 256.
     pub fn refill(&mut self, tables: &Tables<N>, cpu: &mut Cpu<N>, batch: u32) -> u32
-        requires visit { Visits N.frames (side self.old cpu.old) }
+        requires visit { Visits N.frames (visit_state self.old cpu.old) }
         requires room { HasListRoom cpu.old batch }
         ensures at_most { result ≤ batch }
-        ensures refills { Refills N.frames result (side self.old cpu.old) (side self.new cpu.new) }
+        ensures refills { Refills N.frames result (visit_state self.old cpu.old) (visit_state self.new cpu.new) }
         ensures fewer_only_at_the_end { result < batch → HasNoneFrom self.new.blocks 0 }
-        ensures visit { Visits N.frames (side self.new cpu.new) }
+        ensures visit { Visits N.frames (visit_state self.new cpu.new) }
     {
         for lent in 0..batch {
             if !self.lend_one(tables, cpu) {
@@ -60,14 +60,14 @@ impl<N: BootName> Machine<N> {
     /// Lends this free frame to the visited CPU, at the end of its list. The list has room for it: listed and fresh
     /// frames are at most 256.
     pub fn lend(&mut self, tables: &Tables<N>, cpu: &mut Cpu<N>, frame: Frame)
-        requires visit { Visits N.frames (side self.old cpu.old) }
+        requires visit { Visits N.frames (visit_state self.old cpu.old) }
         requires frame { frame < N.frames.frames }
         requires free { frame_state_at self.old.frame_states frame ≡ Free }
         requires room { HasListRoom cpu.old 1 }
-        ensures lends { LendsFrame frame (side self.old cpu.old) (side self.new cpu.new) }
-        ensures visit { Visits N.frames (side self.new cpu.new) }
-        ensures steps { Makes N.frames (side self.old cpu.old)
-            (lend_steps cpu.old.number frame) (side self.new cpu.new) }
+        ensures lends { LendsFrame frame (visit_state self.old cpu.old) (visit_state self.new cpu.new) }
+        ensures visit { Visits N.frames (visit_state self.new cpu.new) }
+        ensures steps { Makes N.frames (visit_state self.old cpu.old)
+            (lend_steps cpu.old.number frame) (visit_state self.new cpu.new) }
     {
         let number = cpu.number();
         let _few = tables.stocks.cpus(); // Its contract bounds CPU numbers, so one fits a byte.
@@ -80,9 +80,9 @@ impl<N: BootName> Machine<N> {
 
     // Frees the front of the CPU's list, if there is one.
     fn take_one_back(&mut self, tables: &Tables<N>, cpu: &mut Cpu<N>) -> bool
-        requires { Visits N.frames (side self.old cpu.old) }
-        ensures takes { TakesBackIfListed N.frames result (side self.old cpu.old) (side self.new cpu.new) }
-        ensures visit { Visits N.frames (side self.new cpu.new) }
+        requires { Visits N.frames (visit_state self.old cpu.old) }
+        ensures takes { TakesBackIfListed N.frames result (visit_state self.old cpu.old) (visit_state self.new cpu.new) }
+        ensures visit { Visits N.frames (visit_state self.new cpu.new) }
     {
         let _number = cpu.number(); // Called for its contract.
         let Some(frame) = cpu.hand_front(tables, &mut self.frame_seat) else {
@@ -101,13 +101,13 @@ impl<N: BootName> Machine<N> {
     /// Returns up to `count` frames from the front of the visited CPU's list to the zone, one after the other, and
     /// reports how many. They are free again.
     pub fn drain_list(&mut self, tables: &Tables<N>, cpu: &mut Cpu<N>, count: u32) -> u32
-        requires { Visits N.frames (side self.old cpu.old) }
+        requires { Visits N.frames (visit_state self.old cpu.old) }
         ensures at_most { result ≤ count }
         ensures listed { result ≤ length cpu.old.list }
-        ensures takes { TakesManyBack (take result cpu.old.list) (side self.old cpu.old) (side self.new cpu.new) }
+        ensures takes { TakesManyBack (take result cpu.old.list) (visit_state self.old cpu.old) (visit_state self.new cpu.new) }
         ensures fewer_only_at_the_end { result < count → cpu.new.list ≡ [] }
-        ensures visit { Visits N.frames (side self.new cpu.new) }
-        ensures steps { MakesBy N.frames (unlist_front_steps result) (side self.old cpu.old) (side self.new cpu.new) }
+        ensures visit { Visits N.frames (visit_state self.new cpu.new) }
+        ensures steps { MakesBy N.frames (unlist_front_steps result) (visit_state self.old cpu.old) (visit_state self.new cpu.new) }
     {
         for taken in 0..count {
             if !self.take_one_back(tables, cpu) {

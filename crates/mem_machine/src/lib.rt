@@ -12,9 +12,9 @@
 //!   whose last reference the CPU put.
 //! - A stock's book is all that was charged through it: the pages in it, those that paid for fresh frames, and those
 //!   that are reported and not absorbed yet.
-//! - A `Side` is the machine with the part of the CPU that holds its lock. `Visits` says that this CPU's visit is open.
+//! - A `VisitState` is the machine with the part of the CPU that holds its lock. `Visits` says that this CPU's visit is open.
 //!   A visit lasts from `open` to `shut`, and frames are handed over only inside it.
-//! - `local_of` is what a side shows, in the words of the rules. `Makes` says that a list of steps leads from one side
+//! - `local_of` is what a visit state shows, in the words of the rules. `Makes` says that a list of steps leads from one visit state
 //!   to another.
 //!
 //! A line that ends in 'Called for its contract' calls a reader and changes nothing. A proof knows the invariant of a

@@ -4,7 +4,7 @@ ghost use Rattle.std.specs.Prelude.{◌≡◌, ℕ, ◌<◌, ◌≤◌, [], leng
 ghost use Rattle.mem_machine.specs.Machines.{Visits};
 ghost use Rattle.mem_machine.specs.Paying.{HasRoomFor, HoldsPage, IsOfSize, IsOwnStock, PaysForFront};
 ghost use Rattle.mem_machine.specs.Stocks.{with_look};
-ghost use Rattle.mem_machine.specs.Local.{Makes, side};
+ghost use Rattle.mem_machine.specs.Local.{Makes, visit_state};
 ghost use Rattle.mem_machine.specs.Steps.{take_front_steps};
 
 use crate::machine::Machine;
@@ -17,7 +17,7 @@ impl<N: BootName> Machine<N> {
     /// The CPU's own stock: its group, its pages, and whether it was drained. This is one look, which the zone's seat
     /// counts as a step.
     pub fn own_stock(&mut self, tables: &Tables<N>, cpu: &mut Cpu<N>) -> Stock
-        ensures stock { IsOwnStock (side self.old cpu.old) result }
+        ensures stock { IsOwnStock (visit_state self.old cpu.old) result }
         ensures machine { self.new ≡ with_look self.old }
         ensures cpu { cpu.new ≡ cpu.old }
     {
@@ -37,15 +37,15 @@ impl<N: BootName> Machine<N> {
     /// Takes the front of the visited CPU's list for `group`, and pays with a page of the CPU's stock, which is of that
     /// group. The frame is fresh now. The CPU has been settled, so no frame was fresh before.
     pub fn take_front(&mut self, tables: &Tables<N>, cpu: &mut Cpu<N>, group: GroupId) -> Frame
-        requires visit { Visits N.frames (side self.old cpu.old) }
-        requires page { HoldsPage (side self.old cpu.old) group }
+        requires visit { Visits N.frames (visit_state self.old cpu.old) }
+        requires page { HoldsPage (visit_state self.old cpu.old) group }
         requires front { 1 ≤ length cpu.old.list }
         requires none_fresh { cpu.old.fresh ≡ [] }
-        ensures pays { PaysForFront group result (side self.old cpu.old) (side self.new cpu.new) }
+        ensures pays { PaysForFront group result (visit_state self.old cpu.old) (visit_state self.new cpu.new) }
         ensures frame { result < N.frames.frames }
-        ensures visit { Visits N.frames (side self.new cpu.new) }
-        ensures steps { Makes N.frames (side self.old cpu.old)
-            (take_front_steps cpu.old.number group) (side self.new cpu.new) }
+        ensures visit { Visits N.frames (visit_state self.new cpu.new) }
+        ensures steps { Makes N.frames (visit_state self.old cpu.old)
+            (take_front_steps cpu.old.number group) (visit_state self.new cpu.new) }
     {
         let _number = cpu.number(); // Called for its contract.
         self.stock_seat.take_front(tables, cpu, group)

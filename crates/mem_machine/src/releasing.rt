@@ -3,7 +3,7 @@
 ghost use Rattle.std.specs.Prelude.{◌<◌};
 ghost use Rattle.mem_machine.specs.Machines.{HeadsKeptUnit, StaysVisited, Visits};
 ghost use Rattle.mem_machine.specs.Releasing.{Releases, release_steps};
-ghost use Rattle.mem_machine.specs.Local.{Makes, MakesForAny, side};
+ghost use Rattle.mem_machine.specs.Local.{Makes, MakesForAny, visit_state};
 
 use crate::freed::free_unit;
 use crate::lists::leave_list;
@@ -49,12 +49,12 @@ impl<N: BootName> Machine<N> {
 
     /// Releases a kept unit as `drop_zone_reference` does, in the visit of this CPU.
     pub fn release(&mut self, tables: &Tables<N>, cpu: &Cpu<N>, head: Frame) -> Released
-        requires visit { Visits N.frames (side self.old cpu.now) }
+        requires visit { Visits N.frames (visit_state self.old cpu.now) }
         requires frame { head < N.frames.frames }
         requires kept { HeadsKeptUnit self.old head }
         ensures releases { Releases head result self.old self.new }
-        ensures visit { Visits N.frames (side self.new cpu.now) }
-        ensures steps { Makes N.frames (side self.old cpu.now) (release_steps head result) (side self.new cpu.now) }
+        ensures visit { Visits N.frames (visit_state self.new cpu.now) }
+        ensures steps { Makes N.frames (visit_state self.old cpu.now) (release_steps head result) (visit_state self.new cpu.now) }
     {
         self.drop_zone_reference(tables, head)
     }

@@ -3,7 +3,7 @@
 ghost use Rattle.std.specs.Prelude.{◌≡◌, ◌≢◌, ◌<◌, [], true, Some};
 ghost use Rattle.stock_word.specs.Stock.{group_of};
 ghost use Rattle.mem_machine.specs.Machines.{Visits, is_killed};
-ghost use Rattle.mem_machine.specs.Local.{Makes, MakesBy, side};
+ghost use Rattle.mem_machine.specs.Local.{Makes, MakesBy, visit_state};
 ghost use Rattle.mem_machine.specs.Settling.{KeepsFresh, DropsFresh, SettlesNext, SettlesAllFresh, Settles};
 ghost use Rattle.mem_machine.specs.Settling.{ReturnsNext, ReturnsAllBack, LeavesOthers};
 ghost use Rattle.mem_machine.specs.Settling.{MakesFreshSteps, MakesReturnSteps, keep_steps, drop_steps};
@@ -22,13 +22,13 @@ use zone_blocks::order::Order;
 impl<N: BootName> Machine<N> {
     // Keeps the oldest fresh frame for the group that paid for it.
     fn keep_one(&mut self, tables: &Tables<N>, cpu: &mut Cpu<N>, group: GroupId) -> Frame
-        requires visit { Visits N.frames (side self.old cpu.old) }
+        requires visit { Visits N.frames (visit_state self.old cpu.old) }
         requires fresh { cpu.old.fresh ≢ [] }
         requires group { group_of cpu.old.stock_seat.view.last ≡ Some group }
-        ensures keeps { KeepsFresh group result (side self.old cpu.old) (side self.new cpu.new) }
-        ensures visit { Visits N.frames (side self.new cpu.new) }
-        ensures steps { Makes N.frames (side self.old cpu.old)
-            (keep_steps cpu.old.number result) (side self.new cpu.new) }
+        ensures keeps { KeepsFresh group result (visit_state self.old cpu.old) (visit_state self.new cpu.new) }
+        ensures visit { Visits N.frames (visit_state self.new cpu.new) }
+        ensures steps { Makes N.frames (visit_state self.old cpu.old)
+            (keep_steps cpu.old.number result) (visit_state self.new cpu.new) }
     {
         let _number = cpu.number(); // Called for its contract.
         let frame = self
@@ -44,14 +44,14 @@ impl<N: BootName> Machine<N> {
 
     // Frees the oldest fresh frame, whose group is killed, and uncharges its page from the group.
     fn drop_one(&mut self, tables: &Tables<N>, cpu: &mut Cpu<N>, group: GroupId) -> Frame
-        requires visit { Visits N.frames (side self.old cpu.old) }
+        requires visit { Visits N.frames (visit_state self.old cpu.old) }
         requires fresh { cpu.old.fresh ≢ [] }
         requires group { group_of cpu.old.stock_seat.view.last ≡ Some group }
         requires killed { is_killed self.old.killed group ≡ true }
-        ensures drops { DropsFresh group result (side self.old cpu.old) (side self.new cpu.new) }
-        ensures visit { Visits N.frames (side self.new cpu.new) }
-        ensures steps { Makes N.frames (side self.old cpu.old)
-            (drop_steps cpu.old.number result) (side self.new cpu.new) }
+        ensures drops { DropsFresh group result (visit_state self.old cpu.old) (visit_state self.new cpu.new) }
+        ensures visit { Visits N.frames (visit_state self.new cpu.new) }
+        ensures steps { Makes N.frames (visit_state self.old cpu.old)
+            (drop_steps cpu.old.number result) (visit_state self.new cpu.new) }
     {
         let _number = cpu.number(); // Called for its contract.
         let frame = self
@@ -72,10 +72,10 @@ impl<N: BootName> Machine<N> {
 
     // Takes the oldest back frame, if there is one, into the zone's hand, and frees its unit.
     fn return_one(&mut self, tables: &Tables<N>, cpu: &mut Cpu<N>) -> Option<Frame>
-        requires { Visits N.frames (side self.old cpu.old) }
-        ensures returns { ReturnsNext result (side self.old cpu.old) (side self.new cpu.new) }
-        ensures visit { Visits N.frames (side self.new cpu.new) }
-        ensures steps { MakesReturnSteps N.frames result (side self.old cpu.old) (side self.new cpu.new) }
+        requires { Visits N.frames (visit_state self.old cpu.old) }
+        ensures returns { ReturnsNext result (visit_state self.old cpu.old) (visit_state self.new cpu.new) }
+        ensures visit { Visits N.frames (visit_state self.new cpu.new) }
+        ensures steps { MakesReturnSteps N.frames result (visit_state self.old cpu.old) (visit_state self.new cpu.new) }
     {
         let _number = cpu.number(); // Called for its contract.
         let Some(frame) = cpu.hand_back(tables, &mut self.frame_seat) else {
@@ -93,10 +93,10 @@ impl<N: BootName> Machine<N> {
 
     // Settles the oldest fresh frame, if there is one: it is kept for its group, or dropped if that group is killed.
     fn settle_one(&mut self, tables: &Tables<N>, cpu: &mut Cpu<N>) -> Option<Frame>
-        requires { Visits N.frames (side self.old cpu.old) }
-        ensures settles { SettlesNext result (side self.old cpu.old) (side self.new cpu.new) }
-        ensures visit { Visits N.frames (side self.new cpu.new) }
-        ensures steps { MakesFreshSteps N.frames result (side self.old cpu.old) (side self.new cpu.new) }
+        requires { Visits N.frames (visit_state self.old cpu.old) }
+        ensures settles { SettlesNext result (visit_state self.old cpu.old) (visit_state self.new cpu.new) }
+        ensures visit { Visits N.frames (visit_state self.new cpu.new) }
+        ensures steps { MakesFreshSteps N.frames result (visit_state self.old cpu.old) (visit_state self.new cpu.new) }
     {
         if cpu.fresh_len() == 0 {
             return None;
@@ -114,26 +114,26 @@ impl<N: BootName> Machine<N> {
 
     // Settles all fresh frames, in the order in which they were taken.
     fn settle_fresh(&mut self, tables: &Tables<N>, cpu: &mut Cpu<N>)
-        requires { Visits N.frames (side self.old cpu.old) }
-        ensures settles { SettlesAllFresh cpu.old.fresh (side self.old cpu.old) (side self.new cpu.new) }
+        requires { Visits N.frames (visit_state self.old cpu.old) }
+        ensures settles { SettlesAllFresh cpu.old.fresh (visit_state self.old cpu.old) (visit_state self.new cpu.new) }
         ensures others { LeavesOthers cpu.old cpu.new }
         ensures back { cpu.new.back ≡ cpu.old.back }
         ensures none_fresh { cpu.new.fresh ≡ [] }
-        ensures visit { Visits N.frames (side self.new cpu.new) }
-        ensures steps { MakesBy N.frames all_fresh_steps (side self.old cpu.old) (side self.new cpu.new) }
+        ensures visit { Visits N.frames (visit_state self.new cpu.new) }
+        ensures steps { MakesBy N.frames all_fresh_steps (visit_state self.old cpu.old) (visit_state self.new cpu.new) }
     {
         while let Some(_frame) = self.settle_one(tables, cpu) {}
     }
 
     // Frees the units of all back frames, in the order of their last puts.
     fn settle_back(&mut self, tables: &Tables<N>, cpu: &mut Cpu<N>)
-        requires { Visits N.frames (side self.old cpu.old) }
-        ensures returns { ReturnsAllBack cpu.old.back (side self.old cpu.old) (side self.new cpu.new) }
+        requires { Visits N.frames (visit_state self.old cpu.old) }
+        ensures returns { ReturnsAllBack cpu.old.back (visit_state self.old cpu.old) (visit_state self.new cpu.new) }
         ensures others { LeavesOthers cpu.old cpu.new }
         ensures fresh { cpu.new.fresh ≡ cpu.old.fresh }
         ensures none_back { cpu.new.back ≡ [] }
-        ensures visit { Visits N.frames (side self.new cpu.new) }
-        ensures steps { MakesBy N.frames return_all_steps (side self.old cpu.old) (side self.new cpu.new) }
+        ensures visit { Visits N.frames (visit_state self.new cpu.new) }
+        ensures steps { MakesBy N.frames return_all_steps (visit_state self.old cpu.old) (visit_state self.new cpu.new) }
     {
         while let Some(_frame) = self.return_one(tables, cpu) {}
     }
@@ -142,13 +142,13 @@ impl<N: BootName> Machine<N> {
     /// group that paid for it. If that group has been killed, the frame is freed and its page uncharged, which counts
     /// as a drop. Then the units of the back frames are freed, in the order of their last puts.
     pub fn settle(&mut self, tables: &Tables<N>, cpu: &mut Cpu<N>)
-        requires { Visits N.frames (side self.old cpu.old) }
-        ensures settles { Settles (side self.old cpu.old) (side self.new cpu.new) }
+        requires { Visits N.frames (visit_state self.old cpu.old) }
+        ensures settles { Settles (visit_state self.old cpu.old) (visit_state self.new cpu.new) }
         ensures others { LeavesOthers cpu.old cpu.new }
         ensures none_fresh { cpu.new.fresh ≡ [] }
         ensures none_back { cpu.new.back ≡ [] }
-        ensures visit { Visits N.frames (side self.new cpu.new) }
-        ensures steps { MakesBy N.frames settle_steps (side self.old cpu.old) (side self.new cpu.new) }
+        ensures visit { Visits N.frames (visit_state self.new cpu.new) }
+        ensures steps { MakesBy N.frames settle_steps (visit_state self.old cpu.old) (visit_state self.new cpu.new) }
     {
         self.settle_fresh(tables, cpu);
         self.settle_back(tables, cpu);

@@ -2,13 +2,13 @@
 
 ghost use Rattle.std.specs.Prelude.{◌≡◌, ◌<◌, [], Some, IsTrue, OnOk, OnErr, IfErr};
 ghost use Rattle.group_tree.specs.Groups.{has_group, in_subtree};
-ghost use Rattle.mem_machine.specs.Machines.{IsCpuOf, LacksRoom, SideStays, Visits};
+ghost use Rattle.mem_machine.specs.Machines.{IsCpuOf, LacksRoom, VisitStateStays, Visits};
 ghost use Rattle.mem_machine.specs.Stocks.{IsDrained, AreDrained, AreOwnDrained, FitsStock, stock_group};
 ghost use Rattle.mem_machine.specs.Stocks.{of_group, of_subtree, Drains, DrainsBy, DrainsIf, DrainsBySteps, DrainsNoted};
 ghost use Rattle.mem_machine.specs.Stocks.{DrainsGroup, DrainsSubtree, Fills, Prepays, IsOver};
 ghost use Rattle.mem_machine.specs.Stocks.{RefusesGrant, own_fill_steps, prepay_steps, refused_prepay_steps};
 ghost use Rattle.mem_machine.specs.Paying.{MayCharge};
-ghost use Rattle.mem_machine.specs.Local.{MakesBy, MakesForAny, side};
+ghost use Rattle.mem_machine.specs.Local.{MakesBy, MakesForAny, visit_state};
 ghost use Rattle.mem_machine.specs.Steps.{drain_steps};
 
 use crate::machine::Machine;
@@ -141,18 +141,18 @@ impl<N: BootName> Machine<N> {
         group: GroupId,
         pages: u32,
     ) -> Result<(), Over>
-        requires visit { Visits N.frames (side self.old cpu.old) }
+        requires visit { Visits N.frames (visit_state self.old cpu.old) }
         requires charges { MayCharge self.old group pages }
         requires pages { FitsStock pages }
         requires none_fresh { cpu.old.fresh ≡ [] }
         requires drained { IsDrained self.old cpu.old.number }
-        ensures fills { OnOk result (Fills group pages (side self.old cpu.old) (side self.new cpu.new)) }
+        ensures fills { OnOk result (Fills group pages (visit_state self.old cpu.old) (visit_state self.new cpu.new)) }
         ensures over { IfErr result (λ over. LacksRoom self.old group pages over.group) }
-        ensures unchanged { OnErr result (SideStays (side self.old cpu.old) (side self.new cpu.new)) }
-        ensures visit { Visits N.frames (side self.new cpu.new) }
+        ensures unchanged { OnErr result (VisitStateStays (visit_state self.old cpu.old) (visit_state self.new cpu.new)) }
+        ensures visit { Visits N.frames (visit_state self.new cpu.new) }
         ensures steps { OnOk result
-            (MakesBy N.frames (own_fill_steps group pages) (side self.old cpu.old) (side self.new cpu.new)) }
-        ensures refused { IfErr result (λ over. RefusesGrant N.frames group pages over (side self.old cpu.old)) }
+            (MakesBy N.frames (own_fill_steps group pages) (visit_state self.old cpu.old) (visit_state self.new cpu.new)) }
+        ensures refused { IfErr result (λ over. RefusesGrant N.frames group pages over (visit_state self.old cpu.old)) }
     {
         let _number = cpu.number(); // Called for its contract.
         let _tree = self.charges.tree(); // Called for its contract.
@@ -172,18 +172,18 @@ impl<N: BootName> Machine<N> {
         group: GroupId,
         pages: u32,
     ) -> Result<(), Over>
-        requires visit { Visits N.frames (side self.old cpu.old) }
+        requires visit { Visits N.frames (visit_state self.old cpu.old) }
         requires charges { MayCharge self.old group pages }
         requires pages { FitsStock pages }
         requires none_fresh { cpu.old.fresh ≡ [] }
-        ensures prepays { OnOk result (Prepays group pages (side self.old cpu.old) (side self.new cpu.new)) }
+        ensures prepays { OnOk result (Prepays group pages (visit_state self.old cpu.old) (visit_state self.new cpu.new)) }
         ensures over { IfErr result
-            (λ over. IsOver group pages over.group (side self.old cpu.old) (side self.new cpu.new)) }
-        ensures visit { Visits N.frames (side self.new cpu.new) }
+            (λ over. IsOver group pages over.group (visit_state self.old cpu.old) (visit_state self.new cpu.new)) }
+        ensures visit { Visits N.frames (visit_state self.new cpu.new) }
         ensures steps { OnOk result
-            (MakesBy N.frames (prepay_steps group pages) (side self.old cpu.old) (side self.new cpu.new)) }
+            (MakesBy N.frames (prepay_steps group pages) (visit_state self.old cpu.old) (visit_state self.new cpu.new)) }
         ensures refused { IfErr result (λ over. MakesBy N.frames
-            (refused_prepay_steps group pages over.group) (side self.old cpu.old) (side self.new cpu.new)) }
+            (refused_prepay_steps group pages over.group) (visit_state self.old cpu.old) (visit_state self.new cpu.new)) }
     {
         let number = cpu.number();
         self.drain_stock(tables, number);

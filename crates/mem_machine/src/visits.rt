@@ -3,7 +3,7 @@
 ghost use Rattle.std.specs.Prelude.{◌≡◌};
 ghost use Rattle.frame_word.specs.Seats.{IsShut, NothingPasses, LentIsBorrowed, seat_with_visit};
 ghost use Rattle.mem_machine.specs.Machines.{Visits};
-ghost use Rattle.mem_machine.specs.Local.{Makes, side};
+ghost use Rattle.mem_machine.specs.Local.{Makes, visit_state};
 ghost use Rattle.mem_machine.specs.Steps.{open_steps, shut_steps};
 
 use crate::machine::Machine;
@@ -17,8 +17,8 @@ impl<N: BootName> Machine<N> {
           frame_seat = seat_with_visit self.old.frame_seat cpu.old.number 1;
         } }
         ensures cpu { cpu.new ≡ cpu.old }
-        ensures visits { Visits N.frames (side self.new cpu.new) }
-        ensures steps { Makes N.frames (side self.old cpu.old) (open_steps cpu.old.number) (side self.new cpu.new) }
+        ensures visits { Visits N.frames (visit_state self.new cpu.new) }
+        ensures steps { Makes N.frames (visit_state self.old cpu.old) (open_steps cpu.old.number) (visit_state self.new cpu.new) }
     {
         let _number = cpu.number(); // Called for its contract.
         cpu.open(tables, &mut self.frame_seat);
@@ -26,7 +26,7 @@ impl<N: BootName> Machine<N> {
 
     /// Shuts the visit of the CPU.
     pub fn shut(&mut self, tables: &Tables<N>, cpu: &mut Cpu<N>)
-        requires { Visits N.frames (side self.old cpu.old) }
+        requires { Visits N.frames (visit_state self.old cpu.old) }
         ensures machine { self.new ≡ record self.old {
           frame_seat = seat_with_visit self.old.frame_seat cpu.old.number 0;
         } }
@@ -34,7 +34,7 @@ impl<N: BootName> Machine<N> {
         ensures shut { IsShut self.new.frame_seat cpu.new.number }
         ensures still { NothingPasses N.frames self.new.frame_seat cpu.new.frame_seat }
         ensures lent { LentIsBorrowed N.frames self.new.frame_seat cpu.new.frame_seat }
-        ensures steps { Makes N.frames (side self.old cpu.old) (shut_steps cpu.old.number) (side self.new cpu.new) }
+        ensures steps { Makes N.frames (visit_state self.old cpu.old) (shut_steps cpu.old.number) (visit_state self.new cpu.new) }
     {
         let _number = cpu.number(); // Called for its contract.
         cpu.shut(tables, &mut self.frame_seat);

@@ -12,7 +12,7 @@ use Rattle.lru_lists.specs.declared.record.LruList.{LruList}
 use Rattle.lru_lists.specs.Queue.{link_at}
 use Rattle.lru_lists.specs.Lists.{SameOwners, owner_of}
 use Rattle.cpu_part.specs.Cpus.{KnownCpu}
-use Rattle.mem_machine.specs.Machines.{KnownMachine, Visits, home_of, side}
+use Rattle.mem_machine.specs.Machines.{KnownMachine, Visits, home_of, visit_state}
 use Rattle.mem_machine.specs.Evicting.{MissesUnit, EvictsUnit, Evicts}
 use Rattle.mem_reclaim.specs.Staying.{IsDirtyUnit, Keeps, OnlyLeave, IsMissed}
 use Rattle.mem_reclaim.proofs.Moving.{misses_rose, misses_stay}
@@ -100,7 +100,7 @@ on_path_low : (b : Bool) (n pages : ℕ) → n ≤ cond b (n + pages) n
 on_path_low true n pages = omega arith
 on_path_low false n pages = omega arith
 
-pub keeps_missed : (t : KnownTable) (m n : KnownMachine) (f : ℕ) → MissesUnit f m n → ((c : KnownCpu) → Visits t (side m c) → Visits t (side n c)) → Keeps t m n
+pub keeps_missed : (t : KnownTable) (m n : KnownMachine) (f : ℕ) → MissesUnit f m n → ((c : KnownCpu) → Visits t (visit_state m c) → Visits t (visit_state n c)) → Keeps t m n
 keeps_missed t m n f is visit =
     let links : n.links ≡ m.links = ap (λ (x : KnownMachine). x.links) is.machine in
     record {
@@ -116,7 +116,7 @@ keeps_missed t m n f is visit =
       misses = λ g. let e = misses_rose m n f is g in omega (arith, e);
     }
 
-pub keeps_evicted : (t : KnownTable) (m n : KnownMachine) (f pages : ℕ) → EvictsUnit f pages m n → ((c : KnownCpu) → Visits t (side m c) → Visits t (side n c))
+pub keeps_evicted : (t : KnownTable) (m n : KnownMachine) (f pages : ℕ) → EvictsUnit f pages m n → ((c : KnownCpu) → Visits t (visit_state m c) → Visits t (visit_state n c))
     → (link_at m.links f).is_dirty ≡ false → Keeps t m n
 keeps_evicted t m n f pages is visit clean =
     let gone : home_of n.links f ≡ None = ap (λ (k : Link). k.home) is.list.forgotten in
@@ -137,7 +137,7 @@ keeps_evicted t m n f pages is visit clean =
     }
 
 pub keeps_try : (t : KnownTable) (m n : KnownMachine) (f : ℕ) (answer : Option ℕ) → Evicts f answer m n
-    → ((c : KnownCpu) → Visits t (side m c) → Visits t (side n c)) → (link_at m.links f).is_dirty ≡ false → Keeps t m n
+    → ((c : KnownCpu) → Visits t (visit_state m c) → Visits t (visit_state n c)) → (link_at m.links f).is_dirty ≡ false → Keeps t m n
 keeps_try t m n f None is visit clean = keeps_missed t m n f is visit
 keeps_try t m n f (Some pages) is visit clean = keeps_evicted t m n f pages is visit clean
 

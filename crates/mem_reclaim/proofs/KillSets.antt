@@ -17,7 +17,7 @@ use Rattle.step_rules.specs.declared.step.Step.{Step}
 use Rattle.step_rules.specs.After.{Run}
 use Rattle.step_rules.specs.Legal.{is_of_group}
 use Rattle.kill_notes.specs.declared.note.Note.{Note}
-use Rattle.mem_machine.specs.Machines.{KnownMachine, is_killed, side, with_note}
+use Rattle.mem_machine.specs.Machines.{KnownMachine, is_killed, visit_state, with_note}
 use Rattle.mem_machine.specs.Local.{MakesForAny}
 use Rattle.mem_machine.specs.Steps.{kill_steps, note_group_kill_steps}
 use Rattle.mem_machine.specs.Stocks.{AreOwnDrained}
@@ -196,7 +196,7 @@ kills_all_more t limited (h ∷ groups) g m b n one two all last = record {
 
 set_none : (t : KnownTable) (limited : ℕ) (m : KnownMachine) → KilledSo t [] (KillsAll t limited []) m m
 set_none t limited m = record {
-  kills = record { steps = []; kills = (refl, refl); runs = λ c. makes_none t c.number (side m c); these = these_none m };
+  kills = record { steps = []; kills = (refl, refl); runs = λ c. makes_none t c.number (visit_state m c); these = these_none m };
   marked = refl;
   drained = All-nil (λ (g : ℕ). AreOwnDrained g t.cpus m);
   stocks = record { of = λ p. refl; drained = λ p is. is };
@@ -211,7 +211,7 @@ set_more t limited groups g m b n so one = record {
     steps = so.kills.steps ++ one.kills.steps;
     kills = kills_all_more t limited groups g m b n so.kills.steps one.kills.steps so.kills.kills one.kills.kills;
     runs = λ c.
-        makes_both t c.number so.kills.steps one.kills.steps (side m c) (side b c) (side n c) (so.kills.runs c)
+        makes_both t c.number so.kills.steps one.kills.steps (visit_state m c) (visit_state b c) (visit_state n c) (so.kills.runs c)
         (one.kills.runs c);
     these = these_both groups (g ∷ []) m b n so.kills.steps one.kills.steps so.kills.these one.kills.these;
   };
@@ -287,7 +287,7 @@ subtree_killed t limited head m a b n noted so_a counted usage runs =
         steps = killing ++ note_group_kill_steps head;
         kills = record { between = b; killing = killing; kills = so.kills.kills; counted = counted; steps_are = refl };
         runs = λ c.
-            makes_both t c.number killing (note_group_kill_steps head) (side m c) (side b c) (side n c)
+            makes_both t c.number killing (note_group_kill_steps head) (visit_state m c) (visit_state b c) (visit_state n c)
             (record { leads = (so.kills.runs c).leads; follows = (so.kills.runs c).follows; counts = (so.kills.runs c).counts }) (runs c);
         these = record {
           killed = kills_both killing (note_group_kill_steps head) ∙ append-nil (kills_in killing) ∙ these.killed;

@@ -22,7 +22,7 @@ use Rattle.cpu_part.specs.Cpus.{KnownCpu}
 use Rattle.step_rules.specs.After.{Run}
 use Rattle.mem_machine.specs.declared.releasing.Released.{Released}
 use Rattle.mem_machine.specs.declared.releasing.Released.TheVariants.{Left, Returned}
-use Rattle.mem_machine.specs.Machines.{KnownMachine, IsConsistent, Visits, home_of, side, lists_of}
+use Rattle.mem_machine.specs.Machines.{KnownMachine, IsConsistent, Visits, home_of, visit_state, lists_of}
 use Rattle.mem_machine.specs.Local.{MakesForAny}
 use Rattle.mem_machine.specs.Ageing.{entries_in}
 use Rattle.mem_machine.specs.Lists.{LeavesList}
@@ -109,7 +109,7 @@ misses_put seat f g change keeps = elim (cases_eq g f) [
 
 off_list : (t : KnownTable) (m n : KnownMachine) (f : ℕ) → LeavesList f (lists_of m) (lists_of n) → n.ledger.groups ≡ m.ledger.groups
     → ((g : ℕ) → current_of n.ledger g ≤ current_of m.ledger g) → n.frame_seat.view.opened ≡ m.frame_seat.view.opened → ((g : ℕ) → misses_of n.frame_seat g ≡ misses_of m.frame_seat g)
-    → ((c : KnownCpu) → Visits t (side m c) → Visits t (side n c)) → OnlyLetsGo t m n
+    → ((c : KnownCpu) → Visits t (visit_state m c) → Visits t (visit_state n c)) → OnlyLetsGo t m n
 off_list t m n f list groups usage opened misses visit =
     let gone : home_of n.links f ≡ None = ap (λ (k : Link). k.home) list.forgotten in
     record {
@@ -126,7 +126,7 @@ off_list t m n f list groups usage opened misses visit =
     }
 
 pub release_lets : (t : KnownTable) (m n : KnownMachine) (f : ℕ) (left : Released) → Releases f left m n
-    → ((c : KnownCpu) → Visits t (side m c) → Visits t (side n c)) → OnlyLetsGo t m n
+    → ((c : KnownCpu) → Visits t (visit_state m c) → Visits t (visit_state n c)) → OnlyLetsGo t m n
 release_lets t m n f (Left left) is visit = off_list t m n f is.list (ap (λ (x : KnownMachine). x.ledger.groups) is.machine)
     (λ g. let e = ap (λ (x : KnownMachine). current_of x.ledger g) is.machine in omega (arith, e))
     (ap (λ (x : KnownMachine). x.frame_seat.view.opened) is.machine)
@@ -173,7 +173,7 @@ pub let_go_first : (t : KnownTable) (g : ℕ) (list : LruList) (m : KnownMachine
 let_go_first t g list m = record {
   steps = [];
   whole = λ rest n all. all;
-  runs = λ c. makes_none t c.number (side m c);
+  runs = λ c. makes_none t c.number (visit_state m c);
   left = omega arith;
   keeps = only_lets_none t m;
   stocks = record { stock_seat = refl; killed = refl };
@@ -220,7 +220,7 @@ without_first u rest = let t : (u.number == u.number) ≡ true = eq-eqb u.number
 
 pub let_go_more : (t : KnownTable) (g : ℕ) (list : LruList) (m : KnownMachine) (i : ℕ) (now : KnownMachine) → LetGoSoFar t g list m i now
     → (u : Entry) → Oldest t g list now u → (f : ℕ) → f ≡ u.number → (left : Released) (then : KnownMachine) → Releases f left now then
-    → ((c : KnownCpu) → Visits t (side now c) → Visits t (side then c)) → MakesForAny t now (release_steps f left) then → LetGoSoFar t g list m (i + 1) then
+    → ((c : KnownCpu) → Visits t (visit_state now c) → Visits t (visit_state then c)) → MakesForAny t now (release_steps f left) then → LetGoSoFar t g list m (i + 1) then
 let_go_more t g list m i now s u o f at left then releases_f visit runs_f =
     let releases : Releases u.number left now then = subst (λ (x : ℕ). Releases x left now then) at releases_f in
     let runs : MakesForAny t now (release_steps u.number left) then = subst (λ (x : ℕ). MakesForAny t now (release_steps x left) then) at runs_f in
@@ -240,7 +240,7 @@ let_go_more t g list m i now s u o f at left then releases_f visit runs_f =
             others = subst (λ (l : List Entry). LetsGoAll l then rest n) tail all;
             steps_are = refl;
           })));
-      runs = λ c. makes_both t c.number s.steps (release_steps u.number left) (side m c) (side now c) (side then c) (s.runs c) (runs c);
+      runs = λ c. makes_both t c.number s.steps (release_steps u.number left) (visit_state m c) (visit_state now c) (visit_state then c) (s.runs c) (runs c);
       left =
           let a = s.left in
           let b : length (entries_in now g list) ≡ length (u ∷ o.rest) = ap length o.entries in
@@ -474,9 +474,9 @@ all_killed t w v fits m a d b n is usage killed pages drains drained first first
           steps_are = refl;
         };
         runs = λ c.
-            makes_both t c.number (kill_steps v) (drain_stocks_steps drains.drains ++ (first.steps ++ last.steps)) (side m c) (side a c) (side n c)
-            (killed c) (makes_both t c.number (drain_stocks_steps drains.drains) (first.steps ++ last.steps) (side a c) (side d c) (side n c)
-            (drains.steps c) (makes_both t c.number first.steps last.steps (side d c) (side b c) (side n c) (first.runs c) (last.runs c)));
+            makes_both t c.number (kill_steps v) (drain_stocks_steps drains.drains ++ (first.steps ++ last.steps)) (visit_state m c) (visit_state a c) (visit_state n c)
+            (killed c) (makes_both t c.number (drain_stocks_steps drains.drains) (first.steps ++ last.steps) (visit_state a c) (visit_state d c) (visit_state n c)
+            (drains.steps c) (makes_both t c.number first.steps last.steps (visit_state d c) (visit_state b c) (visit_state n c) (first.runs c) (last.runs c)));
         once = record {
           later = later;
           front = refl;

@@ -24,7 +24,7 @@ use Rattle.mem_machine.specs.declared.frame_state.FrameState.{FrameState}
 use Rattle.mem_machine.specs.declared.frame_state.FrameState.TheVariants.{Head}
 use Rattle.mem_machine.specs.FrameStates.{frame_state_at}
 use Rattle.mem_machine.specs.Machines.{KnownMachine}
-use Rattle.mem_machine.specs.Local.{IsLocalRun, MakesForAny, local_of, phase_of, side}
+use Rattle.mem_machine.specs.Local.{IsLocalRun, MakesForAny, local_of, phase_of, visit_state}
 use Rattle.mem_machine.specs.Evicting.{MissesUnit, EvictsUnit, Evicts, evict_steps}
 use Rattle.mem_machine.specs.Steps.{zone_makes}
 use Rattle.mem_machine.specs.declared.counts.Counts.{Counts}
@@ -60,12 +60,12 @@ moves_none t m n runs seat counts = record {
 }
 
 pub moves_rest : (t : KnownTable) (m : KnownMachine) → Moves t m 0 [] m
-moves_rest t m = moves_none t m m (λ c. makes_none t c.number (side m c)) refl refl
+moves_rest t m = moves_none t m m (λ c. makes_none t c.number (visit_state m c)) refl refl
 
 pub moves_both : (t : KnownTable) (a b c : KnownMachine) (some more : ℕ) (one two : Run) → Moves t a some one b → Moves t b more two c
     → Moves t a (some + more) (one ++ two) c
 moves_both t a b c some more one two first second = record {
-  runs = λ p. makes_both t p.number one two (side a p) (side b p) (side c p) (first.runs p) (second.runs p);
+  runs = λ p. makes_both t p.number one two (visit_state a p) (visit_state b p) (visit_state c p) (first.runs p) (second.runs p);
   pages = λ p.
       let x = pages_both p.number one two (local_of t a p) (local_of t b p) (first.runs p).leads in
       let y = first.pages p in let z = second.pages p in

@@ -13,7 +13,7 @@ use Rattle.step_rules.specs.After.{Run}
 use Rattle.mem_machine.specs.declared.releasing.Released.{Released}
 use Rattle.kill_notes.specs.declared.note.Note.{Note}
 use Rattle.kill_notes.specs.declared.note.Note.TheVariants as note
-use Rattle.mem_machine.specs.Machines.{HeadsKeptUnit, KnownMachine, Visits, active_in, home_of, inactive_in, side}
+use Rattle.mem_machine.specs.Machines.{HeadsKeptUnit, KnownMachine, Visits, active_in, home_of, inactive_in, visit_state}
 use Rattle.mem_machine.specs.Machines.{with_note}
 use Rattle.mem_machine.specs.Local.{MakesForAny}
 use Rattle.mem_machine.specs.Releasing.{Releases, release_steps}
@@ -194,7 +194,7 @@ pub record OnlyLetsGo (table : KnownTable) (before after : KnownMachine) : Type 
   pub groups : after.ledger.groups ≡ before.ledger.groups
   pub opened : after.frame_seat.view.opened ≡ before.frame_seat.view.opened
   pub usage : (group : ℕ) → current_of after.ledger group ≤ current_of before.ledger group
-  pub visit : (cpu : KnownCpu) → Visits table (side before cpu) → Visits table (side after cpu)
+  pub visit : (cpu : KnownCpu) → Visits table (visit_state before cpu) → Visits table (visit_state after cpu)
   pub leaves : OnlyLeave before after
   pub dirt : (frame : ℕ) → HeadsKeptUnit after frame
       → (link_at after.links frame).is_dirty ≡ (link_at before.links frame).is_dirty

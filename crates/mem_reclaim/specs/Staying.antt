@@ -9,7 +9,7 @@ use Rattle.lru_lists.specs.declared.record.LruList.{LruList}
 use Rattle.lru_lists.specs.Queue.{link_at}
 use Rattle.lru_lists.specs.Lists.{owner_of}
 use Rattle.cpu_part.specs.Cpus.{KnownCpu}
-use Rattle.mem_machine.specs.Machines.{HeadsKeptUnit, KnownMachine, Visits, home_of, side}
+use Rattle.mem_machine.specs.Machines.{HeadsKeptUnit, KnownMachine, Visits, home_of, visit_state}
 
 -- the frame heads a kept unit that is dirty
 pub record IsDirtyUnit (links : List Link) (frame : ℕ) : Type 0 where
@@ -25,7 +25,7 @@ pub record Keeps (table : KnownTable) (before after : KnownMachine) : Type 0 whe
   pub groups : after.ledger.groups ≡ before.ledger.groups
   pub opened : after.frame_seat.view.opened ≡ before.frame_seat.view.opened
   pub usage : (group : ℕ) → current_of after.ledger group ≤ current_of before.ledger group
-  pub visit : (cpu : KnownCpu) → Visits table (side before cpu) → Visits table (side after cpu)
+  pub visit : (cpu : KnownCpu) → Visits table (visit_state before cpu) → Visits table (visit_state after cpu)
   pub dirty : (frame : ℕ) → IsDirtyUnit before.links frame → IsDirtyUnit after.links frame
   pub owners : (frame : ℕ) → HeadsKeptUnit after frame
       → owner_of (home_of after.links frame) ≡ owner_of (home_of before.links frame)

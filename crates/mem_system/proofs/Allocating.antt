@@ -7,7 +7,7 @@ use Rattle.group_charge.specs.Charges.{Ledger}
 use Rattle.cpu_part.specs.Cpus.{KnownCpu}
 use Rattle.zone_sizes.specs.declared.config.Config.{Config}
 use Rattle.mem_machine.specs.Machines.{KnownMachine}
-use Rattle.mem_machine.specs.Local.{Side, side}
+use Rattle.mem_machine.specs.Local.{VisitState, visit_state}
 use Rattle.mem_alloc.specs.declared.faults.AllocFault.{AllocFault}
 use Rattle.mem_alloc.specs.declared.faults.AllocFault.TheVariants.{Over, NoFrames, RequesterKilled}
 use Rattle.mem_alloc.specs.Frames.{AllocatesFrame}
@@ -17,7 +17,7 @@ use Rattle.mem_system.specs.Outcomes.{HasItsGroups, reply_of}
 use Rattle.mem_system.specs.Commands.{BySteps, Course, course}
 use Rattle.mem_system.proofs.Telling.{path_told}
 
-pub allocated : (sizes : Config) (path : List ℕ) (order group : ℕ) (way : Course Side) → number_at way.before.machine.ledger.groups path ≡ Some group
+pub allocated : (sizes : Config) (path : List ℕ) (order group : ℕ) (way : Course VisitState) → number_at way.before.machine.ledger.groups path ≡ Some group
     → order ≤ 10 → (answer : Result ℕ AllocFault) → AllocatesAs sizes group order answer way
     → ((g : ℕ) → answer ≡ Err (Over g) → IsTrue (has_group way.after.machine.ledger.groups g))
     → Allocates sizes path order (reply_of way.after.machine.ledger (outcome_of answer)) way
@@ -58,16 +58,16 @@ block_fresh l order (Err RequesterKilled) fresh block none = none
 -- ---- a single frame
 
 pub over_is_there : (t : KnownTable) (sizes : Config) (group : ℕ) (m n : KnownMachine) (c d : KnownCpu) (answer : Result ℕ AllocFault)
-    → BySteps t (AllocatesFrame sizes group answer) (side m c) (side n d) → (g : ℕ) → answer ≡ Err (Over g) → IsTrue (has_group n.ledger.groups g)
+    → BySteps t (AllocatesFrame sizes group answer) (visit_state m c) (visit_state n d) → (g : ℕ) → answer ≡ Err (Over g) → IsTrue (has_group n.ledger.groups g)
 over_is_there t sizes group m n c d answer told g is = frame_over_there t sizes group g m n c d told.steps
-    (subst (λ (r : Result ℕ AllocFault). AllocatesFrame sizes group r (course t (side m c) told.steps (side n d))) is told.does)
+    (subst (λ (r : Result ℕ AllocFault). AllocatesFrame sizes group r (course t (visit_state m c) told.steps (visit_state n d))) is told.does)
 
 pub frame_allocated : (t : KnownTable) (sizes : Config) (path : List ℕ) (group : ℕ) (m n : KnownMachine) (c d : KnownCpu) (answer : Result ℕ AllocFault)
-    → number_at m.ledger.groups path ≡ Some group → BySteps t (AllocatesFrame sizes group answer) (side m c) (side n d)
-    → BySteps t (Allocates sizes path 0 (reply_of n.ledger (outcome_of answer))) (side m c) (side n d)
+    → number_at m.ledger.groups path ≡ Some group → BySteps t (AllocatesFrame sizes group answer) (visit_state m c) (visit_state n d)
+    → BySteps t (Allocates sizes path 0 (reply_of n.ledger (outcome_of answer))) (visit_state m c) (visit_state n d)
 frame_allocated t sizes path group m n c d answer found told = record {
   steps = told.steps;
-  does = allocated sizes path 0 group (course t (side m c) told.steps (side n d)) found (omega arith) answer
+  does = allocated sizes path 0 group (course t (visit_state m c) told.steps (visit_state n d)) found (omega arith) answer
       (record { frame = λ same. told.does; block = λ more. absurd (more refl) }) (over_is_there t sizes group m n c d answer told);
   makes = told.makes;
 }

@@ -23,12 +23,12 @@ use Rattle.mem_machine.specs.Places.{NoneLentTo}
 use Rattle.mem_machine.proofs.NoneLent.{lent_to_cpu, each_is_placed}
 use Rattle.mem_system.specs.declared.audit.Audit.{Audit}
 use Rattle.mem_system.specs.Locked.{KnownLocked, IsQuiet, AllShut}
-use Rattle.mem_machine.specs.Local.{Side}
+use Rattle.mem_machine.specs.Local.{VisitState}
 use Rattle.mem_system.specs.Commands.{BySteps}
 use Rattle.mem_system.specs.Ends.{ForEachCpu, SettlesInVisit, Empties, IsSpent, IsAuditOf, IsClosed, HasNoPage, Ends, frame_seat_of, stock_seat_of, drops_of, pins_of}
 
 -- as many CPUs are visited as there are
-pub turn_long : (Visit : Side → Side → Type 0) (m : KnownMachine) (cpus : List KnownCpu) (n : KnownMachine) (after : List KnownCpu) → ForEachCpu Visit m cpus n after
+pub turn_long : (Visit : VisitState → VisitState → Type 0) (m : KnownMachine) (cpus : List KnownCpu) (n : KnownMachine) (after : List KnownCpu) → ForEachCpu Visit m cpus n after
     → length after ≡ length cpus
 turn_long Visit m [] n [] turn = refl
 turn_long Visit m [] n (d ∷ after) turn = absurd turn

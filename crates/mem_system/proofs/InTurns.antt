@@ -10,16 +10,16 @@ use Rattle.cpu_part.specs.Cpus.{KnownCpu}
 use Rattle.mem_machine.specs.Machines.{KnownMachine}
 use Rattle.mem_system.specs.Locked.{AllShut}
 use Rattle.mem_system.specs.Ends.{ForEachCpu, IsSpent, LendsAndFillsNone, pins_of}
-use Rattle.mem_machine.specs.Local.{Side, side}
+use Rattle.mem_machine.specs.Local.{VisitState, visit_state}
 
 -- the visits of the first i CPUs lead from the first machine to this one, and the others are as they were
-pub record SoFar (Visit : Side → Side → Type 0) (i : ℕ) (m : KnownMachine) (cpus : List KnownCpu) (x : KnownMachine) (now : List KnownCpu) : Type 0 where
+pub record SoFar (Visit : VisitState → VisitState → Type 0) (i : ℕ) (m : KnownMachine) (cpus : List KnownCpu) (x : KnownMachine) (now : List KnownCpu) : Type 0 where
   pub long : length now ≡ length cpus
   pub left : drop i now ≡ drop i cpus
   pub turns : (n : KnownMachine) (rest : List KnownCpu) → ForEachCpu Visit x (drop i cpus) n rest → ForEachCpu Visit m cpus n (take i now ++ rest)
   pub shut : AllShut x
 
-pub so_far_start : (Visit : Side → Side → Type 0) (m : KnownMachine) (cpus : List KnownCpu) → AllShut m → SoFar Visit 0 m cpus m cpus
+pub so_far_start : (Visit : VisitState → VisitState → Type 0) (m : KnownMachine) (cpus : List KnownCpu) → AllShut m → SoFar Visit 0 m cpus m cpus
 so_far_start Visit m cpus shut = record { long = refl; left = refl; turns = λ n rest turn. turn; shut = shut }
 
 pub same_next : (i : ℕ) (cpus now : List KnownCpu) (any : KnownCpu) → i < length cpus → length now ≡ length cpus → drop i now ≡ drop i cpus
@@ -31,16 +31,16 @@ pub same_at : (cpus now : List KnownCpu) (i : ℕ) (any : KnownCpu) → i < leng
     → get_or now i any ≡ get_or cpus i any
 same_at cpus now i any inside long left = ap (λ (l : List KnownCpu). get_or l 0 any) (same_next i cpus now any (omega (arith, inside, long)) long left)
 
-pub so_far_more : (Visit : Side → Side → Type 0) (i : ℕ) (m : KnownMachine) (cpus : List KnownCpu) (x y : KnownMachine) (now : List KnownCpu) (any d : KnownCpu)
-    → SoFar Visit i m cpus x now → i < length now → Visit (side x (get_or now i any)) (side y d) → AllShut y
+pub so_far_more : (Visit : VisitState → VisitState → Type 0) (i : ℕ) (m : KnownMachine) (cpus : List KnownCpu) (x y : KnownMachine) (now : List KnownCpu) (any d : KnownCpu)
+    → SoFar Visit i m cpus x now → i < length now → Visit (visit_state x (get_or now i any)) (visit_state y d) → AllShut y
     → SoFar Visit (i + 1) m cpus y (slice_set now i d)
 so_far_more Visit i m cpus x y now any d so_far inside one shut =
     let long = so_far.long in
     let within : i < length cpus = omega (arith, inside, long) in
     let next = same_next i cpus now any within long so_far.left in
     let same : get_or now i any ≡ get_or cpus i any = ap (λ (l : List KnownCpu). get_or l 0 any) next in
-    let its : Visit (side x (get_or cpus i any)) (side y d) =
-    subst (λ (c : KnownCpu). Visit (side x c) (side y d)) same one in
+    let its : Visit (visit_state x (get_or cpus i any)) (visit_state y d) =
+    subst (λ (c : KnownCpu). Visit (visit_state x c) (visit_state y d)) same one in
     record {
       long = length-set now i d ∙ long;
       left = drop-set-lt (i + 1) now i d (omega arith) ∙ ap (λ (l : List KnownCpu). drop 1 l) next;
@@ -50,7 +50,7 @@ so_far_more Visit i m cpus x y now any d so_far inside one shut =
       shut = shut;
     }
 
-pub so_far_end : (Visit : Side → Side → Type 0) (i : ℕ) (m : KnownMachine) (cpus : List KnownCpu) (x : KnownMachine) (now : List KnownCpu)
+pub so_far_end : (Visit : VisitState → VisitState → Type 0) (i : ℕ) (m : KnownMachine) (cpus : List KnownCpu) (x : KnownMachine) (now : List KnownCpu)
     → SoFar Visit i m cpus x now → length now ≤ i → ForEachCpu Visit m cpus x now
 so_far_end Visit i m cpus x now so_far past =
     let long = so_far.long in

@@ -10,7 +10,7 @@ use Rattle.cpu_part.specs.Cpus.{KnownCpu}
 use Rattle.mem_machine.specs.Machines.{KnownMachine, Visits, KeepsVisit}
 use Rattle.mem_machine.specs.Steps.{drain_stocks_steps, set_max_steps}
 use Rattle.mem_machine.specs.Stocks.{DrainsSubtree, AreDrained}
-use Rattle.mem_machine.specs.Local.{MakesForAny, side}
+use Rattle.mem_machine.specs.Local.{MakesForAny, visit_state}
 use Rattle.mem_reclaim.specs.Moves.{Leads}
 use Rattle.mem_reclaim.specs.Rounds.{ReclaimsRounds, pages_missing}
 use Rattle.mem_reclaim.specs.Staying.{Keeps, MissedAll}
@@ -29,8 +29,8 @@ use Rattle.mem_machine.proofs.Followed.{makes_both, makes_none}
 -- ---- a visit
 
 -- the visit stays if the zone's seat does
-pub visit_keeps : (t : KnownTable) (m n : KnownMachine) (c : KnownCpu) → n.frame_seat ≡ m.frame_seat → Visits t (side m c)
-    → KeepsVisit t (side m c) (side n c)
+pub visit_keeps : (t : KnownTable) (m n : KnownMachine) (c : KnownCpu) → n.frame_seat ≡ m.frame_seat → Visits t (visit_state m c)
+    → KeepsVisit t (visit_state m c) (visit_state n c)
 visit_keeps t m n c seat v = record {
   visit = record {
     is_open = subst (λ (s : KnownSeat). IsOpen s c.number) (sym seat) v.is_open;
@@ -43,9 +43,9 @@ visit_keeps t m n c seat v = record {
 }
 
 -- one call after another
-pub visit_both : (t : KnownTable) (m x n : KnownMachine) (c : KnownCpu) → KeepsVisit t (side m c) (side x c)
-    → KeepsVisit t (side x c) (side n c)
-    → KeepsVisit t (side m c) (side n c)
+pub visit_both : (t : KnownTable) (m x n : KnownMachine) (c : KnownCpu) → KeepsVisit t (visit_state m c) (visit_state x c)
+    → KeepsVisit t (visit_state x c) (visit_state n c)
+    → KeepsVisit t (visit_state m c) (visit_state n c)
 visit_both t m x n c a b = record { visit = b.visit; opened = b.opened ∙ a.opened; number = refl; back = refl }
 
 -- ---- a usage that is lowered
@@ -55,26 +55,26 @@ pub lowered_groups : (t : KnownTable) (g limit : ℕ) (m n : KnownMachine) → B
 lowered_groups t g limit m n b = b.does.keeps.groups ∙ (all_same g t.cpus m b.does.drained b.does.drains b.does.drains_all).groups
 
 usage_visit : (t : KnownTable) (g limit : ℕ) (m n : KnownMachine) (c : KnownCpu) (steps : Run) → LowersUsage g limit (course t m steps n)
-    → Visits t (side m c) → KeepsVisit t (side m c) (side n c)
+    → Visits t (visit_state m c) → KeepsVisit t (visit_state m c) (visit_state n c)
 usage_visit t g limit m n c steps h v =
     let x = h.drained in
     let first = visit_keeps t m x c (all_same g t.cpus m x h.drains h.drains_all).frame_seat v in
     record { visit = h.keeps.visit c first.visit; opened = h.keeps.opened ∙ first.opened; number = refl; back = refl }
 
 pub lowered_visit : (t : KnownTable) (g limit : ℕ) (m n : KnownMachine) (c : KnownCpu)
-    → ByStepsOfAny t (LowersUsage g limit) m n → Visits t (side m c)
-    → KeepsVisit t (side m c) (side n c)
+    → ByStepsOfAny t (LowersUsage g limit) m n → Visits t (visit_state m c)
+    → KeepsVisit t (visit_state m c) (visit_state n c)
 lowered_visit t g limit m n c b v = usage_visit t g limit m n c b.steps b.does v
 
 -- the same if usage is lowered only when it is above
 pub above_visit : (t : KnownTable) (g limit : ℕ) (m n : KnownMachine) (c : KnownCpu)
-    → ByStepsOfAny t (LowersAbove g limit) m n → Visits t (side m c)
-    → KeepsVisit t (side m c) (side n c)
+    → ByStepsOfAny t (LowersAbove g limit) m n → Visits t (visit_state m c)
+    → KeepsVisit t (visit_state m c) (visit_state n c)
 above_visit t g limit m n c b v = elim (cases_lt limit (current_of m.ledger g)) [
   | inl over ↦
       let h = b.does.above over in
       let x = h.lowered in
-      let told : Visits t (side (with_limit_noted m g 0) c) = record { is_open = v.is_open; still = v.still; lent = v.lent } in
+      let told : Visits t (visit_state (with_limit_noted m g 0) c) = record { is_open = v.is_open; still = v.still; lent = v.lent } in
       let first = usage_visit t g limit (with_limit_noted m g 0) x c h.lowering h.lowers told in
       let kills = kills_lower None t g 0 x n h.killing h.kills in
       record { visit = kills.visit c first.visit; opened = kills.opened ∙ first.opened; number = refl; back = refl }
@@ -100,7 +100,7 @@ lowered_by t g limit pages given m x n sub none leads missed keeps = record {
     keeps = keeps;
     steps_are = refl;
   };
-  makes = λ c. makes_both t c.number (drain_stocks_steps sub.drains) leads.steps (side m c) (side x c) (side n c)
+  makes = λ c. makes_both t c.number (drain_stocks_steps sub.drains) leads.steps (visit_state m c) (visit_state x c) (visit_state n c)
       (sub.steps c) (leads.moves.runs c);
 }
 
@@ -117,7 +117,7 @@ lowered_above t g limit m y x n over told of_y k =
         above = λ more. record { lowered = x; lowering = b.steps; killing = k.steps; lowers = b.does; kills = k.does; steps_are = refl };
         within = λ (less : current_of m.ledger g ≤ limit). absurd (omega (arith, over, less));
       };
-      makes = λ c. makes_both t c.number b.steps k.steps (side m c) (side x c) (side n c)
+      makes = λ c. makes_both t c.number b.steps k.steps (visit_state m c) (visit_state x c) (visit_state n c)
           (record { leads = (b.makes c).leads; follows = (b.makes c).follows; counts = (b.makes c).counts }) (k.makes c);
     }
 
@@ -130,7 +130,7 @@ lowered_none t g limit m within = record {
     above = λ (over : limit < current_of m.ledger g). absurd (omega (arith, over, within));
     within = λ less. record { machine = refl; steps_are = refl };
   };
-  makes = λ c. makes_none t c.number (side m c);
+  makes = λ c. makes_none t c.number (visit_state m c);
 }
 
 -- the limit is set, and then the usage is kept to it
@@ -144,7 +144,7 @@ limited_by t g of m x n is first last = record {
     keeps = subst (λ (k : KnownMachine). KeepsToLimit g of (course t k last.steps n)) is last.does;
     steps_are = refl;
   };
-  makes = λ c. makes_both t c.number (set_max_steps g of) last.steps (side m c) (side x c) (side n c) (first c)
+  makes = λ c. makes_both t c.number (set_max_steps g of) last.steps (visit_state m c) (visit_state x c) (visit_state n c) (first c)
       (last.makes c);
 }
 
@@ -162,7 +162,7 @@ pub limited_none : (t : KnownTable) (g : ℕ) (of : Option ℕ) (m x : KnownMach
     → MakesForAny t m (set_max_steps g of) x → ByStepsOfAny t (SetsLimit g of) m x
 limited_none t g of m x none is first =
     let keeps = subst (λ (o : Option ℕ). KeepsToLimit g o (course t x [] x)) (sym none) (record { machine = refl; steps_are = refl }) in
-    limited_by t g of m x x is first (record { steps = []; does = keeps; makes = λ c. makes_none t c.number (side x c) })
+    limited_by t g of m x x is first (record { steps = []; does = keeps; makes = λ c. makes_none t c.number (visit_state x c) })
 
 -- ---- a group that is removed
 

@@ -18,7 +18,7 @@ use Rattle.step_rules.specs.State.{State}
 use Rattle.step_rules.specs.After.{Run}
 use Rattle.mem_machine.specs.declared.releasing.Released.TheVariants as released
 use Rattle.mem_machine.specs.Machines.{KnownMachine}
-use Rattle.mem_machine.specs.Local.{IsLocalRun, Side, local_of, side}
+use Rattle.mem_machine.specs.Local.{IsLocalRun, VisitState, local_of, visit_state}
 use Rattle.mem_machine.specs.Releasing.{release_steps}
 use Rattle.mem_machine.specs.Settling.{return_all_steps, all_fresh_steps, fresh_steps, is_fresh_killed, return_steps, settle_steps}
 use Rattle.mem_machine.specs.Steps.{drain_stocks_steps, lend_steps, open_steps, remove_steps, set_max_steps, shut_steps}
@@ -78,23 +78,23 @@ notes_quiet is_dirty f reply.Done way h = ap has_kill h.1
 notes_quiet is_dirty f (reply.Refused fault.NotKept) way h = ap has_kill h.stays.steps_are
 notes_quiet is_dirty f other way h = absurd h
 
-cuts_quiet : (sizes : Config) (way : Course Side) → CutsList sizes way → has_kill way.steps ≡ false
+cuts_quiet : (sizes : Config) (way : Course VisitState) → CutsList sizes way → has_kill way.steps ≡ false
 cuts_quiet sizes way h = ap has_kill h.steps_are ∙ (back_calm way.before.cpu.number h.cut).quiet
 
-lists_quiet : (sizes : Config) (f : ℕ) (way : Course Side) → ListsFrame sizes f way → has_kill way.steps ≡ false
+lists_quiet : (sizes : Config) (f : ℕ) (way : Course VisitState) → ListsFrame sizes f way → has_kill way.steps ≡ false
 lists_quiet sizes f way h =
     ap has_kill h.steps_are
     ∙ no_kill_both h.cutting (lend_steps way.before.cpu.number f) (cuts_quiet sizes (course way.table way.before h.cutting h.mid) h.cuts) refl
 
-returns_quiet : (sizes : Config) (f : ℕ) (way : Course Side) → ReturnsFrames sizes f way → has_kill way.steps ≡ false
+returns_quiet : (sizes : Config) (f : ℕ) (way : Course VisitState) → ReturnsFrames sizes f way → has_kill way.steps ≡ false
 returns_quiet sizes f way h =
     let listed : has_kill h.listing ≡ false = elim (cases_eq h.returns.unit.order 0) [
-      | inl single ↦ lists_quiet sizes f (course way.table (side h.freed way.before.cpu) h.listing way.after) (h.single single)
+      | inl single ↦ lists_quiet sizes f (course way.table (visit_state h.freed way.before.cpu) h.listing way.after) (h.single single)
       | inr block ↦ ap has_kill (h.block block).steps_are
     ] in
     ap has_kill h.steps_are ∙ no_kill_both (release_steps f released.Returned) h.listing refl listed
 
-releases_quiet : (sizes : Config) (f : ℕ) (said : Reply) (way : Course Side) → ReleasesFrame sizes f said way → has_kill way.steps ≡ false
+releases_quiet : (sizes : Config) (f : ℕ) (said : Reply) (way : Course VisitState) → ReleasesFrame sizes f said way → has_kill way.steps ≡ false
 releases_quiet sizes f (reply.Left left) way h = ap has_kill h.steps_are
 releases_quiet sizes f reply.Returned way h = returns_quiet sizes f way h
 releases_quiet sizes f (reply.Refused fault.NotKept) way h = ap has_kill h.does.stays.steps_are
@@ -193,10 +193,10 @@ writes_no_rash t cmd path name value (reply.Refused fault) s c steps n z asks wh
 writes_no_rash t cmd path name value other s c steps n z asks whole h = absurd h
 
 allocates_for : (t : KnownTable) (cmd : Cmd) (sizes : Config) (path : List ℕ) (order : ℕ) (answer : Result ℕ AllocFault) (s : KnownMachine) (c : KnownCpu)
-    (steps : Run) (n : Side) (z : State)
+    (steps : Run) (n : VisitState) (z : State)
     → ((g over : ℕ) → number_at s.ledger.groups path ≡ Some g → in_subtree s.ledger.groups over g ≡ true → 2 ^ order ≤ 8
     → MayAskFor cmd s.ledger.groups s.ledger.groups over (2 ^ order))
-    → IsLocalRun c.number (local_of t s c) steps z → AllocatesFor sizes path order answer (course t (side s c) steps n)
+    → IsLocalRun c.number (local_of t s c) steps z → AllocatesFor sizes path order answer (course t (visit_state s c) steps n)
     → NoRashKill t (MayAskFor cmd s.ledger.groups) s c steps
 allocates_for t cmd sizes path order answer s c steps n z asks whole h = elim (cases_eq order 0) [
   | inl frame ↦
@@ -210,10 +210,10 @@ allocates_for t cmd sizes path order answer s c steps n z asks whole h = elim (c
 ]
 
 allocates_no_rash : (t : KnownTable) (cmd : Cmd) (sizes : Config) (path : List ℕ) (order : ℕ) (said : Reply) (s : KnownMachine) (c : KnownCpu)
-    (steps : Run) (n : Side) (z : State)
+    (steps : Run) (n : VisitState) (z : State)
     → ((g over : ℕ) → number_at s.ledger.groups path ≡ Some g → in_subtree s.ledger.groups over g ≡ true → 2 ^ order ≤ 8
     → MayAskFor cmd s.ledger.groups s.ledger.groups over (2 ^ order))
-    → IsLocalRun c.number (local_of t s c) steps z → Allocates sizes path order said (course t (side s c) steps n)
+    → IsLocalRun c.number (local_of t s c) steps z → Allocates sizes path order said (course t (visit_state s c) steps n)
     → NoRashKill t (MayAskFor cmd s.ledger.groups) s c steps
 allocates_no_rash t cmd sizes path order (reply.Frame f) s c steps n z asks whole h =
     allocates_for t cmd sizes path order (Ok f) s c steps n z asks whole h
@@ -229,8 +229,8 @@ allocates_no_rash t cmd sizes path order (reply.Refused fault.Killed) s c steps 
     allocates_for t cmd sizes path order (Err RequesterKilled) s c steps n z asks whole h
 allocates_no_rash t cmd sizes path order other s c steps n z asks whole h = absurd h
 
-pub obeys_no_rash : (t : KnownTable) (sizes : Config) (cmd : Cmd) (said : Reply) (s : KnownMachine) (c : KnownCpu) (steps : Run) (n : Side) (z : State)
-    → Executes sizes cmd said (course t (side s c) steps n) → IsLocalRun c.number (local_of t s c) steps z
+pub obeys_no_rash : (t : KnownTable) (sizes : Config) (cmd : Cmd) (said : Reply) (s : KnownMachine) (c : KnownCpu) (steps : Run) (n : VisitState) (z : State)
+    → Executes sizes cmd said (course t (visit_state s c) steps n) → IsLocalRun c.number (local_of t s c) steps z
     → NoRashKill t (MayAskFor cmd s.ledger.groups) s c steps
 obeys_no_rash t sizes (Mkdir path) said s c steps n z h whole =
     rash_quiet t (MayAskFor (Mkdir path) s.ledger.groups) s c [] steps (makes_quiet path.now said (course t s steps n.machine) h.does)
@@ -252,7 +252,7 @@ obeys_no_rash t sizes (Dirty f) said s c steps n z h whole =
 obeys_no_rash t sizes (Clean f) said s c steps n z h whole =
     rash_quiet t (MayAskFor (Clean f) s.ledger.groups) s c [] steps (notes_quiet false f said (course t s steps n.machine) h.does)
 obeys_no_rash t sizes (Release f) said s c steps n z h whole =
-    rash_quiet t (MayAskFor (Release f) s.ledger.groups) s c [] steps (releases_quiet sizes f said (course t (side s c) steps n) h)
+    rash_quiet t (MayAskFor (Release f) s.ledger.groups) s c [] steps (releases_quiet sizes f said (course t (visit_state s c) steps n) h)
 obeys_no_rash t sizes (Alloc path order) said s c steps n z h whole =
     allocates_no_rash t (Alloc path order) sizes path.now order said s c steps n z
     (λ g over found below few. record { group = g; found = found; same = refl; below = record { on_path = below; need_is = refl; few = few } }) whole h
@@ -268,11 +268,11 @@ return_quiet : (p : ℕ) (frames : List ℕ) → has_kill (flat_map (return_step
 return_quiet p [] = refl
 return_quiet p (f ∷ frames) = no_kill_both (return_steps p f) (flat_map (return_steps p) frames) refl (return_quiet p frames)
 
-settle_quiet : (now : Side) → has_kill (settle_steps now) ≡ false
+settle_quiet : (now : VisitState) → has_kill (settle_steps now) ≡ false
 settle_quiet now =
     no_kill_both (all_fresh_steps now) (return_all_steps now) (fresh_quiet (is_fresh_killed now) now.cpu.number now.cpu.fresh)
     (return_quiet now.cpu.number now.cpu.back)
 
-pub around_quiet : (p : ℕ) (now : Side) → has_kill (open_steps p ++ (settle_steps now ++ shut_steps p)) ≡ false
+pub around_quiet : (p : ℕ) (now : VisitState) → has_kill (open_steps p ++ (settle_steps now ++ shut_steps p)) ≡ false
 around_quiet p now =
     no_kill_both (open_steps p) (settle_steps now ++ shut_steps p) refl (no_kill_both (settle_steps now) (shut_steps p) (settle_quiet now) refl)

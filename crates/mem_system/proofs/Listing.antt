@@ -12,7 +12,7 @@ use Rattle.mem_machine.specs.declared.releasing.Released.TheVariants.{Returned}
 use Rattle.mem_machine.specs.FrameStates.{frame_state_at}
 use Rattle.mem_machine.specs.Machines.{KnownMachine}
 use Rattle.mem_machine.specs.Lending.{TakesManyBack}
-use Rattle.mem_machine.specs.Local.{side, MakesAs}
+use Rattle.mem_machine.specs.Local.{visit_state, MakesAs}
 use Rattle.mem_machine.specs.Releasing.{ReturnsUnit, release_steps}
 use Rattle.mem_system.specs.Commands.{BySteps}
 use Rattle.mem_system.specs.Releases.{ListsFrame, ReturnsFrames}
@@ -35,7 +35,7 @@ pub record Cut (frames : List ℕ) (m : KnownMachine) (c : KnownCpu) (n : KnownM
   pub opened : n.frame_seat.view.opened ≡ m.frame_seat.view.opened
   pub free : (f : ℕ) → frame_state_at m.frame_states f ≡ Free → frame_state_at n.frame_states f ≡ Free
 
-pub cut_off : (frames : List ℕ) (m : KnownMachine) (c : KnownCpu) (n : KnownMachine) (d : KnownCpu) → TakesManyBack frames (side m c) (side n d) → Cut frames m c n d
+pub cut_off : (frames : List ℕ) (m : KnownMachine) (c : KnownCpu) (n : KnownMachine) (d : KnownCpu) → TakesManyBack frames (visit_state m c) (visit_state n d) → Cut frames m c n d
 cut_off [] m c n d t = record {
   split = sym (ap (λ (e : KnownCpu). e.list) t.cpu);
   number = ap (λ (e : KnownCpu). e.number) t.cpu;
@@ -75,8 +75,8 @@ left_over k list left listed split =
 
 -- a single frame was freed and added to the list
 pub returned_single : (t : KnownTable) (sizes : Config) (f : ℕ) (m freed n : KnownMachine) (c d : KnownCpu) (returns : ReturnsUnit f m freed)
-    → returns.unit.order ≡ 0 → MakesAs t c.number (side m c) (release_steps f Returned) (side freed c)
-    → BySteps t (ListsFrame sizes f) (side freed c) (side n d) → BySteps t (ReturnsFrames sizes f) (side m c) (side n d)
+    → returns.unit.order ≡ 0 → MakesAs t c.number (visit_state m c) (release_steps f Returned) (visit_state freed c)
+    → BySteps t (ListsFrame sizes f) (visit_state freed c) (visit_state n d) → BySteps t (ReturnsFrames sizes f) (visit_state m c) (visit_state n d)
 returned_single t sizes f m freed n c d returns single first lists = record {
   steps = release_steps f Returned ++ lists.steps;
   does = record {
@@ -87,13 +87,13 @@ returned_single t sizes f m freed n c d returns single first lists = record {
     block = λ more. absurd (more single);
     steps_are = refl;
   };
-  makes = makes_both t c.number (release_steps f Returned) lists.steps (side m c) (side freed c) (side n d) first lists.makes;
+  makes = makes_both t c.number (release_steps f Returned) lists.steps (visit_state m c) (visit_state freed c) (visit_state n d) first lists.makes;
 }
 
 -- a block was freed
 pub returned_block : (t : KnownTable) (sizes : Config) (f : ℕ) (m freed : KnownMachine) (c : KnownCpu) (returns : ReturnsUnit f m freed)
-    → returns.unit.order ≢ 0 → MakesAs t c.number (side m c) (release_steps f Returned) (side freed c)
-    → BySteps t (ReturnsFrames sizes f) (side m c) (side freed c)
+    → returns.unit.order ≢ 0 → MakesAs t c.number (visit_state m c) (release_steps f Returned) (visit_state freed c)
+    → BySteps t (ReturnsFrames sizes f) (visit_state m c) (visit_state freed c)
 returned_block t sizes f m freed c returns more first = record {
   steps = release_steps f Returned;
   does = record {

@@ -11,7 +11,7 @@ use Rattle.control_files.specs.declared.file.File.TheVariants.{Max, OomGroup, Re
 use Rattle.zone_sizes.specs.declared.config.Config.{Config}
 use Rattle.mem_machine.specs.declared.releasing.Released.TheVariants as released
 use Rattle.mem_machine.specs.Machines.{KnownMachine}
-use Rattle.mem_machine.specs.Local.{Side, side}
+use Rattle.mem_machine.specs.Local.{VisitState, visit_state}
 use Rattle.mem_machine.specs.Releasing.{release_steps}
 use Rattle.mem_machine.specs.Steps.{drain_list_steps, drain_stocks_steps, lend_steps, make_steps, remove_steps, set_max_steps, set_oom_group_steps}
 use Rattle.mem_reclaim.proofs.LettingGo.{misses_put}
@@ -123,7 +123,7 @@ notes_counts is_dirty f reply.Done way h = seat_stays way (ap (λ (x : KnownMach
 notes_counts is_dirty f (reply.Refused fault.NotKept) way h = heads_none f way h
 notes_counts is_dirty f other way h = absurd h
 
-lists_counts : (sizes : Config) (f : ℕ) (way : Course Side) → ListsFrame sizes f way → CountsMisses (of_machine way)
+lists_counts : (sizes : Config) (f : ℕ) (way : Course VisitState) → ListsFrame sizes f way → CountsMisses (of_machine way)
 lists_counts sizes f way h =
     let t = way.table in
     let m = way.before.machine in
@@ -137,7 +137,7 @@ lists_counts sizes f way h =
     (counts_none t x n (lend_steps p f) (record { quiet = refl; no_miss = λ g. refl })
     (λ g. ap (λ (k : KnownMachine). misses_of k.frame_seat g) h.lends.machine ∙ misses_put x.frame_seat f g (passed_out_to h.mid.cpu.number) (λ k. refl))))
 
-returns_counts : (sizes : Config) (f : ℕ) (way : Course Side) → ReturnsFrames sizes f way → CountsMisses (of_machine way)
+returns_counts : (sizes : Config) (f : ℕ) (way : Course VisitState) → ReturnsFrames sizes f way → CountsMisses (of_machine way)
 returns_counts sizes f way h =
     let t = way.table in
     let m = way.before.machine in
@@ -146,12 +146,12 @@ returns_counts sizes f way h =
     let back = counts_none t m h.freed first (record { quiet = refl; no_miss = λ g. refl })
     (λ g. ap (λ (k : KnownMachine). misses_of k.frame_seat g) h.returns.machine ∙ misses_put m.frame_seat f g let_go_last (λ k. refl)) in
     let listed : CountsMisses (course t h.freed h.listing n) = elim (cases_eq h.returns.unit.order 0) [
-      | inl single ↦ lists_counts sizes f (course t (side h.freed way.before.cpu) h.listing way.after) (h.single single)
+      | inl single ↦ lists_counts sizes f (course t (visit_state h.freed way.before.cpu) h.listing way.after) (h.single single)
       | inr block ↦ counts_rest t h.freed n h.listing (h.block block).machine (h.block block).steps_are
     ] in
     counts_as t m n way.steps (first ++ h.listing) h.steps_are (counts_both t m h.freed n first h.listing back listed)
 
-releases_counts : (sizes : Config) (f : ℕ) (said : Reply) (way : Course Side) → ReleasesFrame sizes f said way → CountsMisses (of_machine way)
+releases_counts : (sizes : Config) (f : ℕ) (said : Reply) (way : Course VisitState) → ReleasesFrame sizes f said way → CountsMisses (of_machine way)
 releases_counts sizes f (reply.Left left) way h =
     let m = way.before.machine in
     let n = way.after.machine in
@@ -162,14 +162,14 @@ releases_counts sizes f reply.Returned way h = returns_counts sizes f way h
 releases_counts sizes f (reply.Refused fault.NotKept) way h = heads_none f (of_machine way) h.does
 releases_counts sizes f other way h = absurd h
 
-allocates_for : (sizes : Config) (path : List ℕ) (order : ℕ) (answer : Result ℕ AllocFault) (way : Course Side) → AllocatesFor sizes path order answer way
+allocates_for : (sizes : Config) (path : List ℕ) (order : ℕ) (answer : Result ℕ AllocFault) (way : Course VisitState) → AllocatesFor sizes path order answer way
     → CountsMisses (of_machine way)
 allocates_for sizes path order answer way h = elim (cases_eq order 0) [
   | inl frame ↦ frame_counts sizes h.group answer way (h.allocates.frame frame)
   | inr block ↦ block_counts h.group order answer way (h.allocates.block block)
 ]
 
-allocates_counts : (sizes : Config) (path : List ℕ) (order : ℕ) (said : Reply) (way : Course Side) → Allocates sizes path order said way
+allocates_counts : (sizes : Config) (path : List ℕ) (order : ℕ) (said : Reply) (way : Course VisitState) → Allocates sizes path order said way
     → CountsMisses (of_machine way)
 allocates_counts sizes path order (reply.Frame f) way h = allocates_for sizes path order (Ok f) way h
 allocates_counts sizes path order (reply.OverLimit g text) way h = allocates_for sizes path order (Err (Over g)) way h.0
@@ -181,7 +181,7 @@ allocates_counts sizes path order (reply.Refused fault.NoFrames) way h = allocat
 allocates_counts sizes path order (reply.Refused fault.Killed) way h = allocates_for sizes path order (Err RequesterKilled) way h
 allocates_counts sizes path order other way h = absurd h
 
-pub obeys_counts : (sizes : Config) (cmd : Cmd) (said : Reply) (way : Course Side) → Executes sizes cmd said way → CountsMisses (of_machine way)
+pub obeys_counts : (sizes : Config) (cmd : Cmd) (said : Reply) (way : Course VisitState) → Executes sizes cmd said way → CountsMisses (of_machine way)
 obeys_counts sizes (Mkdir path) said way h = makes_counts path.now said (of_machine way) h.does
 obeys_counts sizes (Rmdir path) said way h = removes_counts path.now said (of_machine way) h.does
 obeys_counts sizes (Write path file value) said way h = writes_counts path.now file.now value.now said (of_machine way) h.does

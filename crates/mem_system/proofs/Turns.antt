@@ -14,7 +14,7 @@ use Rattle.mem_machine.specs.FrameStates.{frame_state_at}
 use Rattle.mem_machine.specs.Machines.{KnownMachine}
 use Rattle.mem_machine.specs.Lending.{TakesManyBack}
 use Rattle.mem_machine.specs.Stocks.{Drains, stock_group}
-use Rattle.mem_machine.specs.Local.{side, MakesAs}
+use Rattle.mem_machine.specs.Local.{visit_state, MakesAs}
 use Rattle.mem_machine.specs.Settling.{Settles, settle_steps}
 use Rattle.mem_machine.specs.Steps.{open_steps, shut_steps, drain_list_steps, drain_steps}
 use Rattle.mem_machine.proofs.Draining.{drained_at, drained_else}
@@ -28,29 +28,29 @@ use Rattle.mem_machine.proofs.Followed.{makes_both}
 -- the whole visit in which a CPU is settled, from its three parts
 pub rested : (t : KnownTable) (m n : KnownMachine) (c d : KnownCpu) (entered x : KnownMachine) (c1 c2 : KnownCpu)
     → entered ≡ with_visit_of m c.number 1 → c1 ≡ c → c2.number ≡ c1.number → n ≡ with_visit_of x c2.number 0 → d ≡ c2
-    → MakesAs t c.number (side m c) (open_steps c.number) (side entered c1)
-    → Settles (side entered c1) (side x c2) → MakesAs t c1.number (side entered c1) (settle_steps (side entered c1)) (side x c2)
-    → MakesAs t c2.number (side x c2) (shut_steps c2.number) (side n d)
-    → BySteps t SettlesInVisit (side m c) (side n d)
+    → MakesAs t c.number (visit_state m c) (open_steps c.number) (visit_state entered c1)
+    → Settles (visit_state entered c1) (visit_state x c2) → MakesAs t c1.number (visit_state entered c1) (settle_steps (visit_state entered c1)) (visit_state x c2)
+    → MakesAs t c2.number (visit_state x c2) (shut_steps c2.number) (visit_state n d)
+    → BySteps t SettlesInVisit (visit_state m c) (visit_state n d)
 rested t m n c d entered x c1 c2 opened same second shut after first settles rests last =
     let p = c.number in
     let begins = with_visit_of m p 1 in
     let two : c2.number ≡ p = second ∙ ap (λ (y : KnownCpu). y.number) same in
-    let before : KnownMachine × KnownCpu → Type 0 = λ (y : KnownMachine × KnownCpu). MakesAs t p (side m c) (open_steps p) (side y.0 y.1) in
-    let begun : MakesAs t p (side m c) (open_steps p) (side begins c) = subst before (λ i. (opened i, same i)) first in
-    let settled : Settles (side begins c) (side x c2) = subst (λ (y : KnownMachine × KnownCpu). Settles (side y.0 y.1) (side x c2)) (λ i. (opened i, same i)) settles in
-    let done : MakesAs t p (side begins c) (settle_steps (side begins c)) (side x c2) =
-    subst (λ (y : KnownMachine × KnownCpu). MakesAs t y.1.number (side y.0 y.1) (settle_steps (side y.0 y.1)) (side x c2)) (λ i. (opened i, same i)) rests in
-    let ended = subst (λ (q : ℕ). MakesAs t q (side x c2) (shut_steps q) (side n d)) two last in record {
-      steps = open_steps p ++ (settle_steps (side begins c) ++ shut_steps p);
+    let before : KnownMachine × KnownCpu → Type 0 = λ (y : KnownMachine × KnownCpu). MakesAs t p (visit_state m c) (open_steps p) (visit_state y.0 y.1) in
+    let begun : MakesAs t p (visit_state m c) (open_steps p) (visit_state begins c) = subst before (λ i. (opened i, same i)) first in
+    let settled : Settles (visit_state begins c) (visit_state x c2) = subst (λ (y : KnownMachine × KnownCpu). Settles (visit_state y.0 y.1) (visit_state x c2)) (λ i. (opened i, same i)) settles in
+    let done : MakesAs t p (visit_state begins c) (settle_steps (visit_state begins c)) (visit_state x c2) =
+    subst (λ (y : KnownMachine × KnownCpu). MakesAs t y.1.number (visit_state y.0 y.1) (settle_steps (visit_state y.0 y.1)) (visit_state x c2)) (λ i. (opened i, same i)) rests in
+    let ended = subst (λ (q : ℕ). MakesAs t q (visit_state x c2) (shut_steps q) (visit_state n d)) two last in record {
+      steps = open_steps p ++ (settle_steps (visit_state begins c) ++ shut_steps p);
       does = record {
         settled = x;
-        settles = subst (λ (y : KnownCpu). Settles (side begins c) (side x y)) (sym after) settled;
+        settles = subst (λ (y : KnownCpu). Settles (visit_state begins c) (visit_state x y)) (sym after) settled;
         machine = shut ∙ ap (λ (q : ℕ). with_visit_of x q 0) two;
         steps_are = refl;
       };
-      makes = makes_both t p (open_steps p) (settle_steps (side begins c) ++ shut_steps p) (side m c) (side begins c) (side n d) begun
-          (makes_both t p (settle_steps (side begins c)) (shut_steps p) (side begins c) (side x c2) (side n d) done ended);
+      makes = makes_both t p (open_steps p) (settle_steps (visit_state begins c) ++ shut_steps p) (visit_state m c) (visit_state begins c) (visit_state n d) begun
+          (makes_both t p (settle_steps (visit_state begins c)) (shut_steps p) (visit_state begins c) (visit_state x c2) (visit_state n d) done ended);
     }
 
 -- ---- a list that is returned whole
@@ -87,7 +87,7 @@ pub record TakenAlone (m : KnownMachine) (c : KnownCpu) (n : KnownMachine) (d : 
   pub stock_seat : n.stock_seat ≡ m.stock_seat
   pub pins : d.pins ≡ c.pins
 
-pub taken_alone : (frames : List ℕ) (m : KnownMachine) (c : KnownCpu) (n : KnownMachine) (d : KnownCpu) → TakesManyBack frames (side m c) (side n d) → TakenAlone m c n d
+pub taken_alone : (frames : List ℕ) (m : KnownMachine) (c : KnownCpu) (n : KnownMachine) (d : KnownCpu) → TakesManyBack frames (visit_state m c) (visit_state n d) → TakenAlone m c n d
 taken_alone [] m c n d t = record {
   lent = λ f p is. sym (ap (λ (k : KnownMachine). frame_state_at k.frame_states f) t.machine) ∙ is;
   stock_seat = ap (λ (k : KnownMachine). k.stock_seat) t.machine;
@@ -104,7 +104,7 @@ taken_alone (f ∷ rest) m c n d t =
 
 -- the visit leaves alone whom a frame is lent to, and which stocks are drained
 pub emptied_alone : (m entered x y n : KnownMachine) (c1 c2 : KnownCpu) (frames : List ℕ) (p q k : ℕ) → entered ≡ with_visit_of m p 1
-    → TakesManyBack frames (side entered c1) (side x c2) → Drains q k x y → n ≡ with_visit_of y p 0 → LendsAndFillsNone m n
+    → TakesManyBack frames (visit_state entered c1) (visit_state x c2) → Drains q k x y → n ≡ with_visit_of y p 0 → LendsAndFillsNone m n
 emptied_alone m entered x y n c1 c2 frames p q k opened takes drains shut =
     let taken = taken_alone frames entered c1 x c2 takes in
     let frame_states : n.frame_states ≡ x.frame_states = ap (λ (z : KnownMachine). z.frame_states) shut ∙ ap (λ (z : KnownMachine). z.frame_states) drains.machine in
@@ -130,42 +130,42 @@ emptied_drained x y n p q k drains shut =
 -- the whole visit, from its four parts
 pub emptied : (t : KnownTable) (m n : KnownMachine) (c d : KnownCpu) (entered x y : KnownMachine) (c1 c2 : KnownCpu) (k q pages : ℕ)
     → entered ≡ with_visit_of m c.number 1 → c1 ≡ c → c2.number ≡ c1.number → q ≡ c2.number → n ≡ with_visit_of y c2.number 0 → d ≡ c2
-    → take k c1.list ≡ c1.list → MakesAs t c.number (side m c) (open_steps c.number) (side entered c1)
-    → TakesManyBack (take k c1.list) (side entered c1) (side x c2)
-    → MakesAs t c1.number (side entered c1) (drain_list_steps c1.number (take k c1.list)) (side x c2)
+    → take k c1.list ≡ c1.list → MakesAs t c.number (visit_state m c) (open_steps c.number) (visit_state entered c1)
+    → TakesManyBack (take k c1.list) (visit_state entered c1) (visit_state x c2)
+    → MakesAs t c1.number (visit_state entered c1) (drain_list_steps c1.number (take k c1.list)) (visit_state x c2)
     → Drains q pages x y
-    → ((e : KnownCpu) → MakesAs t e.number (side x e) (drain_steps q (stock_group x q) pages) (side y e))
-    → MakesAs t c2.number (side y c2) (shut_steps c2.number) (side n d)
-    → BySteps t Empties (side m c) (side n d)
+    → ((e : KnownCpu) → MakesAs t e.number (visit_state x e) (drain_steps q (stock_group x q) pages) (visit_state y e))
+    → MakesAs t c2.number (visit_state y c2) (shut_steps c2.number) (visit_state n d)
+    → BySteps t Empties (visit_state m c) (visit_state n d)
 emptied t m n c d entered x y c1 c2 k q pages opened same second named shut after whole first takes gives drains drips last =
     let p = c.number in
     let begins = with_visit_of m p 1 in
     let two : c2.number ≡ p = second ∙ ap (λ (z : KnownCpu). z.number) same in
     let its : q ≡ p = named ∙ two in
     let list : take k c1.list ≡ c.list = whole ∙ ap (λ (z : KnownCpu). z.list) same in
-    let before : KnownMachine × KnownCpu → Type 0 = λ (z : KnownMachine × KnownCpu). MakesAs t p (side m c) (open_steps p) (side z.0 z.1) in
-    let begun : MakesAs t p (side m c) (open_steps p) (side begins c) = subst before (λ i. (opened i, same i)) first in
-    let taken : TakesManyBack c.list (side begins c) (side x c2) =
-    subst (λ (z : List ℕ × KnownMachine × KnownCpu). TakesManyBack z.0 (side z.1 z.2) (side x c2)) (λ i. (list i, opened i, same i)) takes in
-    let given : MakesAs t p (side begins c) (drain_list_steps p c.list) (side x c2) =
-    subst (λ (z : List ℕ × KnownMachine × KnownCpu). MakesAs t z.2.number (side z.1 z.2) (drain_list_steps z.2.number z.0) (side x c2))
+    let before : KnownMachine × KnownCpu → Type 0 = λ (z : KnownMachine × KnownCpu). MakesAs t p (visit_state m c) (open_steps p) (visit_state z.0 z.1) in
+    let begun : MakesAs t p (visit_state m c) (open_steps p) (visit_state begins c) = subst before (λ i. (opened i, same i)) first in
+    let taken : TakesManyBack c.list (visit_state begins c) (visit_state x c2) =
+    subst (λ (z : List ℕ × KnownMachine × KnownCpu). TakesManyBack z.0 (visit_state z.1 z.2) (visit_state x c2)) (λ i. (list i, opened i, same i)) takes in
+    let given : MakesAs t p (visit_state begins c) (drain_list_steps p c.list) (visit_state x c2) =
+    subst (λ (z : List ℕ × KnownMachine × KnownCpu). MakesAs t z.2.number (visit_state z.1 z.2) (drain_list_steps z.2.number z.0) (visit_state x c2))
     (λ i. (list i, opened i, same i)) gives in
-    let dripped : MakesAs t p (side x c2) (drain_steps p (stock_group x p) pages) (side y c2) =
-    subst (λ (z : ℕ × ℕ). MakesAs t z.0 (side x c2) (drain_steps z.1 (stock_group x z.1) pages) (side y c2)) (λ i. (two i, its i)) (drips c2) in
-    let ended = subst (λ (r : ℕ). MakesAs t r (side y c2) (shut_steps r) (side n d)) two last in record {
+    let dripped : MakesAs t p (visit_state x c2) (drain_steps p (stock_group x p) pages) (visit_state y c2) =
+    subst (λ (z : ℕ × ℕ). MakesAs t z.0 (visit_state x c2) (drain_steps z.1 (stock_group x z.1) pages) (visit_state y c2)) (λ i. (two i, its i)) (drips c2) in
+    let ended = subst (λ (r : ℕ). MakesAs t r (visit_state y c2) (shut_steps r) (visit_state n d)) two last in record {
       steps = open_steps p ++ (drain_list_steps p c.list ++ (drain_steps p (stock_group x p) pages ++ shut_steps p));
       does = record {
         emptied = x;
-        takes = subst (λ (z : KnownCpu). TakesManyBack c.list (side begins c) (side x z)) (sym after) taken;
+        takes = subst (λ (z : KnownCpu). TakesManyBack c.list (visit_state begins c) (visit_state x z)) (sym after) taken;
         pages = pages;
         drained = y;
         drains = subst (λ (r : ℕ). Drains r pages x y) its drains;
         machine = shut ∙ ap (λ (r : ℕ). with_visit_of y r 0) two;
         steps_are = refl;
       };
-      makes = makes_both t p (open_steps p) (drain_list_steps p c.list ++ (drain_steps p (stock_group x p) pages ++ shut_steps p)) (side m c) (side begins c)
-          (side n d) begun
-          (makes_both t p (drain_list_steps p c.list) (drain_steps p (stock_group x p) pages ++ shut_steps p) (side begins c) (side x c2)
-          (side n d) given
-          (makes_both t p (drain_steps p (stock_group x p) pages) (shut_steps p) (side x c2) (side y c2) (side n d) dripped ended));
+      makes = makes_both t p (open_steps p) (drain_list_steps p c.list ++ (drain_steps p (stock_group x p) pages ++ shut_steps p)) (visit_state m c) (visit_state begins c)
+          (visit_state n d) begun
+          (makes_both t p (drain_list_steps p c.list) (drain_steps p (stock_group x p) pages ++ shut_steps p) (visit_state begins c) (visit_state x c2)
+          (visit_state n d) given
+          (makes_both t p (drain_steps p (stock_group x p) pages) (shut_steps p) (visit_state x c2) (visit_state y c2) (visit_state n d) dripped ended));
     }

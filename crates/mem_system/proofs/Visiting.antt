@@ -7,7 +7,7 @@ use Rattle.frame_word.specs.Seats.{KnownTable}
 use Rattle.frame_word.proofs.Notes.{put_here, put_else}
 use Rattle.cpu_part.specs.Cpus.{KnownCpu}
 use Rattle.mem_machine.specs.Machines.{KnownMachine, is_killed}
-use Rattle.mem_machine.specs.Local.{local_of, fresh_group, side, MakesAs}
+use Rattle.mem_machine.specs.Local.{local_of, fresh_group, visit_state, MakesAs}
 use Rattle.mem_machine.specs.Settling.{SettlesFresh, SettlesAllFresh, ReturnsAllBack, Settles, settle_steps}
 use Rattle.mem_machine.specs.Steps.{open_steps, shut_steps}
 use Rattle.mem_system.specs.declared.command.Cmd.{Cmd}
@@ -29,61 +29,61 @@ all_shut m x n p shut opened is q =
     ]
 
 -- a settled frame leaves the visits as they were
-settled_fresh : (f : ℕ) (m n : KnownMachine) (c d : KnownCpu) → SettlesFresh f (side m c) (side n d) → n.frame_seat.view.opened ≡ m.frame_seat.view.opened
+settled_fresh : (f : ℕ) (m n : KnownMachine) (c d : KnownCpu) → SettlesFresh f (visit_state m c) (visit_state n d) → n.frame_seat.view.opened ≡ m.frame_seat.view.opened
 settled_fresh f m n c d s = elim (cases_Bool (is_killed m.killed (fresh_group c))) [
   | inl killed ↦ ap (λ (k : KnownMachine). k.frame_seat.view.opened) (s.drops killed).machine
   | inr alive ↦ ap (λ (k : KnownMachine). k.frame_seat.view.opened) (s.keeps alive).machine
 ]
 
-settled_all : (frames : List ℕ) (m n : KnownMachine) (c d : KnownCpu) → SettlesAllFresh frames (side m c) (side n d) → n.frame_seat.view.opened ≡ m.frame_seat.view.opened
+settled_all : (frames : List ℕ) (m n : KnownMachine) (c d : KnownCpu) → SettlesAllFresh frames (visit_state m c) (visit_state n d) → n.frame_seat.view.opened ≡ m.frame_seat.view.opened
 settled_all [] m n c d s = ap (λ (k : KnownMachine). k.frame_seat.view.opened) s.machine
 settled_all (f ∷ rest) m n c d s = settled_all rest s.between.machine n s.between.cpu d s.rest ∙ settled_fresh f m s.between.machine c s.between.cpu s.first
 
-returned_all : (frames : List ℕ) (m n : KnownMachine) (c d : KnownCpu) → ReturnsAllBack frames (side m c) (side n d) → n.frame_seat.view.opened ≡ m.frame_seat.view.opened
+returned_all : (frames : List ℕ) (m n : KnownMachine) (c d : KnownCpu) → ReturnsAllBack frames (visit_state m c) (visit_state n d) → n.frame_seat.view.opened ≡ m.frame_seat.view.opened
 returned_all [] m n c d s = ap (λ (k : KnownMachine). k.frame_seat.view.opened) s.machine
 returned_all (f ∷ rest) m n c d s = returned_all rest s.between.machine n s.between.cpu d s.rest ∙ ap (λ (k : KnownMachine). k.frame_seat.view.opened) s.first.machine
 
-pub settled_opened : (m n : KnownMachine) (c d : KnownCpu) → Settles (side m c) (side n d) → n.frame_seat.view.opened ≡ m.frame_seat.view.opened
+pub settled_opened : (m n : KnownMachine) (c d : KnownCpu) → Settles (visit_state m c) (visit_state n d) → n.frame_seat.view.opened ≡ m.frame_seat.view.opened
 settled_opened m n c d s = returned_all c.back s.mid.machine n s.mid.cpu d s.back ∙ settled_all c.fresh m s.mid.machine c s.mid.cpu s.fresh
 
 -- the whole command, from its four parts
 pub served : (t : KnownTable) (cmd : Cmd) (l k : KnownLocked) (c d : KnownCpu) (reply : Reply) (entered mid x : KnownMachine) (c1 c2 c3 : KnownCpu)
     → entered ≡ with_visit_of (record l.machine { notes = [] }) c.number 1 → c1 ≡ c → c2.number ≡ c1.number → c3.number ≡ c2.number
     → k.machine ≡ with_visit_of x c3.number 0 → d ≡ c3 → k.sizes ≡ l.sizes
-    → MakesAs t c.number (side (record l.machine { notes = [] }) c) (open_steps c.number) (side entered c1)
-    → Settles (side entered c1) (side mid c2) → MakesAs t c1.number (side entered c1) (settle_steps (side entered c1)) (side mid c2)
-    → BySteps t (Executes l.sizes cmd reply) (side mid c2) (side x c3)
-    → MakesAs t c3.number (side x c3) (shut_steps c3.number) (side k.machine d)
+    → MakesAs t c.number (visit_state (record l.machine { notes = [] }) c) (open_steps c.number) (visit_state entered c1)
+    → Settles (visit_state entered c1) (visit_state mid c2) → MakesAs t c1.number (visit_state entered c1) (settle_steps (visit_state entered c1)) (visit_state mid c2)
+    → BySteps t (Executes l.sizes cmd reply) (visit_state mid c2) (visit_state x c3)
+    → MakesAs t c3.number (visit_state x c3) (shut_steps c3.number) (visit_state k.machine d)
     → IsServed t cmd reply (holder l c) (holder k d)
 served t cmd l k c d reply entered mid x c1 c2 c3 opened same second third shut after sizes first settles rests executed last =
     let p = c.number in
     let begins = with_visit_of (record l.machine { notes = [] }) p 1 in
     let two : c2.number ≡ p = second ∙ ap (λ (y : KnownCpu). y.number) same in
     let three : c3.number ≡ p = third ∙ two in
-    let before : KnownMachine × KnownCpu → Type 0 = λ (y : KnownMachine × KnownCpu). MakesAs t p (side l.machine c) (open_steps p) (side y.0 y.1) in
-    let begun : MakesAs t p (side l.machine c) (open_steps p) (side begins c) =
+    let before : KnownMachine × KnownCpu → Type 0 = λ (y : KnownMachine × KnownCpu). MakesAs t p (visit_state l.machine c) (open_steps p) (visit_state y.0 y.1) in
+    let begun : MakesAs t p (visit_state l.machine c) (open_steps p) (visit_state begins c) =
     subst before (λ i. (opened i, same i)) (record { leads = first.leads; follows = first.follows; counts = first.counts }) in
-    let settled : Settles (side begins c) (side mid c2) = subst (λ (y : KnownMachine × KnownCpu). Settles (side y.0 y.1) (side mid c2)) (λ i. (opened i, same i)) settles in
-    let rested : MakesAs t p (side begins c) (settle_steps (side begins c)) (side mid c2) =
-    subst (λ (y : KnownMachine × KnownCpu). MakesAs t y.1.number (side y.0 y.1) (settle_steps (side y.0 y.1)) (side mid c2)) (λ i. (opened i, same i)) rests in
-    let inside = subst (λ (q : ℕ). MakesAs t q (side mid c2) executed.steps (side x c3)) two executed.makes in
-    let ended = subst (λ (q : ℕ). MakesAs t q (side x c3) (shut_steps q) (side k.machine d)) three last in record {
-      steps = open_steps p ++ (settle_steps (side begins c) ++ (executed.steps ++ shut_steps p));
+    let settled : Settles (visit_state begins c) (visit_state mid c2) = subst (λ (y : KnownMachine × KnownCpu). Settles (visit_state y.0 y.1) (visit_state mid c2)) (λ i. (opened i, same i)) settles in
+    let rested : MakesAs t p (visit_state begins c) (settle_steps (visit_state begins c)) (visit_state mid c2) =
+    subst (λ (y : KnownMachine × KnownCpu). MakesAs t y.1.number (visit_state y.0 y.1) (settle_steps (visit_state y.0 y.1)) (visit_state mid c2)) (λ i. (opened i, same i)) rests in
+    let inside = subst (λ (q : ℕ). MakesAs t q (visit_state mid c2) executed.steps (visit_state x c3)) two executed.makes in
+    let ended = subst (λ (q : ℕ). MakesAs t q (visit_state x c3) (shut_steps q) (visit_state k.machine d)) three last in record {
+      steps = open_steps p ++ (settle_steps (visit_state begins c) ++ (executed.steps ++ shut_steps p));
       serves = record {
-        settled = side mid c2;
+        settled = visit_state mid c2;
         settles = settled;
         inner = executed.steps;
         done = x;
-        executes = subst (λ (y : KnownCpu). Executes l.sizes cmd reply (course t (side mid c2) executed.steps (side x y))) (sym after) executed.does;
-        no_rash = obeys_no_rash t l.sizes cmd reply mid c2 executed.steps (side x c3) (local_of t x c3) executed.does executed.makes.leads;
-        only_inner = around_quiet p (side begins c);
-        misses = obeys_counts l.sizes cmd reply (course t (side mid c2) executed.steps (side x c3)) executed.does;
+        executes = subst (λ (y : KnownCpu). Executes l.sizes cmd reply (course t (visit_state mid c2) executed.steps (visit_state x y))) (sym after) executed.does;
+        no_rash = obeys_no_rash t l.sizes cmd reply mid c2 executed.steps (visit_state x c3) (local_of t x c3) executed.does executed.makes.leads;
+        only_inner = around_quiet p (visit_state begins c);
+        misses = obeys_counts l.sizes cmd reply (course t (visit_state mid c2) executed.steps (visit_state x c3)) executed.does;
         machine = shut ∙ ap (λ (q : ℕ). with_visit_of x q 0) three;
         sizes = sizes;
         steps_are = refl;
       };
-      makes = makes_both t p (open_steps p) (settle_steps (side begins c) ++ (executed.steps ++ shut_steps p)) (side l.machine c) (side begins c)
-          (side k.machine d) begun
-          (makes_both t p (settle_steps (side begins c)) (executed.steps ++ shut_steps p) (side begins c) (side mid c2) (side k.machine d) rested
-          (makes_both t p executed.steps (shut_steps p) (side mid c2) (side x c3) (side k.machine d) inside ended));
+      makes = makes_both t p (open_steps p) (settle_steps (visit_state begins c) ++ (executed.steps ++ shut_steps p)) (visit_state l.machine c) (visit_state begins c)
+          (visit_state k.machine d) begun
+          (makes_both t p (settle_steps (visit_state begins c)) (executed.steps ++ shut_steps p) (visit_state begins c) (visit_state mid c2) (visit_state k.machine d) rested
+          (makes_both t p executed.steps (shut_steps p) (visit_state mid c2) (visit_state x c3) (visit_state k.machine d) inside ended));
     }

@@ -9,7 +9,7 @@ use Rattle.control_files.specs.Flag.{IsNoFlagText}
 use Rattle.control_files.specs.Limit.{ReadsAmount, IsNoAmountText, IsNoLimitText, IsTooGreat}
 use Rattle.frame_word.specs.Seats.{KnownTable}
 use Rattle.mem_machine.specs.Machines.{KnownMachine}
-use Rattle.mem_machine.specs.Local.{side}
+use Rattle.mem_machine.specs.Local.{visit_state}
 use Rattle.mem_machine.proofs.Followed.{makes_none}
 use Rattle.group_charge.specs.Charges.{current_of}
 use Rattle.mem_reclaim.specs.Moves.{Leads}
@@ -39,7 +39,7 @@ pub refused_by : (t : KnownTable) (file : File) (value : List ℕ) (g : ℕ) (fa
 refused_by t file value g fault m why = record {
   steps = [];
   does = inl (why, record { machine = refl; steps_are = refl });
-  makes = λ c. makes_none t c.number (side m c);
+  makes = λ c. makes_none t c.number (visit_state m c);
 }
 
 -- the same by the path and the name of the file
@@ -49,7 +49,7 @@ pub refused_at : (t : KnownTable) (path name value : List ℕ) (g : ℕ) (file :
 refused_at t path name value g file fault m is why = record {
   steps = [];
   does = inl (inr (record { group = g; file = file; is_file = is; refuses = why }), record { machine = refl; steps_are = refl });
-  makes = λ c. makes_none t c.number (side m c);
+  makes = λ c. makes_none t c.number (visit_state m c);
 }
 
 -- what isn't one of these three files isn't written

@@ -6,7 +6,7 @@ use Rattle.cpu_part.specs.Cpus.{KnownCpu}
 use Rattle.zone_sizes.specs.declared.config.Config.{Config}
 use Rattle.zone_sizes.specs.Config.{IsValidConfig}
 use Rattle.mem_machine.specs.Machines.{Visits}
-use Rattle.mem_machine.specs.Local.{Side}
+use Rattle.mem_machine.specs.Local.{VisitState}
 -- a call, described by the state before it, its steps and the state after it
 pub use Rattle.mem_alloc.specs.Stepping.{Course, course, of_machine, OfMachine, OfMachineAlone, BySteps}
 pub use Rattle.mem_alloc.specs.Stepping.{MachineStays, Stays}
@@ -39,14 +39,14 @@ IsOfZone table command = NamesFrameBelow table.frames command
 
 -- What a command finds inside its visit. The CPU is visited and settled, the sizes are in their ranges, and the tables
 -- have these sizes.
-pub record MayExecute (table : KnownTable) (stock_table : Words) (sizes : Config) (now : Side) : Type 0 where
+pub record MayExecute (table : KnownTable) (stock_table : Words) (sizes : Config) (now : VisitState) : Type 0 where
   pub visit : Visits table now
   pub settled : IsSettled now.cpu
   pub valid : IsValidConfig sizes
   pub sized : IsSizedAs sizes table stock_table
 
 -- what the command does inside the visit, and its reply
-abbrev pub Executes : Config → Cmd → Reply → Course Side → Type 0
+abbrev pub Executes : Config → Cmd → Reply → Course VisitState → Type 0
 Executes sizes (Mkdir path) reply way = OfMachineAlone (MakesGroup path.now reply) way
 Executes sizes (Rmdir path) reply way = OfMachineAlone (Removes path.now reply) way
 Executes sizes (Write path file value) reply way = OfMachineAlone (Writes path.now file.now value.now reply) way

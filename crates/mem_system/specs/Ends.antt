@@ -18,7 +18,7 @@ use Rattle.mem_machine.specs.Steps.{open_steps, shut_steps, drain_list_steps, dr
 use Rattle.mem_machine.specs.Places.{frames_free, frames_in_groups, NoneLentTo}
 use Rattle.mem_system.specs.declared.audit.Audit.{Audit}
 use Rattle.mem_system.specs.Locked.{KnownLocked, IsQuiet}
-use Rattle.mem_machine.specs.Local.{Side, side}
+use Rattle.mem_machine.specs.Local.{VisitState, visit_state}
 use Rattle.mem_system.specs.Commands.{Course, BySteps}
 use Rattle.mem_system.specs.Visits.{with_visit_of, visited, visit_steps}
 
@@ -31,16 +31,16 @@ abbrev pub drops_of : List KnownCpu → ℕ
 drops_of cpus = sum_by (λ cpu. cpu.drops) cpus
 
 -- the CPU is settled in a visit
-pub record SettlesInVisit (way : Course Side) : Type 0 where
+pub record SettlesInVisit (way : Course VisitState) : Type 0 where
   pub settled : KnownMachine
-  pub settles : Settles (visited way.before) (side settled way.after.cpu)
+  pub settles : Settles (visited way.before) (visit_state settled way.after.cpu)
   pub machine : way.after.machine ≡ with_visit_of settled way.before.cpu.number 0
   pub steps_are : way.steps ≡ visit_steps way.before []
 
 -- in a visit, all frames of the CPU's list are returned to the zone, and then its stock is drained
-pub record Empties (way : Course Side) : Type 0 where
+pub record Empties (way : Course VisitState) : Type 0 where
   pub emptied : KnownMachine
-  pub takes : TakesManyBack way.before.cpu.list (visited way.before) (side emptied way.after.cpu)
+  pub takes : TakesManyBack way.before.cpu.list (visited way.before) (visit_state emptied way.after.cpu)
   pub pages : ℕ
   pub drained : KnownMachine
   pub drains : Drains way.before.cpu.number pages emptied drained
@@ -51,15 +51,15 @@ pub record Empties (way : Course Side) : Type 0 where
       ++ shut_steps way.before.cpu.number))
 
 -- `Visit` leads the machine and the first of several CPUs to a machine between, of which `Rest` holds
-pub record VisitsFirst (Visit : Side → Side → Type 0) (before : KnownMachine) (cpu cpu_left : KnownCpu)
+pub record VisitsFirst (Visit : VisitState → VisitState → Type 0) (before : KnownMachine) (cpu cpu_left : KnownCpu)
     (Rest : KnownMachine → Type 0) : Type 0 where
   pub between : KnownMachine
-  pub first : Visit (side before cpu) (side between cpu_left)
+  pub first : Visit (visit_state before cpu) (visit_state between cpu_left)
   pub rest : Rest between
 
 -- Each of these CPUs is visited as `Visit` says, one after the other. This leads from one machine with the CPUs' parts
 -- to another machine with the parts that are left.
-abbrev pub ForEachCpu : (Visit : Side → Side → Type 0) (before : KnownMachine) (cpus : List KnownCpu)
+abbrev pub ForEachCpu : (Visit : VisitState → VisitState → Type 0) (before : KnownMachine) (cpus : List KnownCpu)
     (after : KnownMachine) (left : List KnownCpu) → Type 0
 ForEachCpu Visit before [] after [] = after ≡ before
 ForEachCpu Visit before (cpu ∷ cpus) after (cpu_left ∷ left) =

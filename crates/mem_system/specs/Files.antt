@@ -14,7 +14,7 @@ use Rattle.control_files.specs.Flag.{IsFlagText, IsNoFlagText}
 use Rattle.control_files.specs.Limit.{ReadsAmount, ReadsAs, IsTooGreat, IsNoAmountText, IsNoLimitText}
 use Rattle.step_rules.specs.After.{Run}
 use Rattle.mem_machine.specs.Machines.{KnownMachine, KeepsVisit, Visits}
-use Rattle.mem_machine.specs.Local.{side}
+use Rattle.mem_machine.specs.Local.{visit_state}
 use Rattle.mem_machine.specs.Steps.{set_max_steps, set_oom_group_steps}
 use Rattle.mem_reclaim.specs.Moves.{Leads}
 use Rattle.mem_reclaim.specs.Rounds.{ReclaimsAmount}
@@ -27,7 +27,7 @@ use Rattle.mem_system.specs.Usage.{KeepsToLimit}
 -- the visit of each CPU that was visited before is kept
 abbrev pub KeepsAnyVisit : KnownTable → (before after : KnownMachine) → Type 0
 KeepsAnyVisit table before after =
-    (cpu : KnownCpu) → Visits table (side before cpu) → KeepsVisit table (side before cpu) (side after cpu)
+    (cpu : KnownCpu) → Visits table (visit_state before cpu) → KeepsVisit table (visit_state before cpu) (visit_state after cpu)
 
 -- the group has this path and isn't the root, and the name is that of its file
 pub record IsFileOf (groups : List Group) (path name : List ℕ) (group : ℕ) (file : File) : Type 0 where

@@ -6,7 +6,7 @@ use Rattle.group_charge.specs.Charges.{Ledger}
 use Rattle.control_files.specs.Files.{file_text}
 use Rattle.frame_word.specs.Seats.{KnownTable}
 use Rattle.mem_machine.specs.Machines.{KnownMachine}
-use Rattle.mem_machine.specs.Local.{Side}
+use Rattle.mem_machine.specs.Local.{VisitState}
 use Rattle.mem_alloc.specs.Stepping.{Course, BySteps, ByStepsOfAny}
 use Rattle.mem_system.specs.declared.outcome.Outcome.{Outcome}
 use Rattle.mem_system.specs.declared.outcome.Outcome.TheVariants as outcome
@@ -47,9 +47,9 @@ HasItsGroups ledger (outcome.Charged group) = IsTrue (has_group ledger.groups gr
 HasItsGroups ledger (outcome.OverLimit group) = IsTrue (has_group ledger.groups group)
 HasItsGroups ledger other = Unit {0}
 
--- A call had this outcome: local steps lead from one side to another and do this, with the reply that the ledger after
+-- A call had this outcome: local steps lead from one visit state to another and do this, with the reply that the ledger after
 -- them makes of the outcome.
-abbrev pub ComesTo : KnownTable → Outcome → (Reply → Course Side → Type 0) → (before after : Side) → Type 0
+abbrev pub ComesTo : KnownTable → Outcome → (Reply → Course VisitState → Type 0) → (before after : VisitState) → Type 0
 ComesTo table outcome Does before after = BySteps table (Does (reply_of after.machine.ledger outcome)) before after
 
 -- the same for a call on the machine alone, whichever CPU holds the lock

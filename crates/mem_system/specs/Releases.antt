@@ -5,7 +5,7 @@ use Rattle.zone_sizes.specs.declared.config.Config.{Config}
 use Rattle.step_rules.specs.After.{Run}
 use Rattle.mem_machine.specs.declared.releasing.Released.TheVariants as released
 use Rattle.mem_machine.specs.Machines.{KnownMachine}
-use Rattle.mem_machine.specs.Local.{Side, side}
+use Rattle.mem_machine.specs.Local.{VisitState, visit_state}
 use Rattle.mem_machine.specs.Releasing.{LeavesReferences, ReturnsUnit, release_steps}
 use Rattle.mem_machine.specs.Lending.{LendsFrame, TakesManyBack}
 use Rattle.mem_machine.specs.Steps.{lend_steps, drain_list_steps}
@@ -15,7 +15,7 @@ use Rattle.mem_system.specs.declared.command.Reply.TheVariants.{Left, Returned, 
 use Rattle.mem_system.specs.Units.{HeadsNoUnit}
 
 -- if the CPU's list has at least `high` frames, `batch` frames from its front are freed; else nothing changes
-pub record CutsList (sizes : Config) (way : Course Side) : Type 0 where
+pub record CutsList (sizes : Config) (way : Course VisitState) : Type 0 where
   pub cut : List ℕ
   pub at_high : sizes.high ≤ length way.before.cpu.list → cut ≡ take sizes.batch way.before.cpu.list
   pub below_high : length way.before.cpu.list < sizes.high → cut ≡ []
@@ -23,8 +23,8 @@ pub record CutsList (sizes : Config) (way : Course Side) : Type 0 where
   pub steps_are : way.steps ≡ drain_list_steps way.before.cpu.number cut
 
 -- the CPU's list is cut if it has at least `high` frames; then the free frame is added to its end
-pub record ListsFrame (sizes : Config) (frame : ℕ) (way : Course Side) : Type 0 where
-  pub mid : Side
+pub record ListsFrame (sizes : Config) (frame : ℕ) (way : Course VisitState) : Type 0 where
+  pub mid : VisitState
   pub cutting : Run
   pub cuts : CutsList sizes (course way.table way.before cutting mid)
   pub lends : LendsFrame frame mid way.after
@@ -32,23 +32,23 @@ pub record ListsFrame (sizes : Config) (frame : ℕ) (way : Course Side) : Type 
 
 -- The unit leaves its list, and is freed and uncharged. A single frame is then added to the CPU's list; a block stays
 -- in the zone.
-pub record ReturnsFrames (sizes : Config) (frame : ℕ) (way : Course Side) : Type 0 where
+pub record ReturnsFrames (sizes : Config) (frame : ℕ) (way : Course VisitState) : Type 0 where
   pub freed : KnownMachine
   pub returns : ReturnsUnit frame way.before.machine freed
   pub listing : Run
   pub single : returns.unit.order ≡ 0
-      → ListsFrame sizes frame (course way.table (side freed way.before.cpu) listing way.after)
-  pub block : returns.unit.order ≢ 0 → Stays (course way.table (side freed way.before.cpu) listing way.after)
+      → ListsFrame sizes frame (course way.table (visit_state freed way.before.cpu) listing way.after)
+  pub block : returns.unit.order ≢ 0 → Stays (course way.table (visit_state freed way.before.cpu) listing way.after)
   pub steps_are : way.steps ≡ release_steps frame released.Returned ++ listing
 
 -- the unit leaves its list and stays charged, with this many references of CPUs left
-pub record LeavesUnit (frame left : ℕ) (way : Course Side) : Type 0 where
+pub record LeavesUnit (frame left : ℕ) (way : Course VisitState) : Type 0 where
   pub leaves : LeavesReferences frame left way.before.machine way.after.machine
   pub cpu : way.after.cpu ≡ way.before.cpu
   pub steps_are : way.steps ≡ release_steps frame (released.Left left)
 
 -- Release: references of CPUs are left, the unit is freed, or the frame heads no kept unit
-abbrev pub ReleasesFrame : Config → (frame : ℕ) → Reply → Course Side → Type 0
+abbrev pub ReleasesFrame : Config → (frame : ℕ) → Reply → Course VisitState → Type 0
 ReleasesFrame sizes frame (Left left) way = LeavesUnit frame left way
 ReleasesFrame sizes frame Returned way = ReturnsFrames sizes frame way
 ReleasesFrame sizes frame (Refused NotKept) way = OfMachineAlone (HeadsNoUnit frame) way

@@ -7,7 +7,7 @@ use Rattle.group_tree.specs.Groups.{number_at}
 use Rattle.cpu_part.specs.Cpus.{KnownCpu}
 use Rattle.step_rules.specs.After.{Run}
 use Rattle.mem_machine.specs.Machines.{KnownMachine}
-use Rattle.mem_machine.specs.Local.{Side, side, Makes}
+use Rattle.mem_machine.specs.Local.{VisitState, visit_state, Makes}
 use Rattle.mem_machine.specs.Settling.{Settles, settle_steps}
 use Rattle.mem_machine.specs.Steps.{open_steps, shut_steps}
 use Rattle.mem_reclaim.specs.Moves.{has_kill}
@@ -29,13 +29,13 @@ abbrev pub with_visit_of : KnownMachine → (processor state : ℕ) → KnownMac
 with_visit_of machine processor state =
     record machine { frame_seat = seat_with_visit machine.frame_seat processor state }
 
--- the side after the CPU's visit is opened
-abbrev pub visited : Side → Side
-visited before = side (with_visit_of before.machine before.cpu.number 1) before.cpu
+-- the visit state after the CPU's visit is opened
+abbrev pub visited : VisitState → VisitState
+visited before = visit_state (with_visit_of before.machine before.cpu.number 1) before.cpu
 
--- the side after all earlier notes are forgotten and the CPU's visit is opened
-abbrev pub begun : Side → Side
-begun before = visited (side (record before.machine { notes = [] }) before.cpu)
+-- the visit state after all earlier notes are forgotten and the CPU's visit is opened
+abbrev pub begun : VisitState → VisitState
+begun before = visited (visit_state (record before.machine { notes = [] }) before.cpu)
 
 -- what lies behind the lock, with the part of the CPU that holds it
 pub record Holder : Type 0 where
@@ -46,12 +46,12 @@ pub record Holder : Type 0 where
 abbrev pub holder : KnownLocked → KnownCpu → Holder
 holder locked cpu = record { locked = locked; cpu = cpu }
 
--- the side of the holder: the machine behind the lock, and its part
-abbrev pub side_of : Holder → Side
-side_of now = side now.locked.machine now.cpu
+-- the visit state of the holder: the machine behind the lock, and its part
+abbrev pub visit_state_of : Holder → VisitState
+visit_state_of now = visit_state now.locked.machine now.cpu
 
 -- the steps of a visit: it is opened, its CPU is settled, the inner steps are made, and it is shut
-abbrev pub visit_steps : Side → Run → Run
+abbrev pub visit_steps : VisitState → Run → Run
 visit_steps before inner =
     open_steps before.cpu.number ++ (settle_steps (visited before) ++ (inner ++ shut_steps before.cpu.number))
 
@@ -59,24 +59,24 @@ visit_steps before inner =
 -- command is executed, and the visit is shut. The command kills a group only after it tried everything else, and only its
 -- own steps kill. The misses that are noted are those among its steps.
 pub record Serves (cmd : Cmd) (reply : Reply) (way : Course Holder) : Type 0 where
-  pub settled : Side
-  pub settles : Settles (begun (side_of way.before)) settled
+  pub settled : VisitState
+  pub settles : Settles (begun (visit_state_of way.before)) settled
   pub inner : Run
   pub done : KnownMachine
-  pub executes : Executes way.before.locked.sizes cmd reply (course way.table settled inner (side done way.after.cpu))
+  pub executes : Executes way.before.locked.sizes cmd reply (course way.table settled inner (visit_state done way.after.cpu))
   pub no_rash : NoRashKill way.table (MayAskFor cmd settled.machine.ledger.groups) settled.machine settled.cpu inner
-  pub only_inner : has_kill (visit_steps (side_of way.before) []) ≡ false
+  pub only_inner : has_kill (visit_steps (visit_state_of way.before) []) ≡ false
   pub misses : CountsMisses (course way.table settled.machine inner done)
   pub machine : way.after.locked.machine ≡ with_visit_of done way.before.cpu.number 0
   pub sizes : way.after.locked.sizes ≡ way.before.locked.sizes
-  pub steps_are : way.steps ≡ visit_steps (side_of way.before) inner
+  pub steps_are : way.steps ≡ visit_steps (visit_state_of way.before) inner
 
 -- a command was served under the lock with this reply: these steps lead from one holder to the other, and the machine's
 -- counts follow them
 pub record IsServed (table : KnownTable) (cmd : Cmd) (reply : Reply) (before after : Holder) : Type 0 where
   pub steps : Run
   pub serves : Serves cmd reply (course table before steps after)
-  pub makes : Makes table (side_of before) steps (side_of after)
+  pub makes : Makes table (visit_state_of before) steps (visit_state_of after)
 
 -- a command was carried out under the lock with this outcome; its reply is what the charges after it make of the
 -- outcome

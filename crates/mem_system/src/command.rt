@@ -1,7 +1,7 @@
 //! The commands that a CPU gives under the lock, how they are executed, and their replies.
 
 ghost use Rattle.mem_machine.specs.Machines.{KeepsVisit};
-ghost use Rattle.mem_machine.specs.Local.{side};
+ghost use Rattle.mem_machine.specs.Local.{visit_state};
 ghost use Rattle.mem_system.specs.Outcomes.{ComesTo, HasItsGroups, reply_of};
 ghost use Rattle.mem_system.specs.Commands.{FreshAfter, IsOfZone, ListAndFreshStayWithin, MayExecute, Executes};
 
@@ -115,11 +115,11 @@ pub(crate) fn execute<N: BootName>(
     cmd: &Cmd<'_>,
 ) -> Outcome
     requires zone { IsOfZone N.frames cmd.now }
-    requires visit { MayExecute N.frames N.stocks sizes (side machine.old cpu.old) }
+    requires visit { MayExecute N.frames N.stocks sizes (visit_state machine.old cpu.old) }
     ensures executed { ComesTo N.frames result (Executes sizes cmd.now)
-        (side machine.old cpu.old) (side machine.new cpu.new) }
+        (visit_state machine.old cpu.old) (visit_state machine.new cpu.new) }
     ensures groups { HasItsGroups machine.new.ledger result }
-    ensures stays { KeepsVisit N.frames (side machine.old cpu.old) (side machine.new cpu.new) }
+    ensures stays { KeepsVisit N.frames (visit_state machine.old cpu.old) (visit_state machine.new cpu.new) }
     ensures fresh { FreshAfter cmd.now (reply_of machine.new.ledger result) cpu.new.fresh }
     ensures at_most_high { ListAndFreshStayWithin sizes cpu.old cpu.new }
 {

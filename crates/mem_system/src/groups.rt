@@ -6,7 +6,7 @@ ghost use Rattle.mem_system.specs.Leaves.{IsLeafAt, HasNoLeaf};
 ghost use Rattle.mem_system.specs.Outcomes.{ComesTo, ComesToForAny, HasItsGroups};
 ghost use Rattle.mem_system.specs.Groups.{MakesGroup, Removes};
 ghost use Rattle.mem_system.specs.Commands.{OfMachine};
-ghost use Rattle.mem_machine.specs.Local.{side};
+ghost use Rattle.mem_machine.specs.Local.{visit_state};
 
 use crate::outcome::Outcome;
 use crate::usage::lower_usage;
@@ -53,13 +53,13 @@ pub(crate) fn remove_group<N: BootName>(
     cpu: &mut Cpu<N>,
     path: &[u8],
 ) -> Outcome
-    requires visit { Visits N.frames (side machine.old cpu.old) }
+    requires visit { Visits N.frames (visit_state machine.old cpu.old) }
     requires none_fresh { cpu.old.fresh ≡ [] }
     ensures removed { ComesTo N.frames result (λ reply. OfMachine (Removes path.now reply))
-        (side machine.old cpu.old) (side machine.new cpu.new) }
+        (visit_state machine.old cpu.old) (visit_state machine.new cpu.new) }
     ensures cpu { cpu.new ≡ cpu.old }
     ensures groups { HasItsGroups machine.new.ledger result }
-    ensures stays { KeepsVisit N.frames (side machine.old cpu.old) (side machine.new cpu.new) }
+    ensures stays { KeepsVisit N.frames (visit_state machine.old cpu.old) (visit_state machine.new cpu.new) }
 {
     let group = match find_leaf(machine.charges(), path) {
         Ok(group) => group,

@@ -5,7 +5,7 @@ ghost use Rattle.mem_system.specs.Locked.{AllShut};
 ghost use Rattle.mem_system.specs.Commands.{BySteps};
 ghost use Rattle.mem_system.specs.Ends.{Empties, ForEachCpu, SettlesInVisit};
 ghost use Rattle.mem_system.specs.Ends.{IsSettledUnpinned, IsSpent, LendsAndFillsNone, pins_of};
-ghost use Rattle.mem_machine.specs.Local.{side};
+ghost use Rattle.mem_machine.specs.Local.{visit_state};
 
 use cpu_part::{BootName, Cpu, Tables};
 use mem_machine::Machine;
@@ -14,7 +14,7 @@ use mem_machine::Machine;
 fn settle_cpu<N: BootName>(machine: &mut Machine<N>, tables: &Tables<N>, cpu: &mut Cpu<N>)
     requires shut { AllShut machine.old }
     requires no_pin { cpu.old.pins ≡ [] }
-    ensures settles { BySteps N.frames SettlesInVisit (side machine.old cpu.old) (side machine.new cpu.new) }
+    ensures settles { BySteps N.frames SettlesInVisit (visit_state machine.old cpu.old) (visit_state machine.new cpu.new) }
     ensures shut { AllShut machine.new }
     ensures settled { IsSettledUnpinned cpu.new }
 {
@@ -27,7 +27,7 @@ fn settle_cpu<N: BootName>(machine: &mut Machine<N>, tables: &Tables<N>, cpu: &m
 fn empty_cpu<N: BootName>(machine: &mut Machine<N>, tables: &Tables<N>, cpu: &mut Cpu<N>)
     requires shut { AllShut machine.old }
     requires settled { IsSettledUnpinned cpu.old }
-    ensures empties { BySteps N.frames Empties (side machine.old cpu.old) (side machine.new cpu.new) }
+    ensures empties { BySteps N.frames Empties (visit_state machine.old cpu.old) (visit_state machine.new cpu.new) }
     ensures shut { AllShut machine.new }
     ensures spent { IsSpent N.frames N.stocks machine.new cpu.new }
     ensures others { LendsAndFillsNone machine.old machine.new }

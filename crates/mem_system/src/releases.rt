@@ -9,7 +9,7 @@ ghost use Rattle.mem_machine.specs.Machines.{KeepsVisit, Visits};
 ghost use Rattle.mem_system.specs.Outcomes.{ComesTo, HasItsGroups};
 ghost use Rattle.mem_system.specs.Releases.{CutsList, ListsFrame, ReleasesFrame};
 ghost use Rattle.mem_system.specs.Commands.{BySteps, ListStaysWithin};
-ghost use Rattle.mem_machine.specs.Local.{side};
+ghost use Rattle.mem_machine.specs.Local.{visit_state};
 
 use crate::outcome::Outcome;
 use crate::units::find_unit;
@@ -37,10 +37,10 @@ fn cut_list<N: BootName>(
     cpu: &mut Cpu<N>,
     sizes: Config,
 )
-    requires visit { Visits N.frames (side machine.old cpu.old) }
+    requires visit { Visits N.frames (visit_state machine.old cpu.old) }
     requires sizes { IsValidConfig sizes }
-    ensures cuts { BySteps N.frames (CutsList sizes) (side machine.old cpu.old) (side machine.new cpu.new) }
-    ensures visit { Visits N.frames (side machine.new cpu.new) }
+    ensures cuts { BySteps N.frames (CutsList sizes) (visit_state machine.old cpu.old) (visit_state machine.new cpu.new) }
+    ensures visit { Visits N.frames (visit_state machine.new cpu.new) }
     ensures room { length cpu.new.list < 256 }
     ensures below_high { length cpu.old.list ≤ sizes.high → length cpu.new.list < sizes.high }
 {
@@ -57,13 +57,13 @@ fn list_frame<N: BootName>(
     sizes: Config,
     frame: Frame,
 )
-    requires visit { Visits N.frames (side machine.old cpu.old) }
+    requires visit { Visits N.frames (visit_state machine.old cpu.old) }
     requires sizes { IsValidConfig sizes }
     requires frame { frame < N.frames.frames }
     requires free { frame_state_at machine.old.frame_states frame ≡ Free }
     requires none_fresh { cpu.old.fresh ≡ [] }
-    ensures lists { BySteps N.frames (ListsFrame sizes frame) (side machine.old cpu.old) (side machine.new cpu.new) }
-    ensures stays { KeepsVisit N.frames (side machine.old cpu.old) (side machine.new cpu.new) }
+    ensures lists { BySteps N.frames (ListsFrame sizes frame) (visit_state machine.old cpu.old) (visit_state machine.new cpu.new) }
+    ensures stays { KeepsVisit N.frames (visit_state machine.old cpu.old) (visit_state machine.new cpu.new) }
     ensures fresh { cpu.new.fresh ≡ cpu.old.fresh }
     ensures at_most_high { ListStaysWithin sizes cpu.old cpu.new }
 {
@@ -79,14 +79,14 @@ pub(crate) fn release_frame<N: BootName>(
     sizes: Config,
     frame: u32,
 ) -> Outcome
-    requires visit { Visits N.frames (side machine.old cpu.old) }
+    requires visit { Visits N.frames (visit_state machine.old cpu.old) }
     requires sizes { IsValidConfig sizes }
     requires frame { frame < N.frames.frames }
     requires none_fresh { cpu.old.fresh ≡ [] }
     ensures released { ComesTo N.frames result (ReleasesFrame sizes frame)
-        (side machine.old cpu.old) (side machine.new cpu.new) }
+        (visit_state machine.old cpu.old) (visit_state machine.new cpu.new) }
     ensures groups { HasItsGroups machine.new.ledger result }
-    ensures stays { KeepsVisit N.frames (side machine.old cpu.old) (side machine.new cpu.new) }
+    ensures stays { KeepsVisit N.frames (visit_state machine.old cpu.old) (visit_state machine.new cpu.new) }
     ensures fresh { cpu.new.fresh ≡ cpu.old.fresh }
     ensures at_most_high { ListStaysWithin sizes cpu.old cpu.new }
 {

@@ -36,7 +36,7 @@ use Rattle.step_rules.specs.After.{Run, state_of, IsLegalRun}
 use Rattle.mem_machine.specs.declared.frame_state.FrameState.{FrameState}
 use Rattle.mem_machine.specs.declared.frame_state.FrameState.TheVariants as frame_state_is
 use Rattle.mem_machine.specs.FrameStates.{frame_state_at}
-use Rattle.mem_machine.specs.Machines.{KnownMachine, side}
+use Rattle.mem_machine.specs.Machines.{KnownMachine, visit_state}
 use Rattle.mem_machine.specs.Local.{local_of, phase_of, number_or_0, Makes, IsLocalRun}
 use Rattle.mem_machine.specs.Interleaving.{zone_of}
 use Rattle.mem_machine.specs.Steps.{cpu_makes}
@@ -55,7 +55,7 @@ use Rattle.mem_system.specs.declared.command.Cmd.TheVariants as cmd
 use Rattle.mem_system.specs.declared.command.Reply.{Reply}
 use Rattle.mem_system.specs.declared.command.Reply.TheVariants.{Refused, Done}
 use Rattle.mem_system.specs.Locked.{KnownLocked, AllShut}
-use Rattle.mem_system.specs.Visits.{course, Holder, holder, side_of, IsServed}
+use Rattle.mem_system.specs.Visits.{course, Holder, holder, visit_state_of, IsServed}
 use Rattle.reply_texts.specs.Answer.{Answer}
 use Rattle.reply_texts.specs.Answer as answer
 use Rattle.script_replay.specs.declared.work.Work.{Work}
@@ -175,28 +175,28 @@ module _ (t : KnownTable) (w : Words) (run : Run) (locked : KnownLocked) (cpus :
   served_follows : (seen : KnownCpu) → IsUnseen t m c seen → (command : Cmd) (reply : Reply) (after : Holder) →
       (is : IsServed t command reply (holder locked seen) after) → AllShut after.locked.machine → GoesOn (under_lock p is.steps) → Follows (under_lock p is.steps) after
   served_follows seen unseen command reply after is shut legal =
-      let leads : Makes t (side m c) is.steps (side after.locked.machine after.cpu) = record {
+      let leads : Makes t (visit_state m c) is.steps (visit_state after.locked.machine after.cpu) = record {
         leads = subst (λ (x : ℕ × State). IsLocalRun x.0 x.1 is.steps (local_of t after.locked.machine after.cpu)) (λ i. (unseen.number i, unseen.same i))
             is.makes.leads;
         follows = subst (λ (x : State). FollowsSteps x m.ledger is.steps after.locked.machine.ledger) unseen.same is.makes.follows;
         counts = is.makes.counts ∙ ap (λ (x : State). counts_over x is.steps m.counts) unseen.same;
       } in
-      let serves : ServesAt t cpus k (side m c) is.steps (side after.locked.machine after.cpu) = record {
+      let serves : ServesAt t cpus k (visit_state m c) is.steps (visit_state after.locked.machine after.cpu) = record {
         is_part = is_part;
         leads = leads;
-        decided = legal_lines_are_decided t run cpus k (side m c) is.steps (side after.locked.machine after.cpu) shows is_part leads legal;
+        decided = legal_lines_are_decided t run cpus k (visit_state m c) is.steps (visit_state after.locked.machine after.cpu) shows is_part leads legal;
         shut = shut;
       } in (
-        lines_follow t run cpus k (side m c) is.steps (side after.locked.machine after.cpu) shows serves,
-        lines_tell t run cpus k (side m c) is.steps (side after.locked.machine after.cpu) shows serves,
+        lines_follow t run cpus k (visit_state m c) is.steps (visit_state after.locked.machine after.cpu) shows serves,
+        lines_tell t run cpus k (visit_state m c) is.steps (visit_state after.locked.machine after.cpu) shows serves,
       )
 
   -- a step without the lock
   step_follows : (action : Action) (said : Said) (after : Holder) → after.locked ≡ locked → after.cpu.number ≡ p → is_fast action ≡ true →
-      said ≢ says.Illegal → Makes t (side m c) (cpu_makes p action said ∷ []) (side m after.cpu) → GoesOn (cpu_makes p action said ∷ []) →
+      said ≢ says.Illegal → Makes t (visit_state m c) (cpu_makes p action said ∷ []) (visit_state m after.cpu) → GoesOn (cpu_makes p action said ∷ []) →
       Follows (cpu_makes p action said ∷ []) after
   step_follows action said after kept number quick made leads legal =
-      let serves : ServesFast t cpus k (side m c) action said (side m after.cpu) = record {
+      let serves : ServesFast t cpus k (visit_state m c) action said (visit_state m after.cpu) = record {
         is_part = is_part;
         number = number;
         fast = quick;
@@ -205,9 +205,9 @@ module _ (t : KnownTable) (w : Words) (run : Run) (locked : KnownLocked) (cpus :
         decided = legal_fast_steps_are_decided t run cpus k m c action said shows is_part quick made legal;
       } in (
         subst (λ (l : KnownLocked). ShowsAll t (run ++ cpu_makes p action said ∷ []) l.machine (slice_set cpus k after.cpu)) (sym kept)
-            (fast_lines_follow t run cpus k (side m c) action said (side m after.cpu) shows serves),
+            (fast_lines_follow t run cpus k (visit_state m c) action said (visit_state m after.cpu) shows serves),
         λ told. subst (λ (l : KnownLocked). TellsRun t (run ++ cpu_makes p action said ∷ []) l.machine.ledger) (sym kept)
-            (fast_lines_tell t run cpus k (side m c) action said (side m after.cpu) shows serves told),
+            (fast_lines_tell t run cpus k (visit_state m c) action said (visit_state m after.cpu) shows serves told),
       )
 
   this_part : IsPart t w run m cpus k c

@@ -3,7 +3,7 @@ use Rattle.std.specs.Prelude.{Err, IfErr}
 use Rattle.group_tree.specs.Groups.{has_group}
 use Rattle.group_tree.proofs.CallerLemmas.{in_subtree-above}
 use Rattle.mem_machine.specs.Machines.{KnownMachine}
-use Rattle.mem_machine.specs.Local.{MakesAs, side}
+use Rattle.mem_machine.specs.Local.{MakesAs, visit_state}
 use Rattle.mem_machine.specs.Steps.{over_steps}
 use Rattle.cpu_part.specs.Cpus.{KnownCpu}
 use Rattle.mem_alloc.specs.Stepping.{ByStepsOfAny}
@@ -61,8 +61,8 @@ tries-preserved g c =
     let relieves = subst (λ (n : ℕ). ByStepsOfAny g.N.BootName.frames (RelievesLimit c.args.group c.in-Err-Over.over.group n)
     c.take_block.new.self c.make_room.new.machine) c.frames-pages.ensures.frames c.make_room.ensures.relieves in
     let r = is_refused _ _ c.args.group c.args.order c.in-Err-Over.field-0 c.in-Err-Over.over c.in-Err-Over.field-0-is c.in-Err-Over.ensures.refuses in
-    let run = subst (λ (z : KnownMachine × KnownCpu). MakesAs t c.tries.cpu.number (side c.tries.machine c.tries.cpu)
-    (over_steps c.args.group (2 ^ c.args.order) c.in-Err-Over.over.group) (side z.0 z.1)) (λ i. (r.1 i, c.in-Err-Over.ensures.cpu i))
+    let run = subst (λ (z : KnownMachine × KnownCpu). MakesAs t c.tries.cpu.number (visit_state c.tries.machine c.tries.cpu)
+    (over_steps c.args.group (2 ^ c.args.order) c.in-Err-Over.over.group) (visit_state z.0 z.1)) (λ i. (r.1 i, c.in-Err-Over.ensures.cpu i))
     (by_refusal c.tries.cpu.number c.args.group c.args.order _ _ c.in-Err-Over.field-0 c.in-Err-Over.over c.in-Err-Over.field-0-is
     c.in-Err-Over.ensures.steps) in (
       so_far_more t c.args.group (2 ^ c.args.order) c.args.cpu.now c.args.machine.now c.tries.machine c.tries.invariant.0 c.take_block.new.self c.tries.machine
@@ -78,8 +78,8 @@ returns-in_err-make_room-in-Err-Over-clause-charges g c =
     let relieves = subst (λ (n : ℕ). ByStepsOfAny g.N.BootName.frames (RelievesLimit c.args.group c.in-Err-Over.over.group n)
     c.take_block.new.self c.make_room.new.machine) c.frames-pages.ensures.frames c.make_room.ensures.relieves in
     let r = is_refused _ _ c.args.group c.args.order c.in-Err-Over.field-0 c.in-Err-Over.over c.in-Err-Over.field-0-is c.in-Err-Over.ensures.refuses in
-    let run = subst (λ (z : KnownMachine × KnownCpu). MakesAs t c.tries.cpu.number (side c.tries.machine c.tries.cpu)
-    (over_steps c.args.group (2 ^ c.args.order) c.in-Err-Over.over.group) (side z.0 z.1)) (λ i. (r.1 i, c.in-Err-Over.ensures.cpu i))
+    let run = subst (λ (z : KnownMachine × KnownCpu). MakesAs t c.tries.cpu.number (visit_state c.tries.machine c.tries.cpu)
+    (over_steps c.args.group (2 ^ c.args.order) c.in-Err-Over.over.group) (visit_state z.0 z.1)) (λ i. (r.1 i, c.in-Err-Over.ensures.cpu i))
     (by_refusal c.tries.cpu.number c.args.group c.args.order _ _ c.in-Err-Over.field-0 c.in-Err-Over.over c.in-Err-Over.field-0-is
     c.in-Err-Over.ensures.steps) in
     let x = c.in_err-make_room-in-Err-Over.field-0.0 in

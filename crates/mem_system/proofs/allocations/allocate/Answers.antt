@@ -4,7 +4,7 @@ use Rattle.mem_system.specs.Allocations.{Allocates, FreshOf, outcome_of}
 use Rattle.mem_system.specs.Outcomes.{reply_of}
 use Rattle.mem_system.proofs.Found.{found_there}
 use Rattle.mem_system.proofs.Allocating.{allocated, has_groups}
-use Rattle.mem_machine.specs.Local.{side}
+use Rattle.mem_machine.specs.Local.{visit_state}
 use Rattle.mem_system.specs.Commands.{BySteps, course}
 use Rattle.mem_system.proofs.allocations.allocate.Goals as goal
 
@@ -16,8 +16,8 @@ allocate_as-answer-requires-clause-there g c =
 pub returns-clause-allocates : goal.returns-clause-allocates
 returns-clause-allocates g c =
     let t = g.N.BootName.frames in
-    let before = side c.args.machine.now c.args.cpu.now in
-    let after = side c.allocate_as-answer.new.machine c.allocate_as-answer.new.cpu in
+    let before = visit_state c.args.machine.now c.args.cpu.now in
+    let after = visit_state c.allocate_as-answer.new.machine c.allocate_as-answer.new.cpu in
     let answer = c.allocate_as-answer.result in
     let found : number_at c.args.machine.now.ledger.groups c.args.path.now ≡ Some c.in-Some.group = search rules in
     let within : c.in-Some-of.order ≤ 10 = search rules in

@@ -1,7 +1,7 @@
 use Rattle.std.proofs.Common.{[], ap, sym, refl, subst}
 use Rattle.cpu_part.specs.Cpus.{KnownCpu}
 use Rattle.mem_machine.specs.Machines.{KnownMachine}
-use Rattle.mem_machine.specs.Local.{MakesAs, side}
+use Rattle.mem_machine.specs.Local.{MakesAs, visit_state}
 use Rattle.mem_machine.specs.Steps.{make_steps}
 use Rattle.mem_machine.proofs.Followed.{makes_none}
 use Rattle.mem_system.proofs.groups.make_group.Goals as goal
@@ -17,8 +17,8 @@ pub returns-in-Err-clause-made : goal.returns-in-Err-clause-made
 returns-in-Err-clause-made g c = record {
   steps = [];
   does = (sym c.in-Err.ensures.refused, record { machine = c.in-Err.ensures.unchanged; steps_are = refl });
-  makes = λ (x : KnownCpu). subst (λ (k : KnownMachine). MakesAs g.N.BootName.frames x.number (side c.args.machine.now x) [] (side k x)) (sym c.in-Err.ensures.unchanged)
-      (makes_none g.N.BootName.frames x.number (side c.args.machine.now x));
+  makes = λ (x : KnownCpu). subst (λ (k : KnownMachine). MakesAs g.N.BootName.frames x.number (visit_state c.args.machine.now x) [] (visit_state k x)) (sym c.in-Err.ensures.unchanged)
+      (makes_none g.N.BootName.frames x.number (visit_state c.args.machine.now x));
 }
 
 pub returns-in-Err-clause-seat : goal.returns-in-Err-clause-seat

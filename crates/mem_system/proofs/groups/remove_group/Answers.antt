@@ -1,7 +1,7 @@
 use Rattle.std.proofs.Common.{rules, ◌≡◌, ◌++◌, ap, sym, ◌∙◌, refl, subst, arith}
 use Rattle.group_charge.specs.Charges.{Ledger}
 use Rattle.mem_machine.specs.Machines.{KnownMachine}
-use Rattle.mem_machine.specs.Local.{side}
+use Rattle.mem_machine.specs.Local.{visit_state}
 use Rattle.mem_machine.specs.Steps.{remove_steps}
 use Rattle.mem_system.specs.Leaves.{IsLeafAt}
 use Rattle.mem_system.proofs.Found.{found_there}
@@ -52,8 +52,8 @@ returns-clause-removed g c =
         machine = c.remove.ensures.machine;
         steps_are = refl;
       };
-      makes = makes_both t before.number lowers.steps (remove_steps c.in-Ok.group) (side c.args.machine.now before)
-          (side c.lower_usage.new.machine before) (side c.remove.new.self before)
+      makes = makes_both t before.number lowers.steps (remove_steps c.in-Ok.group) (visit_state c.args.machine.now before)
+          (visit_state c.lower_usage.new.machine before) (visit_state c.remove.new.self before)
           (lowers.makes before) c.remove.ensures.steps;
     }
 

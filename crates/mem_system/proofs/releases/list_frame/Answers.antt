@@ -2,7 +2,7 @@ use Rattle.std.proofs.Common.{◌≡◌, ℕ, [], ◌∷◌, ◌++◌, length, a
 use Rattle.std.proofs.lemmas.List.{length-append}
 use Rattle.cpu_part.specs.Cpus.{KnownCpu}
 use Rattle.mem_machine.specs.Machines.{KnownMachine}
-use Rattle.mem_machine.specs.Local.{side, MakesAs}
+use Rattle.mem_machine.specs.Local.{visit_state, MakesAs}
 use Rattle.mem_machine.specs.Steps.{lend_steps}
 use Rattle.mem_system.proofs.Listing.{cut_off}
 use Rattle.mem_system.proofs.releases.list_frame.Goals as goal
@@ -25,18 +25,18 @@ returns-clause-lists g c =
     let cuts = c.cut_list.ensures.cuts in
     let p = before.number in
     let same : c.cut_list.new.cpu.number ≡ p = (cut_off _ _ _ _ _ cuts.does.takes).number in
-    let lent = subst (λ (q : ℕ). MakesAs t q (side c.cut_list.new.machine c.cut_list.new.cpu) (lend_steps q c.args.frame)
-    (side c.lend.new.self c.lend.new.cpu)) same c.lend.ensures.steps in record {
+    let lent = subst (λ (q : ℕ). MakesAs t q (visit_state c.cut_list.new.machine c.cut_list.new.cpu) (lend_steps q c.args.frame)
+    (visit_state c.lend.new.self c.lend.new.cpu)) same c.lend.ensures.steps in record {
       steps = cuts.steps ++ lend_steps p c.args.frame;
       does = record {
-        mid = side c.cut_list.new.machine c.cut_list.new.cpu;
+        mid = visit_state c.cut_list.new.machine c.cut_list.new.cpu;
         cutting = cuts.steps;
         cuts = cuts.does;
         lends = c.lend.ensures.lends;
         steps_are = refl;
       };
-      makes = makes_both t p cuts.steps (lend_steps p c.args.frame) (side c.args.machine.now before) (side c.cut_list.new.machine c.cut_list.new.cpu)
-          (side c.lend.new.self c.lend.new.cpu) cuts.makes lent;
+      makes = makes_both t p cuts.steps (lend_steps p c.args.frame) (visit_state c.args.machine.now before) (visit_state c.cut_list.new.machine c.cut_list.new.cpu)
+          (visit_state c.lend.new.self c.lend.new.cpu) cuts.makes lent;
     }
 
 pub returns-clause-stays : goal.returns-clause-stays

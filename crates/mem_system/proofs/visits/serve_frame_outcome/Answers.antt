@@ -4,7 +4,7 @@ use Rattle.group_tree.specs.Groups.{has_group, number_at}
 use Rattle.group_charge.specs.Charges.{Ledger}
 use Rattle.cpu_part.specs.Cpus.{KnownCpu}
 use Rattle.mem_machine.specs.Machines.{KnownMachine}
-use Rattle.mem_machine.specs.Local.{MakesAs, side}
+use Rattle.mem_machine.specs.Local.{MakesAs, visit_state}
 use Rattle.mem_machine.specs.Steps.{open_steps}
 use Rattle.mem_system.specs.declared.command.Cmd.TheVariants.{Alloc}
 use Rattle.mem_system.specs.declared.outcome.Outcome.{Outcome}
@@ -66,8 +66,8 @@ returns-clause-served g c path at =
     (c.open.ensures.machine ∙ ap (λ (y : KnownMachine). with_visit_of y c.args.cpu.now.number 1) c.forget_notes.ensures)
     c.open.ensures.cpu c.settle.ensures.others.number c.alloc_frame-answer.ensures.stays.number
     c.shut.ensures.machine c.shut.ensures.cpu refl
-    (subst (λ (y : KnownMachine). MakesAs t c.args.cpu.now.number (side y c.args.cpu.now) (open_steps c.args.cpu.now.number)
-    (side c.open.new.self c.open.new.cpu)) c.forget_notes.ensures c.open.ensures.steps) c.settle.ensures.settles c.settle.ensures.steps executed c.shut.ensures.steps))
+    (subst (λ (y : KnownMachine). MakesAs t c.args.cpu.now.number (visit_state y c.args.cpu.now) (open_steps c.args.cpu.now.number)
+    (visit_state c.open.new.self c.open.new.cpu)) c.forget_notes.ensures c.open.ensures.steps) c.settle.ensures.settles c.settle.ensures.steps executed c.shut.ensures.steps))
 
 pub returns-clause-groups : goal.returns-clause-groups
 returns-clause-groups g c =

@@ -2,7 +2,7 @@ use Rattle.std.proofs.Common.{◌≡◌, ℕ, ◌+◌, ◌≤◌, List, length, 
 use Rattle.group_charge.specs.Charges.{Ledger}
 use Rattle.cpu_part.specs.Cpus.{KnownCpu}
 use Rattle.mem_machine.specs.Machines.{KnownMachine}
-use Rattle.mem_machine.specs.Local.{MakesAs, side}
+use Rattle.mem_machine.specs.Local.{MakesAs, visit_state}
 use Rattle.mem_machine.specs.Steps.{open_steps}
 use Rattle.mem_system.specs.Locked.{KnownLocked}
 use Rattle.mem_system.specs.Outcomes.{HasItsGroups, reply_of}
@@ -46,8 +46,8 @@ returns g c =
           (c.open.ensures.machine ∙ ap (λ (y : KnownMachine). with_visit_of y c.args.cpu.now.number 1) c.forget_notes.ensures)
           c.open.ensures.cpu c.settle.ensures.others.number c.execute-outcome.ensures.stays.number
           c.shut.ensures.machine c.shut.ensures.cpu refl
-          (subst (λ (y : KnownMachine). MakesAs t c.args.cpu.now.number (side y c.args.cpu.now) (open_steps c.args.cpu.now.number)
-          (side c.open.new.self c.open.new.cpu)) c.forget_notes.ensures c.open.ensures.steps) c.settle.ensures.settles c.settle.ensures.steps
+          (subst (λ (y : KnownMachine). MakesAs t c.args.cpu.now.number (visit_state y c.args.cpu.now) (open_steps c.args.cpu.now.number)
+          (visit_state c.open.new.self c.open.new.cpu)) c.forget_notes.ensures c.open.ensures.steps) c.settle.ensures.settles c.settle.ensures.steps
           c.execute-outcome.ensures.executed c.shut.ensures.steps);
       settled = (
         subst (λ (y : KnownCpu). FreshAfter c.args.cmd.now reply y.fresh) (sym same) c.execute-outcome.ensures.fresh,

@@ -3,7 +3,7 @@ use Rattle.group_tree.specs.Room.{IsLowestOver}
 use Rattle.group_charge.specs.Charges.{current_of}
 use Rattle.mem_machine.specs.Kept.{machine_of}
 use Rattle.mem_machine.specs.Machines.{KnownMachine}
-use Rattle.mem_machine.specs.Local.{MakesAs, side}
+use Rattle.mem_machine.specs.Local.{MakesAs, visit_state}
 use Rattle.mem_machine.specs.Steps.{over_steps}
 use Rattle.mem_machine.proofs.Prepaying.{refused_all}
 use Rattle.zone_buddy.specs.Zone.{Zone}
@@ -95,7 +95,7 @@ returns-in-Err-clause-steps g c =
     let over = c.in-Err.over.group in
     let low : IsLowestOver m.ledger.groups (current_of m.ledger) c.args.group c.frames-pages.result over = search rules in
     let same = (λ i. record (machine_of c.self.inside) { ledger = c.in-Err.ensures.unchanged i }) ∙ c.self.view_is in
-    subst (λ (x : KnownMachine). MakesAs t c.args.cpu.now.number (side m c.args.cpu.now) (over_steps c.args.group (2 ^ c.args.order) over) (side x c.args.cpu.now)) (sym same)
+    subst (λ (x : KnownMachine). MakesAs t c.args.cpu.now.number (visit_state m c.args.cpu.now) (over_steps c.args.group (2 ^ c.args.order) over) (visit_state x c.args.cpu.now)) (sym same)
     (refused_all t g.N.BootName.stocks _ _ c.self.view_is c.args.cpu.now c.args.group (2 ^ c.args.order) over c.self.invariant.consistent c.tree-tree.ensures.legal
     c.number-number.ensures.tied c.requires.visit c.requires.none_fresh c.requires.charges.there c.requires.charges.alive
     (subst (λ (n : ℕ). IsLowestOver m.ledger.groups (current_of m.ledger) c.args.group n over) c.frames-pages.ensures.frames low))
