@@ -16,7 +16,7 @@ use Rattle.mem_system.specs.Locked.{KnownLocked, AllShut}
 use Rattle.mem_system.proofs.Killing.{around_quiet, obeys_no_rash}
 use Rattle.mem_system.proofs.Missing.{obeys_counts}
 use Rattle.mem_system.specs.Commands.{BySteps, Executes, course}
-use Rattle.mem_system.specs.Visits.{with_visit_of, holder, IsServed}
+use Rattle.mem_system.specs.Visits.{with_visit_of, locked_state, IsServed}
 use Rattle.mem_machine.proofs.Followed.{makes_both}
 
 pub all_shut : (m x n : KnownMachine) (p : ℕ) → AllShut m → x.frame_seat.view.opened ≡ put_at 0 m.frame_seat.view.opened p 1 → n ≡ with_visit_of x p 0 → AllShut n
@@ -54,7 +54,7 @@ pub served : (t : KnownTable) (cmd : Cmd) (l k : KnownLocked) (c d : KnownCpu) (
     → Settles (visit_state entered c1) (visit_state mid c2) → MakesAs t c1.number (visit_state entered c1) (settle_steps (visit_state entered c1)) (visit_state mid c2)
     → BySteps t (Executes l.sizes cmd reply) (visit_state mid c2) (visit_state x c3)
     → MakesAs t c3.number (visit_state x c3) (shut_steps c3.number) (visit_state k.machine d)
-    → IsServed t cmd reply (holder l c) (holder k d)
+    → IsServed t cmd reply (locked_state l c) (locked_state k d)
 served t cmd l k c d reply entered mid x c1 c2 c3 opened same second third shut after sizes first settles rests executed last =
     let p = c.number in
     let begins = with_visit_of (record l.machine { notes = [] }) p 1 in

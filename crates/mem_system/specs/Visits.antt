@@ -38,16 +38,16 @@ abbrev pub begun : VisitState → VisitState
 begun before = visited (visit_state (record before.machine { notes = [] }) before.cpu)
 
 -- what lies behind the lock, with the part of the CPU that holds it
-pub record Holder : Type 0 where
+pub record LockedState : Type 0 where
   pub locked : KnownLocked
   pub cpu : KnownCpu
 
 -- the holder of the lock with this part, and this behind the lock
-abbrev pub holder : KnownLocked → KnownCpu → Holder
-holder locked cpu = record { locked = locked; cpu = cpu }
+abbrev pub locked_state : KnownLocked → KnownCpu → LockedState
+locked_state locked cpu = record { locked = locked; cpu = cpu }
 
 -- the visit state of the holder: the machine behind the lock, and its part
-abbrev pub visit_state_of : Holder → VisitState
+abbrev pub visit_state_of : LockedState → VisitState
 visit_state_of now = visit_state now.locked.machine now.cpu
 
 -- the steps of a visit: it is opened, its CPU is settled, the inner steps are made, and it is shut
@@ -58,7 +58,7 @@ visit_steps before inner =
 -- A command under the lock. Earlier notes are forgotten, the caller's visit is opened, the caller is settled, the
 -- command is executed, and the visit is shut. The command kills a group only after it tried everything else, and only its
 -- own steps kill. The misses that are noted are those among its steps.
-pub record Serves (cmd : Cmd) (reply : Reply) (way : Course Holder) : Type 0 where
+pub record Serves (cmd : Cmd) (reply : Reply) (way : Course LockedState) : Type 0 where
   pub settled : VisitState
   pub settles : Settles (begun (visit_state_of way.before)) settled
   pub inner : Run
@@ -73,19 +73,19 @@ pub record Serves (cmd : Cmd) (reply : Reply) (way : Course Holder) : Type 0 whe
 
 -- a command was served under the lock with this reply: these steps lead from one holder to the other, and the machine's
 -- counts follow them
-pub record IsServed (table : KnownTable) (cmd : Cmd) (reply : Reply) (before after : Holder) : Type 0 where
+pub record IsServed (table : KnownTable) (cmd : Cmd) (reply : Reply) (before after : LockedState) : Type 0 where
   pub steps : Run
   pub serves : Serves cmd reply (course table before steps after)
   pub makes : Makes table (visit_state_of before) steps (visit_state_of after)
 
 -- a command was carried out under the lock with this outcome; its reply is what the charges after it make of the
 -- outcome
-abbrev pub ServesOutcome : KnownTable → Cmd → Outcome → (before after : Holder) → Type 0
+abbrev pub ServesOutcome : KnownTable → Cmd → Outcome → (before after : LockedState) → Type 0
 ServesOutcome table cmd outcome before after =
     IsServed table cmd (reply_of after.locked.machine.ledger outcome) before after
 
 -- an Alloc of order 0 was carried out for the group, whichever of its paths names it
-abbrev pub ServesFrameOutcome : KnownTable → (group : ℕ) → Outcome → (before after : Holder) → Type 0
+abbrev pub ServesFrameOutcome : KnownTable → (group : ℕ) → Outcome → (before after : LockedState) → Type 0
 ServesFrameOutcome table group outcome before after =
     (path : Bor (List ℕ)) → number_at before.locked.machine.ledger.groups path.now ≡ Some group
     → ServesOutcome table (Alloc path 0) outcome before after
@@ -93,18 +93,18 @@ ServesFrameOutcome table group outcome before after =
 -- What a visit leaves. If the CPU's list had at most `high` frames, its list and its fresh frames together have at most
 -- `high`. No frame is in transit between the CPU and the zone. The frames lent to the CPU are those that its seat has
 -- borrowed.
-pub record EndsVisit (table : KnownTable) (before after : Holder) : Type 0 where
+pub record EndsVisit (table : KnownTable) (before after : LockedState) : Type 0 where
   pub at_most_high : ListAndFreshStayWithin before.locked.sizes before.cpu after.cpu
   pub still : NothingPasses table after.locked.machine.frame_seat after.cpu.frame_seat
   pub lent : LentIsBorrowed table after.locked.machine.frame_seat after.cpu.frame_seat
 
 -- What a visit through the lock says. Some sound value was behind the lock, the CPU was served with it, and a sound
 -- value was left. The frames lent to the CPU after it are those that its seat has borrowed.
-pub record IsVisited (table : KnownTable) (stock_table : Words) (Served : Holder → Holder → Type 0)
+pub record IsVisited (table : KnownTable) (stock_table : Words) (Served : LockedState → LockedState → Type 0)
     (before after : KnownCpu) : Type 0 where
   pub found : KnownLocked
   pub left : KnownLocked
   pub sound_before : IsSound table stock_table found
-  pub served : Served (holder found before) (holder left after)
+  pub served : Served (locked_state found before) (locked_state left after)
   pub sound_after : IsSound table stock_table left
   pub lent : LentIsBorrowed table left.machine.frame_seat after.frame_seat

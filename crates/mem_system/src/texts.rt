@@ -6,7 +6,7 @@ ghost use Rattle.machine_texts.specs.Blocks.{blocks_text};
 ghost use Rattle.machine_texts.specs.Show.{show_text};
 ghost use Rattle.mem_system.specs.Shown.{SettlesCaller, TellsOf};
 ghost use Rattle.mem_system.specs.Commands.{IsSettled};
-ghost use Rattle.mem_system.specs.Visits.{EndsVisit, holder};
+ghost use Rattle.mem_system.specs.Visits.{EndsVisit, locked_state};
 
 use crate::lock::Locked;
 use crate::system::System;
@@ -25,10 +25,10 @@ pub fn show<N: BootName>(
     tables: &Tables<N>,
     cpu: &mut Cpu<N>,
 ) -> Result<Vec<u8>, AllocError>
-    ensures served { SettlesCaller N.frames (holder locked.old cpu.old) (holder locked.new cpu.new) }
+    ensures served { SettlesCaller N.frames (locked_state locked.old cpu.old) (locked_state locked.new cpu.new) }
     ensures text { IfOk result (λ text. text.items ≡ show_text locked.new.machine) }
     ensures settled { IsSettled cpu.new }
-    ensures ends { EndsVisit N.frames (holder locked.old cpu.old) (holder locked.new cpu.new) }
+    ensures ends { EndsVisit N.frames (locked_state locked.old cpu.old) (locked_state locked.new cpu.new) }
 {
     settle(locked, tables, cpu);
     let mut text = String::new(alloc);
@@ -44,10 +44,10 @@ pub fn blocks<N: BootName>(
     tables: &Tables<N>,
     cpu: &mut Cpu<N>,
 ) -> Result<Vec<u8>, AllocError>
-    ensures served { SettlesCaller N.frames (holder locked.old cpu.old) (holder locked.new cpu.new) }
+    ensures served { SettlesCaller N.frames (locked_state locked.old cpu.old) (locked_state locked.new cpu.new) }
     ensures text { IfOk result (λ text. text.items ≡ blocks_text locked.new.machine.blocks) }
     ensures settled { IsSettled cpu.new }
-    ensures ends { EndsVisit N.frames (holder locked.old cpu.old) (holder locked.new cpu.new) }
+    ensures ends { EndsVisit N.frames (locked_state locked.old cpu.old) (locked_state locked.new cpu.new) }
 {
     settle(locked, tables, cpu);
     let mut text = String::new(alloc);

@@ -6,7 +6,7 @@ ghost use Rattle.mem_system.specs.Allocations.{FreshOf};
 ghost use Rattle.mem_system.specs.Outcomes.{HasItsGroups, reply_of};
 ghost use Rattle.mem_system.specs.Commands.{IsOfZone, IsSettled, IsSettledAfter};
 ghost use Rattle.mem_system.specs.Shown.{SettlesCaller};
-ghost use Rattle.mem_system.specs.Visits.{EndsVisit, ServesOutcome, ServesFrameOutcome, IsServed, holder};
+ghost use Rattle.mem_system.specs.Visits.{EndsVisit, ServesOutcome, ServesFrameOutcome, IsServed, locked_state};
 
 use crate::allocations::outcome_of;
 use crate::command::{Cmd, Reply, execute};
@@ -29,10 +29,10 @@ pub fn serve_outcome<N: BootName>(
     cmd: &Cmd<'_>,
 ) -> Outcome
     requires { IsOfZone N.frames cmd.now }
-    ensures served { ServesOutcome N.frames cmd.now result (holder locked.old cpu.old) (holder locked.new cpu.new) }
+    ensures served { ServesOutcome N.frames cmd.now result (locked_state locked.old cpu.old) (locked_state locked.new cpu.new) }
     ensures groups { HasItsGroups locked.new.machine.ledger result }
     ensures settled { IsSettledAfter cmd.now (reply_of locked.new.machine.ledger result) cpu.new }
-    ensures ends { EndsVisit N.frames (holder locked.old cpu.old) (holder locked.new cpu.new) }
+    ensures ends { EndsVisit N.frames (locked_state locked.old cpu.old) (locked_state locked.new cpu.new) }
 {
     locked.machine.forget_notes();
     locked.machine.open(tables, cpu);
@@ -52,9 +52,9 @@ pub(crate) fn serve_into<N: BootName>(
     reply: &mut Reply,
 )
     requires { IsOfZone N.frames cmd.now }
-    ensures served { IsServed N.frames cmd.now reply.new (holder locked.old cpu.old) (holder locked.new cpu.new) }
+    ensures served { IsServed N.frames cmd.now reply.new (locked_state locked.old cpu.old) (locked_state locked.new cpu.new) }
     ensures settled { IsSettledAfter cmd.now reply.new cpu.new }
-    ensures ends { EndsVisit N.frames (holder locked.old cpu.old) (holder locked.new cpu.new) }
+    ensures ends { EndsVisit N.frames (locked_state locked.old cpu.old) (locked_state locked.new cpu.new) }
 {
     let outcome = serve_outcome(locked, tables, cpu, cmd);
     tell(locked.charges(), outcome, reply);
@@ -70,9 +70,9 @@ pub fn serve<N: BootName>(
     cmd: &Cmd<'_>,
 ) -> Reply
     requires { IsOfZone N.frames cmd.now }
-    ensures served { IsServed N.frames cmd.now result (holder locked.old cpu.old) (holder locked.new cpu.new) }
+    ensures served { IsServed N.frames cmd.now result (locked_state locked.old cpu.old) (locked_state locked.new cpu.new) }
     ensures settled { IsSettledAfter cmd.now result cpu.new }
-    ensures ends { EndsVisit N.frames (holder locked.old cpu.old) (holder locked.new cpu.new) }
+    ensures ends { EndsVisit N.frames (locked_state locked.old cpu.old) (locked_state locked.new cpu.new) }
 {
     let mut reply = Reply::Done;
     serve_into(locked, tables, cpu, cmd, &mut reply);
@@ -89,11 +89,11 @@ pub fn serve_frame_outcome<N: BootName>(
     group: GroupId,
 ) -> Outcome
     requires there { IsTrue (has_group locked.old.machine.ledger.groups group) }
-    ensures served { ServesFrameOutcome N.frames group result (holder locked.old cpu.old) (holder locked.new cpu.new) }
+    ensures served { ServesFrameOutcome N.frames group result (locked_state locked.old cpu.old) (locked_state locked.new cpu.new) }
     ensures groups { HasItsGroups locked.new.machine.ledger result }
     ensures fresh { FreshOf (reply_of locked.new.machine.ledger result) 0 cpu.new.fresh }
     ensures back { cpu.new.back ≡ [] }
-    ensures ends { EndsVisit N.frames (holder locked.old cpu.old) (holder locked.new cpu.new) }
+    ensures ends { EndsVisit N.frames (locked_state locked.old cpu.old) (locked_state locked.new cpu.new) }
 {
     let sizes = locked.sizes;
     let machine = &mut locked.machine;
@@ -107,9 +107,9 @@ pub fn serve_frame_outcome<N: BootName>(
 
 /// Serves `Settle`: settles the CPU, and does nothing else.
 pub fn settle<N: BootName>(locked: &mut Locked<N>, tables: &Tables<N>, cpu: &mut Cpu<N>)
-    ensures served { SettlesCaller N.frames (holder locked.old cpu.old) (holder locked.new cpu.new) }
+    ensures served { SettlesCaller N.frames (locked_state locked.old cpu.old) (locked_state locked.new cpu.new) }
     ensures settled { IsSettled cpu.new }
-    ensures ends { EndsVisit N.frames (holder locked.old cpu.old) (holder locked.new cpu.new) }
+    ensures ends { EndsVisit N.frames (locked_state locked.old cpu.old) (locked_state locked.new cpu.new) }
 {
     let _done = serve_outcome(locked, tables, cpu, &Cmd::Settle);
 }

@@ -55,7 +55,7 @@ use Rattle.mem_system.specs.declared.command.Cmd.TheVariants as cmd
 use Rattle.mem_system.specs.declared.command.Reply.{Reply}
 use Rattle.mem_system.specs.declared.command.Reply.TheVariants.{Refused, Done}
 use Rattle.mem_system.specs.Locked.{KnownLocked, AllShut}
-use Rattle.mem_system.specs.Visits.{course, Holder, holder, visit_state_of, IsServed}
+use Rattle.mem_system.specs.Visits.{course, LockedState, locked_state, visit_state_of, IsServed}
 use Rattle.reply_texts.specs.Answer.{Answer}
 use Rattle.reply_texts.specs.Answer as answer
 use Rattle.script_replay.specs.declared.work.Work.{Work}
@@ -135,11 +135,11 @@ module _ (t : KnownTable) (w : Words) (run : Run) (locked : KnownLocked) (cpus :
   abbrev p : ℕ
   p = c.number
 
-  abbrev before : Holder
-  before = holder locked c
+  abbrev before : LockedState
+  before = locked_state locked c
 
   -- these steps lead the whole to this holder, and its ledger has their peaks and event counts
-  abbrev Follows : Run → Holder → Type 0
+  abbrev Follows : Run → LockedState → Type 0
   Follows steps after = ShowsAll t (run ++ steps) after.locked.machine (slice_set cpus k after.cpu)
       × (TellsRun t run m.ledger → TellsRun t (run ++ steps) after.locked.machine.ledger)
 
@@ -148,7 +148,7 @@ module _ (t : KnownTable) (w : Words) (run : Run) (locked : KnownLocked) (cpus :
   GoesOn steps = IsLegalRun (zone_of t) (run ++ steps)
 
   -- nothing that is seen changed
-  unseen_follows : (after : Holder) → after.locked ≡ locked → IsUnseen t m c after.cpu → Follows [] after
+  unseen_follows : (after : LockedState) → after.locked ≡ locked → IsUnseen t m c after.cpu → Follows [] after
   unseen_follows after kept unseen =
       let d = after.cpu in (
         subst (λ (r : Run). ShowsAll t r after.locked.machine (slice_set cpus k d)) (sym (append-nil run))
@@ -172,8 +172,8 @@ module _ (t : KnownTable) (w : Words) (run : Run) (locked : KnownLocked) (cpus :
       )
 
   -- served under the lock, after a look at its own stock
-  served_follows : (seen : KnownCpu) → IsUnseen t m c seen → (command : Cmd) (reply : Reply) (after : Holder) →
-      (is : IsServed t command reply (holder locked seen) after) → AllShut after.locked.machine → GoesOn (under_lock p is.steps) → Follows (under_lock p is.steps) after
+  served_follows : (seen : KnownCpu) → IsUnseen t m c seen → (command : Cmd) (reply : Reply) (after : LockedState) →
+      (is : IsServed t command reply (locked_state locked seen) after) → AllShut after.locked.machine → GoesOn (under_lock p is.steps) → Follows (under_lock p is.steps) after
   served_follows seen unseen command reply after is shut legal =
       let leads : Makes t (visit_state m c) is.steps (visit_state after.locked.machine after.cpu) = record {
         leads = subst (λ (x : ℕ × State). IsLocalRun x.0 x.1 is.steps (local_of t after.locked.machine after.cpu)) (λ i. (unseen.number i, unseen.same i))
@@ -192,7 +192,7 @@ module _ (t : KnownTable) (w : Words) (run : Run) (locked : KnownLocked) (cpus :
       )
 
   -- a step without the lock
-  step_follows : (action : Action) (said : Said) (after : Holder) → after.locked ≡ locked → after.cpu.number ≡ p → is_fast action ≡ true →
+  step_follows : (action : Action) (said : Said) (after : LockedState) → after.locked ≡ locked → after.cpu.number ≡ p → is_fast action ≡ true →
       said ≢ says.Illegal → Makes t (visit_state m c) (cpu_makes p action said ∷ []) (visit_state m after.cpu) → GoesOn (cpu_makes p action said ∷ []) →
       Follows (cpu_makes p action said ∷ []) after
   step_follows action said after kept number quick made leads legal =
@@ -214,17 +214,17 @@ module _ (t : KnownTable) (w : Words) (run : Run) (locked : KnownLocked) (cpus :
   this_part = record { shows = shows; is_part = is_part; tied = (tied k c is_part).tied }
 
   -- the steps are those that were made
-  as_made : (steps made : Run) (after : Holder) → steps ≡ made → (GoesOn made → Follows made after) → GoesOn steps → Follows steps after
+  as_made : (steps made : Run) (after : LockedState) → steps ≡ made → (GoesOn made → Follows made after) → GoesOn steps → Follows steps after
   as_made steps made after are follows legal = subst (λ (r : Run). Follows r after) (sym are) (follows (subst GoesOn are legal))
 
-  got_follows : (g f : ℕ) (after : Holder) → FastAnswers g (Got f) c after.cpu → after.locked ≡ locked → GoesOn (fast_steps p g (Got f)) →
+  got_follows : (g f : ℕ) (after : LockedState) → FastAnswers g (Got f) c after.cpu → after.locked ≡ locked → GoesOn (fast_steps p g (Got f)) →
       Follows (fast_steps p g (Got f)) after
   got_follows g f after is kept legal =
       step_follows (step.Consume g) says.Took after kept (ap (λ (x : KnownCpu). x.number) is.5) refl (λ e. cc)
       (fast_calls_lead.got t w run m cpus k c after.cpu this_part g f is
       (legal_fast_steps_are_decided t run cpus k m c (step.Consume g) says.Took shows is_part refl (λ e. cc) legal)) legal
 
-  fast_follows : (g : ℕ) (said : fast.Fast) (after : Holder) → FastAnswers g said c after.cpu → after.locked ≡ locked → GoesOn (fast_steps p g said) →
+  fast_follows : (g : ℕ) (said : fast.Fast) (after : LockedState) → FastAnswers g said c after.cpu → after.locked ≡ locked → GoesOn (fast_steps p g said) →
       Follows (fast_steps p g said) after
   fast_follows g FreshFull after is kept legal = unseen_follows after kept (fast_unseen t m c g FreshFull after.cpu is (λ f e. cc))
   fast_follows g ListEmpty after is kept legal = unseen_follows after kept (fast_unseen t m c g ListEmpty after.cpu is (λ f e. cc))
@@ -233,7 +233,7 @@ module _ (t : KnownTable) (w : Words) (run : Run) (locked : KnownLocked) (cpus :
   fast_follows g NoStock after is kept legal = unseen_follows after kept (fast_unseen t m c g NoStock after.cpu is (λ f e. cc))
   fast_follows g (Got f) after is kept legal = got_follows g f after is kept legal
 
-  get_follows : (f : ℕ) (after : Holder) (said : Answer) → f < t.frames → GetsPin f c after.cpu said → after.locked ≡ locked → GoesOn (get_steps p f said) →
+  get_follows : (f : ℕ) (after : LockedState) (said : Answer) → f < t.frames → GetsPin f c after.cpu said → after.locked ≡ locked → GoesOn (get_steps p f said) →
       Follows (get_steps p f said) after
   get_follows f after (answer.Got Held) inside is kept legal =
       step_follows (step.Get f) says.Held after kept (ap (λ (x : KnownCpu). x.number) is.1.2) refl (λ e. cc)
@@ -247,7 +247,7 @@ module _ (t : KnownTable) (w : Words) (run : Run) (locked : KnownLocked) (cpus :
   get_follows f after (answer.Served (Refused PinsFull)) inside is kept legal = unseen_follows after kept (unseen_same t m c after.cpu is.1)
   get_follows f after said inside is kept legal = absurd is
 
-  put_follows : (f : ℕ) (after : Holder) (said : Answer) → PutsPin f c after.cpu said → after.locked ≡ locked → GoesOn (put_steps p f said) → Follows (put_steps p f said) after
+  put_follows : (f : ℕ) (after : LockedState) (said : Answer) → PutsPin f c after.cpu said → after.locked ≡ locked → GoesOn (put_steps p f said) → Follows (put_steps p f said) after
   put_follows f after (answer.Put putted) is kept legal =
       step_follows (step.Put f) (put_answer putted) after kept (put_number putted is.1) refl (put_made putted)
       (fast_calls_lead.putted t w run m cpus k c after.cpu this_part f putted is.1) legal
@@ -263,19 +263,19 @@ module _ (t : KnownTable) (w : Words) (run : Run) (locked : KnownLocked) (cpus :
   put_follows f after said is kept legal = absurd is
 
   -- served under the lock
-  locked_follows : (seen : KnownCpu) → IsUnseen t m c seen → (command : Cmd) (reply : Reply) (steps : Run) (after : Holder) →
+  locked_follows : (seen : KnownCpu) → IsUnseen t m c seen → (command : Cmd) (reply : Reply) (steps : Run) (after : LockedState) →
       IsServedUnderLock command seen reply (course t before steps after) → AllShut after.locked.machine → GoesOn steps → Follows steps after
   locked_follows seen unseen command reply steps after is shut legal =
       as_made steps (under_lock p is.served.steps) after (is.steps_are ∙ ap (λ (q : ℕ). under_lock q is.served.steps) unseen.number)
       (λ all. served_follows seen unseen command reply after is.served shut all) legal
 
-  replied_follows : (command : Cmd) (steps : Run) (after : Holder) (said : Answer) → RepliesServed command (course t before steps after) said → AllShut after.locked.machine →
+  replied_follows : (command : Cmd) (steps : Run) (after : LockedState) (said : Answer) → RepliesServed command (course t before steps after) said → AllShut after.locked.machine →
       GoesOn steps → Follows steps after
   replied_follows command steps after (answer.Served reply) is shut legal =
       locked_follows c (unseen_same t m c c refl) command reply steps after is shut legal
   replied_follows command steps after said is shut legal = absurd is
 
-  frame_follows : (path : Bor (List ℕ)) (steps : Run) (after : Holder) (said : Answer) (may_kill : Bool) → AnswersFrame path (course t before steps after) said may_kill →
+  frame_follows : (path : Bor (List ℕ)) (steps : Run) (after : LockedState) (said : Answer) (may_kill : Bool) → AnswersFrame path (course t before steps after) said may_kill →
       AllShut after.locked.machine → GoesOn steps → Follows steps after
   frame_follows path steps after (answer.Fast (Got f)) false is shut legal =
       as_made steps (fast_steps p is.gets.group (Got f)) after is.alone.steps_are
@@ -288,7 +288,7 @@ module _ (t : KnownTable) (w : Words) (run : Run) (locked : KnownLocked) (cpus :
       shut legal
   frame_follows path steps after said may_kill is shut legal = absurd is
 
-  release_follows : (f : ℕ) (steps : Run) (after : Holder) (said : Answer) (may_kill : Bool) → AnswersRelease f (course t before steps after) said may_kill →
+  release_follows : (f : ℕ) (steps : Run) (after : LockedState) (said : Answer) (may_kill : Bool) → AnswersRelease f (course t before steps after) said may_kill →
       AllShut after.locked.machine → GoesOn steps → Follows steps after
   release_follows f steps after answer.Listed false is shut legal =
       as_made steps (cpu_makes p (step.Credit f) says.Back ∷ []) after is.1.steps_are
@@ -299,10 +299,10 @@ module _ (t : KnownTable) (w : Words) (run : Run) (locked : KnownLocked) (cpus :
       locked_follows is.seen (list_unseen t m c f is.seen is.not_listed) (cmd.Release f) reply steps after is.served shut legal
   release_follows f steps after said may_kill is shut legal = absurd is
 
-  settle_follows : (steps : Run) (after : Holder) → SettlesUnderLock (course t before steps after) → AllShut after.locked.machine → GoesOn steps → Follows steps after
+  settle_follows : (steps : Run) (after : LockedState) → SettlesUnderLock (course t before steps after) → AllShut after.locked.machine → GoesOn steps → Follows steps after
   settle_follows steps after is shut legal = locked_follows c (unseen_same t m c c refl) cmd.Settle Done steps after is shut legal
 
-  answer_follows : (asked : Work) (steps : Run) (after : Holder) (said : Answer) (may_kill : Bool) → WorkInRange t.frames asked →
+  answer_follows : (asked : Work) (steps : Run) (after : LockedState) (said : Answer) (may_kill : Bool) → WorkInRange t.frames asked →
       AnswersWork asked (course t before steps after) said may_kill → AllShut after.locked.machine → GoesOn steps → Follows steps after
   answer_follows (work.Visit command) steps after said true names is shut legal = replied_follows command steps after said is shut legal
   answer_follows (work.Frame path) steps after said may_kill names is shut legal = frame_follows path steps after said may_kill is shut legal
@@ -317,7 +317,7 @@ module _ (t : KnownTable) (w : Words) (run : Run) (locked : KnownLocked) (cpus :
   answer_follows asked steps after said true names is shut legal = absurd is
   answer_follows asked steps after said false names is shut legal = absurd is
 
-  pub work_follows : (is_explained : Bool) (asked : Work) (steps : Run) (after : Holder) (text : List ℕ) → WorkInRange t.frames asked
+  pub work_follows : (is_explained : Bool) (asked : Work) (steps : Run) (after : LockedState) (text : List ℕ) → WorkInRange t.frames asked
       → WritesWork is_explained asked (course t before steps after) text → AllShut after.locked.machine → GoesOn steps → Follows steps after
   work_follows is_explained work.Blocks steps after text names is shut legal = settle_follows steps after is.settles shut legal
   work_follows is_explained work.Show steps after text names is shut legal = settle_follows steps after is.settles shut legal

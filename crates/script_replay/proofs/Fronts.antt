@@ -5,24 +5,24 @@ use Rattle.cpu_part.specs.Cpus.{KnownCpu}
 use Rattle.step_rules.specs.After.{Run}
 use Rattle.mem_system.specs.declared.command.Cmd.TheVariants as cmd
 use Rattle.mem_system.specs.Locked.{KnownLocked}
-use Rattle.mem_system.specs.Visits.{Holder, course, holder}
+use Rattle.mem_system.specs.Visits.{LockedState, course, locked_state}
 use Rattle.reply_texts.specs.Answer.{Answer, Served}
 use Rattle.script_replay.specs.declared.work.Work.TheVariants.{Frame, Release, Visit}
 use Rattle.script_replay.specs.Answers.{AnswersWork, CanNotList, GetsNoneFast, ServesWork}
 use Rattle.script_replay.specs.Terms.{Terms}
 
-module _ (on : Terms) (l : KnownLocked) (c seen : KnownCpu) (after : Holder) where
-  allocated : (path : Bor (List ℕ)) → GetsNoneFast path.now (holder l c) seen → (steps : Run) (said : Answer) (may_kill : Bool)
-      → AnswersWork (Visit (cmd.Alloc path 0)) (course on.frames (holder l seen) steps after) said may_kill
-      → AnswersWork (Frame path) (course on.frames (holder l c) steps after) said may_kill
+module _ (on : Terms) (l : KnownLocked) (c seen : KnownCpu) (after : LockedState) where
+  allocated : (path : Bor (List ℕ)) → GetsNoneFast path.now (locked_state l c) seen → (steps : Run) (said : Answer) (may_kill : Bool)
+      → AnswersWork (Visit (cmd.Alloc path 0)) (course on.frames (locked_state l seen) steps after) said may_kill
+      → AnswersWork (Frame path) (course on.frames (locked_state l c) steps after) said may_kill
   allocated path none steps (Served reply) true is =
       record { seen = seen; none = none; served = record { served = is.served; steps_are = is.steps_are } }
   allocated path none steps said true is = absurd is
   allocated path none steps said false is = absurd is
 
   -- if there is no frame for the group, the command is served
-  pub served_after : (path : Bor (List ℕ)) → GetsNoneFast path.now (holder l c) seen → (text : List ℕ)
-      → ServesWork on (Visit (cmd.Alloc path 0)) (holder l seen) after text → ServesWork on (Frame path) (holder l c) after text
+  pub served_after : (path : Bor (List ℕ)) → GetsNoneFast path.now (locked_state l c) seen → (text : List ℕ)
+      → ServesWork on (Visit (cmd.Alloc path 0)) (locked_state l seen) after text → ServesWork on (Frame path) (locked_state l c) after text
   served_after path none text is = let writes = is.writes in record {
     steps = is.steps;
     writes = record {
@@ -34,8 +34,8 @@ module _ (on : Terms) (l : KnownLocked) (c seen : KnownCpu) (after : Holder) whe
   }
 
   released : (f : ℕ) → CanNotList f c seen → (steps : Run) (said : Answer) (may_kill : Bool)
-      → AnswersWork (Visit (cmd.Release f)) (course on.frames (holder l seen) steps after) said may_kill
-      → AnswersWork (Release f) (course on.frames (holder l c) steps after) said may_kill
+      → AnswersWork (Visit (cmd.Release f)) (course on.frames (locked_state l seen) steps after) said may_kill
+      → AnswersWork (Release f) (course on.frames (locked_state l c) steps after) said may_kill
   released f can_not steps (Served reply) true is =
       record { seen = seen; not_listed = can_not; served = record { served = is.served; steps_are = is.steps_are } }
   released f can_not steps said true is = absurd is
@@ -43,7 +43,7 @@ module _ (on : Terms) (l : KnownLocked) (c seen : KnownCpu) (after : Holder) whe
 
   -- if the frame can't be listed again, the command is served
   pub released_after : (f : ℕ) → CanNotList f c seen → (text : List ℕ)
-      → ServesWork on (Visit (cmd.Release f)) (holder l seen) after text → ServesWork on (Release f) (holder l c) after text
+      → ServesWork on (Visit (cmd.Release f)) (locked_state l seen) after text → ServesWork on (Release f) (locked_state l c) after text
   released_after f can_not text is = let writes = is.writes in record {
     steps = is.steps;
     writes = record {

@@ -19,7 +19,7 @@ use Rattle.mem_history.proofs.Wholes.{set_here, set_else}
 use Rattle.mem_history.proofs.Promised.{the_whole_is_promised}
 use Rattle.mem_history.proofs.Deciding.{legal_front}
 use Rattle.mem_system.specs.Locked.{KnownLocked, IsQuiet}
-use Rattle.mem_system.specs.Visits.{course, holder, visit_state_of}
+use Rattle.mem_system.specs.Visits.{course, locked_state, visit_state_of}
 use Rattle.script_lines.specs.declared.line.Command.{Command}
 use Rattle.script_lines.specs.declared.line.Line.{Line}
 use Rattle.script_lines.specs.declared.line.Line.TheVariants.{Go, At}
@@ -54,7 +54,7 @@ tied_still t w cpus k c d is_part tied none all j e at = elim (cases_eq j k) [
 pub part_keeps : (on : Terms) (before after : KnownLocked) (cpus : List KnownCpu) (line : Line) (processor : ℕ) (command : Command) (c d : KnownCpu)
     {number : ℕ} {Z U E : Type 0} (r : Result U E) (old new : String Z) → line ≡ At number processor command → LineIsThere on.frames.frames (length cpus) line →
     slice_get cpus (processor - 1) ≡ Some c →
-    AddsText r old new (ServesCommand on command (holder before c) (holder after d)) →
+    AddsText r old new (ServesCommand on command (locked_state before c) (locked_state after d)) →
     HoldsInvariants on.frames on.stocks after → IsTied on.frames on.stocks d → (d.stock_seat.view.last ≡ stock_is.NoGroup → d.fresh ≡ []) →
     AddsText r old new (ServesAndKeeps on line (standing before cpus) (standing after (slice_set cpus (processor - 1) d)))
 part_keeps on before after cpus line processor command c d r old new is there is_part answered holds tied none = record {
@@ -78,7 +78,7 @@ part_keeps on before after cpus line processor command c d r old new is there is
 pub part_read : (on : Terms) (before after : KnownLocked) (cpus : List KnownCpu) (line : Line) (processor : ℕ) (command : Command) (c d : KnownCpu)
     {number : ℕ} {Z U E : Type 0} (r : Result U E) (old new : String Z) → line ≡ At number processor command → LineIsThere on.frames.frames (length cpus) line →
     c ≡ get_or cpus (processor - 1) c →
-    AddsText r old new (ServesCommand on command (holder before c) (holder after d)) →
+    AddsText r old new (ServesCommand on command (locked_state before c) (locked_state after d)) →
     HoldsInvariants on.frames on.stocks after → IsTied on.frames on.stocks d → (d.stock_seat.view.last ≡ stock_is.NoGroup → d.fresh ≡ []) →
     AddsText r old new (ServesAndKeeps on line (standing before cpus) (standing after (slice_set cpus (processor - 1) d)))
 part_read on before after cpus line processor command c d {number = number} r old new is there read answered holds tied none =
@@ -124,10 +124,10 @@ line_follows on run Go s e text shows tied keeps legal =
 line_follows on run (At number processor command) s e text shows tied keeps legal =
     let steps = keeps.serves.steps in
     let is : AtPart processor (λ part left. WritesWork on.is_explained (work_of command)
-    (course on.frames (holder s.locked part) steps (holder e.locked left)) text) s.cpus e.cpus = keeps.serves.writes in
+    (course on.frames (locked_state s.locked part) steps (locked_state e.locked left)) text) s.cpus e.cpus = keeps.serves.writes in
     subst (λ (cpus : List KnownCpu). ShowsAll on.frames (run ++ steps) e.locked.machine cpus
     × (TellsRun on.frames run s.locked.machine.ledger → TellsRun on.frames (run ++ steps) e.locked.machine.ledger)) (sym is.cpus)
-    (work_follows on.frames on.stocks run s.locked s.cpus (processor - 1) is.part shows is.is_part tied on.is_explained (work_of command) steps (holder e.locked is.left) text
+    (work_follows on.frames on.stocks run s.locked s.cpus (processor - 1) is.part shows is.is_part tied on.is_explained (work_of command) steps (locked_state e.locked is.left) text
     (work_in_range on.frames.frames command keeps.there.names) is.done keeps.keeps.holds.quiet.shut legal)
 
 pub keeps_history : (on : Terms) (lines : List Line) (before : Past) (e : Standing) (text : List ℕ) →

@@ -6,7 +6,7 @@ use Rattle.mem_history.specs.Whole.{under_lock}
 use Rattle.mem_system.specs.declared.command.Cmd.{Cmd}
 use Rattle.mem_system.specs.declared.command.Reply.{Reply}
 use Rattle.mem_system.specs.Locked.{KnownLocked}
-use Rattle.mem_system.specs.Visits.{Course, Holder, holder, IsServed}
+use Rattle.mem_system.specs.Visits.{Course, LockedState, locked_state, IsServed}
 use Rattle.reply_texts.specs.Answer.{Answer, Served}
 use Rattle.reply_texts.specs.Answers.{answer_text}
 use Rattle.reply_texts.specs.Replies.{reply_text}
@@ -49,12 +49,12 @@ told_as is as_well before after r turn adds = record {
 }
 
 -- an answer without an explanation of kills
-pub alone : (is_explained : Bool) (work : Work) (way : Course Holder) (said : Answer) → AnswersWork work way said false
+pub alone : (is_explained : Bool) (work : Work) (way : Course LockedState) (said : Answer) → AnswersWork work way said false
     → WritesAnswer is_explained work way (answer_text said)
 alone is_explained work way said so = record { said = said; may_kill = false; answered = so; text_is = sym (append-nil (answer_text said)) }
 
 -- the answer to a Settle has no explanation of kills, whether or not one is asked for
-pub settle_alone : (is_explained : Bool) (way : Course Holder) (text : List ℕ) → WritesAnswer false Settle way text → WritesAnswer is_explained Settle way text
+pub settle_alone : (is_explained : Bool) (way : Course LockedState) (text : List ℕ) → WritesAnswer false Settle way text → WritesAnswer is_explained Settle way text
 settle_alone is_explained way text writes = tells writes.said writes.may_kill writes.answered writes.text_is
   where
     tells : (said : Answer) (may_kill : Bool) → AnswersWork Settle way said may_kill
@@ -63,8 +63,8 @@ settle_alone is_explained way text writes = tells writes.said writes.may_kill wr
     tells said true answered is = absurd answered
 
 -- a command that was served under the lock: its reply, followed by the explanation of its kills
-pub served : (on : Terms) (command : Cmd) (l : KnownLocked) (c : KnownCpu) (after : Holder) (reply : Reply) → IsServed on.frames command reply (holder l c) after
-    → ServesWork on (Visit command) (holder l c) after (reply_text reply ++ kills_text on.is_explained after.locked.machine)
+pub served : (on : Terms) (command : Cmd) (l : KnownLocked) (c : KnownCpu) (after : LockedState) (reply : Reply) → IsServed on.frames command reply (locked_state l c) after
+    → ServesWork on (Visit command) (locked_state l c) after (reply_text reply ++ kills_text on.is_explained after.locked.machine)
 served on command l c after reply is = record {
   steps = under_lock c.number is.steps;
   writes = record {

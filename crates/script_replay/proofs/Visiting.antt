@@ -9,7 +9,7 @@ use Rattle.mem_system.specs.declared.command.Cmd.TheVariants as cmd
 use Rattle.mem_system.specs.declared.command.Reply.{Reply}
 use Rattle.mem_system.specs.declared.command.Reply.TheVariants.{Done}
 use Rattle.mem_system.specs.Locked.{KnownLocked, IsSound}
-use Rattle.mem_system.specs.Visits.{holder}
+use Rattle.mem_system.specs.Visits.{locked_state}
 use Rattle.reply_texts.specs.Answer.{Answer, Served}
 use Rattle.script_lines.specs.declared.line.Command.{Command}
 use Rattle.script_lines.specs.declared.line.Line.{Line}
@@ -29,7 +29,7 @@ settled_done on c d reply is = subst (λ (r : Reply). IsServedByVisit on cmd.Set
 
 -- if there is no frame for the group, the command is served by a visit
 pub visited_after : (on : BootTables) (path : Bor (List ℕ)) (l : KnownLocked) (c seen d : KnownCpu) (said : Answer) →
-    IsSound on.frames on.stocks l → GetsNoneFast path.now (holder l c) seen → RepliesVisited on (cmd.Alloc path 0) seen d said → AnswersFrameByVisit on path c d said
+    IsSound on.frames on.stocks l → GetsNoneFast path.now (locked_state l c) seen → RepliesVisited on (cmd.Alloc path 0) seen d said → AnswersFrameByVisit on path c d said
 visited_after on path l c seen d (Served reply) sound none served =
     inr (record { seen = seen; none = record { locked = l; sound = sound; so = none }; visited = served })
 visited_after on path l c seen d said sound none served = absurd served

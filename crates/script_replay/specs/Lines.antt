@@ -4,7 +4,7 @@ use Rattle.std.specs.Prelude.{◌≡◌, ℕ, Bool, ◌-◌, ◌≤◌, List, []
 use Rattle.cpu_part.specs.Cpus.{KnownCpu}
 use Rattle.step_rules.specs.After.{Run}
 use Rattle.mem_system.specs.Locked.{KnownLocked}
-use Rattle.mem_system.specs.Visits.{Course, course, holder}
+use Rattle.mem_system.specs.Visits.{Course, course, locked_state}
 use Rattle.script_lines.specs.declared.line.Line.{Line}
 use Rattle.script_lines.specs.declared.line.Line.TheVariants.{Go, At}
 use Rattle.script_replay.specs.Terms.{Terms}
@@ -40,7 +40,7 @@ abbrev pub WritesLine : (is_explained : Bool) → Line → Course Standing → (
 WritesLine is_explained Go way text = WritesNothing way text
 WritesLine is_explained (At number processor command) way text =
     AtPart processor (λ part left. WritesWork is_explained (work_of command)
-    (course way.table (holder way.before.locked part) way.steps (holder way.after.locked left)) text)
+    (course way.table (locked_state way.before.locked part) way.steps (locked_state way.after.locked left)) text)
     way.before.cpus way.after.cpus
 
 -- the answer of a line, as text, by some steps

@@ -13,7 +13,7 @@ use Rattle.mem_system.specs.declared.command.Cmd.TheVariants as cmd
 use Rattle.mem_system.specs.declared.command.Reply.{Reply}
 use Rattle.mem_system.specs.declared.command.Reply.TheVariants.{Done}
 use Rattle.mem_system.specs.Locked.{BehindLock}
-use Rattle.mem_system.specs.Visits.{holder, IsServed, IsVisited}
+use Rattle.mem_system.specs.Visits.{locked_state, IsServed, IsVisited}
 use Rattle.mem_system.specs.Shown.{TellsOf}
 use Rattle.reply_texts.specs.Answer.{Answer}
 use Rattle.reply_texts.specs.Answer as answer
@@ -65,17 +65,17 @@ AnswersReleaseByVisit tables frame before after other = ⊥
 pub record AllocatesByVisit (tables : BootTables) (path : Bor (List ℕ)) (before after : KnownCpu) (reply : Reply)
     : Type 0 where
   pub seen : KnownCpu
-  pub none : BehindLock tables.frames tables.stocks (λ locked. GetsNoneFast path.now (holder locked before) seen)
+  pub none : BehindLock tables.frames tables.stocks (λ locked. GetsNoneFast path.now (locked_state locked before) seen)
   pub visited : IsServedByVisit tables (cmd.Alloc path 0) seen after reply
 
 -- Alloc of a single frame. The group is found under the lock. If possible, the CPU then takes a frame of its list
 -- without the lock. Else the command is served by a visit of its own, which may find another value behind the lock.
 abbrev pub AnswersFrameByVisit : BootTables → (path : Bor (List ℕ)) (before after : KnownCpu) → Answer → Type 0
 AnswersFrameByVisit tables path before after (answer.Fast (Got frame)) =
-    BehindLock tables.frames tables.stocks (λ locked. GetsFast path.now (holder locked before) after frame)
+    BehindLock tables.frames tables.stocks (λ locked. GetsFast path.now (locked_state locked before) after frame)
 AnswersFrameByVisit tables path before after (answer.Served reply) =
     BehindLock tables.frames tables.stocks
-    (λ locked. FindsNoGroup path.now (holder locked before) (holder locked after) reply)
+    (λ locked. FindsNoGroup path.now (locked_state locked before) (locked_state locked after) reply)
     ⊎ AllocatesByVisit tables path before after reply
 AnswersFrameByVisit tables path before after other = ⊥
 

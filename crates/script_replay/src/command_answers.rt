@@ -5,7 +5,7 @@ ghost use Rattle.std.specs.Prelude.{◌≡◌, ◌<◌, ◌++◌, false, IsTrue,
 ghost use Rattle.group_tree.specs.Groups.{has_group, number_at};
 ghost use Rattle.mem_system.specs.declared.command.Cmd.TheVariants.{Alloc};
 ghost use Rattle.std.specs.String.{string_bytes};
-ghost use Rattle.mem_system.specs.Visits.{holder};
+ghost use Rattle.mem_system.specs.Visits.{locked_state};
 ghost use Rattle.mem_system.specs.Commands.{IsOfZone};
 ghost use Rattle.script_replay.specs.declared.work.Work.TheVariants.{Blocks, Frame, Release, Settle, Show, Visit};
 ghost use Rattle.script_replay.specs.Answers.{AddsText, ServesCommand, ServesWork, kills_text};
@@ -38,7 +38,7 @@ pub(crate) fn answer_text<N: BootName>(
     requires in_range { NamesInRange N.frames.frames command.now }
     ensures answered { AddsText result text.old text.new
         (ServesCommand (terms N.frames N.stocks is_explained) command.now
-        (holder locked.old cpu.old) (holder locked.new cpu.new)) }
+        (locked_state locked.old cpu.old) (locked_state locked.new cpu.new)) }
 {
     let work = work_of(command);
     answer_work(locked, tables, cpu, &work, is_explained, text)
@@ -57,7 +57,7 @@ fn answer_work<N: BootName>(
     requires in_range { WorkInRange N.frames.frames work.now }
     ensures answered { AddsText result text.old text.new
         (ServesWork (terms N.frames N.stocks is_explained) work.now
-        (holder locked.old cpu.old) (holder locked.new cpu.new)) }
+        (locked_state locked.old cpu.old) (locked_state locked.new cpu.new)) }
 {
     match *work {
         Work::Visit(cmd) => serve_command(locked, tables, cpu, &cmd, is_explained, text),
@@ -84,7 +84,7 @@ fn serve_command<N: BootName>(
     requires of_zone { IsOfZone N.frames cmd.now }
     ensures answered { AddsText result text.old text.new
         (ServesWork (terms N.frames N.stocks is_explained) (Visit cmd.now)
-        (holder locked.old cpu.old) (holder locked.new cpu.new)) }
+        (locked_state locked.old cpu.old) (locked_state locked.new cpu.new)) }
 {
     let outcome = serve_outcome(locked, tables, cpu, cmd);
     write_outcome(locked.charges(), &outcome, text)?;
@@ -105,7 +105,7 @@ fn serve_frame<N: BootName>(
     ensures answered { (path : Bor (List ℕ)) → number_at locked.old.machine.ledger.groups path.now ≡ Some group
         → AddsText result text.old text.new
         (ServesWork (terms N.frames N.stocks is_explained) (Visit (Alloc path 0))
-        (holder locked.old cpu.old) (holder locked.new cpu.new)) }
+        (locked_state locked.old cpu.old) (locked_state locked.new cpu.new)) }
 {
     let outcome = serve_frame_outcome(locked, tables, cpu, group);
     write_outcome(locked.charges(), &outcome, text)?;
@@ -139,7 +139,7 @@ fn answer_frame<N: BootName>(
 ) -> Result<(), AllocError>
     ensures { AddsText result text.old text.new
         (ServesWork (terms N.frames N.stocks is_explained) (Frame path.entry)
-        (holder locked.old cpu.old) (holder locked.new cpu.new)) }
+        (locked_state locked.old cpu.old) (locked_state locked.new cpu.new)) }
 {
     let Some(group) = locked.find(path) else {
         return write_refusal(&Fault::NoGroup, text);
@@ -162,7 +162,7 @@ fn answer_release<N: BootName>(
     requires in_zone { number < N.frames.frames }
     ensures answered { AddsText result text.old text.new
         (ServesWork (terms N.frames N.stocks is_explained) (Release number)
-        (holder locked.old cpu.old) (holder locked.new cpu.new)) }
+        (locked_state locked.old cpu.old) (locked_state locked.new cpu.new)) }
 {
     if try_list(tables, cpu, number) {
         return write_listed(text);
@@ -185,7 +185,7 @@ fn answer_settle<N: BootName>(
     text: &mut String,
 ) -> Result<(), AllocError>
     ensures answered { AddsText result text.old text.new (ServesWork (terms N.frames N.stocks false) Settle
-        (holder locked.old cpu.old) (holder locked.new cpu.new)) }
+        (locked_state locked.old cpu.old) (locked_state locked.new cpu.new)) }
 {
     settle(locked, tables, cpu);
     write_settled(text)
@@ -199,7 +199,7 @@ fn answer_blocks<N: BootName>(
     text: &mut String,
 ) -> Result<(), AllocError>
     ensures answered { AddsText result text.old text.new (ServesWork (terms N.frames N.stocks false) Blocks
-        (holder locked.old cpu.old) (holder locked.new cpu.new)) }
+        (locked_state locked.old cpu.old) (locked_state locked.new cpu.new)) }
 {
     settle(locked, tables, cpu);
     write_blocks(locked.machine(), text)
@@ -213,7 +213,7 @@ fn answer_show<N: BootName>(
     text: &mut String,
 ) -> Result<(), AllocError>
     ensures answered { AddsText result text.old text.new (ServesWork (terms N.frames N.stocks false) Show
-        (holder locked.old cpu.old) (holder locked.new cpu.new)) }
+        (locked_state locked.old cpu.old) (locked_state locked.new cpu.new)) }
 {
     settle(locked, tables, cpu);
     write_show(locked.machine(), text)

@@ -3,7 +3,7 @@
 ghost use Rattle.std.specs.Prelude.{◌≡◌, [], All, length};
 ghost use Rattle.stock_word.specs.declared.view.Stock.TheVariants.{NoGroup};
 ghost use Rattle.cpu_part.specs.Cpus.{IsTied};
-ghost use Rattle.mem_system.specs.Visits.{holder};
+ghost use Rattle.mem_system.specs.Visits.{locked_state};
 ghost use Rattle.script_replay.specs.Answers.{AddsText, ServesCommand};
 ghost use Rattle.script_replay.specs.History.{HoldsInvariants, ReplaysOrStops, ServesAndKeeps};
 ghost use Rattle.script_replay.specs.Lines.{standing};
@@ -88,7 +88,7 @@ fn serve_part<N: BootName>(
     requires in_range { NamesInRange N.frames.frames command.now }
     ensures answered { AddsText result answers.old answers.new
         (ServesCommand (terms N.frames N.stocks is_explained) command.now
-        (holder locked.old cpu.old) (holder locked.new cpu.new)) }
+        (locked_state locked.old cpu.old) (locked_state locked.new cpu.new)) }
     ensures invariants { HoldsInvariants N.frames N.stocks locked.new }
     ensures tied { IsTied N.frames N.stocks cpu.new }
     ensures none_fresh { cpu.new.stock_seat.view.last ≡ NoGroup → cpu.new.fresh ≡ [] }

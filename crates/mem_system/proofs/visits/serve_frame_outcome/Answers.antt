@@ -12,7 +12,7 @@ use Rattle.mem_system.specs.declared.command.Reply.{Reply}
 use Rattle.mem_system.specs.Locked.{KnownLocked}
 use Rattle.mem_system.specs.Allocations.{outcome_of}
 use Rattle.mem_system.specs.Outcomes.{HasItsGroups, reply_of}
-use Rattle.mem_system.specs.Visits.{with_visit_of, holder, IsServed}
+use Rattle.mem_system.specs.Visits.{with_visit_of, locked_state, IsServed}
 use Rattle.mem_system.proofs.Visiting.{all_shut, settled_opened, served}
 use Rattle.mem_system.proofs.Staying.{settled_groups}
 use Rattle.mem_system.proofs.Allocating.{frame_allocated, has_groups, over_is_there}
@@ -59,8 +59,8 @@ returns-clause-served g c path at =
     let found : number_at c.settle.new.self.ledger.groups path.now ≡ Some c.args.group = ap (λ (gs : List Group). number_at gs path.now) groups ∙ at in
     let executed = frame_allocated t c.locked.inside.sizes path.now c.args.group c.settle.new.self x c.settle.new.cpu c.alloc_frame-answer.new.cpu answer found
     c.alloc_frame-answer.ensures.allocates in
-    subst (λ (r : Reply). IsServed t (Alloc path 0) r (holder c.args.locked.now c.args.cpu.now) (holder k c.shut.new.cpu)) (sym told)
-    (subst (λ (y : KnownLocked). IsServed t (Alloc path 0) reply (holder y c.args.cpu.now) (holder k c.shut.new.cpu)) c.locked.view_is
+    subst (λ (r : Reply). IsServed t (Alloc path 0) r (locked_state c.args.locked.now c.args.cpu.now) (locked_state k c.shut.new.cpu)) (sym told)
+    (subst (λ (y : KnownLocked). IsServed t (Alloc path 0) reply (locked_state y c.args.cpu.now) (locked_state k c.shut.new.cpu)) c.locked.view_is
     (served t (Alloc path 0) l k c.args.cpu.now c.shut.new.cpu
     reply c.open.new.self c.settle.new.self x c.open.new.cpu c.settle.new.cpu c.alloc_frame-answer.new.cpu
     (c.open.ensures.machine ∙ ap (λ (y : KnownMachine). with_visit_of y c.args.cpu.now.number 1) c.forget_notes.ensures)

@@ -7,7 +7,7 @@ use Rattle.mem_machine.specs.Steps.{open_steps}
 use Rattle.mem_system.specs.Locked.{KnownLocked}
 use Rattle.mem_system.specs.Outcomes.{HasItsGroups, reply_of}
 use Rattle.mem_system.specs.Commands.{FreshAfter}
-use Rattle.mem_system.specs.Visits.{with_visit_of, holder, IsServed}
+use Rattle.mem_system.specs.Visits.{with_visit_of, locked_state, IsServed}
 use Rattle.mem_system.proofs.Visiting.{all_shut, settled_opened, served}
 use Rattle.mem_system.proofs.visits.serve_outcome.Goals as goal
 
@@ -40,7 +40,7 @@ returns g c =
     let told : reply_of k.machine.ledger c.execute-outcome.result ≡ reply = ap (λ (l : Ledger). reply_of l c.execute-outcome.result) kept in
     rw told record {
       groups = subst (λ (l : Ledger). HasItsGroups l c.execute-outcome.result) (sym kept) c.execute-outcome.ensures.groups;
-      served = subst (λ (l : KnownLocked). IsServed t c.args.cmd.now reply (holder l c.args.cpu.now) (holder k c.shut.new.cpu)) c.locked.view_is
+      served = subst (λ (l : KnownLocked). IsServed t c.args.cmd.now reply (locked_state l c.args.cpu.now) (locked_state k c.shut.new.cpu)) c.locked.view_is
           (served t c.args.cmd.now (record { machine = c.locked.inside.machine; sizes = c.locked.inside.sizes }) k c.args.cpu.now c.shut.new.cpu
           reply c.open.new.self c.settle.new.self c.execute-outcome.new.machine c.open.new.cpu c.settle.new.cpu c.execute-outcome.new.cpu
           (c.open.ensures.machine ∙ ap (λ (y : KnownMachine). with_visit_of y c.args.cpu.now.number 1) c.forget_notes.ensures)

@@ -3,7 +3,7 @@ use Rattle.cpu_part.specs.declared.answers.Fast.TheVariants.{Got}
 use Rattle.cpu_part.specs.Calls.{FastAnswers}
 use Rattle.group_tree.specs.declared.fault.Fault.TheVariants.{NoGroup}
 use Rattle.mem_system.specs.declared.command.Reply.TheVariants.{Refused}
-use Rattle.mem_system.specs.Visits.{holder}
+use Rattle.mem_system.specs.Visits.{locked_state}
 use Rattle.mem_system.proofs.Found.{found_there}
 use Rattle.reply_texts.specs.Answer.{Served}
 use Rattle.reply_texts.specs.Answer as answer
@@ -57,8 +57,8 @@ returns-in_default-alloc_fast g c =
     let on = terms g.N.BootName.frames g.N.BootName.stocks c.args.is_explained in
     let l = c.args.locked.now in
     let seen = c.alloc_fast.new.self in
-    let after = holder c.serve_frame.new.locked c.serve_frame.new.cpu in
-    let none : GetsNoneFast c.args.path.now (holder l c.args.cpu.now) seen = record {
+    let after = locked_state c.serve_frame.new.locked c.serve_frame.new.cpu in
+    let none : GetsNoneFast c.args.path.now (locked_state l c.args.cpu.now) seen = record {
       group = c.in-Some.group;
       found = sym c.in-Some.ensures.found;
       fast = c.alloc_fast.result;

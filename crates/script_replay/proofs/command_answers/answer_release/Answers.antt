@@ -2,7 +2,7 @@ use Rattle.std.proofs.Common.{[], ◌∷◌, refl, rules}
 use Rattle.step_rules.specs.declared.step.Action.TheVariants as step
 use Rattle.step_rules.specs.declared.step.Answer.TheVariants as says
 use Rattle.mem_machine.specs.Steps.{cpu_makes}
-use Rattle.mem_system.specs.Visits.{holder}
+use Rattle.mem_system.specs.Visits.{locked_state}
 use Rattle.reply_texts.specs.Answer.{Listed}
 use Rattle.reply_texts.specs.Answers.{answer_text}
 use Rattle.script_replay.specs.Terms.{terms}
@@ -25,7 +25,7 @@ returns-then-try_list g c = record {
 pub returns : goal.returns
 returns g c =
     let on = terms g.N.BootName.frames g.N.BootName.stocks c.args.is_explained in
-    let after = holder c.serve_command.new.locked c.serve_command.new.cpu in record {
+    let after = locked_state c.serve_command.new.locked c.serve_command.new.cpu in record {
       answered = added_as _ _ c.args.text.now c.serve_command.new.text c.serve_command.result
           (released_after on c.args.locked.now c.args.cpu.now c.try_list.new.cpu after c.args.number (search rules)) c.serve_command.ensures.answered;
     }

@@ -5,13 +5,13 @@ use Rattle.script_replay.specs.declared.work.Work.{Work}
 use Rattle.script_replay.specs.Answers.{AddsText, ServesWork, fast_steps, get_steps, put_steps}
 use Rattle.script_replay.specs.Terms.{terms}
 use Rattle.script_replay.proofs.Telling.{added_as, alone, settle_alone}
-use Rattle.mem_system.specs.Visits.{holder}
+use Rattle.mem_system.specs.Visits.{locked_state}
 use Rattle.script_replay.proofs.command_answers.answer_work.Goals as goal
 
 pub returns-in-Fast : goal.returns-in-Fast
 returns-in-Fast g c = record {
   answered = subst (λ (work : Work). AddsText c.write_fast.result c.args.text.now c.write_fast.new.text
-      (ServesWork (terms g.N.BootName.frames g.N.BootName.stocks c.args.is_explained) work (holder c.args.locked.now c.args.cpu.now) (holder c.args.locked.now c.alloc_fast.new.self)))
+      (ServesWork (terms g.N.BootName.frames g.N.BootName.stocks c.args.is_explained) work (locked_state c.args.locked.now c.args.cpu.now) (locked_state c.args.locked.now c.alloc_fast.new.self)))
       (sym c.in-Fast.is) (record {
         text = answer_text (answer.Fast c.alloc_fast.result);
         so = record {
@@ -25,7 +25,7 @@ returns-in-Fast g c = record {
 pub returns-in-Get : goal.returns-in-Get
 returns-in-Get g c = let answered = c.answer_get.ensures.answered in record {
   answered = subst (λ (work : Work). AddsText c.answer_get.result c.args.text.now c.answer_get.new.text
-      (ServesWork (terms g.N.BootName.frames g.N.BootName.stocks c.args.is_explained) work (holder c.args.locked.now c.args.cpu.now) (holder c.args.locked.now c.answer_get.new.cpu)))
+      (ServesWork (terms g.N.BootName.frames g.N.BootName.stocks c.args.is_explained) work (locked_state c.args.locked.now c.args.cpu.now) (locked_state c.args.locked.now c.answer_get.new.cpu)))
       (sym c.in-Get.is) (record {
         text = answered.text;
         so = record {
@@ -39,7 +39,7 @@ returns-in-Get g c = let answered = c.answer_get.ensures.answered in record {
 pub returns-in-Put : goal.returns-in-Put
 returns-in-Put g c = let answered = c.answer_put.ensures.answered in record {
   answered = subst (λ (work : Work). AddsText c.answer_put.result c.args.text.now c.answer_put.new.text
-      (ServesWork (terms g.N.BootName.frames g.N.BootName.stocks c.args.is_explained) work (holder c.args.locked.now c.args.cpu.now) (holder c.args.locked.now c.answer_put.new.cpu)))
+      (ServesWork (terms g.N.BootName.frames g.N.BootName.stocks c.args.is_explained) work (locked_state c.args.locked.now c.args.cpu.now) (locked_state c.args.locked.now c.answer_put.new.cpu)))
       (sym c.in-Put.is) (record {
         text = answered.text;
         so = record {
@@ -53,7 +53,7 @@ returns-in-Put g c = let answered = c.answer_put.ensures.answered in record {
 pub returns-in-Settle : goal.returns-in-Settle
 returns-in-Settle g c = record {
   answered = subst (λ (work : Work). AddsText c.answer_settle.result c.args.text.now c.answer_settle.new.text
-      (ServesWork (terms g.N.BootName.frames g.N.BootName.stocks c.args.is_explained) work (holder c.args.locked.now c.args.cpu.now) (holder c.answer_settle.new.locked c.answer_settle.new.cpu)))
+      (ServesWork (terms g.N.BootName.frames g.N.BootName.stocks c.args.is_explained) work (locked_state c.args.locked.now c.args.cpu.now) (locked_state c.answer_settle.new.locked c.answer_settle.new.cpu)))
       (sym c.in-Settle.is) (added_as _ _ _ _ _ (λ text is. record { steps = is.steps; writes = settle_alone c.args.is_explained _ text is.writes })
       c.answer_settle.ensures.answered);
 }
@@ -61,7 +61,7 @@ returns-in-Settle g c = record {
 pub returns-in-Blocks : goal.returns-in-Blocks
 returns-in-Blocks g c = record {
   answered = subst (λ (work : Work). AddsText c.answer_blocks.result c.args.text.now c.answer_blocks.new.text
-      (ServesWork (terms g.N.BootName.frames g.N.BootName.stocks c.args.is_explained) work (holder c.args.locked.now c.args.cpu.now) (holder c.answer_blocks.new.locked c.answer_blocks.new.cpu)))
+      (ServesWork (terms g.N.BootName.frames g.N.BootName.stocks c.args.is_explained) work (locked_state c.args.locked.now c.args.cpu.now) (locked_state c.answer_blocks.new.locked c.answer_blocks.new.cpu)))
       (sym c.in-Blocks.is) (let told = c.answer_blocks.ensures.answered in record {
         text = told.text;
         so = record { steps = told.so.steps; writes = told.so.writes };
@@ -72,7 +72,7 @@ returns-in-Blocks g c = record {
 pub returns-in-Show : goal.returns-in-Show
 returns-in-Show g c = record {
   answered = subst (λ (work : Work). AddsText c.answer_show.result c.args.text.now c.answer_show.new.text
-      (ServesWork (terms g.N.BootName.frames g.N.BootName.stocks c.args.is_explained) work (holder c.args.locked.now c.args.cpu.now) (holder c.answer_show.new.locked c.answer_show.new.cpu)))
+      (ServesWork (terms g.N.BootName.frames g.N.BootName.stocks c.args.is_explained) work (locked_state c.args.locked.now c.args.cpu.now) (locked_state c.answer_show.new.locked c.answer_show.new.cpu)))
       (sym c.in-Show.is) (let told = c.answer_show.ensures.answered in record {
         text = told.text;
         so = record { steps = told.so.steps; writes = told.so.writes };

@@ -2,7 +2,7 @@ use Rattle.std.proofs.Common.{◌++◌, ap, rules, ◌∙◌}
 use Rattle.std.specs.String.{string_bytes}
 use Rattle.group_charge.specs.Charges.{Ledger}
 use Rattle.mem_system.specs.Outcomes.{reply_of}
-use Rattle.mem_system.specs.Visits.{holder}
+use Rattle.mem_system.specs.Visits.{locked_state}
 use Rattle.reply_texts.specs.Replies.{reply_text}
 use Rattle.script_replay.specs.Answers.{kills_text}
 use Rattle.script_replay.specs.Terms.{terms}
@@ -15,7 +15,7 @@ returns-in_err-write_outcome g c =
     let reply = reply_of after.locked.machine.ledger c.serve_outcome-outcome.result in record {
       answered = record {
         text = reply_text reply ++ kills_text c.args.is_explained after.locked.machine;
-        so = served (terms g.N.BootName.frames g.N.BootName.stocks c.args.is_explained) c.args.cmd.now c.args.locked.now c.args.cpu.now (holder after.locked after.cpu)
+        so = served (terms g.N.BootName.frames g.N.BootName.stocks c.args.is_explained) c.args.cmd.now c.args.locked.now c.args.cpu.now (locked_state after.locked after.cpu)
             reply c.serve_outcome-outcome.ensures.served;
         added = search rules;
       };
@@ -28,7 +28,7 @@ returns g c =
     let reply = reply_of after.locked.machine.ledger outcome in record {
       answered = record {
         text = reply_text reply ++ kills_text c.args.is_explained after.locked.machine;
-        so = served (terms g.N.BootName.frames g.N.BootName.stocks c.args.is_explained) c.args.cmd.now c.args.locked.now c.args.cpu.now (holder after.locked after.cpu)
+        so = served (terms g.N.BootName.frames g.N.BootName.stocks c.args.is_explained) c.args.cmd.now c.args.locked.now c.args.cpu.now (locked_state after.locked after.cpu)
             reply c.serve_outcome-outcome.ensures.served;
         added = behind c.explain.result (string_bytes c.args.text.now) (string_bytes c.write_outcome.new.text) (string_bytes c.explain.new.text)
             (reply_text reply) (kills_text c.args.is_explained after.locked.machine)

@@ -3,7 +3,7 @@ use Rattle.std.specs.String.{string_bytes}
 use Rattle.group_charge.specs.Charges.{Ledger}
 use Rattle.mem_system.specs.declared.command.Cmd.TheVariants.{Alloc}
 use Rattle.mem_system.specs.Outcomes.{reply_of}
-use Rattle.mem_system.specs.Visits.{holder}
+use Rattle.mem_system.specs.Visits.{locked_state}
 use Rattle.reply_texts.specs.Replies.{reply_text}
 use Rattle.script_replay.specs.Answers.{kills_text}
 use Rattle.script_replay.specs.Terms.{terms}
@@ -16,7 +16,7 @@ returns-in_err-write_outcome g c =
     let reply = reply_of after.locked.machine.ledger c.serve_frame_outcome-outcome.result in record {
       answered = λ path at. record {
         text = reply_text reply ++ kills_text c.args.is_explained after.locked.machine;
-        so = served (terms g.N.BootName.frames g.N.BootName.stocks c.args.is_explained) (Alloc path 0) c.args.locked.now c.args.cpu.now (holder after.locked after.cpu)
+        so = served (terms g.N.BootName.frames g.N.BootName.stocks c.args.is_explained) (Alloc path 0) c.args.locked.now c.args.cpu.now (locked_state after.locked after.cpu)
             reply (c.serve_frame_outcome-outcome.ensures.served path at);
         added = search rules;
       };
@@ -29,7 +29,7 @@ returns g c =
     let reply = reply_of after.locked.machine.ledger outcome in record {
       answered = λ path at. record {
         text = reply_text reply ++ kills_text c.args.is_explained after.locked.machine;
-        so = served (terms g.N.BootName.frames g.N.BootName.stocks c.args.is_explained) (Alloc path 0) c.args.locked.now c.args.cpu.now (holder after.locked after.cpu)
+        so = served (terms g.N.BootName.frames g.N.BootName.stocks c.args.is_explained) (Alloc path 0) c.args.locked.now c.args.cpu.now (locked_state after.locked after.cpu)
             reply (c.serve_frame_outcome-outcome.ensures.served path at);
         added = behind c.explain.result (string_bytes c.args.text.now) (string_bytes c.write_outcome.new.text) (string_bytes c.explain.new.text)
             (reply_text reply) (kills_text c.args.is_explained after.locked.machine)
