@@ -7,7 +7,7 @@ use Rattle.zone_sizes.specs.declared.config.Config.{Config}
 use Rattle.mem_system.specs.Boots.{IsSizedAs}
 use Rattle.script_lines.specs.declared.line.Line.{Line}
 use Rattle.script_replay.specs.History.{TellsHistory, past}
-use Rattle.script_replay.specs.Lines.{ServesAll, Standing}
+use Rattle.script_replay.specs.Lines.{ServesAll, SystemState}
 use Rattle.script_replay.specs.Ranges.{LineIsThere}
 use Rattle.script_replay.specs.Terms.{boot_tables, terms}
 use Rattle.script_threads.specs.Each.{TellsEach, workers_from}
@@ -38,7 +38,7 @@ later_there sizes t w n lines later sized is all =
 
 -- the early lines were served from the boot on, the later ones told by processor, and the boot ended: these are the answers
 pub are_answers : (sizes : Config) (is_audited : Bool) (t : KnownTable) (w : Words) (lines first_lines other_lines : List Line)
-    (start at_go : Standing) (early later text : List ℕ) (told : Ended) → StandsAtFirst sizes t w start
+    (start at_go : SystemState) (early later text : List ℕ) (told : Ended) → StandsAtFirst sizes t w start
     → first_lines ≡ take (lines_before_go lines) lines → other_lines ≡ drop (lines_before_go lines) lines
     → ServesAll (terms t w false) first_lines start at_go early → TellsHistory (terms t w false) first_lines (past [] start) at_go early
     → TellsEach (boot_tables t w) (workers_from 1 at_go.cpus other_lines) later

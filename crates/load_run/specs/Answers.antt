@@ -11,7 +11,7 @@ use Rattle.mem_system.specs.Boots.{IsSizedAs, first_cpus}
 use Rattle.mem_system.specs.Locked.{IsQuiet}
 use Rattle.script_lines.specs.declared.line.Line.{Line}
 use Rattle.script_lines.specs.Script.{IsScript, longest_script}
-use Rattle.script_replay.specs.Lines.{ServesAll, Standing}
+use Rattle.script_replay.specs.Lines.{ServesAll, SystemState}
 use Rattle.script_replay.specs.History.{TellsHistory, past}
 use Rattle.script_replay.specs.Terms.{boot_tables, terms}
 use Rattle.script_threads.specs.Each.{TellsEach, workers_from}
@@ -26,7 +26,7 @@ abbrev pub bytes_read : List ℕ → List ℕ
 bytes_read input = take (longest_script + 1) input
 
 -- the state after a boot with these sizes, under these tables: a new machine, and CPUs that did nothing yet
-pub record StandsAtFirst (sizes : Config) (table : KnownTable) (stock_table : Words) (first : Standing) : Type 0 where
+pub record StandsAtFirst (sizes : Config) (table : KnownTable) (stock_table : Words) (first : SystemState) : Type 0 where
   pub sized : IsSizedAs sizes table stock_table
   pub machine : IsFirst table stock_table first.locked.machine
   pub sizes_are : first.locked.sizes ≡ sizes
@@ -40,8 +40,8 @@ pub record AreReplayAnswers (sizes : Config) (is_explained is_audited : Bool) (l
     : Type 0 where
   pub frames : KnownTable
   pub stocks : Words
-  pub start : Standing
-  pub end : Standing
+  pub start : SystemState
+  pub end : SystemState
   pub answers : List ℕ
   pub ending : List ℕ
   pub first : StandsAtFirst sizes frames stocks start
@@ -52,7 +52,7 @@ pub record AreReplayAnswers (sizes : Config) (is_explained is_audited : Bool) (l
   pub text_is : text ≡ answers ++ ending
 
 -- no visit is open behind the lock, and there are as many parts as CPUs
-pub record StandsQuiet (frames : KnownTable) (stocks : Words) (now : Standing) : Type 0 where
+pub record StandsQuiet (frames : KnownTable) (stocks : Words) (now : SystemState) : Type 0 where
   pub quiet : IsQuiet frames stocks now.locked
   pub count : length now.cpus ≡ frames.cpus
 
@@ -64,9 +64,9 @@ pub record StandsQuiet (frames : KnownTable) (stocks : Words) (now : Standing) :
 pub record AreThreadAnswers (sizes : Config) (is_audited : Bool) (lines : List Line) (text : List ℕ) : Type 0 where
   pub frames : KnownTable
   pub stocks : Words
-  pub start : Standing
-  pub at_go : Standing
-  pub end : Standing
+  pub start : SystemState
+  pub at_go : SystemState
+  pub end : SystemState
   pub early : List ℕ
   pub later : List ℕ
   pub ending : List ℕ

@@ -9,7 +9,7 @@ use Rattle.cpu_part.specs.Cpus.{KnownCpu}
 use Rattle.cpu_part.specs.Calls.{UnpinAnswers}
 use Rattle.mem_system.specs.declared.audit.Audit.{Audit}
 use Rattle.mem_system.specs.Ends.{Ends, pins_of}
-use Rattle.script_replay.specs.Lines.{Standing}
+use Rattle.script_replay.specs.Lines.{SystemState}
 use Rattle.load_run.specs.declared.boot_end.Ended.{Ended}
 
 -- a pin of this frame is put, and then what is to be put after it
@@ -33,7 +33,7 @@ pub record PutsAllPins (before after : KnownCpu) : Type 0 where
 
 -- The boot ended, and says how many pins were held: none; or every pin was put, and then it ended. `cpus` are the CPUs
 -- as it ended.
-pub record EndsHeld (table : KnownTable) (stock_table : Words) (before : Standing) (ended : Ended) : Type 0 where
+pub record EndsHeld (table : KnownTable) (stock_table : Words) (before : SystemState) (ended : Ended) : Type 0 where
   pub held_are : ended.held ≡ pins_of before.cpus
   pub cpus : List KnownCpu
   pub free : ended.held ≡ 0 → cpus ≡ before.cpus
@@ -41,9 +41,9 @@ pub record EndsHeld (table : KnownTable) (stock_table : Words) (before : Standin
   pub ends : Ends table stock_table before.locked cpus ended.audit
 
 -- this is so of some state, and the boot ended from that state
-pub record EndsAfter (table : KnownTable) (stock_table : Words) (is_so : Standing → Type 0)
+pub record EndsAfter (table : KnownTable) (stock_table : Words) (is_so : SystemState → Type 0)
     (ended : Ended) : Type 0 where
-  pub before : Standing
+  pub before : SystemState
   pub so : is_so before
   pub ends : EndsHeld table stock_table before ended
 
@@ -73,7 +73,7 @@ end_text true ended = held_text ended.held ++ audit_text ended.audit
 end_text false ended = []
 
 -- a boot ended from this state, and the text is what is written about that
-pub record TellsEnd (table : KnownTable) (stock_table : Words) (is_audited : Bool) (before : Standing)
+pub record TellsEnd (table : KnownTable) (stock_table : Words) (is_audited : Bool) (before : SystemState)
     (text : List ℕ) : Type 0 where
   pub ended : Ended
   pub ends : EndsHeld table stock_table before ended

@@ -3,7 +3,7 @@
 ghost use Rattle.std.specs.Prelude.{◌≡◌, ◌++◌, OnOk, length};
 ghost use Rattle.std.specs.List.{AllZip};
 ghost use Rattle.std.specs.String.{string_bytes};
-ghost use Rattle.script_replay.specs.Lines.{standing};
+ghost use Rattle.script_replay.specs.Lines.{system_state};
 ghost use Rattle.load_run.specs.Ending.{EndsHeld, PutsAllPins, audit_counts_text, audit_places_text, audit_text};
 ghost use Rattle.load_run.specs.Ending.{held_text};
 
@@ -41,7 +41,7 @@ fn put_all_pins<N: BootName>(tables: &Tables<N>, cpus: &mut [Cpu<N>])
 /// Ends a boot. Pins that are still held are put first.
 pub fn end_boot<N: BootName>(locked: Locked<N>, tables: Tables<N>, cpus: Vec<Cpu<N>>) -> Ended
     requires count { length cpus.items ≡ N.frames.cpus }
-    ensures ends { EndsHeld N.frames N.stocks (standing locked cpus.items) result }
+    ensures ends { EndsHeld N.frames N.stocks (system_state locked cpus.items) result }
 {
     match end(locked, tables, cpus) {
         Ok(audit) => Ended { held: 0, audit },

@@ -2,7 +2,7 @@
 
 ghost use Rattle.std.specs.Prelude.{◌≡◌, ◌++◌, All, IfOk, length};
 ghost use Rattle.script_replay.specs.History.{ReplaysOrStops};
-ghost use Rattle.script_replay.specs.Lines.{standing};
+ghost use Rattle.script_replay.specs.Lines.{system_state};
 ghost use Rattle.script_replay.specs.Ranges.{LineIsThere};
 ghost use Rattle.script_replay.specs.Terms.{terms};
 ghost use Rattle.load_run.specs.Answers.{AreReplayAnswers};
@@ -47,7 +47,7 @@ fn replay_and_end_boot<N: BootName>(
     requires count { length cpus.items ≡ N.frames.cpus }
     requires lines { All (LineIsThere N.frames.frames N.frames.cpus) lines.now }
     ensures ends { EndsAfter N.frames N.stocks (λ left. ReplaysOrStops (terms N.frames N.stocks is_explained) lines.now
-        (standing locked cpus.items) left result.0) result.1 }
+        (system_state locked cpus.items) left result.0) result.1 }
 {
     let answers = replay(alloc, &mut locked, &tables, &mut cpus, lines, is_explained);
     let ended = end_boot(locked, tables, cpus);

@@ -24,7 +24,7 @@ use Rattle.script_lines.specs.declared.line.Command.{Command}
 use Rattle.script_lines.specs.declared.line.Line.{Line}
 use Rattle.script_lines.specs.declared.line.Line.TheVariants.{Go, At}
 use Rattle.script_replay.specs.Answers.{AddsText, ServesCommand, WritesWork}
-use Rattle.script_replay.specs.Lines.{Standing, standing, AtPart, InOrder, ServesLine, ServesAll, StopsAt}
+use Rattle.script_replay.specs.Lines.{SystemState, system_state, AtPart, InOrder, ServesLine, ServesAll, StopsAt}
 use Rattle.script_replay.specs.History.{Past, past, past_line, TellsHistory, Replays, ServesAndKeeps, HoldsInvariants}
 use Rattle.script_replay.specs.Ranges.{LineIsThere}
 use Rattle.script_replay.specs.Terms.{Terms}
@@ -56,12 +56,12 @@ pub part_keeps : (on : Terms) (before after : KnownLocked) (cpus : List KnownCpu
     slice_get cpus (processor - 1) ≡ Some c →
     AddsText r old new (ServesCommand on command (locked_state before c) (locked_state after d)) →
     HoldsInvariants on.frames on.stocks after → IsTied on.frames on.stocks d → (d.stock_seat.view.last ≡ stock_is.NoGroup → d.fresh ≡ []) →
-    AddsText r old new (ServesAndKeeps on line (standing before cpus) (standing after (slice_set cpus (processor - 1) d)))
+    AddsText r old new (ServesAndKeeps on line (system_state before cpus) (system_state after (slice_set cpus (processor - 1) d)))
 part_keeps on before after cpus line processor command c d r old new is there is_part answered holds tied none = record {
   text = answered.text;
   so = record {
     there = there;
-    serves = subst (λ (x : Line). ServesLine on x (standing before cpus) (standing after (slice_set cpus (processor - 1) d)) answered.text) (sym is)
+    serves = subst (λ (x : Line). ServesLine on x (system_state before cpus) (system_state after (slice_set cpus (processor - 1) d)) answered.text) (sym is)
         (record {
           steps = answered.so.steps;
           writes = record { part = c; left = d; is_part = is_part; done = answered.so.writes; cpus = refl };
@@ -80,7 +80,7 @@ pub part_read : (on : Terms) (before after : KnownLocked) (cpus : List KnownCpu)
     c ≡ get_or cpus (processor - 1) c →
     AddsText r old new (ServesCommand on command (locked_state before c) (locked_state after d)) →
     HoldsInvariants on.frames on.stocks after → IsTied on.frames on.stocks d → (d.stock_seat.view.last ≡ stock_is.NoGroup → d.fresh ≡ []) →
-    AddsText r old new (ServesAndKeeps on line (standing before cpus) (standing after (slice_set cpus (processor - 1) d)))
+    AddsText r old new (ServesAndKeeps on line (system_state before cpus) (system_state after (slice_set cpus (processor - 1) d)))
 part_read on before after cpus line processor command c d {number = number} r old new is there read answered holds tied none =
     let named : LineIsThere on.frames.frames (length cpus) (At number processor command) = subst (LineIsThere on.frames.frames (length cpus)) is there in
     let low = named.low in
@@ -90,10 +90,10 @@ part_read on before after cpus line processor command c d {number = number} r ol
 
 -- ---- the lines so far
 
-abbrev pub ServesAllAndKeeps : Terms → List Line → Standing → Standing → List ℕ → Type 0
+abbrev pub ServesAllAndKeeps : Terms → List Line → SystemState → SystemState → List ℕ → Type 0
 ServesAllAndKeeps on lines s e text = InOrder (ServesAndKeeps on) lines s e text
 
-pub all_served : (on : Terms) (lines : List Line) (s e : Standing) (text : List ℕ) → ServesAllAndKeeps on lines s e text → ServesAll on lines s e text
+pub all_served : (on : Terms) (lines : List Line) (s e : SystemState) (text : List ℕ) → ServesAllAndKeeps on lines s e text → ServesAll on lines s e text
 all_served on [] s e text all = all
 all_served on (line ∷ lines) s e text all = record {
   first = all.first;
@@ -111,16 +111,16 @@ some_cpu t w locked quiet = let sized = quiet.sized.cpus in let low = quiet.vali
 
 -- a run shows the state; if the ledger before had the peaks and event counts of the run before, the ledger now has
 -- those of this run
-abbrev Follows : KnownTable → Run → Standing → Run → Standing → Type 0
+abbrev Follows : KnownTable → Run → SystemState → Run → SystemState → Type 0
 Follows t earlier s run e = ShowsAll t run e.locked.machine e.cpus × (TellsRun t earlier s.locked.machine.ledger → TellsRun t run e.locked.machine.ledger)
 
-line_follows : (on : Terms) (run : Run) (line : Line) (s e : Standing) (text : List ℕ) → ShowsAll on.frames run s.locked.machine s.cpus →
+line_follows : (on : Terms) (run : Run) (line : Line) (s e : SystemState) (text : List ℕ) → ShowsAll on.frames run s.locked.machine s.cpus →
     AreTied on.frames on.stocks s.cpus → (keeps : ServesAndKeeps on line s e text) →
     IsLegalRun (zone_of on.frames) (run ++ keeps.serves.steps) →
     Follows on.frames run s (run ++ keeps.serves.steps) e
 line_follows on run Go s e text shows tied keeps legal =
     subst (λ (r : Run). Follows on.frames run s r e) (sym (ap (λ (r : Run). run ++ r) keeps.serves.writes.steps_are ∙ append-nil run))
-    (subst (λ (x : Standing). Follows on.frames run s run x) (sym keeps.serves.writes.stays) (shows, λ told. told))
+    (subst (λ (x : SystemState). Follows on.frames run s run x) (sym keeps.serves.writes.stays) (shows, λ told. told))
 line_follows on run (At number processor command) s e text shows tied keeps legal =
     let steps = keeps.serves.steps in
     let is : AtPart processor (λ part left. WritesWork on.is_explained (work_of command)
@@ -130,7 +130,7 @@ line_follows on run (At number processor command) s e text shows tied keeps lega
     (work_follows on.frames on.stocks run s.locked s.cpus (processor - 1) is.part shows is.is_part tied on.is_explained (work_of command) steps (locked_state e.locked is.left) text
     (work_in_range on.frames.frames command keeps.there.names) is.done keeps.keeps.holds.quiet.shut legal)
 
-pub keeps_history : (on : Terms) (lines : List Line) (before : Past) (e : Standing) (text : List ℕ) →
+pub keeps_history : (on : Terms) (lines : List Line) (before : Past) (e : SystemState) (text : List ℕ) →
     (IsLegalRun (zone_of on.frames) before.run → ShowsAll on.frames before.run before.now.locked.machine before.now.cpus) → AreTied on.frames on.stocks before.now.cpus →
     ServesAllAndKeeps on lines before.now e text → TellsHistory on lines before e text
 keeps_history on [] before e text shows tied all = all
@@ -157,14 +157,14 @@ keeps_history on (line ∷ lines) before e text shows tied all =
     }
 
 -- lines that were served are replayed
-pub all_replayed : (on : Terms) (lines : List Line) (s e : Standing) (text : List ℕ) → ServesAllAndKeeps on lines s e text → Replays on lines s e text
+pub all_replayed : (on : Terms) (lines : List Line) (s e : SystemState) (text : List ℕ) → ServesAllAndKeeps on lines s e text → Replays on lines s e text
 all_replayed on lines s e text all = record {
   served = all_served on lines s e text all;
   history = λ run shows tied. keeps_history on lines (past run s) e text (λ legal. shows) tied all;
 }
 
 -- memory ran out for the text of the next line
-pub keeps_stop : (on : Terms) (s m e : Standing) (lines : List Line) (i : ℕ) (default : Line) (text more : List ℕ)
+pub keeps_stop : (on : Terms) (s m e : SystemState) (lines : List Line) (i : ℕ) (default : Line) (text more : List ℕ)
     → i < length lines → ServesAllAndKeeps on (take i lines) s m text → ServesAndKeeps on (get_or lines i default) m e more
     → StopsAt (Replays on) lines s e
 keeps_stop on s m e lines i default text more inside all one =

@@ -13,7 +13,7 @@ use Rattle.mem_history.specs.Kept.{AreTied, shown_of}
 use Rattle.mem_system.specs.Locked.{IsQuiet, KnownLocked}
 use Rattle.mem_system.specs.Visits.{course}
 use Rattle.script_lines.specs.declared.line.Line.{Line}
-use Rattle.script_replay.specs.Lines.{Standing, ServesAll, ServesLine, StopsAt, WritesLine}
+use Rattle.script_replay.specs.Lines.{SystemState, ServesAll, ServesLine, StopsAt, WritesLine}
 use Rattle.script_replay.specs.Ranges.{LineIsThere}
 use Rattle.script_replay.specs.Terms.{Terms}
 
@@ -21,19 +21,19 @@ use Rattle.script_replay.specs.Terms.{Terms}
 -- the past of a line: the run of all steps so far, and what it led to
 pub record Past : Type 0 where
   pub run : Run
-  pub now : Standing
+  pub now : SystemState
 
 -- the past with this run and this state after it
-abbrev pub past : Run → Standing → Past
+abbrev pub past : Run → SystemState → Past
 past run now = record { run = run; now = now }
 
 -- the past after one more line, which was served by these steps
-abbrev pub past_line : (past : Past) (steps : Run) (after : Standing) → Past
+abbrev pub past_line : (past : Past) (steps : Run) (after : SystemState) → Past
 past_line past steps after = record { run = past.run ++ steps; now = after }
 
 -- The promise holds after the run, of what the machine and the CPUs show. If the ledger before had the peaks and event
 -- counts of the earlier run, the ledger now has those of this run.
-pub record HoldsPromise (table : KnownTable) (earlier : Run) (before : Standing) (run : Run) (now : Standing)
+pub record HoldsPromise (table : KnownTable) (earlier : Run) (before : SystemState) (run : Run) (now : SystemState)
     : Type 0 where
   pub promise : Promise (zone_of table) run (shown_of now.locked.machine now.cpus)
   pub tells : TellsRun table earlier before.locked.machine.ledger → TellsRun table run now.locked.machine.ledger
@@ -44,7 +44,7 @@ pub record TellsFirstAndRest (terms : Terms) (line : Line) (past : Past) (text :
     (tells_rest : Past → List ℕ → Type 0) : Type 0 where
   pub first : List ℕ
   pub rest : List ℕ
-  pub between : Standing
+  pub between : SystemState
   pub steps : Run
   pub writes_first : WritesLine terms.is_explained line (course terms.frames past.now steps between) first
   pub kept_where_legal : IsLegalRun (zone_of terms.frames) (past.run ++ steps)
@@ -54,21 +54,21 @@ pub record TellsFirstAndRest (terms : Terms) (line : Line) (past : Past) (text :
 
 -- The history of lines that are served one after the other, as `ServesAll` says. After each line the promise holds if
 -- the steps so far are a legal run.
-abbrev pub TellsHistory : Terms → List Line → Past → (after : Standing) (text : List ℕ) → Type 0
+abbrev pub TellsHistory : Terms → List Line → Past → (after : SystemState) (text : List ℕ) → Type 0
 TellsHistory terms [] past after text = (text ≡ []) × (after ≡ past.now)
 TellsHistory terms (line ∷ lines) past after text =
     TellsFirstAndRest terms line past text (λ later rest. TellsHistory terms lines later after rest)
 
 -- the lines are served one after the other; they have a history from each run that shows the state before them, if the
 -- parts agree with their seats
-pub record Replays (terms : Terms) (lines : List Line) (before after : Standing) (text : List ℕ) : Type 0 where
+pub record Replays (terms : Terms) (lines : List Line) (before after : SystemState) (text : List ℕ) : Type 0 where
   pub served : ServesAll terms lines before after text
   pub history : (run : Run) → ShowsAll terms.frames run before.locked.machine before.cpus
       → AreTied terms.frames terms.stocks before.cpus → TellsHistory terms lines (past run before) after text
 
 -- The result of a replay. If it succeeds, all lines were served and these are their answers. If memory runs out for the
 -- text of a line, the lines up to that one were served.
-pub record ReplaysOrStops {Z E : Type 0} (terms : Terms) (lines : List Line) (before after : Standing)
+pub record ReplaysOrStops {Z E : Type 0} (terms : Terms) (lines : List Line) (before after : SystemState)
     (result : Result (Vec ℕ Z) E) : Type 0 where
   pub replayed : IfOk result (λ answers. Replays terms lines before after answers.items)
   pub stopped : OnErr result (StopsAt (Replays terms) lines before after)
@@ -81,12 +81,12 @@ pub record HoldsInvariants (table : KnownTable) (stock_table : Words) (locked : 
   pub charges : AreCharges locked.machine.ledger
 
 -- the invariants hold behind the lock; if each CPU's part before agreed with its seats, so does each part after
-pub record KeepsInvariants (table : KnownTable) (stock_table : Words) (before after : Standing) : Type 0 where
+pub record KeepsInvariants (table : KnownTable) (stock_table : Words) (before after : SystemState) : Type 0 where
   pub holds : HoldsInvariants table stock_table after.locked
   pub tied : AreTied table stock_table before.cpus → AreTied table stock_table after.cpus
 
 -- what the line names exists, the line is served, and the invariants are kept
-pub record ServesAndKeeps (terms : Terms) (line : Line) (before after : Standing) (text : List ℕ) : Type 0 where
+pub record ServesAndKeeps (terms : Terms) (line : Line) (before after : SystemState) (text : List ℕ) : Type 0 where
   pub there : LineIsThere terms.frames.frames (length before.cpus) line
   pub serves : ServesLine terms line before after text
   pub keeps : KeepsInvariants terms.frames terms.stocks before after

@@ -12,13 +12,13 @@ use Rattle.script_replay.specs.Answers.{WritesWork}
 use Rattle.script_replay.specs.Works.{work_of}
 
 -- what lies behind the lock, and the parts of all CPUs, from CPU 1 on
-pub record Standing : Type 0 where
+pub record SystemState : Type 0 where
   pub locked : KnownLocked
   pub cpus : List KnownCpu
 
 -- the state with this behind the lock and these parts
-abbrev pub standing : KnownLocked → List KnownCpu → Standing
-standing locked cpus = record { locked = locked; cpus = cpus }
+abbrev pub system_state : KnownLocked → List KnownCpu → SystemState
+system_state locked cpus = record { locked = locked; cpus = cpus }
 
 -- `is_done` leads from this CPU's part to a new one, and the other parts stay the same
 pub record AtPart (processor : ℕ) (is_done : (before after : KnownCpu) → Type 0) (before after : List KnownCpu)
@@ -30,13 +30,13 @@ pub record AtPart (processor : ℕ) (is_done : (before after : KnownCpu) → Typ
   pub cpus : after ≡ slice_set before (processor - 1) left
 
 -- there is no answer, and nothing is done
-pub record WritesNothing (way : Course Standing) (text : List ℕ) : Type 0 where
+pub record WritesNothing (way : Course SystemState) (text : List ℕ) : Type 0 where
   pub text_is : text ≡ []
   pub stays : way.after ≡ way.before
   pub steps_are : way.steps ≡ []
 
 -- the answer of a line, as text, on this course; `go` has no answer and does nothing
-abbrev pub WritesLine : (is_explained : Bool) → Line → Course Standing → (text : List ℕ) → Type 0
+abbrev pub WritesLine : (is_explained : Bool) → Line → Course SystemState → (text : List ℕ) → Type 0
 WritesLine is_explained Go way text = WritesNothing way text
 WritesLine is_explained (At number processor command) way text =
     AtPart processor (λ part left. WritesWork is_explained (work_of command)
@@ -44,7 +44,7 @@ WritesLine is_explained (At number processor command) way text =
     way.before.cpus way.after.cpus
 
 -- the answer of a line, as text, by some steps
-pub record ServesLine (terms : Terms) (line : Line) (before after : Standing) (text : List ℕ) : Type 0 where
+pub record ServesLine (terms : Terms) (line : Line) (before after : SystemState) (text : List ℕ) : Type 0 where
   pub steps : Run
   pub writes : WritesLine terms.is_explained line (course terms.frames before steps after) text
 
@@ -67,7 +67,7 @@ InOrder serves (line ∷ lines) before after text =
     FirstAndRest (serves line) (InOrder serves lines) before after text
 
 -- the answers of lines, served by value of what lies behind the lock
-abbrev pub ServesAll : Terms → List Line → (before after : Standing) (text : List ℕ) → Type 0
+abbrev pub ServesAll : Terms → List Line → (before after : SystemState) (text : List ℕ) → Type 0
 ServesAll terms lines before after text = InOrder (ServesLine terms) lines before after text
 
 -- Memory ran out for the text of the line of this number. The lines up to and including it were served, once each, and

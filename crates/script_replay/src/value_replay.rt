@@ -6,7 +6,7 @@ ghost use Rattle.cpu_part.specs.Cpus.{IsTied};
 ghost use Rattle.mem_system.specs.Visits.{locked_state};
 ghost use Rattle.script_replay.specs.Answers.{AddsText, ServesCommand};
 ghost use Rattle.script_replay.specs.History.{HoldsInvariants, ReplaysOrStops, ServesAndKeeps};
-ghost use Rattle.script_replay.specs.Lines.{standing};
+ghost use Rattle.script_replay.specs.Lines.{system_state};
 ghost use Rattle.script_replay.specs.Ranges.{LineIsThere, NamesInRange};
 ghost use Rattle.script_replay.specs.Terms.{terms};
 
@@ -30,7 +30,7 @@ pub fn replay<N: BootName>(
 ) -> Result<Vec<u8>, AllocError>
     requires there { All (LineIsThere N.frames.frames (length cpus.old)) lines.now }
     ensures outcome { ReplaysOrStops (terms N.frames N.stocks is_explained) lines.now
-        (standing locked.old cpus.old) (standing locked.new cpus.new) result }
+        (system_state locked.old cpus.old) (system_state locked.new cpus.new) result }
 {
     let mut answers = String::new(alloc);
     for line in lines {
@@ -51,7 +51,7 @@ fn serve_line<N: BootName>(
     requires there { LineIsThere N.frames.frames (length cpus.old) line.now }
     ensures served { AddsText result answers.old answers.new
         (ServesAndKeeps (terms N.frames N.stocks is_explained) line.now
-        (standing locked.old cpus.old) (standing locked.new cpus.new)) }
+        (system_state locked.old cpus.old) (system_state locked.new cpus.new)) }
 {
     match line {
         Line::Go => {

@@ -2,7 +2,7 @@ use Rattle.std.proofs.Common.{◌≡◌, ◌∙◌, ℕ, List, All, length, ap, 
 use Rattle.cpu_part.specs.Cpus.{KnownCpu}
 use Rattle.mem_system.proofs.Closing.{written_back}
 use Rattle.script_replay.specs.History.{ReplaysOrStops}
-use Rattle.script_replay.specs.Lines.{standing}
+use Rattle.script_replay.specs.Lines.{system_state}
 use Rattle.script_replay.specs.Ranges.{LineIsThere}
 use Rattle.script_replay.specs.Terms.{terms}
 use Rattle.load_run.specs.Ending.{EndsHeld}
@@ -29,9 +29,9 @@ returns g c =
     let same = written_back c.args.cpus.len c.replay-answers.new.cpus c.args.cpus.items long (sym c.deref_mut.ensures.len ∙ ap length first) in
     record {
       ends = record {
-        before = standing c.replay-answers.new.locked c.replay-answers.new.cpus;
-        so = subst (λ (cpus : List KnownCpu). ReplaysOrStops (terms t w c.args.is_explained) c.args.lines.now (standing c.args.locked cpus)
-            (standing c.replay-answers.new.locked c.replay-answers.new.cpus) c.replay-answers.result) first c.replay-answers.ensures.outcome;
-        ends = subst (λ (cpus : List KnownCpu). EndsHeld t w (standing c.replay-answers.new.locked cpus) c.end_boot-ended.result) same c.end_boot-ended.ensures.ends;
+        before = system_state c.replay-answers.new.locked c.replay-answers.new.cpus;
+        so = subst (λ (cpus : List KnownCpu). ReplaysOrStops (terms t w c.args.is_explained) c.args.lines.now (system_state c.args.locked cpus)
+            (system_state c.replay-answers.new.locked c.replay-answers.new.cpus) c.replay-answers.result) first c.replay-answers.ensures.outcome;
+        ends = subst (λ (cpus : List KnownCpu). EndsHeld t w (system_state c.replay-answers.new.locked cpus) c.end_boot-ended.result) same c.end_boot-ended.ensures.ends;
       };
     }

@@ -1,5 +1,5 @@
 use Rattle.std.proofs.Common.{ℕ, [], All, sym, subst, refl}
-use Rattle.script_replay.specs.Lines.{standing}
+use Rattle.script_replay.specs.Lines.{system_state}
 use Rattle.script_replay.specs.Ranges.{LineIsThere}
 use Rattle.mem_history.proofs.Told.{a_boot_tells}
 use Rattle.load_run.specs.Ending.{end_text}
@@ -25,7 +25,7 @@ returns g c =
       answers = weakened c.tell_end.result _ _ (λ text is. record {
         frames = t;
         stocks = w;
-        start = standing c.in_ok-locked.locked c.in_ok-locked.cpus.items;
+        start = system_state c.in_ok-locked.locked c.in_ok-locked.cpus.items;
         end = ended.before;
         answers = c.in_ok-answers.field-0.items;
         ending = end_text c.args.is_audited told;

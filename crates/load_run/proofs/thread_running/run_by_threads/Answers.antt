@@ -4,7 +4,7 @@ use Rattle.std.proofs.Common.{◌≡◌, ◌∙◌, ◌≤◌, ℕ, false, List,
 use Rattle.cpu_part.specs.Cpus.{KnownCpu}
 use Rattle.mem_system.proofs.Closing.{written_back}
 use Rattle.script_replay.specs.History.{Replays}
-use Rattle.script_replay.specs.Lines.{Standing, standing}
+use Rattle.script_replay.specs.Lines.{SystemState, system_state}
 use Rattle.script_replay.specs.Terms.{boot_tables, terms}
 use Rattle.script_threads.specs.Each.{TellsEach, workers_from}
 use Rattle.script_threads.proofs.Going.{go_least}
@@ -52,8 +52,8 @@ returns g c =
     let firsts = first ∙ c.in_ok-locked.ensures.cpus in
     let long : length c.replay-first.new.cpus ≡ length c.in_ok-locked.cpus.items = c.replay-first.auto.cpus ∙ ap length first in
     let same = written_back c.in_ok-locked.cpus.len c.replay-first.new.cpus c.in_ok-locked.cpus.items long (sym c.deref_mut.ensures.len ∙ ap length first) in
-    let start : Standing = standing c.in_ok-locked.locked c.deref_mut.result.now in
-    let at_go : Standing = standing c.replay-first.new.locked c.replay-first.new.cpus in
+    let start : SystemState = system_state c.in_ok-locked.locked c.deref_mut.result.now in
+    let at_go : SystemState = system_state c.replay-first.new.locked c.replay-first.new.cpus in
     let early = c.in_ok-answers.answers.items in
     let later = c.in_ok-told.field-0.items in
     let ended = c.serve_and_end-told.result.1 in

@@ -2,7 +2,7 @@
 use Rattle.std.proofs.Common.{◌≡◌, ◌∙◌, ℕ, List, All, IfOk, length, ap, arith, sym, subst}
 use Rattle.cpu_part.specs.Cpus.{KnownCpu}
 use Rattle.mem_system.proofs.Closing.{written_back}
-use Rattle.script_replay.specs.Lines.{standing}
+use Rattle.script_replay.specs.Lines.{system_state}
 use Rattle.script_replay.specs.Ranges.{LineIsThere}
 use Rattle.script_replay.specs.Terms.{boot_tables}
 use Rattle.script_threads.specs.Each.{TellsEach, workers_from}
@@ -43,8 +43,8 @@ returns-clause-ends g c =
     let long : length c.serve_later-told.new.cpus ≡ length c.args.cpus.items = c.serve_later-told.auto.cpus ∙ ap length first in
     let same = written_back c.args.cpus.len c.serve_later-told.new.cpus c.args.cpus.items long (sym c.deref_mut.ensures.len ∙ ap length first) in
     record {
-      before = standing c.into_parts-locked.result.0 c.serve_later-told.new.cpus;
+      before = system_state c.into_parts-locked.result.0 c.serve_later-told.new.cpus;
       so = record { quiet = c.into_parts-locked.ensures.quiet; count = long ∙ c.requires.count };
-      ends = subst (λ (cpus : List KnownCpu). EndsHeld t w (standing c.into_parts-locked.result.0 cpus) c.end_boot-ended.result) same
+      ends = subst (λ (cpus : List KnownCpu). EndsHeld t w (system_state c.into_parts-locked.result.0 cpus) c.end_boot-ended.result) same
           c.end_boot-ended.ensures.ends;
     }
