@@ -15,10 +15,10 @@ use Rattle.mem_alloc.specs.Blocks.{AllocatesBlock}
 use Rattle.mem_alloc.proofs.Lowering.{lowered_there}
 use Rattle.mem_alloc.proofs.Filling.{refused_lowers}
 use Rattle.mem_machine.specs.Local.{visit_state}
-use Rattle.mem_alloc.specs.Stepping.{course}
+use Rattle.mem_alloc.specs.Stepping.{transition}
 
 over_there : (t : KnownTable) (g pages over : ℕ) (m n : KnownMachine) (c d : KnownCpu) (steps : Run)
-    → IsRefusedFor g pages (Over over) (course t (visit_state m c) steps (visit_state n d)) → has_group n.ledger.groups over ≡ true
+    → IsRefusedFor g pages (Over over) (transition t (visit_state m c) steps (visit_state n d)) → has_group n.ledger.groups over ≡ true
 over_there t g pages over m n c d steps h =
     let at = h.does.does.0 in
     let refused = h.does.does.1 in
@@ -28,7 +28,7 @@ over_there t g pages over m n c d steps h =
 
 -- after a frame was refused
 pub frame_over_there : (t : KnownTable) (sizes : Config) (g over : ℕ) (m n : KnownMachine) (c d : KnownCpu) (steps : Run)
-    → AllocatesFrame sizes g (Err (Over over)) (course t (visit_state m c) steps (visit_state n d)) → has_group n.ledger.groups over ≡ true
+    → AllocatesFrame sizes g (Err (Over over)) (transition t (visit_state m c) steps (visit_state n d)) → has_group n.ledger.groups over ≡ true
 frame_over_there t sizes g over m n c d steps h =
     let anew = h.does.does in
     let charges = anew.second in
@@ -36,5 +36,5 @@ frame_over_there t sizes g over m n c d steps h =
 
 -- after a block was refused
 pub block_over_there : (t : KnownTable) (g k over : ℕ) (m n : KnownMachine) (c d : KnownCpu) (steps : Run)
-    → AllocatesBlock g k (Err (Over over)) (course t (visit_state m c) steps (visit_state n d)) → has_group n.ledger.groups over ≡ true
+    → AllocatesBlock g k (Err (Over over)) (transition t (visit_state m c) steps (visit_state n d)) → has_group n.ledger.groups over ≡ true
 block_over_there t g k over m n c d steps h = over_there t g (2 ^ k) over m n c d steps h.does

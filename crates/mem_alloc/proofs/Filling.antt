@@ -23,7 +23,7 @@ use Rattle.mem_machine.specs.Steps.{drain_steps, fill_steps, over_steps, refill_
 use Rattle.mem_machine.proofs.Prepaying.{filled_account, filled_at}
 use Rattle.mem_alloc.specs.declared.faults.AllocFault.{AllocFault}
 use Rattle.mem_alloc.specs.declared.faults.AllocFault.TheVariants.{Over, NoFrames, RequesterKilled}
-use Rattle.mem_alloc.specs.Stepping.{BySteps, Course, InTurn, OfMachineAlone, Where, course}
+use Rattle.mem_alloc.specs.Stepping.{BySteps, Transition, InTurn, OfMachineAlone, Where, transition}
 use Rattle.mem_alloc.specs.Room.{AfterRoom, IsRefusedAt, IsRefusedFor, IsRefusedAtSome, MakesRoom}
 use Rattle.mem_alloc.specs.Charging.{ChargesAfterDrain, ChargesFrame, ChargesOne, DrainsStock, FillsStock, AfterBatchRefused, PaysForFrame}
 use Rattle.mem_alloc.specs.Rounds.{FailsInRounds}
@@ -72,46 +72,46 @@ fills_keep g k m n c d f = record {
 }
 
 pub refused_lowers : (t : KnownTable) (g pages over : ℕ) (answer : Result (Unit {0}) AllocFault) (m n : KnownMachine) (steps : Run)
-    → IsRefusedAt g over pages answer (course t m steps n) → Lowers t m n
+    → IsRefusedAt g over pages answer (transition t m steps n) → Lowers t m n
 refused_lowers t g pages over answer m n steps r = relieves_lower t g over pages m n r.relieving r.relieves
 
-pub makes_lower : (t : KnownTable) (g pages : ℕ) (before : List ℕ) (m n : KnownMachine) (steps : Run) → MakesRoom g before pages (course t m steps n) → Lowers t m n
+pub makes_lower : (t : KnownTable) (g pages : ℕ) (before : List ℕ) (m n : KnownMachine) (steps : Run) → MakesRoom g before pages (transition t m steps n) → Lowers t m n
 makes_lower t g pages [] m n steps h = subst (λ (x : KnownMachine). Lowers t m x) (sym h.machine) (lowers_none t m)
 makes_lower t g pages (over ∷ later) m n steps h =
     lowers_both t m h.between n (refused_lowers t g pages over (Ok tt) m h.between h.earlier h.first)
     (makes_lower t g pages later h.between n h.later h.second)
 
 -- after room was made, what is kept is what the rest keeps
-after_room_keeps : (t : KnownTable) (g pages : ℕ) (Does : Course VisitState → Type 0) (m n : KnownMachine) (c d : KnownCpu) (steps : Run)
-    → ((x : KnownMachine) (later : Run) → Does (course t (visit_state x c) later (visit_state n d)) → KeepsPart x c n d)
-    → AfterRoom g pages Does (course t (visit_state m c) steps (visit_state n d)) → KeepsPart m c n d
+after_room_keeps : (t : KnownTable) (g pages : ℕ) (Does : Transition VisitState → Type 0) (m n : KnownMachine) (c d : KnownCpu) (steps : Run)
+    → ((x : KnownMachine) (later : Run) → Does (transition t (visit_state x c) later (visit_state n d)) → KeepsPart x c n d)
+    → AfterRoom g pages Does (transition t (visit_state m c) steps (visit_state n d)) → KeepsPart m c n d
 after_room_keeps t g pages Does m n c d steps keeps h =
     keeps_both m h.cleared n c c d (lowers_keep t m h.cleared c c (makes_lower t g pages h.refused_at m h.cleared h.making h.makes) refl)
     (keeps h.cleared h.later h.does)
 
 refusal_keeps : (t : KnownTable) (g pages : ℕ) (cause : AllocFault) (m n : KnownMachine) (c d : KnownCpu) (steps : Run)
-    → IsRefusedFor g pages cause (course t (visit_state m c) steps (visit_state n d)) → KeepsPart m c n d
+    → IsRefusedFor g pages cause (transition t (visit_state m c) steps (visit_state n d)) → KeepsPart m c n d
 refusal_keeps t g pages cause m n c d steps h =
     after_room_keeps t g pages (OfMachineAlone (IsRefusedAtSome g pages cause)) m n c d steps
     (λ x later r. lowers_keep t x n c d (refused_lowers t g pages r.does.0 (Err cause) x n later r.does.1) r.cpu) h
 
 one_keeps : (t : KnownTable) (g : ℕ) (r : Result (Unit {0}) AllocFault) (m n : KnownMachine) (c d : KnownCpu) (steps : Run)
-    → ChargesOne g r (course t (visit_state m c) steps (visit_state n d)) → KeepsPart m c n d
+    → ChargesOne g r (transition t (visit_state m c) steps (visit_state n d)) → KeepsPart m c n d
 one_keeps t g (Ok v) m n c d steps h =
     after_room_keeps t g 1 (FillsStock g 1) m n c d steps (λ x later f. fills_keep g 1 x n c d f.fills) h
 one_keeps t g (Err e) m n c d steps h = refusal_keeps t g 1 e m n c d steps h
 
 charges_keep : (t : KnownTable) (sizes : Config) (g : ℕ) (r : Result (Unit {0}) AllocFault) (m n : KnownMachine) (c d : KnownCpu) (steps : Run)
-    → ChargesFrame sizes g r (course t (visit_state m c) steps (visit_state n d)) → KeepsPart m c n d
+    → ChargesFrame sizes g r (transition t (visit_state m c) steps (visit_state n d)) → KeepsPart m c n d
 charges_keep t sizes g (Ok v) m n c d steps (inl h) = fills_keep g sizes.stock m n c d h.fills
 charges_keep t sizes g (Ok v) m n c d steps (inr h) = one_keeps t g (Ok v) m n c d h.later h.does
 charges_keep t sizes g (Err e) m n c d steps h = one_keeps t g (Err e) m n c d h.later h.does
 
-own_drain_keeps : (t : KnownTable) (m n : KnownMachine) (c d : KnownCpu) (steps : Run) → DrainsStock (course t (visit_state m c) steps (visit_state n d)) → KeepsPart m c n d
+own_drain_keeps : (t : KnownTable) (m n : KnownMachine) (c d : KnownCpu) (steps : Run) → DrainsStock (transition t (visit_state m c) steps (visit_state n d)) → KeepsPart m c n d
 own_drain_keeps t m n c d steps h = lowers_keep t m n c d (drain_lowers t m n c.number h.drained h.drains) h.cpu
 
 drain_charges_keep : (t : KnownTable) (sizes : Config) (g : ℕ) (r : Result (Unit {0}) AllocFault) (m n : KnownMachine) (c d : KnownCpu) (steps : Run)
-    → ChargesAfterDrain sizes g r (course t (visit_state m c) steps (visit_state n d)) → KeepsPart m c n d
+    → ChargesAfterDrain sizes g r (transition t (visit_state m c) steps (visit_state n d)) → KeepsPart m c n d
 drain_charges_keep t sizes g r m n c d steps h =
     let x = h.does.between in
     let k = with_look m in
@@ -120,7 +120,7 @@ drain_charges_keep t sizes g r m n c d steps h =
     (charges_keep t sizes g r x.machine n x.cpu d h.does.later h.does.second))
 
 pub pays_keep : (t : KnownTable) (sizes : Config) (g : ℕ) (r : Result (Unit {0}) AllocFault) (m n : KnownMachine) (c d : KnownCpu) (steps : Run)
-    → PaysForFrame sizes g r (course t (visit_state m c) steps (visit_state n d)) → KeepsPart m c n d
+    → PaysForFrame sizes g r (transition t (visit_state m c) steps (visit_state n d)) → KeepsPart m c n d
 pays_keep t sizes g (Ok v) m n c d steps (inl h) =
     lowers_keep t m n c d (subst (λ (x : KnownMachine). Lowers t m x) (sym h.does.machine) (looked_lowers t m)) h.does.cpu
 pays_keep t sizes g (Ok v) m n c d steps (inr h) = drain_charges_keep t sizes g (Ok v) m n c d steps h
@@ -137,7 +137,7 @@ filled_page g k m n c d f some none =
     record { group = ap (λ (a : Account). a.group) at; held = ap (λ (a : Account). a.filled) at; some = omega (arith, book, fresh, some) }
 
 pub charged_page : (t : KnownTable) (sizes : Config) (g : ℕ) (r : Result (Unit {0}) AllocFault) (m n : KnownMachine) (c d : KnownCpu) (steps : Run)
-    → IsValidConfig sizes → ChargesFrame sizes g r (course t (visit_state m c) steps (visit_state n d)) → c.fresh ≡ [] → OnOk r (HoldsPage (visit_state n d) g)
+    → IsValidConfig sizes → ChargesFrame sizes g r (transition t (visit_state m c) steps (visit_state n d)) → c.fresh ≡ [] → OnOk r (HoldsPage (visit_state n d) g)
 charged_page t sizes g (Ok v) m n c d steps valid (inl h) none = filled_page g sizes.stock m n c d h.fills valid.stock_low none
 charged_page t sizes g (Ok v) m n c d steps valid (inr h) none =
     filled_page g 1 h.does.cleared n c d h.does.does.fills (omega arith) none
@@ -245,7 +245,7 @@ module _ (t : KnownTable) (pages q : ℕ) (m k x : KnownMachine) (c e : KnownCpu
   by_drain = subst (λ (z : KnownMachine × ℕ). MakesAs t c.number (visit_state z.0 c) (drain_steps z.1 (stock_group z.0 z.1) pages) (visit_state x c))
       (λ i. (same i, number_is i)) (draining c)
 
-  drains_own : DrainsStock (course t (visit_state m c) own_steps (visit_state x c))
+  drains_own : DrainsStock (transition t (visit_state m c) own_steps (visit_state x c))
   drains_own = record {
     drained = pages;
     drains = subst (λ (z : KnownMachine × ℕ). Drains z.1 pages z.0 x) (λ i. (same i, number_is i)) drains;
@@ -271,7 +271,7 @@ module _ (t : KnownTable) (pages q : ℕ) (m k x : KnownMachine) (c e : KnownCpu
           steps = all;
           does = record {
             is = lacks;
-            does = subst (λ (z : KnownMachine). InTurn DrainsStock (ChargesFrame sizes g r) (course t (visit_state z c) all (visit_state n d))) seen (record {
+            does = subst (λ (z : KnownMachine). InTurn DrainsStock (ChargesFrame sizes g r) (transition t (visit_state z c) all (visit_state n d))) seen (record {
               between = visit_state x c;
               earlier = own_steps;
               later = here.steps;
@@ -316,7 +316,7 @@ lent_none t count batch m n c d refills few fewer some =
 -- some were lent
 pub lent_batch : (t : KnownTable) (count batch : ℕ) (m n : KnownMachine) (c d : KnownCpu) (refills : Refills t count (visit_state m c) (visit_state n d))
     → 1 ≤ count → count ≤ batch → (count < batch → HasNoneFrom n.blocks 0)
-    → LendsBatch batch (course t (visit_state m c) (refill_steps c.number refills.frames) (visit_state n d))
+    → LendsBatch batch (transition t (visit_state m c) (refill_steps c.number refills.frames) (visit_state n d))
 lent_batch t count batch m n c d refills many low fewer =
     let all = refills.all in
     record {
@@ -334,7 +334,7 @@ pub no_frame_spares : (t : KnownTable) → FailureSpares t LendsNoFrame
 no_frame_spares t m n c d steps h = spares_same t m n c d h.does.machine h.does.cpu
 
 none_after : (t : KnownTable) (rounds : ℕ) (m n : KnownMachine) (c d : KnownCpu) (steps : Run) → HasNoneFrom m.blocks 0
-    → FailsInRounds rounds 1 LendsNoFrame (course t (visit_state m c) steps (visit_state n d)) → HasNoneFrom n.blocks 0
+    → FailsInRounds rounds 1 LendsNoFrame (transition t (visit_state m c) steps (visit_state n d)) → HasNoneFrom n.blocks 0
 none_after t zero m n c d steps none h = subst (λ (x : KnownMachine). HasNoneFrom x.blocks 0) (sym h.machine) none
 none_after t (suc more) m n c d steps none (inl h) =
     subst (λ (x : KnownMachine). HasNoneFrom x.blocks 0) (sym h.tries.does.machine) h.tries.is
@@ -388,7 +388,7 @@ module _ (t : KnownTable) (sizes : Config) (m k x n : KnownMachine) (c e y : Kno
       }
 
 pub no_frame_keeps : (t : KnownTable) (sizes : Config) (cause : AllocFault) (m n : KnownMachine) (c d : KnownCpu) (steps : Run)
-    → FillsList sizes (Err cause) (course t (visit_state m c) steps (visit_state n d)) → KeepsPart m c n d
+    → FillsList sizes (Err cause) (transition t (visit_state m c) steps (visit_state n d)) → KeepsPart m c n d
 no_frame_keeps t sizes (Over over) m n c d steps h = absurd h
 no_frame_keeps t sizes RequesterKilled m n c d steps h = absurd h
 no_frame_keeps t sizes NoFrames m n c d steps h =
@@ -412,7 +412,7 @@ spared_page t g m n c d s page =
     }
 
 module _ (t : KnownTable) (sizes : Config) (m n : KnownMachine) (c d : KnownCpu) (steps : Run)
-    (h : Where HasNoFreeFrame (RefillsInRounds sizes.batch true) (course t (visit_state m c) steps (visit_state n d))) where
+    (h : Where HasNoFreeFrame (RefillsInRounds sizes.batch true) (transition t (visit_state m c) steps (visit_state n d))) where
   abbrev last : InTheEnd t 1 LendsNoFrame (no_frame_spares t) (LendsBatch sizes.batch) m c (visit_state n d)
   last = in_the_end t 1 LendsNoFrame (no_frame_spares t) (LendsBatch sizes.batch) 16 m c (visit_state n d) steps h.does
 
@@ -437,7 +437,7 @@ pub record FilledPart (sizes : Config) (m : KnownMachine) (c : KnownCpu) (n : Kn
   pub high : length c.list ≤ sizes.high → length d.list ≤ sizes.high
 
 batch_part : (t : KnownTable) (sizes : Config) (m n : KnownMachine) (c d : KnownCpu) (steps : Run) → IsValidConfig sizes → c.list ≡ []
-    → LendsBatch sizes.batch (course t (visit_state m c) steps (visit_state n d)) → FilledPart sizes m c n d
+    → LendsBatch sizes.batch (transition t (visit_state m c) steps (visit_state n d)) → FilledPart sizes m c n d
 batch_part t sizes m n c d steps valid empty h =
     let l = lent_part h.frames m n c d h.lends in
     record {
@@ -454,7 +454,7 @@ batch_part t sizes m n c d steps valid empty h =
     }
 
 refilled_part : (t : KnownTable) (sizes : Config) (m n : KnownMachine) (c d : KnownCpu) (steps : Run) → IsValidConfig sizes → c.list ≡ []
-    → RefillsList sizes.batch (course t (visit_state m c) steps (visit_state n d)) → FilledPart sizes m c n d
+    → RefillsList sizes.batch (transition t (visit_state m c) steps (visit_state n d)) → FilledPart sizes m c n d
 refilled_part t sizes m n c d steps valid empty (inl h) = batch_part t sizes m n c d steps valid empty h
 refilled_part t sizes m n c d steps valid empty (inr h) =
     let e = in_the_end t 1 LendsNoFrame (no_frame_spares t) (LendsBatch sizes.batch) 16 m c (visit_state n d) steps h.does in
@@ -468,7 +468,7 @@ refilled_part t sizes m n c d steps valid empty (inr h) =
       high = λ low. let a : length e.cpu.list ≡ length c.list = ap (λ (y : KnownCpu). length y.list) cpu in b.high (omega (arith, a, low));
     }
 
-pub filled_part : (t : KnownTable) (sizes : Config) (m n : KnownMachine) (c d : KnownCpu) (steps : Run) → IsValidConfig sizes → FillsList sizes (Ok tt) (course t (visit_state m c) steps (visit_state n d))
+pub filled_part : (t : KnownTable) (sizes : Config) (m n : KnownMachine) (c d : KnownCpu) (steps : Run) → IsValidConfig sizes → FillsList sizes (Ok tt) (transition t (visit_state m c) steps (visit_state n d))
     → FilledPart sizes m c n d
 filled_part t sizes m n c d steps valid (inl h) = record {
   opened = ap (λ (y : KnownMachine). y.frame_seat.view.opened) h.does.machine;

@@ -25,7 +25,7 @@ use Rattle.mem_reclaim.specs.Sets.{IsHead, kill_set}
 use Rattle.mem_reclaim.specs.Victim.{IsVictim}
 use Rattle.mem_reclaim.proofs.Choosing.{chosen_there}
 use Rattle.mem_reclaim.proofs.Dying.{victims_die}
-use Rattle.mem_alloc.specs.Stepping.{ByStepsOfAny, MachineStays, course}
+use Rattle.mem_alloc.specs.Stepping.{ByStepsOfAny, MachineStays, transition}
 use Rattle.mem_alloc.specs.Kills.{IsWanting, KillsEach, KillsFor, KillsOne, has_room_at, with_oom_noted_at}
 use Rattle.mem_alloc.specs.Room.{KillsForFew, RelievesLimit}
 use Rattle.mem_alloc.proofs.Lowering.{Lowers, lowers_none, lowers_both, same_visit, clears_lower, keeps_lower, sum_less}
@@ -57,7 +57,7 @@ one_lowers t groups m n marked stocks keeps = record {
 }
 
 pub each_lowers : (r : Option ℕ) (t : KnownTable) (g pages : ℕ) (victims : List Killed) (m n : KnownMachine) (steps : Run)
-    → KillsEach r g pages victims (course t m steps n) → Lowers t m n
+    → KillsEach r g pages victims (transition t m steps n) → Lowers t m n
 each_lowers r t g pages [] m n steps h = subst (λ (x : KnownMachine). Lowers t m x) (sym h.machine) (lowers_none t m)
 each_lowers r t g pages (killed ∷ later) m n steps h =
     lowers_both t m h.between n (one_lowers t (kill_set m killed) m h.between h.first.marked h.first.stocks h.first.keeps)
@@ -79,10 +79,10 @@ oom_lowers t m g = record {
   emptied = λ p is. is;
 }
 
-stays_lower : (t : KnownTable) (m n : KnownMachine) (steps : Run) → MachineStays (course t m steps n) → Lowers t m n
+stays_lower : (t : KnownTable) (m n : KnownMachine) (steps : Run) → MachineStays (transition t m steps n) → Lowers t m n
 stays_lower t m n steps h = subst (λ (x : KnownMachine). Lowers t m x) (sym h.machine) (lowers_none t m)
 
-pub kills_lower : (r : Option ℕ) (t : KnownTable) (g pages : ℕ) (m n : KnownMachine) (steps : Run) → KillsFor r g pages (course t m steps n) → Lowers t m n
+pub kills_lower : (r : Option ℕ) (t : KnownTable) (g pages : ℕ) (m n : KnownMachine) (steps : Run) → KillsFor r g pages (transition t m steps n) → Lowers t m n
 kills_lower r t g pages m n steps k = elim (cases_Bool (has_room_at m.ledger g pages)) [
   | inl room ↦ stays_lower t m n steps (k.room room)
   | inr over ↦
@@ -90,13 +90,13 @@ kills_lower r t g pages m n steps k = elim (cases_Bool (has_room_at m.ledger g p
       lowers_both t m (with_oom_noted_at m g) n (oom_lowers t m g) (each_lowers r t g pages h.victims (with_oom_noted_at m g) n h.killing h.kills)
 ]
 
-pub few_lower : (t : KnownTable) (r g pages : ℕ) (m n : KnownMachine) (steps : Run) → KillsForFew r g pages (course t m steps n) → Lowers t m n
+pub few_lower : (t : KnownTable) (r g pages : ℕ) (m n : KnownMachine) (steps : Run) → KillsForFew r g pages (transition t m steps n) → Lowers t m n
 few_lower t r g pages m n steps k = elim (cases_lt 8 pages) [
   | inl many ↦ stays_lower t m n steps (k.many many)
   | inr few ↦ kills_lower (Some r) t g pages m n steps (k.few few)
 ]
 
-pub relieves_lower : (t : KnownTable) (r g pages : ℕ) (m n : KnownMachine) (steps : Run) → RelievesLimit r g pages (course t m steps n)
+pub relieves_lower : (t : KnownTable) (r g pages : ℕ) (m n : KnownMachine) (steps : Run) → RelievesLimit r g pages (transition t m steps n)
     → Lowers t m n
 relieves_lower t r g pages m n steps h =
     let x = h.between in
@@ -161,13 +161,13 @@ fewer_alive t w m n g killed whole charges most head marked =
 
 -- kills, and one more
 kills_more : (r : Option ℕ) (t : KnownTable) (g pages : ℕ) (killed : Killed) (victims : List Killed) (m x n : KnownMachine) (first last : Run)
-    → KillsEach r g pages victims (course t m first x) → KillsOne r g pages killed (course t x last n)
-    → KillsEach r g pages (victims ++ killed ∷ []) (course t m (first ++ last) n)
+    → KillsEach r g pages victims (transition t m first x) → KillsOne r g pages killed (transition t x last n)
+    → KillsEach r g pages (victims ++ killed ∷ []) (transition t m (first ++ last) n)
 kills_more r t g pages killed [] m x n first last each one = record {
   between = n;
   earlier = last;
   later = [];
-  first = subst (λ (y : KnownMachine). KillsOne r g pages killed (course t y last n)) each.machine one;
+  first = subst (λ (y : KnownMachine). KillsOne r g pages killed (transition t y last n)) each.machine one;
   second = record { machine = refl; steps_are = refl };
   steps_are = ap (λ (k : Run). k ++ last) each.steps_are ∙ sym (append-nil last);
 }
@@ -184,7 +184,7 @@ kills_more r t g pages killed (u ∷ victims) m x n first last each one = record
 pub record KillsSoFar (r : Option ℕ) (t : KnownTable) (g pages : ℕ) (m n : KnownMachine) : Type 0 where
   pub victims : List Killed
   pub killing : Run
-  pub kills : KillsEach r g pages victims (course t m killing n)
+  pub kills : KillsEach r g pages victims (transition t m killing n)
   pub runs : MakesForAny t m killing n
 
 pub so_far_nobody : (r : Option ℕ) (t : KnownTable) (g pages : ℕ) (m : KnownMachine) → KillsSoFar r t g pages m m

@@ -27,7 +27,7 @@ use Rattle.mem_machine.specs.Stocks.{Drains, DrainsBelow, DrainsAllBelow, stock_
 use Rattle.mem_machine.proofs.Draining.{groups_stay, drained_at, drained_else}
 use Rattle.mem_machine.proofs.Prepaying.{current_falls}
 use Rattle.mem_reclaim.specs.Staying.{Keeps}
-use Rattle.mem_alloc.specs.Stepping.{course}
+use Rattle.mem_alloc.specs.Stepping.{transition}
 use Rattle.mem_alloc.specs.Room.{ClearsBelow, has_room_at, with_max_noted_at}
 use Rattle.mem_machine.specs.Local.{visit_state}
 
@@ -144,7 +144,7 @@ note_lowers t m g pages = record {
   emptied = λ p is. is;
 }
 
-pub clears_lower : (t : KnownTable) (g pages : ℕ) (m n : KnownMachine) (steps : Run) → ClearsBelow g pages (course t m steps n) → Lowers t m n
+pub clears_lower : (t : KnownTable) (g pages : ℕ) (m n : KnownMachine) (steps : Run) → ClearsBelow g pages (transition t m steps n) → Lowers t m n
 clears_lower t g pages m n steps c =
     lowers_both t m (with_max_noted_at m g pages) n (note_lowers t m g pages) (all_lower t g t.cpus (with_max_noted_at m g pages) n c.drains c.all)
 

@@ -13,7 +13,7 @@ use Rattle.mem_machine.specs.Machines.{KnownMachine, is_killed}
 use Rattle.mem_machine.specs.Local.{MakesForAny, VisitState, visit_state, MakesAs}
 use Rattle.mem_machine.specs.Steps.{over_steps, note_max_steps, drain_stocks_steps, fill_steps}
 use Rattle.mem_machine.specs.Stocks.{Fills, DrainsSubtree, DrainsAllBelow, AreDrained}
-use Rattle.mem_alloc.specs.Stepping.{BySteps, ByStepsOfAny, Course, course}
+use Rattle.mem_alloc.specs.Stepping.{BySteps, ByStepsOfAny, Transition, transition}
 use Rattle.mem_reclaim.specs.Wanted.{progress}
 use Rattle.mem_reclaim.proofs.Keeping.{keeps_none}
 use Rattle.mem_reclaim.proofs.Moving.{moves_rest}
@@ -81,13 +81,13 @@ no_rounds t g pages m none = record {
 }
 
 -- charges that were refused, and then one more
-room_more : (t : KnownTable) (g pages over : ℕ) (before : List ℕ) (m x n : KnownMachine) (making last : Run) → MakesRoom g before pages (course t m making x)
-    → IsRefusedAt g over pages (Ok tt) (course t x last n) → MakesRoom g (before ++ over ∷ []) pages (course t m (making ++ last) n)
+room_more : (t : KnownTable) (g pages over : ℕ) (before : List ℕ) (m x n : KnownMachine) (making last : Run) → MakesRoom g before pages (transition t m making x)
+    → IsRefusedAt g over pages (Ok tt) (transition t x last n) → MakesRoom g (before ++ over ∷ []) pages (transition t m (making ++ last) n)
 room_more t g pages over [] m x n making last makes refused = record {
   between = n;
   earlier = last;
   later = [];
-  first = subst (λ (y : KnownMachine). IsRefusedAt g over pages (Ok tt) (course t y last n)) makes.machine refused;
+  first = subst (λ (y : KnownMachine). IsRefusedAt g over pages (Ok tt) (transition t y last n)) makes.machine refused;
   second = record { machine = refl; steps_are = refl };
   steps_are = ap (λ (r : Run). r ++ last) makes.steps_are ∙ sym (append-nil last);
 }
@@ -104,7 +104,7 @@ room_more t g pages over (h ∷ before) m x n making last makes refused = record
 pub record RoomSoFar (t : KnownTable) (g pages : ℕ) (c : KnownCpu) (m n : KnownMachine) : Type 0 where
   pub refused_at : List ℕ
   pub making : Run
-  pub makes : MakesRoom g refused_at pages (course t m making n)
+  pub makes : MakesRoom g refused_at pages (transition t m making n)
   pub runs : MakesAs t c.number (visit_state m c) making (visit_state n c)
   pub lowers : Lowers t m n
   pub alive : is_killed n.killed g ≡ false
@@ -128,7 +128,7 @@ module _ (t : KnownTable) (g pages : ℕ) (c : KnownCpu) (m x : KnownMachine) (s
     its = subst (λ (k : KnownMachine). ByStepsOfAny t (RelievesLimit g over pages) k n) same relieves
 
     refused : (answer : Result (Unit {0}) AllocFault) → TellsRoom g over pages answer n
-        → IsRefusedAt g over pages answer (course t x (over_steps g pages over ++ its.steps) n)
+        → IsRefusedAt g over pages answer (transition t x (over_steps g pages over ++ its.steps) n)
     refused answer room = record {
       lowest = subst (λ (k : KnownMachine). IsLowestOver k.ledger.groups (current_of k.ledger) g pages over) before_it low;
       relieving = its.steps;
@@ -176,7 +176,7 @@ module _ (t : KnownTable) (g pages : ℕ) (c : KnownCpu) (m x : KnownMachine) (s
     }
 
   -- this is done by steps of its own, now that there is room
-  pub so_far_does : (Does : Course VisitState → Type 0) (n : KnownMachine) (d : KnownCpu) → BySteps t Does (visit_state x c) (visit_state n d)
+  pub so_far_does : (Does : Transition VisitState → Type 0) (n : KnownMachine) (d : KnownCpu) → BySteps t Does (visit_state x c) (visit_state n d)
       → BySteps t (AfterRoom g pages Does) (visit_state m c) (visit_state n d)
   so_far_does Does n d b = record {
     steps = so_far.making ++ b.steps;

@@ -17,7 +17,7 @@ use Rattle.mem_reclaim.proofs.KillSets.{missed_both}
 use Rattle.mem_reclaim.proofs.LettingGo.{AreQuiet, misses_put, quiet_both, quiet_drain, quiet_drains}
 use Rattle.mem_alloc.specs.declared.faults.AllocFault.{AllocFault}
 use Rattle.mem_alloc.specs.declared.faults.AllocFault.TheVariants.{Over, NoFrames, RequesterKilled}
-use Rattle.mem_alloc.specs.Stepping.{CountsMisses, Course, InTurn, OfMachineAlone, Stays, Where, course, of_machine}
+use Rattle.mem_alloc.specs.Stepping.{CountsMisses, Transition, InTurn, OfMachineAlone, Stays, Where, transition, of_machine}
 use Rattle.mem_alloc.specs.Kills.{KillsEach, KillsFor, KillsOne, has_room_at, with_oom_noted_at}
 use Rattle.mem_alloc.specs.Room.{AfterRoom, ClearsBelow, IsRefusedAt, IsRefusedFor, IsRefusedAtSome, KillsForFew, MakesRoom, RelievesLimit, with_max_noted_at}
 use Rattle.mem_alloc.specs.Charging.{ChargesAfterDrain, ChargesFrame, ChargesOne, DrainsStock, FillsStock, AfterBatchRefused, PaysForFrame}
@@ -28,8 +28,8 @@ use Rattle.mem_alloc.proofs.NoRash.{all_same}
 
 -- ---- one after another
 
-pub counts_both : (t : KnownTable) (m x n : KnownMachine) (one two : Run) → CountsMisses (course t m one x) → CountsMisses (course t x two n)
-    → CountsMisses (course t m (one ++ two) n)
+pub counts_both : (t : KnownTable) (m x n : KnownMachine) (one two : Run) → CountsMisses (transition t m one x) → CountsMisses (transition t x two n)
+    → CountsMisses (transition t m (one ++ two) n)
 counts_both t m x n one two a b f =
     let p = a f in
     let q = b f in
@@ -38,39 +38,39 @@ counts_both t m x n one two a b f =
 
 -- steps without a freeze that missed, if no miss was noted
 pub counts_none : (t : KnownTable) (m n : KnownMachine) (steps : Run) → AreQuiet steps → ((f : ℕ) → misses_of n.frame_seat f ≡ misses_of m.frame_seat f)
-    → CountsMisses (course t m steps n)
+    → CountsMisses (transition t m steps n)
 counts_none t m n steps quiet same f =
     let p = quiet.no_miss f in
     let q = same f in
     omega (arith, p, q)
 
 -- the same if the zone's seat stays
-pub counts_same : (t : KnownTable) (m n : KnownMachine) (steps : Run) → AreQuiet steps → n.frame_seat ≡ m.frame_seat → CountsMisses (course t m steps n)
+pub counts_same : (t : KnownTable) (m n : KnownMachine) (steps : Run) → AreQuiet steps → n.frame_seat ≡ m.frame_seat → CountsMisses (transition t m steps n)
 counts_same t m n steps quiet same = counts_none t m n steps quiet (λ f. ap (λ (s : KnownSeat). misses_of s f) same)
 
 -- the same if the list of steps is given as another, equal list
-pub counts_as : (t : KnownTable) (m n : KnownMachine) (steps told : Run) → steps ≡ told → CountsMisses (course t m told n) → CountsMisses (course t m steps n)
-counts_as t m n steps told is h = subst (λ (k : Run). CountsMisses (course t m k n)) (sym is) h
+pub counts_as : (t : KnownTable) (m n : KnownMachine) (steps told : Run) → steps ≡ told → CountsMisses (transition t m told n) → CountsMisses (transition t m steps n)
+counts_as t m n steps told is h = subst (λ (k : Run). CountsMisses (transition t m k n)) (sym is) h
 
 abbrev pub calm : AreQuiet []
 calm = record { quiet = refl; no_miss = λ f. refl }
 
-pub counts_rest : (t : KnownTable) (m n : KnownMachine) (steps : Run) → n ≡ m → steps ≡ [] → CountsMisses (course t m steps n)
+pub counts_rest : (t : KnownTable) (m n : KnownMachine) (steps : Run) → n ≡ m → steps ≡ [] → CountsMisses (transition t m steps n)
 counts_rest t m n steps same none =
     counts_as t m n steps [] none (counts_same t m n [] calm (ap (λ (x : KnownMachine). x.frame_seat) same))
 
 -- ---- drains, notes and kills
 
-counts_drain : (t : KnownTable) (q k : ℕ) (m n : KnownMachine) → Drains q k m n → CountsMisses (course t m (drain_steps q (stock_group m q) k) n)
+counts_drain : (t : KnownTable) (q k : ℕ) (m n : KnownMachine) → Drains q k m n → CountsMisses (transition t m (drain_steps q (stock_group m q) k) n)
 counts_drain t q k m n d =
     counts_same t m n (drain_steps q (stock_group m q) k) (quiet_drain q (stock_group m q) k) (ap (λ (x : KnownMachine). x.frame_seat) d.machine)
 
 pub counts_drains : (t : KnownTable) (g k : ℕ) (m n : KnownMachine) (drains : List Drain) → DrainsAllBelow g k drains m n
-    → CountsMisses (course t m (drain_stocks_steps drains) n)
+    → CountsMisses (transition t m (drain_stocks_steps drains) n)
 counts_drains t g k m n drains all = counts_same t m n (drain_stocks_steps drains) (quiet_drains drains) (all_same g k m n drains all).frame_seat
 
 counts_one : (r : Option ℕ) (t : KnownTable) (g pages : ℕ) (killed : Killed) (m n : KnownMachine) (steps : Run)
-    → KillsOne r g pages killed (course t m steps n) → CountsMisses (course t m steps n)
+    → KillsOne r g pages killed (transition t m steps n) → CountsMisses (transition t m steps n)
 counts_one r t g pages killed m n steps h =
     counts_as t m n steps h.kills.steps h.steps_are (λ f.
     let p = h.kills.these.no_miss f in
@@ -78,14 +78,14 @@ counts_one r t g pages killed m n steps h =
     omega (arith, p, q))
 
 counts_each : (r : Option ℕ) (t : KnownTable) (g pages : ℕ) (victims : List Killed) (m n : KnownMachine) (steps : Run)
-    → KillsEach r g pages victims (course t m steps n) → CountsMisses (course t m steps n)
+    → KillsEach r g pages victims (transition t m steps n) → CountsMisses (transition t m steps n)
 counts_each r t g pages [] m n steps h = counts_rest t m n steps h.machine h.steps_are
 counts_each r t g pages (killed ∷ later) m n steps h =
     counts_as t m n steps (h.earlier ++ h.later) h.steps_are (counts_both t m h.between n h.earlier h.later
     (counts_one r t g pages killed m h.between h.earlier h.first) (counts_each r t g pages later h.between n h.later h.second))
 
-pub counts_kills : (r : Option ℕ) (t : KnownTable) (g pages : ℕ) (m n : KnownMachine) (steps : Run) → KillsFor r g pages (course t m steps n)
-    → CountsMisses (course t m steps n)
+pub counts_kills : (r : Option ℕ) (t : KnownTable) (g pages : ℕ) (m n : KnownMachine) (steps : Run) → KillsFor r g pages (transition t m steps n)
+    → CountsMisses (transition t m steps n)
 counts_kills r t g pages m n steps k = elim (cases_Bool (has_room_at m.ledger g pages)) [
   | inl room ↦ counts_rest t m n steps (k.room room).machine (k.room room).steps_are
   | inr over ↦
@@ -95,7 +95,7 @@ counts_kills r t g pages m n steps k = elim (cases_Bool (has_room_at m.ledger g 
       (counts_same t m x (note_oom_steps g) (record { quiet = refl; no_miss = λ f. refl }) refl) (counts_each r t g pages h.victims x n h.killing h.kills))
 ]
 
-counts_few : (t : KnownTable) (r g pages : ℕ) (m n : KnownMachine) (steps : Run) → KillsForFew r g pages (course t m steps n) → CountsMisses (course t m steps n)
+counts_few : (t : KnownTable) (r g pages : ℕ) (m n : KnownMachine) (steps : Run) → KillsForFew r g pages (transition t m steps n) → CountsMisses (transition t m steps n)
 counts_few t r g pages m n steps k = elim (cases_lt 8 pages) [
   | inl many ↦ counts_rest t m n steps (k.many many).machine (k.many many).steps_are
   | inr few ↦ counts_kills (Some r) t g pages m n steps (k.few few)
@@ -103,15 +103,15 @@ counts_few t r g pages m n steps k = elim (cases_lt 8 pages) [
 
 -- ---- a limit without room
 
-counts_clear : (t : KnownTable) (g pages : ℕ) (m n : KnownMachine) (steps : Run) → ClearsBelow g pages (course t m steps n) → CountsMisses (course t m steps n)
+counts_clear : (t : KnownTable) (g pages : ℕ) (m n : KnownMachine) (steps : Run) → ClearsBelow g pages (transition t m steps n) → CountsMisses (transition t m steps n)
 counts_clear t g pages m n steps h =
     let x = with_max_noted_at m g pages in
     let note = counts_same t m x (note_max_steps g) (record { quiet = refl; no_miss = λ f. refl }) refl in
     counts_as t m n steps (note_max_steps g ++ drain_stocks_steps h.drains) h.steps_are
     (counts_both t m x n (note_max_steps g) (drain_stocks_steps h.drains) note (counts_drains t g t.cpus x n h.drains h.all))
 
-counts_relief : (t : KnownTable) (r g pages : ℕ) (m n : KnownMachine) (steps : Run) → RelievesLimit r g pages (course t m steps n)
-    → CountsMisses (course t m steps n)
+counts_relief : (t : KnownTable) (r g pages : ℕ) (m n : KnownMachine) (steps : Run) → RelievesLimit r g pages (transition t m steps n)
+    → CountsMisses (transition t m steps n)
 counts_relief t r g pages m n steps h =
     let x = h.between in
     let next = h.second in
@@ -121,17 +121,17 @@ counts_relief t r g pages m n steps h =
     (counts_as t x n h.later (next.earlier ++ next.later) next.steps_are
     (counts_both t x y n next.earlier next.later next.first.moves.misses (counts_few t r g pages y n next.later next.second))))
 
-over_counts : (t : KnownTable) (g pages over : ℕ) (m : KnownMachine) → CountsMisses (course t m (over_steps g pages over) m)
+over_counts : (t : KnownTable) (g pages over : ℕ) (m : KnownMachine) → CountsMisses (transition t m (over_steps g pages over) m)
 over_counts t g pages over m = counts_same t m m (over_steps g pages over) (record { quiet = refl; no_miss = λ f. refl }) refl
 
 counts_refused : (t : KnownTable) (g pages over : ℕ) (answer : Result (Unit {0}) AllocFault) (m n : KnownMachine) (steps : Run)
-    → IsRefusedAt g over pages answer (course t m steps n) → CountsMisses (course t m steps n)
+    → IsRefusedAt g over pages answer (transition t m steps n) → CountsMisses (transition t m steps n)
 counts_refused t g pages over answer m n steps h =
     counts_as t m n steps (over_steps g pages over ++ h.relieving) h.steps_are
     (counts_both t m m n (over_steps g pages over) h.relieving (over_counts t g pages over m) (counts_relief t g over pages m n h.relieving h.relieves))
 
-counts_room : (t : KnownTable) (g pages : ℕ) (refused : List ℕ) (m n : KnownMachine) (steps : Run) → MakesRoom g refused pages (course t m steps n)
-    → CountsMisses (course t m steps n)
+counts_room : (t : KnownTable) (g pages : ℕ) (refused : List ℕ) (m n : KnownMachine) (steps : Run) → MakesRoom g refused pages (transition t m steps n)
+    → CountsMisses (transition t m steps n)
 counts_room t g pages [] m n steps h = counts_rest t m n steps h.machine h.steps_are
 counts_room t g pages (over ∷ later) m n steps h =
     counts_as t m n steps (h.earlier ++ h.later) h.steps_are (counts_both t m h.between n h.earlier h.later
@@ -161,32 +161,32 @@ back_same (f ∷ frames) m n h g =
 
 -- ---- parts put together
 
--- the misses are counted in each such course
-abbrev pub AllCounted : (Course VisitState → Type 0) → Type 0
-AllCounted P = (way : Course VisitState) → P way → CountsMisses (of_machine way)
+-- the misses are counted in each such transition
+abbrev pub AllCounted : (Transition VisitState → Type 0) → Type 0
+AllCounted P = (way : Transition VisitState) → P way → CountsMisses (of_machine way)
 
 counts_stay : AllCounted Stays
 counts_stay way h = counts_rest way.table way.before.machine way.after.machine way.steps h.machine h.steps_are
 
-counts_turns : (First Second : Course VisitState → Type 0) → AllCounted First → AllCounted Second → AllCounted (InTurn First Second)
+counts_turns : (First Second : Transition VisitState → Type 0) → AllCounted First → AllCounted Second → AllCounted (InTurn First Second)
 counts_turns First Second one two way h =
     counts_as way.table way.before.machine way.after.machine way.steps (h.earlier ++ h.later) h.steps_are
     (counts_both way.table way.before.machine h.between.machine way.after.machine h.earlier h.later
-    (one (course way.table way.before h.earlier h.between) h.first) (two (course way.table h.between h.later way.after) h.second))
+    (one (transition way.table way.before h.earlier h.between) h.first) (two (transition way.table h.between h.later way.after) h.second))
 
-counts_alone : (Does : Course KnownMachine → Type 0)
-    → ((t : KnownTable) (m n : KnownMachine) (steps : Run) → Does (course t m steps n) → CountsMisses (course t m steps n))
+counts_alone : (Does : Transition KnownMachine → Type 0)
+    → ((t : KnownTable) (m n : KnownMachine) (steps : Run) → Does (transition t m steps n) → CountsMisses (transition t m steps n))
     → AllCounted (OfMachineAlone Does)
 counts_alone Does counts way h = counts way.table way.before.machine way.after.machine way.steps h.does
 
-after_room_counts : (g pages : ℕ) (Does : Course VisitState → Type 0) → AllCounted Does → AllCounted (AfterRoom g pages Does)
+after_room_counts : (g pages : ℕ) (Does : Transition VisitState → Type 0) → AllCounted Does → AllCounted (AfterRoom g pages Does)
 after_room_counts g pages Does counts way h =
     let t = way.table in
     let m = way.before.machine in
     let n = way.after.machine in
     counts_as t m n way.steps (h.making ++ h.later) h.steps_are (counts_both t m h.cleared n h.making h.later
     (counts_room t g pages h.refused_at m h.cleared h.making h.makes)
-    (counts (course t (visit_state h.cleared way.before.cpu) h.later way.after) h.does))
+    (counts (transition t (visit_state h.cleared way.before.cpu) h.later way.after) h.does))
 
 refusal_counts : (g pages : ℕ) (cause : AllocFault) → AllCounted (IsRefusedFor g pages cause)
 refusal_counts g pages cause way h =
@@ -195,13 +195,13 @@ refusal_counts g pages cause way h =
 
 -- ---- rounds of reclaim
 
-module _ (want : ℕ) (Fails : Course VisitState → Type 0) (failing : AllCounted Fails) where
-  round_counts : (given : ℕ) (Tries : Course VisitState → Type 0) → AllCounted Tries → AllCounted (MakesRound want given Tries)
+module _ (want : ℕ) (Fails : Transition VisitState → Type 0) (failing : AllCounted Fails) where
+  round_counts : (given : ℕ) (Tries : Transition VisitState → Type 0) → AllCounted Tries → AllCounted (MakesRound want given Tries)
   round_counts given Tries trying way h =
       let m = way.before.machine in
       let n = way.after.machine in
       counts_as way.table m n way.steps (h.reclaiming ++ h.trying) h.steps_are (counts_both way.table m h.reclaimed n h.reclaiming h.trying h.moves.misses
-      (trying (course way.table (visit_state h.reclaimed way.before.cpu) h.trying way.after) h.tries))
+      (trying (transition way.table (visit_state h.reclaimed way.before.cpu) h.trying way.after) h.tries))
 
   gives_count : AllCounted (GivesInRound want Fails)
   gives_count way h = round_counts h.given Fails failing way h.round
@@ -212,7 +212,7 @@ module _ (want : ℕ) (Fails : Course VisitState → Type 0) (failing : AllCount
   fails_count (suc more) way (inr h) =
       counts_turns (GivesInRound want Fails) (FailsInRounds more want Fails) gives_count (fails_count more) way h
 
-  succeeds_count : (rounds : ℕ) (Succeeds : Course VisitState → Type 0) → AllCounted Succeeds → AllCounted (SucceedsInRounds rounds want Succeeds Fails)
+  succeeds_count : (rounds : ℕ) (Succeeds : Transition VisitState → Type 0) → AllCounted Succeeds → AllCounted (SucceedsInRounds rounds want Succeeds Fails)
   succeeds_count zero Succeeds succeeding way h = absurd h
   succeeds_count (suc more) Succeeds succeeding way (inl h) = round_counts h.0 Succeeds succeeding way h.1
   succeeds_count (suc more) Succeeds succeeding way (inr h) =
@@ -269,7 +269,7 @@ lacks_counts sizes g answer way h =
     let m = way.before.machine in
     let first = over_steps g sizes.stock h.over in
     counts_as t m way.after.machine way.steps (first ++ h.later) h.steps_are (counts_both t m m way.after.machine first h.later
-    (over_counts t g sizes.stock h.over m) (one_counts g answer (course t way.before h.later way.after) h.does))
+    (over_counts t g sizes.stock h.over m) (one_counts g answer (transition t way.before h.later way.after) h.does))
 
 charges_count : (sizes : Config) (g : ℕ) (answer : Result (Unit {0}) AllocFault) → AllCounted (ChargesFrame sizes g answer)
 charges_count sizes g (Ok v) way (inl h) = stock_counts g sizes.stock way h
@@ -277,8 +277,8 @@ charges_count sizes g (Ok v) way (inr h) = lacks_counts sizes g (Ok v) way h
 charges_count sizes g (Err cause) way h = lacks_counts sizes g (Err cause) way h
 
 -- the same, after a look at the own stock
-abbrev looked_way : Course VisitState → Course VisitState
-looked_way way = course way.table (visit_state (with_look way.before.machine) way.before.cpu) way.steps way.after
+abbrev looked_way : Transition VisitState → Transition VisitState
+looked_way way = transition way.table (visit_state (with_look way.before.machine) way.before.cpu) way.steps way.after
 
 anew_counts : (sizes : Config) (g : ℕ) (answer : Result (Unit {0}) AllocFault) → AllCounted (ChargesAfterDrain sizes g answer)
 anew_counts sizes g answer way h =
@@ -299,8 +299,8 @@ frame_counts sizes g (Ok f) way all =
     let y = h.filled.machine in
     let last = take_front_steps way.before.cpu.number g in
     counts_as t m n way.steps (h.paying ++ (h.filling ++ last)) h.steps_are (counts_both t m x n h.paying (h.filling ++ last)
-    (pays_count sizes g (Ok tt) (course t way.before h.paying h.paid) h.pays) (counts_both t x y n h.filling last
-    (fills_count sizes (Ok tt) (course t h.paid h.filling h.filled) h.fills)
+    (pays_count sizes g (Ok tt) (transition t way.before h.paying h.paid) h.pays) (counts_both t x y n h.filling last
+    (fills_count sizes (Ok tt) (transition t h.paid h.filling h.filled) h.fills)
     (counts_same t y n last (record { quiet = refl; no_miss = λ f. refl }) (ap (λ (k : KnownMachine). k.frame_seat) h.takes.machine))))
 frame_counts sizes g (Err (Over over)) way h = pays_count sizes g (Err (Over over)) way h.does
 frame_counts sizes g (Err NoFrames) way h =
@@ -312,7 +312,7 @@ frame_counts sizes g (Err RequesterKilled) way (inr h) = pays_count sizes g (Err
 -- ---- a block
 
 taken_counts : (t : KnownTable) (g k head : ℕ) (m n : KnownMachine) → ((f : ℕ) → misses_of n.frame_seat f ≡ misses_of m.frame_seat f)
-    → CountsMisses (course t m (taken_steps g k head) n)
+    → CountsMisses (transition t m (taken_steps g k head) n)
 taken_counts t g k head m n same = counts_none t m n (taken_steps g k head) (record { quiet = refl; no_miss = λ f. refl }) same
 
 takes_count : (g k head : ℕ) → AllCounted (TakesFreeBlock g k head)
@@ -349,7 +349,7 @@ drained_counts g k answer way h =
     (counts_both way.table way.before.machine h.drained way.after.machine first h.later
     (counts_none way.table way.before.machine h.drained first (back_calm way.before.cpu.number way.before.cpu.list)
     (back_same way.before.cpu.list way.before (visit_state h.drained way.after.cpu) h.drains))
-    (or_reclaims_count g k answer (course way.table (visit_state h.drained way.after.cpu) h.later way.after) h.takes))
+    (or_reclaims_count g k answer (transition way.table (visit_state h.drained way.after.cpu) h.later way.after) h.takes))
 
 charged_counts : (g k : ℕ) (answer : Result ℕ AllocFault) → AllCounted (ChargesBlock g k answer)
 charged_counts g k (Ok head) way h = after_room_counts g (2 ^ k) (TakesFreeBlock g k head) (takes_count g k head) way h

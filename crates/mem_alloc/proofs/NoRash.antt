@@ -34,7 +34,7 @@ use Rattle.mem_reclaim.specs.Sets.{alive_below, group_kill_note, kill_set}
 use Rattle.mem_reclaim.specs.Victim.{victim_note}
 use Rattle.mem_reclaim.proofs.KillSets.{kills_both, missed_both}
 use Rattle.mem_reclaim.proofs.LettingGo.{AreQuiet, quiet_both, quiet_drains}
-use Rattle.mem_alloc.specs.Stepping.{Course, OfMachineAlone, MachineStays, course}
+use Rattle.mem_alloc.specs.Stepping.{Transition, OfMachineAlone, MachineStays, transition}
 use Rattle.mem_alloc.specs.Kills.{KillsEach, KillsFor, KillsOne, KillsUntilRoom, has_room_at, with_oom_noted_at}
 use Rattle.mem_alloc.specs.Room.{AfterRoom, ClearsBelow, IsRefusedAt, IsRefusedFor, IsRefusedAtSome, KillsForFew, MakesRoom, ReclaimsFor, RelievesLimit}
 use Rattle.mem_alloc.specs.Room.{with_max_noted_at}
@@ -148,7 +148,7 @@ over_runs p g n over rest a z whole = (whole.0, refl)
 -- the steps lead there; the misses grew by those among them; and no unit came onto a list or changed its dirt
 pub record Passes (t : KnownTable) (c : KnownCpu) (m : KnownMachine) (steps : Run) (n : KnownMachine) : Type 0 where
   pub runs : IsLocalRun c.number (local_of t m c) steps (local_of t n c)
-  pub tied : IsLeftBySteps (course t m steps n)
+  pub tied : IsLeftBySteps (transition t m steps n)
 
 pub passes_none : (t : KnownTable) (c : KnownCpu) (m : KnownMachine) → Passes t c m [] m
 passes_none t c m = record {
@@ -160,7 +160,7 @@ owned : (o was : Option Home) → o ≢ None → owner_of o ≡ owner_of was →
 owned None was kept same none = kept refl
 owned (Some h) was kept same none = none-some h.owner (sym (same ∙ ap owner_of none))
 
-was_kept : (t : KnownTable) (m n : KnownMachine) (steps : Run) → IsLeftBySteps (course t m steps n) → (f : ℕ) → home_of n.links f ≢ None → home_of m.links f ≢ None
+was_kept : (t : KnownTable) (m n : KnownMachine) (steps : Run) → IsLeftBySteps (transition t m steps n) → (f : ℕ) → home_of n.links f ≢ None → home_of m.links f ≢ None
 was_kept t m n steps tied f is = owned (home_of n.links f) (home_of m.links f) is (tied.owners f is)
 
 pub passes_both : (t : KnownTable) (c : KnownCpu) (m x n : KnownMachine) (one two : Run) → Passes t c m one x → Passes t c x two n
@@ -294,7 +294,7 @@ module _ (t : KnownTable) (MayAsk : List Group → ℕ → ℕ → Type 0) (s : 
 
   -- the steps kill just the groups of a set, the first of them at once
   rash_set : (made steps : Run) (m : KnownMachine) (killed : Killed) → IsLocalRun c.number (local_of t s c) made (local_of t m c)
-      → MayKill MayAsk (course t s made m) killed → KillsFirst steps → kills_in steps ≡ kill_set m killed → RashFree t MayAsk s c made steps
+      → MayKill MayAsk (transition t s made m) killed → KillsFirst steps → kills_in steps ≡ kill_set m killed → RashFree t MayAsk s c made steps
   rash_set made steps m killed runs may first these before rest e v is kill = record {
     tried = made;
     since = before;
@@ -331,7 +331,7 @@ module _ (t : KnownTable) (MayAsk : List Group → ℕ → ℕ → Type 0) (s : 
     groups = b.groups ∙ a.groups;
   }
 
-  tame_stays : (made : Run) (m : KnownMachine) (steps : Run) (n : KnownMachine) → MachineStays (course t m steps n) → Tame made m steps n
+  tame_stays : (made : Run) (m : KnownMachine) (steps : Run) (n : KnownMachine) → MachineStays (transition t m steps n) → Tame made m steps n
   tame_stays made m steps n h =
       subst (λ (z : Run × KnownMachine). Tame made m z.0 z.1) (λ i. (sym h.steps_are i, sym h.machine i)) (tame_none made m)
 
@@ -386,7 +386,7 @@ module _ (t : KnownTable) (MayAsk : List Group → ℕ → ℕ → Type 0) (s : 
       omega (arith, p, q)
 
   ready_more : (r : Option ℕ) (g pages : ℕ) (killed : Killed) (made : Run) (m : KnownMachine) (steps : Run) (n : KnownMachine) → Ready g made m
-      → (one : KillsOne r g pages killed (course t m steps n)) → Ready g (made ++ steps) n
+      → (one : KillsOne r g pages killed (transition t m steps n)) → Ready g (made ++ steps) n
   ready_more r g pages killed made m steps n ready one =
       let passes = subst (λ (k : Run). Passes t c m k n) (sym one.steps_are) (kill_passes g killed m n one.kills one.keeps) in
       record {
@@ -397,7 +397,7 @@ module _ (t : KnownTable) (MayAsk : List Group → ℕ → ℕ → Type 0) (s : 
       }
 
   may_kill : (r : Option ℕ) (g pages : ℕ) (killed : Killed) (made : Run) (m : KnownMachine) (steps : Run) (n : KnownMachine)
-      → MayAsk m.ledger.groups g pages → Ready g made m → KillsOne r g pages killed (course t m steps n) → MayKill MayAsk (course t s made m) killed
+      → MayAsk m.ledger.groups g pages → Ready g made m → KillsOne r g pages killed (transition t m steps n) → MayKill MayAsk (transition t s made m) killed
   may_kill r g pages killed made m steps n asked ready one = record {
     limited = g;
     need = pages;
@@ -415,7 +415,7 @@ module _ (t : KnownTable) (MayAsk : List Group → ℕ → ℕ → Type 0) (s : 
   }
 
   tame_one : (r : Option ℕ) (g pages : ℕ) (killed : Killed) (made : Run) (m : KnownMachine) (steps : Run) (n : KnownMachine)
-      → MayAsk m.ledger.groups g pages → Ready g made m → KillsOne r g pages killed (course t m steps n) → Tame made m steps n
+      → MayAsk m.ledger.groups g pages → Ready g made m → KillsOne r g pages killed (transition t m steps n) → Tame made m steps n
   tame_one r g pages killed made m steps n asked ready one =
       let may = may_kill r g pages killed made m steps n asked ready one in
       let first = set_first (is_oom_group m.ledger.groups killed.head) t g killed (with_note m (victim_note m g killed.victim one.kills.next))
@@ -427,7 +427,7 @@ module _ (t : KnownTable) (MayAsk : List Group → ℕ → ℕ → Type 0) (s : 
       })
 
   tame_each : (r : Option ℕ) (g pages : ℕ) (victims : List Killed) (made : Run) (m : KnownMachine) (steps : Run) (n : KnownMachine)
-      → MayAsk m.ledger.groups g pages → Ready g made m → KillsEach r g pages victims (course t m steps n) → Tame made m steps n
+      → MayAsk m.ledger.groups g pages → Ready g made m → KillsEach r g pages victims (transition t m steps n) → Tame made m steps n
   tame_each r g pages [] made m steps n asked ready each = tame_stays made m steps n each
   tame_each r g pages (killed ∷ later) made m steps n asked ready each =
       let x = each.between in
@@ -439,7 +439,7 @@ module _ (t : KnownTable) (MayAsk : List Group → ℕ → ℕ → Type 0) (s : 
 
   -- everything was tried, and one more `oom` is noted after that
   tame_victims : (r : Option ℕ) (g pages : ℕ) (made : Run) (m : KnownMachine) (steps : Run) (n : KnownMachine) → MayAsk m.ledger.groups g pages
-      → Passes t c s made m → AreDrained g t.cpus m → MissedAll g s m → KillsUntilRoom r g pages (course t m steps n) → Tame made m steps n
+      → Passes t c s made m → AreDrained g t.cpus m → MissedAll g s m → KillsUntilRoom r g pages (transition t m steps n) → Tame made m steps n
   tame_victims r g pages made m steps n asked since drained missed h =
       let x = with_oom_noted_at m g in
       let note = passes_same t c m x (note_oom_steps g) (h.notes c).leads refl refl (record { quiet = refl; no_miss = λ f. refl }) in
@@ -455,7 +455,7 @@ module _ (t : KnownTable) (MayAsk : List Group → ℕ → ℕ → Type 0) (s : 
 
   pub tame_kills : (r : Option ℕ) (g pages : ℕ) (made : Run) (m : KnownMachine) (steps : Run) (n : KnownMachine) → MayAsk m.ledger.groups g pages
       → Passes t c s made m → AreDrained g t.cpus m → (has_room_at m.ledger g pages ≡ false → MissedAll g s m)
-      → KillsFor r g pages (course t m steps n) → Tame made m steps n
+      → KillsFor r g pages (transition t m steps n) → Tame made m steps n
   tame_kills r g pages made m steps n asked since drained missed h = elim (cases_Bool (has_room_at m.ledger g pages)) [
     | inl room ↦ tame_stays made m steps n (h.room room)
     | inr over ↦ tame_victims r g pages made m steps n asked since drained (missed over) (h.over over)
@@ -475,28 +475,28 @@ module _ (t : KnownTable) (MayAsk : List Group → ℕ → ℕ → Type 0) (s : 
       let q = since.tied.misses f in
       omega (arith, p, q)
 
-  clears_tame : (g pages : ℕ) (made : Run) (m : KnownMachine) (steps : Run) (n : KnownMachine) → ClearsBelow g pages (course t m steps n) → Tame made m steps n
+  clears_tame : (g pages : ℕ) (made : Run) (m : KnownMachine) (steps : Run) (n : KnownMachine) → ClearsBelow g pages (transition t m steps n) → Tame made m steps n
   clears_tame g pages made m steps n h =
       let same = all_same g t.cpus (with_max_noted_at m g pages) n h.drains h.all in
       let quiet = quiet_both (note_max_steps g) (drain_stocks_steps h.drains) (record { quiet = refl; no_miss = λ f. refl }) (quiet_drains h.drains) in
       let here = subst AreQuiet (sym h.steps_are) quiet in
       tame_quiet made m steps n (passes_same t c m n steps (h.runs c).leads same.frame_seat same.links here) same.groups here.quiet
 
-  reclaims_tame : (g pages : ℕ) (made : Run) (m : KnownMachine) (steps : Run) (n : KnownMachine) → ReclaimsFor g pages (course t m steps n)
+  reclaims_tame : (g pages : ℕ) (made : Run) (m : KnownMachine) (steps : Run) (n : KnownMachine) → ReclaimsFor g pages (transition t m steps n)
       → Tame made m steps n
   reclaims_tame g pages made m steps n h =
       tame_quiet made m steps n (keeps_pass t c m n steps h.moves.runs h.keeps h.moves.misses) h.keeps.groups h.moves.quiet
 
   few_tame : (r g pages : ℕ) (made : Run) (m : KnownMachine) (steps : Run) (n : KnownMachine) → (pages ≤ 8 → MayAsk m.ledger.groups g pages)
       → Passes t c s made m → AreDrained g t.cpus m → (has_room_at m.ledger g pages ≡ false → MissedAll g s m)
-      → KillsForFew r g pages (course t m steps n) → Tame made m steps n
+      → KillsForFew r g pages (transition t m steps n) → Tame made m steps n
   few_tame r g pages made m steps n asked since drained missed h = elim (cases_lt 8 pages) [
     | inl many ↦ tame_stays made m steps n (h.many many)
     | inr few ↦ tame_kills (Some r) g pages made m steps n (asked few) since drained missed (h.few few)
   ]
 
   relieves_tame : (r g pages : ℕ) (made : Run) (m : KnownMachine) (steps : Run) (n : KnownMachine) → (pages ≤ 8 → MayAsk m.ledger.groups g pages)
-      → Passes t c s made m → RelievesLimit r g pages (course t m steps n) → Tame made m steps n
+      → Passes t c s made m → RelievesLimit r g pages (transition t m steps n) → Tame made m steps n
   relieves_tame r g pages made m steps n asked since h =
       let x = h.between in
       let next = h.second in
@@ -518,7 +518,7 @@ module _ (t : KnownTable) (MayAsk : List Group → ℕ → ℕ → Type 0) (s : 
   module _ (g pages : ℕ) (base : List Group) (asks : (over : ℕ) → in_subtree base over g ≡ true → pages ≤ 8 → MayAsk base over pages) where
     -- the charge is refused, and the named group has room afterwards or not
     refused_tame : (over : ℕ) (answer : Result (Unit {0}) AllocFault) (made : Run) (m : KnownMachine) (steps rest : Run) (n : KnownMachine) (z : State) → m.ledger.groups ≡ base → Passes t c s made m
-        → IsLocalRun c.number (local_of t m c) (steps ++ rest) z → IsRefusedAt g over pages answer (course t m steps n) → Tame made m steps n
+        → IsLocalRun c.number (local_of t m c) (steps ++ rest) z → IsRefusedAt g over pages answer (transition t m steps n) → Tame made m steps n
     refused_tame over answer made m steps rest n z is since whole h =
         let first = over_steps g pages over in
         let grant = over_runs c.number g pages over (h.relieving ++ rest) (local_of t m c) z
@@ -530,7 +530,7 @@ module _ (t : KnownTable) (MayAsk : List Group → ℕ → ℕ → Type 0) (s : 
         subst (λ (k : Run). Tame made m k n) (sym h.steps_are) (tame_both made m m n first h.relieving (tame_quiet made m first m refused refl refl) relieved)
 
     pub makes_tame : (refused : List ℕ) (made : Run) (m : KnownMachine) (steps rest : Run) (n : KnownMachine) (z : State) → m.ledger.groups ≡ base → Passes t c s made m
-        → IsLocalRun c.number (local_of t m c) (steps ++ rest) z → MakesRoom g refused pages (course t m steps n) → Tame made m steps n
+        → IsLocalRun c.number (local_of t m c) (steps ++ rest) z → MakesRoom g refused pages (transition t m steps n) → Tame made m steps n
     makes_tame [] made m steps rest n z is since whole h =
         subst (λ (y : Run × KnownMachine). Tame made m y.0 y.1) (λ i. (sym h.steps_are i, sym h.machine i)) (tame_none made m)
     makes_tame (over ∷ later) made m steps rest n z is since whole h =
@@ -545,11 +545,11 @@ module _ (t : KnownTable) (MayAsk : List Group → ℕ → ℕ → Type 0) (s : 
         subst (λ (k : Run). Tame made m k n) (sym h.steps_are) (tame_both made m x n first last one two)
 
     -- this is done after room was made for the charge, and comes no kill of it too early
-    pub after_room_rash : (Does : Course VisitState → Type 0) (made : Run) (m : KnownMachine) (steps rest : Run) (n : VisitState) (z : State) → m.ledger.groups ≡ base
+    pub after_room_rash : (Does : Transition VisitState → Type 0) (made : Run) (m : KnownMachine) (steps rest : Run) (n : VisitState) (z : State) → m.ledger.groups ≡ base
         → Passes t c s made m → IsLocalRun c.number (local_of t m c) (steps ++ rest) z
         → ((done later : Run) (x : KnownMachine) → x.ledger.groups ≡ base → Passes t c s done x → IsLocalRun c.number (local_of t x c) (later ++ rest) z
-        → Does (course t (visit_state x c) later n) → RashFree t MayAsk s c done later)
-        → AfterRoom g pages Does (course t (visit_state m c) steps n) → RashFree t MayAsk s c made steps
+        → Does (transition t (visit_state x c) later n) → RashFree t MayAsk s c done later)
+        → AfterRoom g pages Does (transition t (visit_state m c) steps n) → RashFree t MayAsk s c made steps
     after_room_rash Does made m steps rest n z is since whole free h =
         let x = h.cleared in
         let all : IsLocalRun c.number (local_of t m c) (h.making ++ (h.later ++ rest)) z =
@@ -561,16 +561,16 @@ module _ (t : KnownTable) (MayAsk : List Group → ℕ → ℕ → Type 0) (s : 
         (free (made ++ h.making) h.later x (one.groups ∙ is) done on h.does))
 
     -- the same if what is done after that kills nobody
-    pub quiet_after_room : (Does : Course VisitState → Type 0) (made : Run) (m : KnownMachine) (steps rest : Run) (n : VisitState) (z : State) → m.ledger.groups ≡ base
-        → Passes t c s made m → IsLocalRun c.number (local_of t m c) (steps ++ rest) z → ((way : Course VisitState) → Does way → has_kill way.steps ≡ false)
-        → AfterRoom g pages Does (course t (visit_state m c) steps n) → RashFree t MayAsk s c made steps
+    pub quiet_after_room : (Does : Transition VisitState → Type 0) (made : Run) (m : KnownMachine) (steps rest : Run) (n : VisitState) (z : State) → m.ledger.groups ≡ base
+        → Passes t c s made m → IsLocalRun c.number (local_of t m c) (steps ++ rest) z → ((way : Transition VisitState) → Does way → has_kill way.steps ≡ false)
+        → AfterRoom g pages Does (transition t (visit_state m c) steps n) → RashFree t MayAsk s c made steps
     quiet_after_room Does made m steps rest n z is since whole quiet h =
         after_room_rash Does made m steps rest n z is since whole
-        (λ done later x groups passes on does. rash_quiet done later (quiet (course t (visit_state x c) later n) does)) h
+        (λ done later x groups passes on does. rash_quiet done later (quiet (transition t (visit_state x c) later n) does)) h
 
     -- the same if the charge is refused for good
     pub refusal_rash : (cause : AllocFault) (made : Run) (m : KnownMachine) (steps rest : Run) (n : VisitState) (z : State) → m.ledger.groups ≡ base
-        → Passes t c s made m → IsLocalRun c.number (local_of t m c) (steps ++ rest) z → IsRefusedFor g pages cause (course t (visit_state m c) steps n)
+        → Passes t c s made m → IsLocalRun c.number (local_of t m c) (steps ++ rest) z → IsRefusedFor g pages cause (transition t (visit_state m c) steps n)
         → RashFree t MayAsk s c made steps
     refusal_rash cause made m steps rest n z is since whole h =
         after_room_rash (OfMachineAlone (IsRefusedAtSome g pages cause)) made m steps rest n z is since whole

@@ -20,7 +20,7 @@ use Rattle.mem_reclaim.specs.Moves.{has_kill, is_kill}
 use Rattle.mem_reclaim.proofs.LettingGo.{quiet_drain}
 use Rattle.mem_alloc.specs.declared.faults.AllocFault.{AllocFault}
 use Rattle.mem_alloc.specs.declared.faults.AllocFault.TheVariants.{Over, NoFrames, RequesterKilled}
-use Rattle.mem_alloc.specs.Stepping.{Course, InTurn, Where, course}
+use Rattle.mem_alloc.specs.Stepping.{Transition, InTurn, Where, transition}
 use Rattle.mem_alloc.specs.Charging.{ChargesAfterDrain, ChargesFrame, ChargesOne, DrainsStock, FillsStock, AfterBatchRefused, PaysForFrame}
 use Rattle.mem_alloc.specs.Rounds.{FailsInRounds, GivesInRound, MakesRound, SucceedsInRounds}
 use Rattle.mem_alloc.specs.Frames.{AllocatesFrame, FillsList, HasNoFreeFrame, LendsBatch, LendsNoFrame, RefillsInRounds}
@@ -34,23 +34,23 @@ use Rattle.mem_alloc.proofs.NoRash.{Passes, RashFree, drain_same, over_runs, pas
 pub no_kill_both : (one two : Run) → has_kill one ≡ false → has_kill two ≡ false → has_kill (one ++ two) ≡ false
 no_kill_both one two a b = list_any-append (λ (e : Step × Answer). is_kill e.0.action) one two ∙ ap (λ (x : Bool). x || has_kill two) a ∙ b
 
--- no step of such a course is a kill
-abbrev AllQuiet : (Course VisitState → Type 0) → Type 0
-AllQuiet P = (way : Course VisitState) → P way → has_kill way.steps ≡ false
+-- no step of such a transition is a kill
+abbrev AllQuiet : (Transition VisitState → Type 0) → Type 0
+AllQuiet P = (way : Transition VisitState) → P way → has_kill way.steps ≡ false
 
-turns_quiet : (First Second : Course VisitState → Type 0) → AllQuiet First → AllQuiet Second → AllQuiet (InTurn First Second)
+turns_quiet : (First Second : Transition VisitState → Type 0) → AllQuiet First → AllQuiet Second → AllQuiet (InTurn First Second)
 turns_quiet First Second one two way h =
-    ap has_kill h.steps_are ∙ no_kill_both h.earlier h.later (one (course way.table way.before h.earlier h.between) h.first)
-    (two (course way.table h.between h.later way.after) h.second)
+    ap has_kill h.steps_are ∙ no_kill_both h.earlier h.later (one (transition way.table way.before h.earlier h.between) h.first)
+    (two (transition way.table h.between h.later way.after) h.second)
 
 -- ---- rounds of reclaim
 
-module _ (want : ℕ) (Fails : Course VisitState → Type 0) (failing : AllQuiet Fails) where
-  round_quiet : (given : ℕ) (Tries : Course VisitState → Type 0) → AllQuiet Tries → (way : Course VisitState) → MakesRound want given Tries way
+module _ (want : ℕ) (Fails : Transition VisitState → Type 0) (failing : AllQuiet Fails) where
+  round_quiet : (given : ℕ) (Tries : Transition VisitState → Type 0) → AllQuiet Tries → (way : Transition VisitState) → MakesRound want given Tries way
       → has_kill way.steps ≡ false
   round_quiet given Tries trying way h =
       ap has_kill h.steps_are ∙ no_kill_both h.reclaiming h.trying h.moves.quiet
-      (trying (course way.table (visit_state h.reclaimed way.before.cpu) h.trying way.after) h.tries)
+      (trying (transition way.table (visit_state h.reclaimed way.before.cpu) h.trying way.after) h.tries)
 
   gives_quiet : AllQuiet (GivesInRound want Fails)
   gives_quiet way h = round_quiet h.given Fails failing way h.round
@@ -61,7 +61,7 @@ module _ (want : ℕ) (Fails : Course VisitState → Type 0) (failing : AllQuiet
   fails_quiet (suc more) way (inr h) =
       turns_quiet (GivesInRound want Fails) (FailsInRounds more want Fails) gives_quiet (fails_quiet more) way h
 
-  succeeds_quiet : (rounds : ℕ) (Succeeds : Course VisitState → Type 0) → AllQuiet Succeeds → AllQuiet (SucceedsInRounds rounds want Succeeds Fails)
+  succeeds_quiet : (rounds : ℕ) (Succeeds : Transition VisitState → Type 0) → AllQuiet Succeeds → AllQuiet (SucceedsInRounds rounds want Succeeds Fails)
   succeeds_quiet zero Succeeds succeeding way h = absurd h
   succeeds_quiet (suc more) Succeeds succeeding way (inl h) = round_quiet h.0 Succeeds succeeding way h.1
   succeeds_quiet (suc more) Succeeds succeeding way (inr h) =
@@ -121,7 +121,7 @@ drained_quiet : (g k : ℕ) (answer : Result ℕ AllocFault) → AllQuiet (Takes
 drained_quiet g k answer way h =
     ap has_kill h.steps_are ∙ no_kill_both (drain_list_steps way.before.cpu.number way.before.cpu.list) h.later
     (back_calm way.before.cpu.number way.before.cpu.list).quiet
-    (or_reclaims_quiet g k answer (course way.table (visit_state h.drained way.after.cpu) h.later way.after) h.takes)
+    (or_reclaims_quiet g k answer (transition way.table (visit_state h.drained way.after.cpu) h.later way.after) h.takes)
 
 -- ---- the whole of an allocation
 
@@ -136,7 +136,7 @@ module _ (t : KnownTable) (MayAsk : List Group → ℕ → ℕ → Type 0) (s : 
 
   module _ (asks : Asks 1) where
     one_rash : (answer : Result (Unit {0}) AllocFault) (made : Run) (x : KnownMachine) (steps rest : Run) (n : VisitState) (z : State) → x.ledger.groups ≡ s.ledger.groups
-        → Passes t c s made x → IsLocalRun c.number (local_of t x c) (steps ++ rest) z → ChargesOne g answer (course t (visit_state x c) steps n)
+        → Passes t c s made x → IsLocalRun c.number (local_of t x c) (steps ++ rest) z → ChargesOne g answer (transition t (visit_state x c) steps n)
         → RashFree t MayAsk s c made steps
     one_rash (Ok v) made x steps rest n z is since whole h =
         quiet_after_room t MayAsk s c g 1 s.ledger.groups asks (FillsStock g 1) made x steps rest n z is since whole (stock_quiet 1) h
@@ -145,7 +145,7 @@ module _ (t : KnownTable) (MayAsk : List Group → ℕ → ℕ → Type 0) (s : 
 
     lacks_rash : (sizes : Config) (answer : Result (Unit {0}) AllocFault) (made : Run) (x : KnownMachine) (steps rest : Run) (n : VisitState) (z : State)
         → x.ledger.groups ≡ s.ledger.groups → Passes t c s made x → IsLocalRun c.number (local_of t x c) (steps ++ rest) z
-        → AfterBatchRefused sizes g (ChargesOne g answer) (course t (visit_state x c) steps n) → RashFree t MayAsk s c made steps
+        → AfterBatchRefused sizes g (ChargesOne g answer) (transition t (visit_state x c) steps n) → RashFree t MayAsk s c made steps
     lacks_rash sizes answer made x steps rest n z is since whole h =
         let first = over_steps g sizes.stock h.over in
         let all = subst (λ (k : Run). IsLocalRun c.number (local_of t x c) (k ++ rest) z) h.steps_are whole in
@@ -158,13 +158,13 @@ module _ (t : KnownTable) (MayAsk : List Group → ℕ → ℕ → Type 0) (s : 
 
     charges_rash : (sizes : Config) (answer : Result (Unit {0}) AllocFault) (made : Run) (x : KnownMachine) (steps rest : Run) (n : VisitState) (z : State)
         → x.ledger.groups ≡ s.ledger.groups → Passes t c s made x → IsLocalRun c.number (local_of t x c) (steps ++ rest) z
-        → ChargesFrame sizes g answer (course t (visit_state x c) steps n) → RashFree t MayAsk s c made steps
+        → ChargesFrame sizes g answer (transition t (visit_state x c) steps n) → RashFree t MayAsk s c made steps
     charges_rash sizes (Ok v) made x steps rest n z is since whole (inl h) = rash_quiet t MayAsk s c made steps (ap has_kill h.steps_are)
     charges_rash sizes (Ok v) made x steps rest n z is since whole (inr h) = lacks_rash sizes (Ok v) made x steps rest n z is since whole h
     charges_rash sizes (Err cause) made x steps rest n z is since whole h = lacks_rash sizes (Err cause) made x steps rest n z is since whole h
 
     -- the own stock is drained, after a look
-    drain_passes : (x : VisitState) (steps : Run) → DrainsStock (course t (visit_state (with_look s) c) steps x) → Passes t c s steps x.machine
+    drain_passes : (x : VisitState) (steps : Run) → DrainsStock (transition t (visit_state (with_look s) c) steps x) → Passes t c s steps x.machine
     drain_passes x steps h =
         let same = drain_same (with_look s) x.machine c.number h.drained h.drains in
         let runs : IsLocalRun c.number (local_of t s c) steps (local_of t x.machine c) =
@@ -174,7 +174,7 @@ module _ (t : KnownTable) (MayAsk : List Group → ℕ → ℕ → Type 0) (s : 
         (quiet_drain c.number (stock_group s c.number) h.drained)) runs
 
     anew_rash : (sizes : Config) (answer : Result (Unit {0}) AllocFault) (steps rest : Run) (n : VisitState) (z : State)
-        → IsLocalRun c.number (local_of t s c) (steps ++ rest) z → ChargesAfterDrain sizes g answer (course t (visit_state s c) steps n)
+        → IsLocalRun c.number (local_of t s c) (steps ++ rest) z → ChargesAfterDrain sizes g answer (transition t (visit_state s c) steps n)
         → RashFree t MayAsk s c [] steps
     anew_rash sizes answer steps rest n z whole all =
         let h = all.does in
@@ -184,37 +184,37 @@ module _ (t : KnownTable) (MayAsk : List Group → ℕ → ℕ → Type 0) (s : 
         whole in
         let passes = drain_passes x h.earlier h.first in
         let on = run_rest c.number h.earlier (h.later ++ rest) (local_of t s c) (local_of t x.machine c) z passes.runs told in
-        let charges = subst (λ (y : KnownCpu). ChargesFrame sizes g answer (course t (visit_state x.machine y) h.later n)) h.first.cpu h.second in
+        let charges = subst (λ (y : KnownCpu). ChargesFrame sizes g answer (transition t (visit_state x.machine y) h.later n)) h.first.cpu h.second in
         subst (λ (k : Run). RashFree t MayAsk s c [] k) (sym h.steps_are) (rash_both t MayAsk s c [] h.earlier h.later
-        (rash_quiet t MayAsk s c [] h.earlier (drains_quiet (course t (visit_state (with_look s) c) h.earlier x) h.first))
+        (rash_quiet t MayAsk s c [] h.earlier (drains_quiet (transition t (visit_state (with_look s) c) h.earlier x) h.first))
         (charges_rash sizes answer h.earlier x.machine h.later rest n z (drain_same (with_look s) x.machine c.number h.first.drained h.first.drains).groups passes on charges))
 
     pays_rash : (sizes : Config) (answer : Result (Unit {0}) AllocFault) (steps rest : Run) (n : VisitState) (z : State)
-        → IsLocalRun c.number (local_of t s c) (steps ++ rest) z → PaysForFrame sizes g answer (course t (visit_state s c) steps n) → RashFree t MayAsk s c [] steps
+        → IsLocalRun c.number (local_of t s c) (steps ++ rest) z → PaysForFrame sizes g answer (transition t (visit_state s c) steps n) → RashFree t MayAsk s c [] steps
     pays_rash sizes (Ok v) steps rest n z whole (inl h) = rash_quiet t MayAsk s c [] steps (ap has_kill h.does.steps_are)
     pays_rash sizes (Ok v) steps rest n z whole (inr h) = anew_rash sizes (Ok v) steps rest n z whole h
     pays_rash sizes (Err cause) steps rest n z whole h = anew_rash sizes (Err cause) steps rest n z whole h
 
     -- a page is paid for, or not, and nothing is done after that
     pays_all_rash : (sizes : Config) (answer : Result (Unit {0}) AllocFault) (steps : Run) (n : VisitState) (z : State) → IsLocalRun c.number (local_of t s c) steps z
-        → PaysForFrame sizes g answer (course t (visit_state s c) steps n) → RashFree t MayAsk s c [] steps
+        → PaysForFrame sizes g answer (transition t (visit_state s c) steps n) → RashFree t MayAsk s c [] steps
     pays_all_rash sizes answer steps n z whole h =
         pays_rash sizes answer steps [] n z (subst (λ (k : Run). IsLocalRun c.number (local_of t s c) k z) (sym (append-nil steps)) whole) h
 
     pub frame_no_rash : (sizes : Config) (answer : Result ℕ AllocFault) (steps : Run) (n : VisitState) (z : State) → IsLocalRun c.number (local_of t s c) steps z
-        → AllocatesFrame sizes g answer (course t (visit_state s c) steps n) → NoRashKill t MayAsk s c steps
+        → AllocatesFrame sizes g answer (transition t (visit_state s c) steps n) → NoRashKill t MayAsk s c steps
     frame_no_rash sizes (Ok f) steps n z whole living =
         let h = living.does in
         let last = h.filling ++ take_front_steps c.number g in
         let all = subst (λ (k : Run). IsLocalRun c.number (local_of t s c) k z) h.steps_are whole in
-        let quiet = no_kill_both h.filling (take_front_steps c.number g) (fills_quiet sizes (Ok tt) (course t h.paid h.filling h.filled) h.fills) refl in
+        let quiet = no_kill_both h.filling (take_front_steps c.number g) (fills_quiet sizes (Ok tt) (transition t h.paid h.filling h.filled) h.fills) refl in
         subst (λ (k : Run). RashFree t MayAsk s c [] k) (sym h.steps_are) (rash_both t MayAsk s c [] h.paying last
         (pays_rash sizes (Ok tt) h.paying last h.paid z all h.pays) (rash_quiet t MayAsk s c h.paying last quiet))
     frame_no_rash sizes (Err (Over over)) steps n z whole h = pays_all_rash sizes (Err (Over over)) steps n z whole h.does
     frame_no_rash sizes (Err NoFrames) steps n z whole living =
         let h = living.does in
         let all = subst (λ (k : Run). IsLocalRun c.number (local_of t s c) k z) h.steps_are whole in
-        let quiet = fills_quiet sizes (Err NoFrames) (course t h.between h.later n) h.second in
+        let quiet = fills_quiet sizes (Err NoFrames) (transition t h.between h.later n) h.second in
         subst (λ (k : Run). RashFree t MayAsk s c [] k) (sym h.steps_are) (rash_both t MayAsk s c [] h.earlier h.later
         (pays_rash sizes (Ok tt) h.earlier h.later h.between z all h.first) (rash_quiet t MayAsk s c h.earlier h.later quiet))
     frame_no_rash sizes (Err RequesterKilled) steps n z whole (inl h) = rash_quiet t MayAsk s c [] steps (ap has_kill h.does.steps_are)
@@ -224,7 +224,7 @@ module _ (t : KnownTable) (MayAsk : List Group → ℕ → ℕ → Type 0) (s : 
 
   module _ (k : ℕ) (asks : Asks (2 ^ k)) where
     charged_rash : (answer : Result ℕ AllocFault) (steps rest : Run) (n : VisitState) (z : State) → IsLocalRun c.number (local_of t s c) (steps ++ rest) z
-        → ChargesBlock g k answer (course t (visit_state s c) steps n) → RashFree t MayAsk s c [] steps
+        → ChargesBlock g k answer (transition t (visit_state s c) steps n) → RashFree t MayAsk s c [] steps
     charged_rash (Ok head) steps rest n z whole h =
         quiet_after_room t MayAsk s c g (2 ^ k) s.ledger.groups asks (TakesFreeBlock g k head) [] s steps rest n z refl (passes_none t c s) whole
         (takes_quiet g k head) h
@@ -237,20 +237,20 @@ module _ (t : KnownTable) (MayAsk : List Group → ℕ → ℕ → Type 0) (s : 
         refusal_rash t MayAsk s c g (2 ^ k) s.ledger.groups asks RequesterKilled [] s steps rest n z refl (passes_none t c s) whole h
 
     charged_all_rash : (answer : Result ℕ AllocFault) (steps : Run) (n : VisitState) (z : State) → IsLocalRun c.number (local_of t s c) steps z
-        → ChargesBlock g k answer (course t (visit_state s c) steps n) → RashFree t MayAsk s c [] steps
+        → ChargesBlock g k answer (transition t (visit_state s c) steps n) → RashFree t MayAsk s c [] steps
     charged_all_rash answer steps n z whole h =
         charged_rash answer steps [] n z (subst (λ (r : Run). IsLocalRun c.number (local_of t s c) r z) (sym (append-nil steps)) whole) h
 
     retries_rash : (answer : Result ℕ AllocFault) (steps : Run) (n : VisitState) (z : State) → IsLocalRun c.number (local_of t s c) steps z
-        → RetriesBlock g k answer (course t (visit_state s c) steps n) → RashFree t MayAsk s c [] steps
+        → RetriesBlock g k answer (transition t (visit_state s c) steps n) → RashFree t MayAsk s c [] steps
     retries_rash answer steps n z whole h =
         let all = subst (λ (r : Run). IsLocalRun c.number (local_of t s c) r z) h.steps_are whole in
-        let quiet = drained_quiet g k answer (course t h.between h.later n) h.second in
+        let quiet = drained_quiet g k answer (transition t h.between h.later n) h.second in
         subst (λ (r : Run). RashFree t MayAsk s c [] r) (sym h.steps_are) (rash_both t MayAsk s c [] h.earlier h.later
         (charged_rash (Err NoFrames) h.earlier h.later h.between z all h.first) (rash_quiet t MayAsk s c h.earlier h.later quiet))
 
     pub block_no_rash : (answer : Result ℕ AllocFault) (steps : Run) (n : VisitState) (z : State) → IsLocalRun c.number (local_of t s c) steps z
-        → AllocatesBlock g k answer (course t (visit_state s c) steps n) → NoRashKill t MayAsk s c steps
+        → AllocatesBlock g k answer (transition t (visit_state s c) steps n) → NoRashKill t MayAsk s c steps
     block_no_rash (Ok head) steps n z whole (inl h) = charged_all_rash (Ok head) steps n z whole h.does
     block_no_rash (Ok head) steps n z whole (inr h) = retries_rash (Ok head) steps n z whole h.does
     block_no_rash (Err (Over over)) steps n z whole h = charged_all_rash (Err (Over over)) steps n z whole h.does

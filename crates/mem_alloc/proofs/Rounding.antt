@@ -10,7 +10,7 @@ use Rattle.mem_machine.specs.Local.{VisitState, visit_state, MakesAs}
 use Rattle.mem_reclaim.specs.Moves.{Leads}
 use Rattle.mem_reclaim.specs.Passes.{Reclaims}
 use Rattle.mem_reclaim.specs.Staying.{Keeps, MissedAll}
-use Rattle.mem_alloc.specs.Stepping.{Course, BySteps, course}
+use Rattle.mem_alloc.specs.Stepping.{Transition, BySteps, transition}
 use Rattle.mem_alloc.specs.Rounds.{FailsInRounds, GivesInRound, MakesRound, SucceedsInRounds}
 use Rattle.mem_alloc.proofs.Lowering.{Lowers, lowers_none, lowers_both, keeps_lower}
 use Rattle.mem_machine.proofs.Followed.{makes_both, makes_none}
@@ -47,21 +47,21 @@ spares_reclaim : (t : KnownTable) (m n : KnownMachine) (c : KnownCpu) → Keeps 
 spares_reclaim t m n c keeps = record { lowers = keeps_lower t m n keeps; killed = keeps.killed; stock_seat = keeps.stock_seat; cpu = refl }
 
 -- a try that fails keeps this
-abbrev pub FailureSpares : KnownTable → (Course VisitState → Type 0) → Type 0
+abbrev pub FailureSpares : KnownTable → (Transition VisitState → Type 0) → Type 0
 FailureSpares t Fails =
-    (m n : KnownMachine) (c d : KnownCpu) (steps : Run) → Fails (course t (visit_state m c) steps (visit_state n d)) → Spares t m c n d
+    (m n : KnownMachine) (c d : KnownCpu) (steps : Run) → Fails (transition t (visit_state m c) steps (visit_state n d)) → Spares t m c n d
 
-module _ (t : KnownTable) (want : ℕ) (Fails : Course VisitState → Type 0) (failure : FailureSpares t Fails) where
+module _ (t : KnownTable) (want : ℕ) (Fails : Transition VisitState → Type 0) (failure : FailureSpares t Fails) where
   -- a round in which the try fails keeps it too
   round_spares : (given : ℕ) (m n : KnownMachine) (c d : KnownCpu) (steps : Run)
-      → MakesRound want given Fails (course t (visit_state m c) steps (visit_state n d)) → Spares t m c n d
+      → MakesRound want given Fails (transition t (visit_state m c) steps (visit_state n d)) → Spares t m c n d
   round_spares given m n c d steps h =
       spares_both t m h.reclaimed n c c d (spares_reclaim t m h.reclaimed c h.keeps)
       (failure h.reclaimed n c d h.trying h.tries)
 
   -- all such rounds keep it too
   pub fails_spare : (rounds : ℕ) (m n : KnownMachine) (c d : KnownCpu) (steps : Run)
-      → FailsInRounds rounds want Fails (course t (visit_state m c) steps (visit_state n d)) → Spares t m c n d
+      → FailsInRounds rounds want Fails (transition t (visit_state m c) steps (visit_state n d)) → Spares t m c n d
   fails_spare zero m n c d steps h = spares_same t m n c d h.machine h.cpu
   fails_spare (suc more) m n c d steps (inl last) = round_spares 0 m n c d steps last
   fails_spare (suc more) m n c d steps (inr h) =
@@ -70,15 +70,15 @@ module _ (t : KnownTable) (want : ℕ) (Fails : Course VisitState → Type 0) (f
       (fails_spare more x.machine n x.cpu d h.later h.second)
 
   -- if the try succeeds in a round, this was kept until then
-  pub record InTheEnd (Succeeds : Course VisitState → Type 0) (m : KnownMachine) (c : KnownCpu) (n : VisitState) : Type 0 where
+  pub record InTheEnd (Succeeds : Transition VisitState → Type 0) (m : KnownMachine) (c : KnownCpu) (n : VisitState) : Type 0 where
     pub before : KnownMachine
     pub cpu : KnownCpu
     pub trying : Run
     pub spares : Spares t m c before cpu
-    pub succeeds : Succeeds (course t (visit_state before cpu) trying n)
+    pub succeeds : Succeeds (transition t (visit_state before cpu) trying n)
 
-  pub in_the_end : (Succeeds : Course VisitState → Type 0) (rounds : ℕ) (m : KnownMachine) (c : KnownCpu) (n : VisitState) (steps : Run)
-      → SucceedsInRounds rounds want Succeeds Fails (course t (visit_state m c) steps n) → InTheEnd Succeeds m c n
+  pub in_the_end : (Succeeds : Transition VisitState → Type 0) (rounds : ℕ) (m : KnownMachine) (c : KnownCpu) (n : VisitState) (steps : Run)
+      → SucceedsInRounds rounds want Succeeds Fails (transition t (visit_state m c) steps n) → InTheEnd Succeeds m c n
   in_the_end Succeeds zero m c n steps h = absurd h
   in_the_end Succeeds (suc more) m c n steps (inl h) = record {
     before = h.1.reclaimed;
@@ -102,18 +102,18 @@ module _ (t : KnownTable) (want : ℕ) (Fails : Course VisitState → Type 0) (f
 -- ---- the rounds of a loop
 
 -- this many rounds were made in which the try failed, so the result of the remaining rounds is the result of all
-pub record RoundsSoFar (t : KnownTable) (want : ℕ) (Fails : Course VisitState → Type 0) (Succeeds : ℕ → Course VisitState → Type 0)
+pub record RoundsSoFar (t : KnownTable) (want : ℕ) (Fails : Transition VisitState → Type 0) (Succeeds : ℕ → Transition VisitState → Type 0)
     (m : KnownMachine) (c : KnownCpu) (made : ℕ) (now : KnownMachine) (d : KnownCpu) : Type 0 where
   pub steps : Run
-  pub fails : (rest : Run) (n : VisitState) → FailsInRounds (16 - made) want Fails (course t (visit_state now d) rest n)
-      → FailsInRounds 16 want Fails (course t (visit_state m c) (steps ++ rest) n)
+  pub fails : (rest : Run) (n : VisitState) → FailsInRounds (16 - made) want Fails (transition t (visit_state now d) rest n)
+      → FailsInRounds 16 want Fails (transition t (visit_state m c) (steps ++ rest) n)
   pub succeeds : (k : ℕ) (rest : Run) (n : VisitState)
-      → SucceedsInRounds (16 - made) want (Succeeds k) Fails (course t (visit_state now d) rest n)
-      → SucceedsInRounds 16 want (Succeeds k) Fails (course t (visit_state m c) (steps ++ rest) n)
+      → SucceedsInRounds (16 - made) want (Succeeds k) Fails (transition t (visit_state now d) rest n)
+      → SucceedsInRounds 16 want (Succeeds k) Fails (transition t (visit_state m c) (steps ++ rest) n)
   pub runs : MakesAs t c.number (visit_state m c) steps (visit_state now d)
   pub spares : Spares t m c now d
 
-module _ (t : KnownTable) (want : ℕ) (Fails : Course VisitState → Type 0) (Succeeds : ℕ → Course VisitState → Type 0)
+module _ (t : KnownTable) (want : ℕ) (Fails : Transition VisitState → Type 0) (Succeeds : ℕ → Transition VisitState → Type 0)
     (m : KnownMachine) (c : KnownCpu) where
   pub rounds_none : RoundsSoFar t want Fails Succeeds m c 0 m c
   rounds_none = record {
@@ -129,11 +129,11 @@ module _ (t : KnownTable) (want : ℕ) (Fails : Course VisitState → Type 0) (S
     pub rounds_done : 16 ≤ made → BySteps t (FailsInRounds 16 want Fails) (visit_state m c) (visit_state now d)
     rounds_done all =
         let e : 0 ≡ 16 - made = omega (arith, all) in
-        let none : FailsInRounds 0 want Fails (course t (visit_state now d) [] (visit_state now d)) =
+        let none : FailsInRounds 0 want Fails (transition t (visit_state now d) [] (visit_state now d)) =
         record { machine = refl; cpu = refl; steps_are = refl } in record {
           steps = so.steps ++ [];
           does = so.fails [] (visit_state now d)
-              (subst (λ (k : ℕ). FailsInRounds k want Fails (course t (visit_state now d) [] (visit_state now d))) e none);
+              (subst (λ (k : ℕ). FailsInRounds k want Fails (transition t (visit_state now d) [] (visit_state now d))) e none);
           makes = subst (λ (r : Run). MakesAs t c.number (visit_state m c) r (visit_state now d)) (sym (append-nil so.steps)) so.runs;
         }
 
@@ -147,8 +147,8 @@ module _ (t : KnownTable) (want : ℕ) (Fails : Course VisitState → Type 0) (S
       abbrev first : Run
       first = leads.steps ++ trying
 
-      round : (Tries : Course VisitState → Type 0) → Tries (course t (visit_state x d) trying (visit_state then e))
-          → MakesRound want given Tries (course t (visit_state now d) first (visit_state then e))
+      round : (Tries : Transition VisitState → Type 0) → Tries (transition t (visit_state x d) trying (visit_state then e))
+          → MakesRound want given Tries (transition t (visit_state now d) first (visit_state then e))
       round Tries does = record {
         reclaimed = x;
         reclaiming = leads.steps;
@@ -169,29 +169,29 @@ module _ (t : KnownTable) (want : ℕ) (Fails : Course VisitState → Type 0) (S
           (makes_both t d.number leads.steps trying (visit_state now d) (visit_state x d) (visit_state then e) (leads.moves.runs d) tries))
 
       -- in which it succeeded
-      pub rounds_succeed : (k : ℕ) → Succeeds k (course t (visit_state x d) trying (visit_state then e))
+      pub rounds_succeed : (k : ℕ) → Succeeds k (transition t (visit_state x d) trying (visit_state then e))
           → BySteps t (SucceedsInRounds 16 want (Succeeds k) Fails) (visit_state m c) (visit_state then e)
       rounds_succeed k does = record {
         steps = so.steps ++ first;
         does = so.succeeds k first (visit_state then e)
-            (subst (λ (j : ℕ). SucceedsInRounds j want (Succeeds k) Fails (course t (visit_state now d) first (visit_state then e))) next_left
+            (subst (λ (j : ℕ). SucceedsInRounds j want (Succeeds k) Fails (transition t (visit_state now d) first (visit_state then e))) next_left
             (inl (given, round (Succeeds k) does)));
         makes = runs_on;
       }
 
-      module _ (does : Fails (course t (visit_state x d) trying (visit_state then e))) where
+      module _ (does : Fails (transition t (visit_state x d) trying (visit_state then e))) where
         -- the try failed, and no page was freed
         pub rounds_end : given ≡ 0 → BySteps t (FailsInRounds 16 want Fails) (visit_state m c) (visit_state then e)
         rounds_end none =
-            let last : FailsInRounds (suc (16 - (made + 1))) want Fails (course t (visit_state now d) first (visit_state then e)) =
-            inl (subst (λ (k : ℕ). MakesRound want k Fails (course t (visit_state now d) first (visit_state then e))) none (round Fails does)) in record {
+            let last : FailsInRounds (suc (16 - (made + 1))) want Fails (transition t (visit_state now d) first (visit_state then e)) =
+            inl (subst (λ (k : ℕ). MakesRound want k Fails (transition t (visit_state now d) first (visit_state then e))) none (round Fails does)) in record {
               steps = so.steps ++ first;
               does = so.fails first (visit_state then e)
-                  (subst (λ (j : ℕ). FailsInRounds j want Fails (course t (visit_state now d) first (visit_state then e))) next_left last);
+                  (subst (λ (j : ℕ). FailsInRounds j want Fails (transition t (visit_state now d) first (visit_state then e))) next_left last);
               makes = runs_on;
             }
 
-        gave_pages : given ≢ 0 → GivesInRound want Fails (course t (visit_state now d) first (visit_state then e))
+        gave_pages : given ≢ 0 → GivesInRound want Fails (transition t (visit_state now d) first (visit_state then e))
         gave_pages gave = record { given = given; some = omega (arith, gave); round = round Fails does }
 
         -- the try failed, and pages were freed
@@ -199,17 +199,17 @@ module _ (t : KnownTable) (want : ℕ) (Fails : Course VisitState → Type 0) (S
         rounds_more gave spares = record {
           steps = so.steps ++ first;
           fails = λ rest n h.
-              let one : FailsInRounds (suc (16 - (made + 1))) want Fails (course t (visit_state now d) (first ++ rest) n) =
+              let one : FailsInRounds (suc (16 - (made + 1))) want Fails (transition t (visit_state now d) (first ++ rest) n) =
               inr (record { between = visit_state then e; earlier = first; later = rest; first = gave_pages gave; second = h; steps_are = refl }) in
-              subst (λ (r : Run). FailsInRounds 16 want Fails (course t (visit_state m c) r n)) (sym (append_assoc so.steps first rest))
+              subst (λ (r : Run). FailsInRounds 16 want Fails (transition t (visit_state m c) r n)) (sym (append_assoc so.steps first rest))
               (so.fails (first ++ rest) n
-              (subst (λ (j : ℕ). FailsInRounds j want Fails (course t (visit_state now d) (first ++ rest) n)) next_left one));
+              (subst (λ (j : ℕ). FailsInRounds j want Fails (transition t (visit_state now d) (first ++ rest) n)) next_left one));
           succeeds = λ k rest n h.
-              let one : SucceedsInRounds (suc (16 - (made + 1))) want (Succeeds k) Fails (course t (visit_state now d) (first ++ rest) n) =
+              let one : SucceedsInRounds (suc (16 - (made + 1))) want (Succeeds k) Fails (transition t (visit_state now d) (first ++ rest) n) =
               inr (record { between = visit_state then e; earlier = first; later = rest; first = gave_pages gave; second = h; steps_are = refl }) in
-              subst (λ (r : Run). SucceedsInRounds 16 want (Succeeds k) Fails (course t (visit_state m c) r n)) (sym (append_assoc so.steps first rest))
+              subst (λ (r : Run). SucceedsInRounds 16 want (Succeeds k) Fails (transition t (visit_state m c) r n)) (sym (append_assoc so.steps first rest))
               (so.succeeds k (first ++ rest) n
-              (subst (λ (j : ℕ). SucceedsInRounds j want (Succeeds k) Fails (course t (visit_state now d) (first ++ rest) n)) next_left one));
+              (subst (λ (j : ℕ). SucceedsInRounds j want (Succeeds k) Fails (transition t (visit_state now d) (first ++ rest) n)) next_left one));
           runs = runs_on;
           spares = spares_both t m now then c d e so.spares
               (spares_both t now x then d d e (spares_reclaim t now x d keeps) spares);

@@ -22,7 +22,7 @@ use Rattle.mem_machine.specs.Paying.{HasRoomFor}
 use Rattle.mem_machine.specs.Steps.{over_steps, drain_list_steps}
 use Rattle.mem_alloc.specs.declared.faults.AllocFault.{AllocFault}
 use Rattle.mem_alloc.specs.declared.faults.AllocFault.TheVariants.{Over, NoFrames, RequesterKilled}
-use Rattle.mem_alloc.specs.Stepping.{BySteps, Course, course}
+use Rattle.mem_alloc.specs.Stepping.{BySteps, Transition, transition}
 use Rattle.mem_alloc.specs.Room.{AfterRoom, IsRefusedFor, TellsRoom}
 use Rattle.mem_alloc.specs.Blocks.{AllocatesBlock, ChargesBlock, FindsNoBlock, MayHaveBlock, RetriesBlock}
 use Rattle.mem_alloc.specs.Blocks.{TakesAfterDrain, TakesFreeBlock, TakesInRounds, TakesOrReclaims}
@@ -54,7 +54,7 @@ by_none {t = t} p g k a b e is steps = subst (λ (x : TakeFault). MakesAs t p a 
 
 module _ (t : KnownTable) (g k : ℕ) (c : KnownCpu) (m x : KnownMachine) (so_far : RoomSoFar t g (2 ^ k) c m x) (y : KnownCpu) (mine : y ≡ c)
     (n : KnownMachine) (d : KnownCpu) where
-  does_here : (Does : Course VisitState → Type 0) → BySteps t Does (visit_state x y) (visit_state n d) → BySteps t (AfterRoom g (2 ^ k) Does) (visit_state m c) (visit_state n d)
+  does_here : (Does : Transition VisitState → Type 0) → BySteps t Does (visit_state x y) (visit_state n d) → BySteps t (AfterRoom g (2 ^ k) Does) (visit_state m c) (visit_state n d)
   does_here Does b = so_far_does t g (2 ^ k) c m x so_far Does n d (subst (λ (e : KnownCpu). BySteps t Does (visit_state x e) (visit_state n d)) mine b)
 
   pub so_far_takes : (head : ℕ) → TakesBlock g k head x n → d ≡ y → MakesAs t y.number (visit_state x y) (taken_steps g k head) (visit_state n d)
@@ -189,7 +189,7 @@ taken_opens : (m n : KnownMachine) (g k head : ℕ) → TakesBlock g k head m n 
 taken_opens m n g k head takes = ap (λ (y : KnownMachine). y.frame_seat.view.opened) takes.machine
 
 rounds_open : (t : KnownTable) (g k : ℕ) (r : Result ℕ AllocFault) (m n : KnownMachine) (c d : KnownCpu) (steps : Run)
-    → TakesInRounds g k r (course t (visit_state m c) steps (visit_state n d)) → n.frame_seat.view.opened ≡ m.frame_seat.view.opened
+    → TakesInRounds g k r (transition t (visit_state m c) steps (visit_state n d)) → n.frame_seat.view.opened ≡ m.frame_seat.view.opened
 rounds_open t g k (Ok head) m n c d steps h =
     let last = in_the_end t (2 ^ k) (FindsNoBlock g k) (none_spares t g k) (TakesFreeBlock g k head) 16 m c (visit_state n d) steps h in
     taken_opens last.before n g k head last.succeeds.takes ∙ last.spares.lowers.opened
@@ -227,7 +227,7 @@ module _ (t : KnownTable) (g k : ℕ) (m x n : KnownMachine) (c y d : KnownCpu) 
       drained = x;
       later = b.steps;
       drains = given;
-      takes = subst (λ (z : KnownCpu). TakesOrReclaims g k r (course t (visit_state x z) b.steps (visit_state n d))) (sym stays) b.does;
+      takes = subst (λ (z : KnownCpu). TakesOrReclaims g k r (transition t (visit_state x z) b.steps (visit_state n d))) (sym stays) b.does;
       steps_are = refl;
     };
     makes = then b.steps b.makes;
@@ -275,13 +275,13 @@ module _ (t : KnownTable) (g k : ℕ) (m x n : KnownMachine) (c y d : KnownCpu) 
 -- ---- the whole allocation
 
 -- after the list was drained no limit is in the way, and nobody is killed
-no_over : (g k over : ℕ) (way : Course VisitState) → TakesAfterDrain g k (Err (Over over)) way → ⊥
+no_over : (g k over : ℕ) (way : Transition VisitState) → TakesAfterDrain g k (Err (Over over)) way → ⊥
 no_over g k over way h = elim h.takes [
   | inl none ↦ none
   | inr rounds ↦ rounds.second
 ]
 
-no_kill : (g k : ℕ) (way : Course VisitState) → TakesAfterDrain g k (Err RequesterKilled) way → ⊥
+no_kill : (g k : ℕ) (way : Transition VisitState) → TakesAfterDrain g k (Err RequesterKilled) way → ⊥
 no_kill g k way h = elim h.takes [
   | inl none ↦ none
   | inr rounds ↦ rounds.second

@@ -12,26 +12,26 @@ use Rattle.mem_machine.specs.Steps.{drain_list_steps}
 use Rattle.mem_reclaim.specs.Rounds.{max_rounds}
 use Rattle.mem_alloc.specs.declared.faults.AllocFault.{AllocFault}
 use Rattle.mem_alloc.specs.declared.faults.AllocFault.TheVariants.{Over, NoFrames, RequesterKilled}
-use Rattle.mem_alloc.specs.Stepping.{Course, InTurn, course}
+use Rattle.mem_alloc.specs.Stepping.{Transition, InTurn, transition}
 use Rattle.mem_alloc.specs.Room.{AfterRoom, IsRefusedFor}
 use Rattle.mem_alloc.specs.Rounds.{FailsInRounds, SucceedsInRounds}
 use Rattle.mem_alloc.specs.Frames.{ForLiving, RefusesKilled}
 
 -- the group is charged for a free block and gets it
-pub record TakesFreeBlock (group order head : ℕ) (way : Course VisitState) : Type 0 where
+pub record TakesFreeBlock (group order head : ℕ) (way : Transition VisitState) : Type 0 where
   pub takes : TakesBlock group order head way.before.machine way.after.machine
   pub cpu : way.after.cpu ≡ way.before.cpu
   pub steps_are : way.steps ≡ taken_steps group order head
 
 -- no block is free: the pages were charged and uncharged
-pub record FindsNoBlock (group order : ℕ) (way : Course VisitState) : Type 0 where
+pub record FindsNoBlock (group order : ℕ) (way : Transition VisitState) : Type 0 where
   pub none : TakesNoBlock group order way.before.machine way.after.machine
   pub cpu : way.after.cpu ≡ way.before.cpu
   pub steps_are : way.steps ≡ unplaced_steps group order
 
 -- As soon as every limit has room, the block is charged and taken, or no block is free. Otherwise the charge is refused
 -- for good.
-abbrev pub ChargesBlock : ℕ → ℕ → Result ℕ AllocFault → Course VisitState → Type 0
+abbrev pub ChargesBlock : ℕ → ℕ → Result ℕ AllocFault → Transition VisitState → Type 0
 ChargesBlock group order (Ok head) way = AfterRoom group (2 ^ order) (TakesFreeBlock group order head) way
 ChargesBlock group order (Err (Over over)) way = IsRefusedFor group (2 ^ order) (Over over) way
 ChargesBlock group order (Err NoFrames) way = AfterRoom group (2 ^ order) (FindsNoBlock group order) way
@@ -44,34 +44,34 @@ pub record MayHaveBlock (machine : KnownMachine) (group order : ℕ) : Type 0 wh
 
 -- rounds of reclaim, each of which wants the pages of the block: in one of them the block is taken, or in none is any
 -- block free
-abbrev pub TakesInRounds : ℕ → ℕ → Result ℕ AllocFault → Course VisitState → Type 0
+abbrev pub TakesInRounds : ℕ → ℕ → Result ℕ AllocFault → Transition VisitState → Type 0
 TakesInRounds group order (Ok head) way =
     SucceedsInRounds max_rounds (2 ^ order) (TakesFreeBlock group order head) (FindsNoBlock group order) way
 TakesInRounds group order (Err NoFrames) way = FailsInRounds max_rounds (2 ^ order) (FindsNoBlock group order) way
 TakesInRounds group order (Err other) way = ⊥
 
 -- a free block is taken at once; or none is free, and this is the result of the rounds of reclaim that follow
-abbrev pub TakesOrReclaims : ℕ → ℕ → Result ℕ AllocFault → Course VisitState → Type 0
+abbrev pub TakesOrReclaims : ℕ → ℕ → Result ℕ AllocFault → Transition VisitState → Type 0
 TakesOrReclaims group order answer way =
     IsOkAnd answer (λ head. TakesFreeBlock group order head way)
     ⊎ InTurn (FindsNoBlock group order) (TakesInRounds group order answer) way
 
 -- all frames of the CPU's list are returned to the zone, and then the block is taken
-pub record TakesAfterDrain (group order : ℕ) (answer : Result ℕ AllocFault) (way : Course VisitState) : Type 0 where
+pub record TakesAfterDrain (group order : ℕ) (answer : Result ℕ AllocFault) (way : Transition VisitState) : Type 0 where
   pub drained : KnownMachine
   pub later : Run
   pub drains : TakesManyBack way.before.cpu.list way.before (visit_state drained way.after.cpu)
-  pub takes : TakesOrReclaims group order answer (course way.table (visit_state drained way.after.cpu) later way.after)
+  pub takes : TakesOrReclaims group order answer (transition way.table (visit_state drained way.after.cpu) later way.after)
   pub steps_are : way.steps ≡ drain_list_steps way.before.cpu.number way.before.cpu.list ++ later
 
 -- no block is free at first, and this is the result after the list is drained
-abbrev pub RetriesBlock : ℕ → ℕ → Result ℕ AllocFault → Course VisitState → Type 0
+abbrev pub RetriesBlock : ℕ → ℕ → Result ℕ AllocFault → Transition VisitState → Type 0
 RetriesBlock group order answer way =
     InTurn (ChargesBlock group order (Err NoFrames)) (TakesAfterDrain group order answer) way
 
 -- Allocates a block for the group, or says why not. The group may have been killed before. Its charge may be refused
 -- for good. Or no block is free, even after rounds of reclaim.
-abbrev pub AllocatesBlock : ℕ → ℕ → Result ℕ AllocFault → Course VisitState → Type 0
+abbrev pub AllocatesBlock : ℕ → ℕ → Result ℕ AllocFault → Transition VisitState → Type 0
 AllocatesBlock group order (Ok head) way =
     ForLiving group (ChargesBlock group order (Ok head)) way ⊎ ForLiving group (RetriesBlock group order (Ok head)) way
 AllocatesBlock group order (Err (Over over)) way = ForLiving group (ChargesBlock group order (Err (Over over))) way

@@ -13,7 +13,7 @@ use Rattle.mem_reclaim.specs.declared.sets.Killed.{Killed}
 use Rattle.mem_reclaim.specs.Killing.{IsKilledBy, OnlyDrains, OnlyLetsGo, with_all_killed}
 use Rattle.mem_reclaim.specs.Sets.{kill_set}
 use Rattle.mem_reclaim.specs.Victim.{IsVictim}
-use Rattle.mem_alloc.specs.Stepping.{Course, InTurn, MachineStays, course}
+use Rattle.mem_alloc.specs.Stepping.{Transition, InTurn, MachineStays, transition}
 
 -- the most pages of one charge for which groups are killed: those of an order of 3
 abbrev pub most_killed_for : ℕ
@@ -43,7 +43,7 @@ pub record IsWanting (requester : Option ℕ) (limited pages : ℕ) (machine : K
 -- One kill. The pages are still wanted, the machine is consistent, and its charges add up. The victim of the group is
 -- killed with all groups that die with it. These are marked as killed. No stock is filled or changes its group, and
 -- some kept units are released.
-pub record KillsOne (requester : Option ℕ) (limited pages : ℕ) (killed : Killed) (way : Course KnownMachine) : Type 0 where
+pub record KillsOne (requester : Option ℕ) (limited pages : ℕ) (killed : Killed) (way : Transition KnownMachine) : Type 0 where
   pub wanting : IsWanting requester limited pages way.before
   pub chosen : IsVictim way.before limited (Some killed.victim)
   pub words : Words
@@ -56,7 +56,7 @@ pub record KillsOne (requester : Option ℕ) (limited pages : ℕ) (killed : Kil
   pub keeps : OnlyLetsGo way.table way.before way.after
 
 -- these victims are killed like this, one after the other
-abbrev pub KillsEach : Option ℕ → ℕ → ℕ → List Killed → Course KnownMachine → Type 0
+abbrev pub KillsEach : Option ℕ → ℕ → ℕ → List Killed → Transition KnownMachine → Type 0
 KillsEach requester limited pages [] way = MachineStays way
 KillsEach requester limited pages (killed ∷ others) way =
     InTurn (KillsOne requester limited pages killed) (KillsEach requester limited pages others) way
@@ -64,16 +64,16 @@ KillsEach requester limited pages (killed ∷ others) way =
 -- One `oom` is noted at the group. Then victims of it are killed, one after the other, each with all groups that die
 -- with it. This ends when its limit has room for this many pages, when the group that asks for them is killed, or when
 -- no victim is left.
-pub record KillsUntilRoom (requester : Option ℕ) (limited pages : ℕ) (way : Course KnownMachine) : Type 0 where
+pub record KillsUntilRoom (requester : Option ℕ) (limited pages : ℕ) (way : Transition KnownMachine) : Type 0 where
   pub victims : List Killed
   pub killing : Run
   pub notes : MakesForAny way.table way.before (note_oom_steps limited) (with_oom_noted_at way.before limited)
   pub kills : KillsEach requester limited pages victims
-      (course way.table (with_oom_noted_at way.before limited) killing way.after)
+      (transition way.table (with_oom_noted_at way.before limited) killing way.after)
   pub ended : IsWanting requester limited pages way.after → IsVictim way.after limited None
   pub steps_are : way.steps ≡ note_oom_steps limited ++ killing
 
 -- if the group's limit has no room for this many pages, victims of the group are killed; else nothing is done
-pub record KillsFor (requester : Option ℕ) (limited pages : ℕ) (way : Course KnownMachine) : Type 0 where
+pub record KillsFor (requester : Option ℕ) (limited pages : ℕ) (way : Transition KnownMachine) : Type 0 where
   pub room : has_room_at way.before.ledger limited pages ≡ true → MachineStays way
   pub over : has_room_at way.before.ledger limited pages ≡ false → KillsUntilRoom requester limited pages way

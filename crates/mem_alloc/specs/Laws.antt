@@ -22,7 +22,7 @@ use Rattle.mem_reclaim.specs.Victim.{IsVictim}
 use Rattle.mem_alloc.specs.Frames.{HasNoFreeFrame, LendsBatch}
 use Rattle.mem_alloc.specs.Kills.{IsAlive, KillsFor, has_room_at}
 use Rattle.mem_alloc.specs.NoRash.{IsChargedBelow, NoRashKill, has_oom_note}
-use Rattle.mem_alloc.specs.Stepping.{Course}
+use Rattle.mem_alloc.specs.Stepping.{Transition}
 
 -- By these first steps of a call, everything else was tried for the limit of the group `limited`, which has no room.
 -- The steps lead to a consistent machine. One of them notes `oom` there, and each stock of the subtree is drained. For
@@ -73,12 +73,12 @@ ChargesKillLast = (group pages : ℕ) → KillsComeLast (IsChargedBelow group pa
 -- is left
 abbrev pub KillsEndInTime : Type 0
 KillsEndInTime =
-    (requester : Option ℕ) (limited pages : ℕ) (way : Course KnownMachine) → KillsFor requester limited pages way
+    (requester : Option ℕ) (limited pages : ℕ) (way : Transition KnownMachine) → KillsFor requester limited pages way
     → (has_room_at way.after.ledger limited pages ≡ true)
     ⊎ ((¬ IsAlive requester way.after) ⊎ IsVictim way.after limited None)
 
 -- a refill adds a whole batch, or no frame is free after it
 abbrev pub RefillsAreWhole : Type 0
 RefillsAreWhole =
-    (batch : ℕ) (way : Course VisitState) → LendsBatch batch way
+    (batch : ℕ) (way : Transition VisitState) → LendsBatch batch way
     → (length way.after.cpu.list ≡ length way.before.cpu.list + batch) ⊎ HasNoFreeFrame way.after

@@ -24,7 +24,7 @@ use Rattle.mem_reclaim.specs.Sets.{IsHead, kill_set}
 use Rattle.mem_reclaim.specs.Staying.{MissedAll}
 use Rattle.mem_reclaim.specs.Victim.{IsVictim}
 use Rattle.mem_alloc.specs.Kills.{has_room_at, most_killed_for}
-use Rattle.mem_alloc.specs.Stepping.{CountsMisses, Course, course}
+use Rattle.mem_alloc.specs.Stepping.{CountsMisses, Transition, transition}
 
 -- the step notes that only kills are left at the group's limit (`oom`)
 abbrev pub is_oom_note : ℕ → Action → Bool
@@ -38,7 +38,7 @@ has_oom_note group steps = list_any (λ entry. is_oom_note group entry.0.action)
 -- What these steps of a call say of the machine that they left. Each frame's misses are those from before the call and
 -- those among the steps. Each unit that is kept was kept for the same group when the call began, and is as dirty as it
 -- was then.
-pub record IsLeftBySteps (way : Course KnownMachine) : Type 0 where
+pub record IsLeftBySteps (way : Transition KnownMachine) : Type 0 where
   pub misses : CountsMisses way
   pub owners : (frame : ℕ) → HeadsKeptUnit way.after frame
       → owner_of (home_of way.after.links frame) ≡ owner_of (home_of way.before.links frame)
@@ -57,7 +57,7 @@ pub record IsChargedBelow (group pages : ℕ) (groups : List Group) (limited nee
 -- drained. Since the call began, a freeze of each clean unit that the subtree still keeps missed. `killed` is the
 -- victim for this limit, with its head. The machine is consistent, its charges add up, and it is the one that the steps
 -- left.
-pub record MayKill (MayAsk : List Group → ℕ → ℕ → Type 0) (way : Course KnownMachine) (killed : Killed) : Type 0 where
+pub record MayKill (MayAsk : List Group → ℕ → ℕ → Type 0) (way : Transition KnownMachine) (killed : Killed) : Type 0 where
   pub limited : ℕ
   pub need : ℕ
   pub asked : MayAsk way.after.ledger.groups limited need
@@ -91,7 +91,7 @@ pub record MayKillAfter (table : KnownTable) (MayAsk : List Group → ℕ → �
   pub later : List ℕ
   pub steps_are : before ≡ tried ++ since
   pub leads : IsLocalRun cpu.number (local_of table start cpu) tried (local_of table now cpu)
-  pub may : MayKill MayAsk (course table start tried now) killed
+  pub may : MayKill MayAsk (transition table start tried now) killed
   pub at_once : (since ≡ []) ⊎ (begins_with_kill since ≡ true)
   pub set_is : kill_set now killed ≡ kills_in since ++ group ∷ left
   pub others_die : kills_in rest ≡ left ++ later

@@ -17,7 +17,7 @@ use Rattle.mem_reclaim.specs.Rounds.{ReclaimsRounds, max_rounds, pages_missing}
 use Rattle.mem_reclaim.specs.Staying.{Keeps, MissedAll}
 use Rattle.mem_alloc.specs.declared.faults.AllocFault.{AllocFault}
 use Rattle.mem_alloc.specs.declared.faults.AllocFault.TheVariants.{Over, NoFrames, RequesterKilled}
-use Rattle.mem_alloc.specs.Stepping.{Course, InTurn, OfMachineAlone, MachineStays, course}
+use Rattle.mem_alloc.specs.Stepping.{Transition, InTurn, OfMachineAlone, MachineStays, transition}
 -- what is killed, and whether there is room
 pub use Rattle.mem_alloc.specs.Kills.{IsWanting, KillsFor, has_room_at, most_killed_for}
 
@@ -41,7 +41,7 @@ with_max_noted_at machine group pages = record machine {
 
 -- It is noted that this many pages were about to take the group's usage over its limit. Then the stocks of its subtree
 -- are drained by these steps, whichever CPU holds the lock.
-pub record ClearsBelow (limited pages : ℕ) (way : Course KnownMachine) : Type 0 where
+pub record ClearsBelow (limited pages : ℕ) (way : Transition KnownMachine) : Type 0 where
   pub drains : List Drain
   pub all : DrainsAllBelow limited way.table.cpus drains (with_max_noted_at way.before limited pages) way.after
   pub drained : AreDrained limited way.table.cpus way.after
@@ -56,7 +56,7 @@ ReclaimsBefore (Some limit) limited pages = ReclaimsRounds limited (pages_missin
 
 -- Clean units of the group's subtree are freed in rounds, `given` pages in all, until its limit has room for this many
 -- pages. If it still has none, each clean unit that the subtree still keeps was tried and missed.
-pub record ReclaimsFor (limited pages : ℕ) (way : Course KnownMachine) : Type 0 where
+pub record ReclaimsFor (limited pages : ℕ) (way : Transition KnownMachine) : Type 0 where
   pub given : ℕ
   pub reclaims : ReclaimsBefore (limit_of way.before.ledger.groups limited) limited pages
       (progress given way.before way.steps way.after)
@@ -66,13 +66,13 @@ pub record ReclaimsFor (limited pages : ℕ) (way : Course KnownMachine) : Type 
 
 -- what is done if reclaim makes no room: victims are killed for up to `most_killed_for` pages; for more, nobody is
 -- killed
-pub record KillsForFew (requester limited pages : ℕ) (way : Course KnownMachine) : Type 0 where
+pub record KillsForFew (requester limited pages : ℕ) (way : Transition KnownMachine) : Type 0 where
   pub few : pages ≤ most_killed_for → KillsFor (Some requester) limited pages way
   pub many : most_killed_for < pages → MachineStays way
 
 -- The limit of the group `limited` had no room for this many pages. That is noted there as `max`, the stocks of its
 -- subtree are drained, its units are reclaimed in rounds, and then its victims are killed.
-abbrev pub RelievesLimit : ℕ → ℕ → ℕ → Course KnownMachine → Type 0
+abbrev pub RelievesLimit : ℕ → ℕ → ℕ → Transition KnownMachine → Type 0
 RelievesLimit requester limited pages way =
     InTurn (ClearsBelow limited pages) (InTurn (ReclaimsFor limited pages) (KillsForFew requester limited pages)) way
 
@@ -94,36 +94,36 @@ TellsRoom requester limited pages (Err NoFrames) after = ⊥
 -- A charge of this many pages to the group `requester` is refused at the group `limited`, the lowest without room on
 -- its path. Then that limit is relieved, and this is the answer.
 pub record IsRefusedAt (requester limited pages : ℕ) (answer : Result (Unit {0}) AllocFault)
-    (way : Course KnownMachine) : Type 0 where
+    (way : Transition KnownMachine) : Type 0 where
   pub lowest : LacksRoom way.before requester pages limited
   pub relieving : Run
-  pub relieves : RelievesLimit requester limited pages (course way.table way.before relieving way.after)
+  pub relieves : RelievesLimit requester limited pages (transition way.table way.before relieving way.after)
   pub room : TellsRoom requester limited pages answer way.after
   pub steps_are : way.steps ≡ over_steps requester pages limited ++ relieving
 
 -- a charge is refused at each of these groups, one after the other, and each limit then gets room for the pages
-abbrev pub MakesRoom : ℕ → List ℕ → ℕ → Course KnownMachine → Type 0
+abbrev pub MakesRoom : ℕ → List ℕ → ℕ → Transition KnownMachine → Type 0
 MakesRoom requester [] pages way = MachineStays way
 MakesRoom requester (limited ∷ others) pages way =
     InTurn (IsRefusedAt requester limited pages (Ok tt)) (MakesRoom requester others pages) way
 
 -- A charge of this many pages to the requester may first be refused at the groups `refused_at`, which then get room.
 -- After that `Does` holds.
-pub record AfterRoom (requester pages : ℕ) (Does : Course VisitState → Type 0) (way : Course VisitState) : Type 0 where
+pub record AfterRoom (requester pages : ℕ) (Does : Transition VisitState → Type 0) (way : Transition VisitState) : Type 0 where
   pub refused_at : List ℕ
   pub cleared : KnownMachine
   pub making : Run
   pub later : Run
-  pub makes : MakesRoom requester refused_at pages (course way.table way.before.machine making cleared)
-  pub does : Does (course way.table (visit_state cleared way.before.cpu) later way.after)
+  pub makes : MakesRoom requester refused_at pages (transition way.table way.before.machine making cleared)
+  pub does : Does (transition way.table (visit_state cleared way.before.cpu) later way.after)
   pub steps_are : way.steps ≡ making ++ later
 
 -- a charge is refused at some group; after that the group still has no room, or the requester was killed: this is the
 -- cause
-abbrev pub IsRefusedAtSome : ℕ → ℕ → AllocFault → Course KnownMachine → Type 0
+abbrev pub IsRefusedAtSome : ℕ → ℕ → AllocFault → Transition KnownMachine → Type 0
 IsRefusedAtSome requester pages cause way = (limited : ℕ) × IsRefusedAt requester limited pages (Err cause) way
 
 -- a charge is refused for good, for this cause; other groups may have refused it before, and then got room
-abbrev pub IsRefusedFor : ℕ → ℕ → AllocFault → Course VisitState → Type 0
+abbrev pub IsRefusedFor : ℕ → ℕ → AllocFault → Transition VisitState → Type 0
 IsRefusedFor requester pages cause way =
     AfterRoom requester pages (OfMachineAlone (IsRefusedAtSome requester pages cause)) way

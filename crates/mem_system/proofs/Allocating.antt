@@ -14,10 +14,10 @@ use Rattle.mem_alloc.specs.Frames.{AllocatesFrame}
 use Rattle.mem_alloc.proofs.CallerLemmas.{frame_over_there}
 use Rattle.mem_system.specs.Allocations.{Allocates, AllocatesAs, FreshOf, outcome_of}
 use Rattle.mem_system.specs.Outcomes.{HasItsGroups, reply_of}
-use Rattle.mem_system.specs.Commands.{BySteps, Course, course}
+use Rattle.mem_system.specs.Commands.{BySteps, Transition, transition}
 use Rattle.mem_system.proofs.Telling.{path_told}
 
-pub allocated : (sizes : Config) (path : List ℕ) (order group : ℕ) (way : Course VisitState) → number_at way.before.machine.ledger.groups path ≡ Some group
+pub allocated : (sizes : Config) (path : List ℕ) (order group : ℕ) (way : Transition VisitState) → number_at way.before.machine.ledger.groups path ≡ Some group
     → order ≤ 10 → (answer : Result ℕ AllocFault) → AllocatesAs sizes group order answer way
     → ((g : ℕ) → answer ≡ Err (Over g) → IsTrue (has_group way.after.machine.ledger.groups g))
     → Allocates sizes path order (reply_of way.after.machine.ledger (outcome_of answer)) way
@@ -60,14 +60,14 @@ block_fresh l order (Err RequesterKilled) fresh block none = none
 pub over_is_there : (t : KnownTable) (sizes : Config) (group : ℕ) (m n : KnownMachine) (c d : KnownCpu) (answer : Result ℕ AllocFault)
     → BySteps t (AllocatesFrame sizes group answer) (visit_state m c) (visit_state n d) → (g : ℕ) → answer ≡ Err (Over g) → IsTrue (has_group n.ledger.groups g)
 over_is_there t sizes group m n c d answer told g is = frame_over_there t sizes group g m n c d told.steps
-    (subst (λ (r : Result ℕ AllocFault). AllocatesFrame sizes group r (course t (visit_state m c) told.steps (visit_state n d))) is told.does)
+    (subst (λ (r : Result ℕ AllocFault). AllocatesFrame sizes group r (transition t (visit_state m c) told.steps (visit_state n d))) is told.does)
 
 pub frame_allocated : (t : KnownTable) (sizes : Config) (path : List ℕ) (group : ℕ) (m n : KnownMachine) (c d : KnownCpu) (answer : Result ℕ AllocFault)
     → number_at m.ledger.groups path ≡ Some group → BySteps t (AllocatesFrame sizes group answer) (visit_state m c) (visit_state n d)
     → BySteps t (Allocates sizes path 0 (reply_of n.ledger (outcome_of answer))) (visit_state m c) (visit_state n d)
 frame_allocated t sizes path group m n c d answer found told = record {
   steps = told.steps;
-  does = allocated sizes path 0 group (course t (visit_state m c) told.steps (visit_state n d)) found (omega arith) answer
+  does = allocated sizes path 0 group (transition t (visit_state m c) told.steps (visit_state n d)) found (omega arith) answer
       (record { frame = λ same. told.does; block = λ more. absurd (more refl) }) (over_is_there t sizes group m n c d answer told);
   makes = told.makes;
 }

@@ -16,7 +16,7 @@ use Rattle.mem_reclaim.specs.Rounds.{ReclaimsRounds, pages_missing}
 use Rattle.mem_reclaim.specs.Staying.{Keeps, MissedAll}
 use Rattle.step_rules.specs.After.{Run}
 use Rattle.mem_alloc.specs.Kills.{KillsFor}
-use Rattle.mem_alloc.specs.Stepping.{ByStepsOfAny, course}
+use Rattle.mem_alloc.specs.Stepping.{ByStepsOfAny, transition}
 use Rattle.mem_alloc.proofs.Killing.{kills_lower}
 use Rattle.mem_alloc.proofs.NoRash.{all_same}
 use Rattle.mem_system.specs.Leaves.{IsLeafAt}
@@ -54,7 +54,7 @@ pub lowered_groups : (t : KnownTable) (g limit : ℕ) (m n : KnownMachine) → B
     → n.ledger.groups ≡ m.ledger.groups
 lowered_groups t g limit m n b = b.does.keeps.groups ∙ (all_same g t.cpus m b.does.drained b.does.drains b.does.drains_all).groups
 
-usage_visit : (t : KnownTable) (g limit : ℕ) (m n : KnownMachine) (c : KnownCpu) (steps : Run) → LowersUsage g limit (course t m steps n)
+usage_visit : (t : KnownTable) (g limit : ℕ) (m n : KnownMachine) (c : KnownCpu) (steps : Run) → LowersUsage g limit (transition t m steps n)
     → Visits t (visit_state m c) → KeepsVisit t (visit_state m c) (visit_state n c)
 usage_visit t g limit m n c steps h v =
     let x = h.drained in
@@ -141,7 +141,7 @@ limited_by t g of m x n is first last = record {
   steps = set_max_steps g of ++ last.steps;
   does = record {
     lowering = last.steps;
-    keeps = subst (λ (k : KnownMachine). KeepsToLimit g of (course t k last.steps n)) is last.does;
+    keeps = subst (λ (k : KnownMachine). KeepsToLimit g of (transition t k last.steps n)) is last.does;
     steps_are = refl;
   };
   makes = λ c. makes_both t c.number (set_max_steps g of) last.steps (visit_state m c) (visit_state x c) (visit_state n c) (first c)
@@ -154,14 +154,14 @@ pub limited_to : (t : KnownTable) (g limit : ℕ) (of : Option ℕ) (m x n : Kno
     → MakesForAny t m (set_max_steps g of) x → ByStepsOfAny t (LowersAbove g limit) x n
     → ByStepsOfAny t (SetsLimit g of) m n
 limited_to t g limit of m x n some is first last =
-    let keeps = subst (λ (o : Option ℕ). KeepsToLimit g o (course t x last.steps n)) (sym some) last.does in
+    let keeps = subst (λ (o : Option ℕ). KeepsToLimit g o (transition t x last.steps n)) (sym some) last.does in
     limited_by t g of m x n is first (record { steps = last.steps; does = keeps; makes = last.makes })
 
 -- there is none
 pub limited_none : (t : KnownTable) (g : ℕ) (of : Option ℕ) (m x : KnownMachine) → of ≡ None → x ≡ with_limit_of m g of
     → MakesForAny t m (set_max_steps g of) x → ByStepsOfAny t (SetsLimit g of) m x
 limited_none t g of m x none is first =
-    let keeps = subst (λ (o : Option ℕ). KeepsToLimit g o (course t x [] x)) (sym none) (record { machine = refl; steps_are = refl }) in
+    let keeps = subst (λ (o : Option ℕ). KeepsToLimit g o (transition t x [] x)) (sym none) (record { machine = refl; steps_are = refl }) in
     limited_by t g of m x x is first (record { steps = []; does = keeps; makes = λ c. makes_none t c.number (visit_state x c) })
 
 -- ---- a group that is removed

@@ -27,7 +27,7 @@ use Rattle.mem_reclaim.proofs.LettingGo.{quiet_drains}
 use Rattle.mem_alloc.specs.declared.faults.AllocFault.{AllocFault}
 use Rattle.mem_alloc.specs.declared.faults.AllocFault.TheVariants.{Over, NoFrames, RequesterKilled}
 use Rattle.mem_alloc.specs.Kills.{has_room_at}
-use Rattle.mem_alloc.specs.Stepping.{Course, course}
+use Rattle.mem_alloc.specs.Stepping.{Transition, transition}
 use Rattle.mem_alloc.specs.NoRash.{NoRashKill}
 use Rattle.mem_alloc.proofs.NoRash.{Passes, all_same, RashFree, drained_on, drains_pass, keeps_pass, missed_since, passes_both, passes_same, rash_both, rash_quiet, tame_kills}
 use Rattle.mem_alloc.proofs.Missing.{back_calm}
@@ -49,52 +49,52 @@ use Rattle.mem_system.specs.Commands.{Executes}
 
 -- ---- commands that kill nobody
 
-makes_quiet : (path : List ℕ) (said : Reply) (way : Course KnownMachine) → MakesGroup path said way → has_kill way.steps ≡ false
+makes_quiet : (path : List ℕ) (said : Reply) (way : Transition KnownMachine) → MakesGroup path said way → has_kill way.steps ≡ false
 makes_quiet path (reply.Group n) way h = ap has_kill h.steps_are
 makes_quiet path (reply.Refused fault) way h = ap has_kill h.1.steps_are
 makes_quiet path other way h = absurd h
 
-lowers_quiet : (g limit : ℕ) (way : Course KnownMachine) → LowersUsage g limit way → has_kill way.steps ≡ false
+lowers_quiet : (g limit : ℕ) (way : Transition KnownMachine) → LowersUsage g limit way → has_kill way.steps ≡ false
 lowers_quiet g limit way h =
     ap has_kill h.steps_are
     ∙ no_kill_both (drain_stocks_steps h.drains) h.reclaims.steps (quiet_drains h.drains).quiet h.reclaims.moves.quiet
 
-removes_quiet : (path : List ℕ) (said : Reply) (way : Course KnownMachine) → Removes path said way → has_kill way.steps ≡ false
+removes_quiet : (path : List ℕ) (said : Reply) (way : Transition KnownMachine) → Removes path said way → has_kill way.steps ≡ false
 removes_quiet path reply.Done way h =
     ap has_kill h.steps_are
-    ∙ no_kill_both h.lowering (remove_steps h.group) (lowers_quiet h.group 0 (course way.table way.before h.lowering h.emptied) h.lowers) refl
+    ∙ no_kill_both h.lowering (remove_steps h.group) (lowers_quiet h.group 0 (transition way.table way.before h.lowering h.emptied) h.lowers) refl
 removes_quiet path (reply.Refused fault.Busy) way h = lowers_quiet h.group 0 way h.lowers
 removes_quiet path (reply.Refused other) way h = ap has_kill h.1.steps_are
 removes_quiet path other way h = absurd h
 
-touches_quiet : (f : ℕ) (said : Reply) (way : Course KnownMachine) → TouchesFrame f said way → has_kill way.steps ≡ false
+touches_quiet : (f : ℕ) (said : Reply) (way : Transition KnownMachine) → TouchesFrame f said way → has_kill way.steps ≡ false
 touches_quiet f reply.Marked way h = ap has_kill h.1
 touches_quiet f reply.Active way h = ap has_kill h.1
 touches_quiet f (reply.Refused fault.NotKept) way h = ap has_kill h.stays.steps_are
 touches_quiet f other way h = absurd h
 
-notes_quiet : (is_dirty : Bool) (f : ℕ) (said : Reply) (way : Course KnownMachine) → NotesDirt f is_dirty said way → has_kill way.steps ≡ false
+notes_quiet : (is_dirty : Bool) (f : ℕ) (said : Reply) (way : Transition KnownMachine) → NotesDirt f is_dirty said way → has_kill way.steps ≡ false
 notes_quiet is_dirty f reply.Done way h = ap has_kill h.1
 notes_quiet is_dirty f (reply.Refused fault.NotKept) way h = ap has_kill h.stays.steps_are
 notes_quiet is_dirty f other way h = absurd h
 
-cuts_quiet : (sizes : Config) (way : Course VisitState) → CutsList sizes way → has_kill way.steps ≡ false
+cuts_quiet : (sizes : Config) (way : Transition VisitState) → CutsList sizes way → has_kill way.steps ≡ false
 cuts_quiet sizes way h = ap has_kill h.steps_are ∙ (back_calm way.before.cpu.number h.cut).quiet
 
-lists_quiet : (sizes : Config) (f : ℕ) (way : Course VisitState) → ListsFrame sizes f way → has_kill way.steps ≡ false
+lists_quiet : (sizes : Config) (f : ℕ) (way : Transition VisitState) → ListsFrame sizes f way → has_kill way.steps ≡ false
 lists_quiet sizes f way h =
     ap has_kill h.steps_are
-    ∙ no_kill_both h.cutting (lend_steps way.before.cpu.number f) (cuts_quiet sizes (course way.table way.before h.cutting h.mid) h.cuts) refl
+    ∙ no_kill_both h.cutting (lend_steps way.before.cpu.number f) (cuts_quiet sizes (transition way.table way.before h.cutting h.mid) h.cuts) refl
 
-returns_quiet : (sizes : Config) (f : ℕ) (way : Course VisitState) → ReturnsFrames sizes f way → has_kill way.steps ≡ false
+returns_quiet : (sizes : Config) (f : ℕ) (way : Transition VisitState) → ReturnsFrames sizes f way → has_kill way.steps ≡ false
 returns_quiet sizes f way h =
     let listed : has_kill h.listing ≡ false = elim (cases_eq h.returns.unit.order 0) [
-      | inl single ↦ lists_quiet sizes f (course way.table (visit_state h.freed way.before.cpu) h.listing way.after) (h.single single)
+      | inl single ↦ lists_quiet sizes f (transition way.table (visit_state h.freed way.before.cpu) h.listing way.after) (h.single single)
       | inr block ↦ ap has_kill (h.block block).steps_are
     ] in
     ap has_kill h.steps_are ∙ no_kill_both (release_steps f released.Returned) h.listing refl listed
 
-releases_quiet : (sizes : Config) (f : ℕ) (said : Reply) (way : Course VisitState) → ReleasesFrame sizes f said way → has_kill way.steps ≡ false
+releases_quiet : (sizes : Config) (f : ℕ) (said : Reply) (way : Transition VisitState) → ReleasesFrame sizes f said way → has_kill way.steps ≡ false
 releases_quiet sizes f (reply.Left left) way h = ap has_kill h.steps_are
 releases_quiet sizes f reply.Returned way h = returns_quiet sizes f way h
 releases_quiet sizes f (reply.Refused fault.NotKept) way h = ap has_kill h.does.stays.steps_are
@@ -112,7 +112,7 @@ module _ (t : KnownTable) (MayAsk : List Group → ℕ → ℕ → Type 0) (s : 
 
   -- usage is lowered by kills, in steps that come after others
   kills_rash : (g limit : ℕ) (made : Run) (m : KnownMachine) (steps : Run) (n : KnownMachine) → limit_of m.ledger.groups g ≡ Some limit
-      → MayAsk m.ledger.groups g 0 → Passes t c s made m → LowersByKills g limit (course t m steps n) → RashFree t MayAsk s c made steps
+      → MayAsk m.ledger.groups g 0 → Passes t c s made m → LowersByKills g limit (transition t m steps n) → RashFree t MayAsk s c made steps
   kills_rash g limit made m steps n is asked since h =
       let x = h.lowered in
       let low = h.lowers in
@@ -134,23 +134,23 @@ module _ (t : KnownTable) (MayAsk : List Group → ℕ → ℕ → Type 0) (s : 
       let killing = tame_kills t MayAsk s c None g 0 (made ++ h.lowering) x h.killing n still (passes_both t c s m x made h.lowering since lowering) drained
       missed h.kills in
       subst (λ (k : Run). RashFree t MayAsk s c made k) (sym h.steps_are) (rash_both t MayAsk s c made h.lowering h.killing
-      (rash_quiet t MayAsk s c made h.lowering (lowers_quiet g limit (course t told h.lowering x) low)) killing.rash)
+      (rash_quiet t MayAsk s c made h.lowering (lowers_quiet g limit (transition t told h.lowering x) low)) killing.rash)
 
   lowers_rash : (g limit : ℕ) (made : Run) (m : KnownMachine) (steps : Run) (n : KnownMachine) → limit_of m.ledger.groups g ≡ Some limit
-      → MayAsk m.ledger.groups g 0 → Passes t c s made m → LowersAbove g limit (course t m steps n) → RashFree t MayAsk s c made steps
+      → MayAsk m.ledger.groups g 0 → Passes t c s made m → LowersAbove g limit (transition t m steps n) → RashFree t MayAsk s c made steps
   lowers_rash g limit made m steps n is asked since h = elim (cases_lt limit (current_of m.ledger g)) [
     | inl above ↦ kills_rash g limit made m steps n is asked since (h.above above)
     | inr within ↦ rash_quiet t MayAsk s c made steps (ap has_kill (h.within within).steps_are)
   ]
 
   keeps_rash : (g : ℕ) (of : Option ℕ) (made : Run) (m : KnownMachine) (steps : Run) (n : KnownMachine) → limit_of m.ledger.groups g ≡ of
-      → MayAsk m.ledger.groups g 0 → Passes t c s made m → KeepsToLimit g of (course t m steps n) → RashFree t MayAsk s c made steps
+      → MayAsk m.ledger.groups g 0 → Passes t c s made m → KeepsToLimit g of (transition t m steps n) → RashFree t MayAsk s c made steps
   keeps_rash g None made m steps n is asked since h = rash_quiet t MayAsk s c made steps (ap has_kill h.steps_are)
   keeps_rash g (Some limit) made m steps n is asked since h = lowers_rash g limit made m steps n is asked since h
 
   sets_rash : (g : ℕ) (of : Option ℕ) (steps : Run) (n : KnownMachine) (z : State) → has_group s.ledger.groups g ≡ true
       → MayAsk (with_limit s.ledger.groups g of) g 0 → IsLocalRun c.number (local_of t s c) steps z
-      → SetsLimit g of (course t s steps n) → RashFree t MayAsk s c [] steps
+      → SetsLimit g of (transition t s steps n) → RashFree t MayAsk s c [] steps
   sets_rash g of steps n z there asked whole h =
       let x = with_limit_of s g of in
       let first = set_max_steps g of in
@@ -166,7 +166,7 @@ module _ (t : KnownTable) (MayAsk : List Group → ℕ → ℕ → Type 0) (s : 
 set_no_rash : (t : KnownTable) (cmd : Cmd) (path name value : List ℕ) (g : ℕ) (file : File) (s : KnownMachine) (c : KnownCpu) (steps : Run)
     (n : KnownMachine) (z : State) → IsFileOf s.ledger.groups path name g file
     → ((h : ℕ) (of : Option ℕ) → IsLimitFor s.ledger.groups path name value h of → MayAskFor cmd s.ledger.groups (with_limit s.ledger.groups h of) h 0)
-    → IsLocalRun c.number (local_of t s c) steps z → SetsFile file value g (course t s steps n)
+    → IsLocalRun c.number (local_of t s c) steps z → SetsFile file value g (transition t s steps n)
     → NoRashKill t (MayAskFor cmd s.ledger.groups) s c steps
 set_no_rash t cmd path name value g Max s c steps n z is asks whole h =
     sets_rash t (MayAskFor cmd s.ledger.groups) s c g h.limit steps n z (found_there s.ledger.groups path g is.number)
@@ -180,7 +180,7 @@ set_no_rash t cmd path name value g file s c steps n z is asks whole h = absurd 
 writes_no_rash : (t : KnownTable) (cmd : Cmd) (path name value : List ℕ) (said : Reply) (s : KnownMachine) (c : KnownCpu) (steps : Run) (n : KnownMachine)
     (z : State) → ((g : ℕ) (of : Option ℕ) → IsLimitFor s.ledger.groups path name value g of
     → MayAskFor cmd s.ledger.groups (with_limit s.ledger.groups g of) g 0)
-    → IsLocalRun c.number (local_of t s c) steps z → Writes path name value said (course t s steps n)
+    → IsLocalRun c.number (local_of t s c) steps z → Writes path name value said (transition t s steps n)
     → NoRashKill t (MayAskFor cmd s.ledger.groups) s c steps
 writes_no_rash t cmd path name value reply.Done s c steps n z asks whole h =
     set_no_rash t cmd path name value h.group h.file s c steps n z h.is_file asks whole h.sets
@@ -196,7 +196,7 @@ allocates_for : (t : KnownTable) (cmd : Cmd) (sizes : Config) (path : List ℕ) 
     (steps : Run) (n : VisitState) (z : State)
     → ((g over : ℕ) → number_at s.ledger.groups path ≡ Some g → in_subtree s.ledger.groups over g ≡ true → 2 ^ order ≤ 8
     → MayAskFor cmd s.ledger.groups s.ledger.groups over (2 ^ order))
-    → IsLocalRun c.number (local_of t s c) steps z → AllocatesFor sizes path order answer (course t (visit_state s c) steps n)
+    → IsLocalRun c.number (local_of t s c) steps z → AllocatesFor sizes path order answer (transition t (visit_state s c) steps n)
     → NoRashKill t (MayAskFor cmd s.ledger.groups) s c steps
 allocates_for t cmd sizes path order answer s c steps n z asks whole h = elim (cases_eq order 0) [
   | inl frame ↦
@@ -213,7 +213,7 @@ allocates_no_rash : (t : KnownTable) (cmd : Cmd) (sizes : Config) (path : List �
     (steps : Run) (n : VisitState) (z : State)
     → ((g over : ℕ) → number_at s.ledger.groups path ≡ Some g → in_subtree s.ledger.groups over g ≡ true → 2 ^ order ≤ 8
     → MayAskFor cmd s.ledger.groups s.ledger.groups over (2 ^ order))
-    → IsLocalRun c.number (local_of t s c) steps z → Allocates sizes path order said (course t (visit_state s c) steps n)
+    → IsLocalRun c.number (local_of t s c) steps z → Allocates sizes path order said (transition t (visit_state s c) steps n)
     → NoRashKill t (MayAskFor cmd s.ledger.groups) s c steps
 allocates_no_rash t cmd sizes path order (reply.Frame f) s c steps n z asks whole h =
     allocates_for t cmd sizes path order (Ok f) s c steps n z asks whole h
@@ -230,12 +230,12 @@ allocates_no_rash t cmd sizes path order (reply.Refused fault.Killed) s c steps 
 allocates_no_rash t cmd sizes path order other s c steps n z asks whole h = absurd h
 
 pub obeys_no_rash : (t : KnownTable) (sizes : Config) (cmd : Cmd) (said : Reply) (s : KnownMachine) (c : KnownCpu) (steps : Run) (n : VisitState) (z : State)
-    → Executes sizes cmd said (course t (visit_state s c) steps n) → IsLocalRun c.number (local_of t s c) steps z
+    → Executes sizes cmd said (transition t (visit_state s c) steps n) → IsLocalRun c.number (local_of t s c) steps z
     → NoRashKill t (MayAskFor cmd s.ledger.groups) s c steps
 obeys_no_rash t sizes (Mkdir path) said s c steps n z h whole =
-    rash_quiet t (MayAskFor (Mkdir path) s.ledger.groups) s c [] steps (makes_quiet path.now said (course t s steps n.machine) h.does)
+    rash_quiet t (MayAskFor (Mkdir path) s.ledger.groups) s c [] steps (makes_quiet path.now said (transition t s steps n.machine) h.does)
 obeys_no_rash t sizes (Rmdir path) said s c steps n z h whole =
-    rash_quiet t (MayAskFor (Rmdir path) s.ledger.groups) s c [] steps (removes_quiet path.now said (course t s steps n.machine) h.does)
+    rash_quiet t (MayAskFor (Rmdir path) s.ledger.groups) s c [] steps (removes_quiet path.now said (transition t s steps n.machine) h.does)
 obeys_no_rash t sizes (Write path file value) said s c steps n z h whole =
     writes_no_rash t (Write path file value) path.now file.now value.now said s c steps n.machine z
     (λ g of asked. record { limit = of; asks = asked; now_is = refl; no_page = refl }) whole h.does
@@ -246,13 +246,13 @@ obeys_no_rash t sizes Settle said s c steps n z h whole =
 obeys_no_rash t sizes (Owner f) said s c steps n z h whole =
     rash_quiet t (MayAskFor (Owner f) s.ledger.groups) s c [] steps (ap has_kill h.1.steps_are)
 obeys_no_rash t sizes (Touch f) said s c steps n z h whole =
-    rash_quiet t (MayAskFor (Touch f) s.ledger.groups) s c [] steps (touches_quiet f said (course t s steps n.machine) h.does)
+    rash_quiet t (MayAskFor (Touch f) s.ledger.groups) s c [] steps (touches_quiet f said (transition t s steps n.machine) h.does)
 obeys_no_rash t sizes (Dirty f) said s c steps n z h whole =
-    rash_quiet t (MayAskFor (Dirty f) s.ledger.groups) s c [] steps (notes_quiet true f said (course t s steps n.machine) h.does)
+    rash_quiet t (MayAskFor (Dirty f) s.ledger.groups) s c [] steps (notes_quiet true f said (transition t s steps n.machine) h.does)
 obeys_no_rash t sizes (Clean f) said s c steps n z h whole =
-    rash_quiet t (MayAskFor (Clean f) s.ledger.groups) s c [] steps (notes_quiet false f said (course t s steps n.machine) h.does)
+    rash_quiet t (MayAskFor (Clean f) s.ledger.groups) s c [] steps (notes_quiet false f said (transition t s steps n.machine) h.does)
 obeys_no_rash t sizes (Release f) said s c steps n z h whole =
-    rash_quiet t (MayAskFor (Release f) s.ledger.groups) s c [] steps (releases_quiet sizes f said (course t (visit_state s c) steps n) h)
+    rash_quiet t (MayAskFor (Release f) s.ledger.groups) s c [] steps (releases_quiet sizes f said (transition t (visit_state s c) steps n) h)
 obeys_no_rash t sizes (Alloc path order) said s c steps n z h whole =
     allocates_no_rash t (Alloc path order) sizes path.now order said s c steps n z
     (λ g over found below few. record { group = g; found = found; same = refl; below = record { on_path = below; need_is = refl; few = few } }) whole h

@@ -15,7 +15,7 @@ use Rattle.mem_system.specs.declared.command.Reply.{Reply}
 use Rattle.mem_system.specs.Locked.{KnownLocked, AllShut}
 use Rattle.mem_system.proofs.Killing.{around_quiet, obeys_no_rash}
 use Rattle.mem_system.proofs.Missing.{obeys_counts}
-use Rattle.mem_system.specs.Commands.{BySteps, Executes, course}
+use Rattle.mem_system.specs.Commands.{BySteps, Executes, transition}
 use Rattle.mem_system.specs.Visits.{with_visit_of, locked_state, IsServed}
 use Rattle.mem_machine.proofs.Followed.{makes_both}
 
@@ -74,10 +74,10 @@ served t cmd l k c d reply entered mid x c1 c2 c3 opened same second third shut 
         settles = settled;
         inner = executed.steps;
         done = x;
-        executes = subst (λ (y : KnownCpu). Executes l.sizes cmd reply (course t (visit_state mid c2) executed.steps (visit_state x y))) (sym after) executed.does;
+        executes = subst (λ (y : KnownCpu). Executes l.sizes cmd reply (transition t (visit_state mid c2) executed.steps (visit_state x y))) (sym after) executed.does;
         no_rash = obeys_no_rash t l.sizes cmd reply mid c2 executed.steps (visit_state x c3) (local_of t x c3) executed.does executed.makes.leads;
         only_inner = around_quiet p (visit_state begins c);
-        misses = obeys_counts l.sizes cmd reply (course t (visit_state mid c2) executed.steps (visit_state x c3)) executed.does;
+        misses = obeys_counts l.sizes cmd reply (transition t (visit_state mid c2) executed.steps (visit_state x c3)) executed.does;
         machine = shut ∙ ap (λ (q : ℕ). with_visit_of x q 0) three;
         sizes = sizes;
         steps_are = refl;

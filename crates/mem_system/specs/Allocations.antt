@@ -6,7 +6,7 @@ use Rattle.zone_sizes.specs.declared.config.Config.{Config}
 use Rattle.mem_machine.specs.Local.{VisitState}
 use Rattle.mem_alloc.specs.declared.faults.AllocFault.{AllocFault}
 use Rattle.mem_alloc.specs.declared.faults.AllocFault.TheVariants.{Over, NoFrames, RequesterKilled}
-use Rattle.mem_alloc.specs.Stepping.{Course, Stays}
+use Rattle.mem_alloc.specs.Stepping.{Transition, Stays}
 use Rattle.mem_alloc.specs.Frames.{AllocatesFrame}
 use Rattle.mem_alloc.specs.Blocks.{AllocatesBlock}
 use Rattle.mem_system.specs.declared.outcome.Outcome.{Outcome}
@@ -16,27 +16,27 @@ use Rattle.mem_system.specs.declared.command.Reply.TheVariants.{Frame, OverLimit
 
 -- an allocation of this order for the group: a single frame if the order is 0, else a block
 pub record AllocatesAs (sizes : Config) (group order : ℕ) (answer : Result ℕ AllocFault)
-    (way : Course VisitState) : Type 0 where
+    (way : Transition VisitState) : Type 0 where
   pub frame : order ≡ 0 → AllocatesFrame sizes group answer way
   pub block : order ≢ 0 → AllocatesBlock group order answer way
 
 -- a group has the path and the order is at most 10: the allocation is made for the group, with this answer
 pub record AllocatesFor (sizes : Config) (path : List ℕ) (order : ℕ) (answer : Result ℕ AllocFault)
-    (way : Course VisitState) : Type 0 where
+    (way : Transition VisitState) : Type 0 where
   pub group : ℕ
   pub found : number_at way.before.machine.ledger.groups path ≡ Some group
   pub within : order ≤ 10
   pub allocates : AllocatesAs sizes group order answer way
 
 -- a group has the path, but the order is above 10, and nothing changed
-pub record HasBadOrder (path : List ℕ) (order : ℕ) (way : Course VisitState) : Type 0 where
+pub record HasBadOrder (path : List ℕ) (order : ℕ) (way : Transition VisitState) : Type 0 where
   pub group : ℕ
   pub found : number_at way.before.machine.ledger.groups path ≡ Some group
   pub above : 10 < order
   pub stays : Stays way
 
 -- Alloc: the reply is the frame or the head of the block, or a refusal for the first cause that holds
-abbrev pub Allocates : Config → (path : List ℕ) (order : ℕ) → Reply → Course VisitState → Type 0
+abbrev pub Allocates : Config → (path : List ℕ) (order : ℕ) → Reply → Transition VisitState → Type 0
 Allocates sizes path order (Frame head) way = AllocatesFor sizes path order (Ok head) way
 Allocates sizes path order (OverLimit over text) way =
     AllocatesFor sizes path order (Err (Over over)) way × (path_of way.after.machine.ledger.groups over ≡ Some text)

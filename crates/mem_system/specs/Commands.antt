@@ -8,7 +8,7 @@ use Rattle.zone_sizes.specs.Config.{IsValidConfig}
 use Rattle.mem_machine.specs.Machines.{Visits}
 use Rattle.mem_machine.specs.Local.{VisitState}
 -- a call, described by the state before it, its steps and the state after it
-pub use Rattle.mem_alloc.specs.Stepping.{Course, course, of_machine, OfMachine, OfMachineAlone, BySteps}
+pub use Rattle.mem_alloc.specs.Stepping.{Transition, transition, of_machine, OfMachine, OfMachineAlone, BySteps}
 pub use Rattle.mem_alloc.specs.Stepping.{MachineStays, Stays}
 pub use Rattle.mem_alloc.specs.Stepping.{CountsMisses, IsSettled}
 use Rattle.mem_system.specs.declared.command.Cmd.{Cmd}
@@ -46,7 +46,7 @@ pub record MayExecute (table : KnownTable) (stock_table : Words) (sizes : Config
   pub sized : IsSizedAs sizes table stock_table
 
 -- what the command does inside the visit, and its reply
-abbrev pub Executes : Config → Cmd → Reply → Course VisitState → Type 0
+abbrev pub Executes : Config → Cmd → Reply → Transition VisitState → Type 0
 Executes sizes (Mkdir path) reply way = OfMachineAlone (MakesGroup path.now reply) way
 Executes sizes (Rmdir path) reply way = OfMachineAlone (Removes path.now reply) way
 Executes sizes (Write path file value) reply way = OfMachineAlone (Writes path.now file.now value.now reply) way

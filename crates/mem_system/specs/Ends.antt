@@ -19,7 +19,7 @@ use Rattle.mem_machine.specs.Places.{frames_free, frames_in_groups, NoneLentTo}
 use Rattle.mem_system.specs.declared.audit.Audit.{Audit}
 use Rattle.mem_system.specs.Locked.{KnownLocked, IsQuiet}
 use Rattle.mem_machine.specs.Local.{VisitState, visit_state}
-use Rattle.mem_system.specs.Commands.{Course, BySteps}
+use Rattle.mem_system.specs.Commands.{Transition, BySteps}
 use Rattle.mem_system.specs.Visits.{with_visit_of, visited, visit_steps}
 
 -- how many pins the CPUs have together
@@ -31,14 +31,14 @@ abbrev pub drops_of : List KnownCpu → ℕ
 drops_of cpus = sum_by (λ cpu. cpu.drops) cpus
 
 -- the CPU is settled in a visit
-pub record SettlesInVisit (way : Course VisitState) : Type 0 where
+pub record SettlesInVisit (way : Transition VisitState) : Type 0 where
   pub settled : KnownMachine
   pub settles : Settles (visited way.before) (visit_state settled way.after.cpu)
   pub machine : way.after.machine ≡ with_visit_of settled way.before.cpu.number 0
   pub steps_are : way.steps ≡ visit_steps way.before []
 
 -- in a visit, all frames of the CPU's list are returned to the zone, and then its stock is drained
-pub record Empties (way : Course VisitState) : Type 0 where
+pub record Empties (way : Transition VisitState) : Type 0 where
   pub emptied : KnownMachine
   pub takes : TakesManyBack way.before.cpu.list (visited way.before) (visit_state emptied way.after.cpu)
   pub pages : ℕ

@@ -19,7 +19,7 @@ use Rattle.mem_machine.specs.Steps.{set_max_steps, set_oom_group_steps}
 use Rattle.mem_reclaim.specs.Moves.{Leads}
 use Rattle.mem_reclaim.specs.Rounds.{ReclaimsAmount}
 use Rattle.mem_reclaim.specs.Staying.{Keeps, MissedAll}
-use Rattle.mem_alloc.specs.Stepping.{Course, MachineStays, course}
+use Rattle.mem_alloc.specs.Stepping.{Transition, MachineStays, transition}
 use Rattle.mem_system.specs.declared.command.Reply.{Reply}
 use Rattle.mem_system.specs.declared.command.Reply.TheVariants.{Text, Done, Refused}
 use Rattle.mem_system.specs.Usage.{KeepsToLimit}
@@ -66,13 +66,13 @@ abbrev pub with_limit_of : KnownMachine → (group : ℕ) → Option ℕ → Kno
 with_limit_of machine group limit = record machine { ledger = with_group_limit machine.ledger group limit }
 
 -- the group gets the limit, and then its usage is kept to it
-pub record SetsLimit (group : ℕ) (limit : Option ℕ) (way : Course KnownMachine) : Type 0 where
+pub record SetsLimit (group : ℕ) (limit : Option ℕ) (way : Transition KnownMachine) : Type 0 where
   pub lowering : Run
-  pub keeps : KeepsToLimit group limit (course way.table (with_limit_of way.before group limit) lowering way.after)
+  pub keeps : KeepsToLimit group limit (transition way.table (with_limit_of way.before group limit) lowering way.after)
   pub steps_are : way.steps ≡ set_max_steps group limit ++ lowering
 
 -- the value is the text of a limit, and the group gets that limit
-pub record WritesLimit (value : List ℕ) (group : ℕ) (way : Course KnownMachine) : Type 0 where
+pub record WritesLimit (value : List ℕ) (group : ℕ) (way : Transition KnownMachine) : Type 0 where
   pub limit : Option ℕ
   pub reads : ReadsAs value limit
   pub sets : SetsLimit group limit way
@@ -82,12 +82,12 @@ abbrev pub with_flag_of : KnownMachine → (group : ℕ) → Bool → KnownMachi
 with_flag_of machine group flag = record machine { ledger = with_oom_flag machine.ledger group flag }
 
 -- the group gets the flag, by one step, and nothing else changes: nobody is killed, and nothing is noted
-pub record SetsFlag (group : ℕ) (flag : Bool) (way : Course KnownMachine) : Type 0 where
+pub record SetsFlag (group : ℕ) (flag : Bool) (way : Transition KnownMachine) : Type 0 where
   pub machine : way.after ≡ with_flag_of way.before group flag
   pub steps_are : way.steps ≡ set_oom_group_steps group flag
 
 -- the value is the text of a flag, and the group gets that flag
-pub record WritesFlag (value : List ℕ) (group : ℕ) (way : Course KnownMachine) : Type 0 where
+pub record WritesFlag (value : List ℕ) (group : ℕ) (way : Transition KnownMachine) : Type 0 where
   pub flag : Bool
   pub reads : IsFlagText value flag
   pub sets : SetsFlag group flag way
@@ -95,7 +95,7 @@ pub record WritesFlag (value : List ℕ) (group : ℕ) (way : Course KnownMachin
 -- The value is the text of an amount, and this many pages of the group's subtree are reclaimed, by these steps alone.
 -- Stocks and killed groups stay, and no dirty unit is freed. If fewer pages are freed than asked for, each clean unit
 -- that the subtree still keeps was tried and missed.
-pub record WritesAmount (value : List ℕ) (group : ℕ) (Ends : (asked freed : ℕ) → Type 0) (way : Course KnownMachine) : Type 0 where
+pub record WritesAmount (value : List ℕ) (group : ℕ) (Ends : (asked freed : ℕ) → Type 0) (way : Transition KnownMachine) : Type 0 where
   pub asked : ℕ
   pub freed : ℕ
   pub reads : ReadsAmount value asked
@@ -107,7 +107,7 @@ pub record WritesAmount (value : List ℕ) (group : ℕ) (Ends : (asked freed : 
   pub steps_are : way.steps ≡ reclaims.steps
 
 -- what a value written to a file of the group sets, and what is done for it
-abbrev pub SetsFile : File → (value : List ℕ) → (group : ℕ) → Course KnownMachine → Type 0
+abbrev pub SetsFile : File → (value : List ℕ) → (group : ℕ) → Transition KnownMachine → Type 0
 SetsFile Max value group way = WritesLimit value group way
 SetsFile OomGroup value group way = WritesFlag value group way
 SetsFile Reclaim value group way = WritesAmount value group (λ asked freed. asked ≤ freed) way
@@ -125,20 +125,20 @@ RefusesValue file value fault = ⊥
 
 -- the file is memory.reclaim, and fewer pages are freed than the value asks for: the write is refused, and these pages
 -- stay freed
-pub record FallsShort (file : File) (value : List ℕ) (group : ℕ) (fault : Fault) (way : Course KnownMachine) : Type 0 where
+pub record FallsShort (file : File) (value : List ℕ) (group : ℕ) (fault : Fault) (way : Transition KnownMachine) : Type 0 where
   pub file_is : file ≡ Reclaim
   pub fault_is : fault ≡ Again
   pub frees : WritesAmount value group (λ asked freed. freed < asked) way
 
 -- a value is written to an existing file: it is set; or it is refused, and nothing changed; or it falls short
-abbrev pub WritesTo : File → (value : List ℕ) → (group : ℕ) → Reply → Course KnownMachine → Type 0
+abbrev pub WritesTo : File → (value : List ℕ) → (group : ℕ) → Reply → Transition KnownMachine → Type 0
 WritesTo file value group Done way = SetsFile file value group way
 WritesTo file value group (Refused fault) way =
     (RefusesValue file value fault × MachineStays way) ⊎ FallsShort file value group fault way
 WritesTo file value group other way = ⊥
 
 -- the path and the name are those of a file, and the value is set
-pub record WritesFile (path name value : List ℕ) (way : Course KnownMachine) : Type 0 where
+pub record WritesFile (path name value : List ℕ) (way : Transition KnownMachine) : Type 0 where
   pub group : ℕ
   pub file : File
   pub is_file : IsFileOf way.before.ledger.groups path name group file
@@ -157,14 +157,14 @@ RefusesWrite groups path name value fault =
     HasNoFile groups path name fault ⊎ RefusesValueOf groups path name value fault
 
 -- the path and the name are those of a file, and the write falls short
-pub record WritesShort (path name value : List ℕ) (fault : Fault) (way : Course KnownMachine) : Type 0 where
+pub record WritesShort (path name value : List ℕ) (fault : Fault) (way : Transition KnownMachine) : Type 0 where
   pub group : ℕ
   pub file : File
   pub is_file : IsFileOf way.before.ledger.groups path name group file
   pub falls : FallsShort file value group fault way
 
 -- Write: the value is set; or it is refused, and nothing changed; or it falls short
-abbrev pub Writes : (path name value : List ℕ) → Reply → Course KnownMachine → Type 0
+abbrev pub Writes : (path name value : List ℕ) → Reply → Transition KnownMachine → Type 0
 Writes path name value Done way = WritesFile path name value way
 Writes path name value (Refused fault) way =
     (RefusesWrite way.before.ledger.groups path name value fault × MachineStays way)

@@ -6,37 +6,37 @@ use Rattle.group_charge.specs.Charges.{current_of, with_group_removed}
 use Rattle.step_rules.specs.After.{Run}
 use Rattle.mem_machine.specs.Machines.{KnownMachine, AddsGroup}
 use Rattle.mem_machine.specs.Steps.{make_steps, remove_steps}
-use Rattle.mem_alloc.specs.Stepping.{Course, MachineStays, course}
+use Rattle.mem_alloc.specs.Stepping.{Transition, MachineStays, transition}
 use Rattle.mem_system.specs.declared.command.Reply.{Reply}
 use Rattle.mem_system.specs.declared.command.Reply.TheVariants.{Group, Done, Refused}
 use Rattle.mem_system.specs.Leaves.{IsLeafAt, HasNoLeaf}
 use Rattle.mem_system.specs.Usage.{LowersUsage}
 
 -- no refusal applies, and the machine makes the group of this path with this number
-pub record MakesNewGroup (path : List ℕ) (number : ℕ) (way : Course KnownMachine) : Type 0 where
+pub record MakesNewGroup (path : List ℕ) (number : ℕ) (way : Transition KnownMachine) : Type 0 where
   pub no_fault : make_fault way.before.ledger.groups path ≡ None
   pub adds : AddsGroup number path way.before way.after
   pub steps_are : way.steps ≡ make_steps path number
 
 -- Mkdir: the group is made; or it is refused for the first cause that holds, and nothing changed
-abbrev pub MakesGroup : (path : List ℕ) → Reply → Course KnownMachine → Type 0
+abbrev pub MakesGroup : (path : List ℕ) → Reply → Transition KnownMachine → Type 0
 MakesGroup path (Group number) way = MakesNewGroup path number way
 MakesGroup path (Refused fault) way = (make_fault way.before.ledger.groups path ≡ Some fault) × MachineStays way
 MakesGroup path other way = ⊥
 
 -- the usage of the group is lowered to 0, and the group is removed
-pub record RemovesGroup (path : List ℕ) (way : Course KnownMachine) : Type 0 where
+pub record RemovesGroup (path : List ℕ) (way : Transition KnownMachine) : Type 0 where
   pub group : ℕ
   pub leaf : IsLeafAt way.before.ledger.groups path group
   pub lowering : Run
   pub emptied : KnownMachine
-  pub lowers : LowersUsage group 0 (course way.table way.before lowering emptied)
+  pub lowers : LowersUsage group 0 (transition way.table way.before lowering emptied)
   pub empty : current_of emptied.ledger group ≡ 0
   pub machine : way.after ≡ record emptied { ledger = with_group_removed emptied.ledger group }
   pub steps_are : way.steps ≡ lowering ++ remove_steps group
 
 -- the usage of the group is lowered as far as possible, and pages are still charged to it
-pub record StaysBusy (path : List ℕ) (way : Course KnownMachine) : Type 0 where
+pub record StaysBusy (path : List ℕ) (way : Transition KnownMachine) : Type 0 where
   pub group : ℕ
   pub leaf : IsLeafAt way.before.ledger.groups path group
   pub lowers : LowersUsage group 0 way
@@ -44,7 +44,7 @@ pub record StaysBusy (path : List ℕ) (way : Course KnownMachine) : Type 0 wher
 
 -- Rmdir: the group is removed; or pages stay charged to it after draining and reclaim; or there is no such group, and
 -- nothing changed
-abbrev pub Removes : (path : List ℕ) → Reply → Course KnownMachine → Type 0
+abbrev pub Removes : (path : List ℕ) → Reply → Transition KnownMachine → Type 0
 Removes path Done way = RemovesGroup path way
 Removes path (Refused Busy) way = StaysBusy path way
 Removes path (Refused fault) way = HasNoLeaf way.before.ledger.groups path fault × MachineStays way

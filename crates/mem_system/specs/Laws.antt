@@ -8,13 +8,13 @@ use Rattle.mem_alloc.specs.Laws.{ComesLast}
 use Rattle.mem_system.specs.declared.command.Cmd.{Cmd}
 use Rattle.mem_system.specs.declared.command.Reply.{Reply}
 use Rattle.mem_system.specs.Asks.{MayAskFor}
-use Rattle.mem_system.specs.Visits.{Course, LockedState, Serves}
+use Rattle.mem_system.specs.Visits.{Transition, LockedState, Serves}
 
 -- Each kill of a command comes last. After its CPU is settled, the command tries everything else for the limit that it
 -- may ask for, before the first kill of the set that dies with the victim.
 abbrev pub CommandsKillLast : Type 0
 CommandsKillLast =
-    (cmd : Cmd) (reply : Reply) (way : Course LockedState) (served : Serves cmd reply way) (before rest : Run)
+    (cmd : Cmd) (reply : Reply) (way : Transition LockedState) (served : Serves cmd reply way) (before rest : Run)
     (made : Step × Answer) (group : ℕ) → served.inner ≡ before ++ made ∷ rest → made.0.action ≡ Kill group
     → ComesLast (MayAskFor cmd served.settled.machine.ledger.groups) way.table served.settled.machine served.settled.cpu
     before group

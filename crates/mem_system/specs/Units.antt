@@ -4,7 +4,7 @@ use Rattle.group_tree.specs.declared.fault.Fault.TheVariants.{NotKept}
 use Rattle.lru_lists.specs.declared.lru.Touched.TheVariants as touched
 use Rattle.mem_machine.specs.Machines.{KnownMachine, HeadsKeptUnit, home_of}
 use Rattle.mem_machine.specs.Marks.{TouchesUnit, Dirties}
-use Rattle.mem_alloc.specs.Stepping.{Course, MachineStays}
+use Rattle.mem_alloc.specs.Stepping.{Transition, MachineStays}
 use Rattle.mem_system.specs.declared.command.Reply.{Reply}
 use Rattle.mem_system.specs.declared.command.Reply.TheVariants.{Done, Marked, Active, Refused}
 
@@ -14,20 +14,20 @@ pub record IsUnitOf (machine : KnownMachine) (number found : ℕ) : Type 0 where
   pub heads : HeadsKeptUnit machine found
 
 -- the frame heads no kept unit, and nothing changed
-pub record HeadsNoUnit (frame : ℕ) (way : Course KnownMachine) : Type 0 where
+pub record HeadsNoUnit (frame : ℕ) (way : Transition KnownMachine) : Type 0 where
   pub on_no_list : home_of way.before.links frame ≡ None
   pub stays : MachineStays way
 
 -- Touch: the unit is marked, on the inactive list; or it moved, unmarked, to the newest end of the active list; or the
 -- frame heads no kept unit
-abbrev pub TouchesFrame : (frame : ℕ) → Reply → Course KnownMachine → Type 0
+abbrev pub TouchesFrame : (frame : ℕ) → Reply → Transition KnownMachine → Type 0
 TouchesFrame frame Marked way = TouchesUnit frame touched.Marked way.before way.after × (way.steps ≡ [])
 TouchesFrame frame Active way = TouchesUnit frame touched.Active way.before way.after × (way.steps ≡ [])
 TouchesFrame frame (Refused NotKept) way = HeadsNoUnit frame way
 TouchesFrame frame other way = ⊥
 
 -- Dirty and Clean: the unit is noted as dirty or clean, or the frame heads no kept unit
-abbrev pub NotesDirt : (frame : ℕ) (is_dirty : Bool) → Reply → Course KnownMachine → Type 0
+abbrev pub NotesDirt : (frame : ℕ) (is_dirty : Bool) → Reply → Transition KnownMachine → Type 0
 NotesDirt frame is_dirty Done way = Dirties frame is_dirty way.before way.after × (way.steps ≡ [])
 NotesDirt frame is_dirty (Refused NotKept) way = HeadsNoUnit frame way
 NotesDirt frame is_dirty other way = ⊥

@@ -12,7 +12,7 @@ use Rattle.mem_machine.specs.Settling.{Settles, settle_steps}
 use Rattle.mem_machine.specs.Steps.{open_steps, shut_steps}
 use Rattle.mem_reclaim.specs.Moves.{has_kill}
 -- a call, described by the state before it, its steps and the state after it
-pub use Rattle.mem_alloc.specs.Stepping.{Course, course}
+pub use Rattle.mem_alloc.specs.Stepping.{Transition, transition}
 use Rattle.mem_alloc.specs.Stepping.{CountsMisses}
 use Rattle.mem_alloc.specs.NoRash.{NoRashKill}
 use Rattle.mem_system.specs.declared.command.Cmd.{Cmd}
@@ -58,15 +58,15 @@ visit_steps before inner =
 -- A command under the lock. Earlier notes are forgotten, the caller's visit is opened, the caller is settled, the
 -- command is executed, and the visit is shut. The command kills a group only after it tried everything else, and only its
 -- own steps kill. The misses that are noted are those among its steps.
-pub record Serves (cmd : Cmd) (reply : Reply) (way : Course LockedState) : Type 0 where
+pub record Serves (cmd : Cmd) (reply : Reply) (way : Transition LockedState) : Type 0 where
   pub settled : VisitState
   pub settles : Settles (begun (visit_state_of way.before)) settled
   pub inner : Run
   pub done : KnownMachine
-  pub executes : Executes way.before.locked.sizes cmd reply (course way.table settled inner (visit_state done way.after.cpu))
+  pub executes : Executes way.before.locked.sizes cmd reply (transition way.table settled inner (visit_state done way.after.cpu))
   pub no_rash : NoRashKill way.table (MayAskFor cmd settled.machine.ledger.groups) settled.machine settled.cpu inner
   pub only_inner : has_kill (visit_steps (visit_state_of way.before) []) ≡ false
-  pub misses : CountsMisses (course way.table settled.machine inner done)
+  pub misses : CountsMisses (transition way.table settled.machine inner done)
   pub machine : way.after.locked.machine ≡ with_visit_of done way.before.cpu.number 0
   pub sizes : way.after.locked.sizes ≡ way.before.locked.sizes
   pub steps_are : way.steps ≡ visit_steps (visit_state_of way.before) inner
@@ -75,7 +75,7 @@ pub record Serves (cmd : Cmd) (reply : Reply) (way : Course LockedState) : Type 
 -- counts follow them
 pub record IsServed (table : KnownTable) (cmd : Cmd) (reply : Reply) (before after : LockedState) : Type 0 where
   pub steps : Run
-  pub serves : Serves cmd reply (course table before steps after)
+  pub serves : Serves cmd reply (transition table before steps after)
   pub makes : Makes table (visit_state_of before) steps (visit_state_of after)
 
 -- a command was carried out under the lock with this outcome; its reply is what the charges after it make of the

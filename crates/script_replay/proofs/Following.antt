@@ -55,7 +55,7 @@ use Rattle.mem_system.specs.declared.command.Cmd.TheVariants as cmd
 use Rattle.mem_system.specs.declared.command.Reply.{Reply}
 use Rattle.mem_system.specs.declared.command.Reply.TheVariants.{Refused, Done}
 use Rattle.mem_system.specs.Locked.{KnownLocked, AllShut}
-use Rattle.mem_system.specs.Visits.{course, LockedState, locked_state, visit_state_of, IsServed}
+use Rattle.mem_system.specs.Visits.{transition, LockedState, locked_state, visit_state_of, IsServed}
 use Rattle.reply_texts.specs.Answer.{Answer}
 use Rattle.reply_texts.specs.Answer as answer
 use Rattle.script_replay.specs.declared.work.Work.{Work}
@@ -264,18 +264,18 @@ module _ (t : KnownTable) (w : Words) (run : Run) (locked : KnownLocked) (cpus :
 
   -- served under the lock
   locked_follows : (seen : KnownCpu) → IsUnseen t m c seen → (command : Cmd) (reply : Reply) (steps : Run) (after : LockedState) →
-      IsServedUnderLock command seen reply (course t before steps after) → AllShut after.locked.machine → GoesOn steps → Follows steps after
+      IsServedUnderLock command seen reply (transition t before steps after) → AllShut after.locked.machine → GoesOn steps → Follows steps after
   locked_follows seen unseen command reply steps after is shut legal =
       as_made steps (under_lock p is.served.steps) after (is.steps_are ∙ ap (λ (q : ℕ). under_lock q is.served.steps) unseen.number)
       (λ all. served_follows seen unseen command reply after is.served shut all) legal
 
-  replied_follows : (command : Cmd) (steps : Run) (after : LockedState) (said : Answer) → RepliesServed command (course t before steps after) said → AllShut after.locked.machine →
+  replied_follows : (command : Cmd) (steps : Run) (after : LockedState) (said : Answer) → RepliesServed command (transition t before steps after) said → AllShut after.locked.machine →
       GoesOn steps → Follows steps after
   replied_follows command steps after (answer.Served reply) is shut legal =
       locked_follows c (unseen_same t m c c refl) command reply steps after is shut legal
   replied_follows command steps after said is shut legal = absurd is
 
-  frame_follows : (path : Bor (List ℕ)) (steps : Run) (after : LockedState) (said : Answer) (may_kill : Bool) → AnswersFrame path (course t before steps after) said may_kill →
+  frame_follows : (path : Bor (List ℕ)) (steps : Run) (after : LockedState) (said : Answer) (may_kill : Bool) → AnswersFrame path (transition t before steps after) said may_kill →
       AllShut after.locked.machine → GoesOn steps → Follows steps after
   frame_follows path steps after (answer.Fast (Got f)) false is shut legal =
       as_made steps (fast_steps p is.gets.group (Got f)) after is.alone.steps_are
@@ -288,7 +288,7 @@ module _ (t : KnownTable) (w : Words) (run : Run) (locked : KnownLocked) (cpus :
       shut legal
   frame_follows path steps after said may_kill is shut legal = absurd is
 
-  release_follows : (f : ℕ) (steps : Run) (after : LockedState) (said : Answer) (may_kill : Bool) → AnswersRelease f (course t before steps after) said may_kill →
+  release_follows : (f : ℕ) (steps : Run) (after : LockedState) (said : Answer) (may_kill : Bool) → AnswersRelease f (transition t before steps after) said may_kill →
       AllShut after.locked.machine → GoesOn steps → Follows steps after
   release_follows f steps after answer.Listed false is shut legal =
       as_made steps (cpu_makes p (step.Credit f) says.Back ∷ []) after is.1.steps_are
@@ -299,11 +299,11 @@ module _ (t : KnownTable) (w : Words) (run : Run) (locked : KnownLocked) (cpus :
       locked_follows is.seen (list_unseen t m c f is.seen is.not_listed) (cmd.Release f) reply steps after is.served shut legal
   release_follows f steps after said may_kill is shut legal = absurd is
 
-  settle_follows : (steps : Run) (after : LockedState) → SettlesUnderLock (course t before steps after) → AllShut after.locked.machine → GoesOn steps → Follows steps after
+  settle_follows : (steps : Run) (after : LockedState) → SettlesUnderLock (transition t before steps after) → AllShut after.locked.machine → GoesOn steps → Follows steps after
   settle_follows steps after is shut legal = locked_follows c (unseen_same t m c c refl) cmd.Settle Done steps after is shut legal
 
   answer_follows : (asked : Work) (steps : Run) (after : LockedState) (said : Answer) (may_kill : Bool) → WorkInRange t.frames asked →
-      AnswersWork asked (course t before steps after) said may_kill → AllShut after.locked.machine → GoesOn steps → Follows steps after
+      AnswersWork asked (transition t before steps after) said may_kill → AllShut after.locked.machine → GoesOn steps → Follows steps after
   answer_follows (work.Visit command) steps after said true names is shut legal = replied_follows command steps after said is shut legal
   answer_follows (work.Frame path) steps after said may_kill names is shut legal = frame_follows path steps after said may_kill is shut legal
   answer_follows (work.Fast g) steps after (answer.Fast taken) false names is shut legal =
@@ -318,7 +318,7 @@ module _ (t : KnownTable) (w : Words) (run : Run) (locked : KnownLocked) (cpus :
   answer_follows asked steps after said false names is shut legal = absurd is
 
   pub work_follows : (is_explained : Bool) (asked : Work) (steps : Run) (after : LockedState) (text : List ℕ) → WorkInRange t.frames asked
-      → WritesWork is_explained asked (course t before steps after) text → AllShut after.locked.machine → GoesOn steps → Follows steps after
+      → WritesWork is_explained asked (transition t before steps after) text → AllShut after.locked.machine → GoesOn steps → Follows steps after
   work_follows is_explained work.Blocks steps after text names is shut legal = settle_follows steps after is.settles shut legal
   work_follows is_explained work.Show steps after text names is shut legal = settle_follows steps after is.settles shut legal
   work_follows is_explained asked steps after text names is shut legal =

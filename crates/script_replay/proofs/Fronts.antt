@@ -5,7 +5,7 @@ use Rattle.cpu_part.specs.Cpus.{KnownCpu}
 use Rattle.step_rules.specs.After.{Run}
 use Rattle.mem_system.specs.declared.command.Cmd.TheVariants as cmd
 use Rattle.mem_system.specs.Locked.{KnownLocked}
-use Rattle.mem_system.specs.Visits.{LockedState, course, locked_state}
+use Rattle.mem_system.specs.Visits.{LockedState, transition, locked_state}
 use Rattle.reply_texts.specs.Answer.{Answer, Served}
 use Rattle.script_replay.specs.declared.work.Work.TheVariants.{Frame, Release, Visit}
 use Rattle.script_replay.specs.Answers.{AnswersWork, CanNotList, GetsNoneFast, ServesWork}
@@ -13,8 +13,8 @@ use Rattle.script_replay.specs.Terms.{Terms}
 
 module _ (on : Terms) (l : KnownLocked) (c seen : KnownCpu) (after : LockedState) where
   allocated : (path : Bor (List ℕ)) → GetsNoneFast path.now (locked_state l c) seen → (steps : Run) (said : Answer) (may_kill : Bool)
-      → AnswersWork (Visit (cmd.Alloc path 0)) (course on.frames (locked_state l seen) steps after) said may_kill
-      → AnswersWork (Frame path) (course on.frames (locked_state l c) steps after) said may_kill
+      → AnswersWork (Visit (cmd.Alloc path 0)) (transition on.frames (locked_state l seen) steps after) said may_kill
+      → AnswersWork (Frame path) (transition on.frames (locked_state l c) steps after) said may_kill
   allocated path none steps (Served reply) true is =
       record { seen = seen; none = none; served = record { served = is.served; steps_are = is.steps_are } }
   allocated path none steps said true is = absurd is
@@ -34,8 +34,8 @@ module _ (on : Terms) (l : KnownLocked) (c seen : KnownCpu) (after : LockedState
   }
 
   released : (f : ℕ) → CanNotList f c seen → (steps : Run) (said : Answer) (may_kill : Bool)
-      → AnswersWork (Visit (cmd.Release f)) (course on.frames (locked_state l seen) steps after) said may_kill
-      → AnswersWork (Release f) (course on.frames (locked_state l c) steps after) said may_kill
+      → AnswersWork (Visit (cmd.Release f)) (transition on.frames (locked_state l seen) steps after) said may_kill
+      → AnswersWork (Release f) (transition on.frames (locked_state l c) steps after) said may_kill
   released f can_not steps (Served reply) true is =
       record { seen = seen; not_listed = can_not; served = record { served = is.served; steps_are = is.steps_are } }
   released f can_not steps said true is = absurd is

@@ -19,7 +19,7 @@ use Rattle.mem_history.proofs.Wholes.{set_here, set_else}
 use Rattle.mem_history.proofs.Promised.{the_whole_is_promised}
 use Rattle.mem_history.proofs.Deciding.{legal_front}
 use Rattle.mem_system.specs.Locked.{KnownLocked, IsQuiet}
-use Rattle.mem_system.specs.Visits.{course, locked_state, visit_state_of}
+use Rattle.mem_system.specs.Visits.{transition, locked_state, visit_state_of}
 use Rattle.script_lines.specs.declared.line.Command.{Command}
 use Rattle.script_lines.specs.declared.line.Line.{Line}
 use Rattle.script_lines.specs.declared.line.Line.TheVariants.{Go, At}
@@ -124,7 +124,7 @@ line_follows on run Go s e text shows tied keeps legal =
 line_follows on run (At number processor command) s e text shows tied keeps legal =
     let steps = keeps.serves.steps in
     let is : AtPart processor (λ part left. WritesWork on.is_explained (work_of command)
-    (course on.frames (locked_state s.locked part) steps (locked_state e.locked left)) text) s.cpus e.cpus = keeps.serves.writes in
+    (transition on.frames (locked_state s.locked part) steps (locked_state e.locked left)) text) s.cpus e.cpus = keeps.serves.writes in
     subst (λ (cpus : List KnownCpu). ShowsAll on.frames (run ++ steps) e.locked.machine cpus
     × (TellsRun on.frames run s.locked.machine.ledger → TellsRun on.frames (run ++ steps) e.locked.machine.ledger)) (sym is.cpus)
     (work_follows on.frames on.stocks run s.locked s.cpus (processor - 1) is.part shows is.is_part tied on.is_explained (work_of command) steps (locked_state e.locked is.left) text

@@ -6,7 +6,7 @@ use Rattle.mem_history.specs.Whole.{under_lock}
 use Rattle.mem_system.specs.declared.command.Cmd.{Cmd}
 use Rattle.mem_system.specs.declared.command.Reply.{Reply}
 use Rattle.mem_system.specs.Locked.{KnownLocked}
-use Rattle.mem_system.specs.Visits.{Course, LockedState, locked_state, IsServed}
+use Rattle.mem_system.specs.Visits.{Transition, LockedState, locked_state, IsServed}
 use Rattle.reply_texts.specs.Answer.{Answer, Served}
 use Rattle.reply_texts.specs.Answers.{answer_text}
 use Rattle.reply_texts.specs.Replies.{reply_text}
@@ -49,12 +49,12 @@ told_as is as_well before after r turn adds = record {
 }
 
 -- an answer without an explanation of kills
-pub alone : (is_explained : Bool) (work : Work) (way : Course LockedState) (said : Answer) → AnswersWork work way said false
+pub alone : (is_explained : Bool) (work : Work) (way : Transition LockedState) (said : Answer) → AnswersWork work way said false
     → WritesAnswer is_explained work way (answer_text said)
 alone is_explained work way said so = record { said = said; may_kill = false; answered = so; text_is = sym (append-nil (answer_text said)) }
 
 -- the answer to a Settle has no explanation of kills, whether or not one is asked for
-pub settle_alone : (is_explained : Bool) (way : Course LockedState) (text : List ℕ) → WritesAnswer false Settle way text → WritesAnswer is_explained Settle way text
+pub settle_alone : (is_explained : Bool) (way : Transition LockedState) (text : List ℕ) → WritesAnswer false Settle way text → WritesAnswer is_explained Settle way text
 settle_alone is_explained way text writes = tells writes.said writes.may_kill writes.answered writes.text_is
   where
     tells : (said : Answer) (may_kill : Bool) → AnswersWork Settle way said may_kill

@@ -1,5 +1,5 @@
 -- What a CPU's command does, to the CPU's part and behind the lock, by which steps, and what its answer is. `Answers..`
--- relates a course to an answer, and `Writes..` relates a course to a text. `Serves..` relates the state before, the
+-- relates a transition to an answer, and `Writes..` relates a transition to a text. `Serves..` relates the state before, the
 -- state after and a text, by some steps.
 use Rattle.std.specs.Prelude.{◌≡◌, ◌≢◌, ◌⊎◌, ℕ, ◌+◌, ◌<◌, ◌≤◌, Bool, true, false, ◌&&◌, List, [], ◌∷◌, ◌++◌, Some}
 use Rattle.std.specs.Prelude.{None, Result, IfOk, length}
@@ -28,7 +28,7 @@ use Rattle.mem_system.specs.declared.command.Cmd.{Cmd}
 use Rattle.mem_system.specs.declared.command.Cmd.TheVariants as cmd
 use Rattle.mem_system.specs.declared.command.Reply.{Reply}
 use Rattle.mem_system.specs.declared.command.Reply.TheVariants.{Done, Refused}
-use Rattle.mem_system.specs.Visits.{Course, course, LockedState, locked_state, IsServed}
+use Rattle.mem_system.specs.Visits.{Transition, transition, LockedState, locked_state, IsServed}
 use Rattle.reply_texts.specs.Answer.{Answer}
 use Rattle.reply_texts.specs.Answer as answer
 use Rattle.reply_texts.specs.Answers.{answer_text}
@@ -62,7 +62,7 @@ AddsAnswer result old new is_answered = AddsText result old new (IsTextOf is_ans
 -- ---- without the lock
 
 -- no lock is taken: only the CPU makes these steps, and what lies behind the lock stays the same
-pub record TakesNoLock (steps : Run) (way : Course LockedState) : Type 0 where
+pub record TakesNoLock (steps : Run) (way : Transition LockedState) : Type 0 where
   pub locked : way.after.locked ≡ way.before.locked
   pub steps_are : way.steps ≡ steps
 
@@ -72,7 +72,7 @@ fast_steps processor group (Got frame) = cpu_makes processor (step.Consume group
 fast_steps processor group other = []
 
 -- Fast: the result of a fast allocation for this group, which takes no lock
-abbrev pub AnswersFast : (group : ℕ) → Course LockedState → Answer → Type 0
+abbrev pub AnswersFast : (group : ℕ) → Transition LockedState → Answer → Type 0
 AnswersFast group way (answer.Fast fast) =
     FastAnswers group fast way.before.cpu way.after.cpu
     × TakesNoLock (fast_steps way.before.cpu.number group fast) way
@@ -92,7 +92,7 @@ get_steps processor frame (answer.Got Held) = cpu_makes processor (step.Get fram
 get_steps processor frame other = []
 
 -- Get: the pin and the answer, without the lock
-abbrev pub AnswersGet : (frame : ℕ) → Course LockedState → Answer → Type 0
+abbrev pub AnswersGet : (frame : ℕ) → Transition LockedState → Answer → Type 0
 AnswersGet frame way answer =
     GetsPin frame way.before.cpu way.after.cpu answer
     × TakesNoLock (get_steps way.before.cpu.number frame answer) way
@@ -109,7 +109,7 @@ put_steps processor frame (answer.Put put) = cpu_makes processor (step.Put frame
 put_steps processor frame other = []
 
 -- Put: the pin and the answer, without the lock
-abbrev pub AnswersPut : (frame : ℕ) → Course LockedState → Answer → Type 0
+abbrev pub AnswersPut : (frame : ℕ) → Transition LockedState → Answer → Type 0
 AnswersPut frame way answer =
     PutsPin frame way.before.cpu way.after.cpu answer
     × TakesNoLock (put_steps way.before.cpu.number frame answer) way
@@ -119,21 +119,21 @@ AnswersPut frame way answer =
 
 -- the command is served under the lock for a CPU with the part `seen`: the steps are Lock, those of the command, and
 -- Unlock
-pub record IsServedUnderLock (command : Cmd) (seen : KnownCpu) (reply : Reply) (way : Course LockedState) : Type 0 where
+pub record IsServedUnderLock (command : Cmd) (seen : KnownCpu) (reply : Reply) (way : Transition LockedState) : Type 0 where
   pub served : IsServed way.table command reply (locked_state way.before.locked seen) way.after
   pub steps_are : way.steps ≡ under_lock seen.number served.steps
 
 -- the command was served under the lock, and its reply is the answer
-abbrev pub RepliesServed : Cmd → Course LockedState → Answer → Type 0
+abbrev pub RepliesServed : Cmd → Transition LockedState → Answer → Type 0
 RepliesServed command way (answer.Served reply) = IsServedUnderLock command way.before.cpu reply way
 RepliesServed command way other = ⊥
 
 -- the CPU was settled under the lock
-abbrev pub SettlesUnderLock : Course LockedState → Type 0
+abbrev pub SettlesUnderLock : Transition LockedState → Type 0
 SettlesUnderLock way = IsServedUnderLock cmd.Settle way.before.cpu Done way
 
 -- Settle: the CPU was settled
-abbrev pub AnswersSettle : Course LockedState → Answer → Type 0
+abbrev pub AnswersSettle : Transition LockedState → Answer → Type 0
 AnswersSettle way answer.Settled = SettlesUnderLock way
 AnswersSettle way other = ⊥
 
@@ -160,13 +160,13 @@ abbrev pub CanNotList : (frame : ℕ) (before seen : KnownCpu) → Type 0
 CanNotList frame before seen = IsNotFresh frame before seen ⊎ FindsDrained frame before seen
 
 -- the frame couldn't be listed again without the lock, and its Release was served under it
-pub record ReleasesUnderLock (frame : ℕ) (reply : Reply) (way : Course LockedState) : Type 0 where
+pub record ReleasesUnderLock (frame : ℕ) (reply : Reply) (way : Transition LockedState) : Type 0 where
   pub seen : KnownCpu
   pub not_listed : CanNotList frame way.before.cpu seen
   pub served : IsServedUnderLock (cmd.Release frame) seen reply way
 
 -- the answer of a Release, and whether groups may have been killed for it
-abbrev pub AnswersRelease : (frame : ℕ) → Course LockedState → Answer → (may_kill : Bool) → Type 0
+abbrev pub AnswersRelease : (frame : ℕ) → Transition LockedState → Answer → (may_kill : Bool) → Type 0
 AnswersRelease frame way answer.Listed false =
     ListsAgain frame way.before.cpu way.after.cpu
     × TakesNoLock (cpu_makes way.before.cpu.number (step.Credit frame) says.Back ∷ []) way
@@ -190,7 +190,7 @@ pub record GetsFast (path : List ℕ) (before : LockedState) (after : KnownCpu) 
   pub got : FastAnswers group (Got frame) before.cpu after
 
 -- a frame was got without the lock: the step is the CPU's own, and what lies behind the lock stays the same
-pub record AllocatesFast (path : List ℕ) (frame : ℕ) (way : Course LockedState) : Type 0 where
+pub record AllocatesFast (path : List ℕ) (frame : ℕ) (way : Transition LockedState) : Type 0 where
   pub gets : GetsFast path way.before way.after.cpu frame
   pub alone : TakesNoLock (fast_steps way.before.cpu.number gets.group (Got frame)) way
 
@@ -203,13 +203,13 @@ pub record GetsNoneFast (path : List ℕ) (before : LockedState) (seen : KnownCp
   pub none : (frame : ℕ) → fast ≢ Got frame
 
 -- no frame was got without the lock, and the Alloc was served under it
-pub record AllocatesUnderLock (path : Bor (List ℕ)) (reply : Reply) (way : Course LockedState) : Type 0 where
+pub record AllocatesUnderLock (path : Bor (List ℕ)) (reply : Reply) (way : Transition LockedState) : Type 0 where
   pub seen : KnownCpu
   pub none : GetsNoneFast path.now way.before seen
   pub served : IsServedUnderLock (cmd.Alloc path 0) seen reply way
 
 -- the answer of an Alloc of a single frame, and whether groups may have been killed for it
-abbrev pub AnswersFrame : (path : Bor (List ℕ)) → Course LockedState → Answer → (may_kill : Bool) → Type 0
+abbrev pub AnswersFrame : (path : Bor (List ℕ)) → Transition LockedState → Answer → (may_kill : Bool) → Type 0
 AnswersFrame path way (answer.Fast (Got frame)) false = AllocatesFast path.now frame way
 AnswersFrame path way (answer.Served reply) false =
     FindsNoGroup path.now way.before way.after reply × (way.steps ≡ [])
@@ -220,7 +220,7 @@ AnswersFrame path way other may_kill = ⊥
 
 -- The answer of a command, except of those that answer a text of any length, and whether groups may have been killed
 -- for it. They may if the command was served under the lock, except for a Settle, which asks for no memory.
-abbrev pub AnswersWork : Work → Course LockedState → Answer → (may_kill : Bool) → Type 0
+abbrev pub AnswersWork : Work → Transition LockedState → Answer → (may_kill : Bool) → Type 0
 AnswersWork (Visit command) way said true = RepliesServed command way said
 AnswersWork (Frame path) way said may_kill = AnswersFrame path way said may_kill
 AnswersWork (Fast group) way said false = AnswersFast group way said
@@ -238,19 +238,19 @@ kills_text false machine = []
 
 -- the text of the answer; if groups may have been killed and an explanation is asked for, the text continues with why
 -- they were
-pub record WritesAnswer (is_explained : Bool) (work : Work) (way : Course LockedState) (text : List ℕ) : Type 0 where
+pub record WritesAnswer (is_explained : Bool) (work : Work) (way : Transition LockedState) (text : List ℕ) : Type 0 where
   pub said : Answer
   pub may_kill : Bool
   pub answered : AnswersWork work way said may_kill
   pub text_is : text ≡ answer_text said ++ kills_text (may_kill && is_explained) way.after.locked.machine
 
 -- the CPU is settled, and the text is that of the machine after that
-pub record WritesMachine (machine_text : KnownMachine → List ℕ) (way : Course LockedState) (text : List ℕ) : Type 0 where
+pub record WritesMachine (machine_text : KnownMachine → List ℕ) (way : Transition LockedState) (text : List ℕ) : Type 0 where
   pub settles : SettlesUnderLock way
   pub text_is : text ≡ machine_text way.after.locked.machine
 
 -- the answer of a command, as text
-abbrev pub WritesWork : (is_explained : Bool) → Work → Course LockedState → (text : List ℕ) → Type 0
+abbrev pub WritesWork : (is_explained : Bool) → Work → Transition LockedState → (text : List ℕ) → Type 0
 WritesWork is_explained Blocks way text = WritesMachine (λ machine. blocks_text machine.blocks) way text
 WritesWork is_explained Show way text = WritesMachine show_text way text
 WritesWork is_explained work way text = WritesAnswer is_explained work way text
@@ -258,7 +258,7 @@ WritesWork is_explained work way text = WritesAnswer is_explained work way text
 -- the answer of a command, as text, by some steps
 pub record ServesWork (terms : Terms) (work : Work) (before after : LockedState) (text : List ℕ) : Type 0 where
   pub steps : Run
-  pub writes : WritesWork terms.is_explained work (course terms.frames before steps after) text
+  pub writes : WritesWork terms.is_explained work (transition terms.frames before steps after) text
 
 -- the answer of a script's command, as text, by some steps
 abbrev pub ServesCommand : Terms → Command → (before after : LockedState) (text : List ℕ) → Type 0

@@ -11,7 +11,7 @@ use Rattle.mem_machine.specs.Telling.{TellsRun}
 use Rattle.mem_history.specs.Whole.{ShowsAll}
 use Rattle.mem_history.specs.Kept.{AreTied, shown_of}
 use Rattle.mem_system.specs.Locked.{IsQuiet, KnownLocked}
-use Rattle.mem_system.specs.Visits.{course}
+use Rattle.mem_system.specs.Visits.{transition}
 use Rattle.script_lines.specs.declared.line.Line.{Line}
 use Rattle.script_replay.specs.Lines.{SystemState, ServesAll, ServesLine, StopsAt, WritesLine}
 use Rattle.script_replay.specs.Ranges.{LineIsThere}
@@ -46,7 +46,7 @@ pub record TellsFirstAndRest (terms : Terms) (line : Line) (past : Past) (text :
   pub rest : List ℕ
   pub between : SystemState
   pub steps : Run
-  pub writes_first : WritesLine terms.is_explained line (course terms.frames past.now steps between) first
+  pub writes_first : WritesLine terms.is_explained line (transition terms.frames past.now steps between) first
   pub kept_where_legal : IsLegalRun (zone_of terms.frames) (past.run ++ steps)
       → HoldsPromise terms.frames past.run past.now (past.run ++ steps) between
   pub tells : tells_rest (past_line past steps between) rest

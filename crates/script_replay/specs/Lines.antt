@@ -1,10 +1,10 @@
--- What lines do, one after the other. As with commands, `Writes..` relates a course to a text, and `Serves..` does so
+-- What lines do, one after the other. As with commands, `Writes..` relates a transition to a text, and `Serves..` does so
 -- by some steps.
 use Rattle.std.specs.Prelude.{◌≡◌, ℕ, Bool, ◌-◌, ◌≤◌, List, [], ◌∷◌, ◌++◌, Some, length, slice_get, slice_set, take}
 use Rattle.cpu_part.specs.Cpus.{KnownCpu}
 use Rattle.step_rules.specs.After.{Run}
 use Rattle.mem_system.specs.Locked.{KnownLocked}
-use Rattle.mem_system.specs.Visits.{Course, course, locked_state}
+use Rattle.mem_system.specs.Visits.{Transition, transition, locked_state}
 use Rattle.script_lines.specs.declared.line.Line.{Line}
 use Rattle.script_lines.specs.declared.line.Line.TheVariants.{Go, At}
 use Rattle.script_replay.specs.Terms.{Terms}
@@ -30,23 +30,23 @@ pub record AtPart (processor : ℕ) (is_done : (before after : KnownCpu) → Typ
   pub cpus : after ≡ slice_set before (processor - 1) left
 
 -- there is no answer, and nothing is done
-pub record WritesNothing (way : Course SystemState) (text : List ℕ) : Type 0 where
+pub record WritesNothing (way : Transition SystemState) (text : List ℕ) : Type 0 where
   pub text_is : text ≡ []
   pub stays : way.after ≡ way.before
   pub steps_are : way.steps ≡ []
 
--- the answer of a line, as text, on this course; `go` has no answer and does nothing
-abbrev pub WritesLine : (is_explained : Bool) → Line → Course SystemState → (text : List ℕ) → Type 0
+-- the answer of a line, as text, on this transition; `go` has no answer and does nothing
+abbrev pub WritesLine : (is_explained : Bool) → Line → Transition SystemState → (text : List ℕ) → Type 0
 WritesLine is_explained Go way text = WritesNothing way text
 WritesLine is_explained (At number processor command) way text =
     AtPart processor (λ part left. WritesWork is_explained (work_of command)
-    (course way.table (locked_state way.before.locked part) way.steps (locked_state way.after.locked left)) text)
+    (transition way.table (locked_state way.before.locked part) way.steps (locked_state way.after.locked left)) text)
     way.before.cpus way.after.cpus
 
 -- the answer of a line, as text, by some steps
 pub record ServesLine (terms : Terms) (line : Line) (before after : SystemState) (text : List ℕ) : Type 0 where
   pub steps : Run
-  pub writes : WritesLine terms.is_explained line (course terms.frames before steps after) text
+  pub writes : WritesLine terms.is_explained line (transition terms.frames before steps after) text
 
 -- the first line leads to a state between, the other lines lead on from there, and the text is that of the first line
 -- followed by that of the rest

@@ -4,7 +4,7 @@ use Rattle.mem_reclaim.specs.Moves.{Leads}
 use Rattle.mem_reclaim.specs.Passes.{Reclaims}
 use Rattle.mem_reclaim.specs.Staying.{MissedAll}
 use Rattle.mem_machine.specs.Local.{visit_state}
-use Rattle.mem_alloc.specs.Stepping.{course}
+use Rattle.mem_alloc.specs.Stepping.{transition}
 use Rattle.mem_alloc.specs.Blocks.{FindsNoBlock, TakesFreeBlock}
 use Rattle.mem_alloc.proofs.Rounding.{rounds_none, rounds_done, rounds_succeed, rounds_end, rounds_more}
 use Rattle.mem_alloc.proofs.Taking.{is_none, by_none, none_spares}
@@ -56,7 +56,7 @@ loop-round-preserved g c =
     let missed = subst (λ (w : ℕ). given < w → MissedAll 0 c.loop-round.machine x) wants c.reclaim_anywhere-given.ensures.missed in
     let none = is_none _ _ c.args.group c.args.order c.in-Err-NoBlock.field-0 c.in-Err-NoBlock.field-0-is c.in-Err-NoBlock.ensures.refuses in
     let vain = by_none _ c.args.group c.args.order _ _ c.in-Err-NoBlock.field-0 c.in-Err-NoBlock.field-0-is c.in-Err-NoBlock.ensures.steps in
-    let does : FindsNoBlock c.args.group c.args.order (course t (visit_state x c.loop-round.cpu) (unplaced_steps c.args.group c.args.order)
+    let does : FindsNoBlock c.args.group c.args.order (transition t (visit_state x c.loop-round.cpu) (unplaced_steps c.args.group c.args.order)
     (visit_state c.take_block.new.self c.take_block.new.cpu)) = record { none = none; cpu = c.in-Err-NoBlock.ensures.cpu; steps_are = refl } in
     rounds_more t (2 ^ c.args.order) (FindsNoBlock c.args.group c.args.order) (TakesFreeBlock c.args.group c.args.order) c.args.machine.now
     c.args.cpu.now c.loop-round._round c.loop-round.machine c.loop-round.cpu c.loop-round.invariant c.loop-round-test.true given x reclaims

@@ -5,7 +5,7 @@ use Rattle.mem_system.specs.Outcomes.{reply_of}
 use Rattle.mem_system.proofs.Found.{found_there}
 use Rattle.mem_system.proofs.Allocating.{allocated, has_groups}
 use Rattle.mem_machine.specs.Local.{visit_state}
-use Rattle.mem_system.specs.Commands.{BySteps, course}
+use Rattle.mem_system.specs.Commands.{BySteps, transition}
 use Rattle.mem_system.proofs.allocations.allocate.Goals as goal
 
 pub allocate_as-answer-requires-clause-there : goal.allocate_as-answer-requires-clause-there
@@ -25,7 +25,7 @@ returns-clause-allocates g c =
     let told = c.allocate_as-answer.ensures.allocates in
     rw c.outcome_of.ensures (subst (λ (k : ℕ). BySteps t (Allocates c.args.sizes c.args.path.now k (reply_of after.machine.ledger (outcome_of answer))) before after) same (record {
       steps = told.steps;
-      does = allocated c.args.sizes c.args.path.now c.in-Some-of.order c.in-Some.group (course t before told.steps after) found within answer told.does
+      does = allocated c.args.sizes c.args.path.now c.in-Some-of.order c.in-Some.group (transition t before told.steps after) found within answer told.does
           c.allocate_as-answer.ensures.there;
       makes = told.makes;
     }))

@@ -5,7 +5,7 @@ use Rattle.mem_alloc.specs.Frames.{AllocatesFrame}
 use Rattle.mem_alloc.specs.Blocks.{AllocatesBlock}
 use Rattle.mem_alloc.proofs.CallerLemmas.{frame_over_there, block_over_there}
 use Rattle.mem_machine.specs.Local.{visit_state}
-use Rattle.mem_system.specs.Commands.{course}
+use Rattle.mem_system.specs.Commands.{transition}
 use Rattle.mem_system.proofs.Allocating.{frame_fresh, block_fresh}
 use Rattle.mem_system.proofs.allocations.allocate_as.Goals as goal
 
@@ -15,7 +15,7 @@ returns-then-exponent-eq0-clause-there g c =
     let told = c.alloc_frame.ensures.allocates in
     λ h is. frame_over_there t c.args.sizes c.args.group h _ _ _ _ told.steps
     (subst (λ (r : Result ℕ AllocFault). AllocatesFrame c.args.sizes c.args.group r
-    (course t (visit_state c.args.machine.now c.args.cpu.now) told.steps (visit_state c.alloc_frame.new.machine c.alloc_frame.new.cpu))) is told.does)
+    (transition t (visit_state c.args.machine.now c.args.cpu.now) told.steps (visit_state c.alloc_frame.new.machine c.alloc_frame.new.cpu))) is told.does)
 
 pub returns-else-exponent-eq0-clause-there : goal.returns-else-exponent-eq0-clause-there
 returns-else-exponent-eq0-clause-there g c =
@@ -23,7 +23,7 @@ returns-else-exponent-eq0-clause-there g c =
     let told = c.alloc_block.ensures.allocates in
     λ h is. block_over_there t c.args.group c.args.order h _ _ _ _ told.steps
     (subst (λ (r : Result ℕ AllocFault). AllocatesBlock c.args.group c.args.order r
-    (course t (visit_state c.args.machine.now c.args.cpu.now) told.steps (visit_state c.alloc_block.new.machine c.alloc_block.new.cpu))) is told.does)
+    (transition t (visit_state c.args.machine.now c.args.cpu.now) told.steps (visit_state c.alloc_block.new.machine c.alloc_block.new.cpu))) is told.does)
 
 pub returns-then-exponent-eq0-clause-fresh : goal.returns-then-exponent-eq0-clause-fresh
 returns-then-exponent-eq0-clause-fresh g c =
