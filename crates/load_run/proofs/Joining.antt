@@ -36,7 +36,8 @@ later_there sizes t w n lines later sized is all =
     subst (λ (l : List Line). All (LineIsThere t.frames t.cpus) l) (sym is)
     (All-drop (LineIsThere t.frames t.cpus) n lines (there sizes.frames sizes.cpus t.frames t.cpus lines (sym sized.frames) (sym sized.cpus) all))
 
--- the early lines were served from the boot on, the later ones told by processor, and the boot ended: these are the answers
+-- the early lines were served from the boot on, the later ones told by processor, and the boot ended: these are the
+-- answers
 pub are_answers : (sizes : Config) (is_audited : Bool) (t : KnownTable) (w : Words) (lines first_lines other_lines : List Line)
     (start at_go : SystemState) (early later text : List ℕ) (told : Ended) → StandsAtFirst sizes t w start
     → first_lines ≡ take (lines_before_go lines) lines → other_lines ≡ drop (lines_before_go lines) lines

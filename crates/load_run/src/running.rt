@@ -15,9 +15,9 @@ use script_lines::line::Line;
 use script_replay::replay;
 use std::alloc::{AllocError, Global};
 
-/// Replays the lines on a boot under a name of its tables, and ends it. It returns what they are answered, with why groups
-/// were killed and the report of the end if these are asked for. `AllocError` means that memory ran out: a boot that
-/// began has ended then too.
+/// Replays the lines on a boot under a name of its tables, and ends it. It returns what they are answered, with why
+/// groups were killed and the report of the end if these are asked for. `AllocError` means that memory ran out: a boot
+/// that began has ended then too.
 pub fn replay_on_boot<N: BootName>(
     alloc: Global,
     boot: Boot,

@@ -10,11 +10,15 @@ ghost use Rattle.machine_texts.specs.Places.{IsAt, IsFirstElsewhere, run_length}
 use crate::characters::push_characters;
 use group_tree::group::GroupId;
 use group_tree::tree::Tree;
-use mem_machine::{Place, FrameState};
+use mem_machine::{FrameState, Place};
 use std::alloc::AllocError;
 
 // A line for each longest run of frames with equal place.
-pub(crate) fn write_places(frame_states: &[FrameState], tree: &Tree, text: &mut String) -> Result<(), AllocError>
+pub(crate) fn write_places(
+    frame_states: &[FrameState],
+    tree: &Tree,
+    text: &mut String,
+) -> Result<(), AllocError>
     requires { All (FrameStateIsThere tree.now) frame_states.now }
     ensures { IfOk result (λ _. string_bytes text.new ≡ string_bytes text.old ++ places_text tree.now frame_states.now) }
 {
@@ -40,9 +44,15 @@ fn first_elsewhere(frame_states: &[FrameState], place: &Place) -> Option<usize>
     ensures { MatchOption result (All (IsAt place.now) frame_states.now) (λ at. IsFirstElsewhere place.now frame_states.now at) }
 {
     match *place {
-        Place::Free => frame_states.iter().position(|frame_state| !is_free(frame_state)),
-        Place::Lent(cpu) => frame_states.iter().position(|frame_state| !is_lent(frame_state, cpu)),
-        Place::Charged(group) => frame_states.iter().position(|frame_state| !is_charged(frame_state, group)),
+        Place::Free => frame_states
+            .iter()
+            .position(|frame_state| !is_free(frame_state)),
+        Place::Lent(cpu) => frame_states
+            .iter()
+            .position(|frame_state| !is_lent(frame_state, cpu)),
+        Place::Charged(group) => frame_states
+            .iter()
+            .position(|frame_state| !is_charged(frame_state, group)),
     }
 }
 

@@ -1,5 +1,5 @@
--- What is kept on the way to a frame, and how the parts of an allocation fit together. Serves `charge_frame`, `pay_for_frame`, `fill_list` and
--- `alloc_frame`.
+-- What is kept on the way to a frame, and how the parts of an allocation fit together. Serves `charge_frame`,
+-- `pay_for_frame`, `fill_list` and `alloc_frame`.
 use Rattle.std.proofs.Common.{◌≡◌, ℕ, zero, suc, ◌+◌, ◌<◌, ◌≤◌, true, false, List, [], ◌∷◌, ◌++◌, length, refl, sym, ap, ◌∙◌, subst, inl, inr}
 use Rattle.std.proofs.Common.{arith, length-append}
 use Rattle.std.specs.Prelude.{Result, Ok, Err, IsErr, IfErr, OnOk}

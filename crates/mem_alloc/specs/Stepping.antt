@@ -7,8 +7,8 @@ use Rattle.mem_machine.specs.Machines.{KnownMachine}
 use Rattle.mem_machine.specs.Local.{VisitState, Makes, MakesForAny}
 use Rattle.mem_reclaim.specs.Moves.{missed_in}
 
--- The transition of a call at a table: the state before, its steps with their answers, and the state after. The state is a
--- visit state, or the machine alone. A parameter named `way` is always the transition of a call.
+-- The transition of a call at a table: the state before, its steps with their answers, and the state after. The state
+-- is a visit state, or the machine alone. A parameter named `way` is always the transition of a call.
 pub record Transition (Stand : Type 0) : Type 0 where
   pub table : KnownTable
   pub before : Stand

@@ -1,5 +1,5 @@
--- A new boot shows the run of no step, and to the first that takes the lock the run of that. Serves `a_boot_is_shown` and
--- `the_first_holder_is_shown`.
+-- A new boot shows the run of no step, and to the first that takes the lock the run of that. Serves `a_boot_is_shown`
+-- and `the_first_holder_is_shown`.
 use Rattle.std.proofs.Common.{◌≡◌, ℕ, ◌==◌, Bool, true, false, cond, List, [], refl, sym, ◌∙◌, ap, subst, zero, suc, get_or, replicate}
 use Rattle.frame_word.specs.Views.{blank}
 use Rattle.frame_word.specs.Seats.{KnownTable, KnownSeat, holds, first_cpu_view}

@@ -92,8 +92,8 @@ some_charged t w m ok legal k le =
     let sized = ok.sizes.frame_states in
     omega (arith, grows, all, few, sized)
 
--- What the first groups are charged for: with one more its frames more, at most the frames of the zone, and of all groups
--- the frames that are charged
+-- What the first groups are charged for: with one more its frames more, at most the frames of the zone, and of all
+-- groups the frames that are charged
 pub record AreCounted (frames : ℕ) (frame_states : List FrameState) : Type 0 where
   pub next : (k : ℕ) → sum_to (k + 1) (frames_charged frame_states) ≡ sum_to k (frames_charged frame_states) + frames_charged frame_states k
   pub within : (k : ℕ) → k ≤ 64 → sum_to k (frames_charged frame_states) ≤ frames

@@ -1,4 +1,5 @@
--- Stocks that are drained: the books and the charges, and the steps. Serves `drain_of`, `drain_stock` and all calls made of them.
+-- Stocks that are drained: the books and the charges, and the steps. Serves `drain_of`, `drain_stock` and all calls
+-- made of them.
 use Rattle.std.proofs.Common.{◌≡◌, ℕ, ◌+◌, ◌-◌, ◌<◌, ◌≤◌, ◌==◌, ◌&&◌, Bool, true, false, Option, Some, None, List, [], ◌∷◌, length, map, zero}
 use Rattle.std.proofs.Common.{suc, refl, sym, ap, ◌∙◌, subst, inl, inr, arith, cond, eq-eqb}
 use Rattle.std.specs.Prelude.{nat_le, is_some}

@@ -1,4 +1,5 @@
--- Who holds the lock, by the zone's seat; and the steps that open and shut a visit. Serves `open` and `shut`, and who acts in every call.
+-- Who holds the lock, by the zone's seat; and the steps that open and shut a visit. Serves `open` and `shut`, and who
+-- acts in every call.
 use Rattle.std.proofs.Common.{◌≡◌, ℕ, ◌≤◌, ◌&&◌, ◌==◌, Bool, true, false, get_or, cond, refl, sym, ap, ◌∙◌, subst, eq-eqb}
 use Rattle.std.proofs.lemmas.Bool.{and_from, le-leb, cond-true}
 use Rattle.std.specs.Prelude.{nat_le, not}

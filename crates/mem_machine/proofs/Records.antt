@@ -1,4 +1,5 @@
--- One frame's record and the zone's note of it change. Serves `lend_one`, `take_one_back` and all calls that move frames.
+-- One frame's record and the zone's note of it change. Serves `lend_one`, `take_one_back` and all calls that move
+-- frames.
 use Rattle.std.proofs.Common.{◌≡◌, ℕ, ◌+◌, ◌<◌, ◌≤◌, Bool, true, false, Option, Some, None, List, [], ◌∷◌, length, get_or, refl, sym, ap, ◌∙◌, subst, inl, inr}
 use Rattle.std.proofs.Common.{arith, zero, suc}
 use Rattle.std.specs.Prelude.{slice_set}

@@ -1,4 +1,5 @@
--- All fresh frames and then all back frames are settled. Serves `settle_one` and the loops of `settle_fresh` and `settle_back`.
+-- All fresh frames and then all back frames are settled. Serves `settle_one` and the loops of `settle_fresh` and
+-- `settle_back`.
 use Rattle.std.proofs.Common.{◌≡◌, ◌≢◌, ℕ, ◌<◌, Bool, true, false, None, List, [], ◌∷◌, length, refl, sym, ap, ◌∙◌, subst}
 use Rattle.std.proofs.Common.{arith, inl, inr}
 use Rattle.std.specs.List.{flat_map}

@@ -1,4 +1,5 @@
--- The units after a block of frames that were charged to no group was placed for one. Serves all calls that charge a unit.
+-- The units after a block of frames that were charged to no group was placed for one. Serves all calls that charge a
+-- unit.
 use Rattle.std.proofs.Common.{◌≡◌, ℕ, ◌+◌, ◌^◌, ◌≤◌, ◌<◌, true, false, None, List, length, refl, sym, ap, ◌∙◌, subst, arith, inl, inr}
 use Rattle.std.proofs.lemmas.Bool.{cases_eq}
 use Rattle.std.proofs.lemmas.Option.{none-some}

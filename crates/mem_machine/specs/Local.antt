@@ -80,8 +80,8 @@ references_of zone_seat cpu seat frame =
 abbrev pub hold_of : KnownSeat → ℕ → Hold
 hold_of seat processor = if slice_index seat.view.opened processor == 1 then Visiting processor else HeldBy processor
 
--- The local state of a visit state: what the machine shows to the CPU that holds the lock, in the words of the rules. No page
--- is pending between two calls.
+-- The local state of a visit state: what the machine shows to the CPU that holds the lock, in the words of the rules.
+-- No page is pending between two calls.
 abbrev pub local_of : KnownTable → KnownMachine → KnownCpu → State
 local_of table machine cpu = record {
   zone = record { frames = table.frames; cpus = table.cpus };
@@ -98,8 +98,8 @@ local_of table machine cpu = record {
 abbrev pub local_at : KnownTable → VisitState → State
 local_at table now = local_of table now.machine now.cpu
 
--- These steps, of the CPU of this number and of the zone's seat, lead from one visit state to another. They are local steps
--- between the two local states. The ledger's peaks and event counts follow them, and so do the machine's counts.
+-- These steps, of the CPU of this number and of the zone's seat, lead from one visit state to another. They are local
+-- steps between the two local states. The ledger's peaks and event counts follow them, and so do the machine's counts.
 pub record MakesAs (table : KnownTable) (number : ℕ) (before : VisitState) (steps : Run) (after : VisitState) : Type 0 where
   pub leads : IsLocalRun number (local_at table before) steps (local_at table after)
   pub follows : FollowsSteps (local_at table before) before.machine.ledger steps after.machine.ledger
@@ -109,7 +109,8 @@ pub record MakesAs (table : KnownTable) (number : ℕ) (before : VisitState) (st
 abbrev pub Makes : KnownTable → VisitState → Run → VisitState → Type 0
 Makes table before steps after = MakesAs table before.cpu.number before steps after
 
--- the steps that a function gives for the visit state before lead the CPU that holds the lock from that visit state to the other
+-- the steps that a function gives for the visit state before lead the CPU that holds the lock from that visit state to
+-- the other
 abbrev pub MakesBy : KnownTable → (VisitState → Run) → VisitState → VisitState → Type 0
 MakesBy table steps before after = Makes table before (steps before) after
 

@@ -192,8 +192,8 @@ abbrev pub LacksRoom : KnownMachine → ℕ → ℕ → ℕ → Type 0
 LacksRoom machine group pages lowest =
     IsLowestOver machine.ledger.groups (current_of machine.ledger) group pages lowest
 
--- A visit state is the machine with the part of the CPU that holds its lock. A call of the machine leads from one visit state to
--- another.
+-- A visit state is the machine with the part of the CPU that holds its lock. A call of the machine leads from one visit
+-- state to another.
 pub record VisitState : Type 0 where
   pub machine : KnownMachine
   pub cpu : KnownCpu
@@ -207,7 +207,8 @@ pub record VisitStateStays (before after : VisitState) : Type 0 where
   pub machine : after.machine ≡ before.machine
   pub cpu : after.cpu ≡ before.cpu
 
--- `First` leads from the visit state before to a visit state between, and `Rest` leads from there to the visit state after
+-- `First` leads from the visit state before to a visit state between, and `Rest` leads from there to the visit state
+-- after
 pub record FirstThen (First Rest : VisitState → VisitState → Type 0) (before after : VisitState) : Type 0 where
   pub between : VisitState
   pub first : First before between

@@ -6,9 +6,9 @@ ghost use Rattle.mem_machine.specs.Paying.{MayCharge};
 ghost use Rattle.mem_machine.specs.Blocks.{PlacesUnit, TakesBlock, RefusesBlock, block_steps};
 ghost use Rattle.mem_machine.specs.Local.{Makes, visit_state};
 
+use crate::frame_state::FrameState;
 use crate::lists::join_list;
 use crate::machine::Machine;
-use crate::frame_state::FrameState;
 use cpu_part::{BootName, Cpu, Tables};
 use frame_word::Frame;
 use group_charge::charges::Over;

@@ -5,10 +5,10 @@ ghost use Rattle.mem_machine.specs.Machines.{HeadsKeptUnit, StaysVisited};
 ghost use Rattle.mem_machine.specs.Evicting.{Evicts, evict_steps};
 ghost use Rattle.mem_machine.specs.Local.{MakesForAny};
 
+use crate::frame_state::FrameState;
 use crate::freed::free_unit;
 use crate::lists::leave_list;
 use crate::machine::Machine;
-use crate::frame_state::FrameState;
 use cpu_part::{BootName, Tables};
 use frame_word::Frame;
 
@@ -33,7 +33,13 @@ impl<N: BootName> Machine<N> {
         };
         let order = unit.order;
         leave_list(&mut self.links, &mut self.lists, at);
-        free_unit(&mut self.zone, &mut self.frame_states, &mut self.charges, at, unit);
+        free_unit(
+            &mut self.zone,
+            &mut self.frame_states,
+            &mut self.charges,
+            at,
+            unit,
+        );
         self.counts = self.counts.with_freeze();
         Some(order.frames())
     }

@@ -10,8 +10,8 @@ ghost use Rattle.mem_machine.specs.Lending.{TakesBackIfListed, TakesManyBack, un
 ghost use Rattle.mem_machine.specs.Local.{Makes, MakesBy, visit_state};
 ghost use Rattle.mem_machine.specs.Steps.{lend_steps};
 
-use crate::machine::Machine;
 use crate::frame_state::FrameState;
+use crate::machine::Machine;
 use cpu_part::{BootName, Cpu, Tables};
 use frame_word::Frame;
 use zone_blocks::block::Block;

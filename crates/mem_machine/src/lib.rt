@@ -12,10 +12,10 @@
 //!   whose last reference the CPU put.
 //! - A stock's book is all that was charged through it: the pages in it, those that paid for fresh frames, and those
 //!   that are reported and not absorbed yet.
-//! - A `VisitState` is the machine with the part of the CPU that holds its lock. `Visits` says that this CPU's visit is open.
-//!   A visit lasts from `open` to `shut`, and frames are handed over only inside it.
-//! - `local_of` is what a visit state shows, in the words of the rules. `Makes` says that a list of steps leads from one visit state
-//!   to another.
+//! - A `VisitState` is the machine with the part of the CPU that holds its lock. `Visits` says that this CPU's visit is
+//!   open. A visit lasts from `open` to `shut`, and frames are handed over only inside it.
+//! - `local_of` is what a visit state shows, in the words of the rules. `Makes` says that a list of steps leads from
+//!   one visit state to another.
 //!
 //! A line that ends in 'Called for its contract' calls a reader and changes nothing. A proof knows the invariant of a
 //! type only from the contract of such a call. The calls of `list_laws` are made for the same reason.
@@ -23,9 +23,9 @@
 
 mod ageing;
 mod blocks;
-mod stock_ledger;
 mod counts;
 mod evicting;
+mod frame_state;
 mod freed;
 mod groups;
 pub mod laws;
@@ -39,14 +39,14 @@ mod places;
 mod readers;
 mod releasing;
 mod settling;
-mod frame_state;
 mod start;
+mod stock_ledger;
 mod stocks;
 mod visits;
 
 pub use blocks::TakeFault;
 pub use counts::Counts;
+pub use frame_state::{FrameState, Place};
 pub use machine::Machine;
 pub use releasing::Released;
-pub use frame_state::{Place, FrameState};
 pub use step_rules::laws::{other_step, own_step};

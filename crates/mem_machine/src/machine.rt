@@ -5,10 +5,10 @@ ghost use Rattle.frame_word.specs.Seats.{first_zone_view};
 ghost use Rattle.stock_word.specs.Stock.{first_zone_stock};
 ghost use Rattle.mem_machine.specs.Machines.{IsConsistent, IsFirst};
 
-use crate::stock_ledger::StockLedger;
 use crate::counts::Counts;
 use crate::frame_state::FrameState;
 use crate::start::{frame_rooms, group_rooms};
+use crate::stock_ledger::StockLedger;
 use cpu_part::{BootName, Tables};
 use frame_word::FrameSeat;
 use group_charge::charges::Charges;

@@ -8,8 +8,8 @@ ghost use Rattle.mem_machine.specs.FrameStates.{frame_state_at, free_of, place_o
 ghost use Rattle.mem_machine.specs.Machines.{HeadsKeptUnit, IsConsistent, frames_charged, is_killed};
 
 use crate::counts::Counts;
+use crate::frame_state::{FrameState, Place};
 use crate::machine::Machine;
-use crate::frame_state::{Place, FrameState};
 use cpu_part::BootName;
 use frame_word::Frame;
 use group_charge::charges::Charges;

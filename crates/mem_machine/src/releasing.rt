@@ -5,10 +5,10 @@ ghost use Rattle.mem_machine.specs.Machines.{HeadsKeptUnit, StaysVisited, Visits
 ghost use Rattle.mem_machine.specs.Releasing.{Releases, release_steps};
 ghost use Rattle.mem_machine.specs.Local.{Makes, MakesForAny, visit_state};
 
+use crate::frame_state::FrameState;
 use crate::freed::free_unit;
 use crate::lists::leave_list;
 use crate::machine::Machine;
-use crate::frame_state::FrameState;
 use cpu_part::{BootName, Cpu, Tables};
 use frame_word::{Frame, Put};
 
@@ -40,7 +40,13 @@ impl<N: BootName> Machine<N> {
                 let FrameState::Head(unit) = self.frame_states[at as usize] else {
                     unreachable!()
                 };
-                free_unit(&mut self.zone, &mut self.frame_states, &mut self.charges, at, unit);
+                free_unit(
+                    &mut self.zone,
+                    &mut self.frame_states,
+                    &mut self.charges,
+                    at,
+                    unit,
+                );
                 self.counts = self.counts.with_last_put();
                 Released::Returned
             }

@@ -9,10 +9,10 @@ ghost use Rattle.mem_machine.specs.Settling.{ReturnsNext, ReturnsAllBack, Leaves
 ghost use Rattle.mem_machine.specs.Settling.{MakesFreshSteps, MakesReturnSteps, keep_steps, drop_steps};
 ghost use Rattle.mem_machine.specs.Settling.{all_fresh_steps, return_all_steps, settle_steps};
 
+use crate::frame_state::FrameState;
 use crate::freed::free_unit;
 use crate::lists::join_list;
 use crate::machine::Machine;
-use crate::frame_state::FrameState;
 use cpu_part::{BootName, Cpu, Tables};
 use frame_word::Frame;
 use group_tree::group::GroupId;
@@ -86,7 +86,13 @@ impl<N: BootName> Machine<N> {
         let FrameState::Head(unit) = self.frame_states[at as usize] else {
             unreachable!()
         };
-        free_unit(&mut self.zone, &mut self.frame_states, &mut self.charges, at, unit);
+        free_unit(
+            &mut self.zone,
+            &mut self.frame_states,
+            &mut self.charges,
+            at,
+            unit,
+        );
         self.counts = self.counts.with_last_put();
         Some(frame)
     }

@@ -1,5 +1,5 @@
--- Several groups that are killed, one after the other, and the notes around their kills. Serves `kill_noted`, `kill_below`,
--- `kill_subtree` and `kill`.
+-- Several groups that are killed, one after the other, and the notes around their kills. Serves `kill_noted`,
+-- `kill_below`, `kill_subtree` and `kill`.
 use Rattle.std.proofs.Common.{◌≡◌, ℕ, ◌+◌, ◌≤◌, Bool, true, false, Option, List, [], ◌∷◌, ◌++◌, cond, refl, sym, ap, ◌∙◌, subst, arith, inl, inr}
 use Rattle.std.proofs.Common.{All, ◌&&◌}
 use Rattle.std.specs.Prelude.{not, slice_set}

@@ -1,4 +1,5 @@
--- Serves `allocate` and `serve_frame_outcome`: what an allocation for a group came to is what an Alloc for its path does.
+-- Serves `allocate` and `serve_frame_outcome`: what an allocation for a group came to is what an Alloc for its path
+-- does.
 use Rattle.std.proofs.Common.{◌≡◌, ◌≤◌, ℕ, zero, suc, IsTrue, List, [], Some, refl, subst, arith}
 use Rattle.std.specs.Prelude.{Result, Ok, Err, MatchResult, ◌≢◌, ◌∷◌}
 use Rattle.frame_word.specs.Seats.{KnownTable}

@@ -47,8 +47,8 @@ HasItsGroups ledger (outcome.Charged group) = IsTrue (has_group ledger.groups gr
 HasItsGroups ledger (outcome.OverLimit group) = IsTrue (has_group ledger.groups group)
 HasItsGroups ledger other = Unit {0}
 
--- A call had this outcome: local steps lead from one visit state to another and do this, with the reply that the ledger after
--- them makes of the outcome.
+-- A call had this outcome: local steps lead from one visit state to another and do this, with the reply that the ledger
+-- after them makes of the outcome.
 abbrev pub ComesTo : KnownTable → Outcome → (Reply → Transition VisitState → Type 0) → (before after : VisitState) → Type 0
 ComesTo table outcome Does before after = BySteps table (Does (reply_of after.machine.ledger outcome)) before after
 

@@ -42,11 +42,11 @@ pub record LockedState : Type 0 where
   pub locked : KnownLocked
   pub cpu : KnownCpu
 
--- the holder of the lock with this part, and this behind the lock
+-- the locked state with this part, and this behind the lock
 abbrev pub locked_state : KnownLocked → KnownCpu → LockedState
 locked_state locked cpu = record { locked = locked; cpu = cpu }
 
--- the visit state of the holder: the machine behind the lock, and its part
+-- the visit state in the locked state: the machine behind the lock, and its part
 abbrev pub visit_state_of : LockedState → VisitState
 visit_state_of now = visit_state now.locked.machine now.cpu
 
@@ -56,8 +56,8 @@ visit_steps before inner =
     open_steps before.cpu.number ++ (settle_steps (visited before) ++ (inner ++ shut_steps before.cpu.number))
 
 -- A command under the lock. Earlier notes are forgotten, the caller's visit is opened, the caller is settled, the
--- command is executed, and the visit is shut. The command kills a group only after it tried everything else, and only its
--- own steps kill. The misses that are noted are those among its steps.
+-- command is executed, and the visit is shut. The command kills a group only after it tried everything else, and only
+-- its own steps kill. The misses that are noted are those among its steps.
 pub record Serves (cmd : Cmd) (reply : Reply) (way : Transition LockedState) : Type 0 where
   pub settled : VisitState
   pub settles : Settles (begun (visit_state_of way.before)) settled
@@ -71,7 +71,7 @@ pub record Serves (cmd : Cmd) (reply : Reply) (way : Transition LockedState) : T
   pub sizes : way.after.locked.sizes ≡ way.before.locked.sizes
   pub steps_are : way.steps ≡ visit_steps (visit_state_of way.before) inner
 
--- a command was served under the lock with this reply: these steps lead from one holder to the other, and the machine's
+-- a command was served under the lock with this reply: these steps lead from one locked state to the other, and the machine's
 -- counts follow them
 pub record IsServed (table : KnownTable) (cmd : Cmd) (reply : Reply) (before after : LockedState) : Type 0 where
   pub steps : Run

@@ -39,5 +39,5 @@ pub use outcome::Outcome;
 pub use system::System;
 pub use system_end::Held;
 pub use texts::{blocks, show};
-pub use visits::{serve_outcome, serve_frame_outcome, serve, settle};
+pub use visits::{serve, serve_frame_outcome, serve_outcome, settle};
 pub use zone_sizes::config::Config;

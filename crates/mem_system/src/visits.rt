@@ -60,8 +60,8 @@ pub(crate) fn serve_into<N: BootName>(
     tell(locked.charges(), outcome, reply);
 }
 
-/// Serves one command of the CPU, which holds the lock, as `serve_outcome` does, and returns its reply with texts. A frame
-/// that the command names is a frame of the zone.
+/// Serves one command of the CPU, which holds the lock, as `serve_outcome` does, and returns its reply with texts. A
+/// frame that the command names is a frame of the zone.
 #[inline(always)]
 pub fn serve<N: BootName>(
     locked: &mut Locked<N>,
@@ -79,8 +79,8 @@ pub fn serve<N: BootName>(
     reply
 }
 
-/// Serves an Alloc of order 0 for an existing group, as `serve_outcome` does for each path of that group, but looks up no
-/// path.
+/// Serves an Alloc of order 0 for an existing group, as `serve_outcome` does for each path of that group, but looks up
+/// no path.
 #[inline(always)]
 pub fn serve_frame_outcome<N: BootName>(
     locked: &mut Locked<N>,

@@ -1,6 +1,6 @@
 -- What a CPU's command does, to the CPU's part and behind the lock, by which steps, and what its answer is. `Answers..`
--- relates a transition to an answer, and `Writes..` relates a transition to a text. `Serves..` relates the state before, the
--- state after and a text, by some steps.
+-- relates a transition to an answer, and `Writes..` relates a transition to a text. `Serves..` relates the state
+-- before, the state after and a text, by some steps.
 use Rattle.std.specs.Prelude.{◌≡◌, ◌≢◌, ◌⊎◌, ℕ, ◌+◌, ◌<◌, ◌≤◌, Bool, true, false, ◌&&◌, List, [], ◌∷◌, ◌++◌, Some}
 use Rattle.std.specs.Prelude.{None, Result, IfOk, length}
 use Rattle.std.specs.declared.string.String.{String}

@@ -1,5 +1,5 @@
--- What lines do, one after the other. As with commands, `Writes..` relates a transition to a text, and `Serves..` does so
--- by some steps.
+-- What lines do, one after the other. As with commands, `Writes..` relates a transition to a text, and `Serves..` does
+-- so by some steps.
 use Rattle.std.specs.Prelude.{◌≡◌, ℕ, Bool, ◌-◌, ◌≤◌, List, [], ◌∷◌, ◌++◌, Some, length, slice_get, slice_set, take}
 use Rattle.cpu_part.specs.Cpus.{KnownCpu}
 use Rattle.step_rules.specs.After.{Run}

@@ -19,7 +19,7 @@ use group_tree::fault::Fault;
 use group_tree::group::GroupId;
 use kill_texts::write_explanation;
 use machine_texts::{write_blocks, write_show};
-use mem_system::{Cmd, Locked, serve_outcome, serve_frame_outcome, settle};
+use mem_system::{Cmd, Locked, serve_frame_outcome, serve_outcome, settle};
 use reply_texts::{write_fast, write_listed, write_outcome, write_refusal, write_settled};
 use script_lines::line::Command;
 use std::alloc::AllocError;

@@ -176,7 +176,13 @@ impl StockWords {
 
 impl StockWords {
     /// Consume: the stock word of the CPU goes from the stock that it saw last to one page less, or is found drained.
-    pub(crate) fn step_consume(&self, place: &mut RawSeat, number: u32, group: u32, pages: u32) -> u64
+    pub(crate) fn step_consume(
+        &self,
+        place: &mut RawSeat,
+        number: u32,
+        group: u32,
+        pages: u32,
+    ) -> u64
         requires table { place.old.table ≡ self.now.table }
         requires alone { IsAlone place.old.views }
         requires number { number ≡ (first_of place.old.views).number }
@@ -203,7 +209,13 @@ impl StockWords {
     }
 
     /// Credit: the stock word of the CPU goes from the stock that it saw last to one page more, or is found drained.
-    pub(crate) fn step_credit(&self, place: &mut RawSeat, number: u32, group: u32, pages: u32) -> u64
+    pub(crate) fn step_credit(
+        &self,
+        place: &mut RawSeat,
+        number: u32,
+        group: u32,
+        pages: u32,
+    ) -> u64
         requires table { place.old.table ≡ self.now.table }
         requires alone { IsAlone place.old.views }
         requires number { number ≡ (first_of place.old.views).number }

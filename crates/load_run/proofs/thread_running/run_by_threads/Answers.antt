@@ -1,5 +1,5 @@
--- Serves the contract of `run_by_threads`: what stands goes from the boot to the lines before `go`, from these to the threads, and
--- ends.
+-- Serves the contract of `run_by_threads`: what stands goes from the boot to the lines before `go`, from these to the
+-- threads, and ends.
 use Rattle.std.proofs.Common.{◌≡◌, ◌∙◌, ◌≤◌, ℕ, false, List, [], ◌++◌, length, ap, subst, sym, take, drop}
 use Rattle.cpu_part.specs.Cpus.{KnownCpu}
 use Rattle.mem_system.proofs.Closing.{written_back}

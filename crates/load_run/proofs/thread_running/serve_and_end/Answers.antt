@@ -1,4 +1,5 @@
--- Serves the contract of `serve_and_end`: what the threads left is some value behind the lock, and as many parts, and ends.
+-- Serves the contract of `serve_and_end`: what the threads left is some value behind the lock, and as many parts, and
+-- ends.
 use Rattle.std.proofs.Common.{◌≡◌, ◌∙◌, ℕ, List, All, IfOk, length, ap, arith, sym, subst}
 use Rattle.cpu_part.specs.Cpus.{KnownCpu}
 use Rattle.mem_system.proofs.Closing.{written_back}
