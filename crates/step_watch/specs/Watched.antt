@@ -1,5 +1,5 @@
 -- What a watch says of the steps that it took.
-use Rattle.std.specs.Prelude.{◌≡◌, ℕ, ◌+◌, ◌++◌, Bool, true, false, Option, Some, None, [], ◌∷◌, length}
+use Rattle.std.specs.Prelude.{◌≡◌, ℕ, ◌+◌, ◌++◌, ◌&&◌, not, Bool, true, false, Option, Some, None, is_some, [], ◌∷◌, length}
 use Rattle.zone_sizes.specs.declared.config.Config.{Config}
 use Rattle.step_rules.specs.State.{Zone, State, at_boot}
 use Rattle.step_rules.specs.Legal.{Allows}
@@ -15,6 +15,10 @@ pub record KnownWatch : Type 0 where
 -- a watch that is off
 abbrev pub watch_off : KnownWatch
 watch_off = record { core = None; is_legal = false }
+
+-- the watch is on and has stopped at a step
+abbrev pub has_failed : KnownWatch → Bool
+has_failed watch = is_some watch.core && not watch.is_legal
 
 -- the state of the rules that a checker has reached; without a checker, that of a zone without frames and CPUs
 abbrev pub state_reached : Option CoreState → State

@@ -1,11 +1,11 @@
 //! The watch, and how it takes a step.
 
-ghost use Rattle.std.specs.Prelude.{◌≡◌, ◌∷◌, [], ◌×◌, ◌+◌, IfOk, IsTrue};
+ghost use Rattle.std.specs.Prelude.{◌≡◌, ◌∷◌, [], ◌+◌, IfOk, IsTrue};
 ghost use Rattle.step_rules.specs.declared.step.Action.TheVariants.{Make};
 ghost use Rattle.step_rules.specs.declared.step.Answer.TheVariants.{Number};
 ghost use Rattle.mem_core.specs.Shown.{state_in, zone_of};
 ghost use Rattle.mem_core.specs.Checked.{Leads};
-ghost use Rattle.step_watch.specs.Watched.{IsNewWatch, Watches, steps_seen, watch_off};
+ghost use Rattle.step_watch.specs.Watched.{IsNewWatch, Watches, has_failed, steps_seen, watch_off};
 ghost use Rattle.zone_sizes.specs.Config.{IsValidConfig};
 
 use group_tree::group::GroupId;
@@ -76,6 +76,13 @@ impl Watch {
         ensures { result ≡ self.now.is_legal }
     {
         self.is_legal
+    }
+
+    /// Whether the watch stopped at a step that the rules don't allow.
+    pub fn has_failed(&self) -> bool
+        ensures { result ≡ has_failed self.now }
+    {
+        self.checker.is_some() && !self.is_legal
     }
 
     /// How many steps the watch took, with the one at which it stopped.
