@@ -16,6 +16,7 @@ use Rattle.group_charge.proofs.SumLemmas.{share}
 use Rattle.stock_word.specs.Stock.{Words}
 use Rattle.step_rules.specs.State.{sum_to}
 use Rattle.step_rules.specs.After.{Run}
+use Rattle.kill_notes.specs.declared.note.Note.TheVariants as notes
 use Rattle.mem_machine.specs.Machines.{IsConsistent, KnownMachine, is_killed, with_watch, with_note}
 use Rattle.mem_machine.specs.Local.{MakesForAny, visit_state}
 use Rattle.mem_machine.specs.Steps.{note_oom_steps}
@@ -194,12 +195,12 @@ pub record KillsSoFar (r : Option ℕ) (t : KnownTable) (g pages : ℕ) (m n : K
 
 -- the note, after the event
 pub so_far_nobody : (r : Option ℕ) (t : KnownTable) (g pages : ℕ) (m x n : KnownMachine)
-    → x ≡ record m { ledger = with_oom_noted m.ledger g; watch = x.watch } → MakesForAny t m (note_oom_steps g) x → n ≡ with_note x (Oom g)
+    → x ≡ record m { ledger = with_oom_noted m.ledger g; watch = x.watch } → MakesForAny t m (note_oom_steps g) x → n ≡ with_note x (notes.Oom g)
     → KillsSoFar r t g pages m n
-so_far_nobody r t g pages m x n event noting note =
+so_far_nobody r t g pages m x n event noting noted =
     let noting_m : MakesForAny t m (note_oom_steps g) (record m { ledger = with_oom_noted m.ledger g; watch = x.watch }) =
     subst (λ (y : KnownMachine). MakesForAny t m (note_oom_steps g) y) event noting in
-    subst (λ (y : KnownMachine). KillsSoFar r t g pages m y) (sym (note ∙ (λ i. with_note (event i) (Oom g)))) (record {
+    subst (λ (y : KnownMachine). KillsSoFar r t g pages m y) (sym (noted ∙ (λ i. with_note (event i) (notes.Oom g)))) (record {
       seen = x.watch;
       notes = λ c. record { leads = (noting_m c).leads; follows = (noting_m c).follows; counts = (noting_m c).counts; watched = (noting_m c).watched };
       victims = [];

@@ -6,7 +6,7 @@ use Rattle.frame_word.specs.Seats.{KnownTable, KnownSeat, misses_of}
 use Rattle.frame_word.specs.Views.{collected_from, passed_out_to, unfrozen}
 use Rattle.zone_sizes.specs.declared.config.Config.{Config}
 use Rattle.step_rules.specs.After.{Run}
-use Rattle.mem_machine.specs.Machines.{KnownMachine, with_watch, visit_state}
+use Rattle.mem_machine.specs.Machines.{KnownMachine, with_watch}
 use Rattle.mem_machine.specs.Local.{VisitState, visit_state}
 use Rattle.mem_machine.specs.Blocks.{taken_steps, unplaced_steps}
 use Rattle.mem_machine.specs.Lending.{LendsMany, TakesManyBack}
