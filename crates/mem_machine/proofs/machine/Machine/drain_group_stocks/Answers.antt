@@ -1,4 +1,4 @@
-use Rattle.std.proofs.Common.{◌≡◌, ◌+◌, ℕ, sym, subst, arith}
+use Rattle.std.proofs.Common.{◌≡◌, ◌+◌, ℕ, sym, subst, rules, arith}
 use Rattle.mem_machine.specs.Stocks.{of_group}
 use Rattle.mem_machine.proofs.DrainingAll.{DrainedSoFar, drained_end, drained_more}
 use Rattle.mem_machine.proofs.machine.Machine.drain_group_stocks.Goals as goal
@@ -11,6 +11,5 @@ loop-before-preserved g c =
 
 pub returns-clause-drains : goal.returns-clause-drains
 returns-clause-drains g c =
-    let all : c.loop-before.before ≡ g.N.BootName.frames.cpus =
-    let low = c.loop-before.auto.before-end in let high = c.loop-before-test.false in let end = c.cpus-before-end.ensures in omega (arith, low, high, end) in
+    let all : c.loop-before.before ≡ g.N.BootName.frames.cpus = search rules in
     drained_end g.N.BootName.frames (of_group c.args.group) _ _ _ _ c.loop-before.invariant all
