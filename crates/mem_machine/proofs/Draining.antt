@@ -28,11 +28,11 @@ use Rattle.step_rules.proofs.Sums.{sum_part, sum_change}
 use Rattle.mem_machine.specs.FrameStates.{count_of}
 use Rattle.mem_machine.specs.Machines.{KnownMachine, IsConsistent, booked, frames_charged, pages_booked}
 use Rattle.mem_machine.specs.Local.{local_of, part_of, part_with, IsLocalRun, MakesAs, visit_state}
-use Rattle.mem_machine.specs.Steps.{ungrant_steps, drain_steps}
+use Rattle.mem_machine.specs.Steps.{ungrant_steps, drain_steps, zone_makes}
 use Rattle.mem_machine.specs.Stocks.{uncharged, stock_group, steps_to_drain, with_look, Drains, DrainsBy}
 use Rattle.mem_machine.proofs.Reaching.{zone_step, run_one}
 use Rattle.mem_machine.proofs.Holds.{zone_may_act}
-use Rattle.mem_machine.proofs.Followed.{follows_same, follows_still}
+use Rattle.mem_machine.proofs.Followed.{follows_same, follows_still, LeadsAs}
 use Rattle.mem_machine.specs.Following.{FollowsSteps}
 use Rattle.mem_machine.specs.declared.counts.Counts.{Counts}
 use Rattle.mem_machine.specs.Counting.{counts_over}
@@ -284,6 +284,14 @@ drain_counts s counts None q k = refl
 drain_counts s counts (Some g) q zero = refl
 drain_counts s counts (Some g) q (suc k) = refl
 
+-- there is an ungrant exactly if there were pages
+pub ungrants_some : (g k : ℕ) → 1 ≤ k → ungrant_steps (Some g) k ≡ zone_makes (Ungrant g k) Done ∷ []
+ungrants_some g zero some = absurd (omega (arith, some))
+ungrants_some g (suc k) some = refl
+
+pub ungrants_none : (g k : ℕ) → k ≡ 0 → ungrant_steps (Some g) k ≡ []
+ungrants_none g k none = ap (ungrant_steps (Some g)) none
+
 -- no peak and no count moves
 drain_follows : (s : State) (l : Ledger) (o : Option ℕ) (q k : ℕ) → FollowsSteps s l (drain_steps q o k) (uncharged l o k)
 drain_follows s l None q k = follows_same s l (drain_steps q None k) refl
@@ -295,7 +303,7 @@ drain_follows s l (Some g) q (suc k) = follows_still s l (drain_steps q (Some g)
 pub drain_runs : (t : KnownTable) (m n : KnownMachine) (steps q k : ℕ)
     → n ≡ record m { ledger = uncharged m.ledger (stock_group m q) k; stock_seat = with_view m.stock_seat (with_steps steps (draining m.stock_seat.view q k)) }
     → 1 ≤ q → q ≤ t.cpus → ((g : ℕ) → stock_group m q ≡ Some g → 1 ≤ k → has_group m.ledger.groups g ≡ true) → (c : KnownCpu)
-    → MakesAs t c.number (visit_state m c) (drain_steps q (stock_group m q) k) (visit_state n c)
+    → LeadsAs t c.number (visit_state m c) (drain_steps q (stock_group m q) k) (visit_state n c)
 drain_runs t m n steps q k is some inside there c =
     let s = local_of t m c in
     let part = drained (part_of m.stock_seat c q) k in
@@ -306,7 +314,7 @@ drain_runs t m n steps q k is some inside there c =
     = ungrants c.number (with_part s q part) (part_of m.stock_seat c q).stock.group k acts (λ g of. there g (sym group ∙ of)) in
     let parts = parts_drained m.stock_seat c q k in
     let groups = groups_stay m.ledger (stock_group m q) k in
-    subst (λ (x : KnownMachine). MakesAs t c.number (visit_state m c) (drain_steps q (stock_group m q) k) (visit_state x c)) (sym is) (record {
+    subst (λ (x : KnownMachine). LeadsAs t c.number (visit_state m c) (drain_steps q (stock_group m q) k) (visit_state x c)) (sym is) (record {
       leads = subst (λ (x : State × Option ℕ). IsLocalRun c.number s (drain_steps q x.1 k) x.0)
           (λ i. (record s { groups = sym groups i; parts = sym parts i }, group i)) (
             zone_step s c.number (DrainStock q) (Pages k) refl
@@ -321,7 +329,7 @@ drain_runs t m n steps q k is some inside there c =
 pub record Drained (t : KnownTable) (w : Words) (m now : KnownMachine) (count q k : ℕ) (l : Ledger) (stock : Seated) : Type 0 where
   pub consistent : IsConsistent t w (record m { ledger = l; stock_seat = stock })
   pub drains : DrainsBy count q k now (record m { ledger = l; stock_seat = stock })
-  pub steps : (c : KnownCpu) → MakesAs t c.number (visit_state now c) (drain_steps q (stock_group now q) k)
+  pub steps : (c : KnownCpu) → LeadsAs t c.number (visit_state now c) (drain_steps q (stock_group now q) k)
       (visit_state (record m { ledger = l; stock_seat = stock }) c)
 
 drained_here : (t : KnownTable) (w : Words) (m : KnownMachine) (steps q k : ℕ) → IsConsistent t w m → (1 ≤ k → AreCharges m.ledger) → 1 ≤ q → q ≤ t.cpus
@@ -398,6 +406,7 @@ after_look m n q k g of drains = record {
       table = m.stock_seat.table;
       view = record (draining m.stock_seat.view q k) { steps = counted i };
     };
+    watch = n.watch;
   });
   booked = drains.booked;
   drained_before = drains.drained_before;
@@ -421,4 +430,4 @@ module _ (m now : KnownMachine) (same : m ≡ now) (stock : Seated) (is : stock 
   runs_looked t runs c =
       let here : MakesAs t c.number (visit_state (with_look now) c) (drain_steps q (stock_group (with_look now) q) k) (visit_state n c) =
       subst (λ (x : KnownMachine). MakesAs t c.number (visit_state x c) (drain_steps q (stock_group x q) k) (visit_state n c)) (looked_now m now same stock is) (runs c) in
-      record { leads = here.leads; follows = here.follows; counts = here.counts }
+      record { leads = here.leads; follows = here.follows; counts = here.counts; watched = here.watched }

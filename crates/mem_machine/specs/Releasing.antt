@@ -18,7 +18,7 @@ use Rattle.mem_machine.specs.Counts.{with_last_put}
 use Rattle.mem_machine.specs.Freeing.{FreesFrames}
 use Rattle.mem_machine.specs.Steps.{zone_makes}
 
--- the unit left its list, and this many references of CPUs are left; nothing else changed
+-- the unit left its list, and this many references of CPUs are left; nothing else changed, except what the watch saw
 pub record LeavesReferences (frame left : ℕ) (before after : KnownMachine) : Type 0 where
   pub list : LeavesList frame (lists_of before) (lists_of after)
   pub some : 1 ≤ left
@@ -26,10 +26,11 @@ pub record LeavesReferences (frame left : ℕ) (before after : KnownMachine) : T
     links = after.links;
     lists = after.lists;
     frame_seat = seat_with before.frame_seat frame (let_go left);
+    watch = after.watch;
   }
 
 -- the unit left its list and was freed: its frames are free, and its pages left the charge of its group; nothing else
--- changed
+-- changed, except what the watch saw
 pub record ReturnsUnit (frame : ℕ) (before after : KnownMachine) : Type 0 where
   pub unit : ChargedUnit
   pub heads : frame_state_at before.frame_states frame ≡ Head unit
@@ -44,6 +45,7 @@ pub record ReturnsUnit (frame : ℕ) (before after : KnownMachine) : Type 0 wher
     lists = after.lists;
     frame_seat = seat_with before.frame_seat frame let_go_last;
     counts = with_last_put before.counts;
+    watch = after.watch;
   }
 
 -- what a release leaves, by its result
