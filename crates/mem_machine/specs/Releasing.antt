@@ -1,7 +1,7 @@
 -- How a kept unit is released: it leaves its list, and is freed if nobody else has a reference.
 use Rattle.std.specs.Prelude.{◌≡◌, ℕ, ◌^◌, ◌≤◌, [], ◌∷◌}
 use Rattle.zone_blocks.specs.Areas.{AreMaximalBlocks}
-use Rattle.frame_word.specs.Views.{drop_zone_reference, let_go_last}
+use Rattle.frame_word.specs.Views.{let_go, let_go_last}
 use Rattle.frame_word.specs.Seats.{seat_with}
 use Rattle.group_charge.specs.Charges.{with_uncharge}
 use Rattle.step_rules.specs.declared.phase.ChargedUnit.{ChargedUnit}
@@ -25,7 +25,7 @@ pub record LeavesReferences (frame left : ℕ) (before after : KnownMachine) : T
   pub machine : after ≡ record before {
     links = after.links;
     lists = after.lists;
-    frame_seat = seat_with before.frame_seat frame (drop_zone_reference left);
+    frame_seat = seat_with before.frame_seat frame (let_go left);
   }
 
 -- the unit left its list and was freed: its frames are free, and its pages left the charge of its group; nothing else
