@@ -13,7 +13,7 @@ deeper_from : (groups : List Group) (k g h : ℕ) (up : Option ℕ) → AreGroup
 deeper_from groups k g h None facts below depth e =
     let root = parent_of-none_root groups h facts (in_subtree-below groups g h below) e in
     let above : in_subtree groups h g ≡ true =
-        ap (λ (x : ℕ). in_subtree groups x g) root ∙ in_subtree-root groups g facts (in_subtree-above groups g h below) in
+    ap (λ (x : ℕ). in_subtree groups x g) root ∙ in_subtree-root groups g facts (in_subtree-above groups g h below) in
     inl (in_subtree-antisym groups g h facts below above)
 deeper_from groups zero g h (Some p) facts below depth e =
     let d = parent-depth_at groups h p facts e in

@@ -12,7 +12,8 @@ use std::alloc::{AllocError, Global};
 /// How many bytes the longest name has.
 const LONGEST_NAME: usize = 7;
 
-/// Each of the 16 names has a place of its own in the table: the remainder of its number by this one, and of that by 16.
+/// Each of the 16 names has a place of its own in the table: the remainder of its number by this one, and of that by
+/// 16.
 const SPREAD: u64 = 483_779;
 
 /// Which command a line has.
@@ -72,7 +73,8 @@ impl Name {
 /// The commands by their names.
 pub type Names = IndexMap<Name, Verb>;
 
-/// A new table of all commands by their names, each at the place that its number gives. `AllocError` if memory runs out.
+/// A new table of all commands by their names, each at the place that its number gives. `AllocError` if memory runs
+/// out.
 pub fn command_names(alloc: Global) -> Result<Names, AllocError>
     ensures { IfOk result IsNames }
 {
@@ -99,8 +101,8 @@ pub fn command_names(alloc: Global) -> Result<Names, AllocError>
     )
 }
 
-// The command of this name. The first look is at the place that the name's number gives, where a name of the table is. It
-// costs a fifth of the map's own search, which serves any other order too.
+// The command of this name. The first look is at the place that the name's number gives. The map's own search costs
+// several times as much; it is for words that name no command, and would serve any order of the table.
 fn verb_named(names: &Names, name: Name) -> Option<Verb>
     requires { IsNames names.now }
     ensures { result ≡ verb_coded name.code }
