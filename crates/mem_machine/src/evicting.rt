@@ -55,7 +55,8 @@ impl<N: BootName> Machine<N> {
             at,
             unit,
         );
-        self.watch.zone_made(Action::Return { frame: at }, Answer::Done);
+        self.watch
+            .zone_made(Action::Return { frame: at }, Answer::Done);
         self.counts = self.counts.with_freeze();
         Some(order.frames())
     }
