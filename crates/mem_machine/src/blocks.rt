@@ -87,11 +87,11 @@ impl<N: BootName> Machine<N> {
         let Some(head) = tables.frames.frame(block.at) else {
             unreachable!()
         };
-        let frame = head.number();
+        let at = head.number();
         place_unit(&mut self.frame_states, block, group);
         self.watch.zone_made(
             Action::PlaceBlock { group, order },
-            Answer::Placed(Block { at: frame, order }),
+            Answer::Placed(Block { at, order }),
         );
         tables.frames.unfreeze(&mut self.frame_seat, head, 1);
         self.watch.zone_made(
