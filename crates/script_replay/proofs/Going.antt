@@ -1,5 +1,5 @@
 -- The lines that were served so far, and their history. Serves `serve_line`, `replay`.
-use Rattle.std.proofs.Common.{Result, ◌≡◌, ℕ, ◌+◌, ◌-◌, ◌<◌, ◌≤◌, Some, None, List, [], ◌∷◌, ◌++◌, length, take, get_or, append-nil, ap, refl, sym, ◌∙◌, subst, arith, inl, inr}
+use Rattle.std.proofs.Common.{Result, ◌≡◌, ℕ, ◌+◌, ◌-◌, ◌<◌, ◌≤◌, true, Some, None, List, [], ◌∷◌, ◌++◌, length, take, get_or, append-nil, ap, refl, sym, ◌∙◌, subst, arith, inl, inr}
 use Rattle.std.specs.Prelude.{IfSome, Option, slice_set}
 use Rattle.std.specs.List.{slice_get}
 use Rattle.std.specs.declared.string.String.{String}
@@ -25,13 +25,14 @@ use Rattle.script_lines.specs.declared.line.Line.{Line}
 use Rattle.script_lines.specs.declared.line.Line.TheVariants.{Go, At}
 use Rattle.script_replay.specs.Answers.{AddsText, ServesCommand, WritesWork}
 use Rattle.script_replay.specs.Lines.{SystemState, system_state, AtPart, InOrder, ServesLine, ServesAll, StopsAt}
-use Rattle.script_replay.specs.History.{Past, past, past_line, TellsHistory, Replays, ServesAndKeeps, HoldsInvariants}
+use Rattle.script_replay.specs.History.{Past, past, past_line, TellsHistory, Replays, ReplaysLegally, ServesAndKeeps, HoldsInvariants}
 use Rattle.script_replay.specs.Ranges.{LineIsThere}
 use Rattle.script_replay.specs.Terms.{Terms}
 use Rattle.script_replay.specs.Works.{work_of}
 use Rattle.script_replay.proofs.InOrder.{in_order_line}
 use Rattle.script_replay.proofs.InRange.{work_in_range}
 use Rattle.script_replay.proofs.Following.{work_follows}
+use Rattle.script_replay.proofs.Seeing.{legal_history, line_seen}
 
 -- ---- one line
 
@@ -147,6 +148,7 @@ keeps_history on (line ∷ lines) before e text shows tied all =
       between = mid;
       steps = steps;
       writes_first = one.serves.writes;
+      watched = line_seen on.frames on.is_explained line before.now steps mid all.first one.serves.writes;
       kept_where_legal = λ legal. record {
         tells = (follows legal).1;
         promise = the_whole_is_promised on.frames on.stocks next mid.locked.machine mid.cpus (follows legal).0 one.keeps.holds.consistent one.keeps.holds.charges tied_then
@@ -161,6 +163,14 @@ pub all_replayed : (on : Terms) (lines : List Line) (s e : SystemState) (text : 
 all_replayed on lines s e text all = record {
   served = all_served on lines s e text all;
   history = λ run shows tied. keeps_history on lines (past run s) e text (λ legal. shows) tied all;
+}
+
+-- and legally, if the watch allowed all their steps
+pub all_replayed_legally : (on : Terms) (lines : List Line) (s e : SystemState) (text : List ℕ) → ServesAllAndKeeps on lines s e text
+    → e.locked.machine.watch.is_legal ≡ true → ReplaysLegally on lines s e text
+all_replayed_legally on lines s e text all allowed = let replays = all_replayed on lines s e text all in record {
+  served = replays.served;
+  history = λ shows tied told new. legal_history on lines s e text (replays.history [] shows tied) told new allowed;
 }
 
 -- memory ran out for the text of the next line

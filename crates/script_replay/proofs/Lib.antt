@@ -4,4 +4,5 @@ pub mod InRange
 pub mod Going
 pub mod Telling
 pub mod Following
+pub mod Seeing
 pub mod Visiting
