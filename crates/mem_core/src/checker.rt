@@ -171,6 +171,13 @@ impl Checker {
         })
     }
 
+    /// How many steps the checker has taken.
+    pub fn steps(&self) -> u64
+        ensures { result ≡ self.now.steps }
+    {
+        self.steps
+    }
+
     /// Takes the next step of a log with its answer, if the rules allow it. Otherwise it returns an answer that the
     /// rules allow, and continues as if the step had been answered so.
     ///

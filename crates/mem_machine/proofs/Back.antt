@@ -25,7 +25,7 @@ use Rattle.mem_machine.specs.declared.frame_state.FrameState.TheVariants.{Free, 
 use Rattle.mem_machine.specs.declared.counts.Counts.{Counts}
 use Rattle.mem_machine.specs.FrameStates.{frame_state_at, free_of, head_group_of, some_cpu}
 use Rattle.mem_machine.specs.Machines.{KnownMachine, FitsFrameState, IsConsistent, BalancesCounts, Visits, home_of}
-use Rattle.mem_machine.specs.Local.{IsLocalRun, local_of, visit_state, MakesAs}
+use Rattle.mem_machine.specs.Local.{IsLocalRun, local_of, visit_state}
 use Rattle.mem_machine.specs.Freeing.{FreesFrames}
 use Rattle.mem_machine.specs.Settling.{ReturnsBack, return_steps}
 use Rattle.mem_machine.specs.Counts.{with_last_put}
@@ -36,7 +36,7 @@ use Rattle.mem_machine.proofs.Freeing.{free_block_given, unit_in_use, head_insid
 use Rattle.mem_machine.proofs.HandOvers.{handed_visits, IsBackFront, back_front, return_run}
 use Rattle.mem_machine.proofs.Shown.{is_visited, back_phase, back_handed, back_else, phases_freed, parts_back, references_same}
 use Rattle.mem_machine.proofs.Balances.{balanced_last_put}
-use Rattle.mem_machine.proofs.Followed.{follows_still}
+use Rattle.mem_machine.proofs.Followed.{follows_still, LeadsAs}
 use Rattle.mem_machine.proofs.Counted.{comes_back}
 use Rattle.group_charge.proofs.CallerLemmas.{uncharge_peaks, uncharge_events}
 
@@ -163,7 +163,7 @@ pub record AllReturned (t : KnownTable) (w : Words) (now : KnownMachine) (c : Kn
   pub free_is : free ≡ free_of n.frame_states
   pub returns : ReturnsBack f (visit_state now c) (visit_state n d)
   pub visit : Visits t (visit_state n d)
-  pub steps : MakesAs t c.number (visit_state now c) (return_steps c.number f) (visit_state n d)
+  pub steps : LeadsAs t c.number (visit_state now c) (return_steps c.number f) (visit_state n d)
 
 pub return_all : (t : KnownTable) (w : Words) (m now : KnownMachine) → m ≡ now → (c h d : KnownCpu) → IsTied t w c → IsConsistent t w m → Visits t (visit_state now c)
     → (before free : List Bool) → before ≡ free_of m.frame_states → (f : ℕ) → WasBack t m f → HandsBack f c h → d ≡ h → (i : ℕ) → i ≡ f

@@ -32,7 +32,7 @@ use Rattle.mem_machine.specs.Steps.{ungrant_steps, drain_steps}
 use Rattle.mem_machine.specs.Stocks.{uncharged, stock_group, steps_to_drain, with_look, Drains, DrainsBy}
 use Rattle.mem_machine.proofs.Reaching.{zone_step, run_one}
 use Rattle.mem_machine.proofs.Holds.{zone_may_act}
-use Rattle.mem_machine.proofs.Followed.{follows_same, follows_still}
+use Rattle.mem_machine.proofs.Followed.{follows_same, follows_still, LeadsAs}
 use Rattle.mem_machine.specs.Following.{FollowsSteps}
 use Rattle.mem_machine.specs.declared.counts.Counts.{Counts}
 use Rattle.mem_machine.specs.Counting.{counts_over}
@@ -295,7 +295,7 @@ drain_follows s l (Some g) q (suc k) = follows_still s l (drain_steps q (Some g)
 pub drain_runs : (t : KnownTable) (m n : KnownMachine) (steps q k : ℕ)
     → n ≡ record m { ledger = uncharged m.ledger (stock_group m q) k; stock_seat = with_view m.stock_seat (with_steps steps (draining m.stock_seat.view q k)) }
     → 1 ≤ q → q ≤ t.cpus → ((g : ℕ) → stock_group m q ≡ Some g → 1 ≤ k → has_group m.ledger.groups g ≡ true) → (c : KnownCpu)
-    → MakesAs t c.number (visit_state m c) (drain_steps q (stock_group m q) k) (visit_state n c)
+    → LeadsAs t c.number (visit_state m c) (drain_steps q (stock_group m q) k) (visit_state n c)
 drain_runs t m n steps q k is some inside there c =
     let s = local_of t m c in
     let part = drained (part_of m.stock_seat c q) k in
@@ -306,7 +306,7 @@ drain_runs t m n steps q k is some inside there c =
     = ungrants c.number (with_part s q part) (part_of m.stock_seat c q).stock.group k acts (λ g of. there g (sym group ∙ of)) in
     let parts = parts_drained m.stock_seat c q k in
     let groups = groups_stay m.ledger (stock_group m q) k in
-    subst (λ (x : KnownMachine). MakesAs t c.number (visit_state m c) (drain_steps q (stock_group m q) k) (visit_state x c)) (sym is) (record {
+    subst (λ (x : KnownMachine). LeadsAs t c.number (visit_state m c) (drain_steps q (stock_group m q) k) (visit_state x c)) (sym is) (record {
       leads = subst (λ (x : State × Option ℕ). IsLocalRun c.number s (drain_steps q x.1 k) x.0)
           (λ i. (record s { groups = sym groups i; parts = sym parts i }, group i)) (
             zone_step s c.number (DrainStock q) (Pages k) refl
@@ -321,7 +321,7 @@ drain_runs t m n steps q k is some inside there c =
 pub record Drained (t : KnownTable) (w : Words) (m now : KnownMachine) (count q k : ℕ) (l : Ledger) (stock : Seated) : Type 0 where
   pub consistent : IsConsistent t w (record m { ledger = l; stock_seat = stock })
   pub drains : DrainsBy count q k now (record m { ledger = l; stock_seat = stock })
-  pub steps : (c : KnownCpu) → MakesAs t c.number (visit_state now c) (drain_steps q (stock_group now q) k)
+  pub steps : (c : KnownCpu) → LeadsAs t c.number (visit_state now c) (drain_steps q (stock_group now q) k)
       (visit_state (record m { ledger = l; stock_seat = stock }) c)
 
 drained_here : (t : KnownTable) (w : Words) (m : KnownMachine) (steps q k : ℕ) → IsConsistent t w m → (1 ≤ k → AreCharges m.ledger) → 1 ≤ q → q ≤ t.cpus
@@ -421,4 +421,4 @@ module _ (m now : KnownMachine) (same : m ≡ now) (stock : Seated) (is : stock 
   runs_looked t runs c =
       let here : MakesAs t c.number (visit_state (with_look now) c) (drain_steps q (stock_group (with_look now) q) k) (visit_state n c) =
       subst (λ (x : KnownMachine). MakesAs t c.number (visit_state x c) (drain_steps q (stock_group x q) k) (visit_state n c)) (looked_now m now same stock is) (runs c) in
-      record { leads = here.leads; follows = here.follows; counts = here.counts }
+      record { leads = here.leads; follows = here.follows; counts = here.counts; watched = here.watched }

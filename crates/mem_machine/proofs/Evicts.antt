@@ -25,7 +25,7 @@ use Rattle.mem_machine.specs.declared.frame_state.FrameState.{FrameState}
 use Rattle.mem_machine.specs.declared.frame_state.FrameState.TheVariants.{Head}
 use Rattle.mem_machine.specs.FrameStates.{frame_state_at, free_of, head_group_of, some_cpu}
 use Rattle.mem_machine.specs.Machines.{KnownMachine, FitsFrameState, IsConsistent, Visits, home_of, group_lists, lists_of}
-use Rattle.mem_machine.specs.Local.{MakesForAny, local_of, references_of, visit_state}
+use Rattle.mem_machine.specs.Local.{local_of, references_of, visit_state}
 use Rattle.mem_machine.specs.Freeing.{FreesFrames}
 use Rattle.mem_machine.specs.Counts.{with_freeze, with_miss}
 use Rattle.mem_machine.specs.Counting.{with_one_frozen}
@@ -35,7 +35,7 @@ use Rattle.mem_machine.proofs.Balances.{balanced_freeze}
 use Rattle.mem_machine.proofs.Reaching.{zone_step}
 use Rattle.mem_machine.proofs.Holds.{zone_may_act}
 use Rattle.mem_machine.proofs.Releases.{TakesInHand, note_keeps, visit_stays, held_once, back_all}
-use Rattle.mem_machine.proofs.Followed.{follows_same}
+use Rattle.mem_machine.proofs.Followed.{follows_same, LeadsForAny}
 
 frozen_in_hand : TakesInHand (frozen 1)
 frozen_in_hand = record { own = λ k. refl; lent = λ k. refl; references = λ k. refl; passed_out = λ k. refl; collected = λ k. refl }
@@ -61,7 +61,7 @@ pub record AllMissed (t : KnownTable) (w : Words) (now : KnownMachine) (f : ℕ)
   pub consistent : IsConsistent t w n
   pub misses : MissesUnit f now n
   pub visit : (c : KnownCpu) → Visits t (visit_state now c) → Visits t (visit_state n c)
-  pub steps : MakesForAny t now (evict_steps f None) n
+  pub steps : LeadsForAny t now (evict_steps f None) n
 
 missed_fits : (t : KnownTable) (w : Words) (m : KnownMachine) → IsConsistent t w m → (f word g : ℕ) → g < t.frames
     → FitsFrameState t.cpus (note_of (seat_with m.frame_seat f (missed word)).view g) (home_of m.links g) (frame_state_at m.frame_states g)
@@ -129,7 +129,7 @@ pub record AllEvicted (t : KnownTable) (w : Words) (now : KnownMachine) (f pages
   pub free_is : free ≡ free_of n.frame_states
   pub evicts : EvictsUnit f pages now n
   pub visit : (c : KnownCpu) → Visits t (visit_state now c) → Visits t (visit_state n c)
-  pub steps : MakesForAny t now (evict_steps f (Some pages)) n
+  pub steps : LeadsForAny t now (evict_steps f (Some pages)) n
 
 pub evicted_all : (t : KnownTable) (w : Words) (m now : KnownMachine) → m ≡ now → IsConsistent t w m → (f i : ℕ)
     → f < t.frames → i ≡ f → home_of now.links f ≢ None → (links : List Link) (lists : List Lru) → LeavesList i (lists_of m) (group_lists links lists)

@@ -30,7 +30,7 @@ use Rattle.mem_machine.specs.declared.frame_state.FrameState.TheVariants.{Free, 
 use Rattle.mem_machine.specs.declared.counts.Counts.{Counts}
 use Rattle.mem_machine.specs.FrameStates.{frame_state_at, is_free, free_of, frame_state_group, head_group_of, some_cpu}
 use Rattle.mem_machine.specs.Machines.{KnownMachine, FitsFrameState, IsConsistent, BalancesCounts, Visits, home_of, is_killed, pages_booked}
-use Rattle.mem_machine.specs.Local.{IsLocalRun, local_of, fresh_group, number_or_0, visit_state, MakesAs}
+use Rattle.mem_machine.specs.Local.{IsLocalRun, local_of, fresh_group, number_or_0, visit_state}
 use Rattle.mem_machine.specs.Steps.{zone_makes}
 use Rattle.mem_machine.specs.Blocks.{PlacesUnit}
 use Rattle.mem_machine.specs.Counts.{with_drop}
@@ -50,7 +50,7 @@ use Rattle.mem_machine.proofs.HandOvers.{handed_visits, IsFreshFront, fresh_fron
 use Rattle.mem_machine.proofs.Shown.{is_visited, fresh_unit, fresh_phase, fresh_handed, fresh_else, phases_set, phases_freed, parts_absorbed, references_used}
 use Rattle.mem_machine.proofs.Shown.{references_same}
 use Rattle.mem_machine.proofs.Balances.{balanced_drop}
-use Rattle.mem_machine.proofs.Followed.{follows_same, follows_still}
+use Rattle.mem_machine.proofs.Followed.{follows_same, follows_still, LeadsAs}
 use Rattle.mem_machine.proofs.Counted.{collects_none, comes_back}
 
 -- what is known of a frame that was collected fresh, and of its page
@@ -278,7 +278,7 @@ pub record AllKept (t : KnownTable) (w : Words) (now : KnownMachine) (c : KnownC
   pub free_is : free ≡ free_of n.frame_states
   pub keeps : KeepsFresh g f (visit_state now c) (visit_state n d)
   pub visit : Visits t (visit_state n d)
-  pub steps : MakesAs t c.number (visit_state now c) (keep_steps c.number f) (visit_state n d)
+  pub steps : LeadsAs t c.number (visit_state now c) (keep_steps c.number f) (visit_state n d)
 
 pub keep_all : (t : KnownTable) (w : Words) (m now : KnownMachine) → m ≡ now → (c h : KnownCpu) → IsTied t w c → IsConsistent t w m → Visits t (visit_state now c)
     → (free : List Bool) → free ≡ free_of m.frame_states → (f g : ℕ) → WasFresh t m c f g → HandsFresh f c h → (i k : ℕ) → i ≡ f → k ≡ 0
@@ -332,7 +332,7 @@ pub record AllDropped (t : KnownTable) (w : Words) (now : KnownMachine) (c : Kno
   pub free_is : free ≡ free_of n.frame_states
   pub drops : DropsFresh g f (visit_state now c) (visit_state n d)
   pub visit : Visits t (visit_state n d)
-  pub steps : MakesAs t c.number (visit_state now c) (drop_steps c.number f) (visit_state n d)
+  pub steps : LeadsAs t c.number (visit_state now c) (drop_steps c.number f) (visit_state n d)
 
 pub drop_all : (t : KnownTable) (w : Words) (m now : KnownMachine) → m ≡ now → (c h : KnownCpu) → IsTied t w c → IsConsistent t w m → Visits t (visit_state now c)
     → (before free : List Bool) → before ≡ free_of m.frame_states → (f g : ℕ) → WasFresh t m c f g → is_killed now.killed g ≡ true → HandsFresh f c h

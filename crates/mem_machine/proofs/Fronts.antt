@@ -26,7 +26,7 @@ use Rattle.mem_machine.specs.FrameStates.{frame_state_at, some_cpu}
 use Rattle.mem_machine.specs.FrameStates.{frame_state_group as charged_to}
 use Rattle.mem_machine.proofs.Ledgers.{ledger_visit_state}
 use Rattle.mem_machine.specs.Machines.{KnownMachine, IsConsistent, Visits}
-use Rattle.mem_machine.specs.Local.{local_of, phase_of, part_of, part_with, visit_state, MakesAs}
+use Rattle.mem_machine.specs.Local.{local_of, phase_of, part_of, part_with, visit_state}
 use Rattle.mem_machine.specs.Steps.{take_front_steps}
 use Rattle.mem_machine.specs.Paying.{IsOfSize, IsOwnStock, HoldsPage, PaysForFront, HasRoomFor, pages_held}
 use Rattle.mem_machine.proofs.Reaching.{cpu_step, run_one}
@@ -36,7 +36,7 @@ use Rattle.mem_machine.proofs.Lends.{parts_changed, lent_listed}
 use Rattle.mem_machine.proofs.Takes.{without_front}
 use Rattle.cpu_part.proofs.Counts.{test_here, times_front}
 use Rattle.mem_machine.proofs.Shown.{fresh_phase}
-use Rattle.mem_machine.proofs.Followed.{follows_same}
+use Rattle.mem_machine.proofs.Followed.{follows_same, LeadsAs}
 
 -- ---- the own stock
 
@@ -180,7 +180,7 @@ module _ (t : KnownTable) (w : Words) (m : KnownMachine) (c : KnownCpu) (tied : 
         stock = record { group = a.group; pages = sym pages i; is_drained = is_some a.group && not a.filled };
       }))
 
-  pub front_runs : MakesAs t c.number (visit_state m c) (take_front_steps c.number g) (visit_state m d)
+  pub front_runs : LeadsAs t c.number (visit_state m c) (take_front_steps c.number g) (visit_state m d)
   front_runs =
       let p = c.number in
       let s = local_of t m c in
@@ -212,7 +212,7 @@ pub record FrontPaid (t : KnownTable) (w : Words) (now : KnownMachine) (g f : �
   pub consistent : IsConsistent t w n
   pub pays : PaysForFront g f (visit_state now c) (visit_state n d)
   pub visit : Visits t (visit_state n d)
-  pub steps : MakesAs t c.number (visit_state now c) (take_front_steps c.number g) (visit_state n d)
+  pub steps : LeadsAs t c.number (visit_state now c) (take_front_steps c.number g) (visit_state n d)
 
 pub front_paid : (t : KnownTable) (w : Words) (m now : KnownMachine) → m ≡ now → (c : KnownCpu) → IsTied t w c → IsConsistent t w m → Visits t (visit_state now c)
     → (g f h : ℕ) → h ≡ g → HoldsPage (visit_state now c) g → c.fresh ≡ [] → f < t.frames → (stock : Seated) → stock ≡ m.stock_seat → (d : KnownCpu)

@@ -13,9 +13,10 @@ use Rattle.mem_machine.specs.FrameStates.{frame_state_at, is_free, free_of}
 use Rattle.mem_machine.specs.Machines.{KnownMachine, IsConsistent, Visits}
 use Rattle.mem_machine.specs.Lending.{LendsFrame}
 use Rattle.mem_machine.specs.Steps.{lend_steps}
-use Rattle.mem_machine.specs.Local.{visit_state, MakesAs}
+use Rattle.mem_machine.specs.Local.{visit_state}
 use Rattle.mem_machine.proofs.Records.{free_at, free_taken}
 use Rattle.mem_machine.proofs.Lends.{lend_consistent, lend_runs, lend_visits, zone_hand}
+use Rattle.mem_machine.proofs.Followed.{LeadsAs}
 
 -- all of it, of the machine as it was seen before
 pub record AllGiven (t : KnownTable) (w : Words) (now : KnownMachine) (c : KnownCpu) (f : ℕ) (n : KnownMachine) (d : KnownCpu) (free : List Bool) : Type 0 where
@@ -23,7 +24,7 @@ pub record AllGiven (t : KnownTable) (w : Words) (now : KnownMachine) (c : Known
   pub free_is : free ≡ free_of n.frame_states
   pub lends : LendsFrame f (visit_state now c) (visit_state n d)
   pub visit : Visits t (visit_state n d)
-  pub steps : MakesAs t c.number (visit_state now c) (lend_steps c.number f) (visit_state n d)
+  pub steps : LeadsAs t c.number (visit_state now c) (lend_steps c.number f) (visit_state n d)
 
 pub given_all : (t : KnownTable) (w : Words) (m now : KnownMachine) → m ≡ now → (c d : KnownCpu) → IsTied t w c → IsConsistent t w m → Visits t (visit_state now c)
     → (before free : List Bool) (blocks : List Block) (f i q : ℕ) (seat seat' : KnownSeat) → before ≡ free_of m.frame_states → f < t.frames

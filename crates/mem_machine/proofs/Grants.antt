@@ -33,11 +33,11 @@ use Rattle.mem_machine.specs.declared.frame_state.FrameState.{FrameState}
 use Rattle.mem_machine.specs.declared.frame_state.FrameState.TheVariants.{Free, Lent, Head, Tail}
 use Rattle.mem_machine.specs.FrameStates.{frame_state_at, is_free, free_of}
 use Rattle.mem_machine.specs.Machines.{KnownMachine, is_killed}
-use Rattle.mem_machine.specs.Local.{fresh_group, phase_of, local_of, visit_state, MakesAs}
+use Rattle.mem_machine.specs.Local.{fresh_group, phase_of, local_of, visit_state}
 use Rattle.mem_machine.specs.Steps.{zone_makes}
 use Rattle.mem_machine.proofs.Reaching.{zone_step}
 use Rattle.mem_machine.proofs.Holds.{zone_may_act}
-use Rattle.mem_machine.proofs.Followed.{follows_same}
+use Rattle.mem_machine.proofs.Followed.{follows_same, LeadsAs}
 use Rattle.mem_machine.proofs.LedgerMoves.{follows_grant}
 use Rattle.mem_machine.proofs.Records.{length_free, free_at}
 
@@ -65,7 +65,7 @@ module _ (t : KnownTable) (m : KnownMachine) (c : KnownCpu) (g n : ℕ) (there :
     lowest = λ k on none. low.lowest k on (sym (room_same k) ∙ none);
   })
 
-  pub refused_run : (h : ℕ) → room.IsLowestOver m.ledger.groups (current_of m.ledger) g n h → MakesAs t c.number (visit_state m c) (zone_makes (Grant g n) (Over h) ∷ []) (visit_state m c)
+  pub refused_run : (h : ℕ) → room.IsLowestOver m.ledger.groups (current_of m.ledger) g n h → LeadsAs t c.number (visit_state m c) (zone_makes (Grant g n) (Over h) ∷ []) (visit_state m c)
   refused_run h low = record { leads = (is_over h low, refl); follows = follows_same _ _ _ refl; counts = refl }
 
   -- the state with the pages pending
@@ -151,7 +151,7 @@ module _ (t : KnownTable) (m : KnownMachine) (c : KnownCpu) (g n : ℕ) (there :
 
   -- the pages are granted, there is no block, and they are ungranted: the local state is the same as before
   pub unplaced_run : AreCharges m.ledger → room.PathHasRoom m.ledger.groups (current_of m.ledger) g n → (x : KnownMachine) → x ≡ record m { ledger = x.ledger }
-      → x.ledger.groups ≡ m.ledger.groups → SamePeaks (with_charge m.ledger g n) x.ledger → SameEvents (with_charge m.ledger g n) x.ledger → MakesAs t c.number (visit_state m c)
+      → x.ledger.groups ≡ m.ledger.groups → SamePeaks (with_charge m.ledger g n) x.ledger → SameEvents (with_charge m.ledger g n) x.ledger → LeadsAs t c.number (visit_state m c)
       (zone_makes (Grant g n) Granted ∷ zone_makes (PlaceBlock g k) NoFreeBlock ∷ zone_makes (Ungrant g n) Done ∷ []) (visit_state x c)
   unplaced_run facts path x is groups peaks events = record {
     leads = (

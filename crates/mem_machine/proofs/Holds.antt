@@ -23,10 +23,10 @@ use Rattle.mem_machine.specs.declared.frame_state.FrameState.{FrameState}
 use Rattle.mem_machine.specs.declared.frame_state.FrameState.TheVariants.{Free, Lent, Head, Tail}
 use Rattle.mem_machine.specs.FrameStates.{frame_state_at}
 use Rattle.mem_machine.specs.Machines.{KnownMachine, Visits}
-use Rattle.mem_machine.specs.Local.{hold_of, local_of, phase_of, part_of, part_with, fresh_group, visit_state, MakesAs}
+use Rattle.mem_machine.specs.Local.{hold_of, local_of, phase_of, part_of, part_with, fresh_group, visit_state}
 use Rattle.mem_machine.specs.Steps.{open_steps, shut_steps}
 use Rattle.mem_machine.proofs.Reaching.{zone_step, run_one}
-use Rattle.mem_machine.proofs.Followed.{follows_same}
+use Rattle.mem_machine.proofs.Followed.{follows_same, LeadsAs}
 
 zone_acts : (b : Bool) (p : ℕ) → may_zone_act (cond b (Visiting p) (HeldBy p)) 0 ≡ true
 zone_acts true p = refl
@@ -84,13 +84,13 @@ unfolding resting
 unfolded_rest c p f x = no_pass c p f x
 
 pub open_runs : (t : KnownTable) (m n : KnownMachine) (c : KnownCpu) → n ≡ record m { frame_seat = seat_with_visit m.frame_seat c.number 1 } → IsShut m.frame_seat c.number
-    → MakesAs t c.number (visit_state m c) (open_steps c.number) (visit_state n c)
+    → LeadsAs t c.number (visit_state m c) (open_steps c.number) (visit_state n c)
 open_runs t m n c is shut =
     let p = c.number in
     let legal : (may_zone_act (hold_of m.frame_seat p) 0 && is_held_by p (hold_of m.frame_seat p)) ≡ true =
     and_from _ _ (zone_may_act m.frame_seat p) (ap (is_held_by p) (hold_shut m.frame_seat p shut) ∙ eq-eqb p p refl) in
     let opened : hold_of (seat_with_visit m.frame_seat p 1) p ≡ Visiting p = hold_open (seat_with_visit m.frame_seat p 1) p (put_here 0 m.frame_seat.view.opened p 1) in
-    subst (λ (k : KnownMachine). MakesAs t p (visit_state m c) (open_steps c.number) (visit_state k c)) (sym is) (record {
+    subst (λ (k : KnownMachine). LeadsAs t p (visit_state m c) (open_steps c.number) (visit_state k c)) (sym is) (record {
       leads = run_one p (local_of t m c) _ 0 (OpenVisit p) Done (zone_step (local_of t m c) p (OpenVisit p) Done refl legal tt)
           (λ i. record (local_of t m c) { hold = opened i });
       follows = follows_same _ _ _ refl;
@@ -98,7 +98,7 @@ open_runs t m n c is shut =
     })
 
 pub shut_runs : (t : KnownTable) (m n : KnownMachine) (c : KnownCpu) → n ≡ record m { frame_seat = seat_with_visit m.frame_seat c.number 0 } → IsOpen m.frame_seat c.number
-    → (account_of m.stock_seat.view c.number).unabsorbed ≡ 0 → MakesAs t c.number (visit_state m c) (shut_steps c.number) (visit_state n c)
+    → (account_of m.stock_seat.view c.number).unabsorbed ≡ 0 → LeadsAs t c.number (visit_state m c) (shut_steps c.number) (visit_state n c)
 shut_runs t m n c is was_open noted =
     let p = c.number in
     let s = local_of t m c in
@@ -109,7 +109,7 @@ shut_runs t m n c is was_open noted =
     let legal : is_legal s 0 (ShutVisit p) ≡ true =
     and_from _ _ (and_from _ _ (and_from _ _ (and_from _ _ (zone_may_act m.frame_seat p) (visits_open m.frame_seat p was_open)) still) unreported) reported in
     let shut : hold_of (seat_with_visit m.frame_seat p 0) p ≡ HeldBy p = hold_shut (seat_with_visit m.frame_seat p 0) p (put_here 0 m.frame_seat.view.opened p 0) in
-    subst (λ (k : KnownMachine). MakesAs t p (visit_state m c) (shut_steps c.number) (visit_state k c)) (sym is) (record {
+    subst (λ (k : KnownMachine). LeadsAs t p (visit_state m c) (shut_steps c.number) (visit_state k c)) (sym is) (record {
       leads = run_one p s _ 0 (ShutVisit p) Done (zone_step s p (ShutVisit p) Done refl legal tt) (λ i. record s { hold = shut i });
       follows = follows_same _ _ _ refl;
       counts = refl;
@@ -117,17 +117,17 @@ shut_runs t m n c is was_open noted =
 
 -- the same, of the machine as it was seen before, and of a CPU's part that stayed
 pub opens : (t : KnownTable) (m now : KnownMachine) → m ≡ now → (c d : KnownCpu) → d ≡ c → (seat : KnownSeat) → seat ≡ seat_with_visit m.frame_seat c.number 1
-    → IsShut now.frame_seat c.number → MakesAs t c.number (visit_state now c) (open_steps c.number) (visit_state (record m { frame_seat = seat }) d)
+    → IsShut now.frame_seat c.number → LeadsAs t c.number (visit_state now c) (open_steps c.number) (visit_state (record m { frame_seat = seat }) d)
 opens t m now same c d stays seat is shut =
-    subst (λ (x : KnownMachine × KnownCpu). MakesAs t c.number (visit_state x.0 c) (open_steps c.number) (visit_state (record m { frame_seat = seat }) x.1))
+    subst (λ (x : KnownMachine × KnownCpu). LeadsAs t c.number (visit_state x.0 c) (open_steps c.number) (visit_state (record m { frame_seat = seat }) x.1))
     (λ i. (same i, sym stays i))
     (open_runs t m (record m { frame_seat = seat }) c (λ i. record m { frame_seat = is i }) (subst (λ (k : KnownMachine). IsShut k.frame_seat c.number) (sym same) shut))
 
 pub shuts : (t : KnownTable) (m now : KnownMachine) → m ≡ now → (c d : KnownCpu) → d ≡ c → (seat : KnownSeat) → seat ≡ seat_with_visit m.frame_seat c.number 0
     → Visits t (visit_state now c) → (account_of m.stock_seat.view c.number).unabsorbed ≡ 0
-    → MakesAs t c.number (visit_state now c) (shut_steps c.number) (visit_state (record m { frame_seat = seat }) d)
+    → LeadsAs t c.number (visit_state now c) (shut_steps c.number) (visit_state (record m { frame_seat = seat }) d)
 shuts t m now same c d stays seat is visit noted =
-    subst (λ (x : KnownMachine × KnownCpu). MakesAs t c.number (visit_state x.0 c) (shut_steps c.number) (visit_state (record m { frame_seat = seat }) x.1))
+    subst (λ (x : KnownMachine × KnownCpu). LeadsAs t c.number (visit_state x.0 c) (shut_steps c.number) (visit_state (record m { frame_seat = seat }) x.1))
     (λ i. (same i, sym stays i))
     (shut_runs t m (record m { frame_seat = seat }) c (λ i. record m { frame_seat = is i }) (subst (λ (k : KnownMachine). IsOpen k.frame_seat c.number)
     (sym same) visit.is_open) noted)

@@ -30,13 +30,13 @@ use Rattle.mem_machine.specs.declared.frame_state.FrameState.{FrameState}
 use Rattle.mem_machine.specs.declared.frame_state.FrameState.TheVariants.{Free, Lent, Head, Tail}
 use Rattle.mem_machine.specs.FrameStates.{frame_state_at, free_of, frame_state_group, head_group_of, is_in_hand}
 use Rattle.mem_machine.specs.Machines.{KnownMachine, FitsFrameState, IsConsistent, Visits, home_of}
-use Rattle.mem_machine.specs.Lending.{LendsByStep, LendsNone}
-use Rattle.mem_machine.specs.Local.{local_of, phase_of, part_of, part_with, fresh_group, visit_state, MakesAs}
+use Rattle.mem_machine.specs.Lending.{LendsOne, LendsNone}
+use Rattle.mem_machine.specs.Local.{local_of, phase_of, part_of, part_with, fresh_group, visit_state}
 use Rattle.mem_machine.specs.Steps.{lend_steps}
 use Rattle.mem_machine.proofs.Reaching.{zone_step, cpu_step}
 use Rattle.mem_machine.proofs.Holds.{IsSeated, zone_may_act, visits_open, seated_cpu}
 use Rattle.mem_machine.proofs.Records.{free_at, free_is, free_inside, covers_one, free_taken, some_cpu_is, frame_states_changed, holds_same, units_stay, charges_stay}
-use Rattle.mem_machine.proofs.Followed.{follows_same}
+use Rattle.mem_machine.proofs.Followed.{follows_same, LeadsAs}
 
 -- ---- parts of the local state
 
@@ -160,7 +160,7 @@ module _ (t : KnownTable) (w : Words) (m : KnownMachine) (c : KnownCpu) (tied : 
     ];
   }
 
-  pub lend_runs : (blocks : List Block) → in_hands (note_of c.frame_seat.view f) ≡ 0 → MakesAs t c.number (visit_state m c) (lend_steps c.number f)
+  pub lend_runs : (blocks : List Block) → in_hands (note_of c.frame_seat.view f) ≡ 0 → LeadsAs t c.number (visit_state m c) (lend_steps c.number f)
       (visit_state (record m { blocks = blocks; frame_states = slice_set m.frame_states f (Lent c.number); frame_seat = seat_with m.frame_seat f (passed_out_to c.number) }) (record c { list = c.list ++ f ∷ []; frame_seat = seat_with c.frame_seat f took_in }))
   lend_runs blocks none =
       let s = local_of t m c in
@@ -208,7 +208,9 @@ module _ (t : KnownTable) (w : Words) (m : KnownMachine) (c : KnownCpu) (tied : 
 pub record AllLent (t : KnownTable) (w : Words) (now : KnownMachine) (c : KnownCpu) (n : KnownMachine) (d : KnownCpu) (free : List Bool) : Type 0 where
   pub consistent : IsConsistent t w n
   pub free_is : free ≡ free_of n.frame_states
-  pub lends : LendsByStep t (visit_state now c) (visit_state n d)
+  pub frame : ℕ
+  pub lends : LendsOne frame (visit_state now c) (visit_state n d)
+  pub steps : LeadsAs t c.number (visit_state now c) (lend_steps c.number frame) (visit_state n d)
   pub visit : Visits t (visit_state n d)
 
 pub lend_all : (t : KnownTable) (w : Words) (m now : KnownMachine) → m ≡ now → (c d : KnownCpu) → IsTied t w c → IsConsistent t w m → Visits t (visit_state now c)
@@ -234,11 +236,9 @@ lend_all t w m now same c d tied ok visit_now before free k b blocks f i q seat 
     let all : AllLent t w m c n e free = record {
       consistent = lend_consistent t w m c tied ok visit f inside there.1 blocks areas_f;
       free_is = free_is;
-      lends = record {
-        frame = f;
-        lends = record { front = front; lends = record { areas = areas_f; machine = refl; cpu = refl } };
-        steps = lend_runs t w m c tied ok visit f inside there.1 blocks none;
-      };
+      frame = f;
+      lends = record { front = front; lends = record { areas = areas_f; machine = refl; cpu = refl } };
+      steps = lend_runs t w m c tied ok visit f inside there.1 blocks none;
       visit = lend_visits t w m c tied ok visit f inside there.1 blocks;
     } in
     subst (λ (x : KnownMachine × KnownMachine × KnownCpu). AllLent t w x.0 c x.1 x.2 free)

@@ -24,13 +24,14 @@ use Rattle.step_rules.proofs.Basics.{at_same, at_other}
 use Rattle.mem_machine.specs.declared.frame_state.FrameState.TheVariants.{Head, Tail}
 use Rattle.mem_machine.specs.FrameStates.{frame_state_at}
 use Rattle.mem_machine.specs.Machines.{KnownMachine, is_killed}
-use Rattle.mem_machine.specs.Local.{hold_of, references_of, phase_of, part_of, local_of, MakesAs, visit_state}
+use Rattle.mem_machine.specs.Local.{hold_of, references_of, phase_of, part_of, local_of, visit_state}
 use Rattle.mem_machine.specs.Blocks.{placed_frame_state, taken_steps}
 use Rattle.mem_machine.proofs.Reaching.{zone_step}
 use Rattle.mem_machine.proofs.Holds.{zone_may_act}
 use Rattle.mem_machine.proofs.Grants.{with_granted, is_granted, pending_is, none_pends}
 use Rattle.mem_machine.proofs.LedgerMoves.{follows_grant}
 use Rattle.mem_machine.specs.Steps.{zone_makes}
+use Rattle.mem_machine.proofs.Followed.{LeadsAs}
 
 -- the second machine has the block, with one reference of the zone on its head, and all else that is seen is the same
 pub record IsPlaced (m : KnownMachine) (c : KnownCpu) (g : ℕ) (b : Block) (n : KnownMachine) : Type 0 where
@@ -131,7 +132,7 @@ module _ (t : KnownTable) (m : KnownMachine) (c : KnownCpu) (g : ℕ) (b : Block
 
     -- the steps lead to what the second machine shows
     pub taken_run : AreCharges m.ledger → SamePeaks (with_charge m.ledger g (2 ^ b.order)) n.ledger → SameEvents (with_charge m.ledger g (2 ^ b.order)) n.ledger
-        → MakesAs t c.number (visit_state m c) (taken_steps g b.order b.at) (visit_state n c)
+        → LeadsAs t c.number (visit_state m c) (taken_steps g b.order b.at) (visit_state n c)
     taken_run facts peaks events = record {
       leads = (
         is_granted t m c g (2 ^ b.order) there alive usage path,

@@ -43,7 +43,7 @@ use Rattle.mem_machine.proofs.Lends.{lent_listed}
 use Rattle.mem_machine.proofs.Draining.{booked_is, counts_own, counts_other, cond-same, stocks_consistent, nothing, pending_back, groups_stay, drained_at, drained_account}
 use Rattle.mem_machine.proofs.Usage.{usage_is, balanced_alone}
 use Rattle.mem_machine.proofs.Grants.{is_granted, refused_run}
-use Rattle.mem_machine.proofs.Followed.{makes_both, same_events}
+use Rattle.mem_machine.proofs.Followed.{makes_both, same_events, LeadsAs}
 use Rattle.mem_machine.proofs.LedgerMoves.{follows_grant}
 
 -- ---- the accounts
@@ -162,7 +162,7 @@ pub fill_runs : (t : KnownTable) (w : Words) (m : KnownMachine) (c : KnownCpu) (
     → AreCharges m.ledger → IsTied t w c → Visits t (visit_state m c) → c.fresh ≡ []
     → has_group m.ledger.groups g ≡ true → is_killed m.killed g ≡ false → (account_of m.stock_seat.view c.number).book ≡ 0
     → room.PathHasRoom m.ledger.groups (current_of m.ledger) g k
-    → MakesAs t c.number (visit_state m c) (fill_steps c.number g k) (visit_state (record m {
+    → LeadsAs t c.number (visit_state m c) (fill_steps c.number g k) (visit_state (record m {
       ledger = with_charge m.ledger g k;
       stock_seat =
           with_view m.stock_seat (filling m.stock_seat.view c.number g k);
@@ -205,7 +205,7 @@ pub record Filled (t : KnownTable) (w : Words) (m now : KnownMachine) (g k : ℕ
   pub consistent : IsConsistent t w (record m { ledger = l; stock_seat = stock })
   pub fills : Fills g k (visit_state now c) (visit_state (record m { ledger = l; stock_seat = stock }) d)
   pub visit : Visits t (visit_state (record m { ledger = l; stock_seat = stock }) d)
-  pub steps : MakesAs t c.number (visit_state now c) (fill_steps c.number g k) (visit_state (record m { ledger = l; stock_seat = stock }) d)
+  pub steps : LeadsAs t c.number (visit_state now c) (fill_steps c.number g k) (visit_state (record m { ledger = l; stock_seat = stock }) d)
 
 filled_here : (t : KnownTable) (w : Words) (m : KnownMachine) (c : KnownCpu) (g k : ℕ) → IsConsistent t w m
     → AreCharges m.ledger → IsTied t w c → Visits t (visit_state m c) → c.fresh ≡ [] → k < 65536
@@ -243,9 +243,9 @@ filled_all t w m now c g k same ok facts tied visit none small there alive empty
 -- the grant is refused if a limit has no room, and nothing changes
 pub refused_all : (t : KnownTable) (w : Words) (m now : KnownMachine) → m ≡ now → (c : KnownCpu) (g k over : ℕ) → IsConsistent t w m → AreCharges m.ledger
     → IsTied t w c → Visits t (visit_state now c) → c.fresh ≡ [] → has_group now.ledger.groups g ≡ true → is_killed now.killed g ≡ false
-    → room.IsLowestOver now.ledger.groups (current_of now.ledger) g k over → MakesAs t c.number (visit_state now c) (over_steps g k over) (visit_state now c)
+    → room.IsLowestOver now.ledger.groups (current_of now.ledger) g k over → LeadsAs t c.number (visit_state now c) (over_steps g k over) (visit_state now c)
 refused_all t w m now same c g k over ok facts tied visit none there alive low =
-    subst (λ (x : KnownMachine). MakesAs t c.number (visit_state x c) (over_steps g k over) (visit_state x c)) same
+    subst (λ (x : KnownMachine). LeadsAs t c.number (visit_state x c) (over_steps g k over) (visit_state x c)) same
     (let its : Visits t (visit_state m c) = subst (λ (x : KnownMachine). Visits t (visit_state x c)) (sym same) visit in
     let usage : (h : ℕ) → local.usage_of (local_of t m c) h ≡ current_of m.ledger h = usage_is t w m c ok facts its.lent tied (balanced_alone m c none) in
     refused_run t m c g k (ap (λ (x : KnownMachine). has_group x.ledger.groups g) same ∙ there)
@@ -348,7 +348,7 @@ module _ (m x : KnownMachine) (q p k : ℕ) (named : q ≡ p) (d : Drains q k m 
     own_drain = subst (λ (z : ℕ × ℕ). Drains z.0 z.1 m x) (λ i. (its_number i, whole i)) d
 
     looked_own : MakesAs t c.number (visit_state m c) (own_drain_steps (visit_state m c)) (visit_state (with_look x) c)
-    looked_own = record { leads = drained_own.leads; follows = drained_own.follows; counts = drained_own.counts }
+    looked_own = record { leads = drained_own.leads; follows = drained_own.follows; counts = drained_own.counts; watched = drained_own.watched }
 
     -- what follows begins at the machine and the part after the look
     module _ (y : KnownMachine) (e : KnownCpu) (same : y ≡ with_look x) (stays : e ≡ c) (g pages : ℕ) (n : KnownMachine) (f : KnownCpu) where

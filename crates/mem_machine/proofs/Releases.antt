@@ -39,7 +39,7 @@ use Rattle.mem_machine.specs.declared.frame_state.FrameState.{FrameState}
 use Rattle.mem_machine.specs.declared.frame_state.FrameState.TheVariants.{Free, Head}
 use Rattle.mem_machine.specs.FrameStates.{frame_state_at, free_of, head_group_of, lent_to, some_cpu}
 use Rattle.mem_machine.specs.Machines.{KnownMachine, FitsFrameState, IsConsistent, Visits, BalancesCounts, home_of, is_killed, group_lists, lists_of}
-use Rattle.mem_machine.specs.Local.{IsLocalRun, MakesForAny, local_of, phase_of, references_of, visit_state, MakesAs}
+use Rattle.mem_machine.specs.Local.{IsLocalRun, local_of, phase_of, references_of, visit_state}
 use Rattle.mem_machine.specs.Counts.{with_last_put}
 use Rattle.mem_machine.specs.Counting.{counts_after, with_one_put_last, with_one_returned}
 use Rattle.mem_machine.specs.Freeing.{FreesFrames}
@@ -53,7 +53,7 @@ use Rattle.mem_machine.proofs.Counted.{returned_ended}
 use Rattle.mem_machine.proofs.Holds.{zone_may_act}
 use Rattle.mem_machine.proofs.Freeing.{free_block_given, unit_freed_consistent}
 use Rattle.mem_machine.proofs.Balances.{balanced_last_put}
-use Rattle.mem_machine.proofs.Followed.{follows_same, follows_still, is_still}
+use Rattle.mem_machine.proofs.Followed.{follows_same, follows_still, is_still, LeadsAs, LeadsForAny}
 use Rattle.group_charge.proofs.CallerLemmas.{uncharge_peaks, uncharge_events}
 
 -- ---- one note of the zone's seat changed
@@ -204,7 +204,7 @@ module _ (t : KnownTable) (w : Words) (m : KnownMachine) (ok : IsConsistent t w 
         balances = ok.balances;
       }
 
-      pub left_runs : (c : KnownCpu) → MakesAs t c.number (visit_state m c) (release_steps f (Left left))
+      pub left_runs : (c : KnownCpu) → LeadsAs t c.number (visit_state m c) (release_steps f (Left left))
           (visit_state (record m { links = links; lists = lists; frame_seat = left_seat }) c)
       left_runs c =
           let s = local_of t m c in
@@ -299,7 +299,7 @@ read_head t w m ok f i inside is x unit read head =
 pub record AllLeft (t : KnownTable) (w : Words) (now : KnownMachine) (f left : ℕ) (n : KnownMachine) : Type 0 where
   pub consistent : IsConsistent t w n
   pub visit : (c : KnownCpu) → Visits t (visit_state now c) → Visits t (visit_state n c)
-  pub steps : MakesForAny t now (release_steps f (Left left)) n
+  pub steps : LeadsForAny t now (release_steps f (Left left)) n
 
 pub left_all : (t : KnownTable) (w : Words) (m now : KnownMachine) → m ≡ now → IsConsistent t w m → (f i : ℕ) → f < t.frames → i ≡ f → home_of now.links f ≢ None → (links : List Link) (lists : List Lru) → LeavesList i (lists_of m) (group_lists links lists) → AllStand links lists
     → length links ≡ length m.links → length lists ≡ 64 → (left : ℕ) (seat : KnownSeat) → seat ≡ seat_with m.frame_seat f (let_go left)
@@ -325,7 +325,7 @@ pub record AllBack (t : KnownTable) (w : Words) (now : KnownMachine) (f : ℕ) (
   pub frees : FreesFrames f (2 ^ unit.order) now.frame_states n.frame_states
   pub areas : AreMaximalBlocks (free_of n.frame_states) n.blocks
   pub visit : (c : KnownCpu) → Visits t (visit_state now c) → Visits t (visit_state n c)
-  pub runs : MakesForAny t now steps n
+  pub runs : LeadsForAny t now steps n
 
 -- the step before the last one leaves the state that the zone's last put leaves
 pub back_all : (t : KnownTable) (w : Words) (m now : KnownMachine) → m ≡ now → IsConsistent t w m → (f i : ℕ)
@@ -413,7 +413,7 @@ pub record AllReturned (t : KnownTable) (w : Words) (now : KnownMachine) (f : �
   pub free_is : free ≡ free_of n.frame_states
   pub returns : ReturnsUnit f now n
   pub visit : (c : KnownCpu) → Visits t (visit_state now c) → Visits t (visit_state n c)
-  pub steps : MakesForAny t now (release_steps f Returned) n
+  pub steps : LeadsForAny t now (release_steps f Returned) n
 
 pub returned_all : (t : KnownTable) (w : Words) (m now : KnownMachine) → m ≡ now → IsConsistent t w m → (f i : ℕ)
     → f < t.frames → i ≡ f → home_of now.links f ≢ None → (links : List Link) (lists : List Lru) → LeavesList i (lists_of m) (group_lists links lists)

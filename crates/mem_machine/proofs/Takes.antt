@@ -30,14 +30,14 @@ use Rattle.mem_machine.specs.declared.frame_state.FrameState.{FrameState}
 use Rattle.mem_machine.specs.declared.frame_state.FrameState.TheVariants.{Free, Lent, Head, Tail}
 use Rattle.mem_machine.specs.FrameStates.{frame_state_at, is_free, free_of, frame_state_group, head_group_of, some_cpu}
 use Rattle.mem_machine.specs.Machines.{KnownMachine, FitsFrameState, IsConsistent, Visits, home_of}
-use Rattle.mem_machine.specs.Lending.{TakesBackByStep, TakesNoneBack}
-use Rattle.mem_machine.specs.Local.{local_of, phase_of, part_of, part_with, visit_state, MakesAs}
+use Rattle.mem_machine.specs.Lending.{TakesOneBack, TakesNoneBack}
+use Rattle.mem_machine.specs.Local.{local_of, phase_of, part_of, part_with, visit_state}
 use Rattle.mem_machine.specs.Steps.{unlist_steps}
 use Rattle.mem_machine.proofs.Reaching.{zone_step, cpu_step}
 use Rattle.mem_machine.proofs.Holds.{IsSeated, zone_may_act, visits_open, seated_cpu}
 use Rattle.mem_machine.proofs.Records.{free_at, one_covered, length_free, free_given, lent_frame_state, frame_states_changed, holds_same, units_stay, charges_stay}
 use Rattle.mem_machine.proofs.Lends.{parts_changed, references_stay, lent_listed, phases_changed}
-use Rattle.mem_machine.proofs.Followed.{follows_same}
+use Rattle.mem_machine.proofs.Followed.{follows_same, LeadsAs}
 use Rattle.mem_machine.proofs.Counted.{collects_none}
 
 -- a list that hasn't the frame stays without it
@@ -148,7 +148,7 @@ module _ (t : KnownTable) (w : Words) (m : KnownMachine) (c : KnownCpu) (tied : 
   same_phase g (Head unit) = refl
   same_phase g (Tail h) = refl
 
-  pub take_runs : (blocks : List Block) → MakesAs t c.number (visit_state m c) (unlist_steps c.number f)
+  pub take_runs : (blocks : List Block) → LeadsAs t c.number (visit_state m c) (unlist_steps c.number f)
       (visit_state (record m { blocks = blocks; frame_states = slice_set m.frame_states f Free; frame_seat = seat_with m.frame_seat f (collected_from c.number) }) (record c { list = rest; frame_seat = seat_with c.frame_seat f gave_back }))
   take_runs blocks =
       let p = c.number in
@@ -197,7 +197,9 @@ module _ (t : KnownTable) (w : Words) (m : KnownMachine) (c : KnownCpu) (tied : 
 pub record AllTaken (t : KnownTable) (w : Words) (now : KnownMachine) (c : KnownCpu) (n : KnownMachine) (d : KnownCpu) (free : List Bool) : Type 0 where
   pub consistent : IsConsistent t w n
   pub free_is : free ≡ free_of n.frame_states
-  pub takes : TakesBackByStep t (visit_state now c) (visit_state n d)
+  pub frame : ℕ
+  pub takes : TakesOneBack frame (visit_state now c) (visit_state n d)
+  pub steps : LeadsAs t c.number (visit_state now c) (unlist_steps c.number frame) (visit_state n d)
   pub visit : Visits t (visit_state n d)
 
 pub take_all : (t : KnownTable) (w : Words) (m now : KnownMachine) → m ≡ now → (c h d : KnownCpu) → IsTied t w c → IsConsistent t w m → Visits t (visit_state now c)
@@ -219,11 +221,9 @@ take_all t w m now same c h d tied ok visit_now before free k blocks f i seat wa
     let all : AllTaken t w m c n e free = record {
       consistent = take_consistent t w m c tied ok visit f rest hands.1 inside lent blocks areas_f;
       free_is = free_is;
-      takes = record {
-        frame = f;
-        takes = record { rest = rest; front = hands.1; areas = areas_f; machine = refl; cpu = refl };
-        steps = take_runs t w m c tied ok visit f rest hands.1 inside lent blocks;
-      };
+      frame = f;
+      takes = record { rest = rest; front = hands.1; areas = areas_f; machine = refl; cpu = refl };
+      steps = take_runs t w m c tied ok visit f rest hands.1 inside lent blocks;
       visit = take_visits t w m c tied ok visit f rest hands.1 inside lent blocks;
     } in
     let number : h.number ≡ c.number = ap (λ (x : KnownCpu). x.number) hands.2 in

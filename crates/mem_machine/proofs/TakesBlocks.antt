@@ -33,14 +33,14 @@ use Rattle.mem_machine.specs.declared.frame_state.FrameState.TheVariants.{Free, 
 use Rattle.mem_machine.specs.FrameStates.{frame_state_at, is_free, is_in_hand, lent_to, free_of, frame_state_group}
 use Rattle.mem_machine.specs.Machines.{KnownMachine, IsConsistent, Visits, is_killed}
 use Rattle.mem_machine.specs.Blocks.{PlacesUnit, TakesBlock, TakesNoBlock, taken_steps, unplaced_steps}
-use Rattle.mem_machine.specs.Local.{local_of, phase_of, visit_state, MakesAs}
+use Rattle.mem_machine.specs.Local.{local_of, phase_of, visit_state}
 use Rattle.mem_machine.proofs.Records.{length_free, free_at, free_is, free_inside, no_cpu_is}
 use Rattle.mem_machine.proofs.PlacesUnits.{in_block, off_block}
 use Rattle.mem_machine.proofs.Joins.{AllJoin}
 use Rattle.mem_machine.proofs.KeptUnits.{IsUsed, JoinsCharges, unit_kept}
 use Rattle.mem_machine.proofs.Placed.{taken_run}
 use Rattle.mem_machine.proofs.Grants.{unplaced_run}
-use Rattle.mem_machine.proofs.Followed.{same_events}
+use Rattle.mem_machine.proofs.Followed.{same_events, LeadsAs}
 use Rattle.group_charge.proofs.CallerLemmas.{uncharge_peaks, uncharge_events}
 
 -- ---- the block that was taken
@@ -172,7 +172,7 @@ pub record AllTaken (t : KnownTable) (w : Words) (now : KnownMachine) (c : Known
   pub free_is : free ≡ free_of n.frame_states
   pub takes : TakesBlock g k at now n
   pub visit : Visits t (visit_state n d)
-  pub steps : MakesAs t c.number (visit_state now c) (taken_steps g k at) (visit_state n d)
+  pub steps : LeadsAs t c.number (visit_state now c) (taken_steps g k at) (visit_state n d)
 
 -- what is asked of the CPU and of the group
 pub record MayTake (t : KnownTable) (m : KnownMachine) (c : KnownCpu) (g : ℕ) : Type 0 where
@@ -194,6 +194,7 @@ taken_machine m g b blocks frame_states links lists = record {
   killed = m.killed;
   counts = m.counts;
   notes = m.notes;
+  watch = m.watch;
 }
 
 taken_here : (t : KnownTable) (w : Words) (m : KnownMachine) (c : KnownCpu) → IsConsistent t w m → AreCharges m.ledger → (g : ℕ) → g < 64 → (b : Block)
@@ -292,7 +293,7 @@ taken_all t w m now same c d stays ok facts g fits k pages size may room ledger 
 -- what it leaves if there is none
 pub record NoneTaken (t : KnownTable) (now : KnownMachine) (c : KnownCpu) (g k : ℕ) (n : KnownMachine) (d : KnownCpu) : Type 0 where
   pub none : TakesNoBlock g k now n
-  pub steps : MakesAs t c.number (visit_state now c) (unplaced_steps g k) (visit_state n d)
+  pub steps : LeadsAs t c.number (visit_state now c) (unplaced_steps g k) (visit_state n d)
 
 pub none_all : (t : KnownTable) (w : Words) (m now : KnownMachine) → m ≡ now → (c d : KnownCpu) → d ≡ c → IsConsistent t w m → AreCharges m.ledger → (g k pages : ℕ) → pages ≡ 2 ^ k
     → MayTake t now c g → PathHasRoom m.ledger.groups (current_of m.ledger) g pages → (charged ledger : Ledger) → charged ≡ with_charge m.ledger g pages → ledger ≡ with_uncharge charged g pages

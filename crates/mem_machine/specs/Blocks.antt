@@ -47,6 +47,7 @@ pub record TakesBlock (group order at : ℕ) (before after : KnownMachine) : Typ
     links = after.links;
     lists = after.lists;
     frame_seat = seat_with before.frame_seat at (unfrozen 1);
+    watch = after.watch;
   }
 
 -- there is no free block of the order or above: the pages were charged and uncharged, so only the peaks may be higher
@@ -55,13 +56,15 @@ pub record TakesNoBlock (group order : ℕ) (before after : KnownMachine) : Type
   pub none : HasNoneFrom before.blocks order
   pub machine : after ≡ record before {
     ledger = with_uncharge (with_charge before.ledger group (2 ^ order)) group (2 ^ order);
+    watch = after.watch;
   }
 
 -- What a refusal leaves. If a limit has no room for the block, the error names the lowest such group, and nothing
--- changed. Else there is no free block of the order or above, and only the peaks may be higher.
+-- changed except what the watch saw. Else there is no free block of the order or above, and only the peaks may be
+-- higher.
 abbrev pub RefusesBlock : ℕ → ℕ → TakeFault → KnownMachine → KnownMachine → Type 0
 RefusesBlock group order (fault.Over over) before after =
-    LacksRoom before group (2 ^ order) over.group × (after ≡ before)
+    LacksRoom before group (2 ^ order) over.group × (after ≡ record before { watch = after.watch })
 RefusesBlock group order fault.NoBlock before after = TakesNoBlock group order before after
 
 -- the steps of a block of this order, charged to the group, that begins at frame `at`

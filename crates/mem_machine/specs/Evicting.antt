@@ -17,17 +17,18 @@ use Rattle.mem_machine.specs.Lists.{LeavesList}
 use Rattle.mem_machine.specs.Steps.{zone_makes}
 
 -- someone else has a reference on the frame: the zone's seat notes one more miss, which is counted, and nothing else
--- changed
+-- changed, except what the watch saw
 pub record MissesUnit (frame : ℕ) (before after : KnownMachine) : Type 0 where
   pub word : ℕ
   pub others : word ≢ 1
   pub machine : after ≡ record before {
     frame_seat = seat_with before.frame_seat frame (missed word);
     counts = with_miss before.counts;
+    watch = after.watch;
   }
 
 -- The unit was frozen and freed. It left its list, its frames are free, and its pages, this many, left the charge of
--- its group. Nothing else changed.
+-- its group. Nothing else changed, except what the watch saw.
 pub record EvictsUnit (frame pages : ℕ) (before after : KnownMachine) : Type 0 where
   pub unit : ChargedUnit
   pub heads : frame_state_at before.frame_states frame ≡ Head unit
@@ -45,6 +46,7 @@ pub record EvictsUnit (frame pages : ℕ) (before after : KnownMachine) : Type 0
     lists = after.lists;
     frame_seat = seat_with before.frame_seat frame (frozen 1);
     counts = with_freeze before.counts;
+    watch = after.watch;
   }
 
 -- what a try leaves, by its result: the number of pages freed, or None for a miss

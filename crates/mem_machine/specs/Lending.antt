@@ -12,13 +12,14 @@ use Rattle.mem_machine.specs.Machines.{OneByOne, VisitStateStays}
 use Rattle.mem_machine.specs.Local.{VisitState, Makes}
 use Rattle.mem_machine.specs.Steps.{lend_steps, unlist_steps, refill_steps, drain_list_steps}
 
--- the frame was free and is now at the end of the CPU's list; nothing else changed
+-- the frame was free and is now at the end of the CPU's list; nothing else changed, except what the watch saw
 pub record LendsFrame (frame : ℕ) (before after : VisitState) : Type 0 where
   pub areas : AreMaximalBlocks (free_of after.machine.frame_states) after.machine.blocks
   pub machine : after.machine ≡ record before.machine {
     blocks = after.machine.blocks;
     frame_states = slice_set before.machine.frame_states frame (Lent before.cpu.number);
     frame_seat = seat_with before.machine.frame_seat frame (passed_out_to before.cpu.number);
+    watch = after.machine.watch;
   }
   pub cpu : after.cpu ≡ record before.cpu {
     list = before.cpu.list ++ frame ∷ [];
@@ -71,6 +72,7 @@ pub record TakesOneBack (frame : ℕ) (before after : VisitState) : Type 0 where
     blocks = after.machine.blocks;
     frame_states = slice_set before.machine.frame_states frame Free;
     frame_seat = seat_with before.machine.frame_seat frame (collected_from before.cpu.number);
+    watch = after.machine.watch;
   }
   pub cpu : after.cpu ≡ record before.cpu { list = rest; frame_seat = seat_with before.cpu.frame_seat frame gave_back }
 

@@ -14,6 +14,7 @@ use Rattle.step_rules.specs.declared.phase.Phase.{Phase}
 use Rattle.step_rules.specs.declared.phase.Phase.TheVariants as phase
 use Rattle.step_rules.specs.State.{State, Part}
 use Rattle.step_rules.specs.After.{Run}
+use Rattle.step_watch.specs.Watched.{Watches}
 -- the lists of local steps that lead from one local state to another
 pub use Rattle.step_rules.specs.Reaches.{IsLocalRun}
 -- the machine, and the part of the CPU that holds its lock
@@ -100,10 +101,12 @@ local_at table now = local_of table now.machine now.cpu
 
 -- These steps, of the CPU of this number and of the zone's seat, lead from one visit state to another. They are local
 -- steps between the two local states. The ledger's peaks and event counts follow them, and so do the machine's counts.
+-- The machine's watch took them, in this order.
 pub record MakesAs (table : KnownTable) (number : ℕ) (before : VisitState) (steps : Run) (after : VisitState) : Type 0 where
   pub leads : IsLocalRun number (local_at table before) steps (local_at table after)
   pub follows : FollowsSteps (local_at table before) before.machine.ledger steps after.machine.ledger
   pub counts : after.machine.counts ≡ counts_over (local_at table before) steps before.machine.counts
+  pub watched : Watches before.machine.watch steps after.machine.watch
 
 -- these steps lead the CPU that holds the lock from one visit state to the other
 abbrev pub Makes : KnownTable → VisitState → Run → VisitState → Type 0

@@ -28,6 +28,7 @@ use Rattle.cpu_part.specs.Cpus.{KnownCpu}
 use Rattle.mem_machine.specs.declared.frame_state.FrameState.{FrameState}
 use Rattle.mem_machine.specs.declared.frame_state.FrameState.TheVariants.{Free}
 use Rattle.mem_machine.specs.declared.counts.Counts.{Counts}
+use Rattle.step_watch.specs.Watched.{KnownWatch}
 use Rattle.kill_notes.specs.declared.note.Note.{Note}
 use Rattle.kill_notes.specs.Notes.{noted}
 -- the units freed are the last puts, the freezes and the drops together, or the greatest count if that is less
@@ -39,7 +40,7 @@ use Rattle.mem_machine.specs.FrameStates.{frame_state_group, head_group_of, coun
 -- The machine holds the free areas, a record for each frame, and the groups with their charges. It holds the links of
 -- all kept units, and two lists for each group number. It holds the zone's seats at the two tables, and which group
 -- numbers are killed. It counts how units ended, how many were freed and how many were missed. It holds the notes since
--- the last `forget_notes`.
+-- the last `forget_notes`, and the watch, which takes each step right behind it.
 pub record KnownMachine : Type 0 where
   pub blocks : List Block
   pub frame_states : List FrameState
@@ -51,6 +52,7 @@ pub record KnownMachine : Type 0 where
   pub killed : List Bool
   pub counts : Counts
   pub notes : List Note
+  pub watch : KnownWatch
 
 -- the machine after one more note
 abbrev pub with_note : KnownMachine → Note → KnownMachine
@@ -185,6 +187,7 @@ pub record AddsGroup (number : ℕ) (path : List ℕ) (before after : KnownMachi
   pub machine : after ≡ record before {
     ledger = with_new_group before.ledger number path;
     killed = slice_set before.killed number false;
+    watch = after.watch;
   }
 
 -- group `lowest` is the lowest on the group's path whose limit has no room for this many more pages
@@ -205,6 +208,11 @@ visit_state machine cpu = record { machine = machine; cpu = cpu }
 -- nothing of the visit state changed
 pub record VisitStateStays (before after : VisitState) : Type 0 where
   pub machine : after.machine ≡ before.machine
+  pub cpu : after.cpu ≡ before.cpu
+
+-- nothing of the visit state changed, except what the machine's watch saw
+pub record OnlyWatches (before after : VisitState) : Type 0 where
+  pub machine : after.machine ≡ record before.machine { watch = after.machine.watch }
   pub cpu : after.cpu ≡ before.cpu
 
 -- `First` leads from the visit state before to a visit state between, and `Rest` leads from there to the visit state

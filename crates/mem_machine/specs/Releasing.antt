@@ -1,7 +1,7 @@
 -- How a kept unit is released: it leaves its list, and is freed if nobody else has a reference.
 use Rattle.std.specs.Prelude.{◌≡◌, ℕ, ◌^◌, ◌≤◌, [], ◌∷◌}
 use Rattle.zone_blocks.specs.Areas.{AreMaximalBlocks}
-use Rattle.frame_word.specs.Views.{drop_zone_reference, let_go_last}
+use Rattle.frame_word.specs.Views.{let_go, let_go_last}
 use Rattle.frame_word.specs.Seats.{seat_with}
 use Rattle.group_charge.specs.Charges.{with_uncharge}
 use Rattle.step_rules.specs.declared.phase.ChargedUnit.{ChargedUnit}
@@ -18,18 +18,19 @@ use Rattle.mem_machine.specs.Counts.{with_last_put}
 use Rattle.mem_machine.specs.Freeing.{FreesFrames}
 use Rattle.mem_machine.specs.Steps.{zone_makes}
 
--- the unit left its list, and this many references of CPUs are left; nothing else changed
+-- the unit left its list, and this many references of CPUs are left; nothing else changed, except what the watch saw
 pub record LeavesReferences (frame left : ℕ) (before after : KnownMachine) : Type 0 where
   pub list : LeavesList frame (lists_of before) (lists_of after)
   pub some : 1 ≤ left
   pub machine : after ≡ record before {
     links = after.links;
     lists = after.lists;
-    frame_seat = seat_with before.frame_seat frame (drop_zone_reference left);
+    frame_seat = seat_with before.frame_seat frame (let_go left);
+    watch = after.watch;
   }
 
 -- the unit left its list and was freed: its frames are free, and its pages left the charge of its group; nothing else
--- changed
+-- changed, except what the watch saw
 pub record ReturnsUnit (frame : ℕ) (before after : KnownMachine) : Type 0 where
   pub unit : ChargedUnit
   pub heads : frame_state_at before.frame_states frame ≡ Head unit
@@ -44,6 +45,7 @@ pub record ReturnsUnit (frame : ℕ) (before after : KnownMachine) : Type 0 wher
     lists = after.lists;
     frame_seat = seat_with before.frame_seat frame let_go_last;
     counts = with_last_put before.counts;
+    watch = after.watch;
   }
 
 -- what a release leaves, by its result

@@ -58,6 +58,7 @@ pub record DrainsBy (steps processor pages : ℕ) (before after : KnownMachine) 
     ledger = uncharged before.ledger (stock_group before processor) pages;
     stock_seat =
         with_view before.stock_seat (with_steps steps (draining before.stock_seat.view processor pages));
+    watch = after.watch;
   }
   pub booked : pages ≤ (account_of before.stock_seat.view processor).book
   pub drained_before : IsDrained before processor → pages ≡ 0
@@ -169,6 +170,7 @@ pub record Fills (group pages : ℕ) (before after : VisitState) : Type 0 where
     ledger = with_charge before.machine.ledger group pages;
     stock_seat = with_view before.machine.stock_seat
         (filling before.machine.stock_seat.view before.cpu.number group pages);
+    watch = after.machine.watch;
   }
   pub cpu : after.cpu ≡ record before.cpu {
     stock_seat = with_view before.cpu.stock_seat (after_fill before.cpu.stock_seat.view group pages);
@@ -178,9 +180,9 @@ pub record Fills (group pages : ℕ) (before after : VisitState) : Type 0 where
 abbrev pub own_fill_steps : ℕ → ℕ → VisitState → Run
 own_fill_steps group pages now = fill_steps now.cpu.number group pages
 
--- the charge is refused at the group that the error names, and nothing changes
-abbrev pub RefusesGrant : KnownTable → ℕ → ℕ → Over → VisitState → Type 0
-RefusesGrant table group pages over now = Makes table now (over_steps group pages over.group) now
+-- the charge is refused at the group that the error names
+abbrev pub RefusesGrant : KnownTable → ℕ → ℕ → Over → VisitState → VisitState → Type 0
+RefusesGrant table group pages over before after = Makes table before (over_steps group pages over.group) after
 
 -- the steps that drain the CPU's own stock of all its pages
 abbrev pub own_drain_steps : VisitState → Run
@@ -197,7 +199,7 @@ pub record Prepays (group pages : ℕ) (before after : VisitState) : Type 0 wher
 pub record IsOver (group pages over : ℕ) (before after : VisitState) : Type 0 where
   pub emptied : KnownMachine
   pub drains : Drains before.cpu.number (pages_held before) before.machine emptied
-  pub machine : after.machine ≡ with_look emptied
+  pub machine : after.machine ≡ record (with_look emptied) { watch = after.machine.watch }
   pub lowest : LacksRoom after.machine group pages over
   pub cpu : after.cpu ≡ before.cpu
 

@@ -11,6 +11,7 @@ use crate::lists::leave_list;
 use crate::machine::Machine;
 use cpu_part::{BootName, Tables};
 use frame_word::Frame;
+use step_rules::step::{Action, Answer};
 
 impl<N: BootName> Machine<N> {
     /// Tries to take a kept unit out of use. If the zone's reference is the only one, nobody can get the unit any more:
@@ -23,11 +24,25 @@ impl<N: BootName> Machine<N> {
         ensures visit { StaysVisited N.frames self.old self.new }
         ensures steps { MakesForAny N.frames self.old (evict_steps head result) self.new }
     {
+        let at = head.number();
         if !tables.frames.freeze(&mut self.frame_seat, head, 1) {
+            self.watch.zone_made(
+                Action::Freeze {
+                    frame: at,
+                    count: 1,
+                },
+                Answer::Missed,
+            );
             self.counts = self.counts.with_miss();
             return None;
         }
-        let at = head.number();
+        self.watch.zone_made(
+            Action::Freeze {
+                frame: at,
+                count: 1,
+            },
+            Answer::Done,
+        );
         let FrameState::Head(unit) = self.frame_states[at as usize] else {
             unreachable!()
         };
@@ -40,6 +55,7 @@ impl<N: BootName> Machine<N> {
             at,
             unit,
         );
+        self.watch.zone_made(Action::Return { frame: at }, Answer::Done);
         self.counts = self.counts.with_freeze();
         Some(order.frames())
     }

@@ -14,27 +14,36 @@ use crate::machine::Machine;
 use cpu_part::{BootName, Cpu};
 use group_tree::fault::Fault;
 use group_tree::group::GroupId;
+use step_rules::step::{Action, Answer};
 
 impl<N: BootName> Machine<N> {
     /// Notes that a group's usage was about to exceed its limit: one more `max` in its events and its ancestors'
     /// events, and in its local events.
     pub fn note_max(&mut self, group: GroupId)
         requires { IsTrue (has_group self.old.ledger.groups group) }
-        ensures machine { self.new ≡ record self.old { ledger = with_max_noted self.old.ledger group } }
+        ensures machine { self.new ≡ record self.old {
+          ledger = with_max_noted self.old.ledger group;
+          watch = self.new.watch;
+        } }
         ensures steps { MakesForAny N.frames self.old (note_max_steps group) self.new }
     {
         self.charges.note_max(group);
+        self.watch.zone_made(Action::NoteMax { group }, Answer::Done);
     }
 
     /// Notes that only kills are left to keep a group within its limit: one more `oom` in its events and its ancestors'
     /// events, and in its local events.
     pub fn note_oom(&mut self, group: GroupId)
         requires { IsTrue (has_group self.old.ledger.groups group) }
-        ensures machine { self.new ≡ record self.old { ledger = with_oom_noted self.old.ledger group } }
+        ensures machine { self.new ≡ record self.old {
+          ledger = with_oom_noted self.old.ledger group;
+          watch = self.new.watch;
+        } }
         ensures usage { SameUsage self.old.ledger self.new.ledger }
         ensures steps { MakesForAny N.frames self.old (note_oom_steps group) self.new }
     {
         self.charges.note_oom(group);
+        self.watch.zone_made(Action::NoteOom { group }, Answer::Done);
     }
 
     /// Kills a group that isn't killed: nothing can be charged to it until it is removed. That is one more `oom_kill`
@@ -46,12 +55,14 @@ impl<N: BootName> Machine<N> {
         ensures machine { self.new ≡ record self.old {
           ledger = with_kill_noted self.old.ledger group;
           killed = slice_set self.old.killed group true;
+          watch = self.new.watch;
         } }
         ensures usage { SameUsage self.old.ledger self.new.ledger }
         ensures steps { MakesForAny N.frames self.old (kill_steps group) self.new }
     {
         self.charges.note_kill(group);
         self.killed[group.number() as usize] = true;
+        self.watch.zone_made(Action::Kill { group }, Answer::Done);
     }
 
     /// Notes that a group other than the root was killed as a whole, with all groups below it. That is one more
@@ -59,11 +70,15 @@ impl<N: BootName> Machine<N> {
     pub fn note_group_kill(&mut self, group: GroupId)
         requires there { IsTrue (has_group self.old.ledger.groups group) }
         requires below_root { group ≢ 0 }
-        ensures machine { self.new ≡ record self.old { ledger = with_group_kill_noted self.old.ledger group } }
+        ensures machine { self.new ≡ record self.old {
+          ledger = with_group_kill_noted self.old.ledger group;
+          watch = self.new.watch;
+        } }
         ensures usage { SameUsage self.old.ledger self.new.ledger }
         ensures steps { MakesForAny N.frames self.old (note_group_kill_steps group) self.new }
     {
         self.charges.note_group_kill(group);
+        self.watch.zone_made(Action::NoteGroupKill { group }, Answer::Done);
     }
 
     /// Makes a group, as `Tree::make` does. It has no pages, peak 0 and all counts 0, and isn't killed.
@@ -77,6 +92,7 @@ impl<N: BootName> Machine<N> {
         let group = self.charges.make(path)?;
         let number = group.number();
         self.killed[number as usize] = false;
+        self.watch.group_made(path, group);
         Ok(group)
     }
 
@@ -89,31 +105,43 @@ impl<N: BootName> Machine<N> {
         requires below_root { group ≢ 0 }
         requires empty { current_of self.old.ledger group ≡ 0 }
         requires none_fresh { cpu.now.fresh ≡ [] }
-        ensures machine { self.new ≡ record self.old { ledger = with_group_removed self.old.ledger group } }
+        ensures machine { self.new ≡ record self.old {
+          ledger = with_group_removed self.old.ledger group;
+          watch = self.new.watch;
+        } }
         ensures steps { Makes N.frames (visit_state self.old cpu.now) (remove_steps group) (visit_state self.new cpu.now) }
     {
         let _number = cpu.number(); // Called for its contract.
         let _tree = self.charges.tree(); // Called for its contract.
         self.charges.remove(group);
+        self.watch.zone_made(Action::Remove { group }, Answer::Done);
     }
 
     /// Gives a group other than the root another limit, in pages; None means no limit. Only later charges obey it.
     pub fn set_max(&mut self, group: GroupId, limit: Option<u32>)
         requires there { IsTrue (has_group self.old.ledger.groups group) }
         requires below_root { group ≢ 0 }
-        ensures machine { self.new ≡ record self.old { ledger = with_group_limit self.old.ledger group limit } }
+        ensures machine { self.new ≡ record self.old {
+          ledger = with_group_limit self.old.ledger group limit;
+          watch = self.new.watch;
+        } }
         ensures steps { MakesForAny N.frames self.old (set_max_steps group limit) self.new }
     {
         self.charges.set_max(group, limit);
+        self.watch.zone_made(Action::SetMax { group, limit }, Answer::Done);
     }
 
     /// Sets whether a group other than the root is killed as a whole (memory.oom.group). Only later kills read it.
     pub fn set_oom_group(&mut self, group: GroupId, oom_group: bool)
         requires there { IsTrue (has_group self.old.ledger.groups group) }
         requires below_root { group ≢ 0 }
-        ensures machine { self.new ≡ record self.old { ledger = with_oom_flag self.old.ledger group oom_group } }
+        ensures machine { self.new ≡ record self.old {
+          ledger = with_oom_flag self.old.ledger group oom_group;
+          watch = self.new.watch;
+        } }
         ensures steps { MakesForAny N.frames self.old (set_oom_group_steps group oom_group) self.new }
     {
         self.charges.set_oom_group(group, oom_group);
+        self.watch.zone_made(Action::SetFlag { group, oom_group }, Answer::Done);
     }
 }

@@ -14,6 +14,7 @@ use crate::frame_state::FrameState;
 use crate::machine::Machine;
 use cpu_part::{BootName, Cpu, Tables};
 use frame_word::Frame;
+use step_rules::step::{Action, Answer};
 use zone_blocks::block::Block;
 use zone_blocks::order::Order;
 
@@ -33,9 +34,18 @@ impl<N: BootName> Machine<N> {
         let Some(frame) = tables.frames.frame(block.at) else {
             unreachable!()
         };
+        let at = frame.number();
         tables.frames.pass_out(&mut self.frame_seat, frame, number);
-        self.frame_states[frame.number() as usize] = FrameState::Lent(number as u8);
+        self.watch.zone_made(
+            Action::PassOut {
+                frame: at,
+                cpu: number,
+            },
+            Answer::Done,
+        );
+        self.frame_states[at as usize] = FrameState::Lent(number as u8);
         cpu.accept(tables, &mut self.frame_seat, frame);
+        self.watch.cpu_made(number, Action::TakeIn { frame: at }, Answer::Done);
         true
     }
 
@@ -74,8 +84,16 @@ impl<N: BootName> Machine<N> {
         let at = frame.number();
         self.zone.take_frame(at);
         tables.frames.pass_out(&mut self.frame_seat, frame, number);
+        self.watch.zone_made(
+            Action::PassOut {
+                frame: at,
+                cpu: number,
+            },
+            Answer::Done,
+        );
         self.frame_states[at as usize] = FrameState::Lent(number as u8);
         cpu.accept(tables, &mut self.frame_seat, frame);
+        self.watch.cpu_made(number, Action::TakeIn { frame: at }, Answer::Done);
     }
 
     // Frees the front of the CPU's list, if there is one.
@@ -84,12 +102,20 @@ impl<N: BootName> Machine<N> {
         ensures takes { TakesBackIfListed N.frames result (visit_state self.old cpu.old) (visit_state self.new cpu.new) }
         ensures visit { Visits N.frames (visit_state self.new cpu.new) }
     {
-        let _number = cpu.number(); // Called for its contract.
+        let number = cpu.number();
         let Some(frame) = cpu.hand_front(tables, &mut self.frame_seat) else {
             return false;
         };
-        cpu.collect(tables, &mut self.frame_seat, frame);
         let at = frame.number();
+        self.watch.cpu_made(number, Action::PassBack { frame: at }, Answer::Done);
+        cpu.collect(tables, &mut self.frame_seat, frame);
+        self.watch.zone_made(
+            Action::Collect {
+                frame: at,
+                cpu: number,
+            },
+            Answer::Done,
+        );
         self.frame_states[at as usize] = FrameState::Free;
         self.zone.give(Block {
             at,

@@ -16,6 +16,7 @@
 //!   open. A visit lasts from `open` to `shut`, and frames are handed over only inside it.
 //! - `local_of` is what a visit state shows, in the words of the rules. `Makes` says that a list of steps leads from
 //!   one visit state to another.
+//! - The watch takes each of these steps right behind it, if it is on. `Watches`, a part of `Makes`, says so.
 //!
 //! A line that ends in 'Called for its contract' calls a reader and changes nothing. A proof knows the invariant of a
 //! type only from the contract of such a call. The calls of `list_laws` are made for the same reason.
@@ -43,6 +44,7 @@ mod start;
 mod stock_ledger;
 mod stocks;
 mod visits;
+mod watching;
 
 pub use blocks::TakeFault;
 pub use counts::Counts;

@@ -2,6 +2,7 @@
 
 ghost use Rattle.std.specs.Prelude.{◌≡◌, IfOk};
 ghost use Rattle.frame_word.specs.Seats.{first_zone_view};
+ghost use Rattle.step_watch.specs.Watched.{watch_off};
 ghost use Rattle.stock_word.specs.Stock.{first_zone_stock};
 ghost use Rattle.mem_machine.specs.Machines.{IsConsistent, IsFirst};
 
@@ -17,6 +18,7 @@ use lru_lists::links::Links;
 use lru_lists::lru::Lru;
 use std::alloc::{AllocError, Global};
 use std::marker::{Model, PhantomData};
+use step_watch::Watch;
 use stock_word::StockSeat;
 use zone_buddy::buddy::Buddy;
 
@@ -45,6 +47,8 @@ pub struct Machine<N: BootName> {
     pub(crate) counts: Counts,
     // The notes since the last `forget_notes`: limits without room, what was tried there, and who was killed.
     pub(crate) notes: Notes,
+    // Takes each step of the zone's seat and of the CPU that holds the lock, right behind the step.
+    pub(crate) watch: Watch,
     // The boot whose tables these are.
     pub(crate) of: PhantomData<N>,
 }
@@ -63,8 +67,8 @@ impl<N: BootName> Model for Machine<N> {
 
 impl<N: BootName> Machine<N> {
     /// The machine of a new boot, from the zone's two seats, which have done nothing yet. All frames are free, and only
-    /// the root exists. This call reserves all memory that later calls need; it returns `AllocError` if memory runs
-    /// out.
+    /// the root exists. The watch is off. This call reserves all memory that later calls need; it returns `AllocError`
+    /// if memory runs out.
     pub fn new(
         alloc: Global,
         tables: &Tables<N>,
@@ -74,7 +78,8 @@ impl<N: BootName> Machine<N> {
         requires frame_seat { frame_seat ≡ record { table = N.frames.table; view = first_zone_view N.frames.frames } }
         requires stock_seat { stock_seat ≡ record { table = N.stocks.table; view = first_zone_stock } }
         requires cpus { N.stocks.cpus ≡ N.frames.cpus }
-        ensures { IfOk result (λ machine. IsFirst N.frames N.stocks machine) }
+        ensures first { IfOk result (λ machine. IsFirst N.frames N.stocks machine) }
+        ensures off { IfOk result (λ machine. machine.watch ≡ watch_off) }
     {
         let (zone, frame_states, links) = frame_rooms(alloc, tables.frames.frames())?;
         let (charges, lists, killed) = group_rooms(alloc)?;
@@ -96,6 +101,7 @@ impl<N: BootName> Machine<N> {
                 misses: 0,
             },
             notes,
+            watch: Watch::off(),
             of: PhantomData,
         })
     }
@@ -118,6 +124,7 @@ impl<N: BootName> Machine<N> {
             killed: _,
             counts: _,
             notes: _,
+            watch: _,
             of: _,
         } = self;
         (frame_seat, stock_seat.into_seat())

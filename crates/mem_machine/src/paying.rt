@@ -11,6 +11,7 @@ use crate::machine::Machine;
 use cpu_part::{BootName, Cpu, Tables};
 use frame_word::Frame;
 use group_tree::group::GroupId;
+use step_rules::step::{Action, Answer};
 use stock_word::Stock;
 
 impl<N: BootName> Machine<N> {
@@ -47,7 +48,9 @@ impl<N: BootName> Machine<N> {
         ensures steps { Makes N.frames (visit_state self.old cpu.old)
             (take_front_steps cpu.old.number group) (visit_state self.new cpu.new) }
     {
-        let _number = cpu.number(); // Called for its contract.
-        self.stock_seat.take_front(tables, cpu, group)
+        let number = cpu.number();
+        let frame = self.stock_seat.take_front(tables, cpu, group);
+        self.watch.cpu_made(number, Action::Consume { group }, Answer::Took);
+        frame
     }
 }

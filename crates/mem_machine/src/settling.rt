@@ -7,7 +7,8 @@ ghost use Rattle.mem_machine.specs.Local.{Makes, MakesBy, visit_state};
 ghost use Rattle.mem_machine.specs.Settling.{KeepsFresh, DropsFresh, SettlesNext, SettlesAllFresh, Settles};
 ghost use Rattle.mem_machine.specs.Settling.{ReturnsNext, ReturnsAllBack, LeavesOthers};
 ghost use Rattle.mem_machine.specs.Settling.{MakesFreshSteps, MakesReturnSteps, keep_steps, drop_steps};
-ghost use Rattle.mem_machine.specs.Settling.{all_fresh_steps, return_all_steps, settle_steps};
+ghost use Rattle.mem_machine.specs.Settling.{all_fresh_steps, collect_steps, return_all_steps, settle_steps};
+ghost use Rattle.step_watch.specs.Watched.{Watches};
 
 use crate::frame_state::FrameState;
 use crate::freed::free_unit;
@@ -17,7 +18,19 @@ use cpu_part::{BootName, Cpu, Tables};
 use frame_word::Frame;
 use group_tree::group::GroupId;
 use step_rules::phase::ChargedUnit;
+use step_rules::step::{Action, Answer};
+use step_watch::Watch;
 use zone_blocks::order::Order;
+
+// The watch takes the steps by which the zone took over a fresh frame of the CPU.
+fn take_collected(watch: &mut Watch, number: u32, frame: u32)
+    ensures { Watches watch.old (collect_steps number frame) watch.new }
+{
+    watch.cpu_made(number, Action::PassBack { frame }, Answer::Done);
+    watch.cpu_made(number, Action::Report { pages: 1 }, Answer::Done);
+    watch.zone_made(Action::Collect { frame, cpu: number }, Answer::Done);
+    watch.zone_made(Action::Absorb { cpu: number }, Answer::Pages(1));
+}
 
 impl<N: BootName> Machine<N> {
     // Keeps the oldest fresh frame for the group that paid for it.
@@ -30,15 +43,24 @@ impl<N: BootName> Machine<N> {
         ensures steps { Makes N.frames (visit_state self.old cpu.old)
             (keep_steps cpu.old.number result) (visit_state self.new cpu.new) }
     {
-        let _number = cpu.number(); // Called for its contract.
+        let number = cpu.number();
         let frame = self
             .stock_seat
             .collect_fresh(tables, cpu, &mut self.frame_seat, group);
-        tables.frames.unfreeze(&mut self.frame_seat, frame, 1);
         let at = frame.number();
+        take_collected(&mut self.watch, number, at);
+        tables.frames.unfreeze(&mut self.frame_seat, frame, 1);
+        self.watch.zone_made(
+            Action::Unfreeze {
+                frame: at,
+                count: 1,
+            },
+            Answer::Done,
+        );
         let order = Order::of(0).unwrap();
         self.frame_states[at as usize] = FrameState::Head(ChargedUnit { group, order });
         join_list(&mut self.links, &mut self.lists, group, at);
+        self.watch.zone_made(Action::Publish { frame: at }, Answer::Done);
         frame
     }
 
@@ -53,19 +75,22 @@ impl<N: BootName> Machine<N> {
         ensures steps { Makes N.frames (visit_state self.old cpu.old)
             (drop_steps cpu.old.number result) (visit_state self.new cpu.new) }
     {
-        let _number = cpu.number(); // Called for its contract.
+        let number = cpu.number();
         let frame = self
             .stock_seat
             .collect_fresh(tables, cpu, &mut self.frame_seat, group);
+        let at = frame.number();
+        take_collected(&mut self.watch, number, at);
         let order = Order::of(0).unwrap();
         let unit = ChargedUnit { group, order };
         free_unit(
             &mut self.zone,
             &mut self.frame_states,
             &mut self.charges,
-            frame.number(),
+            at,
             unit,
         );
+        self.watch.zone_made(Action::Return { frame: at }, Answer::Done);
         self.counts = self.counts.with_drop();
         frame
     }
@@ -77,12 +102,20 @@ impl<N: BootName> Machine<N> {
         ensures visit { Visits N.frames (visit_state self.new cpu.new) }
         ensures steps { MakesReturnSteps N.frames result (visit_state self.old cpu.old) (visit_state self.new cpu.new) }
     {
-        let _number = cpu.number(); // Called for its contract.
+        let number = cpu.number();
         let Some(frame) = cpu.hand_back(tables, &mut self.frame_seat) else {
             return None;
         };
-        cpu.collect(tables, &mut self.frame_seat, frame);
         let at = frame.number();
+        self.watch.cpu_made(number, Action::PassBack { frame: at }, Answer::Done);
+        cpu.collect(tables, &mut self.frame_seat, frame);
+        self.watch.zone_made(
+            Action::Collect {
+                frame: at,
+                cpu: number,
+            },
+            Answer::Done,
+        );
         let FrameState::Head(unit) = self.frame_states[at as usize] else {
             unreachable!()
         };
@@ -93,6 +126,7 @@ impl<N: BootName> Machine<N> {
             at,
             unit,
         );
+        self.watch.zone_made(Action::Return { frame: at }, Answer::Done);
         self.counts = self.counts.with_last_put();
         Some(frame)
     }

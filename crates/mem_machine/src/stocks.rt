@@ -2,7 +2,7 @@
 
 ghost use Rattle.std.specs.Prelude.{◌≡◌, ◌<◌, [], Some, IsTrue, OnOk, OnErr, IfErr};
 ghost use Rattle.group_tree.specs.Groups.{has_group, in_subtree};
-ghost use Rattle.mem_machine.specs.Machines.{IsCpuOf, LacksRoom, VisitStateStays, Visits};
+ghost use Rattle.mem_machine.specs.Machines.{IsCpuOf, LacksRoom, OnlyWatches, Visits};
 ghost use Rattle.mem_machine.specs.Stocks.{IsDrained, AreDrained, AreOwnDrained, FitsStock, stock_group};
 ghost use Rattle.mem_machine.specs.Stocks.{of_group, of_subtree, Drains, DrainsBy, DrainsIf, DrainsBySteps, DrainsNoted};
 ghost use Rattle.mem_machine.specs.Stocks.{DrainsGroup, DrainsSubtree, Fills, Prepays, IsOver};
@@ -16,6 +16,7 @@ use cpu_part::{BootName, Cpu, Tables};
 use group_charge::charges::Over;
 use group_tree::group::GroupId;
 use kill_notes::note::Note;
+use step_rules::step::{Action, Answer};
 
 impl<N: BootName> Machine<N> {
     // Drains the stock of the CPU, which a look found to be of this group, and returns how many pages were in it.
@@ -28,8 +29,11 @@ impl<N: BootName> Machine<N> {
     {
         let _tree = self.charges.tree(); // Called for its contract.
         let pages = self.stock_seat.drain(tables, processor, group);
+        let drained = u128::from(pages);
+        self.watch.zone_made(Action::DrainStock { cpu: processor }, Answer::Pages(drained));
         if pages > 0 {
             self.charges.uncharge(group, pages);
+            self.watch.zone_made(Action::Ungrant { group, pages }, Answer::Done);
         }
         pages
     }
@@ -60,7 +64,10 @@ impl<N: BootName> Machine<N> {
             (drain_steps processor (stock_group self.old processor) result) self.new }
     {
         match self.stock_seat.group(tables, processor) {
-            None => 0,
+            None => {
+                self.watch.zone_made(Action::DrainStock { cpu: processor }, Answer::Pages(0));
+                0
+            }
             Some(group) => self.drain_of(tables, processor, group),
         }
     }
@@ -132,7 +139,7 @@ impl<N: BootName> Machine<N> {
 
     /// Charges `pages` pages (1 to 65,535) to a group that isn't killed, and fills the visited CPU's stock with them.
     /// That stock is drained, or was never filled. If a limit has no room, the error names the lowest such group, and
-    /// nothing changed. The CPU has no fresh frame. At most 2^32 - 1 pages can be charged in all; `see_room` shows that
+    /// nothing changed except what the watch saw. The CPU has no fresh frame. At most 2^32 - 1 pages can be charged in all; `see_room` shows that
     /// there is room.
     pub fn fill_stock(
         &mut self,
@@ -148,16 +155,30 @@ impl<N: BootName> Machine<N> {
         requires drained { IsDrained self.old cpu.old.number }
         ensures fills { OnOk result (Fills group pages (visit_state self.old cpu.old) (visit_state self.new cpu.new)) }
         ensures over { IfErr result (λ over. LacksRoom self.old group pages over.group) }
-        ensures unchanged { OnErr result (VisitStateStays (visit_state self.old cpu.old) (visit_state self.new cpu.new)) }
+        ensures unchanged { OnErr result (OnlyWatches (visit_state self.old cpu.old) (visit_state self.new cpu.new)) }
         ensures visit { Visits N.frames (visit_state self.new cpu.new) }
         ensures steps { OnOk result
             (MakesBy N.frames (own_fill_steps group pages) (visit_state self.old cpu.old) (visit_state self.new cpu.new)) }
-        ensures refused { IfErr result (λ over. RefusesGrant N.frames group pages over (visit_state self.old cpu.old)) }
+        ensures refused { IfErr result (λ over. RefusesGrant N.frames group pages over
+            (visit_state self.old cpu.old) (visit_state self.new cpu.new)) }
     {
-        let _number = cpu.number(); // Called for its contract.
+        let number = cpu.number();
         let _tree = self.charges.tree(); // Called for its contract.
-        self.charges.try_charge(group, pages)?;
+        if let Err(over) = self.charges.try_charge(group, pages) {
+            let lowest = over.group;
+            self.watch.zone_made(Action::Grant { group, pages }, Answer::Over(lowest));
+            return Err(over);
+        }
+        self.watch.zone_made(Action::Grant { group, pages }, Answer::Granted);
         self.stock_seat.fill(tables, cpu, group, pages);
+        self.watch.zone_made(
+            Action::Fill {
+                cpu: number,
+                group,
+                pages,
+            },
+            Answer::Done,
+        );
         Ok(())
     }
 

@@ -8,6 +8,7 @@ ghost use Rattle.mem_machine.specs.Steps.{open_steps, shut_steps};
 
 use crate::machine::Machine;
 use cpu_part::{BootName, Cpu, Tables};
+use step_rules::step::{Action, Answer};
 
 impl<N: BootName> Machine<N> {
     /// Opens the visit of the CPU, which is shut. Frames are handed over and pages reported only inside a visit.
@@ -15,13 +16,15 @@ impl<N: BootName> Machine<N> {
         requires { IsShut self.old.frame_seat cpu.old.number }
         ensures machine { self.new ≡ record self.old {
           frame_seat = seat_with_visit self.old.frame_seat cpu.old.number 1;
+          watch = self.new.watch;
         } }
         ensures cpu { cpu.new ≡ cpu.old }
         ensures visits { Visits N.frames (visit_state self.new cpu.new) }
         ensures steps { Makes N.frames (visit_state self.old cpu.old) (open_steps cpu.old.number) (visit_state self.new cpu.new) }
     {
-        let _number = cpu.number(); // Called for its contract.
+        let number = cpu.number();
         cpu.open(tables, &mut self.frame_seat);
+        self.watch.zone_made(Action::OpenVisit { cpu: number }, Answer::Done);
     }
 
     /// Shuts the visit of the CPU.
@@ -29,6 +32,7 @@ impl<N: BootName> Machine<N> {
         requires { Visits N.frames (visit_state self.old cpu.old) }
         ensures machine { self.new ≡ record self.old {
           frame_seat = seat_with_visit self.old.frame_seat cpu.old.number 0;
+          watch = self.new.watch;
         } }
         ensures cpu { cpu.new ≡ cpu.old }
         ensures shut { IsShut self.new.frame_seat cpu.new.number }
@@ -36,7 +40,8 @@ impl<N: BootName> Machine<N> {
         ensures lent { LentIsBorrowed N.frames self.new.frame_seat cpu.new.frame_seat }
         ensures steps { Makes N.frames (visit_state self.old cpu.old) (shut_steps cpu.old.number) (visit_state self.new cpu.new) }
     {
-        let _number = cpu.number(); // Called for its contract.
+        let number = cpu.number();
         cpu.shut(tables, &mut self.frame_seat);
+        self.watch.zone_made(Action::ShutVisit { cpu: number }, Answer::Done);
     }
 }

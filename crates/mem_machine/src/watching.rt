@@ -1,0 +1,36 @@
+//! The watch of the machine: how it is put in and read, and how it takes the steps that CPUs make without the machine.
+
+ghost use Rattle.std.specs.Prelude.{◌≡◌, ◌∷◌, []};
+ghost use Rattle.step_watch.specs.Watched.{Watches};
+ghost use Rattle.mem_machine.specs.Steps.{cpu_makes};
+
+use crate::machine::Machine;
+use cpu_part::BootName;
+use step_rules::step::{Action, Answer};
+use step_watch::Watch;
+
+impl<N: BootName> Machine<N> {
+    /// Puts a watch into the machine. A boot does this before its first step.
+    pub fn set_watch(&mut self, watch: Watch)
+        ensures { self.new ≡ record self.old { watch = watch } }
+    {
+        self.watch = watch;
+    }
+
+    /// The watch, which took each step that the contracts of this machine's calls name.
+    pub fn watch(&self) -> &Watch
+        ensures { result.now ≡ self.now.watch }
+    {
+        &self.watch
+    }
+
+    /// The watch takes a step of a CPU's seat that no other call of the machine takes: a lock, an unlock, or a step
+    /// that the CPU makes without the lock. The machine stays as it is.
+    #[inline(always)]
+    pub fn take_step(&mut self, number: u32, action: Action, answer: Answer)
+        ensures machine { self.new ≡ record self.old { watch = self.new.watch } }
+        ensures watched { Watches self.old.watch (cpu_makes number action answer ∷ []) self.new.watch }
+    {
+        self.watch.cpu_made(number, action, answer);
+    }
+}

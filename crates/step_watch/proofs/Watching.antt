@@ -1,0 +1,80 @@
+-- What follows from the steps that a watch took (for `Watch`, the laws, and the crates whose steps are watched).
+use Rattle.std.proofs.Common.{◌≡◌, ℕ, ◌+◌, ◌++◌, Bool, true, false, Some, None, [], ◌∷◌, length, length-append, refl, sym, ◌∙◌, ap, subst, arith}
+use Rattle.std.proofs.lemmas.Bool.{false≢true}
+use Rattle.std.proofs.lemmas.List.{append_assoc, append-nil}
+use Rattle.step_rules.specs.declared.step.Step.{Step}
+use Rattle.step_rules.specs.declared.step.Answer.{Answer}
+use Rattle.step_rules.specs.State.{Zone, State, at_boot}
+use Rattle.step_rules.specs.After.{Run, after, state_of, IsLegalRun}
+use Rattle.step_rules.proofs.Runs.{one_more, state_more, legal_more}
+use Rattle.mem_core.specs.Shown.{CoreState, state_in}
+use Rattle.mem_core.specs.Checked.{Leads}
+use Rattle.mem_core.proofs.Keeping.{always_keeps}
+use Rattle.step_watch.specs.Watched.{KnownWatch, state_seen, steps_seen, AreAllowedFrom, Saw, Watches, IsNewWatch, SawRun}
+
+-- a watch whose flag is off says nothing
+pub watches_illegal : (before : KnownWatch) (steps : Run) (later : KnownWatch) → later.is_legal ≡ false → Watches before steps later
+watches_illegal before steps later off = record { saw = λ on. absurd (false≢true (sym off ∙ on)) }
+
+-- a checker accepted one more step
+pub watches_step : (old new : CoreState) (step : Step) (answer : Answer) (ok : Bool) →
+    (ok ≡ true → Leads (state_in old) step answer (state_in new)) → (ok ≡ true → new.steps ≡ old.steps + 1) →
+    Watches (record { core = Some old; is_legal = true }) ((step, answer) ∷ []) (record { core = Some new; is_legal = ok })
+watches_step old new step answer ok leads count = record {
+  saw = λ on. record {
+    was_legal = refl;
+    allowed = ((leads on).allowed, sym (leads on).state);
+    count = count on;
+  };
+}
+
+pub watches_none : (watch : KnownWatch) → Watches watch [] watch
+watches_none watch = record { saw = λ on. record { was_legal = on; allowed = refl; count = omega arith } }
+
+allowed_both : (s : State) (first : Run) (t : State) (second : Run) (u : State) → AreAllowedFrom s first t → AreAllowedFrom t second u
+    → AreAllowedFrom s (first ++ second) u
+allowed_both s [] t second u same rest = subst (λ (x : State). AreAllowedFrom x second u) (sym same) rest
+allowed_both s (made ∷ first) t second u allowed rest =
+    (allowed.0, allowed_both (after s made.0.seat made.0.action made.1) first t second u allowed.1 rest)
+
+pub watches_both : (before : KnownWatch) (first : Run) (between : KnownWatch) (second : Run) (later : KnownWatch)
+    → Watches before first between → Watches between second later → Watches before (first ++ second) later
+watches_both before first between second later one two = record {
+  saw = λ on.
+      let last = two.saw on in
+      let start = one.saw last.was_legal in
+      let parts = length-append first second in
+      let a = start.count in
+      let b = last.count in
+      record {
+        was_legal = start.was_legal;
+        allowed = allowed_both (state_seen before) first (state_seen between) second (state_seen later) start.allowed last.allowed;
+        count = omega (arith, parts, a, b);
+      };
+}
+
+-- a legal run goes on with steps that are allowed from the state on to which it leads
+pub goes_on : (zone : Zone) (run : Run) (s : State) (steps : Run) (t : State) → IsLegalRun zone run → s ≡ state_of zone run
+    → AreAllowedFrom s steps t → IsLegalRun zone (run ++ steps) × (t ≡ state_of zone (run ++ steps))
+goes_on zone run s [] t legal here same =
+    subst (λ (r : Run). IsLegalRun zone r × (t ≡ state_of zone r)) (sym (append-nil run)) (legal, sym same ∙ here)
+goes_on zone run s (made ∷ steps) t legal here allowed =
+    let more = one_more run made.0 made.1 in
+    let allowed_there = subst (λ (x : State). AreAllowedFrom x (made ∷ steps) t) here allowed in
+    subst (λ (r : Run). IsLegalRun zone r × (t ≡ state_of zone r)) (append_assoc run (made ∷ []) steps)
+    (goes_on zone more (after (state_of zone run) made.0.seat made.0.action made.1) steps t
+    (legal_more zone run made.0 made.1 legal allowed_there.0) (sym (state_more zone run made.0 made.1)) allowed_there.1)
+
+pub watched_runs_are_legal : (zone : Zone) (new : KnownWatch) (run : Run) (later : KnownWatch)
+    → IsNewWatch zone new → Watches new run later → later.is_legal ≡ true → SawRun zone run later
+watched_runs_are_legal zone new run later first watched on =
+    let saw = watched.saw on in
+    let ends = goes_on zone [] (state_seen new) run (state_seen later) (λ k. tt) first.state saw.allowed in
+    let a = saw.count in
+    let b = first.steps in
+    record {
+      legal = ends.0;
+      state = ends.1;
+      count = omega (arith, a, b);
+      promise = always_keeps zone run ends.0;
+    }
