@@ -4,6 +4,7 @@ use Rattle.std.specs.Prelude.{IfSome, Option, slice_set}
 use Rattle.std.specs.List.{slice_get}
 use Rattle.std.specs.declared.string.String.{String}
 use Rattle.std.proofs.lemmas.Bool.{cases_eq}
+use Rattle.std.proofs.lemmas.List.{get_or_default}
 use Rattle.std.proofs.lemmas.Option.{slice_get_within, slice_get_read, none-some}
 use Rattle.frame_word.specs.Seats.{KnownTable}
 use Rattle.stock_word.specs.declared.view.Stock.{Stock}
@@ -24,7 +25,7 @@ use Rattle.script_lines.specs.declared.line.Command.{Command}
 use Rattle.script_lines.specs.declared.line.Line.{Line}
 use Rattle.script_lines.specs.declared.line.Line.TheVariants.{Go, At}
 use Rattle.script_replay.specs.Answers.{AddsText, ServesCommand, WritesWork}
-use Rattle.script_replay.specs.Lines.{SystemState, system_state, AtPart, InOrder, ServesLine, ServesAll, StopsAt}
+use Rattle.script_replay.specs.Lines.{SystemState, system_state, AtPart, InOrder, ServesLine, ServesAll, StopsAt, number_in_script}
 use Rattle.script_replay.specs.History.{Past, past, past_line, TellsHistory, Replays, ReplaysLegally, ServesAndKeeps, HoldsInvariants}
 use Rattle.script_replay.specs.Ranges.{LineIsThere}
 use Rattle.script_replay.specs.Terms.{Terms}
@@ -188,3 +189,10 @@ keeps_stop on s m e lines i default text more inside all one =
       text = said;
       served = all_replayed on first s e said served;
     }
+
+-- the number of the line after so many, as a stop behind it names the line
+pub numbers_stop : (lines : List Line) (i : ℕ) (default : Line) → i < length lines
+    → number_in_script (get_or lines i default) ≡ number_in_script (get_or lines (i + 1 - 1) Go)
+numbers_stop lines i default inside =
+    let back : i ≡ i + 1 - 1 = omega arith in
+    ap number_in_script (get_or_default lines i default Go inside ∙ ap (λ (k : ℕ). get_or lines k Go) back)

@@ -204,11 +204,12 @@ fn answer_frame<N: BootName>(
     let Some(group) = locked.find(path) else {
         return write_refusal(&Fault::NoGroup, text);
     };
-    match cpu.alloc_fast(tables, group.number()) {
+    let processor = cpu.number();
+    let number = group.number();
+    match cpu.alloc_fast(tables, number) {
         Fast::Got(frame) => {
-            let fast = Fast::Got(frame);
-            watch_fast(locked, cpu.number(), group.number(), &fast);
-            write_fast(&fast, text)
+            watch_fast(locked, processor, number, &Fast::Got(frame));
+            write_fast(&Fast::Got(frame), text)
         }
         _ => serve_frame(locked, tables, cpu, group, is_explained, text),
     }
@@ -228,8 +229,9 @@ fn answer_release<N: BootName>(
         (ServesWork (terms N.frames N.stocks is_explained) (Release number)
         (locked_state locked.old cpu.old) (locked_state locked.new cpu.new)) }
 {
+    let processor = cpu.number();
     if try_list(tables, cpu, number) {
-        watch_credit(locked, cpu.number(), number);
+        watch_credit(locked, processor, number);
         return write_listed(text);
     }
     serve_command(
