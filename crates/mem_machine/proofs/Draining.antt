@@ -28,7 +28,7 @@ use Rattle.step_rules.proofs.Sums.{sum_part, sum_change}
 use Rattle.mem_machine.specs.FrameStates.{count_of}
 use Rattle.mem_machine.specs.Machines.{KnownMachine, IsConsistent, booked, frames_charged, pages_booked}
 use Rattle.mem_machine.specs.Local.{local_of, part_of, part_with, IsLocalRun, MakesAs, visit_state}
-use Rattle.mem_machine.specs.Steps.{ungrant_steps, drain_steps}
+use Rattle.mem_machine.specs.Steps.{ungrant_steps, drain_steps, zone_makes}
 use Rattle.mem_machine.specs.Stocks.{uncharged, stock_group, steps_to_drain, with_look, Drains, DrainsBy}
 use Rattle.mem_machine.proofs.Reaching.{zone_step, run_one}
 use Rattle.mem_machine.proofs.Holds.{zone_may_act}
@@ -284,6 +284,14 @@ drain_counts s counts None q k = refl
 drain_counts s counts (Some g) q zero = refl
 drain_counts s counts (Some g) q (suc k) = refl
 
+-- there is an ungrant exactly if there were pages
+pub ungrants_some : (g k : ℕ) → 1 ≤ k → ungrant_steps (Some g) k ≡ zone_makes (Ungrant g k) Done ∷ []
+ungrants_some g zero some = absurd (omega (arith, some))
+ungrants_some g (suc k) some = refl
+
+pub ungrants_none : (g k : ℕ) → k ≡ 0 → ungrant_steps (Some g) k ≡ []
+ungrants_none g k none = ap (ungrant_steps (Some g)) none
+
 -- no peak and no count moves
 drain_follows : (s : State) (l : Ledger) (o : Option ℕ) (q k : ℕ) → FollowsSteps s l (drain_steps q o k) (uncharged l o k)
 drain_follows s l None q k = follows_same s l (drain_steps q None k) refl
@@ -398,6 +406,7 @@ after_look m n q k g of drains = record {
       table = m.stock_seat.table;
       view = record (draining m.stock_seat.view q k) { steps = counted i };
     };
+    watch = n.watch;
   });
   booked = drains.booked;
   drained_before = drains.drained_before;

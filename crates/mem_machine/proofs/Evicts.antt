@@ -187,6 +187,7 @@ evicted_all t w m now same ok f i inside is kept_now links lists left_list stand
           lists = lists;
           frame_seat = (answered.1 ∙ ap (λ (x : KnownMachine). seat_with x.frame_seat f (frozen 1)) same) j;
           counts = (counted ∙ ap (λ (x : KnownMachine). with_freeze x.counts) same) j;
+          watch = m.watch;
         };
       };
       visit = back.visit;

@@ -205,12 +205,11 @@ module _ (t : KnownTable) (w : Words) (m : KnownMachine) (c : KnownCpu) (tied : 
       same_phase g (Tail h) = refl
 
 -- all of it, of the machine as it was seen before
-pub record AllLent (t : KnownTable) (w : Words) (now : KnownMachine) (c : KnownCpu) (n : KnownMachine) (d : KnownCpu) (free : List Bool) : Type 0 where
+pub record AllLent (t : KnownTable) (w : Words) (now : KnownMachine) (c : KnownCpu) (f : ℕ) (n : KnownMachine) (d : KnownCpu) (free : List Bool) : Type 0 where
   pub consistent : IsConsistent t w n
   pub free_is : free ≡ free_of n.frame_states
-  pub frame : ℕ
-  pub lends : LendsOne frame (visit_state now c) (visit_state n d)
-  pub steps : LeadsAs t c.number (visit_state now c) (lend_steps c.number frame) (visit_state n d)
+  pub lends : LendsOne f (visit_state now c) (visit_state n d)
+  pub steps : LeadsAs t c.number (visit_state now c) (lend_steps c.number f) (visit_state n d)
   pub visit : Visits t (visit_state n d)
 
 pub lend_all : (t : KnownTable) (w : Words) (m now : KnownMachine) → m ≡ now → (c d : KnownCpu) → IsTied t w c → IsConsistent t w m → Visits t (visit_state now c)
@@ -218,7 +217,7 @@ pub lend_all : (t : KnownTable) (w : Words) (m now : KnownMachine) → m ≡ now
     → before ≡ free_of m.frame_states → k ≡ 0 → IsFrontOfSmallest m.blocks k b → TakesFrames before b free → AreMaximalBlocks free blocks
     → f ≡ b.at → i ≡ f → q ≡ c.number → seat ≡ seat_with m.frame_seat f (passed_out_to q) → seat' ≡ seat
     → d ≡ record c { list = c.list ++ f ∷ []; frame_seat = seat_with c.frame_seat f took_in } → in_hands (note_of c.frame_seat.view f) ≡ 0
-    → AllLent t w now c (record m { blocks = blocks; frame_states = slice_set m.frame_states i (Lent q); frame_seat = seat' }) d free
+    → AllLent t w now c f (record m { blocks = blocks; frame_states = slice_set m.frame_states i (Lent q); frame_seat = seat' }) d free
 lend_all t w m now same c d tied ok visit_now before free k b blocks f i q seat seat' was zero_is taken takes areas at index number passed stays cpu none =
     let visit : Visits t (visit_state m c) = subst (λ (x : KnownMachine). Visits t (visit_state x c)) (sym same) visit_now in
     let block : b ≡ record { at = f; order = 0 } = λ j. record { at = sym at j; order = (taken.order_is ∙ zero_is) j } in
@@ -233,15 +232,14 @@ lend_all t w m now same c d tied ok visit_now before free k b blocks f i q seat 
     let e : KnownCpu = record c { list = c.list ++ f ∷ []; frame_seat = seat_with c.frame_seat f took_in } in
     let areas_f : AreMaximalBlocks (free_of (slice_set m.frame_states f (Lent c.number))) blocks = subst (λ
     (l : List Bool). AreMaximalBlocks l blocks) free_is areas in
-    let all : AllLent t w m c n e free = record {
+    let all : AllLent t w m c f n e free = record {
       consistent = lend_consistent t w m c tied ok visit f inside there.1 blocks areas_f;
       free_is = free_is;
-      frame = f;
       lends = record { front = front; lends = record { areas = areas_f; machine = refl; cpu = refl } };
       steps = lend_runs t w m c tied ok visit f inside there.1 blocks none;
       visit = lend_visits t w m c tied ok visit f inside there.1 blocks;
     } in
-    subst (λ (x : KnownMachine × KnownMachine × KnownCpu). AllLent t w x.0 c x.1 x.2 free)
+    subst (λ (x : KnownMachine × KnownMachine × KnownCpu). AllLent t w x.0 c f x.1 x.2 free)
     (λ j. (
       same j,
       record m {

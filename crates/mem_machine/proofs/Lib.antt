@@ -2,6 +2,7 @@ pub mod Balances
 pub mod NoneLent
 pub mod Reaching
 pub mod Followed
+pub mod Watched
 pub mod Counted
 pub mod LedgerMoves
 pub mod Holds

@@ -365,21 +365,19 @@ module _ (m x : KnownMachine) (q p k : ℕ) (named : q ≡ p) (d : Drains q k m 
           (visit_state n f) looked_own
           (subst (λ (z : KnownMachine × KnownCpu). Makes t (visit_state z.0 z.1) (fill_steps z.1.number g pages) (visit_state n f)) (λ i. (same i, stays i)) steps)
 
-      -- the grant was refused, and nothing changed since
-      module _ (over : ℕ) (kept : n ≡ y) (own_kept : f ≡ e) where
+      -- the grant was refused, and since then only the watch saw it
+      module _ (over : ℕ) (kept : n ≡ record y { watch = n.watch }) (own_kept : f ≡ e) where
         pub is_refused : room.IsLowestOver y.ledger.groups (current_of y.ledger) g pages over → IsOver g pages over (visit_state m c) (visit_state n f)
-        is_refused low = subst (λ (z : KnownMachine × KnownCpu). IsOver g pages over (visit_state m c) (visit_state z.0 z.1))
-            (λ i. (sym (kept ∙ same) i, sym (own_kept ∙ stays) i)) (record {
-              emptied = x;
-              drains = own_drain;
-              machine = refl;
-              lowest = subst (λ (z : KnownMachine). room.IsLowestOver z.ledger.groups (current_of z.ledger) g pages over) same low;
-              cpu = refl;
-            })
+        is_refused low = record {
+          emptied = x;
+          drains = own_drain;
+          machine = kept ∙ (λ i. record (same i) { watch = n.watch });
+          lowest = subst (λ (z : KnownMachine). room.IsLowestOver z.ledger.groups (current_of z.ledger) g pages over) (sym kept) low;
+          cpu = own_kept ∙ stays;
+        }
 
-        pub refused_runs : Makes t (visit_state y e) (over_steps g pages over) (visit_state y e)
+        pub refused_runs : Makes t (visit_state y e) (over_steps g pages over) (visit_state n f)
             → Makes t (visit_state m c) (own_drain_steps (visit_state m c) ++ over_steps g pages over) (visit_state n f)
-        refused_runs steps = subst (λ (z : KnownMachine × KnownCpu). Makes t (visit_state m c) (own_drain_steps (visit_state m c) ++ over_steps g pages over) (visit_state z.0 z.1))
-            (λ i. (sym (kept ∙ same) i, sym (own_kept ∙ stays) i))
-            (makes_both t c.number (own_drain_steps (visit_state m c)) (over_steps g pages over) (visit_state m c) (visit_state (with_look x) c) (visit_state (with_look x) c) looked_own
-            (subst (λ (z : KnownMachine × KnownCpu). Makes t (visit_state z.0 z.1) (over_steps g pages over) (visit_state z.0 z.1)) (λ i. (same i, stays i)) steps))
+        refused_runs steps = makes_both t c.number (own_drain_steps (visit_state m c)) (over_steps g pages over) (visit_state m c) (visit_state (with_look x) c)
+            (visit_state n f) looked_own
+            (subst (λ (z : KnownMachine × KnownCpu). Makes t (visit_state z.0 z.1) (over_steps g pages over) (visit_state n f)) (λ i. (same i, stays i)) steps)

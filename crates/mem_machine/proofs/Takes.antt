@@ -194,19 +194,18 @@ module _ (t : KnownTable) (w : Words) (m : KnownMachine) (c : KnownCpu) (tied : 
       }
 
 -- all of it, of the machine as it was seen before
-pub record AllTaken (t : KnownTable) (w : Words) (now : KnownMachine) (c : KnownCpu) (n : KnownMachine) (d : KnownCpu) (free : List Bool) : Type 0 where
+pub record AllTaken (t : KnownTable) (w : Words) (now : KnownMachine) (c : KnownCpu) (f : ℕ) (n : KnownMachine) (d : KnownCpu) (free : List Bool) : Type 0 where
   pub consistent : IsConsistent t w n
   pub free_is : free ≡ free_of n.frame_states
-  pub frame : ℕ
-  pub takes : TakesOneBack frame (visit_state now c) (visit_state n d)
-  pub steps : LeadsAs t c.number (visit_state now c) (unlist_steps c.number frame) (visit_state n d)
+  pub takes : TakesOneBack f (visit_state now c) (visit_state n d)
+  pub steps : LeadsAs t c.number (visit_state now c) (unlist_steps c.number f) (visit_state n d)
   pub visit : Visits t (visit_state n d)
 
 pub take_all : (t : KnownTable) (w : Words) (m now : KnownMachine) → m ≡ now → (c h d : KnownCpu) → IsTied t w c → IsConsistent t w m → Visits t (visit_state now c)
     → (before free : List Bool) (k : ℕ) (blocks : List Block) (f i : ℕ) (seat : KnownSeat)
     → before ≡ free_of m.frame_states → k ≡ 0 → GivesFrames before (record { at = i; order = k }) free → AreMaximalBlocks free blocks
     → f < t.frames → IsLent m.frame_seat f c.number → i ≡ f → HandsFront f c h → seat ≡ seat_with m.frame_seat f (collected_from h.number) → d ≡ h
-    → AllTaken t w now c (record m { blocks = blocks; frame_states = slice_set m.frame_states i Free; frame_seat = seat }) d free
+    → AllTaken t w now c f (record m { blocks = blocks; frame_states = slice_set m.frame_states i Free; frame_seat = seat }) d free
 take_all t w m now same c h d tied ok visit_now before free k blocks f i seat was zero_is gives areas inside lent index hands collected stays =
     let visit : Visits t (visit_state m c) = subst (λ (x : KnownMachine). Visits t (visit_state x c)) (sym same) visit_now in
     let rest = hands.0 in
@@ -218,16 +217,15 @@ take_all t w m now same c h d tied ok visit_now before free k blocks f i seat wa
     let within : f < length m.frame_states = omega (arith, inside, sized) in
     let free_is : free ≡ free_of (slice_set m.frame_states f Free) = free_given before free m.frame_states f Free within was gives_f refl in
     let areas_f : AreMaximalBlocks (free_of (slice_set m.frame_states f Free)) blocks = subst (λ (l : List Bool). AreMaximalBlocks l blocks) free_is areas in
-    let all : AllTaken t w m c n e free = record {
+    let all : AllTaken t w m c f n e free = record {
       consistent = take_consistent t w m c tied ok visit f rest hands.1 inside lent blocks areas_f;
       free_is = free_is;
-      frame = f;
       takes = record { rest = rest; front = hands.1; areas = areas_f; machine = refl; cpu = refl };
       steps = take_runs t w m c tied ok visit f rest hands.1 inside lent blocks;
       visit = take_visits t w m c tied ok visit f rest hands.1 inside lent blocks;
     } in
     let number : h.number ≡ c.number = ap (λ (x : KnownCpu). x.number) hands.2 in
-    subst (λ (x : KnownMachine × KnownMachine × KnownCpu). AllTaken t w x.0 c x.1 x.2 free)
+    subst (λ (x : KnownMachine × KnownMachine × KnownCpu). AllTaken t w x.0 c f x.1 x.2 free)
     (λ j. (
       same j,
       record m {

@@ -1,5 +1,13 @@
-use Rattle.std.proofs.Common.{◌≡◌, ◌≤◌, Some, rules, refl}
-use Rattle.mem_machine.proofs.Draining.{drained_all, drained_none, drained_within, some_not_none}
+use Rattle.std.proofs.Common.{◌≡◌, ℕ, ◌≤◌, Option, Some, ◌∷◌, rules, refl, subst, sym}
+use Rattle.mem_machine.proofs.Draining.{drained_all, drained_none, drained_within, some_not_none, ungrants_some, ungrants_none}
+use Rattle.step_watch.specs.Watched.{Watches}
+use Rattle.step_watch.proofs.Watching.{watches_both}
+use Rattle.step_rules.specs.declared.step.Action.TheVariants.{DrainStock}
+use Rattle.step_rules.specs.declared.step.Answer.TheVariants.{Pages}
+use Rattle.step_rules.specs.After.{Run}
+use Rattle.mem_machine.specs.Steps.{drain_steps, zone_makes}
+use Rattle.mem_machine.proofs.Followed.{makes_watched}
+use Rattle.mem_machine.proofs.Watched.{consistent_still, drains_still}
 use Rattle.mem_machine.proofs.machine.Machine.drain_of.Goals as goal
 
 pub uncharge-requires-clause-there : goal.uncharge-requires-clause-there
@@ -18,7 +26,7 @@ uncharge-requires-clause-charged g c =
 
 pub invariant_of-self : goal.invariant_of-self
 invariant_of-self g c = record {
-  consistent = (drained_all g.N.BootName.frames g.N.BootName.stocks _ _ 2 _ _ c.self.view_is c.self.invariant.consistent
+  consistent = consistent_still _ _ _ _ (drained_all g.N.BootName.frames g.N.BootName.stocks _ _ 2 _ _ c.self.view_is c.self.invariant.consistent
       (λ some. c.tree-tree.ensures.legal) c.requires.processor.0 c.requires.processor.1
       c.drain-pages.ensures.booked c.drain-pages.ensures.drained_before (Some c.args.group) c.requires.group (some_not_none _ _) _ _
       c.uncharge.ensures.uncharged
@@ -29,7 +37,7 @@ invariant_of-self g c = record {
 pub invariant_of-self-else-pages-gt0 : goal.invariant_of-self-else-pages-gt0
 invariant_of-self-else-pages-gt0 g c =
     let none : c.drain-pages.result ≡ 0 = search rules in record {
-      consistent = (drained_all g.N.BootName.frames g.N.BootName.stocks _ _ 2 _ _ c.self.view_is c.self.invariant.consistent
+      consistent = consistent_still _ _ _ _ (drained_all g.N.BootName.frames g.N.BootName.stocks _ _ 2 _ _ c.self.view_is c.self.invariant.consistent
           (λ some. c.tree-tree.ensures.legal) c.requires.processor.0 c.requires.processor.1
           c.drain-pages.ensures.booked c.drain-pages.ensures.drained_before (Some c.args.group) c.requires.group (some_not_none _ _) _ _
           (drained_none c.self.inside.charges (Some c.args.group) _ none) c.drain-pages.ensures.seat).consistent;
@@ -38,10 +46,16 @@ invariant_of-self-else-pages-gt0 g c =
 
 pub returns-then-pages-gt0-clause-steps : goal.returns-then-pages-gt0-clause-steps
 returns-then-pages-gt0-clause-steps g c =
-    (drained_all g.N.BootName.frames g.N.BootName.stocks _ _ 2 _ _ c.self.view_is c.self.invariant.consistent
+    let some : 1 ≤ c.drain-pages.result = search rules in
+    let took = subst (λ (r : Run). Watches c.self.inside.watch (zone_makes (DrainStock c.args.processor) (Pages c.drain-pages.result) ∷ r) c.zone_made-then-pages-gt0.new.self)
+    (sym (ungrants_some c.args.group c.drain-pages.result some))
+    (watches_both _ _ _ _ _ c.zone_made.ensures c.zone_made-then-pages-gt0.ensures) in
+    let all = drained_all g.N.BootName.frames g.N.BootName.stocks _ _ 2 _ _ c.self.view_is c.self.invariant.consistent
     (λ some. c.tree-tree.ensures.legal) c.requires.processor.0 c.requires.processor.1
     c.drain-pages.ensures.booked c.drain-pages.ensures.drained_before (Some c.args.group) c.requires.group (some_not_none _ _) _ _
-    c.uncharge.ensures.uncharged c.drain-pages.ensures.seat).steps
+    c.uncharge.ensures.uncharged c.drain-pages.ensures.seat in
+    λ cpu. makes_watched _ _ _ _ c.self.view_is cpu cpu _ _ (all.steps cpu) _
+    (subst (λ (o : Option ℕ). Watches c.self.inside.watch (drain_steps c.args.processor o c.drain-pages.result) c.zone_made-then-pages-gt0.new.self) (sym c.requires.group) took)
 
 pub returns-else-pages-gt0 : goal.returns-else-pages-gt0
 returns-else-pages-gt0 g c =
@@ -50,7 +64,14 @@ returns-else-pages-gt0 g c =
     (λ some. c.tree-tree.ensures.legal) c.requires.processor.0 c.requires.processor.1
     c.drain-pages.ensures.booked c.drain-pages.ensures.drained_before (Some c.args.group) c.requires.group (some_not_none _ _) _ _
     (drained_none c.self.inside.charges (Some c.args.group) _ none) c.drain-pages.ensures.seat in
-    record { drains = all.drains; steps = all.steps }
+    let took = subst (λ (r : Run). Watches c.self.inside.watch (zone_makes (DrainStock c.args.processor) (Pages c.drain-pages.result) ∷ r) c.zone_made.new.self)
+    (sym (ungrants_none c.args.group c.drain-pages.result none)) c.zone_made.ensures in
+    record {
+      drains = drains_still _ _ _ _ _ _ all.drains;
+      steps = λ cpu. makes_watched _ _ _ _ c.self.view_is cpu cpu _ _ (all.steps cpu) _
+          (subst (λ (o : Option ℕ). Watches c.self.inside.watch (drain_steps c.args.processor o c.drain-pages.result) c.zone_made.new.self)
+          (sym c.requires.group) took);
+    }
 
 pub returns-then-pages-gt0-clause-drains : goal.returns-then-pages-gt0-clause-drains
 returns-then-pages-gt0-clause-drains g c = search rules

@@ -1,9 +1,16 @@
+use Rattle.std.proofs.Common.{◌≡◌, ℕ, Option, None, ap, ◌∙◌, subst}
 use Rattle.mem_machine.proofs.Draining.{drained_looked, drained_never, looked_consistent, never_drained, runs_looked}
+use Rattle.step_watch.specs.Watched.{Watches}
+use Rattle.mem_machine.specs.Machines.{KnownMachine}
+use Rattle.mem_machine.specs.Stocks.{stock_group}
+use Rattle.mem_machine.specs.Steps.{drain_steps}
+use Rattle.mem_machine.proofs.Followed.{makes_watched}
+use Rattle.mem_machine.proofs.Watched.{drains_still, consistent_still}
 use Rattle.mem_machine.proofs.machine.Machine.drain_stock.Goals as goal
 
 pub invariant_of-self : goal.invariant_of-self
 invariant_of-self g c = record {
-  consistent = (never_drained g.N.BootName.frames g.N.BootName.stocks _ _ c.self.view_is c.self.invariant.consistent c.args.processor c.requires.processor.0
+  consistent = consistent_still _ _ _ _ (never_drained g.N.BootName.frames g.N.BootName.stocks _ _ c.self.view_is c.self.invariant.consistent c.args.processor c.requires.processor.0
       c.requires.processor.1 c.in-None.ensures.group _
       c.in-None.ensures.seat).consistent;
   free = c.self.invariant.free;
@@ -14,7 +21,13 @@ returns-in-None g c =
     let all = never_drained g.N.BootName.frames g.N.BootName.stocks _ _ c.self.view_is c.self.invariant.consistent c.args.processor c.requires.processor.0
     c.requires.processor.1 c.in-None.ensures.group _
     c.in-None.ensures.seat in
-    record { drains = drained_never _ _ _ c.self.view_is c.args.processor c.in-None.ensures.group all.drains; steps = all.steps }
+    let none : None ≡ stock_group c.args.self.now c.args.processor = c.in-None.ensures.group
+    ∙ ap (λ (x : KnownMachine). stock_group x c.args.processor) c.self.view_is in
+    record {
+      drains = drained_never _ _ _ c.self.view_is c.args.processor c.in-None.ensures.group (drains_still _ _ _ _ _ _ all.drains);
+      steps = λ cpu. makes_watched _ _ _ _ c.self.view_is cpu cpu _ _ (all.steps cpu) _
+          (subst (λ (o : Option ℕ). Watches c.self.inside.watch (drain_steps c.args.processor o 0) c.zone_made.new.self) none c.zone_made.ensures);
+    }
 
 pub invariant_of-self-in-Some : goal.invariant_of-self-in-Some
 invariant_of-self-in-Some g c = record {

@@ -1,11 +1,17 @@
+use Rattle.std.proofs.Common.{ℕ, Some, None, subst}
 use Rattle.mem_machine.proofs.Freeing.{unit_in_use, unit_charged}
 use Rattle.mem_machine.proofs.Releases.{read_head}
 use Rattle.mem_machine.proofs.Evicts.{missed_all, evicted_all}
+use Rattle.step_watch.specs.Watched.{Watches}
+use Rattle.step_watch.proofs.Watching.{watches_both}
+use Rattle.mem_machine.specs.Evicting.{evict_steps}
+use Rattle.mem_machine.proofs.Followed.{makes_watched}
+use Rattle.mem_machine.proofs.Watched.{consistent_still, misses_still, evicts_still, visits_still}
 use Rattle.mem_machine.proofs.machine.Machine.evict.Goals as goal
 
 pub invariant_of-self : goal.invariant_of-self
 invariant_of-self g c = record {
-  consistent = (missed_all g.N.BootName.frames g.N.BootName.stocks _ _ c.self.view_is c.self.invariant.consistent c.args.head c.requires.frame c.requires.kept _
+  consistent = consistent_still _ _ _ _ (missed_all g.N.BootName.frames g.N.BootName.stocks _ _ c.self.view_is c.self.invariant.consistent c.args.head c.requires.frame c.requires.kept _
       c.if-not-freeze.ensures.answer _ c.with_miss-self-inside.ensures).consistent;
   free = c.self.invariant.free;
 }
@@ -14,7 +20,12 @@ pub returns-then-not-freeze : goal.returns-then-not-freeze
 returns-then-not-freeze g c =
     let all = missed_all g.N.BootName.frames g.N.BootName.stocks _ _ c.self.view_is c.self.invariant.consistent c.args.head c.requires.frame c.requires.kept _
     c.if-not-freeze.ensures.answer _ c.with_miss-self-inside.ensures in
-    record { evicts = all.misses; visit = all.visit; steps = all.steps }
+    let took = subst (λ (x : ℕ). Watches c.self.inside.watch (evict_steps x None) c.zone_made.new.self) c.number-at.ensures c.zone_made.ensures in
+    record {
+      evicts = misses_still _ _ _ _ all.misses;
+      visit = λ cpu visit. visits_still _ _ _ _ (all.visit cpu visit);
+      steps = λ cpu. makes_watched _ _ _ _ c.self.view_is cpu cpu _ _ (all.steps cpu) _ took;
+    }
 
 pub free_unit-requires-clause-in_use : goal.free_unit-requires-clause-in_use
 free_unit-requires-clause-in_use g c =
@@ -43,7 +54,7 @@ invariant_of-self-2 g c =
     c.leave_list.ensures.lists.groups _ c.if-not-freeze.ensures.answer c.in-Head.unit head _ _ _ _ _ _ _ c.self.invariant.free c.free_unit.ensures.frame_states
     c.free_unit.ensures.frames c.free_unit.ensures.areas c.free_unit.ensures.charges c.free_unit.ensures.usage
     c.with_freeze-self-inside.ensures c.frames.ensures.frames in
-    record { consistent = all.consistent; free = all.free_is }
+    record { consistent = consistent_still _ _ _ _ all.consistent; free = all.free_is }
 
 pub returns : goal.returns
 returns g c =
@@ -54,4 +65,10 @@ returns g c =
     c.leave_list.ensures.lists.groups _ c.if-not-freeze.ensures.answer c.in-Head.unit head _ _ _ _ _ _ _ c.self.invariant.free c.free_unit.ensures.frame_states
     c.free_unit.ensures.frames c.free_unit.ensures.areas c.free_unit.ensures.charges c.free_unit.ensures.usage
     c.with_freeze-self-inside.ensures c.frames.ensures.frames in
-    record { evicts = all.evicts; visit = all.visit; steps = all.steps }
+    let took = subst (λ (x : ℕ). Watches c.self.inside.watch (evict_steps x (Some c.frames.result)) c.zone_made-3.new.self)
+    c.number-at.ensures (watches_both _ _ _ _ _ c.zone_made-2.ensures c.zone_made-3.ensures) in
+    record {
+      evicts = evicts_still _ _ _ _ _ all.evicts;
+      visit = λ cpu visit. visits_still _ _ _ _ (all.visit cpu visit);
+      steps = λ cpu. makes_watched _ _ _ _ c.self.view_is cpu cpu _ _ (all.steps cpu) _ took;
+    }

@@ -1,11 +1,16 @@
-use Rattle.std.proofs.Common.{refl, rules}
-use Rattle.std.specs.Prelude.{IfErr}
-use Rattle.std.proofs.lemmas.Result.{IfErr-weaker}
+use Rattle.std.proofs.Common.{ℕ, refl, sym, ◌∙◌, subst, rules}
 use Rattle.group_tree.specs.Room.{IsLowestOver}
-use Rattle.group_charge.specs.declared.charges.Over.{Over}
 use Rattle.group_charge.specs.Charges.{current_of}
 use Rattle.mem_machine.proofs.Booking.{room_booked}
 use Rattle.mem_machine.proofs.Prepaying.{filled_all, refused_all}
+use Rattle.step_watch.specs.Watched.{Watches}
+use Rattle.step_watch.proofs.Watching.{watches_both}
+use Rattle.mem_machine.specs.Kept.{machine_of}
+use Rattle.mem_machine.specs.Machines.{KnownMachine}
+use Rattle.mem_machine.specs.Local.{visit_state}
+use Rattle.mem_machine.specs.Steps.{fill_steps, over_steps}
+use Rattle.mem_machine.proofs.Followed.{LeadsAs, makes_watched}
+use Rattle.mem_machine.proofs.Watched.{consistent_still}
 use Rattle.mem_machine.proofs.machine.Machine.fill_stock.Goals as goal
 
 pub fill-requires-clause-fits : goal.fill-requires-clause-fits
@@ -15,27 +20,35 @@ fill-requires-clause-fits g c =
 
 pub invariant_of-self-2 : goal.invariant_of-self-2
 invariant_of-self-2 g c = record {
-  consistent = (filled_all g.N.BootName.frames g.N.BootName.stocks _ _ c.args.cpu.now c.args.group c.args.pages c.self.view_is c.self.invariant.consistent c.tree-tree.ensures.legal
+  consistent = consistent_still _ _ _ _ (filled_all g.N.BootName.frames g.N.BootName.stocks _ _ c.args.cpu.now c.args.group c.args.pages c.self.view_is c.self.invariant.consistent c.tree-tree.ensures.legal
       c.number-number.ensures.tied c.requires.visit c.requires.none_fresh c.requires.pages.1 c.requires.charges.there c.requires.charges.alive
-      c.fill.ensures.nothing_booked (c.in_ok-try_charge.ensures.granted.0 refl)
-      _ _ _ _ refl c.in_ok-try_charge.ensures.charged c.fill.ensures.seat c.fill.ensures.cpu).consistent;
+      c.fill.ensures.nothing_booked (c.in_default.ensures.granted.0 refl)
+      _ _ _ _ refl c.in_default.ensures.charged c.fill.ensures.seat c.fill.ensures.cpu).consistent;
   free = c.self.invariant.free;
 }
 
 pub returns-clause-steps : goal.returns-clause-steps
 returns-clause-steps g c =
-    (filled_all g.N.BootName.frames g.N.BootName.stocks _ _ c.args.cpu.now c.args.group c.args.pages c.self.view_is c.self.invariant.consistent c.tree-tree.ensures.legal
+    let all = filled_all g.N.BootName.frames g.N.BootName.stocks _ _ c.args.cpu.now c.args.group c.args.pages c.self.view_is c.self.invariant.consistent c.tree-tree.ensures.legal
     c.number-number.ensures.tied c.requires.visit c.requires.none_fresh c.requires.pages.1 c.requires.charges.there c.requires.charges.alive
-    c.fill.ensures.nothing_booked (c.in_ok-try_charge.ensures.granted.0 refl)
-    _ _ _ _ refl c.in_ok-try_charge.ensures.charged c.fill.ensures.seat c.fill.ensures.cpu).steps
+    c.fill.ensures.nothing_booked (c.in_default.ensures.granted.0 refl)
+    _ _ _ _ refl c.in_default.ensures.charged c.fill.ensures.seat c.fill.ensures.cpu in
+    makes_watched _ _ _ _ c.self.view_is _ _ _ _ all.steps _
+    (subst (λ (n : ℕ). Watches c.self.inside.watch (fill_steps n c.args.group c.args.pages) c.zone_made-3.new.self) c.number-number.ensures.number
+    (watches_both _ _ _ _ _ c.zone_made-2.ensures c.zone_made-3.ensures))
 
-pub returns-in_err-try_charge-clause-refused : goal.returns-in_err-try_charge-clause-refused
-returns-in_err-try_charge-clause-refused g c =
-    let over : IfErr c.from_residual.result (λ (e : Over). IsLowestOver c.args.self.now.ledger.groups (current_of c.args.self.now.ledger) c.args.group
-    c.args.pages e.group) = search rules in
-    IfErr-weaker c.from_residual.result _ _ (λ e low. refused_all g.N.BootName.frames g.N.BootName.stocks _ _ c.self.view_is c.args.cpu.now c.args.group
-    c.args.pages e.group c.self.invariant.consistent c.tree-tree.ensures.legal c.number-number.ensures.tied c.requires.visit c.requires.none_fresh c.requires.charges.there
-    c.requires.charges.alive low) over
+pub returns-in-Err-clause-refused : goal.returns-in-Err-clause-refused
+returns-in-Err-clause-refused g c =
+    let t = g.N.BootName.frames in
+    let m = c.args.self.now in
+    let over = c.in-Err.over.group in
+    let low : IsLowestOver m.ledger.groups (current_of m.ledger) c.args.group c.args.pages over = search rules in
+    let same = (λ i. record (machine_of c.self.inside) { ledger = c.in-Err.ensures.unchanged i }) ∙ c.self.view_is in
+    let refused = subst (λ (x : KnownMachine). LeadsAs t c.args.cpu.now.number (visit_state m c.args.cpu.now) (over_steps c.args.group c.args.pages over)
+    (visit_state x c.args.cpu.now)) (sym same)
+    (refused_all t g.N.BootName.stocks _ _ c.self.view_is c.args.cpu.now c.args.group c.args.pages over c.self.invariant.consistent c.tree-tree.ensures.legal
+    c.number-number.ensures.tied c.requires.visit c.requires.none_fresh c.requires.charges.there c.requires.charges.alive low) in
+    makes_watched _ _ _ _ c.self.view_is _ _ _ _ refused _ c.zone_made.ensures
 
 pub invariant_of-self : goal.invariant_of-self
 invariant_of-self g c = search rules
@@ -45,6 +58,3 @@ returns-clause-fills g c = search rules
 
 pub returns-clause-over : goal.returns-clause-over
 returns-clause-over g c = search rules
-
-pub returns-in_err-try_charge-clause-over : goal.returns-in_err-try_charge-clause-over
-returns-in_err-try_charge-clause-over g c = search rules

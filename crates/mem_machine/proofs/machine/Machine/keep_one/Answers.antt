@@ -1,5 +1,10 @@
-use Rattle.std.proofs.Common.{◌≡◌, ◌<◌, rules}
+use Rattle.std.proofs.Common.{◌≡◌, ℕ, ◌<◌, rules, subst}
 use Rattle.mem_machine.proofs.Fresh.{keep_all, was_fresh, in_hand_then}
+use Rattle.step_watch.specs.Watched.{Watches}
+use Rattle.step_watch.proofs.Watching.{watches_both}
+use Rattle.mem_machine.specs.Settling.{keep_steps}
+use Rattle.mem_machine.proofs.Followed.{makes_watched}
+use Rattle.mem_machine.proofs.Watched.{consistent_still, keeps_still, visits_still}
 use Rattle.mem_machine.proofs.machine.Machine.keep_one.Goals as goal
 
 pub unfreeze-requires-clause-hand : goal.unfreeze-requires-clause-hand
@@ -17,7 +22,7 @@ invariant_of-self g c =
     c.requires.visit _ c.self.invariant.free _ c.args.group was e.cpu _ c.unwrap-order.result c.number-at.ensures k0 _ _
     e.zone c.unfreeze.ensures.seat _ e.seat _ _
     (record { joins = a.joins; stand = a.lists.stand; frames = a.frames; groups = a.lists.groups })) in
-    record { consistent = all.consistent; free = all.free_is }
+    record { consistent = consistent_still _ _ _ _ all.consistent; free = all.free_is }
 
 pub returns : goal.returns
 returns g c =
@@ -31,4 +36,10 @@ returns g c =
     c.requires.visit _ c.self.invariant.free _ c.args.group was e.cpu _ c.unwrap-order.result c.number-at.ensures k0 _ _
     e.zone c.unfreeze.ensures.seat _ e.seat _ _
     (record { joins = a.joins; stand = a.lists.stand; frames = a.frames; groups = a.lists.groups }) in
-    record { keeps = all.keeps; visit = all.visit; steps = all.steps }
+    let took = subst (λ (x : ℕ × ℕ). Watches c.self.inside.watch (keep_steps x.0 x.1) c.zone_made-2.new.self)
+    (λ i. (c.number-number.ensures.number i, c.number-at.ensures i)) (watches_both _ _ _ _ _ c.take_collected.ensures (watches_both _ _ _ _ _ c.zone_made.ensures c.zone_made-2.ensures)) in
+    record {
+      keeps = keeps_still _ _ _ _ _ _ all.keeps;
+      visit = visits_still _ _ _ _ all.visit;
+      steps = makes_watched _ _ _ _ c.self.view_is _ _ _ _ all.steps _ took;
+    }

@@ -1,5 +1,11 @@
+use Rattle.std.proofs.Common.{ℕ, subst}
 use Rattle.mem_machine.proofs.Lends.{passes_to, lent_to_it}
 use Rattle.mem_machine.proofs.GivenFrames.{given_all, given_free, given_hand}
+use Rattle.step_watch.specs.Watched.{Watches}
+use Rattle.step_watch.proofs.Watching.{watches_both}
+use Rattle.mem_machine.specs.Steps.{lend_steps}
+use Rattle.mem_machine.proofs.Followed.{makes_watched}
+use Rattle.mem_machine.proofs.Watched.{consistent_still, lends_still, visits_still}
 use Rattle.mem_machine.proofs.machine.Machine.lend.Goals as goal
 
 pub take_frame-requires : goal.take_frame-requires
@@ -24,11 +30,18 @@ invariant_of-self g c =
     let all = (given_all g.N.BootName.frames g.N.BootName.stocks _ _ c.self.view_is c.args.cpu.now _ c.number-number.ensures.tied c.self.invariant.consistent
     c.requires.visit _ _ _ c.args.frame _ c.number-number.result _ _ c.self.invariant.free c.requires.frame c.requires.free c.take_frame.ensures.frames c.take_frame.ensures.areas
     c.number-at.ensures c.number-number.ensures.number c.pass_out.ensures.zone c.accept.ensures.zone c.accept.ensures.cpu c.accept.ensures.nothing.1.1) in
-    record { consistent = all.consistent; free = all.free_is }
+    record { consistent = consistent_still _ _ _ _ all.consistent; free = all.free_is }
 
 pub returns : goal.returns
 returns g c =
     let all = given_all g.N.BootName.frames g.N.BootName.stocks _ _ c.self.view_is c.args.cpu.now _ c.number-number.ensures.tied c.self.invariant.consistent c.requires.visit
     _ _ _ c.args.frame _ c.number-number.result _ _ c.self.invariant.free c.requires.frame c.requires.free c.take_frame.ensures.frames c.take_frame.ensures.areas
     c.number-at.ensures c.number-number.ensures.number c.pass_out.ensures.zone c.accept.ensures.zone c.accept.ensures.cpu c.accept.ensures.nothing.1.1 in
-    record { lends = all.lends; visit = all.visit; steps = all.steps }
+    let took = subst (λ (x : ℕ × ℕ). Watches c.self.inside.watch (lend_steps x.0 x.1) c.cpu_made.new.self)
+    (λ i. (c.number-number.ensures.number i, c.number-at.ensures i))
+    (watches_both _ _ _ _ _ c.zone_made.ensures c.cpu_made.ensures) in
+    record {
+      lends = lends_still _ _ _ _ _ all.lends;
+      visit = visits_still _ _ _ _ all.visit;
+      steps = makes_watched _ _ _ _ c.self.view_is _ _ _ _ all.steps _ took;
+    }

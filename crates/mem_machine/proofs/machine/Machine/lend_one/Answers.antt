@@ -1,6 +1,11 @@
-use Rattle.std.proofs.Common.{◌≡◌, ◌<◌, ◌≤◌, rules, ap, arith}
+use Rattle.std.proofs.Common.{◌≡◌, ℕ, ◌<◌, ◌≤◌, rules, ap, subst, arith}
 use Rattle.zone_buddy.specs.Zone.{Zone}
 use Rattle.mem_machine.proofs.Lends.{lend_all, lent_to_none, block_inside, zone_hand, passes_to, lent_to_it}
+use Rattle.step_watch.specs.Watched.{Watches}
+use Rattle.step_watch.proofs.Watching.{watches_both}
+use Rattle.mem_machine.specs.Steps.{lend_steps}
+use Rattle.mem_machine.proofs.Followed.{makes_watched}
+use Rattle.mem_machine.proofs.Watched.{consistent_still, lends_one_still, visits_still}
 use Rattle.mem_machine.proofs.machine.Machine.lend_one.Goals as goal
 
 pub returns-in_default-clause-lends : goal.returns-in_default-clause-lends
@@ -29,18 +34,28 @@ invariant_of-self-2 g c =
     let all = (lend_all g.N.BootName.frames g.N.BootName.stocks _ _ c.self.view_is c.args.cpu.now _ c.number-number.ensures.tied c.self.invariant.consistent
     c.requires.visit _ _
     c.unwrap.result c.in-Some.block _ c.in-Some-frame.frame _ c.number-number.result _ _ c.self.invariant.free k0 c.in-Some.ensures.taken c.in-Some.ensures.frames
-    c.in-Some.ensures.areas c.in-Some-frame.ensures.0 c.number.ensures c.number-number.ensures.number c.pass_out.ensures.zone c.accept.ensures.zone
+    c.in-Some.ensures.areas c.in-Some-frame.ensures.0 c.number-at.ensures c.number-number.ensures.number c.pass_out.ensures.zone c.accept.ensures.zone
     c.accept.ensures.cpu c.accept.ensures.nothing.1.1) in
-    record { consistent = all.consistent; free = all.free_is }
+    record { consistent = consistent_still _ _ _ _ all.consistent; free = all.free_is }
 
 pub returns : goal.returns
 returns g c =
     let k0 : c.unwrap.result ≡ 0 = search rules in
     let all = lend_all g.N.BootName.frames g.N.BootName.stocks _ _ c.self.view_is c.args.cpu.now _ c.number-number.ensures.tied c.self.invariant.consistent c.requires.visit _ _
     c.unwrap.result c.in-Some.block _ c.in-Some-frame.frame _ c.number-number.result _ _ c.self.invariant.free k0 c.in-Some.ensures.taken c.in-Some.ensures.frames
-    c.in-Some.ensures.areas c.in-Some-frame.ensures.0 c.number.ensures c.number-number.ensures.number c.pass_out.ensures.zone c.accept.ensures.zone
+    c.in-Some.ensures.areas c.in-Some-frame.ensures.0 c.number-at.ensures c.number-number.ensures.number c.pass_out.ensures.zone c.accept.ensures.zone
     c.accept.ensures.cpu c.accept.ensures.nothing.1.1 in
-    record { lends = all.lends; visit = all.visit }
+    let took = subst (λ (x : ℕ × ℕ). Watches c.self.inside.watch (lend_steps x.0 x.1) c.cpu_made.new.self)
+    (λ i. (c.number-number.ensures.number i, c.number-at.ensures i))
+    (watches_both _ _ _ _ _ c.zone_made.ensures c.cpu_made.ensures) in
+    record {
+      lends = record {
+        frame = c.in-Some-frame.frame;
+        lends = lends_one_still _ _ _ _ _ all.lends;
+        steps = makes_watched _ _ _ _ c.self.view_is _ _ _ _ all.steps _ took;
+      };
+      visit = visits_still _ _ _ _ all.visit;
+    }
 
 pub unreachable-requires : goal.unreachable-requires
 unreachable-requires g c =

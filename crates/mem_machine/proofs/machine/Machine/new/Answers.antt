@@ -13,8 +13,8 @@ invariant_of-result g c =
     c.in_ok-zone.ensures.areas c.requires.cpus in
     record { consistent = kept.0; free = kept.1 }
 
-pub returns : goal.returns
-returns g c =
+pub returns-clause-first : goal.returns-clause-first
+returns-clause-first g c =
     let sized : c.frames.result ≡ g.N.BootName.frames.frames = search rules in
     first_is g.N.BootName.frames g.N.BootName.stocks _ c.frames.result sized c.in_ok-zone.ensures.frame_states c.in_ok-charges.ensures.charges
     c.in_ok-zone.ensures.nowhere

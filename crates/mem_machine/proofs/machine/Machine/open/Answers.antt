@@ -1,6 +1,9 @@
-use Rattle.std.proofs.Common.{rules, ap}
+use Rattle.std.proofs.Common.{ℕ, rules, ap, subst}
 use Rattle.cpu_part.specs.Cpus.{KnownCpu}
 use Rattle.mem_machine.proofs.Holds.{opens, is_open_then}
+use Rattle.step_watch.specs.Watched.{Watches}
+use Rattle.mem_machine.specs.Steps.{open_steps}
+use Rattle.mem_machine.proofs.Followed.{makes_watched}
 use Rattle.mem_machine.proofs.machine.Machine.open.Goals as goal
 
 pub returns-clause-visits : goal.returns-clause-visits
@@ -11,7 +14,9 @@ returns-clause-visits g c = record {
 }
 
 pub returns-clause-steps : goal.returns-clause-steps
-returns-clause-steps g c = opens g.N.BootName.frames _ _ c.self.view_is _ _ c.open.ensures.cpu _ c.open.ensures.zone c.requires
+returns-clause-steps g c = makes_watched _ _ _ _ c.self.view_is _ _ _ _
+    (opens g.N.BootName.frames _ _ c.self.view_is _ _ c.open.ensures.cpu _ c.open.ensures.zone c.requires) _
+    (subst (λ (n : ℕ). Watches c.self.inside.watch (open_steps n) c.zone_made.new.self) c.number-number.ensures.number c.zone_made.ensures)
 
 pub invariant_of-self : goal.invariant_of-self
 invariant_of-self g c = search rules

@@ -1,8 +1,13 @@
-use Rattle.std.proofs.Common.{◌<◌, rules, ap, ◌∙◌}
+use Rattle.std.proofs.Common.{ℕ, ◌<◌, rules, ap, subst, ◌∙◌}
 use Rattle.frame_word.specs.Views.{collected_from}
 use Rattle.frame_word.specs.Seats.{KnownSeat, seat_with}
 use Rattle.mem_machine.proofs.Freeing.{unit_charged}
 use Rattle.mem_machine.proofs.Back.{WasBack, back_passes, read_head, back_in_use, back_inside, return_all}
+use Rattle.step_watch.specs.Watched.{Watches}
+use Rattle.step_watch.proofs.Watching.{watches_both}
+use Rattle.mem_machine.specs.Settling.{return_steps}
+use Rattle.mem_machine.proofs.Followed.{makes_watched}
+use Rattle.mem_machine.proofs.Watched.{consistent_still, returns_still, visits_still}
 use Rattle.mem_machine.proofs.machine.Machine.return_one.Goals as goal
 
 pub collect-requires-clause-passes : goal.collect-requires-clause-passes
@@ -49,7 +54,7 @@ invariant_of-self-2 g c =
     c.self.invariant.consistent c.requires _ _ c.self.invariant.free _ was c.in-Some.ensures.answer c.collect.ensures.cpu _ c.number-at.ensures _ heads _ collected
     _ u.frame_states _ u.frames u.areas _ u.charges _
     c.with_last_put-self-inside.ensures) in
-    record { consistent = all.consistent; free = all.free_is }
+    record { consistent = consistent_still _ _ _ _ all.consistent; free = all.free_is }
 
 pub returns : goal.returns
 returns g c =
@@ -64,4 +69,10 @@ returns g c =
     c.self.invariant.consistent c.requires _ _ c.self.invariant.free _ was c.in-Some.ensures.answer c.collect.ensures.cpu _ c.number-at.ensures _ heads _ collected
     _ u.frame_states _ u.frames u.areas _ u.charges _
     c.with_last_put-self-inside.ensures in
-    record { returns = all.returns; visit = all.visit; steps = all.steps }
+    let took = subst (λ (x : ℕ × ℕ). Watches c.self.inside.watch (return_steps x.0 x.1) c.zone_made-2.new.self)
+    (λ i. (c.number-number.ensures.number i, c.number-at.ensures i)) (watches_both _ _ _ _ _ c.cpu_made.ensures (watches_both _ _ _ _ _ c.zone_made.ensures c.zone_made-2.ensures)) in
+    record {
+      returns = returns_still _ _ _ _ _ all.returns;
+      visit = visits_still _ _ _ _ all.visit;
+      steps = makes_watched _ _ _ _ c.self.view_is _ _ _ _ all.steps _ took;
+    }

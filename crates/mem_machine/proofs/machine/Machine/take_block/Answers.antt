@@ -1,14 +1,20 @@
-use Rattle.std.proofs.Common.{ℕ, ◌≤◌, ◌<◌, ◌^◌, ap, refl, sym, subst, ◌∙◌, rules, arith}
+use Rattle.std.proofs.Common.{ℕ, [], ◌∷◌, ◌≤◌, ◌<◌, ◌^◌, ap, refl, sym, subst, ◌∙◌, rules, arith}
 use Rattle.group_tree.specs.Room.{IsLowestOver}
 use Rattle.group_charge.specs.Charges.{current_of}
 use Rattle.mem_machine.specs.Kept.{machine_of}
 use Rattle.mem_machine.specs.Machines.{KnownMachine}
-use Rattle.mem_machine.specs.Local.{MakesAs, visit_state}
-use Rattle.mem_machine.specs.Steps.{over_steps}
+use Rattle.mem_machine.specs.Local.{visit_state}
+use Rattle.mem_machine.specs.Steps.{over_steps, zone_makes}
 use Rattle.mem_machine.proofs.Prepaying.{refused_all}
 use Rattle.zone_buddy.specs.Zone.{Zone}
 use Rattle.mem_machine.proofs.Usage.{usage_seen, balanced_alone}
 use Rattle.mem_machine.proofs.TakesBlocks.{taken_all, none_all, taken_inside, head_inside, head_free, free_in_hand}
+use Rattle.step_watch.specs.Watched.{Watches}
+use Rattle.step_watch.proofs.Watching.{watches_both}
+use Rattle.step_rules.specs.declared.step.Action.TheVariants.{Grant, Ungrant, PlaceBlock, Unfreeze, Publish}
+use Rattle.step_rules.specs.declared.step.Answer.TheVariants.{Done, Granted, Placed, NoFreeBlock}
+use Rattle.mem_machine.proofs.Followed.{LeadsAs, makes_watched}
+use Rattle.mem_machine.proofs.Watched.{consistent_still, takes_block_still, takes_none_still, visits_still}
 use Rattle.mem_machine.proofs.machine.Machine.take_block.Goals as goal
 
 pub returns-in_default-take : goal.returns-in_default-take
@@ -24,7 +30,17 @@ returns-in_default-take g c =
       alive = c.requires.charges.alive;
     }) (c.in_default.ensures.granted.0 refl) _ _ c.in_default.ensures.charged c.uncharge.ensures.uncharged _
     (ap (λ (z : Zone). z.blocks) c.in_default-take.ensures.none) c.in_default-take.ensures.taken in
-    record { takes = search rules; refuses = all.none; cpu = search rules; visit = search rules; steps = all.steps }
+    let took = subst (λ (n : ℕ). Watches c.self.inside.watch
+    (zone_makes (Grant c.args.group n) Granted ∷ zone_makes (PlaceBlock c.args.group c.args.order) NoFreeBlock ∷ zone_makes (Ungrant c.args.group n) Done ∷ [])
+    c.zone_made-in_default-take-2.new.self) c.frames-pages.ensures.frames
+    (watches_both _ _ _ _ _ c.zone_made-2.ensures (watches_both _ _ _ _ _ c.zone_made-in_default-take.ensures c.zone_made-in_default-take-2.ensures)) in
+    record {
+      takes = search rules;
+      refuses = takes_none_still _ _ _ _ _ all.none;
+      cpu = search rules;
+      visit = search rules;
+      steps = makes_watched _ _ _ _ c.self.view_is _ _ _ _ all.steps _ took;
+    }
 
 pub unreachable-requires : goal.unreachable-requires
 unreachable-requires g c =
@@ -59,9 +75,9 @@ invariant_of-self-2 g c =
       alive = c.requires.charges.alive;
     }) (c.in_default.ensures.granted.0 refl) _ c.in_default.ensures.charged c.in_default.ensures.pages _ _ c.in-Some.block _ c.self.invariant.free
     c.in-Some.ensures.taken c.in-Some.ensures.frames c.in-Some.ensures.areas _ c.place_unit.ensures c.in-Some-frame.head _ c.in-Some-frame.ensures.0
-    c.number.ensures c.unfreeze.ensures.no_reference _ c.unfreeze.ensures.seat _ _
+    c.number-at.ensures c.unfreeze.ensures.no_reference _ c.unfreeze.ensures.seat _ _
     (record { joins = j.joins; stand = j.lists.stand; frames = j.frames; groups = j.lists.groups }) in
-    record { consistent = all.consistent; free = all.free_is }
+    record { consistent = consistent_still _ _ _ _ all.consistent; free = all.free_is }
 
 pub returns : goal.returns
 returns g c =
@@ -78,9 +94,21 @@ returns g c =
       alive = c.requires.charges.alive;
     }) (c.in_default.ensures.granted.0 refl) _ c.in_default.ensures.charged c.in_default.ensures.pages _ _ c.in-Some.block _ c.self.invariant.free
     c.in-Some.ensures.taken c.in-Some.ensures.frames c.in-Some.ensures.areas _ c.place_unit.ensures c.in-Some-frame.head _ c.in-Some-frame.ensures.0
-    c.number.ensures c.unfreeze.ensures.no_reference _ c.unfreeze.ensures.seat _ _
+    c.number-at.ensures c.unfreeze.ensures.no_reference _ c.unfreeze.ensures.seat _ _
     (record { joins = j.joins; stand = j.lists.stand; frames = j.frames; groups = j.lists.groups }) in
-    record { takes = all.takes; refuses = search rules; cpu = search rules; visit = all.visit; steps = all.steps }
+    let took = subst (λ (x : ℕ × ℕ). Watches c.self.inside.watch
+    (zone_makes (Grant c.args.group x.0) Granted ∷ zone_makes (PlaceBlock c.args.group c.args.order) (Placed (record { at = x.1; order = c.args.order }))
+    ∷ zone_makes (Unfreeze x.1 1) Done ∷ zone_makes (Publish x.1) Done ∷ []) c.zone_made-5.new.self)
+    (λ i. (c.frames-pages.ensures.frames i, c.number-at.ensures i))
+    (watches_both _ _ _ _ _ c.zone_made-2.ensures (watches_both _ _ _ _ _ c.zone_made-3.ensures
+    (watches_both _ _ _ _ _ c.zone_made-4.ensures c.zone_made-5.ensures))) in
+    record {
+      takes = takes_block_still _ _ _ _ _ _ all.takes;
+      refuses = search rules;
+      cpu = search rules;
+      visit = visits_still _ _ _ _ all.visit;
+      steps = makes_watched _ _ _ _ c.self.view_is _ _ _ _ all.steps _ took;
+    }
 
 pub invariant_of-self : goal.invariant_of-self
 invariant_of-self g c = search rules
@@ -95,7 +123,10 @@ returns-in-Err-clause-steps g c =
     let over = c.in-Err.over.group in
     let low : IsLowestOver m.ledger.groups (current_of m.ledger) c.args.group c.frames-pages.result over = search rules in
     let same = (λ i. record (machine_of c.self.inside) { ledger = c.in-Err.ensures.unchanged i }) ∙ c.self.view_is in
-    subst (λ (x : KnownMachine). MakesAs t c.args.cpu.now.number (visit_state m c.args.cpu.now) (over_steps c.args.group (2 ^ c.args.order) over) (visit_state x c.args.cpu.now)) (sym same)
+    let refused = subst (λ (x : KnownMachine). LeadsAs t c.args.cpu.now.number (visit_state m c.args.cpu.now) (over_steps c.args.group (2 ^ c.args.order) over)
+    (visit_state x c.args.cpu.now)) (sym same)
     (refused_all t g.N.BootName.stocks _ _ c.self.view_is c.args.cpu.now c.args.group (2 ^ c.args.order) over c.self.invariant.consistent c.tree-tree.ensures.legal
     c.number-number.ensures.tied c.requires.visit c.requires.none_fresh c.requires.charges.there c.requires.charges.alive
-    (subst (λ (n : ℕ). IsLowestOver m.ledger.groups (current_of m.ledger) c.args.group n over) c.frames-pages.ensures.frames low))
+    (subst (λ (n : ℕ). IsLowestOver m.ledger.groups (current_of m.ledger) c.args.group n over) c.frames-pages.ensures.frames low)) in
+    makes_watched _ _ _ _ c.self.view_is _ _ _ _ refused _
+    (subst (λ (n : ℕ). Watches c.self.inside.watch (over_steps c.args.group n over) c.zone_made.new.self) c.frames-pages.ensures.frames c.zone_made.ensures)

@@ -1,7 +1,12 @@
-use Rattle.std.proofs.Common.{◌≡◌, ◌<◌, rules, ap, ◌∙◌}
+use Rattle.std.proofs.Common.{◌≡◌, ℕ, ◌<◌, rules, ap, subst, ◌∙◌}
 use Rattle.frame_word.specs.Views.{collected_from}
 use Rattle.frame_word.specs.Seats.{KnownSeat, seat_with}
 use Rattle.mem_machine.proofs.Takes.{take_all, passes_back_to}
+use Rattle.step_watch.specs.Watched.{Watches}
+use Rattle.step_watch.proofs.Watching.{watches_both}
+use Rattle.mem_machine.specs.Steps.{unlist_steps}
+use Rattle.mem_machine.proofs.Followed.{makes_watched}
+use Rattle.mem_machine.proofs.Watched.{consistent_still, takes_still, visits_still}
 use Rattle.mem_machine.proofs.machine.Machine.take_one_back.Goals as goal
 
 pub collect-requires-clause-passes : goal.collect-requires-clause-passes
@@ -21,7 +26,7 @@ invariant_of-self-2 g c =
     c.number-number.ensures.tied c.self.invariant.consistent
     c.requires _ _ c.unwrap.result _ c.in-Some.frame _ _ c.self.invariant.free k0 c.give.ensures.frames c.give.ensures.areas inside c.in-Some.ensures.borrowed.1
     c.number-at.ensures c.in-Some.ensures.answer collected c.collect.ensures.cpu) in
-    record { consistent = all.consistent; free = all.free_is }
+    record { consistent = consistent_still _ _ _ _ all.consistent; free = all.free_is }
 
 pub returns : goal.returns
 returns g c =
@@ -32,7 +37,17 @@ returns g c =
     let all = take_all g.N.BootName.frames g.N.BootName.stocks _ _ c.self.view_is c.args.cpu.now c.hand_front.new.self _ c.number-number.ensures.tied c.self.invariant.consistent
     c.requires _ _ c.unwrap.result _ c.in-Some.frame _ _ c.self.invariant.free k0 c.give.ensures.frames c.give.ensures.areas inside c.in-Some.ensures.borrowed.1
     c.number-at.ensures c.in-Some.ensures.answer collected c.collect.ensures.cpu in
-    record { takes = all.takes; visit = all.visit }
+    let took = subst (λ (x : ℕ × ℕ). Watches c.self.inside.watch (unlist_steps x.0 x.1) c.zone_made.new.self)
+    (λ i. (c.number-number.ensures.number i, c.number-at.ensures i))
+    (watches_both _ _ _ _ _ c.cpu_made.ensures c.zone_made.ensures) in
+    record {
+      takes = record {
+        frame = c.in-Some.frame;
+        takes = takes_still _ _ _ _ _ all.takes;
+        steps = makes_watched _ _ _ _ c.self.view_is _ _ _ _ all.steps _ took;
+      };
+      visit = visits_still _ _ _ _ all.visit;
+    }
 
 pub invariant_of-self : goal.invariant_of-self
 invariant_of-self g c = search rules
