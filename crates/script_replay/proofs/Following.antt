@@ -261,7 +261,8 @@ module _ (t : KnownTable) (w : Words) (run : Run) (locked : KnownLocked) (cpus :
   got_follows g f after is kept legal =
       step_follows (step.Consume g) says.Took after kept (ap (λ (x : KnownCpu). x.number) is.5) refl (λ e. cc)
       (fast_calls_lead.got t w run m cpus k c after.cpu this_part g f is
-      (legal_fast_steps_are_decided t run cpus k m c (step.Consume g) says.Took shows is_part refl (λ e. cc) legal)) legal
+      (legal_fast_steps_are_decided t run cpus k m c (step.Consume g) says.Took shows is_part refl (λ e. cc) legal)
+      after.locked.machine.watch kept.watched) legal
 
   fast_follows : (g : ℕ) (said : fast.Fast) (after : LockedState) → FastAnswers g said c after.cpu → OnlyWatched (fast_steps p g said) locked after.locked → GoesOn (fast_steps p g said) →
       Follows (fast_steps p g said) after
@@ -276,7 +277,7 @@ module _ (t : KnownTable) (w : Words) (run : Run) (locked : KnownLocked) (cpus :
       Follows (get_steps p f said) after
   get_follows f after (answer.Got Held) inside is kept legal =
       step_follows (step.Get f) says.Held after kept (ap (λ (x : KnownCpu). x.number) is.1.2) refl (λ e. cc)
-      (fast_calls_lead.held t w run m cpus k c after.cpu this_part f inside is.0 is.1) legal
+      (fast_calls_lead.held t w run m cpus k c after.cpu this_part f inside is.0 is.1 after.locked.machine.watch kept.watched) legal
   get_follows f after (answer.Got Zero) inside is kept legal =
       unseen_follows after kept (unseen_seat t m c after.cpu is.1.0 f (looked is.1.1.0) is.1.2 is.1.1.2 (λ x. refl))
   get_follows f after (answer.Got (Raced found)) inside is kept legal =
@@ -290,7 +291,7 @@ module _ (t : KnownTable) (w : Words) (run : Run) (locked : KnownLocked) (cpus :
       Follows (put_steps p f said) after
   put_follows f after (answer.Put putted) is kept legal =
       step_follows (step.Put f) (put_answer putted) after kept (put_number putted is.1) refl (put_made putted)
-      (fast_calls_lead.putted t w run m cpus k c after.cpu this_part f putted is.1) legal
+      (fast_calls_lead.putted t w run m cpus k c after.cpu this_part f putted is.1 after.locked.machine.watch kept.watched) legal
     where
       put_number : (x : Putted) → UnpinAnswers f x c after.cpu → after.cpu.number ≡ p
       put_number (put.Left n) a = ap (λ (y : KnownCpu). y.number) a.3
@@ -337,7 +338,8 @@ module _ (t : KnownTable) (w : Words) (run : Run) (locked : KnownLocked) (cpus :
       as_made steps (cpu_makes p (step.Credit f) says.Back ∷ []) after is.1.steps_are
       (λ all. step_follows (step.Credit f) says.Back after is.1.locked (ap (λ (x : KnownCpu). x.number) is.0.listed.5) refl (λ e. cc)
       (fast_calls_lead.listed t w run m cpus k c after.cpu this_part f is.0.fresh is.0.listed
-      (legal_fast_steps_are_decided t run cpus k m c (step.Credit f) says.Back shows is_part refl (λ e. cc) all)) all) legal
+      (legal_fast_steps_are_decided t run cpus k m c (step.Credit f) says.Back shows is_part refl (λ e. cc) all)
+      after.locked.machine.watch is.1.locked.watched) all) legal
   release_follows f steps after (answer.Served reply) true is shut legal =
       locked_follows is.seen (list_unseen t m c f is.seen is.not_listed) (cmd.Release f) reply steps after is.served shut legal
   release_follows f steps after said may_kill is shut legal = absurd is
