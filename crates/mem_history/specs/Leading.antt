@@ -9,12 +9,10 @@ use Rattle.cpu_part.specs.declared.answers.Fast.TheVariants.{Got}
 use Rattle.cpu_part.specs.declared.answers.Dropped.TheVariants.{Listed}
 use Rattle.cpu_part.specs.Cpus.{KnownCpu, IsTied, most_pins, times}
 use Rattle.cpu_part.specs.Calls.{FastAnswers, DropAnswers, PinAnswers, UnpinAnswers}
-use Rattle.step_rules.specs.declared.step.Action.{Action}
 use Rattle.step_rules.specs.declared.step.Action.TheVariants.{Get, Put, Consume, Credit}
 use Rattle.step_rules.specs.declared.step.Answer.{Answer}
 use Rattle.step_rules.specs.declared.step.Answer.TheVariants.{Held, Left, Last, Took, Back}
 use Rattle.step_rules.specs.After.{Run}
-use Rattle.step_watch.specs.Watched.{KnownWatch, Watches}
 use Rattle.mem_machine.specs.Machines.{KnownMachine, visit_state}
 use Rattle.mem_machine.specs.Local.{Makes}
 use Rattle.mem_machine.specs.Steps.{cpu_makes}
@@ -32,14 +30,6 @@ pub record IsPart (table : KnownTable) (words : Words) (run : Run) (machine : Kn
   pub is_part : slice_get cpus index ≡ Some cpu
   pub tied : IsTied table words cpu
 
--- If the machine's watch takes this step of the CPU, and nothing else behind the lock changes, the step leads from what
--- the machine shows the CPU to what it shows the CPU's later part.
-abbrev pub MakesAlone : KnownTable → KnownMachine → KnownCpu → Action → Answer → (later : KnownCpu) → Type 0
-MakesAlone table machine cpu action answer later =
-    (watch : KnownWatch) → Watches machine.watch (cpu_makes cpu.number action answer ∷ []) watch
-    → Makes table (visit_state machine cpu) (cpu_makes cpu.number action answer ∷ [])
-    (visit_state (record machine { watch = watch }) later)
-
 -- If a run shows the whole, a fast call of a CPU is one step from what the machine shows that CPU. A get answered
 -- Held is a Get, and a put is a Put. A fast allocation that gets a frame is a Consume, and a drop that lists a fresh
 -- frame again is a Credit: these two if all parts together decide that answer.
@@ -47,18 +37,18 @@ pub record FastCallsLead : Type 0 where
   pub held : (table : KnownTable) (words : Words) (run : Run) (machine : KnownMachine) (cpus : List KnownCpu)
       (index : ℕ) (cpu later : KnownCpu) → IsPart table words run machine cpus index cpu → (frame : ℕ)
       → frame < table.frames → length cpu.back + length cpu.pins < most_pins → PinAnswers frame get.Held cpu later
-      → MakesAlone table machine cpu (Get frame) Held later
+      → Makes table (visit_state machine cpu) (cpu_makes cpu.number (Get frame) Held ∷ []) (visit_state machine later)
   pub putted : (table : KnownTable) (words : Words) (run : Run) (machine : KnownMachine) (cpus : List KnownCpu)
       (index : ℕ) (cpu later : KnownCpu) → IsPart table words run machine cpus index cpu → (frame : ℕ)
       (answer : Putted) → UnpinAnswers frame answer cpu later
-      → MakesAlone table machine cpu (Put frame) (put_answer answer) later
+      → Makes table (visit_state machine cpu) (cpu_makes cpu.number (Put frame) (put_answer answer) ∷ []) (visit_state machine later)
   pub got : (table : KnownTable) (words : Words) (run : Run) (machine : KnownMachine) (cpus : List KnownCpu)
       (index : ℕ) (cpu later : KnownCpu) → IsPart table words run machine cpus index cpu → (group frame : ℕ)
       → FastAnswers group (Got frame) cpu later
       → AreDecided table cpus (visit_state machine cpu) (cpu_makes cpu.number (Consume group) Took ∷ [])
-      → MakesAlone table machine cpu (Consume group) Took later
+      → Makes table (visit_state machine cpu) (cpu_makes cpu.number (Consume group) Took ∷ []) (visit_state machine later)
   pub listed : (table : KnownTable) (words : Words) (run : Run) (machine : KnownMachine) (cpus : List KnownCpu)
       (index : ℕ) (cpu later : KnownCpu) → IsPart table words run machine cpus index cpu → (frame : ℕ)
       → 1 ≤ times frame cpu.fresh → DropAnswers frame Listed cpu later
       → AreDecided table cpus (visit_state machine cpu) (cpu_makes cpu.number (Credit frame) Back ∷ [])
-      → MakesAlone table machine cpu (Credit frame) Back later
+      → Makes table (visit_state machine cpu) (cpu_makes cpu.number (Credit frame) Back ∷ []) (visit_state machine later)
