@@ -73,10 +73,10 @@ pub fn replay_checked<N: BootName>(
         (system_state locked.old cpus.old) (system_state locked.new cpus.new) result }
 {
     let mut answers = String::new(alloc);
-    for line in lines {
-        serve_line(locked, tables, cpus, line, is_explained, &mut answers)?;
+    for next in lines {
+        serve_line(locked, tables, cpus, next, is_explained, &mut answers)?;
         if !locked.watch().is_legal() {
-            return Err(Stopped::NotLegal(number_of(line)));
+            return Err(Stopped::NotLegal(number_of(next)));
         }
     }
     Ok(answers.into_bytes())

@@ -8,12 +8,12 @@ use Rattle.script_replay.proofs.Going.{ServesAllAndKeeps, all_replayed_legally, 
 use Rattle.script_replay.proofs.InOrder.{in_order_end, in_order_line}
 use Rattle.script_replay.proofs.value_replay.replay_checked.Goals as goal
 
-pub loop-line-preserved : goal.loop-line-preserved
-loop-line-preserved g c = (
+pub loop-next-preserved : goal.loop-next-preserved
+loop-next-preserved g c = (
   in_order_line (ServesAndKeeps (terms g.N.BootName.frames g.N.BootName.stocks c.args.is_explained)) (system_state c.args.locked.now c.args.cpus.now)
-      (system_state c.loop-line.locked c.loop-line.cpus) (system_state c.serve_line.new.locked c.serve_line.new.cpus)
-      c.args.lines.now c.loop-line.line-index _ (string_bytes c.loop-line.answers) (string_bytes c.serve_line.new.answers) c.loop-line-test.true
-      c.loop-line.invariant.0 c.in_ok-serve_line.ensures.served.text c.in_ok-serve_line.ensures.served.so c.in_ok-serve_line.ensures.served.added,
+      (system_state c.loop-next.locked c.loop-next.cpus) (system_state c.serve_line.new.locked c.serve_line.new.cpus)
+      c.args.lines.now c.loop-next.next-index _ (string_bytes c.loop-next.answers) (string_bytes c.serve_line.new.answers) c.loop-next-test.true
+      c.loop-next.invariant.0 c.in_ok-serve_line.ensures.served.text c.in_ok-serve_line.ensures.served.so c.in_ok-serve_line.ensures.served.added,
   search rules,
 )
 
@@ -26,9 +26,9 @@ returns-in_err-serve_line g c =
         replayed = tt;
         stopped = record {
           stops = keeps_stop (terms g.N.BootName.frames g.N.BootName.stocks c.args.is_explained) (system_state c.args.locked.now c.args.cpus.now)
-              (system_state c.loop-line.locked c.loop-line.cpus) (system_state c.serve_line.new.locked c.serve_line.new.cpus)
-              c.args.lines.now c.loop-line.line-index _ (string_bytes c.loop-line.answers) served.text c.loop-line-test.true
-              c.loop-line.invariant.0 served.so;
+              (system_state c.loop-next.locked c.loop-next.cpus) (system_state c.serve_line.new.locked c.serve_line.new.cpus)
+              c.args.lines.now c.loop-next.next-index _ (string_bytes c.loop-next.answers) served.text c.loop-next-test.true
+              c.loop-next.invariant.0 served.so;
           reason = tt;
         };
       };
@@ -41,10 +41,10 @@ returns-then-not-is_legal g c =
         replayed = tt;
         stopped = record {
           stops = keeps_stop (terms g.N.BootName.frames g.N.BootName.stocks c.args.is_explained) (system_state c.args.locked.now c.args.cpus.now)
-              (system_state c.loop-line.locked c.loop-line.cpus) (system_state c.serve_line.new.locked c.serve_line.new.cpus)
-              c.args.lines.now c.loop-line.line-index _ (string_bytes c.loop-line.answers) served.text c.loop-line-test.true
-              c.loop-line.invariant.0 served.so;
-          reason = (search rules, c.number_of.ensures ∙ numbers_stop c.args.lines.now c.loop-line.line-index _ c.loop-line-test.true);
+              (system_state c.loop-next.locked c.loop-next.cpus) (system_state c.serve_line.new.locked c.serve_line.new.cpus)
+              c.args.lines.now c.loop-next.next-index _ (string_bytes c.loop-next.answers) served.text c.loop-next-test.true
+              c.loop-next.invariant.0 served.so;
+          reason = (search rules, c.number_of.ensures ∙ numbers_stop c.args.lines.now c.loop-next.next-index _ c.loop-next-test.true);
         };
       };
     }
@@ -53,12 +53,12 @@ pub returns : goal.returns
 returns g c =
     let on = terms g.N.BootName.frames g.N.BootName.stocks c.args.is_explained in
     let first : SystemState = system_state c.args.locked.now c.args.cpus.now in
-    let last : SystemState = system_state c.loop-line.locked c.loop-line.cpus in
+    let last : SystemState = system_state c.loop-next.locked c.loop-next.cpus in
     let all : ServesAllAndKeeps on c.args.lines.now first last c.into_bytes.result.items =
-    in_order_end (ServesAndKeeps on) first last c.args.lines.now c.loop-line.line-index (string_bytes c.loop-line.answers)
-    c.into_bytes.result.items c.loop-line-test.false c.loop-line.invariant.0 (ap (λ v. v.items) c.into_bytes.ensures.value) in record {
+    in_order_end (ServesAndKeeps on) first last c.args.lines.now c.loop-next.next-index (string_bytes c.loop-next.answers)
+    c.into_bytes.result.items c.loop-next-test.false c.loop-next.invariant.0 (ap (λ v. v.items) c.into_bytes.ensures.value) in record {
       outcome = record {
-        replayed = all_replayed_legally on c.args.lines.now first last c.into_bytes.result.items all c.loop-line.invariant.1;
+        replayed = all_replayed_legally on c.args.lines.now first last c.into_bytes.result.items all c.loop-next.invariant.1;
         stopped = tt;
       };
     }

@@ -5,8 +5,8 @@ use Rattle.script_replay.specs.Terms.{terms}
 use Rattle.script_replay.proofs.Going.{ServesAllAndKeeps}
 use Rattle.script_replay.proofs.value_replay.replay_checked.Given as goal
 
-abbrev pub invariant-loop-line : goal.invariant-loop-line
-invariant-loop-line g l =
-    ServesAllAndKeeps (terms g.N.BootName.frames g.N.BootName.stocks l.is_explained) (take l.line-index l.lines)
+abbrev pub invariant-loop-next : goal.invariant-loop-next
+invariant-loop-next g l =
+    ServesAllAndKeeps (terms g.N.BootName.frames g.N.BootName.stocks l.is_explained) (take l.next-index l.lines)
     (system_state l.initial.locked l.initial.cpus) (system_state l.locked l.cpus) (string_bytes l.answers)
     × (l.locked.machine.watch.is_legal ≡ true)
