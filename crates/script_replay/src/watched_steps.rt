@@ -42,7 +42,10 @@ pub(crate) fn watch_get<N: BootName>(
 {
     match got {
         Ok(Get::Held) => locked.take_step(number, Action::Get { frame }, Answer::Held),
-        _ => {}
+        Ok(Get::Zero) => {}
+        Ok(Get::Raced(_)) => {}
+        Ok(Get::Full) => {}
+        Err(_) => {}
     }
 }
 
