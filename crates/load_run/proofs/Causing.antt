@@ -5,12 +5,15 @@ use Rattle.std.proofs.KnownBytes.{Appends-nil, Keeps-refl}
 use Rattle.script_lines.specs.declared.line.Line.{Line}
 use Rattle.script_lines.specs.declared.fault.ScriptFault.TheVariants as script
 use Rattle.script_lines.specs.Script.{IsScript}
+use Rattle.zone_sizes.specs.declared.config.Config.{Config}
+use Rattle.zone_sizes.specs.Config.{IsValidConfig}
 use Rattle.load_options.specs.declared.task.Options.{Options}
+use Rattle.load_options.specs.declared.task.Task.{Task}
 use Rattle.load_run.specs.declared.fault.ProgramFault.{ProgramFault}
 use Rattle.load_run.specs.declared.fault.ProgramFault.TheVariants.{Words, Script, BadLogLine, BadConfig, NotLegal, Input, Output, NoMemory}
 use Rattle.load_run.specs.Answers.{IsAnswered, bytes_read}
 use Rattle.load_run.specs.Causes.{FailsAtWork, HasCause, IsMisused, LeavesAnswers, written}
-use Rattle.load_run.specs.Fault.{IsBootFault, IsReadFault, IsScriptFault, IsWordsFault, fault_text, status_of}
+use Rattle.load_run.specs.Fault.{IsBootFault, IsFailedTask, IsReadFault, IsScriptFault, IsWordsFault, fault_text, status_of}
 use Rattle.load_options.specs.Sizes.{HasSizesInRange}
 use Rattle.load_run.specs.Writing.{AppendsBeginning}
 
@@ -91,6 +94,17 @@ boot_cause asked options (Some bytes) text lines (NotLegal number) is_asked read
 boot_cause asked options (Some bytes) text lines Input is_asked read script is = absurd is.0
 boot_cause asked options (Some bytes) text lines Output is_asked read script is = absurd is.0
 boot_cause asked options (Some bytes) text lines (NoMemory e) is_asked read script is = subst IsSome (sym is_asked) refl
+
+-- a boot that took its sizes and failed at its task is at fault
+pub failed_boot : (task : Task) (sizes : Config) (fault : ProgramFault) → IsValidConfig sizes → IsFailedTask task fault → IsBootFault task sizes fault
+failed_boot task sizes (Words f) valid is = (is, valid)
+failed_boot task sizes (Script f) valid is = (is, valid)
+failed_boot task sizes (BadLogLine n) valid is = (is, valid)
+failed_boot task sizes BadConfig valid is = absurd is
+failed_boot task sizes (NotLegal n) valid is = (is, valid)
+failed_boot task sizes Input valid is = (is, valid)
+failed_boot task sizes Output valid is = (is, valid)
+failed_boot task sizes (NoMemory e) valid is = (is, valid)
 
 -- misuse that has a cause, and was told
 pub misused : (asked : Option Options) (input before after : Option (List ℕ)) (fault : ProgramFault) → status_of fault ≡ 2
