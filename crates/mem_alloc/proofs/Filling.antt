@@ -14,7 +14,7 @@ use Rattle.cpu_part.specs.Cpus.{KnownCpu}
 use Rattle.zone_sizes.specs.declared.config.Config.{Config}
 use Rattle.zone_sizes.specs.Config.{IsValidConfig}
 use Rattle.step_rules.specs.After.{Run}
-use Rattle.mem_machine.specs.Machines.{KnownMachine, Visits, is_killed}
+use Rattle.mem_machine.specs.Machines.{KnownMachine, Visits, is_killed, with_watch}
 use Rattle.mem_machine.specs.Local.{VisitState, visit_state, MakesAs}
 use Rattle.mem_machine.specs.Lending.{LendsMany, Refills}
 use Rattle.mem_machine.specs.Paying.{HoldsPage, PaysForFront}
@@ -29,7 +29,7 @@ use Rattle.mem_alloc.specs.Charging.{ChargesAfterDrain, ChargesFrame, ChargesOne
 use Rattle.mem_alloc.specs.Rounds.{FailsInRounds}
 use Rattle.mem_alloc.specs.Frames.{AllocatesFrame, FillsList, HasNoFreeFrame, LendsBatch, LendsNoFrame, RefillsInRounds, RefillsList}
 use Rattle.mem_alloc.proofs.Making.{answer_is}
-use Rattle.mem_alloc.proofs.Lowering.{Lowers, lowers_none, lowers_both, drain_lowers, looked_lowers, lowered_visit}
+use Rattle.mem_alloc.proofs.Lowering.{Lowers, lowers_none, lowers_both, drain_lowers, looked_lowers, lowered_visit, watched_lowers}
 use Rattle.mem_alloc.proofs.Killing.{relieves_lower}
 use Rattle.mem_alloc.proofs.Rounding.{Spares, FailureSpares, InTheEnd, spares_same, fails_spare, in_the_end}
 use Rattle.mem_machine.proofs.Followed.{makes_both, makes_stay}
@@ -73,7 +73,9 @@ fills_keep g k m n c d f = record {
 
 pub refused_lowers : (t : KnownTable) (g pages over : ℕ) (answer : Result (Unit {0}) AllocFault) (m n : KnownMachine) (steps : Run)
     → IsRefusedAt g over pages answer (transition t m steps n) → Lowers t m n
-refused_lowers t g pages over answer m n steps r = relieves_lower t g over pages m n r.relieving r.relieves
+refused_lowers t g pages over answer m n steps r =
+    let x = with_watch m r.seen in
+    lowers_both t m x n (watched_lowers t m r.seen) (relieves_lower t g over pages x n r.relieving r.relieves)
 
 pub makes_lower : (t : KnownTable) (g pages : ℕ) (before : List ℕ) (m n : KnownMachine) (steps : Run) → MakesRoom g before pages (transition t m steps n) → Lowers t m n
 makes_lower t g pages [] m n steps h = subst (λ (x : KnownMachine). Lowers t m x) (sym h.machine) (lowers_none t m)
@@ -104,8 +106,12 @@ one_keeps t g (Err e) m n c d steps h = refusal_keeps t g 1 e m n c d steps h
 charges_keep : (t : KnownTable) (sizes : Config) (g : ℕ) (r : Result (Unit {0}) AllocFault) (m n : KnownMachine) (c d : KnownCpu) (steps : Run)
     → ChargesFrame sizes g r (transition t (visit_state m c) steps (visit_state n d)) → KeepsPart m c n d
 charges_keep t sizes g (Ok v) m n c d steps (inl h) = fills_keep g sizes.stock m n c d h.fills
-charges_keep t sizes g (Ok v) m n c d steps (inr h) = one_keeps t g (Ok v) m n c d h.later h.does
-charges_keep t sizes g (Err e) m n c d steps h = one_keeps t g (Err e) m n c d h.later h.does
+charges_keep t sizes g (Ok v) m n c d steps (inr h) =
+    let x = with_watch m h.seen in
+    keeps_both m x n c c d (lowers_keep t m x c c (watched_lowers t m h.seen) refl) (one_keeps t g (Ok v) x n c d h.later h.does)
+charges_keep t sizes g (Err e) m n c d steps h =
+    let x = with_watch m h.seen in
+    keeps_both m x n c c d (lowers_keep t m x c c (watched_lowers t m h.seen) refl) (one_keeps t g (Err e) x n c d h.later h.does)
 
 own_drain_keeps : (t : KnownTable) (m n : KnownMachine) (c d : KnownCpu) (steps : Run) → DrainsStock (transition t (visit_state m c) steps (visit_state n d)) → KeepsPart m c n d
 own_drain_keeps t m n c d steps h = lowers_keep t m n c d (drain_lowers t m n c.number h.drained h.drains) h.cpu
@@ -159,7 +165,7 @@ module _ (t : KnownTable) (m n : KnownMachine) (c d : KnownCpu) (seen : n ≡ wi
     steps = [];
     does = inl (record { is = page; does = record { machine = seen; cpu = mine; steps_are = refl } });
     makes = subst (λ (z : KnownMachine × KnownCpu). MakesAs t c.number (visit_state m c) [] (visit_state z.0 z.1)) (λ i. (sym seen i, sym mine i))
-        (makes_stay t m (with_look m) c c refl refl refl);
+        (makes_stay t m (with_look m) c c refl refl refl refl);
   }
 
 -- ---- frames that are lent
@@ -214,16 +220,18 @@ pub batch_fits : (t : KnownTable) (sizes : Config) (g : ℕ) (m n : KnownMachine
 batch_fits t sizes g m n c d fills steps = record { steps = fill_steps c.number g sizes.stock; does = inl (record { fills = fills; steps_are = refl }); makes = steps }
 
 -- the batch doesn't fit, and then one page is charged, or is refused
-module _ (t : KnownTable) (sizes : Config) (g over : ℕ) (m x n : KnownMachine) (c y d : KnownCpu) (stays : x ≡ m) (its : y ≡ c)
+module _ (t : KnownTable) (sizes : Config) (g over : ℕ) (m x n : KnownMachine) (c y d : KnownCpu) (stays : x ≡ with_watch m x.watch) (its : y ≡ c)
     (lowest : IsLowestOver m.ledger.groups (current_of m.ledger) g sizes.stock over)
-    (refused : MakesAs t c.number (visit_state m c) (over_steps g sizes.stock over) (visit_state m c)) where
+    (refused : MakesAs t c.number (visit_state m c) (over_steps g sizes.stock over) (visit_state x y)) where
   lacks : (r : Result (Unit {0}) AllocFault) → BySteps t (ChargesOne g r) (visit_state x y) (visit_state n d)
       → BySteps t (AfterBatchRefused sizes g (ChargesOne g r)) (visit_state m c) (visit_state n d)
   lacks r b =
       let here = subst (λ (z : KnownMachine × KnownCpu). BySteps t (ChargesOne g r) (visit_state z.0 z.1) (visit_state n d)) (λ i. (stays i, its i)) b in record {
         steps = over_steps g sizes.stock over ++ here.steps;
-        does = record { over = over; batch = lowest; later = here.steps; does = here.does; steps_are = refl };
-        makes = makes_both t c.number (over_steps g sizes.stock over) here.steps (visit_state m c) (visit_state m c) (visit_state n d) refused here.makes;
+        does = record { over = over; batch = lowest; later = here.steps; seen = x.watch; does = here.does; steps_are = refl };
+        makes = makes_both t c.number (over_steps g sizes.stock over) here.steps (visit_state m c) (visit_state (with_watch m x.watch) c) (visit_state n d)
+            (subst (λ (z : KnownMachine × KnownCpu). MakesAs t c.number (visit_state m c) (over_steps g sizes.stock over) (visit_state z.0 z.1))
+            (λ i. (stays i, its i)) refused) here.makes;
       }
 
   pub one_charged : (r : Result (Unit {0}) AllocFault) → BySteps t (ChargesOne g r) (visit_state x y) (visit_state n d)
@@ -280,7 +288,7 @@ module _ (t : KnownTable) (pages q : ℕ) (m k x : KnownMachine) (c e : KnownCpu
               steps_are = refl;
             });
           };
-          makes = record { leads = looked.leads; follows = looked.follows; counts = looked.counts };
+          makes = record { leads = looked.leads; follows = looked.follows; counts = looked.counts; watched = looked.watched };
         }
 
     pub pays_anew : (r : Result (Unit {0}) AllocFault) → BySteps t (ChargesFrame sizes g r) (visit_state x e) (visit_state n d)

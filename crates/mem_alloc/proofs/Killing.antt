@@ -16,7 +16,8 @@ use Rattle.group_charge.proofs.SumLemmas.{share}
 use Rattle.stock_word.specs.Stock.{Words}
 use Rattle.step_rules.specs.State.{sum_to}
 use Rattle.step_rules.specs.After.{Run}
-use Rattle.mem_machine.specs.Machines.{IsConsistent, KnownMachine, is_killed}
+use Rattle.kill_notes.specs.declared.note.Note.TheVariants as notes
+use Rattle.mem_machine.specs.Machines.{IsConsistent, KnownMachine, is_killed, with_watch, with_note}
 use Rattle.mem_machine.specs.Local.{MakesForAny, visit_state}
 use Rattle.mem_machine.specs.Steps.{note_oom_steps}
 use Rattle.mem_reclaim.specs.declared.sets.Killed.{Killed}
@@ -30,6 +31,7 @@ use Rattle.mem_alloc.specs.Kills.{IsWanting, KillsEach, KillsFor, KillsOne, has_
 use Rattle.mem_alloc.specs.Room.{KillsForFew, RelievesLimit}
 use Rattle.mem_alloc.proofs.Lowering.{Lowers, lowers_none, lowers_both, same_visit, clears_lower, keeps_lower, sum_less}
 use Rattle.mem_machine.proofs.Followed.{makes_both, makes_none}
+use Rattle.step_watch.specs.Watched.{KnownWatch}
 
 -- ---- what is kept
 
@@ -67,12 +69,12 @@ usage_noted : (groups : List Group) (xs : List charge.Account) (g m : ℕ) → u
 unfolding usage_of
 usage_noted groups xs g m = sum-map_same (share groups m) (with_event_at Oom groups g) (λ a. refl) xs
 
-pub oom_lowers : (t : KnownTable) (m : KnownMachine) (g : ℕ) → Lowers t m (with_oom_noted_at m g)
-oom_lowers t m g = record {
+pub oom_lowers : (t : KnownTable) (m : KnownMachine) (g : ℕ) (w : KnownWatch) → Lowers t m (with_watch (with_oom_noted_at m g) w)
+oom_lowers t m g w = record {
   groups = refl;
   killed = λ v dead. dead;
   opened = refl;
-  visit = same_visit t m (with_oom_noted_at m g) refl;
+  visit = same_visit t m (with_watch (with_oom_noted_at m g) w) refl;
   falls = λ h.
       let a : current_of (with_oom_noted_at m g).ledger h ≡ current_of m.ledger h = usage_noted m.ledger.groups m.ledger.accounts g h in
       omega (arith, a);
@@ -87,7 +89,8 @@ kills_lower r t g pages m n steps k = elim (cases_Bool (has_room_at m.ledger g p
   | inl room ↦ stays_lower t m n steps (k.room room)
   | inr over ↦
       let h = k.over over in
-      lowers_both t m (with_oom_noted_at m g) n (oom_lowers t m g) (each_lowers r t g pages h.victims (with_oom_noted_at m g) n h.killing h.kills)
+      let x = with_watch (with_oom_noted_at m g) h.seen in
+      lowers_both t m x n (oom_lowers t m g h.seen) (each_lowers r t g pages h.victims x n h.killing h.kills)
 ]
 
 pub few_lower : (t : KnownTable) (r g pages : ℕ) (m n : KnownMachine) (steps : Run) → KillsForFew r g pages (transition t m steps n) → Lowers t m n
@@ -180,23 +183,41 @@ kills_more r t g pages killed (u ∷ victims) m x n first last each one = record
   steps_are = ap (λ (k : Run). k ++ last) each.steps_are ∙ append_assoc each.earlier each.later last;
 }
 
--- these victims have been killed so far, with all groups that die with them, and nothing else happened
+-- An `oom` was noted at the group, and these victims have been killed so far, with all groups that die with them.
+-- Nothing else happened.
 pub record KillsSoFar (r : Option ℕ) (t : KnownTable) (g pages : ℕ) (m n : KnownMachine) : Type 0 where
+  pub seen : KnownWatch
+  pub notes : MakesForAny t m (note_oom_steps g) (with_watch (with_oom_noted_at m g) seen)
   pub victims : List Killed
   pub killing : Run
-  pub kills : KillsEach r g pages victims (transition t m killing n)
-  pub runs : MakesForAny t m killing n
+  pub kills : KillsEach r g pages victims (transition t (with_watch (with_oom_noted_at m g) seen) killing n)
+  pub runs : MakesForAny t (with_watch (with_oom_noted_at m g) seen) killing n
 
-pub so_far_nobody : (r : Option ℕ) (t : KnownTable) (g pages : ℕ) (m : KnownMachine) → KillsSoFar r t g pages m m
-so_far_nobody r t g pages m = record { victims = []; killing = []; kills = record { machine = refl; steps_are = refl }; runs = λ c. makes_none t c.number (visit_state m c) }
+-- the note, after the event
+pub so_far_nobody : (r : Option ℕ) (t : KnownTable) (g pages : ℕ) (m x n : KnownMachine)
+    → x ≡ record m { ledger = with_oom_noted m.ledger g; watch = x.watch } → MakesForAny t m (note_oom_steps g) x → n ≡ with_note x (notes.Oom g)
+    → KillsSoFar r t g pages m n
+so_far_nobody r t g pages m x n event noting noted =
+    let noting_m : MakesForAny t m (note_oom_steps g) (record m { ledger = with_oom_noted m.ledger g; watch = x.watch }) =
+    subst (λ (y : KnownMachine). MakesForAny t m (note_oom_steps g) y) event noting in
+    subst (λ (y : KnownMachine). KillsSoFar r t g pages m y) (sym (noted ∙ (λ i. with_note (event i) (notes.Oom g)))) (record {
+      seen = x.watch;
+      notes = λ c. record { leads = (noting_m c).leads; follows = (noting_m c).follows; counts = (noting_m c).counts; watched = (noting_m c).watched };
+      victims = [];
+      killing = [];
+      kills = record { machine = refl; steps_are = refl };
+      runs = λ c. makes_none t c.number (visit_state (with_watch (with_oom_noted_at m g) x.watch) c);
+    })
 
 pub so_far_killed : (r : Option ℕ) (t : KnownTable) (w : Words) (g pages : ℕ) (killed : Killed) (m x n : KnownMachine) → KillsSoFar r t g pages m x
     → IsWanting r g pages x → IsConsistent t w x → AreCharges x.ledger → IsVictim x g (Some killed.victim) → IsKilledBy t g killed x n
     → n.killed ≡ with_all_killed x.killed (kill_set x killed) → OnlyDrains x n → OnlyLetsGo t x n → KillsSoFar r t g pages m n
 so_far_killed r t w g pages killed m x n so_far wanting whole charges chosen kills marked stocks keeps = record {
+  seen = so_far.seen;
+  notes = so_far.notes;
   victims = so_far.victims ++ killed ∷ [];
   killing = so_far.killing ++ kills.steps;
-  kills = kills_more r t g pages killed so_far.victims m x n so_far.killing kills.steps so_far.kills (record {
+  kills = kills_more r t g pages killed so_far.victims (with_watch (with_oom_noted_at m g) so_far.seen) x n so_far.killing kills.steps so_far.kills (record {
     wanting = wanting;
     chosen = chosen;
     words = w;
@@ -208,40 +229,36 @@ so_far_killed r t w g pages killed m x n so_far wanting whole charges chosen kil
     stocks = stocks;
     keeps = keeps;
   });
-  runs = λ c. makes_both t c.number so_far.killing kills.steps (visit_state m c) (visit_state x c) (visit_state n c) (so_far.runs c) (kills.runs c);
+  runs = λ c. makes_both t c.number so_far.killing kills.steps (visit_state (with_watch (with_oom_noted_at m g) so_far.seen) c) (visit_state x c)
+      (visit_state n c) (so_far.runs c) (kills.runs c);
 }
 
 pub so_far_there : (r : Option ℕ) (t : KnownTable) (g pages : ℕ) (m n : KnownMachine) → KillsSoFar r t g pages m n → has_group m.ledger.groups g ≡ true
     → has_group n.ledger.groups g ≡ true
 so_far_there r t g pages m n so_far there =
-    let l = each_lowers r t g pages so_far.victims m n so_far.killing so_far.kills in
+    let l = each_lowers r t g pages so_far.victims (with_watch (with_oom_noted_at m g) so_far.seen) n so_far.killing so_far.kills in
     ap (λ (x : List Group). has_group x g) l.groups ∙ there
 
 -- the kills are over
-pub kills_end : (r : Option ℕ) (t : KnownTable) (g pages : ℕ) (m x n : KnownMachine) → has_room_at m.ledger g pages ≡ false
-    → x ≡ record m { ledger = with_oom_noted m.ledger g } → MakesForAny t m (note_oom_steps g) x → KillsSoFar r t g pages (with_oom_noted_at m g) n
-    → (IsWanting r g pages n → IsVictim n g None) → ByStepsOfAny t (KillsFor r g pages) m n
-kills_end r t g pages m x n over noted noting so_far ended = record {
+pub kills_end : (r : Option ℕ) (t : KnownTable) (g pages : ℕ) (m n : KnownMachine) → has_room_at m.ledger g pages ≡ false
+    → KillsSoFar r t g pages m n → (IsWanting r g pages n → IsVictim n g None) → ByStepsOfAny t (KillsFor r g pages) m n
+kills_end r t g pages m n over so_far ended = record {
   steps = note_oom_steps g ++ so_far.killing;
   does = record {
     room = λ room. absurd (false≢true (sym over ∙ room));
     over = λ _. record {
       victims = so_far.victims;
       killing = so_far.killing;
-      notes = told;
+      seen = so_far.seen;
+      notes = so_far.notes;
       kills = so_far.kills;
       ended = ended;
       steps_are = refl;
     };
   };
-  makes = λ c. makes_both t c.number (note_oom_steps g) so_far.killing (visit_state m c) (visit_state (with_oom_noted_at m g) c) (visit_state n c) (told c) (so_far.runs c);
+  makes = λ c. makes_both t c.number (note_oom_steps g) so_far.killing (visit_state m c) (visit_state (with_watch (with_oom_noted_at m g) so_far.seen) c)
+      (visit_state n c) (so_far.notes c) (so_far.runs c);
 }
-  where
-    noting_m : MakesForAny t m (note_oom_steps g) (record m { ledger = with_oom_noted m.ledger g })
-    noting_m = subst (λ (y : KnownMachine). MakesForAny t m (note_oom_steps g) y) noted noting
-
-    told : MakesForAny t m (note_oom_steps g) (with_oom_noted_at m g)
-    told c = record { leads = (noting_m c).leads; follows = (noting_m c).follows; counts = (noting_m c).counts }
 
 -- ---- kills for a few pages alone
 

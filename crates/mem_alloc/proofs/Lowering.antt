@@ -20,7 +20,7 @@ use Rattle.stock_word.specs.Calls.{with_view, after_look}
 use Rattle.cpu_part.specs.Cpus.{KnownCpu}
 use Rattle.step_rules.specs.State.{sum_to}
 use Rattle.step_rules.specs.After.{Run}
-use Rattle.mem_machine.specs.Machines.{KnownMachine, Visits, is_killed}
+use Rattle.mem_machine.specs.Machines.{KnownMachine, Visits, is_killed, with_watch}
 use Rattle.mem_machine.specs.Paying.{HasRoomFor}
 use Rattle.mem_machine.specs.Steps.{Drain}
 use Rattle.mem_machine.specs.Stocks.{Drains, DrainsBelow, DrainsAllBelow, stock_group, uncharged, with_look}
@@ -30,6 +30,7 @@ use Rattle.mem_reclaim.specs.Staying.{Keeps}
 use Rattle.mem_alloc.specs.Stepping.{transition}
 use Rattle.mem_alloc.specs.Room.{ClearsBelow, has_room_at, with_max_noted_at}
 use Rattle.mem_machine.specs.Local.{visit_state}
+use Rattle.step_watch.specs.Watched.{KnownWatch}
 
 -- the groups and the visits stay, who was killed stays killed, no usage is higher, and no stock is filled that wasn't
 pub record Lowers (t : KnownTable) (m n : KnownMachine) : Type 0 where
@@ -132,12 +133,23 @@ usage_noted : (groups : List Group) (xs : List charge.Account) (g m : ℕ) → u
 unfolding usage_of
 usage_noted groups xs g m = sum-map_same (share groups m) (noted groups g) (λ a. refl) xs
 
-pub note_lowers : (t : KnownTable) (m : KnownMachine) (g pages : ℕ) → Lowers t m (with_max_noted_at m g pages)
-note_lowers t m g pages = record {
+-- another watch changes nothing of this
+pub watched_lowers : (t : KnownTable) (m : KnownMachine) (w : KnownWatch) → Lowers t m (with_watch m w)
+watched_lowers t m w = record {
   groups = refl;
   killed = λ v dead. dead;
   opened = refl;
-  visit = same_visit t m (with_max_noted_at m g pages) refl;
+  visit = same_visit t m (with_watch m w) refl;
+  falls = λ h. omega arith;
+  emptied = λ p is. is;
+}
+
+pub note_lowers : (t : KnownTable) (m : KnownMachine) (g pages : ℕ) (w : KnownWatch) → Lowers t m (with_watch (with_max_noted_at m g pages) w)
+note_lowers t m g pages w = record {
+  groups = refl;
+  killed = λ v dead. dead;
+  opened = refl;
+  visit = same_visit t m (with_watch (with_max_noted_at m g pages) w) refl;
   falls = λ h.
       let a : current_of (with_max_noted_at m g pages).ledger h ≡ current_of m.ledger h = usage_noted m.ledger.groups m.ledger.accounts g h in
       omega (arith, a);
@@ -146,7 +158,8 @@ note_lowers t m g pages = record {
 
 pub clears_lower : (t : KnownTable) (g pages : ℕ) (m n : KnownMachine) (steps : Run) → ClearsBelow g pages (transition t m steps n) → Lowers t m n
 clears_lower t g pages m n steps c =
-    lowers_both t m (with_max_noted_at m g pages) n (note_lowers t m g pages) (all_lower t g t.cpus (with_max_noted_at m g pages) n c.drains c.all)
+    let x = with_watch (with_max_noted_at m g pages) c.seen in
+    lowers_both t m x n (note_lowers t m g pages c.seen) (all_lower t g t.cpus x n c.drains c.all)
 
 -- reclaim keeps it too
 pub keeps_lower : (t : KnownTable) (m n : KnownMachine) → Keeps t m n → Lowers t m n

@@ -9,7 +9,7 @@ use Rattle.group_tree.specs.Room.{IsLowestOver, fits_limit}
 use Rattle.group_charge.specs.Charges.{current_of, with_max_noted}
 use Rattle.cpu_part.specs.Cpus.{KnownCpu}
 use Rattle.step_rules.specs.After.{Run}
-use Rattle.mem_machine.specs.Machines.{KnownMachine, is_killed}
+use Rattle.mem_machine.specs.Machines.{KnownMachine, is_killed, with_watch}
 use Rattle.mem_machine.specs.Local.{MakesForAny, VisitState, visit_state, MakesAs}
 use Rattle.mem_machine.specs.Steps.{over_steps, note_max_steps, drain_stocks_steps, fill_steps}
 use Rattle.mem_machine.specs.Stocks.{Fills, DrainsSubtree, DrainsAllBelow, AreDrained}
@@ -21,7 +21,7 @@ use Rattle.mem_alloc.specs.Room.{AfterRoom, ClearsBelow, HasMadeRoom, IsRefusedA
 use Rattle.mem_alloc.specs.Room.{with_limit_noted, with_max_noted_at}
 use Rattle.mem_alloc.specs.declared.faults.AllocFault.{AllocFault}
 use Rattle.mem_alloc.specs.Charging.{ChargesOne, FillsStock}
-use Rattle.mem_alloc.proofs.Lowering.{Lowers, lowers_none, lowers_both}
+use Rattle.mem_alloc.proofs.Lowering.{Lowers, lowers_none, lowers_both, watched_lowers}
 use Rattle.mem_alloc.proofs.Killing.{relieving_lowers}
 use Rattle.mem_machine.proofs.Followed.{makes_both, makes_none}
 
@@ -31,16 +31,18 @@ note_then_drains t g pages m x n noting drains c =
     makes_both t c.number (note_max_steps g) (drain_stocks_steps drains.drains) (visit_state m c) (visit_state x c) (visit_state n c) (noting c) (drains.steps c)
 
 -- the notes, and then the drains. Serves `make_room`
-pub clears_by : (t : KnownTable) (g pages back : ℕ) (m y x n : KnownMachine) → y ≡ with_limit_noted m g pages → x ≡ record y { ledger = with_max_noted y.ledger g }
+pub clears_by : (t : KnownTable) (g pages back : ℕ) (m y x n : KnownMachine) → y ≡ with_limit_noted m g pages → x ≡ record y { ledger = with_max_noted y.ledger g; watch = x.watch }
     → MakesForAny t y (note_max_steps g) x → DrainsSubtree t g back x n → AreDrained g t.cpus n → ByStepsOfAny t (ClearsBelow g pages) m n
 clears_by t g pages back m y x n told noted noting_y drains drained =
-    let both : x ≡ with_max_noted_at m g pages = noted ∙ ap (λ (k : KnownMachine). record k { ledger = with_max_noted k.ledger g }) told in
+    let both : x ≡ with_watch (with_max_noted_at m g pages) x.watch =
+    noted ∙ ap (λ (k : KnownMachine). record k { ledger = with_max_noted k.ledger g; watch = x.watch }) told in
     let noting_told : MakesForAny t (with_limit_noted m g pages) (note_max_steps g) x =
     subst (λ (k : KnownMachine). MakesForAny t k (note_max_steps g) x) told noting_y in
-    let noting : MakesForAny t m (note_max_steps g) x = λ c. record { leads = (noting_told c).leads; follows = (noting_told c).follows; counts = (noting_told c).counts } in record {
+    let noting : MakesForAny t m (note_max_steps g) x = λ c. record { leads = (noting_told c).leads; follows = (noting_told c).follows; counts = (noting_told c).counts; watched = (noting_told c).watched } in record {
       steps = note_max_steps g ++ drain_stocks_steps drains.drains;
       does = record {
         drains = drains.drains;
+        seen = x.watch;
         all = subst (λ (k : KnownMachine). DrainsAllBelow g t.cpus drains.drains k n) both drains.all;
         drained = drained;
         steps_are = refl;
@@ -121,53 +123,54 @@ so_far_none t g pages c m alive = record {
 
 module _ (t : KnownTable) (g pages : ℕ) (c : KnownCpu) (m x : KnownMachine) (so_far : RoomSoFar t g pages c m x) where
   -- one more charge was refused, by its steps
-  module _ (y z n : KnownMachine) (d : KnownCpu) (over : ℕ) (same : y ≡ x) (mine : d ≡ c)
+  module _ (y z n : KnownMachine) (d e : KnownCpu) (over : ℕ) (same : y ≡ with_watch x y.watch) (mine : d ≡ c) (mine_after : e ≡ c)
       (low : IsLowestOver z.ledger.groups (current_of z.ledger) g pages over) (before_it : z ≡ x)
-      (refusing : MakesAs t d.number (visit_state z d) (over_steps g pages over) (visit_state z d)) (relieves : ByStepsOfAny t (RelievesLimit g over pages) y n) where
-    its : ByStepsOfAny t (RelievesLimit g over pages) x n
-    its = subst (λ (k : KnownMachine). ByStepsOfAny t (RelievesLimit g over pages) k n) same relieves
-
+      (refusing : MakesAs t d.number (visit_state z d) (over_steps g pages over) (visit_state y e)) (relieves : ByStepsOfAny t (RelievesLimit g over pages) y n) where
     refused : (answer : Result (Unit {0}) AllocFault) → TellsRoom g over pages answer n
-        → IsRefusedAt g over pages answer (transition t x (over_steps g pages over ++ its.steps) n)
+        → IsRefusedAt g over pages answer (transition t x (over_steps g pages over ++ relieves.steps) n)
     refused answer room = record {
       lowest = subst (λ (k : KnownMachine). IsLowestOver k.ledger.groups (current_of k.ledger) g pages over) before_it low;
-      relieving = its.steps;
-      relieves = its.does;
+      relieving = relieves.steps;
+      seen = y.watch;
+      relieves = subst (λ (k : KnownMachine). RelievesLimit g over pages (transition t k relieves.steps n)) same relieves.does;
       room = room;
       steps_are = refl;
     }
 
-    runs_on : MakesAs t c.number (visit_state m c) (so_far.making ++ (over_steps g pages over ++ its.steps))
+    lowered : Lowers t x n
+    lowered = lowers_both t x y n (subst (λ (k : KnownMachine). Lowers t x k) (sym same) (watched_lowers t x y.watch)) (relieving_lowers t g over pages y n relieves)
+
+    runs_on : MakesAs t c.number (visit_state m c) (so_far.making ++ (over_steps g pages over ++ relieves.steps))
         (visit_state n c)
-    runs_on = makes_both t c.number so_far.making (over_steps g pages over ++ its.steps) (visit_state m c)
+    runs_on = makes_both t c.number so_far.making (over_steps g pages over ++ relieves.steps) (visit_state m c)
         (visit_state x c) (visit_state n c) so_far.runs
-        (makes_both t c.number (over_steps g pages over) its.steps (visit_state x c) (visit_state x c)
+        (makes_both t c.number (over_steps g pages over) relieves.steps (visit_state x c) (visit_state y c)
         (visit_state n c)
-        (subst (λ (k : KnownMachine × KnownCpu). MakesAs t k.1.number (visit_state k.0 k.1) (over_steps g pages over) (visit_state k.0 k.1))
-        (λ i. (before_it i, mine i)) refusing)
-        (its.makes c))
+        (subst (λ (k : KnownMachine × KnownCpu × KnownCpu). MakesAs t k.1.number (visit_state k.0 k.1) (over_steps g pages over) (visit_state y k.2))
+        (λ i. (before_it i, mine i, mine_after i)) refusing)
+        (relieves.makes c))
 
     -- and its group has room now
     pub so_far_more : HasMadeRoom g over pages n → RoomSoFar t g pages c m n
     so_far_more room = record {
       refused_at = so_far.refused_at ++ over ∷ [];
-      making = so_far.making ++ (over_steps g pages over ++ its.steps);
+      making = so_far.making ++ (over_steps g pages over ++ relieves.steps);
       makes = room_more t g pages over so_far.refused_at m x n so_far.making
-          (over_steps g pages over ++ its.steps) so_far.makes (refused (Ok tt) room);
+          (over_steps g pages over ++ relieves.steps) so_far.makes (refused (Ok tt) room);
       runs = runs_on;
-      lowers = lowers_both t m x n so_far.lowers (relieving_lowers t g over pages x n its);
+      lowers = lowers_both t m x n so_far.lowers lowered;
       alive = room.alive;
     }
 
     -- or it is refused for good
     pub so_far_over : (cause : AllocFault) → TellsRoom g over pages (Err cause) n → BySteps t (IsRefusedFor g pages cause) (visit_state m c) (visit_state n c)
     so_far_over cause is = record {
-      steps = so_far.making ++ (over_steps g pages over ++ its.steps);
+      steps = so_far.making ++ (over_steps g pages over ++ relieves.steps);
       does = record {
         refused_at = so_far.refused_at;
         cleared = x;
         making = so_far.making;
-        later = over_steps g pages over ++ its.steps;
+        later = over_steps g pages over ++ relieves.steps;
         makes = so_far.makes;
         does = record { does = (over, refused (Err cause) is); cpu = refl };
         steps_are = refl;

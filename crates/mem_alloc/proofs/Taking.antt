@@ -14,7 +14,7 @@ use Rattle.cpu_part.specs.Cpus.{KnownCpu}
 use Rattle.step_rules.specs.After.{Run}
 use Rattle.mem_machine.specs.declared.blocks.TakeFault.{TakeFault}
 use Rattle.mem_machine.specs.declared.blocks.TakeFault.TheVariants as fault
-use Rattle.mem_machine.specs.Machines.{KnownMachine, is_killed}
+use Rattle.mem_machine.specs.Machines.{KnownMachine, is_killed, with_watch}
 use Rattle.mem_machine.specs.Local.{visit_state, MakesAs, VisitState}
 use Rattle.mem_machine.specs.Lending.{TakesManyBack}
 use Rattle.mem_machine.specs.Blocks.{TakesBlock, TakesNoBlock, RefusesBlock, block_steps, taken_steps, unplaced_steps}
@@ -35,7 +35,7 @@ use Rattle.mem_machine.proofs.Followed.{makes_both}
 
 -- the limit of a group had no room
 pub is_refused : (m n : KnownMachine) (g k : ℕ) (e : TakeFault) (o : OverLimit) → e ≡ fault.Over o → RefusesBlock g k e m n
-    → IsLowestOver m.ledger.groups (current_of m.ledger) g (2 ^ k) o.group × (n ≡ m)
+    → IsLowestOver m.ledger.groups (current_of m.ledger) g (2 ^ k) o.group × (n ≡ with_watch m n.watch)
 is_refused m n g k e o is refuses = subst (λ (x : TakeFault). RefusesBlock g k x m n) is refuses
 
 pub by_refusal : {t : KnownTable} (p g k : ℕ) (a b : VisitState) (e : TakeFault) (o : OverLimit) → e ≡ fault.Over o → MakesAs t p a (block_steps g k (Err e)) b

@@ -2,7 +2,7 @@
 use Rattle.std.specs.Prelude.{◌≡◌, ◌⊎◌, ℕ, Result, Ok, Err, ◌++◌}
 use Rattle.zone_sizes.specs.declared.config.Config.{Config}
 use Rattle.step_rules.specs.After.{Run}
-use Rattle.mem_machine.specs.Machines.{LacksRoom}
+use Rattle.mem_machine.specs.Machines.{LacksRoom, with_watch}
 use Rattle.mem_machine.specs.Stocks.{Drains, Fills, stock_group, with_look}
 use Rattle.mem_machine.specs.Steps.{drain_steps, fill_steps, over_steps}
 use Rattle.mem_machine.specs.Paying.{HoldsPage}
@@ -10,6 +10,7 @@ use Rattle.mem_machine.specs.Local.{Makes, VisitState, visit_state}
 use Rattle.mem_alloc.specs.declared.faults.AllocFault.{AllocFault}
 use Rattle.mem_alloc.specs.Stepping.{Transition, InTurn, Stays, Where, transition}
 use Rattle.mem_alloc.specs.Room.{AfterRoom, IsRefusedFor}
+use Rattle.step_watch.specs.Watched.{KnownWatch}
 
 -- the limits have room for this many pages, which are charged to the group and fill the CPU's stock
 pub record FillsStock (group pages : ℕ) (way : Transition VisitState) : Type 0 where
@@ -22,13 +23,15 @@ abbrev pub ChargesOne : ℕ → Result (Unit {0}) AllocFault → Transition Visi
 ChargesOne group (Ok done) way = AfterRoom group 1 (FillsStock group 1) way
 ChargesOne group (Err cause) way = IsRefusedFor group 1 cause way
 
--- the limit of some group has no room for all pages of a whole stock, which is no event, and then `Does` holds
+-- the limit of some group has no room for all pages of a whole stock, which is no event but which the watch sees, and
+-- then `Does` holds
 pub record AfterBatchRefused (sizes : Config) (group : ℕ) (Does : Transition VisitState → Type 0)
     (way : Transition VisitState) : Type 0 where
   pub over : ℕ
   pub batch : LacksRoom way.before.machine group sizes.stock over
   pub later : Run
-  pub does : Does (transition way.table way.before later way.after)
+  pub seen : KnownWatch
+  pub does : Does (transition way.table (visit_state (with_watch way.before.machine seen) way.before.cpu) later way.after)
   pub steps_are : way.steps ≡ over_steps group sizes.stock over ++ later
 
 -- The CPU's drained stock is filled with `sizes.stock` pages or, if a limit has no room for them, with one. Or the

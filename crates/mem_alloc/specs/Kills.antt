@@ -6,7 +6,7 @@ use Rattle.stock_word.specs.Stock.{Words}
 use Rattle.step_rules.specs.After.{Run}
 use Rattle.kill_notes.specs.declared.note.Note.TheVariants.{Oom}
 use Rattle.kill_notes.specs.Notes.{noted}
-use Rattle.mem_machine.specs.Machines.{IsConsistent, KnownMachine, is_killed}
+use Rattle.mem_machine.specs.Machines.{IsConsistent, KnownMachine, is_killed, with_watch}
 use Rattle.mem_machine.specs.Local.{MakesForAny}
 use Rattle.mem_machine.specs.Steps.{note_oom_steps}
 use Rattle.mem_reclaim.specs.declared.sets.Killed.{Killed}
@@ -14,6 +14,7 @@ use Rattle.mem_reclaim.specs.Killing.{IsKilledBy, OnlyDrains, OnlyLetsGo, with_a
 use Rattle.mem_reclaim.specs.Sets.{kill_set}
 use Rattle.mem_reclaim.specs.Victim.{IsVictim}
 use Rattle.mem_alloc.specs.Stepping.{Transition, InTurn, MachineStays, transition}
+use Rattle.step_watch.specs.Watched.{KnownWatch}
 
 -- the most pages of one charge for which groups are killed: those of an order of 3
 abbrev pub most_killed_for : ℕ
@@ -61,15 +62,16 @@ KillsEach requester limited pages [] way = MachineStays way
 KillsEach requester limited pages (killed ∷ others) way =
     InTurn (KillsOne requester limited pages killed) (KillsEach requester limited pages others) way
 
--- One `oom` is noted at the group. Then victims of it are killed, one after the other, each with all groups that die
+-- One `oom` is noted at the group, which the watch sees. Then victims of it are killed, one after the other, each with all groups that die
 -- with it. This ends when its limit has room for this many pages, when the group that asks for them is killed, or when
 -- no victim is left.
 pub record KillsUntilRoom (requester : Option ℕ) (limited pages : ℕ) (way : Transition KnownMachine) : Type 0 where
   pub victims : List Killed
   pub killing : Run
-  pub notes : MakesForAny way.table way.before (note_oom_steps limited) (with_oom_noted_at way.before limited)
+  pub seen : KnownWatch
+  pub notes : MakesForAny way.table way.before (note_oom_steps limited) (with_watch (with_oom_noted_at way.before limited) seen)
   pub kills : KillsEach requester limited pages victims
-      (transition way.table (with_oom_noted_at way.before limited) killing way.after)
+      (transition way.table (with_watch (with_oom_noted_at way.before limited) seen) killing way.after)
   pub ended : IsWanting requester limited pages way.after → IsVictim way.after limited None
   pub steps_are : way.steps ≡ note_oom_steps limited ++ killing
 

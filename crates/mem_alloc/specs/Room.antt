@@ -7,7 +7,7 @@ use Rattle.kill_notes.specs.declared.note.Note.{Note}
 use Rattle.kill_notes.specs.declared.note.Note.TheVariants.{Limit}
 use Rattle.kill_notes.specs.Notes.{noted}
 use Rattle.step_rules.specs.After.{Run}
-use Rattle.mem_machine.specs.Machines.{KnownMachine, LacksRoom, is_killed}
+use Rattle.mem_machine.specs.Machines.{KnownMachine, LacksRoom, is_killed, with_watch}
 use Rattle.mem_machine.specs.Local.{MakesForAny, VisitState, visit_state}
 use Rattle.mem_machine.specs.Steps.{Drain, over_steps, note_max_steps, drain_stocks_steps}
 use Rattle.mem_machine.specs.Stocks.{DrainsAllBelow, AreDrained}
@@ -18,6 +18,7 @@ use Rattle.mem_reclaim.specs.Staying.{Keeps, MissedAll}
 use Rattle.mem_alloc.specs.declared.faults.AllocFault.{AllocFault}
 use Rattle.mem_alloc.specs.declared.faults.AllocFault.TheVariants.{Over, NoFrames, RequesterKilled}
 use Rattle.mem_alloc.specs.Stepping.{Transition, InTurn, OfMachineAlone, MachineStays, transition}
+use Rattle.step_watch.specs.Watched.{KnownWatch}
 -- what is killed, and whether there is room
 pub use Rattle.mem_alloc.specs.Kills.{IsWanting, KillsFor, has_room_at, most_killed_for}
 
@@ -39,11 +40,12 @@ with_max_noted_at machine group pages = record machine {
   notes = limit_notes (limit_of machine.ledger.groups group) machine.ledger group pages machine.notes;
 }
 
--- It is noted that this many pages were about to take the group's usage over its limit. Then the stocks of its subtree
--- are drained by these steps, whichever CPU holds the lock.
+-- It is noted that this many pages were about to take the group's usage over its limit, and the watch sees it. Then
+-- the stocks of its subtree are drained by these steps, whichever CPU holds the lock.
 pub record ClearsBelow (limited pages : ℕ) (way : Transition KnownMachine) : Type 0 where
   pub drains : List Drain
-  pub all : DrainsAllBelow limited way.table.cpus drains (with_max_noted_at way.before limited pages) way.after
+  pub seen : KnownWatch
+  pub all : DrainsAllBelow limited way.table.cpus drains (with_watch (with_max_noted_at way.before limited pages) seen) way.after
   pub drained : AreDrained limited way.table.cpus way.after
   pub steps_are : way.steps ≡ note_max_steps limited ++ drain_stocks_steps drains
   pub runs : MakesForAny way.table way.before way.steps way.after
@@ -92,12 +94,13 @@ TellsRoom requester limited pages (Err RequesterKilled) after = is_killed after.
 TellsRoom requester limited pages (Err NoFrames) after = ⊥
 
 -- A charge of this many pages to the group `requester` is refused at the group `limited`, the lowest without room on
--- its path. Then that limit is relieved, and this is the answer.
+-- its path, which the watch sees. Then that limit is relieved, and this is the answer.
 pub record IsRefusedAt (requester limited pages : ℕ) (answer : Result (Unit {0}) AllocFault)
     (way : Transition KnownMachine) : Type 0 where
   pub lowest : LacksRoom way.before requester pages limited
   pub relieving : Run
-  pub relieves : RelievesLimit requester limited pages (transition way.table way.before relieving way.after)
+  pub seen : KnownWatch
+  pub relieves : RelievesLimit requester limited pages (transition way.table (with_watch way.before seen) relieving way.after)
   pub room : TellsRoom requester limited pages answer way.after
   pub steps_are : way.steps ≡ over_steps requester pages limited ++ relieving
 

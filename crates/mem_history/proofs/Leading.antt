@@ -39,18 +39,18 @@ use Rattle.mem_machine.specs.declared.frame_state.FrameState.TheVariants.{Free, 
 use Rattle.mem_machine.specs.FrameStates.{frame_state_at}
 use Rattle.mem_machine.specs.Machines.{KnownMachine, visit_state}
 use Rattle.mem_machine.specs.Counting.{with_one_put_last}
-use Rattle.mem_machine.specs.Local.{local_of, phase_of, part_of, part_with, references_of, fresh_group, number_or_0, Makes}
+use Rattle.mem_machine.specs.Local.{local_of, phase_of, part_of, part_with, references_of, fresh_group, number_or_0}
 use Rattle.mem_machine.specs.Interleaving.{zone_of}
 use Rattle.mem_machine.specs.Steps.{cpu_makes}
 use Rattle.mem_machine.proofs.Takes.{without_front}
 use Rattle.mem_machine.proofs.Shown.{fresh_phase}
 use Rattle.mem_history.specs.Whole.{seen_together}
-use Rattle.mem_history.specs.Leading.{IsPart, put_answer, FastCallsLead}
+use Rattle.mem_history.specs.Leading.{IsPart, put_answer, FastCallsLead, LeadsWatched}
 use Rattle.mem_history.proofs.Covers.{plain, head_plain, lent_plain, same_times, cover}
 use Rattle.mem_history.proofs.Others.{HasOwn, has_own, own_shown, other_shown, own_references}
 use Rattle.mem_history.proofs.Wholes.{is_one, not_zone, whole_sound}
 use Rattle.mem_history.proofs.Currents.{frame_state_covers}
-use Rattle.mem_machine.proofs.Followed.{follows_same}
+use Rattle.mem_machine.proofs.Followed.{follows_same, LeadsAs, makes_watched}
 
 -- ---- lists
 
@@ -185,14 +185,14 @@ module _ (t : KnownTable) (w : Words) (run : Run) (m : KnownMachine) (cpus : Lis
 
   leads_held : (d : KnownCpu) (f : ℕ) → f < t.frames → length c.back + length c.pins < 256 → (pins : List ℕ) (seat : KnownSeat) (seen : ℕ) →
       seat ≡ seat_with c.frame_seat f (λ x. views.held (looked seen x)) → d ≡ record c { pins = pins; frame_seat = seat } →
-      Makes t (visit_state m c) (cpu_makes q (Get f) Held ∷ []) (visit_state m d)
+      LeadsAs t c.number (visit_state m c) (cpu_makes q (Get f) Held ∷ []) (visit_state m d)
   leads_held d f inside few pins seat seen changed now =
       let pinned = pins_are in
       let back = back_is in
       let low : nat_lt (pins_of (local_of t m c) q + length ((local_of t m c).parts q).back) 256 ≡ true = lt-ltb _ 256 (omega arith) in
       let e : KnownCpu = record c { pins = pins; frame_seat = seat } in
       let n = own_references t m c q f some refl in
-      subst (λ (x : KnownCpu). Makes t (visit_state m c) (cpu_makes q (Get f) Held ∷ []) (visit_state m x)) (sym now) (record {
+      subst (λ (x : KnownCpu). LeadsAs t c.number (visit_state m c) (cpu_makes q (Get f) Held ∷ []) (visit_state m x)) (sym now) (record {
         leads = (
           record {
             own = inr refl;
@@ -222,11 +222,11 @@ module _ (t : KnownTable) (w : Words) (run : Run) (m : KnownMachine) (cpus : Lis
       (le-leb 1 (references_of m.frame_seat c q f) (omega arith))
 
   leads_left : (d : KnownCpu) (f n : ℕ) → 1 ≤ parts.times f c.pins → (pins : List ℕ) (seat : KnownSeat) → seat ≡ seat_with c.frame_seat f (let_go n) →
-      d ≡ record c { pins = pins; frame_seat = seat } → Makes t (visit_state m c) (cpu_makes q (Put f) (Left n) ∷ []) (visit_state m d)
+      d ≡ record c { pins = pins; frame_seat = seat } → LeadsAs t c.number (visit_state m c) (cpu_makes q (Put f) (Left n) ∷ []) (visit_state m d)
   leads_left d f n pinned pins seat changed now =
       let e : KnownCpu = record c { pins = pins; frame_seat = seat } in
       let same = own_references t m c q f some refl in
-      subst (λ (x : KnownCpu). Makes t (visit_state m c) (cpu_makes q (Put f) (Left n) ∷ []) (visit_state m x)) (sym now) (record {
+      subst (λ (x : KnownCpu). LeadsAs t c.number (visit_state m c) (cpu_makes q (Put f) (Left n) ∷ []) (visit_state m x)) (sym now) (record {
         leads = (
           record { own = inr refl; inside = refl; legal = put_legal f pinned; answered = tt },
           λ i. record (local_of t m c) {
@@ -271,7 +271,7 @@ module _ (t : KnownTable) (w : Words) (run : Run) (m : KnownMachine) (cpus : Lis
           ap (λ (n : ℕ). cond (nat_le 1 n) (phase.Head unit (BackAt q)) (phase.Head unit Live)) same
 
   leads_last : (d : KnownCpu) (f : ℕ) → 1 ≤ parts.times f c.pins → (pins : List ℕ) (seat : KnownSeat) → seat ≡ seat_with c.frame_seat f let_go_last →
-      d ≡ record c { pins = pins; back = c.back ++ f ∷ []; frame_seat = seat } → Makes t (visit_state m c) (cpu_makes q (Put f) Last ∷ []) (visit_state m d)
+      d ≡ record c { pins = pins; back = c.back ++ f ∷ []; frame_seat = seat } → LeadsAs t c.number (visit_state m c) (cpu_makes q (Put f) Last ∷ []) (visit_state m d)
   leads_last d f pinned pins seat changed now =
       let e : KnownCpu = record c { pins = pins; back = c.back ++ f ∷ []; frame_seat = seat } in
       let same = own_references t m c q f some refl in
@@ -281,7 +281,7 @@ module _ (t : KnownTable) (w : Words) (run : Run) (m : KnownMachine) (cpus : Lis
       let parts_are : (r : ℕ) → part_of m.stock_seat e r ≡ (cond (q == 0) (part_of m.stock_seat c) (with_at (part_of m.stock_seat c) q (with_back ((local_of t m c).parts q) f))) r =
       λ r. parts_changed t m c e refl some (with_back ((local_of t m c).parts q) f) part r
       ∙ sym (ap (λ (h : ℕ → Part). h r) (cond-false (q == 0) (part_of m.stock_seat c) (with_at (part_of m.stock_seat c) q (with_back ((local_of t m c).parts q) f)) (ne_eqb q 0 some))) in
-      subst (λ (x : KnownCpu). Makes t (visit_state m c) (cpu_makes q (Put f) Last ∷ []) (visit_state m x)) (sym now) (record {
+      subst (λ (x : KnownCpu). LeadsAs t c.number (visit_state m c) (cpu_makes q (Put f) Last ∷ []) (visit_state m x)) (sym now) (record {
         leads = (
           record { own = inr refl; inside = refl; legal = put_legal f pinned; answered = tt },
           λ i. record (local_of t m c) {
@@ -318,7 +318,7 @@ module _ (t : KnownTable) (w : Words) (run : Run) (m : KnownMachine) (cpus : Lis
   leads_took : (d : KnownCpu) (g f : ℕ) (rest : List ℕ) (stock : Seated) → c.list ≡ f ∷ rest → length c.fresh < 32 →
       d ≡ record c { list = rest; fresh = c.fresh ++ f ∷ []; stock_seat = stock } →
       number_or_0 (stocks.group_of c.stock_seat.view.last) ≡ g → number_or_0 (stocks.group_of stock.view.last) ≡ g →
-      IsAnswer (local_of t m c) q (Consume g) Took → Makes t (visit_state m c) (cpu_makes q (Consume g) Took ∷ []) (visit_state m d)
+      IsAnswer (local_of t m c) q (Consume g) Took → LeadsAs t c.number (visit_state m c) (cpu_makes q (Consume g) Took ∷ []) (visit_state m d)
   leads_took d g f rest stock front room now was_group is_group answered =
       let e : KnownCpu = record c { list = rest; fresh = c.fresh ++ f ∷ []; stock_seat = stock } in
       let on_list : 1 ≤ parts.times f c.list = let a = ap (parts.times f) front in let b = times_front f f rest in let h = times_same f in omega arith in
@@ -353,7 +353,7 @@ module _ (t : KnownTable) (w : Words) (run : Run) (m : KnownMachine) (cpus : Lis
             let same : parts.times x e.fresh ≡ parts.times x c.fresh = let h = times_end x f c.fresh in let l = times_other f x (λ z. ne (sym z)) in omega arith in
             other_phase e x (frame_state_at m.frame_states x) refl refl group same ∙ sym (at_other (local_of t m c).phases f (consumed q g) x ne)
       ]) ∙ ap (λ (h : ℕ). with_at (local_of t m c).phases h (consumed q g) x) (sym front_is) in
-      subst (λ (x : KnownCpu). Makes t (visit_state m c) (cpu_makes q (Consume g) Took ∷ []) (visit_state m x)) (sym now) (record {
+      subst (λ (x : KnownCpu). LeadsAs t c.number (visit_state m c) (cpu_makes q (Consume g) Took ∷ []) (visit_state m x)) (sym now) (record {
         leads = (
           record {
             own = inr refl;
@@ -373,7 +373,7 @@ module _ (t : KnownTable) (w : Words) (run : Run) (m : KnownMachine) (cpus : Lis
   leads_listed : (d : KnownCpu) (f i : ℕ) (stock : Seated) (drops : ℕ) → i < length c.fresh → get_or c.fresh i 0 ≡ f →
       d ≡ record c { list = c.list ++ f ∷ []; fresh = remove c.fresh i; stock_seat = stock; drops = drops } →
       stocks.group_of stock.view.last ≡ stocks.group_of c.stock_seat.view.last →
-      IsAnswer (local_of t m c) q (Credit f) Back → Makes t (visit_state m c) (cpu_makes q (Credit f) Back ∷ []) (visit_state m d)
+      IsAnswer (local_of t m c) q (Credit f) Back → LeadsAs t c.number (visit_state m c) (cpu_makes q (Credit f) Back ∷ []) (visit_state m d)
   leads_listed d f i stock drops inside at now same_group answered =
       let e : KnownCpu = record c { list = c.list ++ f ∷ []; fresh = remove c.fresh i; stock_seat = stock; drops = drops } in
       let noted = is.tied.noted f in
@@ -420,7 +420,7 @@ module _ (t : KnownTable) (w : Words) (run : Run) (m : KnownMachine) (cpus : Lis
             ap (parts.times x) removed ∙ same_times x (without f c.fresh) ∙ times_without_other x f c.fresh ne ∙ sym (same_times x c.fresh) in
             other_phase e x (frame_state_at m.frame_states x) refl refl group same ∙ sym (at_other (local_of t m c).phases f (phase.Lent q OnList) x ne)
       ] in
-      subst (λ (x : KnownCpu). Makes t (visit_state m c) (cpu_makes q (Credit f) Back ∷ []) (visit_state m x)) (sym now) (record {
+      subst (λ (x : KnownCpu). LeadsAs t c.number (visit_state m c) (cpu_makes q (Credit f) Back ∷ []) (visit_state m x)) (sym now) (record {
         leads = (
           record {
             own = inr refl;
@@ -444,21 +444,26 @@ consume_same p g x y same is = (
   subst (λ (part : Part). 1 ≤ part.stock.pages) same is.2,
 )
 
+-- the steps lead to the machine with a watch that took them
+watched : (t : KnownTable) (m : KnownMachine) (c d : KnownCpu) (steps : Run) → LeadsAs t c.number (visit_state m c) steps (visit_state m d)
+    → LeadsWatched t (visit_state m c) steps d
+watched t m c d steps made w took = makes_watched t c.number m m refl c d steps m made w took
+
 pub fast_calls_lead : FastCallsLead
 fast_calls_lead = record {
   held = λ t w run m cpus k c d is f inside few answer.
-      leads_held t w run m cpus k c is d f inside few (c.pins ++ f ∷ []) answer.0 answer.1.0 answer.1.3 answer.2;
-  putted = λ t w run m cpus k c d is f answer answers. puts t w run m cpus k c d is f answer answers;
+      watched t m c d _ (leads_held t w run m cpus k c is d f inside few (c.pins ++ f ∷ []) answer.0 answer.1.0 answer.1.3 answer.2);
+  putted = λ t w run m cpus k c d is f answer answers. watched t m c d _ (puts t w run m cpus k c d is f answer answers);
   got = λ t w run m cpus k c d is g f answers decided.
       let stock = answers.4.2 in
-      leads_took t w run m cpus k c is d g f answers.1 (with_view c.stock_seat answers.3) answers.2 answers.0 answers.5
+      watched t m c d _ (leads_took t w run m cpus k c is d g f answers.1 (with_view c.stock_seat answers.3) answers.2 answers.0 answers.5
       (ap (λ (s : Stock). number_or_0 (stocks.group_of s)) answers.4.1) (ap (λ v. number_or_0 (stocks.group_of v.last)) stock)
-      (decided_here t w run m cpus k c is (λ x. IsAnswer x c.number (Consume g) Took) (consume_same c.number g) (decided zero));
+      (decided_here t w run m cpus k c is (λ x. IsAnswer x c.number (Consume g) Took) (consume_same c.number g) (decided zero)));
   listed = λ t w run m cpus k c d is f stands answers decided.
-      leads_listed t w run m cpus k c is d f answers.0 (with_view c.stock_seat answers.3) _ answers.1 answers.2 answers.5
+      watched t m c d _ (leads_listed t w run m cpus k c is d f answers.0 (with_view c.stock_seat answers.3) _ answers.1 answers.2 answers.5
       (ap (λ v. stocks.group_of v.last) answers.4.3 ∙ sym (ap stocks.group_of answers.4.2))
       (decided_here t w run m cpus k c is (λ x. IsAnswer x c.number (Credit f) Back)
-      (λ x y same h. ap (λ (part : Part). part.stock.is_drained) (sym same) ∙ h) (decided zero));
+      (λ x y same h. ap (λ (part : Part). part.stock.is_drained) (sym same) ∙ h) (decided zero)));
 }
   where
     pin_there : (f : ℕ) (c d : KnownCpu) → IsPermutation c.pins (f ∷ d.pins) → 1 ≤ parts.times f c.pins
@@ -469,7 +474,7 @@ fast_calls_lead = record {
         omega arith
 
     puts : (t : KnownTable) (w : Words) (run : Run) (m : KnownMachine) (cpus : List KnownCpu) (k : ℕ) (c d : KnownCpu) → IsPart t w run m cpus k c →
-        (f : ℕ) (answer : Putted) → UnpinAnswers f answer c d → Makes t (visit_state m c) (cpu_makes c.number (Put f) (put_answer answer) ∷ []) (visit_state m d)
+        (f : ℕ) (answer : Putted) → UnpinAnswers f answer c d → LeadsAs t c.number (visit_state m c) (cpu_makes c.number (Put f) (put_answer answer) ∷ []) (visit_state m d)
     puts t w run m cpus k c d is f (put.Left n) answers =
         leads_left t w run m cpus k c is d f n (pin_there f c d answers.0) d.pins answers.1 answers.2.2 answers.3
     puts t w run m cpus k c d is f put.Last answers =

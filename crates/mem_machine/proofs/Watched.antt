@@ -4,7 +4,7 @@ use Rattle.frame_word.specs.Seats.{KnownTable}
 use Rattle.stock_word.specs.Stock.{Words}
 use Rattle.cpu_part.specs.Cpus.{KnownCpu}
 use Rattle.step_watch.specs.Watched.{KnownWatch}
-use Rattle.mem_machine.specs.Machines.{KnownMachine, VisitState, IsConsistent, Visits, visit_state}
+use Rattle.mem_machine.specs.Machines.{KnownMachine, VisitState, IsConsistent, Visits, visit_state, with_watch}
 use Rattle.mem_machine.specs.Lending.{LendsFrame, LendsOne, TakesOneBack}
 use Rattle.mem_machine.specs.Settling.{KeepsFresh, DropsFresh, ReturnsBack}
 use Rattle.mem_machine.specs.Releasing.{LeavesReferences, ReturnsUnit}
@@ -12,10 +12,6 @@ use Rattle.mem_machine.specs.Evicting.{MissesUnit, EvictsUnit}
 use Rattle.mem_machine.specs.Blocks.{TakesBlock, TakesNoBlock}
 use Rattle.mem_machine.specs.Paying.{PaysForFront}
 use Rattle.mem_machine.specs.Stocks.{DrainsBy, Fills}
-
--- the machine with another watch
-abbrev pub with_watch : KnownMachine → KnownWatch → KnownMachine
-with_watch n v = record n { watch = v }
 
 pub consistent_still : (t : KnownTable) (w : Words) (n : KnownMachine) (v : KnownWatch) → IsConsistent t w n → IsConsistent t w (with_watch n v)
 consistent_still t w n v ok = record {

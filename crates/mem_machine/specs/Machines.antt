@@ -58,6 +58,10 @@ pub record KnownMachine : Type 0 where
 abbrev pub with_note : KnownMachine → Note → KnownMachine
 with_note machine note = record machine { notes = noted machine.notes note }
 
+-- the machine with another watch
+abbrev pub with_watch : KnownMachine → KnownWatch → KnownMachine
+with_watch machine watch = record machine { watch = watch }
+
 -- an empty list
 abbrev pub no_queue : Queue
 no_queue = record { oldest = None; newest = None; length = 0 }

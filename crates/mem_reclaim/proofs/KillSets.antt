@@ -149,7 +149,7 @@ one_killed t limited g m b n had had_is kills marked drained stocks none_kept ke
       kills = record {
         steps = kills.steps;
         kills = record { killed = b; kills = kills.kills; noted = refl };
-        runs = λ c. record { leads = (kills.runs c).leads; follows = (kills.runs c).follows; counts = (kills.runs c).counts };
+        runs = λ c. record { leads = (kills.runs c).leads; follows = (kills.runs c).follows; counts = (kills.runs c).counts; watched = (kills.runs c).watched };
         these = record {
           killed = ap kills_in once.front ∙ ap (λ (l : List ℕ). g ∷ l) (quiet_kills once.later once.quiet);
           no_miss = λ f.
@@ -274,7 +274,7 @@ below_all t limited head m k now s all = subst (λ (x : ℕ). KilledSo t (alive_
 
 pub subtree_killed : (t : KnownTable) (limited head : ℕ) (m a b n : KnownMachine) → a ≡ with_note m (group_kill_note m head)
     → KilledSo t (alive_below a head) (KillsAll t limited (alive_below a head)) a b
-    → n ≡ record b { ledger = with_group_kill_noted b.ledger head } → ((g : ℕ) → current_of n.ledger g ≡ current_of b.ledger g)
+    → n ≡ record b { ledger = with_group_kill_noted b.ledger head; watch = n.watch } → ((g : ℕ) → current_of n.ledger g ≡ current_of b.ledger g)
     → MakesForAny t b (note_group_kill_steps head) n → KilledSo t (alive_below m head) (KillsSubtree t limited head) m n
 subtree_killed t limited head m a b n noted so_a counted usage runs =
     let note : Note = group_kill_note m head in
@@ -288,7 +288,7 @@ subtree_killed t limited head m a b n noted so_a counted usage runs =
         kills = record { between = b; killing = killing; kills = so.kills.kills; counted = counted; steps_are = refl };
         runs = λ c.
             makes_both t c.number killing (note_group_kill_steps head) (visit_state m c) (visit_state b c) (visit_state n c)
-            (record { leads = (so.kills.runs c).leads; follows = (so.kills.runs c).follows; counts = (so.kills.runs c).counts }) (runs c);
+            (record { leads = (so.kills.runs c).leads; follows = (so.kills.runs c).follows; counts = (so.kills.runs c).counts; watched = (so.kills.runs c).watched }) (runs c);
         these = record {
           killed = kills_both killing (note_group_kill_steps head) ∙ append-nil (kills_in killing) ∙ these.killed;
           no_miss = λ f.
@@ -346,7 +346,7 @@ victim_killed t limited killed m a n told head_a flag flag_a so_flag =
         head_is = subst (λ (x : KnownMachine). IsHead x.ledger.groups limited killed) told.machine head_a;
         steps = so.kills.steps;
         kills = so.kills.kills;
-        runs = λ c. record { leads = (so.kills.runs c).leads; follows = (so.kills.runs c).follows; counts = (so.kills.runs c).counts };
+        runs = λ c. record { leads = (so.kills.runs c).leads; follows = (so.kills.runs c).follows; counts = (so.kills.runs c).counts; watched = (so.kills.runs c).watched };
         these = record { killed = so.kills.these.killed; no_miss = so.kills.these.no_miss; returned = so.kills.these.returned };
       };
       marked = so.marked;

@@ -22,7 +22,7 @@ use Rattle.cpu_part.specs.Cpus.{KnownCpu}
 use Rattle.step_rules.specs.After.{Run}
 use Rattle.mem_machine.specs.declared.releasing.Released.{Released}
 use Rattle.mem_machine.specs.declared.releasing.Released.TheVariants.{Left, Returned}
-use Rattle.mem_machine.specs.Machines.{KnownMachine, IsConsistent, Visits, home_of, visit_state, lists_of}
+use Rattle.mem_machine.specs.Machines.{KnownMachine, IsConsistent, Visits, home_of, visit_state, lists_of, with_watch}
 use Rattle.mem_machine.specs.Local.{MakesForAny}
 use Rattle.mem_machine.specs.Ageing.{entries_in}
 use Rattle.mem_machine.specs.Lists.{LeavesList}
@@ -407,7 +407,7 @@ quiet_drains (d ∷ rest) = quiet_both (drain_steps d.cpu d.group d.pages) (drai
 -- ---- a group is killed
 
 -- the last puts that are counted grew by the units that the steps of a kill return: drains return none
-last_puts_rise : (v : ℕ) (m a d b n : KnownMachine) → a ≡ with_killed m v → d.counts ≡ a.counts → (drains : List Drain) (first last : Run)
+last_puts_rise : (v : ℕ) (m a d b n : KnownMachine) → a ≡ with_watch (with_killed m v) a.watch → d.counts ≡ a.counts → (drains : List Drain) (first last : Run)
     → Rises d.counts.last_puts (returned_in first) b.counts.last_puts → Rises b.counts.last_puts (returned_in last) n.counts.last_puts
     → Rises m.counts.last_puts (returned_in (drain_stocks_steps drains ++ (first ++ last))) n.counts.last_puts
 last_puts_rise v m a d b n is drained drains first last one two =
@@ -442,7 +442,7 @@ keeps_none_of : (t : KnownTable) (w : Words) (b n : KnownMachine) → IsConsiste
 keeps_none_of t w b n ok_b ok_n v fits first last leaves f Inactive home = none_listed t w b ok_b v fits Inactive first f (leaves f _ home)
 keeps_none_of t w b n ok_b ok_n v fits first last leaves f Active home = none_listed t w n ok_n v fits Active last f home
 
-pub all_killed : (t : KnownTable) (w : Words) (v : ℕ) → v < 64 → (m a d b n : KnownMachine) → a ≡ with_killed m v
+pub all_killed : (t : KnownTable) (w : Words) (v : ℕ) → v < 64 → (m a d b n : KnownMachine) → a ≡ with_watch (with_killed m v) a.watch
     → ((g : ℕ) → current_of a.ledger g ≡ current_of m.ledger g) → MakesForAny t m (kill_steps v) a
     → (pages : ℕ) → DrainsGroup t v pages a d → AreOwnDrained v t.cpus d
     → LetsGoBySteps t (entries_in d v Inactive) d b → entries_in b v Inactive ≡ [] → OnlyLetsGo t d b → KeepsStocks d b → IsConsistent t w b
@@ -468,6 +468,7 @@ all_killed t w v fits m a d b n is usage killed pages drains drained first first
           drains = drains.drains;
           first = first.steps;
           last = last.steps;
+          seen = a.watch;
           stocks = subst (λ (x : KnownMachine). DrainsAllIf (of_group v) t.cpus drains.drains x d) is drains.all;
           inactive = first.lets_go;
           active = last.lets_go;

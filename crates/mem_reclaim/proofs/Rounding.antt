@@ -55,7 +55,7 @@ round_noted t g number want m given x n leads keeps noted =
           missed = leads.moves.missed;
         };
         moves = record {
-          runs = λ c. record { leads = (leads.moves.runs c).leads; follows = (leads.moves.runs c).follows; counts = (leads.moves.runs c).counts };
+          runs = λ c. record { leads = (leads.moves.runs c).leads; follows = (leads.moves.runs c).follows; counts = (leads.moves.runs c).counts; watched = (leads.moves.runs c).watched };
           pages = leads.moves.pages;
           quiet = leads.moves.quiet;
           misses = leads.moves.misses;

@@ -13,7 +13,8 @@ use Rattle.step_rules.specs.After.{Run}
 use Rattle.mem_machine.specs.declared.releasing.Released.{Released}
 use Rattle.kill_notes.specs.declared.note.Note.{Note}
 use Rattle.kill_notes.specs.declared.note.Note.TheVariants as note
-use Rattle.mem_machine.specs.Machines.{HeadsKeptUnit, KnownMachine, Visits, active_in, home_of, inactive_in, visit_state}
+use Rattle.step_watch.specs.Watched.{KnownWatch}
+use Rattle.mem_machine.specs.Machines.{HeadsKeptUnit, KnownMachine, Visits, active_in, home_of, inactive_in, visit_state, with_watch}
 use Rattle.mem_machine.specs.Machines.{with_note}
 use Rattle.mem_machine.specs.Local.{MakesForAny}
 use Rattle.mem_machine.specs.Releasing.{Releases, release_steps}
@@ -55,7 +56,7 @@ with_killed machine group = record machine {
   killed = slice_set machine.killed group true;
 }
 
--- A group is killed. First it is marked as killed. Then its own stocks are drained, one CPU after the other. Then its
+-- A group is killed. First it is marked as killed, which the watch sees. Then its own stocks are drained, one CPU after the other. Then its
 -- kept units, dirty ones included, are released: first the inactive units, then the active ones, each list from the
 -- oldest on.
 pub record KillsGroup (table : KnownTable) (group : ℕ) (before : KnownMachine) (steps : Run)
@@ -65,7 +66,8 @@ pub record KillsGroup (table : KnownTable) (group : ℕ) (before : KnownMachine)
   pub drains : List Drain
   pub first : Run
   pub last : Run
-  pub stocks : DrainsAllIf (of_group group) table.cpus drains (with_killed before group) drained
+  pub seen : KnownWatch
+  pub stocks : DrainsAllIf (of_group group) table.cpus drains (with_watch (with_killed before group) seen) drained
   pub inactive : LetsGoAll (inactive_in drained group) drained first between
   pub active : LetsGoAll (active_in between group) between last after
   pub steps_are : steps ≡ kill_steps group ++ (drain_stocks_steps drains ++ (first ++ last))
@@ -136,7 +138,7 @@ pub record KillsSubtree (table : KnownTable) (limited head : ℕ) (before : Know
   pub killing : Run
   pub kills : KillsAll table limited (alive_below before head) (with_note before (group_kill_note before head))
       killing between
-  pub counted : after ≡ record between { ledger = with_group_kill_noted between.ledger head }
+  pub counted : after ≡ record between { ledger = with_group_kill_noted between.ledger head; watch = after.watch }
   pub steps_are : steps ≡ killing ++ note_group_kill_steps head
 
 -- these steps kill exactly these groups, in this order; none of them is a freeze that missed; and the machine's last

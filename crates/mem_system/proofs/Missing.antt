@@ -10,7 +10,7 @@ use Rattle.control_files.specs.declared.file.File.{File}
 use Rattle.control_files.specs.declared.file.File.TheVariants.{Max, OomGroup, Reclaim}
 use Rattle.zone_sizes.specs.declared.config.Config.{Config}
 use Rattle.mem_machine.specs.declared.releasing.Released.TheVariants as released
-use Rattle.mem_machine.specs.Machines.{KnownMachine}
+use Rattle.mem_machine.specs.Machines.{KnownMachine, with_watch}
 use Rattle.mem_machine.specs.Local.{VisitState, visit_state}
 use Rattle.mem_machine.specs.Releasing.{release_steps}
 use Rattle.mem_machine.specs.Steps.{drain_list_steps, drain_stocks_steps, lend_steps, make_steps, remove_steps, set_max_steps, set_oom_group_steps}
@@ -76,7 +76,7 @@ keeps_counts g (Some limit) way h = above_counts g limit way h
 sets_counts : (g : ℕ) (of : Option ℕ) (way : Transition KnownMachine) → SetsLimit g of way → CountsMisses way
 sets_counts g of way h =
     let t = way.table in
-    let x = with_limit_of way.before g of in
+    let x = with_watch (with_limit_of way.before g of) h.seen in
     counts_as t way.before way.after way.steps (set_max_steps g of ++ h.lowering) h.steps_are
     (counts_both t way.before x way.after (set_max_steps g of) h.lowering
     (counts_same t way.before x (set_max_steps g of) (record { quiet = refl; no_miss = λ f. refl }) refl)

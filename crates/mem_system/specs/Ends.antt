@@ -10,7 +10,7 @@ use Rattle.stock_word.specs.Stock.{Words, Seated, account_of, view_in, word_of, 
 use Rattle.stock_word.specs.StockRule.{IsStockOf, stock_place, report_place}
 use Rattle.group_tree.specs.Room.{max_count}
 use Rattle.cpu_part.specs.Cpus.{KnownCpu, IsTied, IsIdle}
-use Rattle.mem_machine.specs.Machines.{KnownMachine, IsConsistent, home_of}
+use Rattle.mem_machine.specs.Machines.{KnownMachine, IsConsistent, home_of, with_watch}
 use Rattle.mem_machine.specs.Settling.{Settles}
 use Rattle.mem_machine.specs.Lending.{TakesManyBack}
 use Rattle.mem_machine.specs.Stocks.{Drains, stock_group}
@@ -20,7 +20,8 @@ use Rattle.mem_system.specs.declared.audit.Audit.{Audit}
 use Rattle.mem_system.specs.Locked.{KnownLocked, IsQuiet}
 use Rattle.mem_machine.specs.Local.{VisitState, visit_state}
 use Rattle.mem_system.specs.Commands.{Transition, BySteps}
-use Rattle.mem_system.specs.Visits.{with_visit_of, visited, visit_steps}
+use Rattle.mem_system.specs.Visits.{with_visit_of, with_watch_at, visited, visit_steps}
+use Rattle.step_watch.specs.Watched.{KnownWatch}
 
 -- how many pins the CPUs have together
 abbrev pub pins_of : List KnownCpu → ℕ
@@ -33,18 +34,21 @@ drops_of cpus = sum_by (λ cpu. cpu.drops) cpus
 -- the CPU is settled in a visit
 pub record SettlesInVisit (way : Transition VisitState) : Type 0 where
   pub settled : KnownMachine
-  pub settles : Settles (visited way.before) (visit_state settled way.after.cpu)
-  pub machine : way.after.machine ≡ with_visit_of settled way.before.cpu.number 0
+  pub seen : KnownWatch
+  pub settles : Settles (with_watch_at (visited way.before) seen) (visit_state settled way.after.cpu)
+  pub machine : way.after.machine ≡ with_watch (with_visit_of settled way.before.cpu.number 0) way.after.machine.watch
   pub steps_are : way.steps ≡ visit_steps way.before []
 
 -- in a visit, all frames of the CPU's list are returned to the zone, and then its stock is drained
 pub record Empties (way : Transition VisitState) : Type 0 where
   pub emptied : KnownMachine
-  pub takes : TakesManyBack way.before.cpu.list (visited way.before) (visit_state emptied way.after.cpu)
+  pub seen : KnownWatch
+  pub takes : TakesManyBack way.before.cpu.list (with_watch_at (visited way.before) seen)
+      (visit_state emptied way.after.cpu)
   pub pages : ℕ
   pub drained : KnownMachine
   pub drains : Drains way.before.cpu.number pages emptied drained
-  pub machine : way.after.machine ≡ with_visit_of drained way.before.cpu.number 0
+  pub machine : way.after.machine ≡ with_watch (with_visit_of drained way.before.cpu.number 0) way.after.machine.watch
   pub steps_are : way.steps ≡ open_steps way.before.cpu.number
       ++ (drain_list_steps way.before.cpu.number way.before.cpu.list
       ++ (drain_steps way.before.cpu.number (stock_group emptied way.before.cpu.number) pages

@@ -13,7 +13,7 @@ use Rattle.control_files.specs.Files.{name_of, file_text, is_writable}
 use Rattle.control_files.specs.Flag.{IsFlagText, IsNoFlagText}
 use Rattle.control_files.specs.Limit.{ReadsAmount, ReadsAs, IsTooGreat, IsNoAmountText, IsNoLimitText}
 use Rattle.step_rules.specs.After.{Run}
-use Rattle.mem_machine.specs.Machines.{KnownMachine, KeepsVisit, Visits}
+use Rattle.mem_machine.specs.Machines.{KnownMachine, KeepsVisit, Visits, with_watch}
 use Rattle.mem_machine.specs.Local.{visit_state}
 use Rattle.mem_machine.specs.Steps.{set_max_steps, set_oom_group_steps}
 use Rattle.mem_reclaim.specs.Moves.{Leads}
@@ -23,6 +23,7 @@ use Rattle.mem_alloc.specs.Stepping.{Transition, MachineStays, transition}
 use Rattle.mem_system.specs.declared.command.Reply.{Reply}
 use Rattle.mem_system.specs.declared.command.Reply.TheVariants.{Text, Done, Refused}
 use Rattle.mem_system.specs.Usage.{KeepsToLimit}
+use Rattle.step_watch.specs.Watched.{KnownWatch}
 
 -- the visit of each CPU that was visited before is kept
 abbrev pub KeepsAnyVisit : KnownTable → (before after : KnownMachine) → Type 0
@@ -68,7 +69,9 @@ with_limit_of machine group limit = record machine { ledger = with_group_limit m
 -- the group gets the limit, and then its usage is kept to it
 pub record SetsLimit (group : ℕ) (limit : Option ℕ) (way : Transition KnownMachine) : Type 0 where
   pub lowering : Run
-  pub keeps : KeepsToLimit group limit (transition way.table (with_limit_of way.before group limit) lowering way.after)
+  pub seen : KnownWatch
+  pub keeps : KeepsToLimit group limit
+      (transition way.table (with_watch (with_limit_of way.before group limit) seen) lowering way.after)
   pub steps_are : way.steps ≡ set_max_steps group limit ++ lowering
 
 -- the value is the text of a limit, and the group gets that limit
@@ -83,7 +86,7 @@ with_flag_of machine group flag = record machine { ledger = with_oom_flag machin
 
 -- the group gets the flag, by one step, and nothing else changes: nobody is killed, and nothing is noted
 pub record SetsFlag (group : ℕ) (flag : Bool) (way : Transition KnownMachine) : Type 0 where
-  pub machine : way.after ≡ with_flag_of way.before group flag
+  pub machine : way.after ≡ with_watch (with_flag_of way.before group flag) way.after.watch
   pub steps_are : way.steps ≡ set_oom_group_steps group flag
 
 -- the value is the text of a flag, and the group gets that flag

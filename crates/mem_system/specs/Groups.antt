@@ -32,7 +32,8 @@ pub record RemovesGroup (path : List ℕ) (way : Transition KnownMachine) : Type
   pub emptied : KnownMachine
   pub lowers : LowersUsage group 0 (transition way.table way.before lowering emptied)
   pub empty : current_of emptied.ledger group ≡ 0
-  pub machine : way.after ≡ record emptied { ledger = with_group_removed emptied.ledger group }
+  pub machine : way.after
+      ≡ record emptied { ledger = with_group_removed emptied.ledger group; watch = way.after.watch }
   pub steps_are : way.steps ≡ lowering ++ remove_steps group
 
 -- the usage of the group is lowered as far as possible, and pages are still charged to it

@@ -6,7 +6,7 @@ use Rattle.stock_word.specs.Stock.{Words}
 use Rattle.group_tree.specs.Groups.{number_at}
 use Rattle.cpu_part.specs.Cpus.{KnownCpu}
 use Rattle.step_rules.specs.After.{Run}
-use Rattle.mem_machine.specs.Machines.{KnownMachine}
+use Rattle.mem_machine.specs.Machines.{KnownMachine, with_watch}
 use Rattle.mem_machine.specs.Local.{VisitState, visit_state, Makes}
 use Rattle.mem_machine.specs.Settling.{Settles, settle_steps}
 use Rattle.mem_machine.specs.Steps.{open_steps, shut_steps}
@@ -23,6 +23,7 @@ use Rattle.mem_system.specs.Outcomes.{reply_of}
 use Rattle.mem_system.specs.Locked.{KnownLocked, IsSound}
 use Rattle.mem_system.specs.Asks.{MayAskFor}
 use Rattle.mem_system.specs.Commands.{Executes, ListAndFreshStayWithin}
+use Rattle.step_watch.specs.Watched.{KnownWatch}
 
 -- the machine with the CPU's visit open (1) or shut (0)
 abbrev pub with_visit_of : KnownMachine → (processor state : ℕ) → KnownMachine
@@ -36,6 +37,10 @@ visited before = visit_state (with_visit_of before.machine before.cpu.number 1) 
 -- the visit state after all earlier notes are forgotten and the CPU's visit is opened
 abbrev pub begun : VisitState → VisitState
 begun before = visited (visit_state (record before.machine { notes = [] }) before.cpu)
+
+-- the visit state with another watch
+abbrev pub with_watch_at : VisitState → KnownWatch → VisitState
+with_watch_at now watch = visit_state (with_watch now.machine watch) now.cpu
 
 -- what lies behind the lock, with the part of the CPU that holds it
 pub record LockedState : Type 0 where
@@ -60,14 +65,16 @@ visit_steps before inner =
 -- its own steps kill. The misses that are noted are those among its steps.
 pub record Serves (cmd : Cmd) (reply : Reply) (way : Transition LockedState) : Type 0 where
   pub settled : VisitState
-  pub settles : Settles (begun (visit_state_of way.before)) settled
+  pub seen : KnownWatch
+  pub settles : Settles (with_watch_at (begun (visit_state_of way.before)) seen) settled
   pub inner : Run
   pub done : KnownMachine
   pub executes : Executes way.before.locked.sizes cmd reply (transition way.table settled inner (visit_state done way.after.cpu))
   pub no_rash : NoRashKill way.table (MayAskFor cmd settled.machine.ledger.groups) settled.machine settled.cpu inner
   pub only_inner : has_kill (visit_steps (visit_state_of way.before) []) ≡ false
   pub misses : CountsMisses (transition way.table settled.machine inner done)
-  pub machine : way.after.locked.machine ≡ with_visit_of done way.before.cpu.number 0
+  pub machine : way.after.locked.machine
+      ≡ with_watch (with_visit_of done way.before.cpu.number 0) way.after.locked.machine.watch
   pub sizes : way.after.locked.sizes ≡ way.before.locked.sizes
   pub steps_are : way.steps ≡ visit_steps (visit_state_of way.before) inner
 

@@ -1,9 +1,11 @@
 //! What lies behind the zone's lock.
 
-ghost use Rattle.std.specs.Prelude.{◌≡◌};
+ghost use Rattle.std.specs.Prelude.{◌≡◌, ◌∷◌, []};
 ghost use Rattle.group_tree.specs.Groups.{number_at};
 ghost use Rattle.group_charge.specs.Charges.{AreCharges};
-ghost use Rattle.mem_machine.specs.Machines.{IsConsistent};
+ghost use Rattle.step_watch.specs.Watched.{Watches};
+ghost use Rattle.mem_machine.specs.Machines.{IsConsistent, with_watch};
+ghost use Rattle.mem_machine.specs.Steps.{cpu_makes};
 ghost use Rattle.mem_system.specs.Locked.{IsQuiet};
 
 use cpu_part::BootName;
@@ -12,6 +14,8 @@ use group_charge::charges::Charges;
 use group_tree::group::GroupId;
 use mem_machine::Machine;
 use std::marker::Model;
+use step_rules::step::{Action, Answer};
+use step_watch::Watch;
 use stock_word::StockSeat;
 use zone_sizes::config::Config;
 
@@ -69,5 +73,29 @@ impl<N: BootName> Locked<N> {
         ensures { result.now ≡ self.now.machine.ledger }
     {
         self.machine.charges()
+    }
+
+    /// Puts a watch into the machine. A boot does this before the first step.
+    pub fn set_watch(&mut self, watch: Watch)
+        ensures { self.new ≡ record self.old { machine = with_watch self.old.machine watch } }
+    {
+        self.machine.set_watch(watch);
+    }
+
+    /// The watch of the machine.
+    pub fn watch(&self) -> &Watch
+        ensures { result.now ≡ self.now.machine.watch }
+    {
+        self.machine.watch()
+    }
+
+    /// The machine's watch takes a step of a CPU's seat that no command takes: a lock, an unlock, or a step that the
+    /// CPU makes without the lock. Nothing else changes.
+    #[inline(always)]
+    pub fn take_step(&mut self, number: u32, action: Action, answer: Answer)
+        ensures locked { self.new ≡ record self.old { machine = with_watch self.old.machine self.new.machine.watch } }
+        ensures watched { Watches self.old.machine.watch (cpu_makes number action answer ∷ []) self.new.machine.watch }
+    {
+        self.machine.take_step(number, action, answer);
     }
 }

@@ -3,12 +3,9 @@ use Rattle.std.specs.Prelude.{Err, IfErr}
 use Rattle.group_tree.specs.Groups.{has_group}
 use Rattle.group_tree.proofs.CallerLemmas.{in_subtree-above}
 use Rattle.mem_machine.specs.Machines.{KnownMachine}
-use Rattle.mem_machine.specs.Local.{MakesAs, visit_state}
-use Rattle.mem_machine.specs.Steps.{over_steps}
-use Rattle.cpu_part.specs.Cpus.{KnownCpu}
 use Rattle.mem_alloc.specs.Stepping.{ByStepsOfAny}
 use Rattle.mem_alloc.specs.Room.{HasMadeRoom, RelievesLimit, TellsRoom, has_room_at}
-use Rattle.mem_alloc.proofs.Lowering.{lowered_visit, usages_fall}
+use Rattle.mem_alloc.proofs.Lowering.{Lowers, lowered_visit, lowers_both, usages_fall, watched_lowers}
 use Rattle.mem_alloc.proofs.Killing.{relieving_lowers}
 use Rattle.mem_alloc.proofs.Making.{answer_is, so_far_more, so_far_over}
 use Rattle.mem_alloc.proofs.Taking.{is_refused, by_refusal, is_none, by_none, so_far_takes, so_far_no_block, room_still, none_opened, over_charges, over_not_none}
@@ -48,9 +45,10 @@ pub tries-smaller : goal.tries-smaller
 tries-smaller g c =
     let r = is_refused _ _ c.args.group c.args.order c.in-Err-Over.field-0 c.in-Err-Over.over c.in-Err-Over.field-0-is c.in-Err-Over.ensures.refuses in
     usages_fall g.N.BootName.frames c.tries.machine c.make_room.new.machine c.in-Err-Over.over.group (2 ^ c.args.order)
-    (relieving_lowers g.N.BootName.frames c.args.group c.in-Err-Over.over.group c.frames-pages.result c.tries.machine c.make_room.new.machine
-    (subst (λ (y : KnownMachine). ByStepsOfAny g.N.BootName.frames (RelievesLimit c.args.group c.in-Err-Over.over.group c.frames-pages.result)
-    y c.make_room.new.machine) r.1
+    (lowers_both g.N.BootName.frames _ _ _
+    (subst (λ (y : KnownMachine). Lowers g.N.BootName.frames c.tries.machine y) (sym r.1)
+    (watched_lowers g.N.BootName.frames c.tries.machine c.take_block.new.self.watch))
+    (relieving_lowers g.N.BootName.frames c.args.group c.in-Err-Over.over.group c.frames-pages.result c.take_block.new.self c.make_room.new.machine
     c.make_room.ensures.relieves)) c.make_room.ensures.below r.0.over
     (subst (λ (n : ℕ). has_room_at c.make_room.new.machine.ledger c.in-Err-Over.over.group n ≡ true) c.frames-pages.ensures.frames
     c.in_ok-make_room-in-Err-Over.ensures.room.room)
@@ -61,12 +59,11 @@ tries-preserved g c =
     let relieves = subst (λ (n : ℕ). ByStepsOfAny g.N.BootName.frames (RelievesLimit c.args.group c.in-Err-Over.over.group n)
     c.take_block.new.self c.make_room.new.machine) c.frames-pages.ensures.frames c.make_room.ensures.relieves in
     let r = is_refused _ _ c.args.group c.args.order c.in-Err-Over.field-0 c.in-Err-Over.over c.in-Err-Over.field-0-is c.in-Err-Over.ensures.refuses in
-    let run = subst (λ (z : KnownMachine × KnownCpu). MakesAs t c.tries.cpu.number (visit_state c.tries.machine c.tries.cpu)
-    (over_steps c.args.group (2 ^ c.args.order) c.in-Err-Over.over.group) (visit_state z.0 z.1)) (λ i. (r.1 i, c.in-Err-Over.ensures.cpu i))
-    (by_refusal c.tries.cpu.number c.args.group c.args.order _ _ c.in-Err-Over.field-0 c.in-Err-Over.over c.in-Err-Over.field-0-is
-    c.in-Err-Over.ensures.steps) in (
+    let run = by_refusal c.tries.cpu.number c.args.group c.args.order _ _ c.in-Err-Over.field-0 c.in-Err-Over.over c.in-Err-Over.field-0-is
+    c.in-Err-Over.ensures.steps in (
       so_far_more t c.args.group (2 ^ c.args.order) c.args.cpu.now c.args.machine.now c.tries.machine c.tries.invariant.0 c.take_block.new.self c.tries.machine
-          c.make_room.new.machine c.tries.cpu c.in-Err-Over.over.group r.1 c.tries.invariant.1 r.0 refl run relieves
+          c.make_room.new.machine c.tries.cpu c.take_block.new.cpu c.in-Err-Over.over.group r.1 c.tries.invariant.1
+    (c.in-Err-Over.ensures.cpu ∙ c.tries.invariant.1) r.0 refl run relieves
           (subst (λ (n : ℕ). HasMadeRoom c.args.group c.in-Err-Over.over.group n c.make_room.new.machine) c.frames-pages.ensures.frames
           c.in_ok-make_room-in-Err-Over.ensures.room),
       c.in-Err-Over.ensures.cpu ∙ c.tries.invariant.1,
@@ -78,16 +75,15 @@ returns-in_err-make_room-in-Err-Over-clause-charges g c =
     let relieves = subst (λ (n : ℕ). ByStepsOfAny g.N.BootName.frames (RelievesLimit c.args.group c.in-Err-Over.over.group n)
     c.take_block.new.self c.make_room.new.machine) c.frames-pages.ensures.frames c.make_room.ensures.relieves in
     let r = is_refused _ _ c.args.group c.args.order c.in-Err-Over.field-0 c.in-Err-Over.over c.in-Err-Over.field-0-is c.in-Err-Over.ensures.refuses in
-    let run = subst (λ (z : KnownMachine × KnownCpu). MakesAs t c.tries.cpu.number (visit_state c.tries.machine c.tries.cpu)
-    (over_steps c.args.group (2 ^ c.args.order) c.in-Err-Over.over.group) (visit_state z.0 z.1)) (λ i. (r.1 i, c.in-Err-Over.ensures.cpu i))
-    (by_refusal c.tries.cpu.number c.args.group c.args.order _ _ c.in-Err-Over.field-0 c.in-Err-Over.over c.in-Err-Over.field-0-is
-    c.in-Err-Over.ensures.steps) in
+    let run = by_refusal c.tries.cpu.number c.args.group c.args.order _ _ c.in-Err-Over.field-0 c.in-Err-Over.over c.in-Err-Over.field-0-is
+    c.in-Err-Over.ensures.steps in
     let x = c.in_err-make_room-in-Err-Over.field-0.0 in
     let is : IfErr c.from_residual.result (λ e. e ≡ x) = search rules in
     over_charges t c.args.group c.args.order c.from_residual.result x c.args.machine.now c.make_room.new.machine c.args.cpu.now
     c.take_block.new.cpu (answer_is c.from_residual.result x c.from_residual.ensures.0 is) (c.in-Err-Over.ensures.cpu ∙ c.tries.invariant.1)
     (so_far_over t c.args.group (2 ^ c.args.order) c.args.cpu.now c.args.machine.now c.tries.machine c.tries.invariant.0 c.take_block.new.self c.tries.machine
-    c.make_room.new.machine c.tries.cpu c.in-Err-Over.over.group r.1 c.tries.invariant.1 r.0 refl run relieves x
+    c.make_room.new.machine c.tries.cpu c.take_block.new.cpu c.in-Err-Over.over.group r.1 c.tries.invariant.1
+    (c.in-Err-Over.ensures.cpu ∙ c.tries.invariant.1) r.0 refl run relieves x
     (subst (λ (n : ℕ). TellsRoom c.args.group c.in-Err-Over.over.group n (Err x) c.make_room.new.machine) c.frames-pages.ensures.frames
     c.in_err-make_room-in-Err-Over.ensures.room))
 

@@ -3,9 +3,7 @@ use Rattle.std.specs.Prelude.{IfErr}
 use Rattle.group_tree.specs.Groups.{has_group}
 use Rattle.group_tree.proofs.CallerLemmas.{in_subtree-above}
 use Rattle.mem_machine.specs.Machines.{KnownMachine}
-use Rattle.mem_alloc.specs.Stepping.{ByStepsOfAny}
-use Rattle.mem_alloc.specs.Room.{RelievesLimit}
-use Rattle.mem_alloc.proofs.Lowering.{lowered_visit, usages_fall}
+use Rattle.mem_alloc.proofs.Lowering.{Lowers, lowered_visit, lowers_both, usages_fall, watched_lowers}
 use Rattle.mem_alloc.proofs.Killing.{relieving_lowers}
 use Rattle.mem_alloc.proofs.Making.{answer_is, refuses_one, so_far_fills, so_far_more, so_far_over}
 use Rattle.mem_alloc.proofs.charging.fill_one.Goals as goal
@@ -23,14 +21,16 @@ make_room-requires g c =
 pub tries-smaller : goal.tries-smaller
 tries-smaller g c =
     usages_fall g.N.BootName.frames c.tries.machine c.make_room.new.machine c.in-Err.over.group 1
-    (relieving_lowers g.N.BootName.frames c.args.group c.in-Err.over.group 1 c.tries.machine c.make_room.new.machine
-    (subst (λ (y : KnownMachine). ByStepsOfAny g.N.BootName.frames (RelievesLimit c.args.group c.in-Err.over.group 1) y c.make_room.new.machine) c.in-Err.ensures.unchanged.machine
-    c.make_room.ensures.relieves)) c.make_room.ensures.below c.in-Err.ensures.over.over c.in_ok-make_room.ensures.room.room
+    (lowers_both g.N.BootName.frames _ _ _
+    (subst (λ (y : KnownMachine). Lowers g.N.BootName.frames c.tries.machine y) (sym c.in-Err.ensures.unchanged.machine)
+    (watched_lowers g.N.BootName.frames c.tries.machine c.fill_stock.new.self.watch))
+    (relieving_lowers g.N.BootName.frames c.args.group c.in-Err.over.group 1 c.fill_stock.new.self c.make_room.new.machine c.make_room.ensures.relieves)) c.make_room.ensures.below c.in-Err.ensures.over.over c.in_ok-make_room.ensures.room.room
 
 pub tries-preserved : goal.tries-preserved
 tries-preserved g c = (
   so_far_more g.N.BootName.frames c.args.group 1 c.args.cpu.now c.args.machine.now c.tries.machine c.tries.invariant.0 c.fill_stock.new.self c.tries.machine
-      c.make_room.new.machine c.tries.cpu c.in-Err.over.group c.in-Err.ensures.unchanged.machine c.tries.invariant.1 c.in-Err.ensures.over refl
+      c.make_room.new.machine c.tries.cpu c.fill_stock.new.cpu c.in-Err.over.group c.in-Err.ensures.unchanged.machine c.tries.invariant.1
+      (c.in-Err.ensures.unchanged.cpu ∙ c.tries.invariant.1) c.in-Err.ensures.over refl
       c.in-Err.ensures.refused c.make_room.ensures.relieves c.in_ok-make_room.ensures.room,
   c.in-Err.ensures.unchanged.cpu ∙ c.tries.invariant.1,
 )
@@ -43,7 +43,8 @@ returns-in_err-make_room-clause-charges g c =
     refuses_one g.N.BootName.frames c.args.group r x c.args.machine.now c.args.cpu.now c.make_room.new.machine
     c.fill_stock.new.cpu (answer_is r x c.from_residual.ensures.0 is) (c.in-Err.ensures.unchanged.cpu ∙ c.tries.invariant.1)
     (so_far_over g.N.BootName.frames c.args.group 1 c.args.cpu.now c.args.machine.now c.tries.machine c.tries.invariant.0 c.fill_stock.new.self c.tries.machine
-    c.make_room.new.machine c.tries.cpu c.in-Err.over.group c.in-Err.ensures.unchanged.machine c.tries.invariant.1 c.in-Err.ensures.over refl
+    c.make_room.new.machine c.tries.cpu c.fill_stock.new.cpu c.in-Err.over.group c.in-Err.ensures.unchanged.machine c.tries.invariant.1
+      (c.in-Err.ensures.unchanged.cpu ∙ c.tries.invariant.1) c.in-Err.ensures.over refl
     c.in-Err.ensures.refused c.make_room.ensures.relieves x c.in_err-make_room.ensures.room)
 
 pub returns-in_err-make_room-clause-visit : goal.returns-in_err-make_room-clause-visit

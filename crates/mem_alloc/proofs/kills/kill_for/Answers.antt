@@ -2,40 +2,36 @@ use Rattle.std.proofs.Common.{◌≡◌, false, Option, Some, sym, ap, ◌∙◌
 use Rattle.std.specs.Prelude.{IfSome}
 use Rattle.std.proofs.lemmas.Bool.{false≢true}
 use Rattle.group_charge.specs.Charges.{AreCharges, Ledger}
-use Rattle.kill_notes.specs.declared.note.Note.TheVariants.{Oom}
-use Rattle.mem_machine.specs.Machines.{KnownMachine, with_note}
+use Rattle.mem_machine.specs.Machines.{KnownMachine}
 use Rattle.mem_reclaim.specs.declared.sets.Killed.{Killed}
 use Rattle.mem_reclaim.specs.Killing.{IsKilledBy, KillsVictim, victim_of, with_all_killed}
 use Rattle.mem_reclaim.specs.Sets.{kill_set}
 use Rattle.mem_reclaim.specs.Victim.{IsVictim}
-use Rattle.mem_alloc.specs.Kills.{KillsFor, has_room_at, with_oom_noted_at}
+use Rattle.mem_alloc.specs.Kills.{KillsFor, has_room_at}
 use Rattle.mem_alloc.specs.Stepping.{ByStepsOfAny}
-use Rattle.mem_alloc.proofs.Killing.{KillsSoFar, fewer_alive, kills_end, so_far_killed, so_far_nobody, so_far_there}
+use Rattle.mem_alloc.proofs.Killing.{fewer_alive, kills_end, so_far_killed, so_far_nobody, so_far_there}
 use Rattle.mem_alloc.proofs.kills.kill_for.Goals as goal
 
 pub kills-init : goal.kills-init
 kills-init g c =
-    let t = g.N.BootName.frames in
-    subst (λ (y : KnownMachine). KillsSoFar c.args.requester t c.args.limited c.args.pages (with_oom_noted_at c.args.machine.now c.args.limited) y)
-    (sym (c.note.ensures ∙ ap (λ (x : KnownMachine). with_note x (Oom c.args.limited)) c.note_oom.ensures.machine))
-    (so_far_nobody c.args.requester t c.args.limited c.args.pages (with_oom_noted_at c.args.machine.now c.args.limited))
+    so_far_nobody c.args.requester g.N.BootName.frames c.args.limited c.args.pages c.args.machine.now c.note_oom.new.self c.note.new.self
+    c.note_oom.ensures.machine c.note_oom.ensures.steps c.note.ensures
 
 pub is_wanting-requires : goal.is_wanting-requires
 is_wanting-requires g c =
-    so_far_there c.args.requester g.N.BootName.frames c.args.limited c.args.pages (with_oom_noted_at c.args.machine.now c.args.limited) c.kills.machine
+    so_far_there c.args.requester g.N.BootName.frames c.args.limited c.args.pages c.args.machine.now c.kills.machine
     c.kills.invariant c.requires
 
 pub returns-then-not-is_wanting : goal.returns-then-not-is_wanting
 returns-then-not-is_wanting g c =
     let over : has_room_at c.args.machine.now.ledger c.args.limited c.args.pages ≡ false =
     ap (λ (l : Ledger). has_room_at l c.args.limited c.args.pages) (sym c.charges.ensures) ∙ sym c.has_room_at.ensures ∙ c.if-has_room_at.false in
-    kills_end c.args.requester g.N.BootName.frames c.args.limited c.args.pages c.args.machine.now c.note_oom.new.self c.kills.machine over
-    c.note_oom.ensures.machine c.note_oom.ensures.steps c.kills.invariant
+    kills_end c.args.requester g.N.BootName.frames c.args.limited c.args.pages c.args.machine.now c.kills.machine over c.kills.invariant
     (λ wanting. absurd (false≢true (sym c.if-not-is_wanting.true ∙ c.is_wanting.ensures.1 wanting)))
 
 pub kill-requires : goal.kill-requires
 kill-requires g c =
-    so_far_there c.args.requester g.N.BootName.frames c.args.limited c.args.pages (with_oom_noted_at c.args.machine.now c.args.limited) c.kills.machine
+    so_far_there c.args.requester g.N.BootName.frames c.args.limited c.args.pages c.args.machine.now c.kills.machine
     c.kills.invariant c.requires
 
 pub returns-in_default : goal.returns-in_default
@@ -47,8 +43,7 @@ returns-in_default g c =
     let same : c.kill.new.machine ≡ c.kills.machine =
     subst (λ (o : Option Killed). KillsVictim t c.args.limited o c.kills.machine c.kill.new.machine) c.in_default.is c.kill.ensures.kills in
     subst (λ (y : KnownMachine). ByStepsOfAny t (KillsFor c.args.requester c.args.limited c.args.pages) c.args.machine.now y) (sym same)
-    (kills_end c.args.requester t c.args.limited c.args.pages c.args.machine.now c.note_oom.new.self c.kills.machine over
-    c.note_oom.ensures.machine c.note_oom.ensures.steps c.kills.invariant (λ wanting. none))
+    (kills_end c.args.requester t c.args.limited c.args.pages c.args.machine.now c.kills.machine over c.kills.invariant (λ wanting. none))
 
 pub kills-smaller : goal.kills-smaller
 kills-smaller g c =
@@ -76,6 +71,6 @@ kills-preserved g c =
     let kills : IsKilledBy t c.args.limited killed x n = subst (λ (o : Option Killed). KillsVictim t c.args.limited o x n) c.in-Some.is c.kill.ensures.kills in
     let marked : n.killed ≡ with_all_killed x.killed (kill_set x killed) =
     subst (λ (o : Option Killed). IfSome o (λ k. n.killed ≡ with_all_killed x.killed (kill_set x k))) c.in-Some.is c.kill.ensures.marked in
-    so_far_killed c.args.requester t g.N.BootName.stocks c.args.limited c.args.pages killed (with_oom_noted_at c.args.machine.now c.args.limited)
+    so_far_killed c.args.requester t g.N.BootName.stocks c.args.limited c.args.pages killed c.args.machine.now
     x n c.kills.invariant (c.is_wanting.ensures.0 c.if-not-is_wanting.false) c.frame_states-frame_states.ensures.consistent charges most kills
     marked c.kill.ensures.stocks c.kill.ensures.keeps

@@ -14,8 +14,8 @@ reclaim_for-requires g c =
     let sub = c.drain_stocks.ensures.drains in
     let noted : Lowers g.N.BootName.frames c.args.machine.now c.note_max.new.self =
     subst (λ (y : KnownMachine). Lowers g.N.BootName.frames c.args.machine.now y)
-    (sym (c.note_max.ensures.machine ∙ ap (λ (y : KnownMachine). record y { ledger = with_max_noted y.ledger c.args.limited }) c.note_limit.ensures))
-    (note_lowers g.N.BootName.frames c.args.machine.now c.args.limited c.args.pages) in
+    (sym (c.note_max.ensures.machine ∙ ap (λ (y : KnownMachine). record y { ledger = with_max_noted y.ledger c.args.limited; watch = c.note_max.new.self.watch }) c.note_limit.ensures))
+    (note_lowers g.N.BootName.frames c.args.machine.now c.args.limited c.args.pages c.note_max.new.self.watch) in
     let lowers = lowers_both g.N.BootName.frames _ _ _ noted (all_lower g.N.BootName.frames c.args.limited g.N.BootName.frames.cpus _ _ sub.drains sub.all) in
     lowered_there g.N.BootName.frames _ _ c.args.limited lowers c.requires
 
@@ -24,8 +24,8 @@ kill_for_few-requires g c =
     let sub = c.drain_stocks.ensures.drains in
     let noted : Lowers g.N.BootName.frames c.args.machine.now c.note_max.new.self =
     subst (λ (y : KnownMachine). Lowers g.N.BootName.frames c.args.machine.now y)
-    (sym (c.note_max.ensures.machine ∙ ap (λ (y : KnownMachine). record y { ledger = with_max_noted y.ledger c.args.limited }) c.note_limit.ensures))
-    (note_lowers g.N.BootName.frames c.args.machine.now c.args.limited c.args.pages) in
+    (sym (c.note_max.ensures.machine ∙ ap (λ (y : KnownMachine). record y { ledger = with_max_noted y.ledger c.args.limited; watch = c.note_max.new.self.watch }) c.note_limit.ensures))
+    (note_lowers g.N.BootName.frames c.args.machine.now c.args.limited c.args.pages c.note_max.new.self.watch) in
     let lowers = lowers_both g.N.BootName.frames _ _ _ noted (all_lower g.N.BootName.frames c.args.limited g.N.BootName.frames.cpus _ _ sub.drains sub.all) in
     ap (λ (x : List Group). has_group x c.args.limited) c.reclaim_for.ensures.reclaims.does.keeps.groups
     ∙ lowered_there g.N.BootName.frames _ _ c.args.limited lowers c.requires
@@ -35,8 +35,8 @@ has_room_at-requires g c =
     let sub = c.drain_stocks.ensures.drains in
     let noted : Lowers g.N.BootName.frames c.args.machine.now c.note_max.new.self =
     subst (λ (y : KnownMachine). Lowers g.N.BootName.frames c.args.machine.now y)
-    (sym (c.note_max.ensures.machine ∙ ap (λ (y : KnownMachine). record y { ledger = with_max_noted y.ledger c.args.limited }) c.note_limit.ensures))
-    (note_lowers g.N.BootName.frames c.args.machine.now c.args.limited c.args.pages) in
+    (sym (c.note_max.ensures.machine ∙ ap (λ (y : KnownMachine). record y { ledger = with_max_noted y.ledger c.args.limited; watch = c.note_max.new.self.watch }) c.note_limit.ensures))
+    (note_lowers g.N.BootName.frames c.args.machine.now c.args.limited c.args.pages c.note_max.new.self.watch) in
     let lowers = lowers_both g.N.BootName.frames _ _ _ noted (all_lower g.N.BootName.frames c.args.limited g.N.BootName.frames.cpus _ _ sub.drains sub.all) in
     let there : has_group c.reclaim_for.new.machine.ledger.groups c.args.limited ≡ true =
     ap (λ (x : List Group). has_group x c.args.limited) c.reclaim_for.ensures.reclaims.does.keeps.groups

@@ -1,7 +1,7 @@
 use Rattle.std.proofs.Common.{◌≡◌, ℕ, ◌+◌, ◌≤◌, List, length, ap, sym, ◌∙◌, refl, subst}
 use Rattle.group_charge.specs.Charges.{Ledger}
 use Rattle.cpu_part.specs.Cpus.{KnownCpu}
-use Rattle.mem_machine.specs.Machines.{KnownMachine}
+use Rattle.mem_machine.specs.Machines.{KnownMachine, with_watch}
 use Rattle.mem_machine.specs.Local.{MakesAs, visit_state}
 use Rattle.mem_machine.specs.Steps.{open_steps}
 use Rattle.mem_system.specs.Locked.{KnownLocked}
@@ -17,11 +17,11 @@ invariant_of-locked g c =
     let x = c.execute-outcome.new.machine in
     let numbered = c.execute-outcome.ensures.stays.number ∙ c.settle.ensures.others.number ∙ ap (λ (y : KnownCpu). y.number) c.open.ensures.cpu in
     let opened = c.execute-outcome.ensures.stays.opened ∙ settled_opened _ _ _ _ c.settle.ensures.settles
-    ∙ ap (λ (k : KnownMachine). k.frame_seat.view.opened) (c.open.ensures.machine ∙ ap (λ (y : KnownMachine). with_visit_of y c.args.cpu.now.number 1) c.forget_notes.ensures) in
+    ∙ ap (λ (k : KnownMachine). k.frame_seat.view.opened) (c.open.ensures.machine ∙ ap (λ (y : KnownMachine). with_watch (with_visit_of y c.args.cpu.now.number 1) c.open.new.self.watch) c.forget_notes.ensures) in
     record {
       quiet = record {
         shut = all_shut c.locked.inside.machine x c.shut.new.self c.args.cpu.now.number quiet.shut opened
-            (c.shut.ensures.machine ∙ ap (λ (q : ℕ). with_visit_of x q 0) numbered);
+            (c.shut.ensures.machine ∙ ap (λ (q : ℕ). with_watch (with_visit_of x q 0) c.shut.new.self.watch) numbered);
         valid = quiet.valid;
         sized = quiet.sized;
       };
@@ -43,7 +43,7 @@ returns g c =
       served = subst (λ (l : KnownLocked). IsServed t c.args.cmd.now reply (locked_state l c.args.cpu.now) (locked_state k c.shut.new.cpu)) c.locked.view_is
           (served t c.args.cmd.now (record { machine = c.locked.inside.machine; sizes = c.locked.inside.sizes }) k c.args.cpu.now c.shut.new.cpu
           reply c.open.new.self c.settle.new.self c.execute-outcome.new.machine c.open.new.cpu c.settle.new.cpu c.execute-outcome.new.cpu
-          (c.open.ensures.machine ∙ ap (λ (y : KnownMachine). with_visit_of y c.args.cpu.now.number 1) c.forget_notes.ensures)
+          (c.open.ensures.machine ∙ ap (λ (y : KnownMachine). with_watch (with_visit_of y c.args.cpu.now.number 1) c.open.new.self.watch) c.forget_notes.ensures)
           c.open.ensures.cpu c.settle.ensures.others.number c.execute-outcome.ensures.stays.number
           c.shut.ensures.machine c.shut.ensures.cpu refl
           (subst (λ (y : KnownMachine). MakesAs t c.args.cpu.now.number (visit_state y c.args.cpu.now) (open_steps c.args.cpu.now.number)
