@@ -63,7 +63,7 @@ use Rattle.reply_texts.specs.Answer as answer
 use Rattle.script_replay.specs.declared.work.Work.{Work}
 use Rattle.script_replay.specs.declared.work.Work.TheVariants as work
 use Rattle.script_replay.specs.Answers.{RepliesServed, GetsPin, PutsPin, CanNotList, AnswersRelease, AnswersFrame, IsServedUnderLock, SettlesUnderLock}
-use Rattle.script_replay.specs.Answers.{AnswersWork, OnlyWatched, WritesWork, fast_steps, get_steps, put_steps, with_watch}
+use Rattle.script_replay.specs.Answers.{AnswersWork, OnlyWatched, WritesWork, fast_steps, get_steps, put_steps, locked_with_watch}
 use Rattle.script_replay.specs.Ranges.{WorkInRange}
 use Rattle.mem_machine.specs.Counting.{counts_over}
 use Rattle.mem_machine.specs.Following.{FollowsSteps}
@@ -142,7 +142,7 @@ shows_watched t run m cpus watch shows = record {
 -- nothing was taken where nothing changed
 pub not_watched : (before after : KnownLocked) → after ≡ before → OnlyWatched [] before after
 not_watched before after same = record {
-  locked = same ∙ ap (λ (l : KnownLocked). with_watch before l.machine.watch) (sym same);
+  locked = same ∙ ap (λ (l : KnownLocked). locked_with_watch before l.machine.watch) (sym same);
   watched = subst (λ (l : KnownLocked). Watches before.machine.watch [] l.machine.watch) (sym same) (watches_none before.machine.watch);
 }
 
@@ -193,7 +193,7 @@ module _ (t : KnownTable) (w : Words) (run : Run) (locked : KnownLocked) (cpus :
       )
 
   -- served under the lock, which the watch has taken, after a look at its own stock
-  served_follows : (seen : KnownCpu) → IsUnseen t m c seen → (found : KnownLocked) (watch : KnownWatch) → found ≡ with_watch locked watch →
+  served_follows : (seen : KnownCpu) → IsUnseen t m c seen → (found : KnownLocked) (watch : KnownWatch) → found ≡ locked_with_watch locked watch →
       (command : Cmd) (reply : Reply) (after : LockedState) → (is : IsServed t command reply (locked_state found seen) after) → AllShut after.locked.machine →
       GoesOn (under_lock p is.steps) → Follows (under_lock p is.steps) after
   served_follows seen unseen found watch locks command reply after is shut legal =

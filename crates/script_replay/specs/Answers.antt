@@ -25,7 +25,7 @@ use Rattle.step_watch.specs.Watched.{KnownWatch, Watches}
 use Rattle.kill_texts.specs.Explanation.{explanation_text}
 use Rattle.machine_texts.specs.Blocks.{blocks_text}
 use Rattle.machine_texts.specs.Show.{show_text}
-use Rattle.mem_machine.specs.Machines.{KnownMachine}
+use Rattle.mem_machine.specs.Machines.{KnownMachine, with_watch}
 use Rattle.mem_machine.specs.Steps.{cpu_makes}
 use Rattle.mem_history.specs.Whole.{under_lock}
 use Rattle.mem_history.specs.Leading.{put_answer}
@@ -68,12 +68,12 @@ AddsAnswer result old new is_answered = AddsText result old new (IsTextOf is_ans
 -- ---- the watch
 
 -- the same behind the lock, with this watch in the machine
-abbrev pub with_watch : KnownLocked → KnownWatch → KnownLocked
-with_watch locked watch = record locked { machine = record (locked.machine) { watch = watch } }
+abbrev pub locked_with_watch : KnownLocked → KnownWatch → KnownLocked
+locked_with_watch locked watch = record locked { machine = with_watch locked.machine watch }
 
 -- the watch of the machine takes these steps, and nothing else changes behind the lock
 pub record OnlyWatched (steps : Run) (before after : KnownLocked) : Type 0 where
-  pub locked : after ≡ with_watch before after.machine.watch
+  pub locked : after ≡ locked_with_watch before after.machine.watch
   pub watched : Watches before.machine.watch steps after.machine.watch
 
 -- ---- without the lock
