@@ -6,4 +6,5 @@ pub mod Taking
 pub mod Telling
 pub mod Following
 pub mod Seeing
+pub mod UnderLock
 pub mod Visiting
