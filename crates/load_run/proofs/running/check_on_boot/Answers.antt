@@ -17,6 +17,10 @@ check_and_end_boot-answers-requires-clause-lines g c =
     let sized = c.in_ok-locked.ensures.sized in
     subst (λ (b : ℕ × ℕ). All (LineIsThere b.0 b.1) c.args.lines.now) (λ i. (sym sized.frames i, sym sized.cpus i)) c.requires.lines
 
+pub check_and_end_boot-answers-requires-clause-legal : goal.check_and_end_boot-answers-requires-clause-legal
+check_and_end_boot-answers-requires-clause-legal g c =
+    ap (λ (l : KnownLocked). l.machine.watch.is_legal) c.set_watch.ensures ∙ c.in_ok-watch.ensures.is_legal
+
 pub returns : goal.returns
 returns g c =
     let t = g.N.BootName.frames in
