@@ -31,7 +31,8 @@ pub record AfterBatchRefused (sizes : Config) (group : ℕ) (Does : Transition V
   pub batch : LacksRoom way.before.machine group sizes.stock over
   pub later : Run
   pub seen : KnownWatch
-  pub does : Does (transition way.table (visit_state (with_watch way.before.machine seen) way.before.cpu) later way.after)
+  pub does : Does
+      (transition way.table (visit_state (with_watch way.before.machine seen) way.before.cpu) later way.after)
   pub steps_are : way.steps ≡ over_steps group sizes.stock over ++ later
 
 -- The CPU's drained stock is filled with `sizes.stock` pages or, if a limit has no room for them, with one. Or the

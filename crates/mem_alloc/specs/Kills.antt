@@ -62,14 +62,15 @@ KillsEach requester limited pages [] way = MachineStays way
 KillsEach requester limited pages (killed ∷ others) way =
     InTurn (KillsOne requester limited pages killed) (KillsEach requester limited pages others) way
 
--- One `oom` is noted at the group, which the watch sees. Then victims of it are killed, one after the other, each with all groups that die
--- with it. This ends when its limit has room for this many pages, when the group that asks for them is killed, or when
--- no victim is left.
+-- One `oom` is noted at the group, which the watch sees. Then victims of it are killed, one after the other, each with
+-- all groups that die with it. This ends when its limit has room for this many pages, when the group that asks for them
+-- is killed, or when no victim is left.
 pub record KillsUntilRoom (requester : Option ℕ) (limited pages : ℕ) (way : Transition KnownMachine) : Type 0 where
   pub victims : List Killed
   pub killing : Run
   pub seen : KnownWatch
-  pub notes : MakesForAny way.table way.before (note_oom_steps limited) (with_watch (with_oom_noted_at way.before limited) seen)
+  pub notes : MakesForAny way.table way.before (note_oom_steps limited)
+      (with_watch (with_oom_noted_at way.before limited) seen)
   pub kills : KillsEach requester limited pages victims
       (transition way.table (with_watch (with_oom_noted_at way.before limited) seen) killing way.after)
   pub ended : IsWanting requester limited pages way.after → IsVictim way.after limited None

@@ -45,7 +45,8 @@ with_max_noted_at machine group pages = record machine {
 pub record ClearsBelow (limited pages : ℕ) (way : Transition KnownMachine) : Type 0 where
   pub drains : List Drain
   pub seen : KnownWatch
-  pub all : DrainsAllBelow limited way.table.cpus drains (with_watch (with_max_noted_at way.before limited pages) seen) way.after
+  pub all : DrainsAllBelow limited way.table.cpus drains
+      (with_watch (with_max_noted_at way.before limited pages) seen) way.after
   pub drained : AreDrained limited way.table.cpus way.after
   pub steps_are : way.steps ≡ note_max_steps limited ++ drain_stocks_steps drains
   pub runs : MakesForAny way.table way.before way.steps way.after
@@ -100,7 +101,8 @@ pub record IsRefusedAt (requester limited pages : ℕ) (answer : Result (Unit {0
   pub lowest : LacksRoom way.before requester pages limited
   pub relieving : Run
   pub seen : KnownWatch
-  pub relieves : RelievesLimit requester limited pages (transition way.table (with_watch way.before seen) relieving way.after)
+  pub relieves : RelievesLimit requester limited pages
+      (transition way.table (with_watch way.before seen) relieving way.after)
   pub room : TellsRoom requester limited pages answer way.after
   pub steps_are : way.steps ≡ over_steps requester pages limited ++ relieving
 

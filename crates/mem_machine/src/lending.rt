@@ -81,19 +81,19 @@ impl<N: BootName> Machine<N> {
     {
         let number = cpu.number();
         let _few = tables.stocks.cpus(); // Its contract bounds CPU numbers, so one fits a byte.
-        let at = frame.number();
-        self.zone.take_frame(at);
+        let given = frame.number();
+        self.zone.take_frame(given);
         tables.frames.pass_out(&mut self.frame_seat, frame, number);
         self.watch.zone_made(
             Action::PassOut {
-                frame: at,
+                frame: given,
                 cpu: number,
             },
             Answer::Done,
         );
-        self.frame_states[at as usize] = FrameState::Lent(number as u8);
+        self.frame_states[given as usize] = FrameState::Lent(number as u8);
         cpu.accept(tables, &mut self.frame_seat, frame);
-        self.watch.cpu_made(number, Action::TakeIn { frame: at }, Answer::Done);
+        self.watch.cpu_made(number, Action::TakeIn { frame: given }, Answer::Done);
     }
 
     // Frees the front of the CPU's list, if there is one.

@@ -29,8 +29,7 @@ impl<N: BootName> Machine<N> {
     {
         let _tree = self.charges.tree(); // Called for its contract.
         let pages = self.stock_seat.drain(tables, processor, group);
-        let drained = u128::from(pages);
-        self.watch.zone_made(Action::DrainStock { cpu: processor }, Answer::Pages(drained));
+        self.watch.zone_made(Action::DrainStock { cpu: processor }, Answer::Pages(pages as u128));
         if pages > 0 {
             self.charges.uncharge(group, pages);
             self.watch.zone_made(Action::Ungrant { group, pages }, Answer::Done);

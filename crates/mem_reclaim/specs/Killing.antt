@@ -14,7 +14,8 @@ use Rattle.mem_machine.specs.declared.releasing.Released.{Released}
 use Rattle.kill_notes.specs.declared.note.Note.{Note}
 use Rattle.kill_notes.specs.declared.note.Note.TheVariants as note
 use Rattle.step_watch.specs.Watched.{KnownWatch}
-use Rattle.mem_machine.specs.Machines.{HeadsKeptUnit, KnownMachine, Visits, active_in, home_of, inactive_in, visit_state, with_watch}
+use Rattle.mem_machine.specs.Machines.{HeadsKeptUnit, KnownMachine, Visits, active_in, home_of, inactive_in}
+use Rattle.mem_machine.specs.Machines.{visit_state, with_watch}
 use Rattle.mem_machine.specs.Machines.{with_note}
 use Rattle.mem_machine.specs.Local.{MakesForAny}
 use Rattle.mem_machine.specs.Releasing.{Releases, release_steps}
@@ -56,9 +57,9 @@ with_killed machine group = record machine {
   killed = slice_set machine.killed group true;
 }
 
--- A group is killed. First it is marked as killed, which the watch sees. Then its own stocks are drained, one CPU after the other. Then its
--- kept units, dirty ones included, are released: first the inactive units, then the active ones, each list from the
--- oldest on.
+-- A group is killed. First it is marked as killed, which the watch sees. Then its own stocks are drained, one CPU after
+-- the other. Then its kept units, dirty ones included, are released: first the inactive units, then the active ones,
+-- each list from the oldest on.
 pub record KillsGroup (table : KnownTable) (group : ℕ) (before : KnownMachine) (steps : Run)
     (after : KnownMachine) : Type 0 where
   pub drained : KnownMachine

@@ -11,7 +11,7 @@ use Rattle.mem_machine.proofs.machine.Machine.lend.Goals as goal
 pub take_frame-requires : goal.take_frame-requires
 take_frame-requires g c =
     given_free g.N.BootName.frames g.N.BootName.stocks _ _ c.self.view_is c.self.invariant.consistent _ c.args.frame _ c.self.invariant.free c.requires.frame
-    c.requires.free c.number-at.ensures
+    c.requires.free c.number-given.ensures
 
 pub pass_out-requires-clause-hand : goal.pass_out-requires-clause-hand
 pass_out-requires-clause-hand g c =
@@ -29,16 +29,16 @@ pub invariant_of-self : goal.invariant_of-self
 invariant_of-self g c =
     let all = (given_all g.N.BootName.frames g.N.BootName.stocks _ _ c.self.view_is c.args.cpu.now _ c.number-number.ensures.tied c.self.invariant.consistent
     c.requires.visit _ _ _ c.args.frame _ c.number-number.result _ _ c.self.invariant.free c.requires.frame c.requires.free c.take_frame.ensures.frames c.take_frame.ensures.areas
-    c.number-at.ensures c.number-number.ensures.number c.pass_out.ensures.zone c.accept.ensures.zone c.accept.ensures.cpu c.accept.ensures.nothing.1.1) in
+    c.number-given.ensures c.number-number.ensures.number c.pass_out.ensures.zone c.accept.ensures.zone c.accept.ensures.cpu c.accept.ensures.nothing.1.1) in
     record { consistent = consistent_still _ _ _ _ all.consistent; free = all.free_is }
 
 pub returns : goal.returns
 returns g c =
     let all = given_all g.N.BootName.frames g.N.BootName.stocks _ _ c.self.view_is c.args.cpu.now _ c.number-number.ensures.tied c.self.invariant.consistent c.requires.visit
     _ _ _ c.args.frame _ c.number-number.result _ _ c.self.invariant.free c.requires.frame c.requires.free c.take_frame.ensures.frames c.take_frame.ensures.areas
-    c.number-at.ensures c.number-number.ensures.number c.pass_out.ensures.zone c.accept.ensures.zone c.accept.ensures.cpu c.accept.ensures.nothing.1.1 in
+    c.number-given.ensures c.number-number.ensures.number c.pass_out.ensures.zone c.accept.ensures.zone c.accept.ensures.cpu c.accept.ensures.nothing.1.1 in
     let took = subst (λ (x : ℕ × ℕ). Watches c.self.inside.watch (lend_steps x.0 x.1) c.cpu_made.new.self)
-    (λ i. (c.number-number.ensures.number i, c.number-at.ensures i))
+    (λ i. (c.number-number.ensures.number i, c.number-given.ensures i))
     (watches_both _ _ _ _ _ c.zone_made.ensures c.cpu_made.ensures) in
     record {
       lends = lends_still _ _ _ _ _ all.lends;

@@ -6,8 +6,8 @@ use Rattle.mem_machine.proofs.Followed.{makes_watched}
 use Rattle.mem_machine.proofs.Watched.{consistent_still, pays_still, visits_still}
 use Rattle.mem_machine.proofs.machine.Machine.take_front.Goals as goal
 
-pub take_front-requires-clause-page : goal.take_front-requires-clause-page
-take_front-requires-clause-page g c =
+pub take_front-frame-requires-clause-page : goal.take_front-frame-requires-clause-page
+take_front-frame-requires-clause-page g c =
     has_page g.N.BootName.frames g.N.BootName.stocks _ _ c.self.view_is c.args.cpu.now c.args.group c.number-number.ensures.tied c.self.invariant.consistent
     c.requires.page
 

@@ -1,7 +1,7 @@
 use Rattle.std.proofs.Common.{◌≡◌, ℕ, ◌<◌, rules, ap, subst, ◌∙◌}
 use Rattle.frame_word.specs.Views.{collected_from}
 use Rattle.frame_word.specs.Seats.{KnownSeat, seat_with}
-use Rattle.mem_machine.proofs.Takes.{take_all, passes_back_to}
+use Rattle.mem_machine.proofs.Takes.{take_all, may_give, passes_back_to}
 use Rattle.step_watch.specs.Watched.{Watches}
 use Rattle.step_watch.proofs.Watching.{watches_both}
 use Rattle.mem_machine.specs.Steps.{unlist_steps}
@@ -15,6 +15,13 @@ collect-requires-clause-passes g c =
     passes_back_to g.N.BootName.frames g.N.BootName.stocks _ _ c.self.view_is c.args.cpu.now _ c.number-number.ensures.tied c.requires _ _ inside
     c.in-Some.ensures.answer
     c.in-Some.ensures.zone
+
+pub give-requires : goal.give-requires
+give-requires g c =
+    let k0 : c.unwrap.result ≡ 0 = search rules in
+    let inside : c.in-Some.frame < g.N.BootName.frames.frames = search rules in
+    may_give g.N.BootName.frames g.N.BootName.stocks _ c.args.cpu.now c.number-number.ensures.tied c.self.invariant.consistent _ c.in-Some.frame _
+    c.unwrap.result c.self.invariant.free inside c.in-Some.ensures.borrowed.1 c.number-at.ensures k0
 
 pub invariant_of-self-2 : goal.invariant_of-self-2
 invariant_of-self-2 g c =

@@ -1,0 +1,14 @@
+use Rattle.std.proofs.Common.{sym, subst}
+use Rattle.mem_machine.specs.Machines.{KnownMachine}
+use Rattle.mem_machine.specs.Local.{MakesAs, visit_state}
+use Rattle.mem_machine.specs.Steps.{drain_steps}
+use Rattle.mem_machine.specs.Stocks.{stock_group}
+use Rattle.mem_machine.proofs.machine.Machine.drain_noted.Goals as goal
+
+-- the note is no step
+pub returns-clause-steps : goal.returns-clause-steps
+returns-clause-steps g c = λ cpu.
+    let made = subst (λ (x : KnownMachine). MakesAs g.N.BootName.frames cpu.number (visit_state c.args.self.now cpu)
+    (drain_steps c.args.processor (stock_group c.args.self.now c.args.processor) c.drain_of-pages.result) (visit_state x cpu)) (sym c.self.view_is)
+    (c.drain_of-pages.ensures.steps cpu) in
+    record { leads = made.leads; follows = made.follows; counts = made.counts; watched = made.watched }
