@@ -124,6 +124,7 @@ all_seen on (line ∷ lines) begins end text tells =
 all_kept : (on : Terms) (lines : List Line) (begins : Past) (end : SystemState) (text : List ℕ) → (tells : TellsHistory on lines begins end text)
     → (whole : Run) → whole ≡ begins.run ++ (all_seen on lines begins end text tells).more → IsLegalRun (zone_of on.frames) whole
     → TellsRun on.frames begins.run begins.now.locked.machine.ledger → KeepsHistory on lines begins (past whole end) text
+unfolding all_seen
 all_kept on [] begins end text tells whole is legal told = (
   tells.0,
   λ i. past ((is ∙ append-nil begins.run) i) (tells.1 i),
