@@ -24,7 +24,7 @@ pub enum ProgramFault {
     BadConfig,
     /// A step of the line of this number, counted from 1, isn't legal.
     #[error("line {0}: a step is not legal")]
-    NotLegal(usize),
+    IllegalStep(usize),
     /// The script can't be read.
     #[error("input failed")]
     Input,
@@ -50,7 +50,7 @@ impl ProgramFault {
             | ProgramFault::BadConfig => 2,
             ProgramFault::Words(LineFault::NoMemory(_))
             | ProgramFault::Script(ScriptFault::NoMemory)
-            | ProgramFault::NotLegal(_)
+            | ProgramFault::IllegalStep(_)
             | ProgramFault::Input
             | ProgramFault::Output
             | ProgramFault::NoMemory(_) => 1,

@@ -233,7 +233,7 @@ fn check_answers<N: BootName>(
     match check_on_boot::<N>(alloc, boot, sizes, lines, is_explained, is_audited) {
         Ok(answers) => Ok(answers),
         Err(Stopped::NoMemory(error)) => Err(ProgramFault::NoMemory(error)),
-        Err(Stopped::NotLegal(line)) => Err(ProgramFault::NotLegal(line)),
+        Err(Stopped::NotLegal(line)) => Err(ProgramFault::IllegalStep(line)),
     }
 }
 
