@@ -1,7 +1,8 @@
-use Rattle.std.proofs.Common.{rules, false, true, refl, arith}
+use Rattle.std.proofs.Common.{false, true, [], refl, inl, arith}
 use Rattle.mem_reclaim.specs.Passes.{ReclaimsPass}
 use Rattle.mem_reclaim.proofs.Wanting.{first_enough, both_done}
 use Rattle.mem_reclaim.proofs.Keeping.{keeps_both}
+use Rattle.mem_reclaim.proofs.Moving.{moves_rest}
 use Rattle.mem_reclaim.proofs.Passing.{missed_then}
 use Rattle.mem_reclaim.proofs.reclaiming.reclaim.Goals as goal
 
@@ -30,4 +31,8 @@ pub returns-clause-tried_all : goal.returns-clause-tried_all
 returns-clause-tried_all g c = refl
 
 pub returns-then-want-eq0-clause-reclaims : goal.returns-then-want-eq0-clause-reclaims
-returns-then-want-eq0-clause-reclaims g c = search rules
+returns-then-want-eq0-clause-reclaims g c = record {
+  steps = [];
+  does = inl ((let none = c.if-want-eq0.true in omega (arith, none)), record { no_page = refl; machine = refl; no_step = refl });
+  moves = moves_rest g.N.BootName.frames c.args.machine.now;
+}
