@@ -5,7 +5,7 @@ use Rattle.frame_word.specs.Seats.{KnownTable}
 use Rattle.stock_word.specs.Stock.{Words}
 use Rattle.zone_sizes.specs.declared.config.Config.{Config}
 use Rattle.zone_sizes.specs.Config.{IsValidConfig}
-use Rattle.step_rules.specs.After.{Run, IsLegalRun}
+use Rattle.step_rules.specs.After.{Run as StepRun, IsLegalRun}
 use Rattle.mem_core.specs.Promise.{AlwaysKeepsPromise}
 use Rattle.step_watch.specs.Watched.{steps_seen}
 use Rattle.mem_machine.specs.Interleaving.{zone_of}
@@ -70,7 +70,7 @@ pub record AreCheckedAnswers (sizes : Config) (is_explained is_audited : Bool) (
   pub stocks : Words
   pub start : SystemState
   pub end : SystemState
-  pub run : Run
+  pub run : StepRun
   pub answers : List ℕ
   pub ending : List ℕ
   pub first : StandsAtFirst sizes frames stocks start
