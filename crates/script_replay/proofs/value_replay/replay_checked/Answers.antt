@@ -1,10 +1,10 @@
-use Rattle.std.proofs.Common.{ap, rules, ◌∙◌}
+use Rattle.std.proofs.Common.{ap, rules}
 use Rattle.std.specs.String.{string_bytes}
 use Rattle.std.proofs.lemmas.Result.{err_from_is_err_and}
 use Rattle.script_replay.specs.History.{ServesAndKeeps}
 use Rattle.script_replay.specs.Lines.{SystemState, system_state}
 use Rattle.script_replay.specs.Terms.{terms}
-use Rattle.script_replay.proofs.Going.{ServesAllAndKeeps, all_replayed_legally, keeps_stop, numbers_stop}
+use Rattle.script_replay.proofs.Going.{ServesAllAndKeeps, all_replayed_legally, keeps_stop, stops_illegal}
 use Rattle.script_replay.proofs.InOrder.{in_order_end, in_order_line}
 use Rattle.script_replay.proofs.value_replay.replay_checked.Goals as goal
 
@@ -39,13 +39,10 @@ returns-then-not-is_legal g c =
     let served = c.serve_line.ensures.served in record {
       outcome = record {
         replayed = tt;
-        stopped = record {
-          stops = keeps_stop (terms g.N.BootName.frames g.N.BootName.stocks c.args.is_explained) (system_state c.args.locked.now c.args.cpus.now)
-              (system_state c.loop-next.locked c.loop-next.cpus) (system_state c.serve_line.new.locked c.serve_line.new.cpus)
-              c.args.lines.now c.loop-next.next-index _ (string_bytes c.loop-next.answers) served.text c.loop-next-test.true
-              c.loop-next.invariant.0 served.so;
-          reason = (search rules, c.number_of.ensures ∙ numbers_stop c.args.lines.now c.loop-next.next-index _ c.loop-next-test.true);
-        };
+        stopped = stops_illegal (terms g.N.BootName.frames g.N.BootName.stocks c.args.is_explained) (system_state c.args.locked.now c.args.cpus.now)
+            (system_state c.loop-next.locked c.loop-next.cpus) (system_state c.serve_line.new.locked c.serve_line.new.cpus)
+            c.args.lines.now c.loop-next.next-index _ (string_bytes c.loop-next.answers) served.text c.loop-next-test.true
+            c.loop-next.invariant.0 served.so (search rules) c.number_of.result c.number_of.ensures;
       };
     }
 
