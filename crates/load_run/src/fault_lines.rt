@@ -54,9 +54,9 @@ fn write_numbered<F: Write>(
     faults: &mut F,
 ) -> io::Result<()>
     ensures whole { OnOk result (Appends (F.contents faults.old) (F.contents faults.new)
-        (front.now ++ decimal number ++ back.now)) }
+        (front.now ++ (decimal number ++ back.now))) }
     ensures beginning { AppendsBeginning (F.contents faults.old) (F.contents faults.new)
-        (front.now ++ decimal number ++ back.now) }
+        (front.now ++ (decimal number ++ back.now)) }
 {
     let mut digits = Buffer::new();
     write_whole(front.as_bytes(), faults)?;
