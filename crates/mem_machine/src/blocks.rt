@@ -70,35 +70,35 @@ impl<N: BootName> Machine<N> {
         let _tree = self.charges.tree(); // Called for its contract.
         if let Err(over) = self.charges.try_charge(group, pages) {
             let lowest = over.group;
-            self.watch.zone_made(Action::Grant { group, pages }, Answer::Over(lowest));
+            self.watch
+                .zone_made(Action::Grant { group, pages }, Answer::Over(lowest));
             return Err(TakeFault::Over(over));
         }
-        self.watch.zone_made(Action::Grant { group, pages }, Answer::Granted);
+        self.watch
+            .zone_made(Action::Grant { group, pages }, Answer::Granted);
         let Some(block) = self.zone.take(order) else {
-            self.watch.zone_made(Action::PlaceBlock { group, order }, Answer::NoFreeBlock);
+            self.watch
+                .zone_made(Action::PlaceBlock { group, order }, Answer::NoFreeBlock);
             self.charges.uncharge(group, pages);
-            self.watch.zone_made(Action::Ungrant { group, pages }, Answer::Done);
+            self.watch
+                .zone_made(Action::Ungrant { group, pages }, Answer::Done);
             return Err(TakeFault::NoBlock);
         };
         let Some(head) = tables.frames.frame(block.at) else {
             unreachable!()
         };
-        let at = head.number();
+        let frame = head.number();
         place_unit(&mut self.frame_states, block, group);
         self.watch.zone_made(
             Action::PlaceBlock { group, order },
-            Answer::Placed(Block { at, order }),
+            Answer::Placed(Block { at: frame, order }),
         );
         tables.frames.unfreeze(&mut self.frame_seat, head, 1);
-        self.watch.zone_made(
-            Action::Unfreeze {
-                frame: at,
-                count: 1,
-            },
-            Answer::Done,
-        );
-        join_list(&mut self.links, &mut self.lists, group, at);
-        self.watch.zone_made(Action::Publish { frame: at }, Answer::Done);
+        self.watch
+            .zone_made(Action::Unfreeze { frame, count: 1 }, Answer::Done);
+        join_list(&mut self.links, &mut self.lists, group, frame);
+        self.watch
+            .zone_made(Action::Publish { frame }, Answer::Done);
         Ok(head)
     }
 }

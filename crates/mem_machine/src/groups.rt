@@ -28,7 +28,8 @@ impl<N: BootName> Machine<N> {
         ensures steps { MakesForAny N.frames self.old (note_max_steps group) self.new }
     {
         self.charges.note_max(group);
-        self.watch.zone_made(Action::NoteMax { group }, Answer::Done);
+        self.watch
+            .zone_made(Action::NoteMax { group }, Answer::Done);
     }
 
     /// Notes that only kills are left to keep a group within its limit: one more `oom` in its events and its ancestors'
@@ -43,7 +44,8 @@ impl<N: BootName> Machine<N> {
         ensures steps { MakesForAny N.frames self.old (note_oom_steps group) self.new }
     {
         self.charges.note_oom(group);
-        self.watch.zone_made(Action::NoteOom { group }, Answer::Done);
+        self.watch
+            .zone_made(Action::NoteOom { group }, Answer::Done);
     }
 
     /// Kills a group that isn't killed: nothing can be charged to it until it is removed. That is one more `oom_kill`
@@ -78,7 +80,8 @@ impl<N: BootName> Machine<N> {
         ensures steps { MakesForAny N.frames self.old (note_group_kill_steps group) self.new }
     {
         self.charges.note_group_kill(group);
-        self.watch.zone_made(Action::NoteGroupKill { group }, Answer::Done);
+        self.watch
+            .zone_made(Action::NoteGroupKill { group }, Answer::Done);
     }
 
     /// Makes a group, as `Tree::make` does. It has no pages, peak 0 and all counts 0, and isn't killed.
@@ -128,7 +131,8 @@ impl<N: BootName> Machine<N> {
         ensures steps { MakesForAny N.frames self.old (set_max_steps group limit) self.new }
     {
         self.charges.set_max(group, limit);
-        self.watch.zone_made(Action::SetMax { group, limit }, Answer::Done);
+        self.watch
+            .zone_made(Action::SetMax { group, limit }, Answer::Done);
     }
 
     /// Sets whether a group other than the root is killed as a whole (memory.oom.group). Only later kills read it.
@@ -142,6 +146,7 @@ impl<N: BootName> Machine<N> {
         ensures steps { MakesForAny N.frames self.old (set_oom_group_steps group oom_group) self.new }
     {
         self.charges.set_oom_group(group, oom_group);
-        self.watch.zone_made(Action::SetFlag { group, oom_group }, Answer::Done);
+        self.watch
+            .zone_made(Action::SetFlag { group, oom_group }, Answer::Done);
     }
 }

@@ -45,7 +45,8 @@ impl<N: BootName> Machine<N> {
         );
         self.frame_states[at as usize] = FrameState::Lent(number as u8);
         cpu.accept(tables, &mut self.frame_seat, frame);
-        self.watch.cpu_made(number, Action::TakeIn { frame: at }, Answer::Done);
+        self.watch
+            .cpu_made(number, Action::TakeIn { frame: at }, Answer::Done);
         true
     }
 
@@ -93,7 +94,8 @@ impl<N: BootName> Machine<N> {
         );
         self.frame_states[given as usize] = FrameState::Lent(number as u8);
         cpu.accept(tables, &mut self.frame_seat, frame);
-        self.watch.cpu_made(number, Action::TakeIn { frame: given }, Answer::Done);
+        self.watch
+            .cpu_made(number, Action::TakeIn { frame: given }, Answer::Done);
     }
 
     // Frees the front of the CPU's list, if there is one.
@@ -107,7 +109,8 @@ impl<N: BootName> Machine<N> {
             return false;
         };
         let at = frame.number();
-        self.watch.cpu_made(number, Action::PassBack { frame: at }, Answer::Done);
+        self.watch
+            .cpu_made(number, Action::PassBack { frame: at }, Answer::Done);
         cpu.collect(tables, &mut self.frame_seat, frame);
         self.watch.zone_made(
             Action::Collect {

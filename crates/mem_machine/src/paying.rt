@@ -50,7 +50,8 @@ impl<N: BootName> Machine<N> {
     {
         let number = cpu.number();
         let frame = self.stock_seat.take_front(tables, cpu, group);
-        self.watch.cpu_made(number, Action::Consume { group }, Answer::Took);
+        self.watch
+            .cpu_made(number, Action::Consume { group }, Answer::Took);
         frame
     }
 }

@@ -37,11 +37,13 @@ impl<N: BootName> Machine<N> {
         leave_list(&mut self.links, &mut self.lists, at);
         match tables.frames.put(&mut self.frame_seat, head) {
             Put::Left(left) => {
-                self.watch.zone_made(Action::Put { frame: at }, Answer::Left(left as u32));
+                self.watch
+                    .zone_made(Action::Put { frame: at }, Answer::Left(left as u32));
                 Released::Left(left)
             }
             Put::Last => {
-                self.watch.zone_made(Action::Put { frame: at }, Answer::Last);
+                self.watch
+                    .zone_made(Action::Put { frame: at }, Answer::Last);
                 let FrameState::Head(unit) = self.frame_states[at as usize] else {
                     unreachable!()
                 };
@@ -52,7 +54,8 @@ impl<N: BootName> Machine<N> {
                     at,
                     unit,
                 );
-                self.watch.zone_made(Action::Return { frame: at }, Answer::Done);
+                self.watch
+                    .zone_made(Action::Return { frame: at }, Answer::Done);
                 self.counts = self.counts.with_last_put();
                 Released::Returned
             }

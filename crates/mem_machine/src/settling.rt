@@ -60,7 +60,8 @@ impl<N: BootName> Machine<N> {
         let order = Order::of(0).unwrap();
         self.frame_states[at as usize] = FrameState::Head(ChargedUnit { group, order });
         join_list(&mut self.links, &mut self.lists, group, at);
-        self.watch.zone_made(Action::Publish { frame: at }, Answer::Done);
+        self.watch
+            .zone_made(Action::Publish { frame: at }, Answer::Done);
         frame
     }
 
@@ -90,7 +91,8 @@ impl<N: BootName> Machine<N> {
             at,
             unit,
         );
-        self.watch.zone_made(Action::Return { frame: at }, Answer::Done);
+        self.watch
+            .zone_made(Action::Return { frame: at }, Answer::Done);
         self.counts = self.counts.with_drop();
         frame
     }
@@ -107,7 +109,8 @@ impl<N: BootName> Machine<N> {
             return None;
         };
         let at = frame.number();
-        self.watch.cpu_made(number, Action::PassBack { frame: at }, Answer::Done);
+        self.watch
+            .cpu_made(number, Action::PassBack { frame: at }, Answer::Done);
         cpu.collect(tables, &mut self.frame_seat, frame);
         self.watch.zone_made(
             Action::Collect {
@@ -126,7 +129,8 @@ impl<N: BootName> Machine<N> {
             at,
             unit,
         );
-        self.watch.zone_made(Action::Return { frame: at }, Answer::Done);
+        self.watch
+            .zone_made(Action::Return { frame: at }, Answer::Done);
         self.counts = self.counts.with_last_put();
         Some(frame)
     }

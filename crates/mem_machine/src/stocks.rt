@@ -29,10 +29,14 @@ impl<N: BootName> Machine<N> {
     {
         let _tree = self.charges.tree(); // Called for its contract.
         let pages = self.stock_seat.drain(tables, processor, group);
-        self.watch.zone_made(Action::DrainStock { cpu: processor }, Answer::Pages(pages as u128));
+        self.watch.zone_made(
+            Action::DrainStock { cpu: processor },
+            Answer::Pages(pages as u128),
+        );
         if pages > 0 {
             self.charges.uncharge(group, pages);
-            self.watch.zone_made(Action::Ungrant { group, pages }, Answer::Done);
+            self.watch
+                .zone_made(Action::Ungrant { group, pages }, Answer::Done);
         }
         pages
     }
@@ -64,7 +68,8 @@ impl<N: BootName> Machine<N> {
     {
         match self.stock_seat.group(tables, processor) {
             None => {
-                self.watch.zone_made(Action::DrainStock { cpu: processor }, Answer::Pages(0));
+                self.watch
+                    .zone_made(Action::DrainStock { cpu: processor }, Answer::Pages(0));
                 0
             }
             Some(group) => self.drain_of(tables, processor, group),
@@ -165,10 +170,12 @@ impl<N: BootName> Machine<N> {
         let _tree = self.charges.tree(); // Called for its contract.
         if let Err(over) = self.charges.try_charge(group, pages) {
             let lowest = over.group;
-            self.watch.zone_made(Action::Grant { group, pages }, Answer::Over(lowest));
+            self.watch
+                .zone_made(Action::Grant { group, pages }, Answer::Over(lowest));
             return Err(over);
         }
-        self.watch.zone_made(Action::Grant { group, pages }, Answer::Granted);
+        self.watch
+            .zone_made(Action::Grant { group, pages }, Answer::Granted);
         self.stock_seat.fill(tables, cpu, group, pages);
         self.watch.zone_made(
             Action::Fill {

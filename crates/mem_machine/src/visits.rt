@@ -24,7 +24,8 @@ impl<N: BootName> Machine<N> {
     {
         let number = cpu.number();
         cpu.open(tables, &mut self.frame_seat);
-        self.watch.zone_made(Action::OpenVisit { cpu: number }, Answer::Done);
+        self.watch
+            .zone_made(Action::OpenVisit { cpu: number }, Answer::Done);
     }
 
     /// Shuts the visit of the CPU.
@@ -42,6 +43,7 @@ impl<N: BootName> Machine<N> {
     {
         let number = cpu.number();
         cpu.shut(tables, &mut self.frame_seat);
-        self.watch.zone_made(Action::ShutVisit { cpu: number }, Answer::Done);
+        self.watch
+            .zone_made(Action::ShutVisit { cpu: number }, Answer::Done);
     }
 }

@@ -63,7 +63,7 @@ tries-preserved g c =
     c.in-Err-Over.ensures.steps in (
       so_far_more t c.args.group (2 ^ c.args.order) c.args.cpu.now c.args.machine.now c.tries.machine c.tries.invariant.0 c.take_block.new.self c.tries.machine
           c.make_room.new.machine c.tries.cpu c.take_block.new.cpu c.in-Err-Over.over.group r.1 c.tries.invariant.1
-    (c.in-Err-Over.ensures.cpu ∙ c.tries.invariant.1) r.0 refl run relieves
+          (c.in-Err-Over.ensures.cpu ∙ c.tries.invariant.1) r.0 refl run relieves
           (subst (λ (n : ℕ). HasMadeRoom c.args.group c.in-Err-Over.over.group n c.make_room.new.machine) c.frames-pages.ensures.frames
           c.in_ok-make_room-in-Err-Over.ensures.room),
       c.in-Err-Over.ensures.cpu ∙ c.tries.invariant.1,

@@ -44,7 +44,7 @@ returns-in_err-make_room-clause-charges g c =
     c.fill_stock.new.cpu (answer_is r x c.from_residual.ensures.0 is) (c.in-Err.ensures.unchanged.cpu ∙ c.tries.invariant.1)
     (so_far_over g.N.BootName.frames c.args.group 1 c.args.cpu.now c.args.machine.now c.tries.machine c.tries.invariant.0 c.fill_stock.new.self c.tries.machine
     c.make_room.new.machine c.tries.cpu c.fill_stock.new.cpu c.in-Err.over.group c.in-Err.ensures.unchanged.machine c.tries.invariant.1
-      (c.in-Err.ensures.unchanged.cpu ∙ c.tries.invariant.1) c.in-Err.ensures.over refl
+    (c.in-Err.ensures.unchanged.cpu ∙ c.tries.invariant.1) c.in-Err.ensures.over refl
     c.in-Err.ensures.refused c.make_room.ensures.relieves x c.in_err-make_room.ensures.room)
 
 pub returns-in_err-make_room-clause-visit : goal.returns-in_err-make_room-clause-visit

@@ -1,4 +1,9 @@
-use Rattle.std.proofs.Common.{rules, refl}
+use Rattle.std.proofs.Common.{rules, [], refl, subst}
+use Rattle.group_charge.specs.Charges.{Ledger}
+use Rattle.mem_machine.specs.Local.{visit_state}
+use Rattle.mem_machine.proofs.Followed.{makes_none}
+use Rattle.mem_system.specs.Files.{Reads}
+use Rattle.mem_system.specs.Outcomes.{reply_of}
 use Rattle.mem_system.proofs.command.execute.Goals as goal
 
 pub returns-in-Mkdir-clause-executed : goal.returns-in-Mkdir-clause-executed
@@ -23,3 +28,20 @@ returns-in-Clean-clause-executed g c =
 
 pub returns-in-Alloc-clause-executed : goal.returns-in-Alloc-clause-executed
 returns-in-Alloc-clause-executed g c = search rules
+
+pub returns-in-Read-clause-executed : goal.returns-in-Read-clause-executed
+returns-in-Read-clause-executed g c =
+    let read = subst (λ (l : Ledger). Reads l c.in-Read.path.now c.in-Read.file.now (reply_of l c.read_file.result)) c.charges.ensures c.read_file.ensures.read in
+    rw c.in-Read.is (record {
+      steps = [];
+      does = (read, record { machine = refl; cpu = refl; steps_are = refl });
+      makes = makes_none g.N.BootName.frames c.args.cpu.now.number (visit_state c.args.machine.now c.args.cpu.now);
+    })
+
+pub returns-in-Owner-clause-executed : goal.returns-in-Owner-clause-executed
+returns-in-Owner-clause-executed g c =
+    rw c.in-Owner.is (record {
+      steps = [];
+      does = (c.tell_place.ensures.told, record { machine = refl; cpu = refl; steps_are = refl });
+      makes = makes_none g.N.BootName.frames c.args.cpu.now.number (visit_state c.args.machine.now c.args.cpu.now);
+    })

@@ -2,10 +2,11 @@ use Rattle.std.proofs.Common.{refl, subst}
 use Rattle.group_tree.specs.declared.fault.Fault.TheVariants.{ReadOnly}
 use Rattle.cpu_part.specs.Cpus.{KnownCpu}
 use Rattle.group_charge.specs.Charges.{Ledger}
-use Rattle.mem_system.specs.Files.{IsFileOf}
+use Rattle.mem_system.specs.Files.{HasNoFile, IsFileOf}
 use Rattle.mem_system.proofs.Found.{found_there}
 use Rattle.mem_system.proofs.Keeping.{visit_keeps}
 use Rattle.mem_system.proofs.Writing.{read_only, refused_at}
+use Rattle.mem_system.proofs.Refusing.{none_written}
 use Rattle.mem_system.proofs.files.write_file.Goals as goal
 
 pub write_limit-requires-clause-there : goal.write_limit-requires-clause-there
@@ -36,3 +37,8 @@ returns-in_default g c =
       groups = tt;
       stays = λ (y : KnownCpu) v. visit_keeps g.N.BootName.frames c.args.machine.now c.args.machine.now y refl v;
     }
+
+pub returns-in-Err-clause-written : goal.returns-in-Err-clause-written
+returns-in-Err-clause-written g c =
+    none_written g.N.BootName.frames c.args.path.now c.args.name.now c.args.value.now c.in-Err.fault c.args.machine.now
+    (subst (λ (l : Ledger). HasNoFile l.groups c.args.path.now c.args.name.now c.in-Err.fault) c.charges.ensures c.in-Err.ensures.none)

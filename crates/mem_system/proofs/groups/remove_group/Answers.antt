@@ -3,9 +3,10 @@ use Rattle.group_charge.specs.Charges.{Ledger}
 use Rattle.mem_machine.specs.Machines.{KnownMachine}
 use Rattle.mem_machine.specs.Local.{visit_state}
 use Rattle.mem_machine.specs.Steps.{remove_steps}
-use Rattle.mem_system.specs.Leaves.{IsLeafAt}
+use Rattle.mem_system.specs.Leaves.{HasNoLeaf, IsLeafAt}
 use Rattle.mem_system.proofs.Found.{found_there}
 use Rattle.mem_system.proofs.Keeping.{lowered_groups, lowered_visit, visit_keeps, visit_both, leaf_keeps}
+use Rattle.mem_system.proofs.Refusing.{none_removed}
 use Rattle.mem_system.proofs.groups.remove_group.Goals as goal
 use Rattle.mem_machine.proofs.Followed.{makes_both}
 
@@ -70,3 +71,8 @@ returns-clause-stays g c =
 
 pub returns-then-current-gt0-clause-removed : goal.returns-then-current-gt0-clause-removed
 returns-then-current-gt0-clause-removed g c = search rules
+
+pub returns-in-Err-clause-removed : goal.returns-in-Err-clause-removed
+returns-in-Err-clause-removed g c =
+    none_removed g.N.BootName.frames c.args.path.now c.in-Err.fault c.args.machine.now c.args.cpu.now
+    (subst (λ (l : Ledger). HasNoLeaf l.groups c.args.path.now c.in-Err.fault) c.charges.ensures c.in-Err.ensures)

@@ -1,9 +1,10 @@
-use Rattle.std.proofs.Common.{rules, ℕ, ◌∙◌, sym, subst}
+use Rattle.std.proofs.Common.{rules, ℕ, ◌∙◌, ap, refl, sym, subst}
 use Rattle.std.proofs.lemmas.Bool.{false≢true}
 use Rattle.mem_system.specs.Commands.{BySteps}
 use Rattle.mem_system.specs.Releases.{ReturnsFrames}
 use Rattle.mem_system.proofs.Listing.{returned_single, returned_block}
 use Rattle.mem_system.proofs.releases.release_frame.Goals.{then-is_single, else-is_single}
+use Rattle.mem_machine.specs.Machines.{KeepsVisit, KnownMachine}
 use Rattle.mem_machine.specs.Local.{visit_state}
 use Rattle.mem_system.proofs.releases.release_frame.Goals as goal
 
@@ -25,3 +26,24 @@ returns-after-is_single-clause-released g c =
 
 pub returns-in-Left-clause-released : goal.returns-in-Left-clause-released
 returns-in-Left-clause-released g c = search rules
+
+pub returns-after-is_single-clause-stays : goal.returns-after-is_single-clause-stays
+returns-after-is_single-clause-stays g c =
+    let t = g.N.BootName.frames in
+    let m = c.args.machine.now in
+    let before = c.args.cpu.now in
+    let done = c.in-Returned.ensures in
+    let first : KeepsVisit t (visit_state m before) (visit_state c.release.new.self before) = record {
+      visit = done.visit;
+      opened = ap (λ (x : KnownMachine). x.frame_seat.view.opened) done.releases.machine;
+      number = refl;
+      back = refl;
+    } in
+    elim c.if-is_single.branch [
+      | then-is_single w ↦
+          let last = w.list_frame.ensures.stays in
+          let both : KeepsVisit t (visit_state m before) (visit_state w.list_frame.new.machine w.list_frame.new.cpu) =
+          record { visit = last.visit; opened = last.opened ∙ first.opened; number = last.number; back = last.back } in
+          rw (w.machine-is, w.cpu-is) both
+      | else-is_single w ↦ rw (w.machine-is, w.cpu-is) first
+    ]
