@@ -45,7 +45,8 @@ const AUDIT_HELP: &str = "Reports at the end which pins were held, and the count
 
 const EXPLAIN_HELP: &str = "Explains after an answer why groups were killed for it";
 
-const CHECKED_HELP: &str = "Checks each step against the rules, and reports how many steps there were";
+const CHECKED_HELP: &str =
+    "Checks each step against the rules, and reports how many steps there were";
 
 /// The words of the command line after the program's name. A word that isn't UTF-8 is a fault of the words. It has no
 /// contract: no clause can name the words with which a process was started.

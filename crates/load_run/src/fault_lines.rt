@@ -47,12 +47,7 @@ fn write_fault<F: Write>(fault: &ProgramFault, faults: &mut F) -> io::Result<()>
 }
 
 // Writes a number between two texts.
-fn write_numbered<F: Write>(
-    front: &str,
-    number: u64,
-    back: &str,
-    faults: &mut F,
-) -> io::Result<()>
+fn write_numbered<F: Write>(front: &str, number: u64, back: &str, faults: &mut F) -> io::Result<()>
     ensures whole { OnOk result (Appends (F.contents faults.old) (F.contents faults.new)
         (front.now ++ (decimal number ++ back.now))) }
     ensures beginning { AppendsBeginning (F.contents faults.old) (F.contents faults.new)

@@ -60,8 +60,14 @@ pub fn check_on_boot<N: BootName>(
     let watch = Watch::new(alloc, sizes)?;
     let (mut locked, tables, cpus) = boot.into_parts::<N>(alloc)?;
     locked.set_watch(watch);
-    let (answers, steps, end) =
-        check_and_end_boot(alloc, locked, tables, cpus, lines, is_explained);
+    let (answers, steps, end) = check_and_end_boot(
+        alloc,
+        locked,
+        tables,
+        cpus,
+        lines,
+        is_explained,
+    );
     let told = tell_end(alloc, answers?, end, is_audited)?;
     tell_steps(alloc, told, steps)
 }

@@ -114,7 +114,10 @@ const BAD_WORDS: [(&str, &str); 25] = [
         "run --explain",
         "error: unexpected argument '--explain' found\n",
     ),
-    ("run --check", "error: unexpected argument '--check' found\n"),
+    (
+        "run --check",
+        "error: unexpected argument '--check' found\n",
+    ),
     ("run --frames=0", "error: "),
     ("run run", ""),
     ("--help", ""),

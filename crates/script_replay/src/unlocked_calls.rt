@@ -53,11 +53,7 @@ pub(crate) fn write_pin(got: &Result<Get, Fault>, text: &mut String) -> Result<(
 }
 
 // Puts a pin of the frame, without the lock. Returns None if the CPU has no pin on it.
-pub(crate) fn unpin<N: BootName>(
-    tables: &Tables<N>,
-    cpu: &mut Cpu<N>,
-    number: u32,
-) -> Option<Put>
+pub(crate) fn unpin<N: BootName>(tables: &Tables<N>, cpu: &mut Cpu<N>, number: u32) -> Option<Put>
     requires in_zone { number < N.frames.frames }
     ensures put { PutsPin number cpu.old cpu.new (unpin_answer result) }
     ensures few { (left : ℕ) → unpin_answer result ≡ answer.Put (Left left) → left < 2 ^ 32 }

@@ -10,7 +10,7 @@ pub returns : goal.returns
 returns c =
     let old = c.in_ok-subcommand.field-0 in
     let explain = option_added old _ _ (app_of old) _ (refl, c.in_ok-subcommand.ensures.local) c.explain_option.ensures.rule
-        c.explain_option.ensures.local c.in_ok-arg.ensures in
+    c.explain_option.ensures.local c.in_ok-arg.ensures in
     let rule = c.checked_option.ensures.rule in
     let local = c.checked_option.ensures.local in
     let more : Shape → Shape = λ s. record s {

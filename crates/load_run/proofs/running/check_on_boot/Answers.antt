@@ -37,8 +37,8 @@ returns g c =
     let ended = c.check_and_end_boot-answers.ensures.ends in
     let replays = at_ok _ _ _ c.in_ok-answers.was ended.so.replays.replayed in
     let legal = replays.history (boot_shown c.args.boot.sizes t w start.locked.machine c.in_ok-locked.cpus.items sized is_first first)
-        (parts_tied c.args.boot.sizes t w start.locked.machine c.in_ok-locked.cpus.items sized is_first first)
-        (a_boot_tells t w start.locked.machine is_first) new in
+    (parts_tied c.args.boot.sizes t w start.locked.machine c.in_ok-locked.cpus.items sized is_first first)
+    (a_boot_tells t w start.locked.machine is_first) new in
     let told = c.check_and_end_boot-answers.result.2 in
     let answers = c.in_ok-answers.field-0.items in
     let ending = end_text c.args.is_audited told in
