@@ -49,9 +49,11 @@ task_rules =
 abbrev pub command_shape : List ℕ → Shape
 command_shape name = record (new_shape name) { rules = task_rules }
 
--- `replay`, which has one more option
+-- `replay`, which has two more options
 abbrev pub replay_shape : Shape
-replay_shape = record (command_shape (codes "replay")) { rules = task_rules ++ flag_rule (codes "explain") ∷ [] }
+replay_shape = record (command_shape (codes "replay")) {
+  rules = (task_rules ++ flag_rule (codes "explain") ∷ []) ++ flag_rule (codes "check") ∷ [];
+}
 
 -- `check`, which has no option
 abbrev pub check_shape : Shape
@@ -102,7 +104,7 @@ sizes_in found = do
 -- the task on a script that has this name, with the options of this task alone
 abbrev pub task_in : List ℕ → List Row → Option Task
 task_in name found =
-    if bytes_eq name (codes "replay") then Some (Replay (is_given (codes "explain") found))
+    if bytes_eq name (codes "replay") then Some (Replay (is_given (codes "explain") found) (is_given (codes "check") found))
     else if bytes_eq name (codes "run") then Some Run else None
 
 -- the options that are given under the name of a subcommand on scripts

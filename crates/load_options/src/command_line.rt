@@ -45,6 +45,9 @@ const AUDIT_HELP: &str = "Reports at the end which pins were held, and the count
 
 const EXPLAIN_HELP: &str = "Explains after an answer why groups were killed for it";
 
+const CHECKED_HELP: &str =
+    "Checks each step against the rules, and reports how many steps there were";
+
 /// The words of the command line after the program's name. A word that isn't UTF-8 is a fault of the words. It has no
 /// contract: no clause can name the words with which a process was started.
 pub fn words<R: Env + AllocGlobal>(rt: &R) -> Result<Vec<String>, LineFault> {
@@ -61,8 +64,8 @@ pub fn words<R: Env + AllocGlobal>(rt: &R) -> Result<Vec<String>, LineFault> {
 }
 
 /// Parses the words after the program's name. They are `replay` or `run`, then any of `--frames`, `--cpus`,
-/// `--batch`, `--high`, `--stock` and `--audit`, and after `replay` also `--explain`, each at most once; or `check`
-/// alone. Anything else is a fault of the words, even a request for help.
+/// `--batch`, `--high`, `--stock` and `--audit`, and after `replay` also `--explain` and `--check`, each at most once; or
+/// `check` alone. Anything else is a fault of the words, even a request for help.
 ///
 /// A size is a whole number in its own range: 1 to 1,048,576 frames, 1 to 64 CPUs, batch 1 to 64, high 1 to 256,
 /// stock 1 to 64. `Config::is_valid` requires more: high is at least batch. The defaults are 16, 2, 4, 8 and 4.
@@ -115,12 +118,14 @@ fn memcg<'a>(alloc: Global) -> Result<Command<'a>, AllocError>
         .subcommand(check_command(alloc))
 }
 
-// `replay`, which has one more option.
+// `replay`, which has two more options.
 fn replay_command<'a>(alloc: Global) -> Result<Command<'a>, AllocError>
     ensures shape { IfOk result (λ command. (app_of command).top ≡ replay_shape) }
     ensures local { IfOk result (λ command. (fields_of command).has_globals ≡ false) }
 {
-    subcommand(alloc, "replay", REPLAY_HELP)?.arg(explain_option(alloc))
+    subcommand(alloc, "replay", REPLAY_HELP)?
+        .arg(explain_option(alloc))?
+        .arg(checked_option(alloc))
 }
 
 // `check`, which has no option.
@@ -165,6 +170,17 @@ fn explain_option<'a>(alloc: Global) -> Arg<'a>
     Arg::new(alloc, "explain")
         .long("explain")
         .help(EXPLAIN_HELP)
+        .action(ArgAction::SetTrue)
+}
+
+// The option that asks for a check of each step.
+fn checked_option<'a>(alloc: Global) -> Arg<'a>
+    ensures rule { rule_of result ≡ flag_rule (codes "check") }
+    ensures local { result.global ≡ false }
+{
+    Arg::new(alloc, "check")
+        .long("check")
+        .help(CHECKED_HELP)
         .action(ArgAction::SetTrue)
 }
 

@@ -26,6 +26,8 @@ pub enum Task {
     Replay {
         /// Whether each kill is explained after the answer of its command.
         is_explained: bool,
+        /// Whether each step is checked against the rules.
+        is_checked: bool,
     },
     /// The lines from `go` on run in one thread for each CPU.
     Run,
@@ -91,7 +93,11 @@ fn named_task(name: &str, given: &ArgMatches<'_>) -> Option<Task>
 {
     if name == "replay" {
         let is_explained = is_set(given, "explain");
-        Some(Task::Replay { is_explained })
+        let is_checked = is_set(given, "check");
+        Some(Task::Replay {
+            is_explained,
+            is_checked,
+        })
     } else if name == "run" {
         Some(Task::Run)
     } else {

@@ -5,12 +5,15 @@ use Rattle.std.proofs.KnownBytes.{Appends-nil, Keeps-refl}
 use Rattle.script_lines.specs.declared.line.Line.{Line}
 use Rattle.script_lines.specs.declared.fault.ScriptFault.TheVariants as script
 use Rattle.script_lines.specs.Script.{IsScript}
+use Rattle.zone_sizes.specs.declared.config.Config.{Config}
+use Rattle.zone_sizes.specs.Config.{IsValidConfig}
 use Rattle.load_options.specs.declared.task.Options.{Options}
+use Rattle.load_options.specs.declared.task.Task.{Task}
 use Rattle.load_run.specs.declared.fault.ProgramFault.{ProgramFault}
-use Rattle.load_run.specs.declared.fault.ProgramFault.TheVariants.{Words, Script, BadLogLine, BadConfig, Input, Output, NoMemory}
+use Rattle.load_run.specs.declared.fault.ProgramFault.TheVariants.{Words, Script, BadLogLine, BadConfig, IllegalStep, Input, Output, NoMemory}
 use Rattle.load_run.specs.Answers.{IsAnswered, bytes_read}
 use Rattle.load_run.specs.Causes.{FailsAtWork, HasCause, IsMisused, LeavesAnswers, written}
-use Rattle.load_run.specs.Fault.{IsBootFault, IsReadFault, IsScriptFault, IsWordsFault, fault_text, status_of}
+use Rattle.load_run.specs.Fault.{IsBootFault, IsFailedTask, IsReadFault, IsScriptFault, IsWordsFault, fault_text, status_of}
 use Rattle.load_options.specs.Sizes.{HasSizesInRange}
 use Rattle.load_run.specs.Writing.{AppendsBeginning}
 
@@ -27,6 +30,7 @@ words_cause asked (Some bytes) (Words fault) is = is
 words_cause asked (Some bytes) (Script fault) is = absurd is
 words_cause asked (Some bytes) (BadLogLine number) is = absurd is
 words_cause asked (Some bytes) BadConfig is = absurd is
+words_cause asked (Some bytes) (IllegalStep number) is = absurd is
 words_cause asked (Some bytes) Input is = absurd is
 words_cause asked (Some bytes) Output is = absurd is
 words_cause asked (Some bytes) (NoMemory e) is = absurd is
@@ -39,6 +43,7 @@ read_cause asked options (Some bytes) (Words fault) is_asked is = absurd is
 read_cause asked options (Some bytes) (Script fault) is_asked is = absurd is
 read_cause asked options (Some bytes) (BadLogLine number) is_asked is = absurd is
 read_cause asked options (Some bytes) BadConfig is_asked is = absurd is
+read_cause asked options (Some bytes) (IllegalStep number) is_asked is = absurd is
 read_cause asked options (Some bytes) Input is_asked is = subst IsSome (sym is_asked) refl
 read_cause asked options (Some bytes) Output is_asked is = absurd is
 read_cause asked options (Some bytes) (NoMemory e) is_asked is = subst IsSome (sym is_asked) refl
@@ -58,6 +63,7 @@ script_cause asked options (Some bytes) text (Script (script.BadLine n)) is_aske
 script_cause asked options (Some bytes) text (Script script.NoMemory) is_asked in_range read is = subst IsSome (sym is_asked) refl
 script_cause asked options (Some bytes) text (BadLogLine number) is_asked in_range read is = absurd is
 script_cause asked options (Some bytes) text BadConfig is_asked in_range read is = absurd is
+script_cause asked options (Some bytes) text (IllegalStep number) is_asked in_range read is = absurd is
 script_cause asked options (Some bytes) text Input is_asked in_range read is = absurd is
 script_cause asked options (Some bytes) text Output is_asked in_range read is = absurd is
 script_cause asked options (Some bytes) text (NoMemory e) is_asked in_range read is = absurd is
@@ -65,11 +71,11 @@ script_cause asked options (Some bytes) text (NoMemory e) is_asked in_range read
 -- no boot answered the script
 pub boot_cause : (asked : Option Options) (options : Options) (input : Option (List ℕ)) (text : List ℕ) (lines : List Line)
     (fault : ProgramFault) → asked ≡ Some options → IfSome input (λ bytes. text ≡ bytes_read bytes)
-    → IsScript options.sizes text lines → IsBootFault options.sizes fault → IfSome input (HasCause asked fault)
+    → IsScript options.sizes text lines → IsBootFault options.task options.sizes fault → IfSome input (HasCause asked fault)
 boot_cause asked options None text lines fault is_asked read script is = tt
-boot_cause asked options (Some bytes) text lines (Words fault) is_asked read script is = absurd is
-boot_cause asked options (Some bytes) text lines (Script fault) is_asked read script is = absurd is
-boot_cause asked options (Some bytes) text lines (BadLogLine number) is_asked read script is = absurd is
+boot_cause asked options (Some bytes) text lines (Words fault) is_asked read script is = absurd is.0
+boot_cause asked options (Some bytes) text lines (Script fault) is_asked read script is = absurd is.0
+boot_cause asked options (Some bytes) text lines (BadLogLine number) is_asked read script is = absurd is.0
 boot_cause asked options (Some bytes) text lines BadConfig is_asked read script is = record {
   options = options;
   is_asked = is_asked;
@@ -84,9 +90,21 @@ boot_cause asked options (Some bytes) text lines BadConfig is_asked read script 
         let len : length text ≡ length (take 1048577 bytes) = ap length read in
         let taken = length-take 1048577 bytes in
         take_all 1048577 bytes (omega arith)
-boot_cause asked options (Some bytes) text lines Input is_asked read script is = absurd is
-boot_cause asked options (Some bytes) text lines Output is_asked read script is = absurd is
+boot_cause asked options (Some bytes) text lines (IllegalStep number) is_asked read script is = record { options = options; is_asked = is_asked; checks = is.0 }
+boot_cause asked options (Some bytes) text lines Input is_asked read script is = absurd is.0
+boot_cause asked options (Some bytes) text lines Output is_asked read script is = absurd is.0
 boot_cause asked options (Some bytes) text lines (NoMemory e) is_asked read script is = subst IsSome (sym is_asked) refl
+
+-- a boot that took its sizes and failed at its task is at fault
+pub failed_boot : (task : Task) (sizes : Config) (fault : ProgramFault) → IsValidConfig sizes → IsFailedTask task fault → IsBootFault task sizes fault
+failed_boot task sizes (Words f) valid is = (is, valid)
+failed_boot task sizes (Script f) valid is = (is, valid)
+failed_boot task sizes (BadLogLine n) valid is = (is, valid)
+failed_boot task sizes BadConfig valid is = absurd is
+failed_boot task sizes (IllegalStep n) valid is = (is, valid)
+failed_boot task sizes Input valid is = (is, valid)
+failed_boot task sizes Output valid is = (is, valid)
+failed_boot task sizes (NoMemory e) valid is = (is, valid)
 
 -- misuse that has a cause, and was told
 pub misused : (asked : Option Options) (input before after : Option (List ℕ)) (fault : ProgramFault) → status_of fault ≡ 2
@@ -102,6 +120,7 @@ nothing_left asked input (Words fault) output cause = Keeps-refl output
 nothing_left asked input (Script fault) output cause = Keeps-refl output
 nothing_left asked input (BadLogLine number) output cause = absurd cause
 nothing_left asked input BadConfig output cause = Keeps-refl output
+nothing_left asked input (IllegalStep number) output cause = Keeps-refl output
 nothing_left asked input Input output cause = Keeps-refl output
 nothing_left asked input Output output cause = record { text = cause.text; answered = cause.answered; begun = (0, Appends-nil output) }
 nothing_left asked input (NoMemory e) output cause = Keeps-refl output

@@ -6,7 +6,7 @@ use Rattle.script_lines.specs.declared.fault.ScriptFault.TheVariants as script
 use Rattle.load_options.specs.declared.fault.LineFault.TheVariants as words
 use Rattle.load_options.specs.declared.task.Options.{Options}
 use Rattle.load_run.specs.declared.fault.ProgramFault.{ProgramFault}
-use Rattle.load_run.specs.declared.fault.ProgramFault.TheVariants.{Words, Script, BadLogLine, BadConfig, Input, Output, NoMemory}
+use Rattle.load_run.specs.declared.fault.ProgramFault.TheVariants.{Words, Script, BadLogLine, BadConfig, IllegalStep, Input, Output, NoMemory}
 use Rattle.load_run.specs.Answers.{IsAnswered}
 use Rattle.load_run.specs.Causes.{HasCause, written}
 use Rattle.load_run.specs.Driving.{DrivesScript}
@@ -23,6 +23,7 @@ status_low (Script (script.BadLine number)) = omega arith
 status_low (Script script.NoMemory) = omega arith
 status_low (BadLogLine number) = omega arith
 status_low BadConfig = omega arith
+status_low (IllegalStep number) = omega arith
 status_low Input = omega arith
 status_low Output = omega arith
 status_low (NoMemory error) = omega arith
@@ -34,6 +35,7 @@ status_high (Script (script.BadLine number)) = omega arith
 status_high (Script script.NoMemory) = omega arith
 status_high (BadLogLine number) = omega arith
 status_high BadConfig = omega arith
+status_high (IllegalStep number) = omega arith
 status_high Input = omega arith
 status_high Output = omega arith
 status_high (NoMemory error) = omega arith

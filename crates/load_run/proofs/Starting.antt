@@ -1,4 +1,5 @@
--- What stands after a boot is shown, and each part is what its seats know. Serves `run`.
+-- What stands after a boot is shown, and each part is what its seats know. Serves `replay_on_boot`, `check_on_boot`,
+-- `run_by_threads`.
 use Rattle.std.proofs.Common.{◌≡◌, ℕ, ◌+◌, ◌≤◌, Some, List, [], length, refl, sym, ◌∙◌, ap, subst, arith, zero, suc}
 use Rattle.std.specs.List.{slice_get}
 use Rattle.std.proofs.lemmas.Option.{slice_get_within}
@@ -6,6 +7,10 @@ use Rattle.frame_word.specs.Seats.{KnownTable}
 use Rattle.stock_word.specs.Stock.{Words}
 use Rattle.cpu_part.specs.Cpus.{KnownCpu, IsTied}
 use Rattle.zone_sizes.specs.declared.config.Config.{Config}
+use Rattle.step_rules.specs.State.{Zone}
+use Rattle.step_watch.specs.Watched.{IsNewWatch, KnownWatch}
+use Rattle.mem_core.specs.Shown as core
+use Rattle.mem_machine.specs.Interleaving.{zone_of}
 use Rattle.mem_machine.specs.Machines.{KnownMachine, IsFirst}
 use Rattle.mem_history.specs.Whole.{ShowsAll}
 use Rattle.mem_history.specs.Kept.{AreTied, IsTiedPart}
@@ -59,3 +64,24 @@ module _ (sizes : Config) (t : KnownTable) (w : Words) (m : KnownMachine) (cpus 
         tied = first_tied t w (suc k) (omega arith) (omega arith) (omega arith);
         none_fresh = λ none. refl;
       })
+
+-- the machine of a new boot is that of one with any watch
+pub watched_first : (t : KnownTable) (w : Words) (m : KnownMachine) (watch : KnownWatch) → IsFirst t w m → IsFirst t w (record m { watch = watch })
+watched_first t w m watch first = record {
+  frame_states = first.frame_states;
+  ledger = first.ledger;
+  nowhere = first.nowhere;
+  frame_seat = first.frame_seat;
+  stock_seat = first.stock_seat;
+  killed = first.killed;
+  counts = first.counts;
+  notes = first.notes;
+}
+
+-- a new watch of a boot's sizes is one of its tables
+pub new_watch : (booted sizes : Config) (t : KnownTable) (w : Words) → IsSizedAs booted t w → booted ≡ sizes → (watch : KnownWatch)
+    → IsNewWatch (core.zone_of sizes) watch → IsNewWatch (zone_of t) watch
+new_watch booted sizes t w sized same watch new =
+    let frames : sizes.frames ≡ t.frames = ap (λ (s : Config). s.frames) (sym same) ∙ sym sized.frames in
+    let cpus : sizes.cpus ≡ t.cpus = ap (λ (s : Config). s.cpus) (sym same) ∙ sym sized.cpus in
+    subst (λ (zone : Zone). IsNewWatch zone watch) (λ i. record { frames = frames i; cpus = cpus i }) new

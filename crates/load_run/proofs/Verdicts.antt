@@ -13,7 +13,7 @@ use Rattle.load_options.specs.declared.task.Options.{Options}
 use Rattle.load_options.specs.declared.task.Task.{Task}
 use Rattle.load_options.specs.declared.task.Task.TheVariants.{Check, Replay, Run}
 use Rattle.load_run.specs.declared.fault.ProgramFault.{ProgramFault}
-use Rattle.load_run.specs.declared.fault.ProgramFault.TheVariants.{BadConfig, BadLogLine, Input, NoMemory, Output, Script, Words}
+use Rattle.load_run.specs.declared.fault.ProgramFault.TheVariants.{BadConfig, BadLogLine, IllegalStep, Input, NoMemory, Output, Script, Words}
 use Rattle.load_run.specs.Answers.{IsOnScript}
 use Rattle.load_run.specs.Causes.{Written, written}
 use Rattle.load_run.specs.Checks.{Checks, FailsToCheck, IsEndOf, IsVerdict, LeavesLine, LeavesReport, ReportsBadLine, ReportsLegal, ReportsNotLegal}
@@ -142,6 +142,7 @@ checks_fault input output faults faults_after (Words f) status is ended told = a
 checks_fault input output faults faults_after (Script f) status is ended told = absurd is
 checks_fault input output faults faults_after (BadLogLine n) status is ended told = absurd is
 checks_fault input output faults faults_after BadConfig status is ended told = absurd is
+checks_fault input output faults faults_after (IllegalStep n) status is ended told = absurd is
 checks_fault input output faults faults_after Output status is ended told = absurd is
 
 -- what was to be written wasn't, or not whole
@@ -163,6 +164,7 @@ checks_unwritten input before after faults faults_after end fault status is left
     go (Script f) left ended told = absurd left
     go (BadLogLine n) left ended told = absurd left
     go BadConfig left ended told = absurd left
+    go (IllegalStep n) left ended told = absurd left
     go Input left ended told = absurd left
 
 -- ---- all tasks
@@ -182,12 +184,13 @@ drives_words (Some options) input output faults faults_after fault status is end
     for_check (Script f) is ended told = absurd is
     for_check (BadLogLine n) is ended told = absurd is
     for_check BadConfig is ended told = absurd is
+    for_check (IllegalStep n) is ended told = absurd is
     for_check Input is ended told = absurd is
     for_check Output is ended told = absurd is
     for_check (NoMemory e) is ended told = absurd is
 
     by_task : (task : Task) → DrivesTask task (Some options) input (written output faults) (written output faults_after) status
-    by_task (Replay is_explained) =
+    by_task (Replay is_explained is_checked) =
         drives_badly (Some options) input output faults faults_after fault status (words_cause (Some options) input fault is) ended told
     by_task Run = drives_badly (Some options) input output faults faults_after fault status (words_cause (Some options) input fault is) ended told
     by_task Check = for_check fault is ended told
@@ -198,7 +201,7 @@ pub script_drives : (options : Options) (input : Option (List ℕ)) (before afte
 script_drives options input before after status on_script drives = go options.task on_script
   where
     go : (task : Task) → IsOnScript task → DrivesTask task (Some options) input before after status
-    go (Replay is_explained) on_script = drives
+    go (Replay is_explained is_checked) on_script = drives
     go Run on_script = drives
     go Check on_script = absurd on_script
 

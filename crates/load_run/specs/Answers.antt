@@ -1,10 +1,14 @@
 -- What a script is answered.
-use Rattle.std.specs.Prelude.{◌≡◌, ℕ, ◌+◌, Bool, false, ⊤, Option, Some, List, [], ◌++◌, drop, length, take}
+use Rattle.std.specs.Prelude.{◌≡◌, ℕ, ◌+◌, Bool, false, true, ⊤, Option, Some, List, [], ◌++◌, Result, Vec, codes, decimal, drop, length, take}
 use Rattle.std.specs.Io.KnownBytes.{Appends}
 use Rattle.frame_word.specs.Seats.{KnownTable}
 use Rattle.stock_word.specs.Stock.{Words}
 use Rattle.zone_sizes.specs.declared.config.Config.{Config}
 use Rattle.zone_sizes.specs.Config.{IsValidConfig}
+use Rattle.step_rules.specs.After.{Run as StepRun, IsLegalRun}
+use Rattle.mem_core.specs.Promise.{AlwaysKeepsPromise}
+use Rattle.step_watch.specs.Watched.{steps_seen}
+use Rattle.mem_machine.specs.Interleaving.{zone_of}
 use Rattle.mem_machine.specs.Machines.{IsFirst}
 use Rattle.mem_machine.specs.Telling.{TellsRun}
 use Rattle.mem_system.specs.Boots.{IsSizedAs, first_cpus}
@@ -12,8 +16,9 @@ use Rattle.mem_system.specs.Locked.{IsQuiet}
 use Rattle.script_lines.specs.declared.line.Line.{Line}
 use Rattle.script_lines.specs.Script.{IsScript, longest_script}
 use Rattle.script_replay.specs.Lines.{ServesAll, SystemState}
-use Rattle.script_replay.specs.History.{TellsHistory, past}
-use Rattle.script_replay.specs.Terms.{boot_tables, terms}
+use Rattle.script_replay.specs.declared.value_replay.Stopped.{Stopped}
+use Rattle.script_replay.specs.History.{KeepsHistory, ReplaysCheckedOrStops, TellsHistory, past}
+use Rattle.script_replay.specs.Terms.{Terms, boot_tables, terms}
 use Rattle.script_threads.specs.Each.{TellsEach, workers_from}
 use Rattle.script_threads.specs.Runs.{lines_before_go}
 use Rattle.load_options.specs.declared.task.Options.{Options}
@@ -51,6 +56,37 @@ pub record AreReplayAnswers (sizes : Config) (is_explained is_audited : Bool) (l
   pub ends : TellsEnd frames stocks is_audited end ending
   pub text_is : text ≡ answers ++ ending
 
+-- the line that says how many steps were checked
+abbrev pub checked_text : ℕ → List ℕ
+checked_text steps = codes "checked " ++ (decimal steps ++ codes " steps\n")
+
+-- What a boot with these sizes answers to the lines if each step is checked: as without the check, and then how many
+-- steps the lines made. All these steps are one legal run from the boot on. The promise holds after each beginning of
+-- the run that leaves the lock free. After each line it holds of what the machine and the CPUs show, and each group's
+-- peak and event counts are those of the run so far.
+pub record AreCheckedAnswers (sizes : Config) (is_explained is_audited : Bool) (lines : List Line) (text : List ℕ)
+    : Type 0 where
+  pub frames : KnownTable
+  pub stocks : Words
+  pub start : SystemState
+  pub end : SystemState
+  pub run : StepRun
+  pub answers : List ℕ
+  pub ending : List ℕ
+  pub first : StandsAtFirst sizes frames stocks start
+  pub served : ServesAll (terms frames stocks is_explained) lines start end answers
+  pub legal : IsLegalRun (zone_of frames) run
+  pub promise : AlwaysKeepsPromise (zone_of frames) run
+  pub history : KeepsHistory (terms frames stocks is_explained) lines (past [] start) (past run end) answers
+  pub ends : TellsEnd frames stocks is_audited end ending
+  pub text_is : text ≡ answers ++ (ending ++ checked_text (length run))
+
+-- a replay with a check led here from the state before, and this is how many steps the watch counted
+pub record ChecksLines {Z : Type 0} (terms : Terms) (lines : List Line) (before : SystemState)
+    (result : Result (Vec ℕ Z) Stopped) (steps : ℕ) (left : SystemState) : Type 0 where
+  pub replays : ReplaysCheckedOrStops terms lines before left result
+  pub count : steps ≡ steps_seen left.locked.machine.watch
+
 -- no visit is open behind the lock, and there are as many parts as CPUs
 pub record StandsQuiet (frames : KnownTable) (stocks : Words) (now : SystemState) : Type 0 where
   pub quiet : IsQuiet frames stocks now.locked
@@ -82,15 +118,17 @@ pub record AreThreadAnswers (sizes : Config) (is_audited : Bool) (lines : List L
 
 -- the task is one on a script
 abbrev pub IsOnScript : Task → Type 0
-IsOnScript (Replay is_explained) = ⊤
+IsOnScript (Replay is_explained is_checked) = ⊤
 IsOnScript Run = ⊤
 IsOnScript Check = ⊥
 
 -- what a boot with these sizes answers to the lines for this task, and reports of its end if it is audited; a check has
 -- no boot
 abbrev pub AreAnswers : Task → (sizes : Config) (is_audited : Bool) (lines : List Line) (text : List ℕ) → Type 0
-AreAnswers (Replay is_explained) sizes is_audited lines text =
+AreAnswers (Replay is_explained false) sizes is_audited lines text =
     AreReplayAnswers sizes is_explained is_audited lines text
+AreAnswers (Replay is_explained true) sizes is_audited lines text =
+    AreCheckedAnswers sizes is_explained is_audited lines text
 AreAnswers Run sizes is_audited lines text = AreThreadAnswers sizes is_audited lines text
 AreAnswers Check sizes is_audited lines text = ⊥
 

@@ -31,7 +31,7 @@ pub record DrivesScript (asked : Option Options) (input : Option (List ℕ)) (be
 
 -- the program ran for this task, which is asked for
 abbrev pub DrivesTask : Task → (asked : Option Options) (input : Option (List ℕ)) (before after : Written) (status : ℕ) → Type 0
-DrivesTask (Replay is_explained) asked input before after status = DrivesScript asked input before after status
+DrivesTask (Replay is_explained is_checked) asked input before after status = DrivesScript asked input before after status
 DrivesTask Run asked input before after status = DrivesScript asked input before after status
 DrivesTask Check asked input before after status = Checks input before after status
 

@@ -1,5 +1,5 @@
 -- The faults of a run: the status and the text of each, and which call has which.
-use Rattle.std.specs.Prelude.{ℕ, List, Option, Err, ⊤, ◌++◌, codes, string_bytes}
+use Rattle.std.specs.Prelude.{ℕ, Bool, false, IsTrue, List, Option, Err, ⊤, ◌++◌, codes, string_bytes}
 use Rattle.std.specs.Fmt.{decimal}
 use Rattle.zone_sizes.specs.declared.config.Config.{Config}
 use Rattle.zone_sizes.specs.Config.{IsValidConfig}
@@ -7,9 +7,11 @@ use Rattle.script_lines.specs.declared.fault.ScriptFault.TheVariants as script
 use Rattle.script_lines.specs.Script.{NamesFirstBadLine}
 use Rattle.load_options.specs.declared.fault.LineFault.TheVariants as words
 use Rattle.load_options.specs.declared.task.Options.{Options}
+use Rattle.load_options.specs.declared.task.Task.{Task}
+use Rattle.load_options.specs.declared.task.Task.TheVariants.{Replay, Run, Check}
 use Rattle.load_options.specs.Words.{TellsOptions}
 use Rattle.load_run.specs.declared.fault.ProgramFault.{ProgramFault}
-use Rattle.load_run.specs.declared.fault.ProgramFault.TheVariants.{Words, Script, BadLogLine, BadConfig, Input, Output, NoMemory}
+use Rattle.load_run.specs.declared.fault.ProgramFault.TheVariants.{Words, Script, BadLogLine, BadConfig, IllegalStep, Input, Output, NoMemory}
 
 -- 2 if the program was misused, 1 if it failed at its work
 abbrev pub status_of : ProgramFault → ℕ
@@ -19,6 +21,7 @@ status_of (Script (script.BadLine number)) = 2
 status_of (Script script.NoMemory) = 1
 status_of (BadLogLine number) = 2
 status_of BadConfig = 2
+status_of (IllegalStep number) = 1
 status_of Input = 1
 status_of Output = 1
 status_of (NoMemory error) = 1
@@ -26,6 +29,10 @@ status_of (NoMemory error) = 1
 -- the text that says that the line of this number is bad
 abbrev pub bad_line_text : ℕ → List ℕ
 bad_line_text number = codes "bad line " ++ decimal number ++ codes "\n"
+
+-- the text that says that a step of the line of this number isn't legal
+abbrev pub illegal_step_text : ℕ → List ℕ
+illegal_step_text number = codes "line " ++ decimal number ++ codes ": a step is not legal\n"
 
 -- the text of a fault: one line, or clap's text about the words
 abbrev pub fault_text : ProgramFault → List ℕ
@@ -35,6 +42,7 @@ fault_text (Script (script.BadLine number)) = bad_line_text number
 fault_text (Script script.NoMemory) = codes "no memory\n"
 fault_text (BadLogLine number) = bad_line_text number
 fault_text BadConfig = codes "refused 14 BadConfig\n"
+fault_text (IllegalStep number) = illegal_step_text number
 fault_text Input = codes "input failed\n"
 fault_text Output = codes "output failed\n"
 fault_text (NoMemory error) = codes "no memory\n"
@@ -55,8 +63,19 @@ abbrev pub IsScriptFault : Config → List ℕ → ProgramFault → Type 0
 IsScriptFault sizes script (Script fault) = NamesFirstBadLine sizes script fault
 IsScriptFault sizes script fault = ⊥
 
--- a fault of a boot: it refuses its sizes; or it takes them, and memory ran out
-abbrev pub IsBootFault : Config → ProgramFault → Type 0
-IsBootFault sizes BadConfig = ¬ IsValidConfig sizes
-IsBootFault sizes (NoMemory error) = IsValidConfig sizes
-IsBootFault sizes fault = ⊥
+-- whether the task checks each step
+abbrev pub checks_steps : Task → Bool
+checks_steps (Replay is_explained is_checked) = is_checked
+checks_steps Run = false
+checks_steps Check = false
+
+-- a boot that took its sizes failed at this task: memory ran out, or a step isn't legal, if the task checks each step
+abbrev pub IsFailedTask : Task → ProgramFault → Type 0
+IsFailedTask task (IllegalStep number) = IsTrue (checks_steps task)
+IsFailedTask task (NoMemory error) = ⊤
+IsFailedTask task fault = ⊥
+
+-- a fault of a boot for this task: it refuses its sizes; or it takes them, and fails at the task
+abbrev pub IsBootFault : Task → Config → ProgramFault → Type 0
+IsBootFault task sizes BadConfig = ¬ IsValidConfig sizes
+IsBootFault task sizes fault = IsFailedTask task fault × IsValidConfig sizes

@@ -22,6 +22,9 @@ pub enum ProgramFault {
     /// A size is out of its range.
     #[error("refused 14 BadConfig")]
     BadConfig,
+    /// A step of the line of this number, counted from 1, isn't legal.
+    #[error("line {0}: a step is not legal")]
+    IllegalStep(usize),
     /// The script can't be read.
     #[error("input failed")]
     Input,
@@ -47,6 +50,7 @@ impl ProgramFault {
             | ProgramFault::BadConfig => 2,
             ProgramFault::Words(LineFault::NoMemory(_))
             | ProgramFault::Script(ScriptFault::NoMemory)
+            | ProgramFault::IllegalStep(_)
             | ProgramFault::Input
             | ProgramFault::Output
             | ProgramFault::NoMemory(_) => 1,

@@ -1,8 +1,8 @@
 //! Each fault is reported in a line of its own, or in clap's text of the words, as far as the writer takes it.
 
-ghost use Rattle.std.specs.Prelude.{◌≡◌, OnOk};
+ghost use Rattle.std.specs.Prelude.{◌≡◌, ◌++◌, OnOk, decimal};
 ghost use Rattle.std.specs.Io.KnownBytes.{Appends};
-ghost use Rattle.load_run.specs.Fault.{bad_line_text, fault_text, status_of};
+ghost use Rattle.load_run.specs.Fault.{fault_text, status_of};
 ghost use Rattle.load_run.specs.Writing.{AppendsBeginning};
 
 use crate::fault::ProgramFault;
@@ -31,9 +31,12 @@ fn write_fault<F: Write>(fault: &ProgramFault, faults: &mut F) -> io::Result<()>
     match fault {
         ProgramFault::Words(LineFault::BadWords(text)) => write_whole(text.as_bytes(), faults),
         ProgramFault::Script(ScriptFault::BadLine(number)) => {
-            write_bad_line(*number as u64, faults)
+            write_numbered("bad line ", *number as u64, "\n", faults)
         }
-        ProgramFault::BadLogLine(number) => write_bad_line(*number, faults),
+        ProgramFault::BadLogLine(number) => write_numbered("bad line ", *number, "\n", faults),
+        ProgramFault::IllegalStep(number) => {
+            write_numbered("line ", *number as u64, ": a step is not legal\n", faults)
+        }
         ProgramFault::BadConfig => write_whole("refused 14 BadConfig\n".as_bytes(), faults),
         ProgramFault::Input => write_whole("input failed\n".as_bytes(), faults),
         ProgramFault::Output => write_whole("output failed\n".as_bytes(), faults),
@@ -43,13 +46,15 @@ fn write_fault<F: Write>(fault: &ProgramFault, faults: &mut F) -> io::Result<()>
     }
 }
 
-// Writes the text of the bad line with this number.
-fn write_bad_line<F: Write>(number: u64, faults: &mut F) -> io::Result<()>
-    ensures whole { OnOk result (Appends (F.contents faults.old) (F.contents faults.new) (bad_line_text number)) }
-    ensures beginning { AppendsBeginning (F.contents faults.old) (F.contents faults.new) (bad_line_text number) }
+// Writes a number between two texts.
+fn write_numbered<F: Write>(front: &str, number: u64, back: &str, faults: &mut F) -> io::Result<()>
+    ensures whole { OnOk result (Appends (F.contents faults.old) (F.contents faults.new)
+        (front.now ++ (decimal number ++ back.now))) }
+    ensures beginning { AppendsBeginning (F.contents faults.old) (F.contents faults.new)
+        (front.now ++ (decimal number ++ back.now)) }
 {
     let mut digits = Buffer::new();
-    write_whole("bad line ".as_bytes(), faults)?;
+    write_whole(front.as_bytes(), faults)?;
     write_whole(digits.format(number).as_bytes(), faults)?;
-    write_whole("\n".as_bytes(), faults)
+    write_whole(back.as_bytes(), faults)
 }

@@ -1,24 +1,25 @@
 //! The program over any reader and two writers: what a new boot answers to the script, or what the log is, is written to
 //! the output, or a fault is reported, and the status says which.
 
-ghost use Rattle.std.specs.Prelude.{◌≡◌, All, IfErr, IfOk, OnOk, Some, map};
+ghost use Rattle.std.specs.Prelude.{◌≡◌, All, IfErr, IfOk, OnOk, Some, map, true};
 ghost use Rattle.std.specs.Io.KnownBytes.{Appends};
 ghost use Rattle.zone_sizes.specs.Config.{IsValidConfig};
 ghost use Rattle.script_lines.specs.Script.{IsScript};
 ghost use Rattle.script_replay.specs.Ranges.{LineIsThere};
 ghost use Rattle.load_options.specs.Sizes.{HasSizesInRange};
 ghost use Rattle.load_options.specs.Words.{options_of};
-ghost use Rattle.load_run.specs.Answers.{AreAnswers, IsOnScript};
+ghost use Rattle.load_options.specs.declared.task.Task.TheVariants.{Replay};
+ghost use Rattle.load_run.specs.Answers.{AreAnswers, AreCheckedAnswers, IsOnScript};
 ghost use Rattle.load_run.specs.Causes.{written};
 ghost use Rattle.load_run.specs.Driving.{AnswersTo, Drives, DrivesScript};
-ghost use Rattle.load_run.specs.Fault.{IsBootFault, IsScriptFault, IsWordsFault};
+ghost use Rattle.load_run.specs.Fault.{IsBootFault, IsFailedTask, IsScriptFault, IsWordsFault};
 ghost use Rattle.load_run.specs.Writing.{AppendsBeginning};
 
 use crate::checking::drive_check;
 use crate::fault::ProgramFault;
 use crate::fault_lines::tell_fault;
 use crate::reading::read_script;
-use crate::running::replay_on_boot;
+use crate::running::{check_on_boot, replay_on_boot};
 use crate::thread_running::run_by_threads;
 use crate::writing::write_whole;
 use cpu_part::BootName;
@@ -27,6 +28,7 @@ use load_options::task::{Options, Task};
 use mem_system::{Boot, BootFault, boot};
 use script_lines::line::Line;
 use script_lines::script::parse_script;
+use script_replay::Stopped;
 use std::alloc::{AllocError, Global};
 use std::convert::AsStr;
 use std::io::{Read, Write};
@@ -41,8 +43,8 @@ use std::thread::Threads;
 /// checked, then a boot answers the lines, as the task says, and ends. The answers are gathered first and then written
 /// whole; if the output fails, a beginning of them may have been written, and after any other fault nothing. A fault is
 /// reported in one line, those of the words in clap's text. The status is 0; 2 after a fault of the words, a bad line or
-/// a bad configuration; 1 if the script can't be read, the answers can't be written, memory runs out, or a thread
-/// can't be started. `drive_check` says how a log is checked.
+/// a bad configuration; 1 if the script can't be read, the answers can't be written, memory runs out, a thread can't be
+/// started, or a step of a replay with `--check` isn't legal. `drive_check` says how a log is checked.
 pub fn drive<R: Threads + Wait + Sync, S: AsStr, I: Read, O: Write, F: Write>(
     rt: &R,
     alloc: Global,
@@ -162,13 +164,10 @@ fn answers_of<R: Threads + Wait + Sync>(
     ensures answers { IfOk result (λ text.
         AreAnswers options.now.task options.now.sizes options.now.is_audited lines.now text.items) }
     ensures valid { OnOk result (IsValidConfig options.now.sizes) }
-    ensures fault { IfErr result (IsBootFault options.now.sizes) }
+    ensures fault { IfErr result (IsBootFault options.now.task options.now.sizes) }
 {
     match boot(alloc, options.sizes) {
-        Ok(boot) => match answers_on_boot::<Brand, R>(rt, alloc, boot, options, lines) {
-            Ok(answers) => Ok(answers),
-            Err(error) => Err(ProgramFault::NoMemory(error)),
-        },
+        Ok(boot) => answers_on_boot::<Brand, R>(rt, alloc, boot, options, lines),
         Err(BootFault::BadConfig) => Err(ProgramFault::BadConfig),
         Err(BootFault::NoMemory) => Err(ProgramFault::NoMemory(AllocError)),
     }
@@ -181,20 +180,60 @@ fn answers_on_boot<N: BootName + Send + Sync, R: Threads + Wait + Sync>(
     boot: Boot,
     options: &Options,
     lines: &[Line<'_>],
-) -> Result<Vec<u8>, AllocError>
+) -> Result<Vec<u8>, ProgramFault>
     requires task { IsOnScript options.now.task }
     requires frames { boot.frames ≡ N.frames }
     requires stocks { boot.stocks ≡ N.stocks }
+    requires sizes { boot.sizes ≡ options.now.sizes }
+    requires valid { IsValidConfig options.now.sizes }
     requires lines { All (LineIsThere boot.sizes.frames boot.sizes.cpus) lines.now }
     ensures answers { IfOk result (λ text.
         AreAnswers options.now.task boot.sizes options.now.is_audited lines.now text.items) }
+    ensures fault { IfErr result (IsFailedTask options.now.task) }
 {
     match options.task {
-        Task::Replay { is_explained } => {
-            replay_on_boot::<N>(alloc, boot, lines, is_explained, options.is_audited)
-        }
-        Task::Run => run_by_threads::<N, R>(rt, alloc, boot, lines, options.is_audited),
+        Task::Replay {
+            is_explained,
+            is_checked: true,
+        } => check_answers::<N>(alloc, boot, options, lines, is_explained),
+        Task::Replay {
+            is_explained,
+            is_checked: false,
+        } => match replay_on_boot::<N>(alloc, boot, lines, is_explained, options.is_audited) {
+            Ok(answers) => Ok(answers),
+            Err(error) => Err(ProgramFault::NoMemory(error)),
+        },
+        Task::Run => match run_by_threads::<N, R>(rt, alloc, boot, lines, options.is_audited) {
+            Ok(answers) => Ok(answers),
+            Err(error) => Err(ProgramFault::NoMemory(error)),
+        },
         Task::Check => unreachable!(),
+    }
+}
+
+// What a boot under a name of its tables answers to the lines, with a check of each step.
+fn check_answers<N: BootName>(
+    alloc: Global,
+    boot: Boot,
+    options: &Options,
+    lines: &[Line<'_>],
+    is_explained: bool,
+) -> Result<Vec<u8>, ProgramFault>
+    requires frames { boot.frames ≡ N.frames }
+    requires stocks { boot.stocks ≡ N.stocks }
+    requires sizes { boot.sizes ≡ options.now.sizes }
+    requires valid { IsValidConfig options.now.sizes }
+    requires lines { All (LineIsThere boot.sizes.frames boot.sizes.cpus) lines.now }
+    ensures answers { IfOk result (λ text.
+        AreCheckedAnswers boot.sizes is_explained options.now.is_audited lines.now text.items) }
+    ensures fault { IfErr result (IsFailedTask (Replay is_explained true)) }
+{
+    let sizes = options.sizes;
+    let is_audited = options.is_audited;
+    match check_on_boot::<N>(alloc, boot, sizes, lines, is_explained, is_audited) {
+        Ok(answers) => Ok(answers),
+        Err(Stopped::NoMemory(error)) => Err(ProgramFault::NoMemory(error)),
+        Err(Stopped::NotLegal(line)) => Err(ProgramFault::IllegalStep(line)),
     }
 }
 

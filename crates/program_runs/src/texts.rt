@@ -54,6 +54,7 @@ Options:
       --stock <N>   Pages that a CPU charges ahead, 1 to 64 [default: 4]
       --audit       Reports at the end which pins were held, and the counts
       --explain     Explains after an answer why groups were killed for it
+      --check       Checks each step against the rules, and reports how many steps there were
   -h, --help        Print help
 $ memcg run --help
 Runs the lines before `go` in the same way, and the later ones in one thread for each CPU

@@ -20,9 +20,21 @@ const GOOD_WORDS: [(&str, Task, [u32; 5], bool); 12] = [
     ("replay --stock=9", PLAIN_REPLAY, [16, 2, 4, 8, 9], false),
     (
         "replay --frames=1048576 --cpus 64 --batch 64 --high 256 --stock 64 --audit --explain",
-        Task::Replay { is_explained: true },
+        Task::Replay {
+            is_explained: true,
+            is_checked: false,
+        },
         [1_048_576, 64, 64, 256, 64],
         true,
+    ),
+    (
+        "replay --check",
+        Task::Replay {
+            is_explained: false,
+            is_checked: true,
+        },
+        [16, 2, 4, 8, 4],
+        false,
     ),
     (
         "replay --frames=40 --cpus=3 --batch=5 --high=12 --stock=7 --audit",
@@ -48,6 +60,7 @@ const GOOD_WORDS: [(&str, Task, [u32; 5], bool); 12] = [
 
 const PLAIN_REPLAY: Task = Task::Replay {
     is_explained: false,
+    is_checked: false,
 };
 
 #[test]
@@ -100,6 +113,10 @@ const BAD_WORDS: [(&str, &str); 25] = [
     (
         "run --explain",
         "error: unexpected argument '--explain' found\n",
+    ),
+    (
+        "run --check",
+        "error: unexpected argument '--check' found\n",
     ),
     ("run --frames=0", "error: "),
     ("run run", ""),

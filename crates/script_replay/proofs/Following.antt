@@ -33,6 +33,8 @@ use Rattle.step_rules.specs.declared.step.Answer.{Answer as Said}
 use Rattle.step_rules.specs.declared.step.Answer.TheVariants as says
 use Rattle.step_rules.specs.State.{State}
 use Rattle.step_rules.specs.After.{Run, state_of, IsLegalRun}
+use Rattle.step_watch.specs.Watched.{KnownWatch, Watches}
+use Rattle.step_watch.proofs.Watching.{watches_none}
 use Rattle.mem_machine.specs.declared.frame_state.FrameState.{FrameState}
 use Rattle.mem_machine.specs.declared.frame_state.FrameState.TheVariants as frame_state_is
 use Rattle.mem_machine.specs.FrameStates.{frame_state_at}
@@ -61,7 +63,7 @@ use Rattle.reply_texts.specs.Answer as answer
 use Rattle.script_replay.specs.declared.work.Work.{Work}
 use Rattle.script_replay.specs.declared.work.Work.TheVariants as work
 use Rattle.script_replay.specs.Answers.{RepliesServed, GetsPin, PutsPin, CanNotList, AnswersRelease, AnswersFrame, IsServedUnderLock, SettlesUnderLock}
-use Rattle.script_replay.specs.Answers.{AnswersWork, WritesWork, fast_steps, get_steps, put_steps}
+use Rattle.script_replay.specs.Answers.{AnswersWork, OnlyWatched, WritesWork, fast_steps, get_steps, put_steps, locked_with_watch}
 use Rattle.script_replay.specs.Ranges.{WorkInRange}
 use Rattle.mem_machine.specs.Counting.{counts_over}
 use Rattle.mem_machine.specs.Following.{FollowsSteps}
@@ -125,6 +127,25 @@ module _ (t : KnownTable) (m : KnownMachine) (c : KnownCpu) where
   list_unseen f d (inl is) = unseen_same d is.stays
   list_unseen f d (inr is) = drop_unseen f d is.drained
 
+-- ---- the watch is seen by no one
+
+-- the run that shows a machine shows it with another watch too
+pub shows_watched : (t : KnownTable) (run : Run) (m : KnownMachine) (cpus : List KnownCpu) (watch : KnownWatch) → ShowsAll t run m cpus
+    → ShowsAll t run (record m { watch = watch }) cpus
+shows_watched t run m cpus watch shows = record {
+  legal = shows.legal;
+  free = shows.free;
+  count = shows.count;
+  each = λ j e at. let was = shows.each j e at in record { number = was.number; sees = was.sees };
+}
+
+-- nothing was taken where nothing changed
+pub not_watched : (before after : KnownLocked) → after ≡ before → OnlyWatched [] before after
+not_watched before after same = record {
+  locked = same ∙ ap (λ (l : KnownLocked). locked_with_watch before l.machine.watch) (sym same);
+  watched = subst (λ (l : KnownLocked). Watches before.machine.watch [] l.machine.watch) (sym same) (watches_none before.machine.watch);
+}
+
 -- ---- one part of the whole
 
 module _ (t : KnownTable) (w : Words) (run : Run) (locked : KnownLocked) (cpus : List KnownCpu) (k : ℕ) (c : KnownCpu)
@@ -148,11 +169,11 @@ module _ (t : KnownTable) (w : Words) (run : Run) (locked : KnownLocked) (cpus :
   GoesOn steps = IsLegalRun (zone_of t) (run ++ steps)
 
   -- nothing that is seen changed
-  unseen_follows : (after : LockedState) → after.locked ≡ locked → IsUnseen t m c after.cpu → Follows [] after
+  unseen_follows : (after : LockedState) → OnlyWatched [] locked after.locked → IsUnseen t m c after.cpu → Follows [] after
   unseen_follows after kept unseen =
       let d = after.cpu in (
         subst (λ (r : Run). ShowsAll t r after.locked.machine (slice_set cpus k d)) (sym (append-nil run))
-            (subst (λ (l : KnownLocked). ShowsAll t run l.machine (slice_set cpus k d)) (sym kept) (record {
+            (subst (λ (l : KnownLocked). ShowsAll t run l.machine (slice_set cpus k d)) (sym kept.locked) (shows_watched t run m (slice_set cpus k d) after.locked.machine.watch (record {
               legal = shows.legal;
               free = shows.free;
               count = length-set cpus k d ∙ shows.count;
@@ -166,37 +187,55 @@ module _ (t : KnownTable) (w : Words) (run : Run) (locked : KnownLocked) (cpus :
                     })
                 | inr ne ↦ shows.each j e (set_else cpus k j d e ne at)
               ];
-            })),
+            }))),
         λ told. subst (λ (r : Run). TellsRun t r after.locked.machine.ledger) (sym (append-nil run))
-            (subst (λ (l : KnownLocked). TellsRun t run l.machine.ledger) (sym kept) told),
+            (subst (λ (l : KnownLocked). TellsRun t run l.machine.ledger) (sym kept.locked) told),
       )
 
-  -- served under the lock, after a look at its own stock
-  served_follows : (seen : KnownCpu) → IsUnseen t m c seen → (command : Cmd) (reply : Reply) (after : LockedState) →
-      (is : IsServed t command reply (locked_state locked seen) after) → AllShut after.locked.machine → GoesOn (under_lock p is.steps) → Follows (under_lock p is.steps) after
-  served_follows seen unseen command reply after is shut legal =
-      let leads : Makes t (visit_state m c) is.steps (visit_state after.locked.machine after.cpu) = record {
-        leads = subst (λ (x : ℕ × State). IsLocalRun x.0 x.1 is.steps (local_of t after.locked.machine after.cpu)) (λ i. (unseen.number i, unseen.same i))
+  -- served under the lock, which the watch has taken, after a look at its own stock
+  served_follows : (seen : KnownCpu) → IsUnseen t m c seen → (found : KnownLocked) (watch : KnownWatch) → found ≡ locked_with_watch locked watch →
+      (command : Cmd) (reply : Reply) (after : LockedState) → (is : IsServed t command reply (locked_state found seen) after) → AllShut after.locked.machine →
+      GoesOn (under_lock p is.steps) → Follows (under_lock p is.steps) after
+  served_follows seen unseen found watch locks command reply after is shut legal =
+      let n : KnownMachine = found.machine in
+      let shown : ShowsAll t run n cpus = subst (λ (l : KnownLocked). ShowsAll t run l.machine cpus) (sym locks) (shows_watched t run m cpus watch shows) in
+      let same : local_of t n seen ≡ local_of t n c =
+      subst (λ (l : KnownLocked). local_of t l.machine seen ≡ local_of t l.machine c) (sym locks) unseen.same in
+      let leads : Makes t (visit_state n c) is.steps (visit_state after.locked.machine after.cpu) = record {
+        leads = subst (λ (x : ℕ × State). IsLocalRun x.0 x.1 is.steps (local_of t after.locked.machine after.cpu)) (λ i. (unseen.number i, same i))
             is.makes.leads;
-        follows = subst (λ (x : State). FollowsSteps x m.ledger is.steps after.locked.machine.ledger) unseen.same is.makes.follows;
-        counts = is.makes.counts ∙ ap (λ (x : State). counts_over x is.steps m.counts) unseen.same;
+        follows = subst (λ (x : State). FollowsSteps x n.ledger is.steps after.locked.machine.ledger) same is.makes.follows;
+        counts = is.makes.counts ∙ ap (λ (x : State). counts_over x is.steps n.counts) same;
+        watched = is.makes.watched;
       } in
-      let serves : ServesAt t cpus k (visit_state m c) is.steps (visit_state after.locked.machine after.cpu) = record {
+      let serves : ServesAt t cpus k (visit_state n c) is.steps (visit_state after.locked.machine after.cpu) = record {
         is_part = is_part;
         leads = leads;
-        decided = legal_lines_are_decided t run cpus k (visit_state m c) is.steps (visit_state after.locked.machine after.cpu) shows is_part leads legal;
+        decided = legal_lines_are_decided t run cpus k (visit_state n c) is.steps (visit_state after.locked.machine after.cpu) shown is_part leads legal;
         shut = shut;
       } in (
-        lines_follow t run cpus k (visit_state m c) is.steps (visit_state after.locked.machine after.cpu) shows serves,
-        lines_tell t run cpus k (visit_state m c) is.steps (visit_state after.locked.machine after.cpu) shows serves,
+        lines_follow t run cpus k (visit_state n c) is.steps (visit_state after.locked.machine after.cpu) shown serves,
+        λ told. lines_tell t run cpus k (visit_state n c) is.steps (visit_state after.locked.machine after.cpu) shown serves
+            (subst (λ (l : KnownLocked). TellsRun t run l.machine.ledger) (sym locks) told),
       )
 
+  -- the same, after the watch took more steps
+  watched_follows : (steps more : Run) (left : KnownLocked) (after : LockedState) → OnlyWatched more left after.locked →
+      Follows steps (locked_state left after.cpu) → Follows steps after
+  watched_follows steps more left after only follows = (
+    subst (λ (l : KnownLocked). ShowsAll t (run ++ steps) l.machine (slice_set cpus k after.cpu)) (sym only.locked)
+        (shows_watched t (run ++ steps) left.machine (slice_set cpus k after.cpu) after.locked.machine.watch follows.0),
+    λ told. subst (λ (l : KnownLocked). TellsRun t (run ++ steps) l.machine.ledger) (sym only.locked) (follows.1 told),
+  )
+
   -- a step without the lock
-  step_follows : (action : Action) (said : Said) (after : LockedState) → after.locked ≡ locked → after.cpu.number ≡ p → is_fast action ≡ true →
-      said ≢ says.Illegal → Makes t (visit_state m c) (cpu_makes p action said ∷ []) (visit_state m after.cpu) → GoesOn (cpu_makes p action said ∷ []) →
-      Follows (cpu_makes p action said ∷ []) after
+  step_follows : (action : Action) (said : Said) (after : LockedState) → (kept : OnlyWatched (cpu_makes p action said ∷ []) locked after.locked) →
+      after.cpu.number ≡ p → is_fast action ≡ true → said ≢ says.Illegal →
+      Makes t (visit_state m c) (cpu_makes p action said ∷ []) (visit_state (record m { watch = after.locked.machine.watch }) after.cpu) →
+      GoesOn (cpu_makes p action said ∷ []) → Follows (cpu_makes p action said ∷ []) after
   step_follows action said after kept number quick made leads legal =
-      let serves : ServesFast t cpus k (visit_state m c) action said (visit_state m after.cpu) = record {
+      let n : KnownMachine = record m { watch = after.locked.machine.watch } in
+      let serves : ServesFast t cpus k (visit_state m c) action said (visit_state n after.cpu) = record {
         is_part = is_part;
         number = number;
         fast = quick;
@@ -204,10 +243,10 @@ module _ (t : KnownTable) (w : Words) (run : Run) (locked : KnownLocked) (cpus :
         leads = leads;
         decided = legal_fast_steps_are_decided t run cpus k m c action said shows is_part quick made legal;
       } in (
-        subst (λ (l : KnownLocked). ShowsAll t (run ++ cpu_makes p action said ∷ []) l.machine (slice_set cpus k after.cpu)) (sym kept)
-            (fast_lines_follow t run cpus k (visit_state m c) action said (visit_state m after.cpu) shows serves),
-        λ told. subst (λ (l : KnownLocked). TellsRun t (run ++ cpu_makes p action said ∷ []) l.machine.ledger) (sym kept)
-            (fast_lines_tell t run cpus k (visit_state m c) action said (visit_state m after.cpu) shows serves told),
+        subst (λ (l : KnownLocked). ShowsAll t (run ++ cpu_makes p action said ∷ []) l.machine (slice_set cpus k after.cpu)) (sym kept.locked)
+            (fast_lines_follow t run cpus k (visit_state m c) action said (visit_state n after.cpu) shows serves),
+        λ told. subst (λ (l : KnownLocked). TellsRun t (run ++ cpu_makes p action said ∷ []) l.machine.ledger) (sym kept.locked)
+            (fast_lines_tell t run cpus k (visit_state m c) action said (visit_state n after.cpu) shows serves told),
       )
 
   this_part : IsPart t w run m cpus k c
@@ -217,14 +256,15 @@ module _ (t : KnownTable) (w : Words) (run : Run) (locked : KnownLocked) (cpus :
   as_made : (steps made : Run) (after : LockedState) → steps ≡ made → (GoesOn made → Follows made after) → GoesOn steps → Follows steps after
   as_made steps made after are follows legal = subst (λ (r : Run). Follows r after) (sym are) (follows (subst GoesOn are legal))
 
-  got_follows : (g f : ℕ) (after : LockedState) → FastAnswers g (Got f) c after.cpu → after.locked ≡ locked → GoesOn (fast_steps p g (Got f)) →
+  got_follows : (g f : ℕ) (after : LockedState) → FastAnswers g (Got f) c after.cpu → OnlyWatched (fast_steps p g (Got f)) locked after.locked → GoesOn (fast_steps p g (Got f)) →
       Follows (fast_steps p g (Got f)) after
   got_follows g f after is kept legal =
       step_follows (step.Consume g) says.Took after kept (ap (λ (x : KnownCpu). x.number) is.5) refl (λ e. cc)
       (fast_calls_lead.got t w run m cpus k c after.cpu this_part g f is
-      (legal_fast_steps_are_decided t run cpus k m c (step.Consume g) says.Took shows is_part refl (λ e. cc) legal)) legal
+      (legal_fast_steps_are_decided t run cpus k m c (step.Consume g) says.Took shows is_part refl (λ e. cc) legal)
+      after.locked.machine.watch kept.watched) legal
 
-  fast_follows : (g : ℕ) (said : fast.Fast) (after : LockedState) → FastAnswers g said c after.cpu → after.locked ≡ locked → GoesOn (fast_steps p g said) →
+  fast_follows : (g : ℕ) (said : fast.Fast) (after : LockedState) → FastAnswers g said c after.cpu → OnlyWatched (fast_steps p g said) locked after.locked → GoesOn (fast_steps p g said) →
       Follows (fast_steps p g said) after
   fast_follows g FreshFull after is kept legal = unseen_follows after kept (fast_unseen t m c g FreshFull after.cpu is (λ f e. cc))
   fast_follows g ListEmpty after is kept legal = unseen_follows after kept (fast_unseen t m c g ListEmpty after.cpu is (λ f e. cc))
@@ -233,11 +273,11 @@ module _ (t : KnownTable) (w : Words) (run : Run) (locked : KnownLocked) (cpus :
   fast_follows g NoStock after is kept legal = unseen_follows after kept (fast_unseen t m c g NoStock after.cpu is (λ f e. cc))
   fast_follows g (Got f) after is kept legal = got_follows g f after is kept legal
 
-  get_follows : (f : ℕ) (after : LockedState) (said : Answer) → f < t.frames → GetsPin f c after.cpu said → after.locked ≡ locked → GoesOn (get_steps p f said) →
+  get_follows : (f : ℕ) (after : LockedState) (said : Answer) → f < t.frames → GetsPin f c after.cpu said → OnlyWatched (get_steps p f said) locked after.locked → GoesOn (get_steps p f said) →
       Follows (get_steps p f said) after
   get_follows f after (answer.Got Held) inside is kept legal =
       step_follows (step.Get f) says.Held after kept (ap (λ (x : KnownCpu). x.number) is.1.2) refl (λ e. cc)
-      (fast_calls_lead.held t w run m cpus k c after.cpu this_part f inside is.0 is.1) legal
+      (fast_calls_lead.held t w run m cpus k c after.cpu this_part f inside is.0 is.1 after.locked.machine.watch kept.watched) legal
   get_follows f after (answer.Got Zero) inside is kept legal =
       unseen_follows after kept (unseen_seat t m c after.cpu is.1.0 f (looked is.1.1.0) is.1.2 is.1.1.2 (λ x. refl))
   get_follows f after (answer.Got (Raced found)) inside is kept legal =
@@ -247,10 +287,11 @@ module _ (t : KnownTable) (w : Words) (run : Run) (locked : KnownLocked) (cpus :
   get_follows f after (answer.Served (Refused PinsFull)) inside is kept legal = unseen_follows after kept (unseen_same t m c after.cpu is.1)
   get_follows f after said inside is kept legal = absurd is
 
-  put_follows : (f : ℕ) (after : LockedState) (said : Answer) → PutsPin f c after.cpu said → after.locked ≡ locked → GoesOn (put_steps p f said) → Follows (put_steps p f said) after
+  put_follows : (f : ℕ) (after : LockedState) (said : Answer) → PutsPin f c after.cpu said → OnlyWatched (put_steps p f said) locked after.locked → GoesOn (put_steps p f said) →
+      Follows (put_steps p f said) after
   put_follows f after (answer.Put putted) is kept legal =
       step_follows (step.Put f) (put_answer putted) after kept (put_number putted is.1) refl (put_made putted)
-      (fast_calls_lead.putted t w run m cpus k c after.cpu this_part f putted is.1) legal
+      (fast_calls_lead.putted t w run m cpus k c after.cpu this_part f putted is.1 after.locked.machine.watch kept.watched) legal
     where
       put_number : (x : Putted) → UnpinAnswers f x c after.cpu → after.cpu.number ≡ p
       put_number (put.Left n) a = ap (λ (y : KnownCpu). y.number) a.3
@@ -266,8 +307,10 @@ module _ (t : KnownTable) (w : Words) (run : Run) (locked : KnownLocked) (cpus :
   locked_follows : (seen : KnownCpu) → IsUnseen t m c seen → (command : Cmd) (reply : Reply) (steps : Run) (after : LockedState) →
       IsServedUnderLock command seen reply (transition t before steps after) → AllShut after.locked.machine → GoesOn steps → Follows steps after
   locked_follows seen unseen command reply steps after is shut legal =
+      let left_shut : AllShut is.left.machine = subst (λ (l : KnownLocked). AllShut l.machine) is.unlock.locked shut in
       as_made steps (under_lock p is.served.steps) after (is.steps_are ∙ ap (λ (q : ℕ). under_lock q is.served.steps) unseen.number)
-      (λ all. served_follows seen unseen command reply after is.served shut all) legal
+      (λ all. watched_follows (under_lock p is.served.steps) (cpu_makes seen.number step.Unlock says.Done ∷ []) is.left after is.unlock
+      (served_follows seen unseen is.found is.found.machine.watch is.lock.locked command reply (locked_state is.left after.cpu) is.served left_shut all)) legal
 
   replied_follows : (command : Cmd) (steps : Run) (after : LockedState) (said : Answer) → RepliesServed command (transition t before steps after) said → AllShut after.locked.machine →
       GoesOn steps → Follows steps after
@@ -281,7 +324,8 @@ module _ (t : KnownTable) (w : Words) (run : Run) (locked : KnownLocked) (cpus :
       as_made steps (fast_steps p is.gets.group (Got f)) after is.alone.steps_are
       (λ all. got_follows is.gets.group f after is.gets.got is.alone.locked all) legal
   frame_follows path steps after (answer.Served reply) false none shut legal =
-      as_made steps [] after none.1 (λ all. unseen_follows after none.0.same_locked (unseen_same t m c after.cpu none.0.same_cpu)) legal
+      as_made steps [] after none.1 (λ all. unseen_follows after (not_watched locked after.locked none.0.same_locked)
+      (unseen_same t m c after.cpu none.0.same_cpu)) legal
   frame_follows path steps after (answer.Served reply) true served shut legal =
       let none = served.none in
       locked_follows served.seen (fast_unseen t m c none.group none.fast served.seen none.answers none.none) (cmd.Alloc path 0) reply steps after served.served
@@ -294,7 +338,8 @@ module _ (t : KnownTable) (w : Words) (run : Run) (locked : KnownLocked) (cpus :
       as_made steps (cpu_makes p (step.Credit f) says.Back ∷ []) after is.1.steps_are
       (λ all. step_follows (step.Credit f) says.Back after is.1.locked (ap (λ (x : KnownCpu). x.number) is.0.listed.5) refl (λ e. cc)
       (fast_calls_lead.listed t w run m cpus k c after.cpu this_part f is.0.fresh is.0.listed
-      (legal_fast_steps_are_decided t run cpus k m c (step.Credit f) says.Back shows is_part refl (λ e. cc) all)) all) legal
+      (legal_fast_steps_are_decided t run cpus k m c (step.Credit f) says.Back shows is_part refl (λ e. cc) all)
+      after.locked.machine.watch is.1.locked.watched) all) legal
   release_follows f steps after (answer.Served reply) true is shut legal =
       locked_follows is.seen (list_unseen t m c f is.seen is.not_listed) (cmd.Release f) reply steps after is.served shut legal
   release_follows f steps after said may_kill is shut legal = absurd is

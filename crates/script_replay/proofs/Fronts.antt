@@ -16,7 +16,18 @@ module _ (on : Terms) (l : KnownLocked) (c seen : KnownCpu) (after : LockedState
       → AnswersWork (Visit (cmd.Alloc path 0)) (transition on.frames (locked_state l seen) steps after) said may_kill
       → AnswersWork (Frame path) (transition on.frames (locked_state l c) steps after) said may_kill
   allocated path none steps (Served reply) true is =
-      record { seen = seen; none = none; served = record { served = is.served; steps_are = is.steps_are } }
+      record {
+        seen = seen;
+        none = none;
+        served = record {
+          found = is.found;
+          left = is.left;
+          lock = is.lock;
+          served = is.served;
+          unlock = is.unlock;
+          steps_are = is.steps_are;
+        };
+      }
   allocated path none steps said true is = absurd is
   allocated path none steps said false is = absurd is
 
@@ -37,7 +48,18 @@ module _ (on : Terms) (l : KnownLocked) (c seen : KnownCpu) (after : LockedState
       → AnswersWork (Visit (cmd.Release f)) (transition on.frames (locked_state l seen) steps after) said may_kill
       → AnswersWork (Release f) (transition on.frames (locked_state l c) steps after) said may_kill
   released f can_not steps (Served reply) true is =
-      record { seen = seen; not_listed = can_not; served = record { served = is.served; steps_are = is.steps_are } }
+      record {
+        seen = seen;
+        not_listed = can_not;
+        served = record {
+          found = is.found;
+          left = is.left;
+          lock = is.lock;
+          served = is.served;
+          unlock = is.unlock;
+          steps_are = is.steps_are;
+        };
+      }
   released f can_not steps said true is = absurd is
   released f can_not steps said false is = absurd is
 

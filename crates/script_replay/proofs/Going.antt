@@ -1,9 +1,10 @@
 -- The lines that were served so far, and their history. Serves `serve_line`, `replay`.
-use Rattle.std.proofs.Common.{Result, ◌≡◌, ℕ, ◌+◌, ◌-◌, ◌<◌, ◌≤◌, Some, None, List, [], ◌∷◌, ◌++◌, length, take, get_or, append-nil, ap, refl, sym, ◌∙◌, subst, arith, inl, inr}
+use Rattle.std.proofs.Common.{Result, ◌≡◌, ℕ, ◌+◌, ◌-◌, ◌<◌, ◌≤◌, true, false, Some, None, List, [], ◌∷◌, ◌++◌, length, take, get_or, append-nil, ap, refl, sym, ◌∙◌, subst, arith, inl, inr}
 use Rattle.std.specs.Prelude.{IfSome, Option, slice_set}
 use Rattle.std.specs.List.{slice_get}
 use Rattle.std.specs.declared.string.String.{String}
 use Rattle.std.proofs.lemmas.Bool.{cases_eq}
+use Rattle.std.proofs.lemmas.List.{get_or_default}
 use Rattle.std.proofs.lemmas.Option.{slice_get_within, slice_get_read, none-some}
 use Rattle.frame_word.specs.Seats.{KnownTable}
 use Rattle.stock_word.specs.declared.view.Stock.{Stock}
@@ -24,14 +25,16 @@ use Rattle.script_lines.specs.declared.line.Command.{Command}
 use Rattle.script_lines.specs.declared.line.Line.{Line}
 use Rattle.script_lines.specs.declared.line.Line.TheVariants.{Go, At}
 use Rattle.script_replay.specs.Answers.{AddsText, ServesCommand, WritesWork}
-use Rattle.script_replay.specs.Lines.{SystemState, system_state, AtPart, InOrder, ServesLine, ServesAll, StopsAt}
-use Rattle.script_replay.specs.History.{Past, past, past_line, TellsHistory, Replays, ServesAndKeeps, HoldsInvariants}
+use Rattle.script_replay.specs.Lines.{SystemState, system_state, AtPart, InOrder, ServesLine, ServesAll, StopsAt, number_in_script}
+use Rattle.script_replay.specs.History.{Past, past, past_line, TellsHistory, Replays, ReplaysLegally, ServesAndKeeps, StopsFor, HoldsInvariants}
+use Rattle.script_replay.specs.declared.value_replay.Stopped.TheVariants.{NotLegal}
 use Rattle.script_replay.specs.Ranges.{LineIsThere}
 use Rattle.script_replay.specs.Terms.{Terms}
 use Rattle.script_replay.specs.Works.{work_of}
 use Rattle.script_replay.proofs.InOrder.{in_order_line}
 use Rattle.script_replay.proofs.InRange.{work_in_range}
 use Rattle.script_replay.proofs.Following.{work_follows}
+use Rattle.script_replay.proofs.Seeing.{legal_history, line_seen}
 
 -- ---- one line
 
@@ -147,6 +150,7 @@ keeps_history on (line ∷ lines) before e text shows tied all =
       between = mid;
       steps = steps;
       writes_first = one.serves.writes;
+      watched = line_seen on.frames on.is_explained line before.now steps mid all.first one.serves.writes;
       kept_where_legal = λ legal. record {
         tells = (follows legal).1;
         promise = the_whole_is_promised on.frames on.stocks next mid.locked.machine mid.cpus (follows legal).0 one.keeps.holds.consistent one.keeps.holds.charges tied_then
@@ -161,6 +165,14 @@ pub all_replayed : (on : Terms) (lines : List Line) (s e : SystemState) (text : 
 all_replayed on lines s e text all = record {
   served = all_served on lines s e text all;
   history = λ run shows tied. keeps_history on lines (past run s) e text (λ legal. shows) tied all;
+}
+
+-- and legally, if the watch allowed all their steps
+pub all_replayed_legally : (on : Terms) (lines : List Line) (s e : SystemState) (text : List ℕ) → ServesAllAndKeeps on lines s e text
+    → e.locked.machine.watch.is_legal ≡ true → ReplaysLegally on lines s e text
+all_replayed_legally on lines s e text all allowed = let replays = all_replayed on lines s e text all in record {
+  served = replays.served;
+  history = λ shows tied told new. legal_history on lines s e text (replays.history [] shows tied) told new allowed;
 }
 
 -- memory ran out for the text of the next line
@@ -178,3 +190,20 @@ keeps_stop on s m e lines i default text more inside all one =
       text = said;
       served = all_replayed on first s e said served;
     }
+
+-- the number of the line after so many, as a stop behind it names the line
+pub numbers_stop : (lines : List Line) (i : ℕ) (default : Line) → i < length lines
+    → number_in_script (get_or lines i default) ≡ number_in_script (get_or lines (i + 1 - 1) Go)
+numbers_stop lines i default inside =
+    let back : i ≡ i + 1 - 1 = omega arith in
+    ap number_in_script (get_or_default lines i default Go inside ∙ ap (λ (k : ℕ). get_or lines k Go) back)
+
+-- the watch didn't allow a step of the next line
+pub stops_illegal : (on : Terms) (s m e : SystemState) (lines : List Line) (i : ℕ) (default : Line) (text more : List ℕ)
+    → i < length lines → ServesAllAndKeeps on (take i lines) s m text → ServesAndKeeps on (get_or lines i default) m e more
+    → e.locked.machine.watch.is_legal ≡ false → (n : ℕ) → n ≡ number_in_script (get_or lines i default) → StopsFor on lines s e (NotLegal n)
+unfolding keeps_stop
+stops_illegal on s m e lines i default text more inside all one off n is = record {
+  stops = keeps_stop on s m e lines i default text more inside all one;
+  reason = (off, is ∙ numbers_stop lines i default inside);
+}

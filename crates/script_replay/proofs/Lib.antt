@@ -2,6 +2,9 @@ pub mod Fronts
 pub mod InOrder
 pub mod InRange
 pub mod Going
+pub mod Taking
 pub mod Telling
 pub mod Following
+pub mod Seeing
+pub mod UnderLock
 pub mod Visiting

@@ -2,18 +2,15 @@
 use Rattle.std.proofs.Common.{◌≡◌, ◌∙◌, ◌++◌, ◌&&◌, Bool, true, false, List, ℕ, Result, Ok, Err, IfOk, IfErr, ap, append_assoc, append-nil, refl, sym}
 use Rattle.std.specs.declared.string.String.{String}
 use Rattle.std.specs.String.{string_bytes}
-use Rattle.mem_history.specs.Whole.{under_lock}
 use Rattle.mem_system.specs.declared.command.Cmd.{Cmd}
 use Rattle.mem_system.specs.declared.command.Reply.{Reply}
-use Rattle.mem_system.specs.Locked.{KnownLocked}
-use Rattle.mem_system.specs.Visits.{Transition, LockedState, locked_state, IsServed}
+use Rattle.mem_system.specs.Visits.{Transition, LockedState}
 use Rattle.reply_texts.specs.Answer.{Answer, Served}
 use Rattle.reply_texts.specs.Answers.{answer_text}
 use Rattle.reply_texts.specs.Replies.{reply_text}
-use Rattle.cpu_part.specs.Cpus.{KnownCpu}
 use Rattle.script_replay.specs.declared.work.Work.{Work}
 use Rattle.script_replay.specs.declared.work.Work.TheVariants.{Visit, Settle}
-use Rattle.script_replay.specs.Answers.{AddsAnswer, AddsText, AnswersWork, ServesWork, WritesAnswer, kills_text}
+use Rattle.script_replay.specs.Answers.{AddsAnswer, AddsText, AnswersWork, ServesUnderLock, ServesWork, WritesAnswer, kills_text}
 use Rattle.script_replay.specs.Terms.{Terms}
 
 -- what holds of a text holds of the text that was added
@@ -63,14 +60,14 @@ settle_alone is_explained way text writes = tells writes.said writes.may_kill wr
     tells said true answered is = absurd answered
 
 -- a command that was served under the lock: its reply, followed by the explanation of its kills
-pub served : (on : Terms) (command : Cmd) (l : KnownLocked) (c : KnownCpu) (after : LockedState) (reply : Reply) → IsServed on.frames command reply (locked_state l c) after
-    → ServesWork on (Visit command) (locked_state l c) after (reply_text reply ++ kills_text on.is_explained after.locked.machine)
-served on command l c after reply is = record {
-  steps = under_lock c.number is.steps;
+pub served : (on : Terms) (command : Cmd) (before after : LockedState) (reply : Reply) → ServesUnderLock on.frames command reply before after
+    → ServesWork on (Visit command) before after (reply_text reply ++ kills_text on.is_explained after.locked.machine)
+served on command before after reply is = record {
+  steps = is.steps;
   writes = record {
     said = Served reply;
     may_kill = true;
-    answered = record { served = is; steps_are = refl };
+    answered = is.served;
     text_is = refl;
   };
 }

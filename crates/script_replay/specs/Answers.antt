@@ -2,12 +2,16 @@
 -- relates a transition to an answer, and `Writes..` relates a transition to a text. `Serves..` relates the state
 -- before, the state after and a text, by some steps.
 use Rattle.std.specs.Prelude.{◌≡◌, ◌≢◌, ◌⊎◌, ℕ, ◌+◌, ◌<◌, ◌≤◌, Bool, true, false, ◌&&◌, List, [], ◌∷◌, ◌++◌, Some}
-use Rattle.std.specs.Prelude.{None, Result, IfOk, length}
+use Rattle.std.specs.Prelude.{None, Option, Result, Ok, Err, IfOk, length}
 use Rattle.std.specs.declared.string.String.{String}
 use Rattle.std.specs.Borrow.{Bor}
 use Rattle.std.specs.String.{string_bytes}
+use Rattle.frame_word.specs.declared.answers.Get.{Get as GetAnswer}
 use Rattle.frame_word.specs.declared.answers.Get.TheVariants.{Held}
+use Rattle.frame_word.specs.declared.answers.Put.{Put as PutAnswer}
+use Rattle.frame_word.specs.Seats.{KnownTable}
 use Rattle.group_tree.specs.Groups.{number_at}
+use Rattle.group_tree.specs.declared.fault.Fault.{Fault}
 use Rattle.group_tree.specs.declared.fault.Fault.TheVariants.{NoGroup, PinsFull, NotPinned}
 use Rattle.cpu_part.specs.declared.answers.Fast as cpu
 use Rattle.cpu_part.specs.declared.answers.Fast.TheVariants.{Got}
@@ -17,10 +21,11 @@ use Rattle.cpu_part.specs.Calls.{FastAnswers, DropAnswers, PinAnswers, UnpinAnsw
 use Rattle.step_rules.specs.declared.step.Action.TheVariants as step
 use Rattle.step_rules.specs.declared.step.Answer.TheVariants as says
 use Rattle.step_rules.specs.After.{Run}
+use Rattle.step_watch.specs.Watched.{KnownWatch, Watches}
 use Rattle.kill_texts.specs.Explanation.{explanation_text}
 use Rattle.machine_texts.specs.Blocks.{blocks_text}
 use Rattle.machine_texts.specs.Show.{show_text}
-use Rattle.mem_machine.specs.Machines.{KnownMachine}
+use Rattle.mem_machine.specs.Machines.{KnownMachine, with_watch}
 use Rattle.mem_machine.specs.Steps.{cpu_makes}
 use Rattle.mem_history.specs.Whole.{under_lock}
 use Rattle.mem_history.specs.Leading.{put_answer}
@@ -28,6 +33,7 @@ use Rattle.mem_system.specs.declared.command.Cmd.{Cmd}
 use Rattle.mem_system.specs.declared.command.Cmd.TheVariants as cmd
 use Rattle.mem_system.specs.declared.command.Reply.{Reply}
 use Rattle.mem_system.specs.declared.command.Reply.TheVariants.{Done, Refused}
+use Rattle.mem_system.specs.Locked.{KnownLocked}
 use Rattle.mem_system.specs.Visits.{Transition, transition, LockedState, locked_state, IsServed}
 use Rattle.reply_texts.specs.Answer.{Answer}
 use Rattle.reply_texts.specs.Answer as answer
@@ -59,11 +65,22 @@ pub record IsTextOf (is_answered : Answer → Type 0) (text : List ℕ) : Type 0
 abbrev pub AddsAnswer : {Z T E : Type 0} → Result T E → String Z → String Z → (Answer → Type 0) → Type 0
 AddsAnswer result old new is_answered = AddsText result old new (IsTextOf is_answered)
 
+-- ---- the watch
+
+-- the same behind the lock, with this watch in the machine
+abbrev pub locked_with_watch : KnownLocked → KnownWatch → KnownLocked
+locked_with_watch locked watch = record locked { machine = with_watch locked.machine watch }
+
+-- the watch of the machine takes these steps, and nothing else changes behind the lock
+pub record OnlyWatched (steps : Run) (before after : KnownLocked) : Type 0 where
+  pub locked : after ≡ locked_with_watch before after.machine.watch
+  pub watched : Watches before.machine.watch steps after.machine.watch
+
 -- ---- without the lock
 
--- no lock is taken: only the CPU makes these steps, and what lies behind the lock stays the same
+-- no lock is taken: only the CPU makes these steps, and behind the lock the watch takes them
 pub record TakesNoLock (steps : Run) (way : Transition LockedState) : Type 0 where
-  pub locked : way.after.locked ≡ way.before.locked
+  pub locked : OnlyWatched steps way.before.locked way.after.locked
   pub steps_are : way.steps ≡ steps
 
 -- a fast allocation that got a frame made one step, which consumes a page; any other made no step
@@ -77,6 +94,11 @@ AnswersFast group way (answer.Fast fast) =
     FastAnswers group fast way.before.cpu way.after.cpu
     × TakesNoLock (fast_steps way.before.cpu.number group fast) way
 AnswersFast group way other = ⊥
+
+-- the answer to a Get, by what the call for the pin returned
+abbrev pub pin_answer : Result GetAnswer Fault → Answer
+pin_answer (Ok got) = answer.Got got
+pin_answer (Err fault) = answer.Served (Refused fault)
 
 -- Get: one more pin on the frame; refused if pins and back frames together are as many as the CPU can have
 abbrev pub GetsPin : (frame : ℕ) (before after : KnownCpu) → Answer → Type 0
@@ -97,6 +119,11 @@ AnswersGet frame way answer =
     GetsPin frame way.before.cpu way.after.cpu answer
     × TakesNoLock (get_steps way.before.cpu.number frame answer) way
 
+-- the answer to a Put, by what the put of a pin returned, or None if the CPU has no pin on the frame
+abbrev pub unpin_answer : Option PutAnswer → Answer
+unpin_answer None = answer.Served (Refused NotPinned)
+unpin_answer (Some left) = answer.Put left
+
 -- Put: one pin less on the frame; refused if the CPU has no pin on it
 abbrev pub PutsPin : (frame : ℕ) (before after : KnownCpu) → Answer → Type 0
 PutsPin frame before after (answer.Put put) = (1 ≤ times frame before.pins) × UnpinAnswers frame put before after
@@ -115,13 +142,22 @@ AnswersPut frame way answer =
     × TakesNoLock (put_steps way.before.cpu.number frame answer) way
 
 -- ---- with what lies behind the lock: no lock is taken by value, but in the history the steps are between a Lock and
--- an Unlock
+-- an Unlock, which the watch takes
 
--- the command is served under the lock for a CPU with the part `seen`: the steps are Lock, those of the command, and
--- Unlock
+-- The command is served under the lock for a CPU with the part `seen`: the steps are Lock, those of the command, and
+-- Unlock. The command finds `found` behind the lock, where the watch took the Lock, and leaves `left`.
 pub record IsServedUnderLock (command : Cmd) (seen : KnownCpu) (reply : Reply) (way : Transition LockedState) : Type 0 where
-  pub served : IsServed way.table command reply (locked_state way.before.locked seen) way.after
+  pub found : KnownLocked
+  pub left : KnownLocked
+  pub lock : OnlyWatched (cpu_makes seen.number step.Lock says.Done ∷ []) way.before.locked found
+  pub served : IsServed way.table command reply (locked_state found seen) (locked_state left way.after.cpu)
+  pub unlock : OnlyWatched (cpu_makes seen.number step.Unlock says.Done ∷ []) left way.after.locked
   pub steps_are : way.steps ≡ under_lock seen.number served.steps
+
+-- the command of a CPU was served under the lock with this reply, by some steps
+pub record ServesUnderLock (table : KnownTable) (command : Cmd) (reply : Reply) (before after : LockedState) : Type 0 where
+  pub steps : Run
+  pub served : IsServedUnderLock command before.cpu reply (transition table before steps after)
 
 -- the command was served under the lock, and its reply is the answer
 abbrev pub RepliesServed : Cmd → Transition LockedState → Answer → Type 0

@@ -1,10 +1,11 @@
 -- The history of lines: what their steps are, and what holds after each line.
-use Rattle.std.specs.Prelude.{◌≡◌, ℕ, List, [], ◌∷◌, ◌++◌, Result, Vec, IfOk, OnErr, length}
+use Rattle.std.specs.Prelude.{◌≡◌, ℕ, ◌-◌, false, List, [], ◌∷◌, ◌++◌, Result, Vec, IfErr, IfOk, OnErr, get_or, length, ⊤}
 use Rattle.frame_word.specs.Seats.{KnownTable}
 use Rattle.stock_word.specs.Stock.{Words}
 use Rattle.group_charge.specs.Charges.{AreCharges}
 use Rattle.step_rules.specs.After.{Run, IsLegalRun}
 use Rattle.step_rules.specs.Promise.{Promise}
+use Rattle.step_watch.specs.Watched.{IsNewWatch, SawRun, Watches}
 use Rattle.mem_machine.specs.Machines.{IsConsistent}
 use Rattle.mem_machine.specs.Interleaving.{zone_of}
 use Rattle.mem_machine.specs.Telling.{TellsRun}
@@ -13,7 +14,10 @@ use Rattle.mem_history.specs.Kept.{AreTied, shown_of}
 use Rattle.mem_system.specs.Locked.{IsQuiet, KnownLocked}
 use Rattle.mem_system.specs.Visits.{transition}
 use Rattle.script_lines.specs.declared.line.Line.{Line}
-use Rattle.script_replay.specs.Lines.{SystemState, ServesAll, ServesLine, StopsAt, WritesLine}
+use Rattle.script_lines.specs.declared.line.Line.TheVariants.{Go}
+use Rattle.script_replay.specs.declared.value_replay.Stopped.{Stopped}
+use Rattle.script_replay.specs.declared.value_replay.Stopped.TheVariants.{NoMemory, NotLegal}
+use Rattle.script_replay.specs.Lines.{SystemState, ServesAll, ServesLine, StopsAt, WritesLine, number_in_script}
 use Rattle.script_replay.specs.Ranges.{LineIsThere}
 use Rattle.script_replay.specs.Terms.{Terms}
 
@@ -38,8 +42,9 @@ pub record HoldsPromise (table : KnownTable) (earlier : Run) (before : SystemSta
   pub promise : Promise (zone_of table) run (shown_of now.locked.machine now.cpus)
   pub tells : TellsRun table earlier before.locked.machine.ledger → TellsRun table run now.locked.machine.ledger
 
--- The first line is served by these steps. If the run so far with these steps is legal, the promise holds after it, and
--- the ledger keeps the peaks and event counts of the run. The other lines have their history from there on.
+-- The first line is served by these steps, which the watch took. If the run so far with these steps is legal, the
+-- promise holds after it, and the ledger keeps the peaks and event counts of the run. The other lines have their history
+-- from there on.
 pub record TellsFirstAndRest (terms : Terms) (line : Line) (past : Past) (text : List ℕ)
     (tells_rest : Past → List ℕ → Type 0) : Type 0 where
   pub first : List ℕ
@@ -47,6 +52,7 @@ pub record TellsFirstAndRest (terms : Terms) (line : Line) (past : Past) (text :
   pub between : SystemState
   pub steps : Run
   pub writes_first : WritesLine terms.is_explained line (transition terms.frames past.now steps between) first
+  pub watched : Watches past.now.locked.machine.watch steps between.locked.machine.watch
   pub kept_where_legal : IsLegalRun (zone_of terms.frames) (past.run ++ steps)
       → HoldsPromise terms.frames past.run past.now (past.run ++ steps) between
   pub tells : tells_rest (past_line past steps between) rest
@@ -58,6 +64,40 @@ abbrev pub TellsHistory : Terms → List Line → Past → (after : SystemState)
 TellsHistory terms [] past after text = (text ≡ []) × (after ≡ past.now)
 TellsHistory terms (line ∷ lines) past after text =
     TellsFirstAndRest terms line past text (λ later rest. TellsHistory terms lines later after rest)
+
+-- the promise holds after the run, of what the machine and the CPUs show, and the ledger has the peaks and event counts
+-- of the run
+pub record KeepsPromise (table : KnownTable) (run : Run) (now : SystemState) : Type 0 where
+  pub promise : Promise (zone_of table) run (shown_of now.locked.machine now.cpus)
+  pub tells : TellsRun table run now.locked.machine.ledger
+
+-- The first line is served by these steps, and the promise holds after them. The other lines have such a history from
+-- there on.
+pub record KeepsFirstAndRest (terms : Terms) (line : Line) (past : Past) (text : List ℕ)
+    (keeps_rest : Past → List ℕ → Type 0) : Type 0 where
+  pub first : List ℕ
+  pub rest : List ℕ
+  pub between : SystemState
+  pub steps : Run
+  pub writes_first : WritesLine terms.is_explained line (transition terms.frames past.now steps between) first
+  pub kept : KeepsPromise terms.frames (past.run ++ steps) between
+  pub keeps : keeps_rest (past_line past steps between) rest
+  pub text_is : text ≡ first ++ rest
+
+-- The history of lines that keep the promise: they are served one after the other, as `ServesAll` says, and after each
+-- line the promise holds. `last` is the run of all their steps, and what it led to.
+abbrev pub KeepsHistory : Terms → List Line → Past → (last : Past) (text : List ℕ) → Type 0
+KeepsHistory terms [] past last text = (text ≡ []) × (last ≡ past)
+KeepsHistory terms (line ∷ lines) past last text =
+    KeepsFirstAndRest terms line past text (λ later rest. KeepsHistory terms lines later last rest)
+
+-- The watch saw all steps of the lines: they are one legal run, which the watch counted, and after each line the promise
+-- holds.
+pub record TellsLegalHistory (terms : Terms) (lines : List Line) (before after : SystemState) (text : List ℕ)
+    : Type 0 where
+  pub run : Run
+  pub saw : SawRun (zone_of terms.frames) run after.locked.machine.watch
+  pub history : KeepsHistory terms lines (past [] before) (past run after) text
 
 -- the lines are served one after the other; they have a history from each run that shows the state before them, if the
 -- parts agree with their seats
@@ -72,6 +112,33 @@ pub record ReplaysOrStops {Z E : Type 0} (terms : Terms) (lines : List Line) (be
     (result : Result (Vec ℕ Z) E) : Type 0 where
   pub replayed : IfOk result (λ answers. Replays terms lines before after answers.items)
   pub stopped : OnErr result (StopsAt (Replays terms) lines before after)
+
+-- the lines are served one after the other; they have a legal history from a boot whose watch is new, and whose ledger
+-- has the peaks and event counts of no step
+pub record ReplaysLegally (terms : Terms) (lines : List Line) (before after : SystemState) (text : List ℕ) : Type 0 where
+  pub served : ServesAll terms lines before after text
+  pub history : ShowsAll terms.frames [] before.locked.machine before.cpus → AreTied terms.frames terms.stocks before.cpus
+      → TellsRun terms.frames [] before.locked.machine.ledger → IsNewWatch (zone_of terms.frames) before.locked.machine.watch
+      → TellsLegalHistory terms lines before after text
+
+-- why a checked replay stopped after so many lines: memory ran out for the text of the last of them; or the watch
+-- didn't allow a step, and the last of them has this number
+abbrev pub IsReason : (lines : List Line) (number : ℕ) (after : SystemState) → Stopped → Type 0
+IsReason lines number after (NoMemory error) = ⊤
+IsReason lines number after (NotLegal line) =
+    (after.locked.machine.watch.is_legal ≡ false) × (line ≡ number_in_script (get_or lines (number - 1) Go))
+
+-- a checked replay stopped for this reason: the lines up to the one where it stopped were served
+pub record StopsFor (terms : Terms) (lines : List Line) (before after : SystemState) (why : Stopped) : Type 0 where
+  pub stops : StopsAt (Replays terms) lines before after
+  pub reason : IsReason lines stops.number after why
+
+-- The result of a replay that is checked. If it succeeds, all lines were served, these are their answers, and the watch
+-- allowed every step. Else it stopped for this reason.
+pub record ReplaysCheckedOrStops {Z : Type 0} (terms : Terms) (lines : List Line) (before after : SystemState)
+    (result : Result (Vec ℕ Z) Stopped) : Type 0 where
+  pub replayed : IfOk result (λ answers. ReplaysLegally terms lines before after answers.items)
+  pub stopped : IfErr result (StopsFor terms lines before after)
 
 -- ---- what else is known of a line
 -- what always holds behind the lock: no visit is open, the machine is consistent, and the groups make up a tree

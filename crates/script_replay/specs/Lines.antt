@@ -16,6 +16,11 @@ pub record SystemState : Type 0 where
   pub locked : KnownLocked
   pub cpus : List KnownCpu
 
+-- the number of the line among all lines of its script; `go` has none here, and counts as 0
+abbrev pub number_in_script : Line → ℕ
+number_in_script Go = 0
+number_in_script (At number processor command) = number
+
 -- the state with this behind the lock and these parts
 abbrev pub system_state : KnownLocked → List KnownCpu → SystemState
 system_state locked cpus = record { locked = locked; cpus = cpus }

@@ -1,25 +1,28 @@
 //! Serving one command of a CPU, by value of what lies behind the lock.
 
 ghost use Rattle.std.specs.Borrow.{Bor};
-ghost use Rattle.std.specs.Prelude.{◌≡◌, ◌<◌, ◌++◌, false, IsTrue, List, OnOk, Some, ℕ};
+ghost use Rattle.std.specs.Prelude.{◌≡◌, ◌<◌, ◌++◌, Bool, false, IsTrue, List, OnOk, Some, ℕ};
 ghost use Rattle.group_tree.specs.Groups.{has_group, number_at};
 ghost use Rattle.mem_system.specs.declared.command.Cmd.TheVariants.{Alloc};
 ghost use Rattle.std.specs.String.{string_bytes};
 ghost use Rattle.mem_system.specs.Visits.{locked_state};
 ghost use Rattle.mem_system.specs.Commands.{IsOfZone};
 ghost use Rattle.script_replay.specs.declared.work.Work.TheVariants.{Blocks, Frame, Release, Settle, Show, Visit};
+ghost use Rattle.script_replay.specs.declared.work.Work.TheVariants as asked;
 ghost use Rattle.script_replay.specs.Answers.{AddsText, ServesCommand, ServesWork, kills_text};
 ghost use Rattle.script_replay.specs.Ranges.{NamesInRange, WorkInRange};
 ghost use Rattle.script_replay.specs.Terms.{terms};
 
-use crate::unlocked_calls::{answer_get, answer_put, try_list};
+use crate::locked_calls::{serve_frame_under_lock, serve_under_lock, settle_under_lock};
+use crate::unlocked_calls::{pin, try_list, unpin, write_pin, write_unpin};
+use crate::watched_steps::{watch_credit, watch_fast, watch_get, watch_put};
 use crate::work::{Work, work_of};
 use cpu_part::{BootName, Cpu, Fast, Tables};
 use group_tree::fault::Fault;
 use group_tree::group::GroupId;
 use kill_texts::write_explanation;
 use machine_texts::{write_blocks, write_show};
-use mem_system::{Cmd, Locked, serve_frame_outcome, serve_outcome, settle};
+use mem_system::{Cmd, Locked};
 use reply_texts::{write_fast, write_listed, write_outcome, write_refusal, write_settled};
 use script_lines::line::Command;
 use std::alloc::AllocError;
@@ -62,14 +65,71 @@ fn answer_work<N: BootName>(
     match *work {
         Work::Visit(cmd) => serve_command(locked, tables, cpu, &cmd, is_explained, text),
         Work::Frame { path } => answer_frame(locked, tables, cpu, path, is_explained, text),
-        Work::Fast { group } => write_fast(&cpu.alloc_fast(tables, group), text),
+        Work::Fast { group } => serve_fast(locked, tables, cpu, group, text),
         Work::Release { frame } => answer_release(locked, tables, cpu, frame, is_explained, text),
-        Work::Get { frame } => answer_get(tables, cpu, frame, text),
-        Work::Put { frame } => answer_put(tables, cpu, frame, text),
+        Work::Get { frame } => serve_get(locked, tables, cpu, frame, text),
+        Work::Put { frame } => serve_put(locked, tables, cpu, frame, text),
         Work::Settle => answer_settle(locked, tables, cpu, text),
         Work::Blocks => answer_blocks(locked, tables, cpu, text),
         Work::Show => answer_show(locked, tables, cpu, text),
     }
+}
+
+// Takes a frame of the list without the lock, and adds the answer.
+fn serve_fast<N: BootName>(
+    locked: &mut Locked<N>,
+    tables: &Tables<N>,
+    cpu: &mut Cpu<N>,
+    group: u32,
+    text: &mut String,
+) -> Result<(), AllocError>
+    requires there { group < 64 }
+    ensures answered { (is_explained : Bool) → AddsText result text.old text.new
+        (ServesWork (terms N.frames N.stocks is_explained) (asked.Fast group)
+        (locked_state locked.old cpu.old) (locked_state locked.new cpu.new)) }
+{
+    let number = cpu.number();
+    let fast = cpu.alloc_fast(tables, group);
+    watch_fast(locked, number, group, &fast);
+    write_fast(&fast, text)
+}
+
+// Pins the frame without the lock, and adds the answer.
+fn serve_get<N: BootName>(
+    locked: &mut Locked<N>,
+    tables: &Tables<N>,
+    cpu: &mut Cpu<N>,
+    number: u32,
+    text: &mut String,
+) -> Result<(), AllocError>
+    requires in_zone { number < N.frames.frames }
+    ensures answered { (is_explained : Bool) → AddsText result text.old text.new
+        (ServesWork (terms N.frames N.stocks is_explained) (asked.Get number)
+        (locked_state locked.old cpu.old) (locked_state locked.new cpu.new)) }
+{
+    let processor = cpu.number();
+    let got = pin(tables, cpu, number);
+    watch_get(locked, processor, number, &got);
+    write_pin(&got, text)
+}
+
+// Puts a pin of the frame without the lock, and adds the answer.
+fn serve_put<N: BootName>(
+    locked: &mut Locked<N>,
+    tables: &Tables<N>,
+    cpu: &mut Cpu<N>,
+    number: u32,
+    text: &mut String,
+) -> Result<(), AllocError>
+    requires in_zone { number < N.frames.frames }
+    ensures answered { (is_explained : Bool) → AddsText result text.old text.new
+        (ServesWork (terms N.frames N.stocks is_explained) (asked.Put number)
+        (locked_state locked.old cpu.old) (locked_state locked.new cpu.new)) }
+{
+    let processor = cpu.number();
+    let put = unpin(tables, cpu, number);
+    watch_put(locked, processor, number, &put);
+    write_unpin(&put, text)
 }
 
 // Serves the command under the lock, and adds its reply and the explanation of its kills.
@@ -86,7 +146,7 @@ fn serve_command<N: BootName>(
         (ServesWork (terms N.frames N.stocks is_explained) (Visit cmd.now)
         (locked_state locked.old cpu.old) (locked_state locked.new cpu.new)) }
 {
-    let outcome = serve_outcome(locked, tables, cpu, cmd);
+    let outcome = serve_under_lock(locked, tables, cpu, cmd);
     write_outcome(locked.charges(), &outcome, text)?;
     explain(locked, is_explained, text)
 }
@@ -107,7 +167,7 @@ fn serve_frame<N: BootName>(
         (ServesWork (terms N.frames N.stocks is_explained) (Visit (Alloc path 0))
         (locked_state locked.old cpu.old) (locked_state locked.new cpu.new)) }
 {
-    let outcome = serve_frame_outcome(locked, tables, cpu, group);
+    let outcome = serve_frame_under_lock(locked, tables, cpu, group);
     write_outcome(locked.charges(), &outcome, text)?;
     explain(locked, is_explained, text)
 }
@@ -144,8 +204,13 @@ fn answer_frame<N: BootName>(
     let Some(group) = locked.find(path) else {
         return write_refusal(&Fault::NoGroup, text);
     };
-    match cpu.alloc_fast(tables, group.number()) {
-        Fast::Got(frame) => write_fast(&Fast::Got(frame), text),
+    let processor = cpu.number();
+    let number = group.number();
+    match cpu.alloc_fast(tables, number) {
+        Fast::Got(frame) => {
+            watch_fast(locked, processor, number, &Fast::Got(frame));
+            write_fast(&Fast::Got(frame), text)
+        }
         _ => serve_frame(locked, tables, cpu, group, is_explained, text),
     }
 }
@@ -164,7 +229,9 @@ fn answer_release<N: BootName>(
         (ServesWork (terms N.frames N.stocks is_explained) (Release number)
         (locked_state locked.old cpu.old) (locked_state locked.new cpu.new)) }
 {
+    let processor = cpu.number();
     if try_list(tables, cpu, number) {
+        watch_credit(locked, processor, number);
         return write_listed(text);
     }
     serve_command(
@@ -187,7 +254,7 @@ fn answer_settle<N: BootName>(
     ensures answered { AddsText result text.old text.new (ServesWork (terms N.frames N.stocks false) Settle
         (locked_state locked.old cpu.old) (locked_state locked.new cpu.new)) }
 {
-    settle(locked, tables, cpu);
+    settle_under_lock(locked, tables, cpu);
     write_settled(text)
 }
 
@@ -201,7 +268,7 @@ fn answer_blocks<N: BootName>(
     ensures answered { AddsText result text.old text.new (ServesWork (terms N.frames N.stocks false) Blocks
         (locked_state locked.old cpu.old) (locked_state locked.new cpu.new)) }
 {
-    settle(locked, tables, cpu);
+    settle_under_lock(locked, tables, cpu);
     write_blocks(locked.machine(), text)
 }
 
@@ -215,6 +282,6 @@ fn answer_show<N: BootName>(
     ensures answered { AddsText result text.old text.new (ServesWork (terms N.frames N.stocks false) Show
         (locked_state locked.old cpu.old) (locked_state locked.new cpu.new)) }
 {
-    settle(locked, tables, cpu);
+    settle_under_lock(locked, tables, cpu);
     write_show(locked.machine(), text)
 }

@@ -7,13 +7,15 @@
 #![tactic(auto)]
 
 mod command_answers;
+mod locked_calls;
 mod unlocked_calls;
 mod value_replay;
 mod visit_answers;
 mod visit_replay;
+mod watched_steps;
 mod work;
 
-pub use value_replay::replay;
+pub use value_replay::{Stopped, replay, replay_checked};
 pub use visit_answers::{Visitor, visit_line};
 pub use visit_replay::{replay_lines, visit_command};
 pub use work::Work;

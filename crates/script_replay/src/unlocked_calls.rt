@@ -1,9 +1,14 @@
 //! The commands that take no lock.
 
-ghost use Rattle.std.specs.Prelude.{◌<◌, MatchBool};
-ghost use Rattle.script_replay.specs.Answers.{AddsAnswer, CanNotList, GetsPin, ListsAgain, PutsPin};
+ghost use Rattle.std.specs.Prelude.{◌≡◌, ◌<◌, ◌^◌, ◌++◌, MatchBool, OnOk, ℕ};
+ghost use Rattle.std.specs.String.{string_bytes};
+ghost use Rattle.frame_word.specs.declared.answers.Put.TheVariants.{Left};
+ghost use Rattle.reply_texts.specs.Answer as answer;
+ghost use Rattle.reply_texts.specs.Answers.{answer_text};
+ghost use Rattle.script_replay.specs.Answers.{AddsAnswer, CanNotList, GetsPin, ListsAgain, PutsPin, pin_answer, unpin_answer};
 
 use cpu_part::{BootName, Cpu, Dropped, Tables};
+use frame_word::{Get, Put};
 use group_tree::fault::Fault;
 use reply_texts::{write_get, write_put, write_refusal};
 use std::alloc::AllocError;
@@ -24,6 +29,52 @@ pub(crate) fn try_list<N: BootName>(tables: &Tables<N>, cpu: &mut Cpu<N>, number
     }
 }
 
+// Pins the frame, without the lock.
+pub(crate) fn pin<N: BootName>(
+    tables: &Tables<N>,
+    cpu: &mut Cpu<N>,
+    number: u32,
+) -> Result<Get, Fault>
+    requires in_zone { number < N.frames.frames }
+    ensures { GetsPin number cpu.old cpu.new (pin_answer result) }
+{
+    let frame = tables.frames.frame(number).unwrap();
+    cpu.get(tables, frame)
+}
+
+// Adds the answer to a Get.
+pub(crate) fn write_pin(got: &Result<Get, Fault>, text: &mut String) -> Result<(), AllocError>
+    ensures { OnOk result (string_bytes text.new ≡ string_bytes text.old ++ answer_text (pin_answer got.now)) }
+{
+    match got {
+        Ok(got) => write_get(got, text),
+        Err(fault) => write_refusal(fault, text),
+    }
+}
+
+// Puts a pin of the frame, without the lock. Returns None if the CPU has no pin on it.
+pub(crate) fn unpin<N: BootName>(tables: &Tables<N>, cpu: &mut Cpu<N>, number: u32) -> Option<Put>
+    requires in_zone { number < N.frames.frames }
+    ensures put { PutsPin number cpu.old cpu.new (unpin_answer result) }
+    ensures few { (left : ℕ) → unpin_answer result ≡ answer.Put (Left left) → left < 2 ^ 32 }
+{
+    let frame = tables.frames.frame(number).unwrap();
+    if !cpu.holds(frame) {
+        return None;
+    }
+    Some(cpu.put(tables, frame))
+}
+
+// Adds the answer to a Put.
+pub(crate) fn write_unpin(put: &Option<Put>, text: &mut String) -> Result<(), AllocError>
+    ensures { OnOk result (string_bytes text.new ≡ string_bytes text.old ++ answer_text (unpin_answer put.now)) }
+{
+    match put {
+        Some(put) => write_put(put, text),
+        None => write_refusal(&Fault::NotPinned, text),
+    }
+}
+
 // Pins the frame, without the lock, and adds the answer.
 pub(crate) fn answer_get<N: BootName>(
     tables: &Tables<N>,
@@ -34,11 +85,8 @@ pub(crate) fn answer_get<N: BootName>(
     requires in_zone { number < N.frames.frames }
     ensures answered { AddsAnswer result text.old text.new (GetsPin number cpu.old cpu.new) }
 {
-    let frame = tables.frames.frame(number).unwrap();
-    match cpu.get(tables, frame) {
-        Ok(got) => write_get(&got, text),
-        Err(fault) => write_refusal(&fault, text),
-    }
+    let got = pin(tables, cpu, number);
+    write_pin(&got, text)
 }
 
 // Puts a pin of the frame, without the lock, and adds the answer.
@@ -51,9 +99,6 @@ pub(crate) fn answer_put<N: BootName>(
     requires in_zone { number < N.frames.frames }
     ensures answered { AddsAnswer result text.old text.new (PutsPin number cpu.old cpu.new) }
 {
-    let frame = tables.frames.frame(number).unwrap();
-    if !cpu.holds(frame) {
-        return write_refusal(&Fault::NotPinned, text);
-    }
-    write_put(&cpu.put(tables, frame), text)
+    let put = unpin(tables, cpu, number);
+    write_unpin(&put, text)
 }

@@ -1,12 +1,13 @@
 //! Serving lines one after the other, by value of what lies behind the lock.
 
-ghost use Rattle.std.specs.Prelude.{◌≡◌, [], All, length};
+ghost use Rattle.std.specs.Prelude.{◌≡◌, [], All, length, true};
 ghost use Rattle.stock_word.specs.declared.view.Stock.TheVariants.{NoGroup};
 ghost use Rattle.cpu_part.specs.Cpus.{IsTied};
 ghost use Rattle.mem_system.specs.Visits.{locked_state};
+ghost use Rattle.script_replay.specs.declared.value_replay.Stopped.TheVariants.{NoMemory};
 ghost use Rattle.script_replay.specs.Answers.{AddsText, ServesCommand};
-ghost use Rattle.script_replay.specs.History.{HoldsInvariants, ReplaysOrStops, ServesAndKeeps};
-ghost use Rattle.script_replay.specs.Lines.{system_state};
+ghost use Rattle.script_replay.specs.History.{HoldsInvariants, ReplaysCheckedOrStops, ReplaysOrStops, ServesAndKeeps};
+ghost use Rattle.script_replay.specs.Lines.{number_in_script, system_state};
 ghost use Rattle.script_replay.specs.Ranges.{LineIsThere, NamesInRange};
 ghost use Rattle.script_replay.specs.Terms.{terms};
 
@@ -37,6 +38,58 @@ pub fn replay<N: BootName>(
         serve_line(locked, tables, cpus, line, is_explained, &mut answers)?;
     }
     Ok(answers.into_bytes())
+}
+
+/// Why a replay that is checked stops.
+#[derive(Clone, Copy, Debug, PartialEq, Eq)]
+pub enum Stopped {
+    /// Memory ran out for the text of a line.
+    NoMemory(AllocError),
+    /// The watch didn't allow a step of this line, counted from 1 among all lines of the script.
+    NotLegal(usize),
+}
+
+impl From<AllocError> for Stopped {
+    ghost from_gives = { λ error stopped. stopped ≡ NoMemory error };
+
+    fn from(error: AllocError) -> Stopped {
+        Stopped::NoMemory(error)
+    }
+}
+
+/// Serves the lines as `replay` does, and has the machine's watch check each step. It stops after the first line with a
+/// step that the watch doesn't allow, or if memory runs out for the text of a line: no later line is served.
+pub fn replay_checked<N: BootName>(
+    alloc: Global,
+    locked: &mut Locked<N>,
+    tables: &Tables<N>,
+    cpus: &mut [Cpu<N>],
+    lines: &[Line<'_>],
+    is_explained: bool,
+) -> Result<Vec<u8>, Stopped>
+    requires there { All (LineIsThere N.frames.frames (length cpus.old)) lines.now }
+    requires legal { locked.old.machine.watch.is_legal ≡ true }
+    ensures outcome { ReplaysCheckedOrStops (terms N.frames N.stocks is_explained) lines.now
+        (system_state locked.old cpus.old) (system_state locked.new cpus.new) result }
+{
+    let mut answers = String::new(alloc);
+    for next in lines {
+        serve_line(locked, tables, cpus, next, is_explained, &mut answers)?;
+        if !locked.watch().is_legal() {
+            return Err(Stopped::NotLegal(number_of(next)));
+        }
+    }
+    Ok(answers.into_bytes())
+}
+
+// The number of a line among all lines of the script; 0 for `go`, which makes no step.
+fn number_of(line: &Line<'_>) -> usize
+    ensures { result ≡ number_in_script line.now }
+{
+    match line {
+        Line::Go => 0,
+        Line::At { number, .. } => *number,
+    }
 }
 
 // Serves a line and adds its answer.

@@ -1,4 +1,4 @@
--- Serves the contract of `replay_command`: the options of a subcommand, and one more.
+-- Serves the contract of `replay_command`: the options of a subcommand, and two more.
 use Rattle.std.proofs.Common.{◌∙◌, ◌∷◌, ◌++◌, [], ap, codes, refl}
 use Rattle.std.proofs.lemmas.Result.{IfOk-weaker}
 use Rattle.clap.specs.Simple.{App, Shape, app_of}
@@ -9,12 +9,15 @@ use Rattle.load_options.proofs.command_line.replay_command.Goals as goal
 pub returns : goal.returns
 returns c =
     let old = c.in_ok-subcommand.field-0 in
-    let rule = c.explain_option.ensures.rule in
-    let local = c.explain_option.ensures.local in
-    let more : Shape → Shape = λ s. record s { rules = s.rules ++ flag_rule (codes "explain") ∷ [] } in
+    let explain = option_added old _ _ (app_of old) _ (refl, c.in_ok-subcommand.ensures.local) c.explain_option.ensures.rule
+    c.explain_option.ensures.local c.in_ok-arg.ensures in
+    let rule = c.checked_option.ensures.rule in
+    let local = c.checked_option.ensures.local in
+    let more : Shape → Shape = λ s. record s {
+      rules = (s.rules ++ flag_rule (codes "explain") ∷ []) ++ flag_rule (codes "check") ∷ [];
+    } in
     record {
-      shape = IfOk-weaker c.arg.result _ _ (λ command added. ap (λ (a : App). a.top)
-          (option_added old command _ (app_of old) _ (refl, c.in_ok-subcommand.ensures.local) rule local added).0 ∙ ap more c.in_ok-subcommand.ensures.shape) c.arg.ensures;
-      local = IfOk-weaker c.arg.result _ _ (λ command added.
-          (option_added old command _ (app_of old) _ (refl, c.in_ok-subcommand.ensures.local) rule local added).1) c.arg.ensures;
+      shape = IfOk-weaker c.arg-2.result _ _ (λ command added. ap (λ (a : App). a.top)
+          (option_added _ command _ _ _ explain rule local added).0 ∙ ap more c.in_ok-subcommand.ensures.shape) c.arg-2.ensures;
+      local = IfOk-weaker c.arg-2.result _ _ (λ command added. (option_added _ command _ _ _ explain rule local added).1) c.arg-2.ensures;
     }

@@ -8,7 +8,7 @@ use Rattle.mem_system.proofs.Found.{found_there}
 use Rattle.reply_texts.specs.Answer.{Served}
 use Rattle.reply_texts.specs.Answer as answer
 use Rattle.reply_texts.specs.Answers.{answer_text}
-use Rattle.script_replay.specs.Answers.{GetsNoneFast, fast_steps}
+use Rattle.script_replay.specs.Answers.{GetsNoneFast, OnlyWatched, fast_steps}
 use Rattle.script_replay.specs.Terms.{terms}
 use Rattle.script_replay.proofs.Fronts.{served_after}
 use Rattle.script_replay.proofs.Telling.{added_as, alone}
@@ -36,21 +36,27 @@ pub serve_frame-requires : goal.serve_frame-requires
 serve_frame-requires g c = record { there = found_there _ _ _ (sym c.in-Some.ensures.found) }
 
 pub returns-in-Got : goal.returns-in-Got
-returns-in-Got g c = record {
-  text = answer_text (answer.Fast (Got c.in-Got.frame));
-  so = record {
-    steps = fast_steps c.args.cpu.now.number c.in-Some.group (Got c.in-Got.frame);
-    writes = alone _ _ _ (answer.Fast (Got c.in-Got.frame)) (record {
-      gets = record {
-        group = c.in-Some.group;
-        found = sym c.in-Some.ensures.found;
-        got = subst (λ (group : ℕ). FastAnswers group (Got c.in-Got.frame) c.args.cpu.now c.alloc_fast.new.self) c.number.ensures.value c.in-Got.ensures.answer;
+returns-in-Got g c =
+    let f = c.in-Got.frame in
+    let group = c.in-Some.group in
+    let made : OnlyWatched (fast_steps c.args.cpu.now.number group (Got f)) c.args.locked.now c.watch_fast.new.locked =
+    subst (λ (n : ℕ). OnlyWatched (fast_steps n group (Got f)) c.args.locked.now c.watch_fast.new.locked) c.number-processor.ensures.number
+    (subst (λ (h : ℕ). OnlyWatched (fast_steps c.number-processor.result h (Got f)) c.args.locked.now c.watch_fast.new.locked)
+    c.number-number.ensures.value c.watch_fast.ensures) in record {
+      text = answer_text (answer.Fast (Got f));
+      so = record {
+        steps = fast_steps c.args.cpu.now.number group (Got f);
+        writes = alone _ _ _ (answer.Fast (Got f)) (record {
+          gets = record {
+            group = group;
+            found = sym c.in-Some.ensures.found;
+            got = subst (λ (h : ℕ). FastAnswers h (Got f) c.args.cpu.now c.alloc_fast.new.self) c.number-number.ensures.value c.in-Got.ensures.answer;
+          };
+          alone = record { locked = made; steps_are = refl };
+        });
       };
-      alone = record { locked = refl; steps_are = refl };
-    });
-  };
-  added = c.write_fast.ensures;
-}
+      added = c.write_fast.ensures;
+    }
 
 pub returns-in_default-alloc_fast : goal.returns-in_default-alloc_fast
 returns-in_default-alloc_fast g c =
@@ -62,7 +68,7 @@ returns-in_default-alloc_fast g c =
       group = c.in-Some.group;
       found = sym c.in-Some.ensures.found;
       fast = c.alloc_fast.result;
-      answers = subst (λ (g : ℕ). FastAnswers g c.alloc_fast.result c.args.cpu.now c.alloc_fast.new.self) c.number.ensures.value c.alloc_fast.ensures.answer;
+      answers = subst (λ (g : ℕ). FastAnswers g c.alloc_fast.result c.args.cpu.now c.alloc_fast.new.self) c.number-number.ensures.value c.alloc_fast.ensures.answer;
       none = c.in_default-alloc_fast.not-Got;
     } in
     added_as _ _ c.args.text.now c.serve_frame.new.text c.serve_frame.result (served_after on l c.args.cpu.now seen after c.args.path none)

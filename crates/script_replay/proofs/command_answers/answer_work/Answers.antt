@@ -1,53 +1,30 @@
-use Rattle.std.proofs.Common.{refl, subst, sym}
-use Rattle.reply_texts.specs.Answer as answer
-use Rattle.reply_texts.specs.Answers.{answer_text}
+use Rattle.std.proofs.Common.{subst, sym}
 use Rattle.script_replay.specs.declared.work.Work.{Work}
-use Rattle.script_replay.specs.Answers.{AddsText, ServesWork, fast_steps, get_steps, put_steps}
+use Rattle.script_replay.specs.Answers.{AddsText, ServesWork}
 use Rattle.script_replay.specs.Terms.{terms}
-use Rattle.script_replay.proofs.Telling.{added_as, alone, settle_alone}
+use Rattle.script_replay.proofs.Telling.{added_as, settle_alone}
 use Rattle.mem_system.specs.Visits.{locked_state}
 use Rattle.script_replay.proofs.command_answers.answer_work.Goals as goal
 
 pub returns-in-Fast : goal.returns-in-Fast
 returns-in-Fast g c = record {
-  answered = subst (λ (work : Work). AddsText c.write_fast.result c.args.text.now c.write_fast.new.text
-      (ServesWork (terms g.N.BootName.frames g.N.BootName.stocks c.args.is_explained) work (locked_state c.args.locked.now c.args.cpu.now) (locked_state c.args.locked.now c.alloc_fast.new.self)))
-      (sym c.in-Fast.is) (record {
-        text = answer_text (answer.Fast c.alloc_fast.result);
-        so = record {
-          steps = fast_steps c.args.cpu.now.number c.in-Fast.group c.alloc_fast.result;
-          writes = alone _ _ _ (answer.Fast c.alloc_fast.result) (c.alloc_fast.ensures.answer, record { locked = refl; steps_are = refl });
-        };
-        added = c.write_fast.ensures;
-      });
+  answered = subst (λ (work : Work). AddsText c.serve_fast.result c.args.text.now c.serve_fast.new.text
+      (ServesWork (terms g.N.BootName.frames g.N.BootName.stocks c.args.is_explained) work (locked_state c.args.locked.now c.args.cpu.now) (locked_state c.serve_fast.new.locked c.serve_fast.new.cpu)))
+      (sym c.in-Fast.is) (c.serve_fast.ensures.answered c.args.is_explained);
 }
 
 pub returns-in-Get : goal.returns-in-Get
-returns-in-Get g c = let answered = c.answer_get.ensures.answered in record {
-  answered = subst (λ (work : Work). AddsText c.answer_get.result c.args.text.now c.answer_get.new.text
-      (ServesWork (terms g.N.BootName.frames g.N.BootName.stocks c.args.is_explained) work (locked_state c.args.locked.now c.args.cpu.now) (locked_state c.args.locked.now c.answer_get.new.cpu)))
-      (sym c.in-Get.is) (record {
-        text = answered.text;
-        so = record {
-          steps = get_steps c.args.cpu.now.number c.in-Get.frame answered.so.said;
-          writes = rw answered.so.text_is (alone _ _ _ answered.so.said (answered.so.answered, record { locked = refl; steps_are = refl }));
-        };
-        added = answered.added;
-      });
+returns-in-Get g c = record {
+  answered = subst (λ (work : Work). AddsText c.serve_get.result c.args.text.now c.serve_get.new.text
+      (ServesWork (terms g.N.BootName.frames g.N.BootName.stocks c.args.is_explained) work (locked_state c.args.locked.now c.args.cpu.now) (locked_state c.serve_get.new.locked c.serve_get.new.cpu)))
+      (sym c.in-Get.is) (c.serve_get.ensures.answered c.args.is_explained);
 }
 
 pub returns-in-Put : goal.returns-in-Put
-returns-in-Put g c = let answered = c.answer_put.ensures.answered in record {
-  answered = subst (λ (work : Work). AddsText c.answer_put.result c.args.text.now c.answer_put.new.text
-      (ServesWork (terms g.N.BootName.frames g.N.BootName.stocks c.args.is_explained) work (locked_state c.args.locked.now c.args.cpu.now) (locked_state c.args.locked.now c.answer_put.new.cpu)))
-      (sym c.in-Put.is) (record {
-        text = answered.text;
-        so = record {
-          steps = put_steps c.args.cpu.now.number c.in-Put.frame answered.so.said;
-          writes = rw answered.so.text_is (alone _ _ _ answered.so.said (answered.so.answered, record { locked = refl; steps_are = refl }));
-        };
-        added = answered.added;
-      });
+returns-in-Put g c = record {
+  answered = subst (λ (work : Work). AddsText c.serve_put.result c.args.text.now c.serve_put.new.text
+      (ServesWork (terms g.N.BootName.frames g.N.BootName.stocks c.args.is_explained) work (locked_state c.args.locked.now c.args.cpu.now) (locked_state c.serve_put.new.locked c.serve_put.new.cpu)))
+      (sym c.in-Put.is) (c.serve_put.ensures.answered c.args.is_explained);
 }
 
 pub returns-in-Settle : goal.returns-in-Settle

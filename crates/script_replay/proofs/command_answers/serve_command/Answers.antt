@@ -11,25 +11,25 @@ use Rattle.script_replay.proofs.command_answers.serve_command.Goals as goal
 
 pub returns-in_err-write_outcome : goal.returns-in_err-write_outcome
 returns-in_err-write_outcome g c =
-    let after = c.serve_outcome-outcome.new in
-    let reply = reply_of after.locked.machine.ledger c.serve_outcome-outcome.result in record {
+    let after = c.serve_under_lock-outcome.new in
+    let reply = reply_of after.locked.machine.ledger c.serve_under_lock-outcome.result in record {
       answered = record {
         text = reply_text reply ++ kills_text c.args.is_explained after.locked.machine;
-        so = served (terms g.N.BootName.frames g.N.BootName.stocks c.args.is_explained) c.args.cmd.now c.args.locked.now c.args.cpu.now (locked_state after.locked after.cpu)
-            reply c.serve_outcome-outcome.ensures.served;
+        so = served (terms g.N.BootName.frames g.N.BootName.stocks c.args.is_explained) c.args.cmd.now (locked_state c.args.locked.now c.args.cpu.now) (locked_state after.locked after.cpu)
+            reply c.serve_under_lock-outcome.ensures.served;
         added = search rules;
       };
     }
 
 pub returns : goal.returns
 returns g c =
-    let after = c.serve_outcome-outcome.new in
-    let outcome = c.serve_outcome-outcome.result in
+    let after = c.serve_under_lock-outcome.new in
+    let outcome = c.serve_under_lock-outcome.result in
     let reply = reply_of after.locked.machine.ledger outcome in record {
       answered = record {
         text = reply_text reply ++ kills_text c.args.is_explained after.locked.machine;
-        so = served (terms g.N.BootName.frames g.N.BootName.stocks c.args.is_explained) c.args.cmd.now c.args.locked.now c.args.cpu.now (locked_state after.locked after.cpu)
-            reply c.serve_outcome-outcome.ensures.served;
+        so = served (terms g.N.BootName.frames g.N.BootName.stocks c.args.is_explained) c.args.cmd.now (locked_state c.args.locked.now c.args.cpu.now) (locked_state after.locked after.cpu)
+            reply c.serve_under_lock-outcome.ensures.served;
         added = behind c.explain.result (string_bytes c.args.text.now) (string_bytes c.write_outcome.new.text) (string_bytes c.explain.new.text)
             (reply_text reply) (kills_text c.args.is_explained after.locked.machine)
             (c.in_ok-write_outcome.ensures ∙ ap (λ (l : Ledger). string_bytes c.args.text.now ++ reply_text (reply_of l outcome)) c.charges.ensures)

@@ -1,0 +1,69 @@
+use Rattle.std.proofs.Common.{ℕ, List, All, ◌++◌, ◌∙◌, ap, append_assoc, refl, subst, sym}
+use Rattle.step_watch.specs.Watched.{IsNewWatch}
+use Rattle.mem_machine.specs.Interleaving.{zone_of}
+use Rattle.mem_machine.specs.Machines.{IsFirst}
+use Rattle.mem_system.specs.Locked.{KnownLocked}
+use Rattle.script_replay.specs.Lines.{system_state}
+use Rattle.script_replay.specs.Ranges.{LineIsThere}
+use Rattle.mem_history.proofs.Told.{a_boot_tells}
+use Rattle.load_run.specs.Answers.{checked_text}
+use Rattle.load_run.specs.Ending.{end_text}
+use Rattle.load_run.proofs.Answering.{at_ok, weakened}
+use Rattle.load_run.proofs.Starting.{boot_shown, new_watch, parts_tied, watched_first}
+use Rattle.load_run.proofs.running.check_on_boot.Goals as goal
+
+pub check_and_end_boot-answers-requires-clause-lines : goal.check_and_end_boot-answers-requires-clause-lines
+check_and_end_boot-answers-requires-clause-lines g c =
+    let sized = c.in_ok-locked.ensures.sized in
+    subst (λ (b : ℕ × ℕ). All (LineIsThere b.0 b.1) c.args.lines.now) (λ i. (sym sized.frames i, sym sized.cpus i)) c.requires.lines
+
+pub check_and_end_boot-answers-requires-clause-legal : goal.check_and_end_boot-answers-requires-clause-legal
+check_and_end_boot-answers-requires-clause-legal g c =
+    ap (λ (l : KnownLocked). l.machine.watch.is_legal) c.set_watch.ensures ∙ c.in_ok-watch.ensures.is_legal
+
+pub returns : goal.returns
+returns g c =
+    let t = g.N.BootName.frames in
+    let w = g.N.BootName.stocks in
+    let sized = c.in_ok-locked.ensures.sized in
+    let first = c.in_ok-locked.ensures.cpus in
+    let start = system_state c.set_watch.new.self c.in_ok-locked.cpus.items in
+    let is_first : IsFirst t w start.locked.machine =
+    subst (λ (l : KnownLocked). IsFirst t w l.machine) (sym c.set_watch.ensures)
+    (watched_first t w c.in_ok-locked.locked.machine c.in_ok-watch.watch c.in_ok-locked.ensures.machine) in
+    let new : IsNewWatch (zone_of t) start.locked.machine.watch =
+    subst (λ (l : KnownLocked). IsNewWatch (zone_of t) l.machine.watch) (sym c.set_watch.ensures)
+    (new_watch c.args.boot.sizes c.args.sizes t w sized c.requires.sizes c.in_ok-watch.watch c.in_ok-watch.ensures) in
+    let ended = c.check_and_end_boot-answers.ensures.ends in
+    let replays = at_ok _ _ _ c.in_ok-answers.was ended.so.replays.replayed in
+    let legal = replays.history (boot_shown c.args.boot.sizes t w start.locked.machine c.in_ok-locked.cpus.items sized is_first first)
+    (parts_tied c.args.boot.sizes t w start.locked.machine c.in_ok-locked.cpus.items sized is_first first)
+    (a_boot_tells t w start.locked.machine is_first) new in
+    let told = c.check_and_end_boot-answers.result.2 in
+    let answers = c.in_ok-answers.field-0.items in
+    let ending = end_text c.args.is_audited told in
+    record {
+      answers = weakened c.tell_steps.result _ _ (λ text is. record {
+        frames = t;
+        stocks = w;
+        start = start;
+        end = ended.before;
+        run = legal.run;
+        answers = answers;
+        ending = ending;
+        first = record {
+          sized = sized;
+          machine = is_first;
+          sizes_are = ap (λ (l : KnownLocked). l.sizes) c.set_watch.ensures ∙ c.in_ok-locked.ensures.sizes;
+          cpus = first;
+        };
+        served = replays.served;
+        legal = legal.saw.legal;
+        promise = legal.saw.promise;
+        history = legal.history;
+        ends = record { ended = told; ends = ended.ends; text_is = refl };
+        text_is = is ∙ (ap (λ (l : List ℕ). l ++ checked_text c.check_and_end_boot-answers.result.1) c.in_ok-told.ensures.told
+            ∙ (append_assoc answers ending (checked_text c.check_and_end_boot-answers.result.1)
+            ∙ ap (λ (n : ℕ). answers ++ (ending ++ checked_text n)) (ended.so.count ∙ legal.saw.count)));
+      }) c.tell_steps.ensures.told;
+    }

@@ -1,0 +1,160 @@
+-- The watch took the steps of each line, and so of all lines. Serves `replay`, `replay_checked`.
+use Rattle.std.proofs.Common.{◌≡◌, ◌∙◌, ◌++◌, ℕ, Bool, true, false, List, [], ◌∷◌, refl, sym, ap, subst}
+use Rattle.std.proofs.lemmas.List.{append_assoc, append-nil}
+use Rattle.std.specs.Borrow.{Bor}
+use Rattle.frame_word.specs.Seats.{KnownTable}
+use Rattle.cpu_part.specs.declared.answers.Fast.TheVariants.{Got}
+use Rattle.cpu_part.specs.Cpus.{KnownCpu}
+use Rattle.step_rules.specs.declared.step.Action.TheVariants as step
+use Rattle.step_rules.specs.declared.step.Answer.TheVariants as says
+use Rattle.step_rules.specs.After.{Run, IsLegalRun}
+use Rattle.step_watch.specs.Watched.{KnownWatch, Watches, IsNewWatch, SawRun}
+use Rattle.step_watch.proofs.Watching.{watches_none, watches_both, watched_runs_are_legal}
+use Rattle.mem_machine.specs.Interleaving.{zone_of}
+use Rattle.mem_machine.specs.Steps.{cpu_makes}
+use Rattle.mem_machine.specs.Telling.{TellsRun}
+use Rattle.mem_history.proofs.Deciding.{legal_front}
+use Rattle.mem_system.specs.declared.command.Cmd.{Cmd}
+use Rattle.mem_system.specs.declared.command.Reply.{Reply}
+use Rattle.mem_system.specs.Locked.{KnownLocked}
+use Rattle.mem_system.specs.Visits.{transition, LockedState}
+use Rattle.reply_texts.specs.Answer.{Answer}
+use Rattle.reply_texts.specs.Answer as answer
+use Rattle.script_lines.specs.declared.line.Line.{Line}
+use Rattle.script_lines.specs.declared.line.Line.TheVariants.{Go, At}
+use Rattle.script_replay.specs.declared.work.Work.{Work}
+use Rattle.script_replay.specs.declared.work.Work.TheVariants as work
+use Rattle.script_replay.specs.Answers.{AnswersFrame, AnswersRelease, AnswersWork, IsServedUnderLock, OnlyWatched, RepliesServed, WritesWork}
+use Rattle.script_replay.specs.History.{Past, past, past_line, KeepsHistory, TellsHistory, TellsLegalHistory}
+use Rattle.script_replay.specs.Lines.{SystemState, WritesLine}
+use Rattle.script_replay.specs.Terms.{Terms}
+
+-- ---- one command
+
+-- the watch before and after these steps
+abbrev Sees : Run → KnownLocked → KnownLocked → Type 0
+Sees steps before after = Watches before.machine.watch steps after.machine.watch
+
+only_sees : (steps : Run) (before after : KnownLocked) → OnlyWatched steps before after → Sees steps before after
+only_sees steps before after only = only.watched
+
+stays_seen : (steps : Run) (before after : KnownLocked) → steps ≡ [] → after ≡ before → Sees steps before after
+stays_seen steps before after none same =
+    subst (λ (x : Run × KnownLocked). Sees x.0 before x.1) (λ i. (sym none i, sym same i)) (watches_none before.machine.watch)
+
+module _ (t : KnownTable) (before : LockedState) (steps : Run) (after : LockedState) where
+  abbrev SeesAll : Type 0
+  SeesAll = Sees steps before.locked after.locked
+
+  alone_seen : (made : Run) → steps ≡ made → OnlyWatched made before.locked after.locked → SeesAll
+  alone_seen made are only = subst (λ (r : Run). Sees r before.locked after.locked) (sym are) (only_sees made before.locked after.locked only)
+
+  locked_seen : (command : Cmd) (seen : KnownCpu) (reply : Reply) → IsServedUnderLock command seen reply (transition t before steps after) → SeesAll
+  locked_seen command seen reply is =
+      let first : Run = cpu_makes seen.number step.Lock says.Done ∷ [] in
+      let last : Run = cpu_makes seen.number step.Unlock says.Done ∷ [] in
+      let a : KnownWatch = before.locked.machine.watch in
+      let b : KnownWatch = is.found.machine.watch in
+      let d : KnownWatch = is.left.machine.watch in
+      let e : KnownWatch = after.locked.machine.watch in
+      let rest : Watches b (is.served.steps ++ last) e =
+      watches_both b is.served.steps d last e is.served.makes.watched (only_sees last is.left after.locked is.unlock) in
+      subst (λ (r : Run). Watches a r e) (sym is.steps_are)
+      (watches_both a first b (is.served.steps ++ last) e (only_sees first before.locked is.found is.lock) rest)
+
+  replied_seen : (command : Cmd) (said : Answer) → RepliesServed command (transition t before steps after) said → SeesAll
+  replied_seen command (answer.Served reply) is = locked_seen command before.cpu reply is
+  replied_seen command said is = absurd is
+
+  frame_seen : (path : Bor (List ℕ)) (said : Answer) (may_kill : Bool) → AnswersFrame path (transition t before steps after) said may_kill → SeesAll
+  frame_seen path (answer.Fast (Got f)) false is = alone_seen _ is.alone.steps_are is.alone.locked
+  frame_seen path (answer.Served reply) false none = stays_seen steps before.locked after.locked none.1 none.0.same_locked
+  frame_seen path (answer.Served reply) true is = locked_seen _ is.seen reply is.served
+  frame_seen path said may_kill is = absurd is
+
+  release_seen : (f : ℕ) (said : Answer) (may_kill : Bool) → AnswersRelease f (transition t before steps after) said may_kill → SeesAll
+  release_seen f answer.Listed false is = alone_seen _ is.1.steps_are is.1.locked
+  release_seen f (answer.Served reply) true is = locked_seen _ is.seen reply is.served
+  release_seen f said may_kill is = absurd is
+
+  answer_seen : (asked : Work) (said : Answer) (may_kill : Bool) → AnswersWork asked (transition t before steps after) said may_kill → SeesAll
+  answer_seen (work.Visit command) said true is = replied_seen command said is
+  answer_seen (work.Frame path) said may_kill is = frame_seen path said may_kill is
+  answer_seen (work.Fast g) (answer.Fast taken) false is = alone_seen _ is.1.steps_are is.1.locked
+  answer_seen (work.Release f) said may_kill is = release_seen f said may_kill is
+  answer_seen (work.Get f) said false is = alone_seen _ is.1.steps_are is.1.locked
+  answer_seen (work.Put f) said false is = alone_seen _ is.1.steps_are is.1.locked
+  answer_seen work.Settle answer.Settled false is = locked_seen _ before.cpu _ is
+  answer_seen asked said true is = absurd is
+  answer_seen asked said false is = absurd is
+
+  work_seen : (is_explained : Bool) (asked : Work) (text : List ℕ) → WritesWork is_explained asked (transition t before steps after) text → SeesAll
+  work_seen is_explained work.Blocks text is = locked_seen _ before.cpu _ is.settles
+  work_seen is_explained work.Show text is = locked_seen _ before.cpu _ is.settles
+  work_seen is_explained asked text is = answer_seen asked is.said is.may_kill is.answered
+
+-- ---- a line, and all lines
+
+pub line_seen : (t : KnownTable) (is_explained : Bool) (line : Line) (before : SystemState) (steps : Run) (after : SystemState) (text : List ℕ)
+    → WritesLine is_explained line (transition t before steps after) text → Sees steps before.locked after.locked
+line_seen t is_explained Go before steps after text is =
+    stays_seen steps before.locked after.locked is.steps_are (ap (λ (s : SystemState). s.locked) is.stays)
+line_seen t is_explained (At number processor command) before steps after text is =
+    work_seen t _ steps _ is_explained _ text is.done
+
+-- the steps of all lines of a history, which the watch took
+record SawAll (begins : Past) (end : SystemState) : Type 0 where
+  pub more : Run
+  pub seen : Watches begins.now.locked.machine.watch more end.locked.machine.watch
+
+all_seen : (on : Terms) (lines : List Line) (begins : Past) (end : SystemState) (text : List ℕ) → TellsHistory on lines begins end text
+    → SawAll begins end
+all_seen on [] begins end text tells = record {
+  more = [];
+  seen = stays_seen [] begins.now.locked end.locked refl (ap (λ (s : SystemState). s.locked) tells.1);
+}
+all_seen on (line ∷ lines) begins end text tells =
+    let rest = all_seen on lines (past_line begins tells.steps tells.between) end tells.rest tells.tells in record {
+      more = tells.steps ++ rest.more;
+      seen = watches_both begins.now.locked.machine.watch tells.steps tells.between.locked.machine.watch rest.more
+          end.locked.machine.watch tells.watched rest.seen;
+    }
+
+-- if the run of all steps is legal, the promise holds after each line
+all_kept : (on : Terms) (lines : List Line) (begins : Past) (end : SystemState) (text : List ℕ) → (tells : TellsHistory on lines begins end text)
+    → (whole : Run) → whole ≡ begins.run ++ (all_seen on lines begins end text tells).more → IsLegalRun (zone_of on.frames) whole
+    → TellsRun on.frames begins.run begins.now.locked.machine.ledger → KeepsHistory on lines begins (past whole end) text
+unfolding all_seen
+all_kept on [] begins end text tells whole is legal told = (
+  tells.0,
+  λ i. past ((is ∙ append-nil begins.run) i) (tells.1 i),
+)
+all_kept on (line ∷ lines) begins end text tells whole is legal told =
+    let next : Past = past_line begins tells.steps tells.between in
+    let more : Run = (all_seen on lines next end tells.rest tells.tells).more in
+    let parts : whole ≡ next.run ++ more = is ∙ sym (append_assoc begins.run tells.steps more) in
+    let here : IsLegalRun (zone_of on.frames) next.run =
+    legal_front (zone_of on.frames) next.run more (subst (IsLegalRun (zone_of on.frames)) parts legal) in
+    let holds = tells.kept_where_legal here in record {
+      first = tells.first;
+      rest = tells.rest;
+      between = tells.between;
+      steps = tells.steps;
+      writes_first = tells.writes_first;
+      kept = record { promise = holds.promise; tells = holds.tells told };
+      keeps = all_kept on lines next end tells.rest tells.tells whole parts legal (holds.tells told);
+      text_is = tells.text_is;
+    }
+
+-- if the watch was new before the lines and allowed all steps, the lines have a legal history
+pub legal_history : (on : Terms) (lines : List Line) (before after : SystemState) (text : List ℕ) → TellsHistory on lines (past [] before) after text
+    → TellsRun on.frames [] before.locked.machine.ledger → IsNewWatch (zone_of on.frames) before.locked.machine.watch
+    → after.locked.machine.watch.is_legal ≡ true → TellsLegalHistory on lines before after text
+legal_history on lines before after text tells told new allowed =
+    let all = all_seen on lines (past [] before) after text tells in
+    let saw : SawRun (zone_of on.frames) all.more after.locked.machine.watch =
+    watched_runs_are_legal (zone_of on.frames) before.locked.machine.watch all.more after.locked.machine.watch new all.seen allowed in record {
+      run = all.more;
+      saw = saw;
+      history = all_kept on lines (past [] before) after text tells all.more refl saw.legal told;
+    }

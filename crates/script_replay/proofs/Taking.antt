@@ -1,0 +1,32 @@
+-- The steps that the watch takes of calls without the lock. Serves `watch_fast`, `watch_put`, `unpin`.
+use Rattle.std.proofs.Common.{◌≡◌, ◌≢◌, ◌<◌, ◌^◌, ℕ, Option, Some, None, arith, refl}
+use Rattle.frame_word.specs.declared.answers.Put.{Put as PutAnswer}
+use Rattle.frame_word.specs.declared.answers.Put.TheVariants.{Left, Last}
+use Rattle.cpu_part.specs.declared.answers.Fast.{Fast}
+use Rattle.cpu_part.specs.declared.answers.Fast.TheVariants.{FreshFull, ListEmpty, OtherGroup, Drained, NoStock, Got}
+use Rattle.cpu_part.specs.Calls.{UnpinAnswers}
+use Rattle.cpu_part.specs.Cpus.{KnownCpu}
+use Rattle.mem_system.specs.Locked.{KnownLocked}
+use Rattle.reply_texts.specs.Answer as answer
+use Rattle.script_replay.specs.Answers.{OnlyWatched, fast_steps, unpin_answer}
+use Rattle.script_replay.proofs.Following.{not_watched}
+
+-- a fast allocation without a frame made no step
+pub no_fast_step : (processor group : ℕ) (fast : Fast) → ((f : ℕ) → fast ≢ Got f) → (l : KnownLocked)
+    → OnlyWatched (fast_steps processor group fast) l l
+no_fast_step processor group FreshFull none l = not_watched l l refl
+no_fast_step processor group ListEmpty none l = not_watched l l refl
+no_fast_step processor group OtherGroup none l = not_watched l l refl
+no_fast_step processor group Drained none l = not_watched l l refl
+no_fast_step processor group NoStock none l = not_watched l l refl
+no_fast_step processor group (Got f) none l = absurd (none f refl)
+
+-- few references are left after a put
+pub few_left : (f : ℕ) (c d : KnownCpu) (put : PutAnswer) → UnpinAnswers f put c d → (left : ℕ) → unpin_answer (Some put) ≡ answer.Put (Left left)
+    → left < 2 ^ 32
+few_left f c d (Left n) is left e = let same : n ≡ left = cc in let few = is.2.1 in omega arith
+few_left f c d Last is left e = absurd (let none : answer.Put Last ≢ answer.Put (Left left) = λ s. cc in none e)
+
+-- and none is told where there was no pin
+pub none_left : (left : ℕ) → unpin_answer None ≡ answer.Put (Left left) → left < 2 ^ 32
+none_left left e = absurd (let none : unpin_answer None ≢ answer.Put (Left left) = λ s. cc in none e)

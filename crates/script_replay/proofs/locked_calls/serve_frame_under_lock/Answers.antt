@@ -1,0 +1,28 @@
+use Rattle.std.proofs.Common.{IsTrue, List, ap, sym, subst, ◌∙◌}
+use Rattle.group_charge.specs.Charges.{Ledger}
+use Rattle.group_tree.specs.Groups.{has_group, number_at}
+use Rattle.group_tree.specs.declared.group.Group.{Group}
+use Rattle.mem_system.specs.declared.command.Cmd.TheVariants.{Alloc, Settle}
+use Rattle.mem_system.specs.Locked.{KnownLocked}
+use Rattle.script_replay.proofs.UnderLock.{groups_locked, outcome_locked}
+use Rattle.script_replay.proofs.locked_calls.serve_frame_under_lock.Goals as goal
+
+pub serve_frame_outcome-outcome-requires : goal.serve_frame_outcome-outcome-requires
+serve_frame_outcome-outcome-requires g c = record {
+  there = subst (λ (l : Ledger). IsTrue (has_group l.groups c.args.group)) (sym (ap (λ (l : KnownLocked). l.machine.ledger) c.lock.ensures.locked)) c.requires.there;
+}
+
+pub returns : goal.returns
+returns g c =
+    let t = g.N.BootName.frames in
+    let found = c.lock.new.locked in
+    let served = c.serve_frame_outcome-outcome in
+    let before = c.args.locked.now in
+    let after = c.unlock.new.locked in
+    let groups = ap (λ (l : KnownLocked). l.machine.ledger.groups) c.lock.ensures.locked in record {
+      served = λ path at. outcome_locked t (Alloc path 0) before found served.new.locked after c.args.cpu.now served.new.cpu c.number-number.result
+          c.number-number.ensures.number c.lock.ensures c.unlock.ensures served.result
+          (served.ensures.served path (ap (λ (gs : List Group). number_at gs path.now) groups ∙ at));
+      groups = groups_locked t Settle before found served.new.locked after c.args.cpu.now served.new.cpu c.number-number.result
+          c.number-number.ensures.number c.lock.ensures c.unlock.ensures served.result served.ensures.groups;
+    }
