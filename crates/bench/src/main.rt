@@ -5,9 +5,7 @@
 
 mod charges;
 mod costs;
-mod life;
 mod lists;
-mod machine;
 mod pins;
 mod prepaid;
 mod reclaim;
@@ -53,7 +51,7 @@ fn tell_named<R: Threads + Wait + Print + Clock + Alloc<A = Global> + Sync>(
         match table_named(word.as_str()) {
             Some(table) => tell_table(rt, table, Pace::Timed { unit })?,
             None => println!(rt;
-                "{word}: no table; there are references, prepaid, lists, charges, zone, machine, system, reclaim and script"
+                "{word}: no table; there are references, prepaid, lists, charges, zone, system, reclaim and script"
             )?,
         }
     }

@@ -2,7 +2,6 @@
 
 use crate::charges::tell_charges;
 use crate::costs::Pace;
-use crate::life::tell_machine;
 use crate::lists::tell_lists;
 use crate::prepaid::tell_words;
 use crate::reclaim::tell_reclaim;
@@ -28,8 +27,6 @@ pub enum Table {
     Charges,
     /// The buddy system.
     Zone,
-    /// The machine behind the lock.
-    Machine,
     /// Commands that take the lock.
     System,
     /// Rounds of reclaim, and kills.
@@ -39,13 +36,12 @@ pub enum Table {
 }
 
 /// The tables with their names.
-pub const TABLES: [(&str, Table); 9] = [
+pub const TABLES: [(&str, Table); 8] = [
     ("references", Table::References),
     ("prepaid", Table::Prepaid),
     ("lists", Table::Lists),
     ("charges", Table::Charges),
     ("zone", Table::Zone),
-    ("machine", Table::Machine),
     ("system", Table::System),
     ("reclaim", Table::Reclaim),
     ("script", Table::Script),
@@ -76,7 +72,6 @@ pub fn tell_table<R: Threads + Wait + Print + Clock + Alloc<A = Global> + Sync>(
         Table::Lists => tell_lists(rt, pace),
         Table::Charges => tell_charges(rt, pace),
         Table::Zone => tell_zone(rt, pace),
-        Table::Machine => tell_machine(rt, pace),
         Table::System => {
             tell_system(rt, pace, table)?;
             tell_boots(rt, pace)

@@ -1,12 +1,11 @@
-//! Replays stored runs on a system. A run has lines of several CPUs, the answer to each line, and the core's steps
-//! for it. `tests/stored-runs`, an account of the rules that is no part of this program, wrote the runs.
+//! Replays stored runs on a system. A run has lines of several CPUs, the answer to each line, and a digest of the state
+//! after it. `tests/stored-runs`, an account of the rules that is no part of this program, wrote the runs.
 #![tactic(auto)]
 
-mod alike;
 mod ends;
+mod looks;
 mod plays;
 mod runs;
-mod steps;
 mod stored_run;
 mod turns;
 

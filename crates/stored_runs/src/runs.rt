@@ -2,7 +2,6 @@
 
 use crate::stored_run::{Stored, live};
 use anyhow::{Context, Result, bail, ensure};
-use mem_core::zone::Core;
 use mem_system::boot;
 use std::alloc::Global;
 use std::marker::Brand;
@@ -28,24 +27,23 @@ fn sizes_of(words: &str) -> Result<Config> {
     Ok(sizes)
 }
 
-// A core of these sizes, if the run is replayed beside one.
-fn core_of(alloc: Global, word: &str, sizes: &Config) -> Result<Option<Core>> {
+// Whether the state is looked at after each turn.
+fn is_looked_at(word: &str) -> Result<bool> {
     match word {
-        "beside" if sizes.is_valid() => Ok(Some(Core::new(alloc, *sizes)?)),
-        "alone" => Ok(None),
-        _ => bail!("neither beside a core nor alone"),
+        "looks" => Ok(true),
+        "answers" => Ok(false),
+        _ => bail!("neither with looks nor with answers alone"),
     }
 }
 
 // The run of this text.
-fn run_of(alloc: Global, text: &str) -> Result<Stored<'_>> {
+fn run_of(text: &str) -> Result<Stored<'_>> {
     let (head, text) = text.split_once("\n\n").context("no turns")?;
     let (turns, end) = text.split_once("\n\nend\n").context("no end")?;
     let (word, sizes) = head.split_once(' ').context("no sizes")?;
-    let sizes = sizes_of(sizes)?;
     Ok(Stored {
-        sizes,
-        core: core_of(alloc, word, &sizes)?,
+        sizes: sizes_of(sizes)?,
+        is_looked_at: is_looked_at(word)?,
         turns,
         end,
     })
@@ -54,7 +52,7 @@ fn run_of(alloc: Global, text: &str) -> Result<Stored<'_>> {
 /// Replays the run of this text, and returns how many turns it has. An error says after how many turns the system
 /// differed.
 pub fn replay_run<R: Wait>(rt: &R, alloc: Global, text: &str) -> Result<u32> {
-    let run = run_of(alloc, text)?;
+    let run = run_of(text)?;
     match boot(alloc, run.sizes) {
         Ok(boot) => live::<Brand, R>(rt, alloc, boot, run),
         Err(_) => bail!("no boot"),

@@ -1,155 +1,147 @@
-//! The life of a system, from its boot to its end, beside a core or alone.
+//! The life of a system, from its boot to its end.
 
 ghost use Rattle.std.specs.Prelude.{◌≡◌};
 
-use crate::alike::{are_lists_alike, looks, wanted};
 use crate::ends::{Ended, shut, write_end};
+use crate::looks::{digest_of, lists_text, looks};
 use crate::plays::{ask, play};
-use crate::steps::first_wrong;
-use crate::turns::{Turn, turn_of};
+use crate::turns::turn_of;
 use anyhow::{Context, Result, bail, ensure};
 use cpu_part::{BootName, Cpu};
-use mem_core::zone::Core;
 use mem_system::{Boot, System};
-use script_lines::line::Line;
+use script_lines::line::{Command, Line};
 use script_lines::script::parse_script;
 use std::alloc::Global;
 use std::sync::Wait;
 use zone_sizes::config::Config;
 
-/// A run: the sizes of the system, the core beside it if there is one, and the texts of the turns and of the end.
-#[derive(Drop)]
+/// A run: the sizes of the system, whether its state is compared after each turn, and the texts of the turns and of the
+/// end.
+#[derive(Clone, Copy)]
 pub struct Stored<'a> {
     pub sizes: Config,
-    pub core: Option<Core>,
+    pub is_looked_at: bool,
     pub turns: &'a str,
     pub end: &'a str,
 }
 
-// What belongs to a system: its sizes, the core beside it if there is one, and the lines that are asked after each
-// turn.
-#[derive(Drop)]
+// What belongs to a system: its sizes, and the lines that are asked after a turn whose state is stored.
+#[derive(Clone, Copy)]
 struct Side<'a> {
     sizes: Config,
-    core: Option<Core>,
     looks: &'a [Line<'a>],
 }
 
-// The answers to a CPU agree with the core.
+// Appends the answers to a CPU that looks at all.
 fn look<N: BootName, R: Wait>(
     rt: &R,
     alloc: Global,
     system: &System<N>,
     cpu: &mut Cpu<N>,
-    core: &Core,
-    side: &Side<'_>,
+    looks: &[Line<'_>],
+    told: &mut Vec<u8>,
 ) -> Result<()> {
-    let mut told = Vec::new(alloc);
-    for line in side.looks {
+    for line in looks {
         if let Line::At { command, .. } = line {
             told.extend_from_slice(&ask(rt, alloc, system, cpu, command)?)?;
         }
     }
-    let wanted = wanted(alloc, core, &side.sizes)?;
-    ensure!(
-        told.as_slice() == wanted.as_bytes(),
-        "places, blocks or files differ"
-    );
     Ok(())
 }
 
-// The core makes these steps, with the stored answers.
-fn follow(side: &mut Side<'_>, steps: &str) -> Result<()> {
-    if let Some(core) = &mut side.core {
-        if let Some(step) = first_wrong(core, steps) {
-            bail!("the core steps another way: {step}");
-        }
-    }
-    Ok(())
-}
-
-// After the turn of a CPU, compares the system with the core if there is one.
+// After the turn of a CPU, its lists and the answers to the last CPU, which looks, are those of this digest.
 fn compare<N: BootName, R: Wait>(
     rt: &R,
     alloc: Global,
     system: &System<N>,
     cpus: &mut [Cpu<N>],
     at: usize,
-    side: &Side<'_>,
+    side: Side<'_>,
+    digest: u64,
 ) -> Result<()> {
-    let Some(core) = &side.core else {
-        return Ok(());
-    };
     let cpu = cpus.get(at).context("no processor")?;
-    ensure!(
-        are_lists_alike(system.tables(), cpu, core),
-        "the processor's frames differ"
-    );
+    let lists = lists_text(alloc, system.tables(), cpu, side.sizes.frames)?;
+    let mut told = lists.into_bytes();
     let looker = cpus.last_mut().context("no processor")?;
-    look(rt, alloc, system, looker, core, side)
+    look(rt, alloc, system, looker, side.looks, &mut told)?;
+    ensure!(
+        digest_of(&told) == digest,
+        "lists, places, blocks or files differ"
+    );
+    Ok(())
 }
 
-// Plays a turn, and compares.
+// The CPU that a line names, by its place, and its command.
+fn asked<'a>(line: &Line<'a>) -> Result<(usize, Command<'a>)> {
+    match line {
+        Line::At {
+            processor,
+            command,
+            ..
+        } => Ok(((*processor as usize).saturating_sub(1), *command)),
+        Line::Go => bail!("no line"),
+    }
+}
+
+// Plays the turn of this text, and compares.
 fn take_turn<N: BootName, R: Wait>(
     rt: &R,
     alloc: Global,
     system: &System<N>,
     cpus: &mut [Cpu<N>],
-    side: &mut Side<'_>,
-    turn: &Turn<'_>,
+    side: Side<'_>,
+    text: &str,
 ) -> Result<()> {
+    let turn = turn_of(alloc, text)?;
     let lines = parse_script(alloc, turn.line.as_bytes(), &side.sizes)?;
-    let Some(
-        Line::At {
-            processor,
-            command,
-            ..
-        },
-    ) = lines.first()
-    else {
-        bail!("no line");
-    };
-    let at = (*processor as usize).saturating_sub(1);
+    let (at, command) = asked(lines.first().context("no line")?)?;
     let cpu = cpus.get_mut(at).context("no processor")?;
-    let told = play(rt, alloc, system, cpu, turn.way, command)?;
+    let told = play(rt, alloc, system, cpu, turn.way, &command)?;
     ensure!(
         told.as_slice() == turn.answer.as_bytes(),
         "the answer differs"
     );
-    follow(side, turn.steps)?;
-    compare(rt, alloc, system, cpus, at, side)
+    match turn.digest {
+        Some(digest) => compare(rt, alloc, system, cpus, at, side, digest),
+        None => Ok(()),
+    }
 }
 
-// Plays the turns of a text: one, or one for each number from the first up to the last, which is left out. Returns
-// how many.
-fn take_turns<N: BootName, R: Wait>(
+// Plays the turns of a text that begins with a range: one for each number from its first up to its last, which is left
+// out. Returns how many.
+fn take_each<N: BootName, R: Wait>(
     rt: &R,
     alloc: Global,
     system: &System<N>,
     cpus: &mut [Cpu<N>],
-    side: &mut Side<'_>,
+    side: Side<'_>,
     text: &str,
 ) -> Result<u32> {
-    let Some(text) = text.strip_prefix("each ") else {
-        take_turn(rt, alloc, system, cpus, side, &turn_of(alloc, text)?)?;
-        return Ok(1);
-    };
     let (range, text) = text.split_once('\n').context("no turn")?;
     let (first, last) = range.split_once(' ').context("no numbers")?;
     let (first, last) = (first.parse::<u32>()?, last.parse::<u32>()?);
     for number in first..last {
         let number = format!(in alloc; "{number}")?;
         let text = text.replace(alloc, "{}", number.as_str())?;
-        take_turn(
-            rt,
-            alloc,
-            system,
-            cpus,
-            side,
-            &turn_of(alloc, text.as_str())?,
-        )?;
+        take_turn(rt, alloc, system, cpus, side, text.as_str())?;
     }
     Ok(last.saturating_sub(first))
+}
+
+// Plays the turns of a text: one, or one for each number of a range. Returns how many.
+fn take_turns<N: BootName, R: Wait>(
+    rt: &R,
+    alloc: Global,
+    system: &System<N>,
+    cpus: &mut [Cpu<N>],
+    side: Side<'_>,
+    text: &str,
+) -> Result<u32> {
+    if let Some(text) = text.strip_prefix("each ") {
+        return take_each(rt, alloc, system, cpus, side, text);
+    }
+    take_turn(rt, alloc, system, cpus, side, text)?;
+    Ok(1)
 }
 
 // Plays all turns. Returns how many.
@@ -158,7 +150,7 @@ fn take_all<N: BootName, R: Wait>(
     alloc: Global,
     system: &System<N>,
     cpus: &mut [Cpu<N>],
-    side: &mut Side<'_>,
+    side: Side<'_>,
     turns: &str,
 ) -> Result<u32> {
     let mut count = 0_u32;
@@ -170,10 +162,9 @@ fn take_all<N: BootName, R: Wait>(
     Ok(count)
 }
 
-// The report of the end is the stored one, after the core made its last steps.
-fn check_end(alloc: Global, side: &mut Side<'_>, ended: &Ended, text: &str) -> Result<()> {
+// The report of the end is the stored one.
+fn check_end(alloc: Global, ended: &Ended, text: &str) -> Result<()> {
     let turn = turn_of(alloc, text)?;
-    follow(side, turn.steps)?;
     let mut told = String::new(alloc);
     write_end(ended, &mut told)?;
     ensure!(
@@ -187,24 +178,18 @@ fn check_end(alloc: Global, side: &mut Side<'_>, ended: &Ended, text: &str) -> R
 pub fn live<N: BootName, R: Wait>(rt: &R, alloc: Global, boot: Boot, run: Stored<'_>) -> Result<u32>
     requires { (boot.frames ≡ N.frames) × (boot.stocks ≡ N.stocks) }
 {
-    let Stored {
-        sizes,
-        core,
-        turns,
-        end,
-    } = run;
-    let frames = if core.is_some() { sizes.frames } else { 0 };
+    let sizes = run.sizes;
+    let frames = if run.is_looked_at { sizes.frames } else { 0 };
     let looks = looks(alloc, frames)?;
     let looks = parse_script(alloc, looks.as_bytes(), &sizes)?;
-    let mut side = Side {
+    let side = Side {
         sizes,
-        core,
         looks: &looks,
     };
     let (system, mut cpus) = boot.start::<N>(alloc)?;
-    let taken = take_all(rt, alloc, &system, &mut cpus, &mut side, turns);
+    let taken = take_all(rt, alloc, &system, &mut cpus, side, run.turns);
     let ended = shut(rt, system, cpus);
     let taken = taken?;
-    check_end(alloc, &mut side, &ended, end)?;
+    check_end(alloc, &ended, run.end)?;
     Ok(taken)
 }

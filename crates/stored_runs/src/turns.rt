@@ -1,4 +1,4 @@
-//! The text of a turn: what a CPU is asked, the answer, and the core's steps for it.
+//! The text of a turn: what a CPU is asked, the answer, and the state after it.
 
 use anyhow::{Context, Result, bail};
 use std::alloc::{AllocError, Global};
@@ -24,8 +24,8 @@ pub struct Turn<'a> {
     pub line: &'a str,
     /// The required answer.
     pub answer: String,
-    /// The steps of the core.
-    pub steps: &'a str,
+    /// What stands for the state after the turn, if that is stored.
+    pub digest: Option<u64>,
 }
 
 impl<'a> Turn<'a> {
@@ -35,7 +35,7 @@ impl<'a> Turn<'a> {
             way: Way::End,
             line: "",
             answer: String::new(alloc),
-            steps: "",
+            digest: None,
         }
     }
 
@@ -58,7 +58,7 @@ impl<'a> Turn<'a> {
             "!" => self.asks(Way::Visit, line),
             "-" => self.asks(Way::Drop, line),
             "=" => self.is_answered(line)?,
-            "." => self.steps = line,
+            "#" => self.digest = Some(line.parse()?),
             _ => bail!("a line of no kind"),
         }
         Ok(())

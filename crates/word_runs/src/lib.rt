@@ -5,10 +5,10 @@
 #[cfg(test)]
 mod frames;
 #[cfg(test)]
-mod fronts;
-#[cfg(test)]
 mod parts;
 #[cfg(test)]
 mod rows;
 #[cfg(test)]
 mod stocks;
+#[cfg(test)]
+mod transit;

@@ -175,7 +175,7 @@ fn take_fresh<N: BootName>(
 }
 
 // A fast allocation gives this answer.
-pub(crate) fn pays_fast<N: BootName>(
+fn pays_fast<N: BootName>(
     rt: &impl Abort,
     tables: &Tables<N>,
     cpu: &mut Cpu<N>,
@@ -188,7 +188,7 @@ pub(crate) fn pays_fast<N: BootName>(
 }
 
 // The drain of CPU 1's stock returns this many pages.
-pub(crate) fn drains_stock<N: BootName>(
+fn drains_stock<N: BootName>(
     rt: &impl Abort,
     tables: &Tables<N>,
     machine: &mut StockSeat,
@@ -201,7 +201,7 @@ pub(crate) fn drains_stock<N: BootName>(
 }
 
 // The drop of a fresh frame gives this answer.
-pub(crate) fn drops_fresh<N: BootName>(
+fn drops_fresh<N: BootName>(
     rt: &impl Abort,
     tables: &Tables<N>,
     cpu: &mut Cpu<N>,
@@ -488,14 +488,14 @@ fn give<N: BootName>(tables: &Tables<N>, zone: &mut FrameSeat, cpu: &mut Cpu<N>,
 
 // The frames that a CPU is given: from `from`, below `to`.
 #[derive(Clone, Copy)]
-pub(crate) struct GivenFrames {
-    pub cpu: u32,
-    pub from: u32,
-    pub to: u32,
+struct GivenFrames {
+    cpu: u32,
+    from: u32,
+    to: u32,
 }
 
 // Gives these frames of the zone to the CPU, which has none.
-pub(crate) fn give_some<N: BootName>(
+fn give_some<N: BootName>(
     rt: &impl Abort,
     tables: &Tables<N>,
     zone: &mut FrameSeat,
@@ -519,7 +519,7 @@ pub(crate) fn give_some<N: BootName>(
 }
 
 // The CPU hands over all listed frames, and the zone collects them.
-pub(crate) fn give_back<N: BootName>(tables: &Tables<N>, zone: &mut FrameSeat, cpu: &mut Cpu<N>)
+fn give_back<N: BootName>(tables: &Tables<N>, zone: &mut FrameSeat, cpu: &mut Cpu<N>)
     requires { IsZoneSeat N.frames zone.old × IsShut zone.old cpu.old.number }
     ensures zone { IsZoneSeat N.frames zone.new × IsOpen zone.new cpu.new.number }
     ensures still { NothingPasses N.frames zone.new cpu.new.frame_seat }

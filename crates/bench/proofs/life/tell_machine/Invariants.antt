@@ -1,4 +1,0 @@
-use Rattle.bench.proofs.life.tell_machine.Given as goal
-
-abbrev pub ghosts-live : goal.ghosts-live
-ghosts-live g a = record { frames = a.parts.frames; stocks = a.parts.stocks }
