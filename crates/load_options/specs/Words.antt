@@ -104,7 +104,8 @@ sizes_in found = do
 -- the task on a script that has this name, with the options of this task alone
 abbrev pub task_in : List ℕ → List Row → Option Task
 task_in name found =
-    if bytes_eq name (codes "replay") then Some (Replay (is_given (codes "explain") found) (is_given (codes "check") found))
+    if bytes_eq name (codes "replay")
+    then Some (Replay (is_given (codes "explain") found) (is_given (codes "check") found))
     else if bytes_eq name (codes "run") then Some Run else None
 
 -- the options that are given under the name of a subcommand on scripts

@@ -9,7 +9,8 @@ use Rattle.load_options.specs.declared.task.Options.{Options}
 use Rattle.load_options.specs.Sizes.{HasSizesInRange}
 use Rattle.load_options.specs.Words.{TellsOptions}
 use Rattle.load_run.specs.declared.fault.ProgramFault.{ProgramFault}
-use Rattle.load_run.specs.declared.fault.ProgramFault.TheVariants.{Words, Script, BadLogLine, BadConfig, IllegalStep, Input, Output, NoMemory}
+use Rattle.load_run.specs.declared.fault.ProgramFault.TheVariants.{Words, Script, BadLogLine, BadConfig}
+use Rattle.load_run.specs.declared.fault.ProgramFault.TheVariants.{IllegalStep, Input, Output, NoMemory}
 use Rattle.load_run.specs.Answers.{IsAnswered, bytes_read}
 use Rattle.load_run.specs.Fault.{checks_steps, fault_text, status_of}
 use Rattle.load_run.specs.Writing.{AppendsBeginning}

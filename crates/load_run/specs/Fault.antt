@@ -11,7 +11,8 @@ use Rattle.load_options.specs.declared.task.Task.{Task}
 use Rattle.load_options.specs.declared.task.Task.TheVariants.{Replay, Run, Check}
 use Rattle.load_options.specs.Words.{TellsOptions}
 use Rattle.load_run.specs.declared.fault.ProgramFault.{ProgramFault}
-use Rattle.load_run.specs.declared.fault.ProgramFault.TheVariants.{Words, Script, BadLogLine, BadConfig, IllegalStep, Input, Output, NoMemory}
+use Rattle.load_run.specs.declared.fault.ProgramFault.TheVariants.{Words, Script, BadLogLine, BadConfig}
+use Rattle.load_run.specs.declared.fault.ProgramFault.TheVariants.{IllegalStep, Input, Output, NoMemory}
 
 -- 2 if the program was misused, 1 if it failed at its work
 abbrev pub status_of : ProgramFault → ℕ

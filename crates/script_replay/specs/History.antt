@@ -1,5 +1,6 @@
 -- The history of lines: what their steps are, and what holds after each line.
-use Rattle.std.specs.Prelude.{◌≡◌, ℕ, ◌-◌, false, List, [], ◌∷◌, ◌++◌, Result, Vec, IfErr, IfOk, OnErr, get_or, length, ⊤}
+use Rattle.std.specs.Prelude.{◌≡◌, ℕ, ◌-◌, false, List, [], ◌∷◌, ◌++◌, Result, Vec, IfErr, IfOk, OnErr}
+use Rattle.std.specs.Prelude.{get_or, length, ⊤}
 use Rattle.frame_word.specs.Seats.{KnownTable}
 use Rattle.stock_word.specs.Stock.{Words}
 use Rattle.group_charge.specs.Charges.{AreCharges}
@@ -117,8 +118,9 @@ pub record ReplaysOrStops {Z E : Type 0} (terms : Terms) (lines : List Line) (be
 -- has the peaks and event counts of no step
 pub record ReplaysLegally (terms : Terms) (lines : List Line) (before after : SystemState) (text : List ℕ) : Type 0 where
   pub served : ServesAll terms lines before after text
-  pub history : ShowsAll terms.frames [] before.locked.machine before.cpus → AreTied terms.frames terms.stocks before.cpus
-      → TellsRun terms.frames [] before.locked.machine.ledger → IsNewWatch (zone_of terms.frames) before.locked.machine.watch
+  pub history : ShowsAll terms.frames [] before.locked.machine before.cpus
+      → AreTied terms.frames terms.stocks before.cpus → TellsRun terms.frames [] before.locked.machine.ledger
+      → IsNewWatch (zone_of terms.frames) before.locked.machine.watch
       → TellsLegalHistory terms lines before after text
 
 -- why a checked replay stopped after so many lines: memory ran out for the text of the last of them; or the watch

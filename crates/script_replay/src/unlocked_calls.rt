@@ -5,7 +5,8 @@ ghost use Rattle.std.specs.String.{string_bytes};
 ghost use Rattle.frame_word.specs.declared.answers.Put.TheVariants.{Left};
 ghost use Rattle.reply_texts.specs.Answer as answer;
 ghost use Rattle.reply_texts.specs.Answers.{answer_text};
-ghost use Rattle.script_replay.specs.Answers.{AddsAnswer, CanNotList, GetsPin, ListsAgain, PutsPin, pin_answer, unpin_answer};
+ghost use Rattle.script_replay.specs.Answers.{AddsAnswer, CanNotList, GetsPin, ListsAgain, PutsPin};
+ghost use Rattle.script_replay.specs.Answers.{pin_answer, unpin_answer};
 
 use cpu_part::{BootName, Cpu, Dropped, Tables};
 use frame_word::{Get, Put};
