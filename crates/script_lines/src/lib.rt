@@ -6,4 +6,4 @@ pub mod line;
 mod number;
 mod place;
 pub mod script;
-mod verb;
+pub mod verb;

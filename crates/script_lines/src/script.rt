@@ -21,8 +21,8 @@ use zone_sizes::config::Config;
 /// The most bytes that a script has.
 pub const MOST_INPUT: usize = 1_048_576;
 
-/// The most bytes that a line has, its line feed not counted.
-const MOST_LINE: usize = 1_024;
+//// The most bytes that a line has, its line feed not counted.
+pub const MOST_LINE: usize = 1_024;
 
 /// The lines of a script in their order, without the empty ones and those that begin with `#`, each with its number.
 ///
@@ -82,8 +82,8 @@ fn parse_lines<'a>(
     Ok(lines)
 }
 
-// The text of the first line, and what follows its line feed: None if it has no line feed.
-fn first_line(text: &[u8]) -> (&[u8], Option<&[u8]>)
+/// The text of the first line, and what follows its line feed: None if it has no line feed.
+pub fn first_line(text: &[u8]) -> (&[u8], Option<&[u8]>)
     ensures { texts_of text.now ≡ result.0.now ∷ texts_left result.1 }
 {
     match place_of(b'\n', text) {
@@ -92,9 +92,9 @@ fn first_line(text: &[u8]) -> (&[u8], Option<&[u8]>)
     }
 }
 
-// The number of the line with the first byte past the most, if there is one. A line feed belongs to the line that it
-// ends.
-fn line_over(input: &[u8]) -> Option<usize>
+/// The number of the line with the first byte past the most, if there is one. A line feed belongs to the line that it
+/// ends.
+pub fn line_over(input: &[u8]) -> Option<usize>
     ensures { MatchOption result (length input.now ≤ longest_script)
         (λ n. (longest_script < length input.now) × (n ≡ ended_lines (take longest_script input.now) + 1)) }
 {
@@ -108,8 +108,8 @@ fn line_over(input: &[u8]) -> Option<usize>
     Some(before + 1)
 }
 
-// Whether the line of this number is before the one at which the script is too long.
-fn is_within(number: usize, over: Option<usize>) -> bool
+/// Whether the line of this number is before the one at which the script is too long.
+pub fn is_within(number: usize, over: Option<usize>) -> bool
     ensures { IsTrue result ↔ IfSome over (λ first. number < first) }
 {
     match over {
@@ -118,8 +118,8 @@ fn is_within(number: usize, over: Option<usize>) -> bool
     }
 }
 
-// Whether a line is skipped.
-fn is_skipped(text: &[u8]) -> bool
+/// Whether a line is skipped.
+pub fn is_skipped(text: &[u8]) -> bool
     ensures { result ≡ is_skipped text.now }
 {
     match text.first() {
@@ -128,8 +128,8 @@ fn is_skipped(text: &[u8]) -> bool
     }
 }
 
-// Whether a line is `go`.
-fn is_go(text: &[u8]) -> bool
+/// Whether a line is `go`.
+pub fn is_go(text: &[u8]) -> bool
     ensures { result ≡ is_go text.now }
 {
     text == b"go".as_slice()
@@ -290,8 +290,8 @@ fn parse_read(arguments: &[u8]) -> Option<(&[u8], &[u8])>
     Some((path_of(path)?, path_of(file)?))
 }
 
-// What is before the first space, and what follows it. None if there is no space.
-fn first_word(text: &[u8]) -> Option<(&[u8], &[u8])>
+/// What is before the first space, and what follows it. None if there is no space.
+pub fn first_word(text: &[u8]) -> Option<(&[u8], &[u8])>
     ensures { MatchOption result (All (λ b. b ≢ 32) text.now) (λ p. IsCut text.now p.0.now p.1.now) }
 {
     let end = place_by_one(b' ', text)?;

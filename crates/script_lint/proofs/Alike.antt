@@ -1,0 +1,99 @@
+-- How many bytes two texts begin with alike.
+use Rattle.std.proofs.Common.{◌≡◌, ◌≢◌, inl, inr, ℕ, ◌+◌, ◌<◌, ◌≤◌, List, [], ◌∷◌, ◌++◌, All, length, get_or, arith, refl, sym, ap, ap₂, subst, ◌∙◌}
+use Rattle.std.proofs.lemmas.Bool.{cases_lt}
+use Rattle.std.proofs.lemmas.List.{get_or-take, take_more}
+use Rattle.std.proofs.lemmas.List.Elements.{All-push}
+use Rattle.script_lines.specs.Verb.{name_of}
+use Rattle.script_lines.specs.declared.verb.Verb.{Verb}
+use Rattle.script_lines.specs.declared.verb.Verb.TheVariants.{Mkdir, Rmdir, Write, Read, Alloc, Fast, Release, Get, Put, Settle, Touch}
+use Rattle.script_lines.specs.declared.verb.Verb.TheVariants.{Dirty, Clean, Owner, Blocks, Show}
+use Rattle.script_lint.specs.Causes.{all_verbs}
+use Rattle.script_lint.specs.Names.{BeginAlike, IsCommon, IsLongest}
+
+pub none_alike : (one other : List ℕ) → BeginAlike one other 0
+none_alike one other = record { inside_one = omega arith; inside_other = omega arith; same = refl }
+
+pub one_more : (one other : List ℕ) (count : ℕ) → BeginAlike one other count → count < length one → count < length other
+    → get_or one count 0 ≡ get_or other count 0 → BeginAlike one other (count + 1)
+one_more one other count alike in_one in_other same = record {
+  inside_one = omega arith;
+  inside_other = omega arith;
+  same = take_more one count 0 in_one ∙ ap₂ (λ (xs : List ℕ) (x : ℕ). xs ++ x ∷ []) alike.same same ∙ sym (take_more other count 0 in_other);
+}
+
+pub at_end_of_one : (one other : List ℕ) (count : ℕ) → BeginAlike one other count → length one ≤ count → IsCommon one other count
+at_end_of_one one other count alike whole = record { alike = alike; most = λ more is. let inside = is.inside_one in omega arith }
+
+pub at_end_of_other : (one other : List ℕ) (count : ℕ) → BeginAlike one other count → length other ≤ count → IsCommon one other count
+at_end_of_other one other count alike whole = record { alike = alike; most = λ more is. let inside = is.inside_other in omega arith }
+
+pub at_other_byte : (one other : List ℕ) (count : ℕ) → BeginAlike one other count → get_or one count 0 ≢ get_or other count 0 → IsCommon one other count
+at_other_byte one other count alike differ = record {
+  alike = alike;
+  most = λ more is. elim (cases_lt count more) [
+    | inl past ↦
+        absurd (differ (sym (get_or-take more one count 0 past) ∙ ap (λ (t : List ℕ). get_or t count 0) is.same ∙ get_or-take more other count 0 past))
+    | inr within ↦ within
+  ];
+}
+
+-- no more bytes begin the name
+abbrev pub IsMost : List ℕ → ℕ → Verb → Type 0
+IsMost text most v = (more : ℕ) → BeginAlike text (name_of v) more → more ≤ most
+
+-- so of each of the first commands, and one of all has so many
+pub record IsMostOf (text : List ℕ) (verbs : List Verb) (most : ℕ) : Type 0 where
+  pub verb : Verb
+  pub alike : BeginAlike text (name_of verb) most
+  pub most_of : All (IsMost text most) verbs
+
+pub none_of : (text : List ℕ) → IsMostOf text [] 0
+none_of text = record { verb = Mkdir; alike = none_alike text (name_of Mkdir); most_of = λ k d h. absurd (omega arith) }
+
+-- the next command has more
+pub more_of : (text : List ℕ) (verbs : List Verb) (v : Verb) (most count : ℕ) → IsMostOf text verbs most → IsCommon text (name_of v) count
+    → most < count → IsMostOf text (verbs ++ v ∷ []) count
+more_of text verbs v most count so_far common greater = record {
+  verb = v;
+  alike = common.alike;
+  most_of = All-push (IsMost text count) verbs v (λ k d h more is. let le = so_far.most_of k d h more is in omega arith) common.most;
+}
+
+-- or it hasn't
+pub no_more_of : (text : List ℕ) (verbs : List Verb) (v : Verb) (most count : ℕ) → IsMostOf text verbs most → IsCommon text (name_of v) count
+    → count ≤ most → IsMostOf text (verbs ++ v ∷ []) most
+no_more_of text verbs v most count so_far common less = record {
+  verb = so_far.verb;
+  alike = so_far.alike;
+  most_of = All-push (IsMost text most) verbs v so_far.most_of (λ more is. let le = common.most more is in omega arith);
+}
+
+-- each command is among all
+in_all : (v : Verb) → (k : ℕ) × (k < 16) × (get_or all_verbs k Mkdir ≡ v)
+in_all Mkdir = (0, omega arith, refl)
+in_all Rmdir = (1, omega arith, refl)
+in_all Write = (2, omega arith, refl)
+in_all Read = (3, omega arith, refl)
+in_all Alloc = (4, omega arith, refl)
+in_all Fast = (5, omega arith, refl)
+in_all Release = (6, omega arith, refl)
+in_all Get = (7, omega arith, refl)
+in_all Put = (8, omega arith, refl)
+in_all Settle = (9, omega arith, refl)
+in_all Touch = (10, omega arith, refl)
+in_all Dirty = (11, omega arith, refl)
+in_all Clean = (12, omega arith, refl)
+in_all Owner = (13, omega arith, refl)
+in_all Blocks = (14, omega arith, refl)
+in_all Show = (15, omega arith, refl)
+
+-- what is the most of all commands is the longest
+pub longest_of : (text : List ℕ) (most : ℕ) → IsMostOf text all_verbs most → IsLongest text most
+longest_of text most is = record {
+  verb = is.verb;
+  alike = is.alike;
+  most = λ other more alike.
+      let place = in_all other in
+      let here : IsMost text most (get_or all_verbs place.0 Mkdir) = is.most_of place.0 Mkdir place.1 in
+      subst (IsMost text most) place.2 here more alike;
+}

@@ -1,0 +1,248 @@
+-- Where a text that should be a command can't be continued.
+use Rattle.std.proofs.Common.{◌≡◌, ◌≢◌, ◌⊎◌, inl, inr, ℕ, zero, suc, ◌+◌, ◌<◌, ◌≤◌, List, [], ◌∷◌, ◌++◌, All, Bor, length, take, drop, arith, refl, sym, ap, subst, ◌∙◌, false}
+use Rattle.std.proofs.Math.Seq.{take-append-add, take-append_seam}
+use Rattle.std.proofs.lemmas.List.{append_assoc, append-nil, length-append, length-take-le, take-append-drop, take-append-le, take_all}
+use Rattle.zone_sizes.specs.declared.config.Config.{Config}
+use Rattle.script_lines.specs.Script.{BeginsWithName, HasArguments, IsCut, IsPathText, WritesNumber}
+use Rattle.script_lines.specs.Verb.{its_verb, name_of}
+use Rattle.script_lines.specs.declared.line.Command.{Command}
+use Rattle.script_lines.specs.declared.line.Command.TheVariants as command
+use Rattle.script_lines.specs.declared.verb.Verb.{Verb}
+use Rattle.script_lines.specs.declared.verb.Verb.TheVariants.{Mkdir, Rmdir, Write, Read, Alloc, Fast, Release, Get, Put, Settle, Touch}
+use Rattle.script_lines.specs.declared.verb.Verb.TheVariants.{Dirty, Clean, Owner, Blocks, Show}
+use Rattle.script_lines.proofs.Cuts.{cut_once, no_cut}
+use Rattle.std.proofs.lemmas.Bool.{cases_lt}
+use Rattle.script_lines.proofs.Readings.{begins, command_parts, is_command, not_alone, stands_alone}
+use Rattle.script_lines.proofs.Verbs.{name_no_space, same_verb}
+use Rattle.script_lint.specs.Continuation.{GoesOn, IsFirstWord, IsStuck}
+use Rattle.script_lint.specs.Names.{BeginAlike, IsLongest}
+use Rattle.script_lint.specs.Shapes.{HasZone, IsCommand, IsShape, shape_of}
+use Rattle.script_lint.specs.declared.shape.Shape.TheVariants.{Alone}
+use Rattle.script_lint.proofs.Splits.{behind_first, first_inside, front_of_first, front_of_word, no_space_front, stuck_behind}
+
+-- what follows the name of a command has its shape
+to_shape : (sizes : Config) (c : Command) (r : List ℕ) → HasArguments sizes c r → IsShape (shape_of sizes (its_verb c)) r
+to_shape sizes (command.Mkdir path) r h = subst IsPathText h.1 h.0
+to_shape sizes (command.Rmdir path) r h = subst IsPathText h.1 h.0
+to_shape sizes (command.Write path file value) r h =
+    (path.now, file.now ++ 32 ∷ value.now, h.parts, h.path_text, (file.now, value.now, refl, h.file_text, tt))
+to_shape sizes (command.Read path file) r h = (path.now, file.now, h.parts, h.path_text, h.file_text)
+to_shape sizes (command.Alloc path order) r h =
+    let fits = h.writes.fits in (path.now, h.digits, h.parts, h.path_text, (order, h.writes, omega arith, omega arith))
+to_shape sizes (command.Fast group) r h = let low = h.low in (group, h.writes, omega arith, omega arith)
+to_shape sizes (command.Release frame) r h = let low = h.in_zone in (frame, h.writes, omega arith, omega arith)
+to_shape sizes (command.Get frame) r h = let low = h.in_zone in (frame, h.writes, omega arith, omega arith)
+to_shape sizes (command.Put frame) r h = let low = h.in_zone in (frame, h.writes, omega arith, omega arith)
+to_shape sizes (command.Touch frame) r h = let low = h.in_zone in (frame, h.writes, omega arith, omega arith)
+to_shape sizes (command.Dirty frame) r h = let low = h.in_zone in (frame, h.writes, omega arith, omega arith)
+to_shape sizes (command.Clean frame) r h = let low = h.in_zone in (frame, h.writes, omega arith, omega arith)
+to_shape sizes (command.Owner frame) r h = let low = h.in_zone in (frame, h.writes, omega arith, omega arith)
+to_shape sizes command.Settle r h = absurd h
+to_shape sizes command.Blocks r h = absurd h
+to_shape sizes command.Show r h = absurd h
+
+-- a text that is borrowed from nowhere
+abbrev lent : List ℕ → Bor (List ℕ)
+lent text = record { ref_ptr = (0, 0); now = text }
+
+-- some command of this name has these arguments
+abbrev HasItsArguments : Config → Verb → List ℕ → Type 0
+HasItsArguments sizes v r = (c : Command) × (its_verb c ≡ v) × HasArguments sizes c r
+
+from_shape : (sizes : Config) → HasZone sizes → (v : Verb) (r : List ℕ) → IsShape (shape_of sizes v) r → HasItsArguments sizes v r
+from_shape sizes zone Mkdir r is = (command.Mkdir (lent r), refl, (is, refl))
+from_shape sizes zone Rmdir r is = (command.Rmdir (lent r), refl, (is, refl))
+from_shape sizes zone Write r is =
+    let more = is.4 in (
+      command.Write (lent is.0) (lent more.0) (lent more.1),
+      refl,
+      record {
+        parts = is.2 ∙ ap (λ t. is.0 ++ 32 ∷ t) more.2;
+        path_text = is.3;
+        file_text = more.3;
+      },
+    )
+from_shape sizes zone Read r is = (command.Read (lent is.0) (lent is.1), refl, record { parts = is.2; path_text = is.3; file_text = is.4 })
+from_shape sizes zone Alloc r is =
+    (command.Alloc (lent is.0) is.4.0, refl, record { digits = is.1; parts = is.2; path_text = is.3; writes = is.4.1 })
+from_shape sizes zone Fast r is = let high = is.3 in (command.Fast is.0, refl, record { writes = is.1; low = omega arith })
+from_shape sizes zone Release r is =
+    let high = is.3 in let some = zone.frames_low in (command.Release is.0, refl, record { writes = is.1; in_zone = omega arith })
+from_shape sizes zone Get r is =
+    let high = is.3 in let some = zone.frames_low in (command.Get is.0, refl, record { writes = is.1; in_zone = omega arith })
+from_shape sizes zone Put r is =
+    let high = is.3 in let some = zone.frames_low in (command.Put is.0, refl, record { writes = is.1; in_zone = omega arith })
+from_shape sizes zone Touch r is =
+    let high = is.3 in let some = zone.frames_low in (command.Touch is.0, refl, record { writes = is.1; in_zone = omega arith })
+from_shape sizes zone Dirty r is =
+    let high = is.3 in let some = zone.frames_low in (command.Dirty is.0, refl, record { writes = is.1; in_zone = omega arith })
+from_shape sizes zone Clean r is =
+    let high = is.3 in let some = zone.frames_low in (command.Clean is.0, refl, record { writes = is.1; in_zone = omega arith })
+from_shape sizes zone Owner r is =
+    let high = is.3 in let some = zone.frames_low in (command.Owner is.0, refl, record { writes = is.1; in_zone = omega arith })
+from_shape sizes zone Settle r is = absurd is
+from_shape sizes zone Blocks r is = absurd is
+from_shape sizes zone Show r is = absurd is
+
+-- a name, a space and what has the shape are a command, and nothing else behind the name is
+pub command_from : (sizes : Config) → HasZone sizes → (text : List ℕ) (v : Verb) (r : List ℕ) → IsCut text (name_of v) r
+    → IsShape (shape_of sizes v) r → IsCommand sizes text
+command_from sizes zone text v r cut is =
+    let found = from_shape sizes zone v r is in
+    (found.0, is_command sizes text r v cut found.0 found.1 found.2)
+
+pub command_to : (sizes : Config) (text : List ℕ) (v : Verb) (r : List ℕ) → IsCut text (name_of v) r → IsCommand sizes text
+    → IsShape (shape_of sizes v) r
+command_to sizes text v r cut is =
+    let parts = command_parts sizes text (name_of v) r cut is.0 is.1 in
+    let same = same_verb v (its_verb is.0) parts.0 in
+    subst (λ w. IsShape (shape_of sizes w) r) (sym same) (to_shape sizes is.0 r parts.1)
+
+-- the name of a command that stands alone is a command
+pub is_alone : (sizes : Config) (v : Verb) → shape_of sizes v ≡ Alone → IsCommand sizes (name_of v)
+is_alone sizes Settle e = (command.Settle, refl)
+is_alone sizes Blocks e = (command.Blocks, refl)
+is_alone sizes Show e = (command.Show, refl)
+is_alone sizes other e = cc
+
+not_standing : (sizes : Config) (v : Verb) → shape_of sizes v ≢ Alone → stands_alone v ≡ false
+not_standing sizes Settle n = absurd (n refl)
+not_standing sizes Blocks n = absurd (n refl)
+not_standing sizes Show n = absurd (n refl)
+not_standing sizes other n = refl
+
+slash : IsPathText (47 ∷ [])
+slash = record { some = omega arith; graphic = at }
+  where
+    at : All (λ b. (32 < b) × (b < 127)) (47 ∷ [])
+    at zero d h = (omega arith, omega arith)
+    at (suc k) d h = absurd (omega arith)
+
+nought : WritesNumber (48 ∷ []) 0
+nought = record { digits = (omega arith, (omega arith, tt)); value = refl; fits = omega arith }
+
+-- something has the shape, if it isn't alone
+some_shape : (sizes : Config) (v : Verb) → (shape_of sizes v ≡ Alone) ⊎ (r : List ℕ) × IsShape (shape_of sizes v) r
+some_shape sizes Settle = inl refl
+some_shape sizes Blocks = inl refl
+some_shape sizes Show = inl refl
+some_shape sizes Mkdir = inr (47 ∷ [], slash)
+some_shape sizes Rmdir = inr (47 ∷ [], slash)
+some_shape sizes Write = inr (47 ∷ 32 ∷ 47 ∷ 32 ∷ [], (47 ∷ [], 47 ∷ 32 ∷ [], refl, slash, (47 ∷ [], [], refl, slash, tt)))
+some_shape sizes Read = inr (47 ∷ 32 ∷ 47 ∷ [], (47 ∷ [], 47 ∷ [], refl, slash, slash))
+some_shape sizes Alloc = inr (47 ∷ 32 ∷ 48 ∷ [], (47 ∷ [], 48 ∷ [], refl, slash, (0, nought, omega arith, omega arith)))
+some_shape sizes Fast = inr (48 ∷ [], (0, nought, omega arith, omega arith))
+some_shape sizes other = inr (48 ∷ [], (0, nought, omega arith, omega arith))
+
+-- every name begins a command
+complete : (sizes : Config) → HasZone sizes → (v : Verb) → (rest : List ℕ) × IsCommand sizes (name_of v ++ rest)
+complete sizes zone v = elim (some_shape sizes v) [
+  | inl alone ↦ ([], subst (IsCommand sizes) (sym (append-nil (name_of v))) (is_alone sizes v alone))
+  | inr some ↦ (32 ∷ some.0, command_from sizes zone (name_of v ++ 32 ∷ some.0) v some.0 (record { parts = refl; no_space = name_no_space v }) some.1)
+]
+
+-- a name that lacks what should follow it
+pub stuck_behind_name : (sizes : Config) → HasZone sizes → (text : List ℕ) (v : Verb) → text ≡ name_of v → shape_of sizes v ≢ Alone
+    → IsStuck (IsCommand sizes) text (length text)
+stuck_behind_name sizes zone text v e more = record {
+  inside = omega arith;
+  goes_on =
+      let whole : name_of v ≡ take (length text) text = sym e ∙ sym (take_all (length text) text (omega arith)) in
+      subst (GoesOn (IsCommand sizes)) whole (complete sizes zone v);
+  stuck = λ h. absurd (omega arith);
+  bad = λ is. not_alone sizes text v e (not_standing sizes v more) is.0 is.1;
+}
+
+-- a space behind the name of a command that stands alone
+pub stuck_at_space : (sizes : Config) (text : List ℕ) (v : Verb) (r : List ℕ) → IsCut text (name_of v) r → shape_of sizes v ≡ Alone
+    → IsStuck (IsCommand sizes) text (length (name_of v))
+stuck_at_space sizes text v r cut alone =
+    let long = ap length cut.parts ∙ length-append (name_of v) (32 ∷ r) in
+    let nothing : (t : List ℕ) → IsShape (shape_of sizes v) t → ⊥ = λ t is. subst (λ s. IsShape s t) alone is in
+    record {
+      inside = omega arith;
+      goes_on =
+          let front : take (length (name_of v)) text ≡ name_of v
+          = ap (take (length (name_of v))) cut.parts ∙ take-append_seam (name_of v) (32 ∷ r) in
+          let here : IsCommand sizes (name_of v ++ []) = subst (IsCommand sizes) (sym (append-nil (name_of v))) (is_alone sizes v alone) in
+          subst (GoesOn (IsCommand sizes)) (sym front) ([], here);
+      stuck = λ h on.
+          let front : take (length (name_of v) + 1) text ≡ name_of v ++ 32 ∷ []
+          = ap (take (length (name_of v) + 1)) cut.parts ∙ take-append-add (name_of v) (32 ∷ r) 1 in
+          let here : GoesOn (IsCommand sizes) (name_of v ++ 32 ∷ []) = subst (GoesOn (IsCommand sizes)) front on in
+          let whole : IsCut ((name_of v ++ 32 ∷ []) ++ here.0) (name_of v) here.0
+          = record { parts = append_assoc (name_of v) (32 ∷ []) here.0; no_space = name_no_space v } in
+          nothing here.0 (command_to sizes _ v here.0 whole here.1);
+      bad = λ is. nothing r (command_to sizes text v r cut is);
+    }
+
+-- what follows a name and a space can't be continued
+pub stuck_in_arguments : (sizes : Config) → HasZone sizes → (text : List ℕ) (v : Verb) (r : List ℕ) (place : ℕ) → IsCut text (name_of v) r
+    → IsStuck (IsShape (shape_of sizes v)) r place → IsStuck (IsCommand sizes) text (length (name_of v) + 1 + place)
+stuck_in_arguments sizes zone text v r place cut is =
+    let named : (t : List ℕ) → IsCut (name_of v ++ 32 ∷ t) (name_of v) t = λ t. record { parts = refl; no_space = name_no_space v } in
+    stuck_behind (IsCommand sizes) (IsShape (shape_of sizes v)) (name_of v)
+    (λ t h. command_from sizes zone _ v t (named t) h) (λ t h. command_to sizes _ v t (named t) h) text r place cut.parts is
+
+-- the beginnings of a command's name that is no more than such
+pub alike_more : (word rest : List ℕ) (n : ℕ) (name : List ℕ) → n ≤ length word → take n word ++ rest ≡ name → BeginAlike word name n
+alike_more word rest n name le e =
+    let taken = length-take-le n word le in
+    let long = ap length (sym e) ∙ length-append (take n word) rest in
+    let front : take n name ≡ take n word
+    = ap (take n) (sym e) ∙ take-append-le n (take n word) rest (omega arith) ∙ take_all n (take n word) (omega arith) in
+    record { inside_one = le; inside_other = omega arith; same = sym front }
+
+module _ (sizes : Config) (zone : HasZone sizes) (text word : List ℕ) (first : IsFirstWord text word)
+    (none : (v : Verb) → ¬ BeginsWithName v text) (count : ℕ) (longest : IsLongest word count) where
+  -- so many bytes and one more don't begin a command within the word
+  not_within : count < length word → ¬ GoesOn (IsCommand sizes) (take (count + 1) text)
+  not_within less on =
+      let same = front_of_first text word (count + 1) first (omega arith) in
+      let here : GoesOn (IsCommand sizes) (take (count + 1) word) = subst (GoesOn (IsCommand sizes)) same on in
+      let v : Verb = its_verb here.1.0 in
+      elim (begins sizes _ here.1.0 here.1.1) [
+        | inl e ↦ let more = longest.most v (count + 1) (alike_more word here.0 (count + 1) (name_of v) (omega arith) e) in omega arith
+        | inr e ↦
+            let front = front_of_word (take (count + 1) word) here.0 (name_of v) e.0 (no_space_front word (count + 1) first.no_space) e.1 in
+            let more = longest.most v (count + 1) (alike_more word front.0 (count + 1) (name_of v) (omega arith) (sym front.1)) in omega arith
+      ]
+
+  -- nor does the whole word with a space
+  not_behind : count ≡ length word → count < length text → ¬ GoesOn (IsCommand sizes) (take (count + 1) text)
+  not_behind whole more on =
+      let behind = behind_first text word first (omega arith) in
+      let same : take (count + 1) text ≡ word ++ 32 ∷ [] = rw whole behind.2 in
+      let here : GoesOn (IsCommand sizes) (word ++ 32 ∷ []) = subst (GoesOn (IsCommand sizes)) same on in
+      let v : Verb = its_verb here.1.0 in
+      let cut : IsCut ((word ++ 32 ∷ []) ++ here.0) word here.0 = record { parts = append_assoc word (32 ∷ []) here.0; no_space = first.no_space } in
+      elim (begins sizes _ here.1.0 here.1.1) [
+        | inl e ↦ no_cut (name_of v) word here.0 (name_no_space v) (sym e ∙ cut.parts)
+        | inr e ↦
+            let is_name = (cut_once _ word here.0 (name_of v) e.0 cut (name_no_space v) e.1).0 in
+            none v (inr (behind.0, behind.1 ∙ ap (λ (w : List ℕ). w ++ 32 ∷ behind.0) is_name))
+      ]
+
+  -- a first word that is no command's name
+  pub stuck_in_name : IsStuck (IsCommand sizes) text count
+  stuck_in_name =
+      let alike = longest.alike in
+      let inside = first_inside text word first in
+      let le = alike.inside_one in
+      let done = complete sizes zone longest.verb in
+      record {
+        inside = omega arith;
+        goes_on =
+            let same : take count (name_of longest.verb) ≡ take count text = sym alike.same ∙ sym (front_of_first text word count first le) in
+            let parts : take count (name_of longest.verb) ++ (drop count (name_of longest.verb) ++ done.0) ≡ name_of longest.verb ++ done.0
+            = sym (append_assoc (take count (name_of longest.verb)) (drop count (name_of longest.verb)) done.0)
+            ∙ ap (λ (t : List ℕ). t ++ done.0) (take-append-drop count (name_of longest.verb)) in
+            let here : GoesOn (IsCommand sizes) (take count (name_of longest.verb))
+            = (drop count (name_of longest.verb) ++ done.0, subst (IsCommand sizes) (sym parts) done.1) in
+            subst (GoesOn (IsCommand sizes)) same here;
+        stuck = λ h. elim (cases_lt count (length word)) [
+          | inl less ↦ not_within less
+          | inr more ↦ not_behind (omega arith) h
+        ];
+        bad = λ is. none (its_verb is.0) (begins sizes text is.0 is.1);
+      }

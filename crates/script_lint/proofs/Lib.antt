@@ -1,0 +1,9 @@
+mod Alike
+mod Causes
+mod Commands
+mod KindPlaces
+mod LinePlaces
+mod Pieces
+mod Progress
+mod Splits
+mod Spots

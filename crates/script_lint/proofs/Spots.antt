@@ -1,0 +1,127 @@
+-- Where a line goes wrong, from where its text can't be continued.
+use Rattle.std.proofs.Common.{◌≡◌, ℕ, ◌<◌, List, length, Bool, true, false, Option, None, Some, MatchOption, nat_lt, not, ◌==◌, take, arith, refl}
+use Rattle.std.specs.Prelude.{if◌then◌else◌, ⊤}
+use Rattle.std.proofs.lemmas.Bool.{ltb-false, ltb-true}
+use Rattle.std.proofs.lemmas.List.{length-take-le}
+use Rattle.zone_sizes.specs.declared.config.Config.{Config}
+use Rattle.script_lint.specs.Causes.{byte_at, cause_at, is_between_words, is_double_space, is_printable, lacks_command, lacks_number}
+use Rattle.script_lint.specs.Causes.{lacks_processor, later_cause_at, misses_frame, misses_group, misses_processor}
+use Rattle.script_lint.specs.Continuation.{GoesOn, IsStuck}
+use Rattle.script_lint.specs.Lines.{IsCause, IsGoodHere, IsSpot, stuck_spot, whole_spot}
+use Rattle.script_lint.specs.Shapes.{IsGoodText}
+use Rattle.script_lint.specs.declared.finding.Cause.{Cause}
+use Rattle.script_lint.specs.declared.finding.Cause.TheVariants.{NoProcessor, ProcessorOutOfRange, UnknownCommand, TooFewWords}
+use Rattle.script_lint.specs.declared.finding.Cause.TheVariants.{TooManyWords, TwoSpaces, SpaceAtEnd, Tab, CarriageReturn}
+use Rattle.script_lint.specs.declared.finding.Cause.TheVariants.{NumberOutOfRange, FrameOutOfZone, GroupOutOfRange, UnprintableByte}
+use Rattle.script_lint.specs.declared.finding.Cause.TheVariants.{InputTooLong, LineTooLong, SecondGo}
+use Rattle.script_lint.specs.declared.finding.Spot.{Spot}
+use Rattle.script_lint.proofs.Splits.{goes_on_sooner, good_goes_on}
+
+-- a cause that isn't a length
+abbrev IsLocal : Cause → Type 0
+IsLocal LineTooLong = ⊥
+IsLocal InputTooLong = ⊥
+IsLocal cause = ⊤
+
+later_of : (a b c d e f g : Bool)
+    → IsLocal (if a then SpaceAtEnd else if b then Tab else if c then CarriageReturn else if d then NumberOutOfRange
+    else if e then FrameOutOfZone else if f then GroupOutOfRange else if g then UnprintableByte else SecondGo)
+later_of true b c d e f g = tt
+later_of false true c d e f g = tt
+later_of false false true d e f g = tt
+later_of false false false true e f g = tt
+later_of false false false false true f g = tt
+later_of false false false false false true g = tt
+later_of false false false false false false true = tt
+later_of false false false false false false false = tt
+
+later_local : (text : List ℕ) (place : ℕ) → IsLocal (later_cause_at text place)
+later_local text place =
+    later_of (byte_at text place == 32) (byte_at text place == 9) (byte_at text place == 13) (lacks_number text place)
+    (misses_frame text place) (misses_group text place) (not (is_printable (byte_at text place)))
+
+first_of : (a b c d e f : Bool) (later : Cause) → IsLocal later
+    → IsLocal (if a then NoProcessor else if b then ProcessorOutOfRange else if c then UnknownCommand else if d then TooFewWords
+    else if e then TooManyWords else if f then TwoSpaces else later)
+first_of true b c d e f later is = tt
+first_of false true c d e f later is = tt
+first_of false false true d e f later is = tt
+first_of false false false true e f later is = tt
+first_of false false false false true f later is = tt
+first_of false false false false false true later is = tt
+first_of false false false false false false later is = is
+
+cause_local : (text : List ℕ) (place : ℕ) → IsLocal (cause_at text place)
+cause_local text place =
+    first_of (lacks_processor text place) (misses_processor text place) (lacks_command text place) (byte_at text place == 10)
+    (is_between_words text place) (is_double_space text place) (later_cause_at text place) (later_local text place)
+
+is_cause : (sizes : Config) (went : Bool) (Within : Type 0) (text : List ℕ) (place : ℕ) (cause : Cause) → IsLocal cause
+    → IsStuck (IsGoodText sizes went) text place → cause ≡ cause_at text place → IsCause sizes went Within text place cause
+is_cause sizes went Within text place LineTooLong local is e = absurd local
+is_cause sizes went Within text place InputTooLong local is e = absurd local
+is_cause sizes went Within text place cause local is e = (is, e)
+
+-- the line is too long, if a good text goes on with one byte too many
+too_long : (sizes : Config) (went : Bool) (Within : Type 0) (text : List ℕ) → 1024 < length text
+    → GoesOn (IsGoodText sizes went) (take 1025 text) → IsSpot sizes went Within text (record { place = 1024; cause = LineTooLong })
+too_long sizes went Within text long on =
+    let most = length-take-le 1024 text (omega arith) in
+    let more = length-take-le 1025 text (omega arith) in
+    record {
+      inside = omega arith;
+      goes_on = record { short = omega arith; on = goes_on_sooner (IsGoodText sizes went) text 1024 1025 (omega arith) on };
+      stuck = λ h here. let short = here.short in omega arith;
+      bad = λ good. let short = good.short in omega arith;
+      cause = (refl, long, on);
+    }
+
+stuck_by : (sizes : Config) (went : Bool) (Within : Type 0) (text : List ℕ) (place : ℕ) → IsStuck (IsGoodText sizes went) text place
+    → (b : Bool) → nat_lt 1024 place ≡ b
+    → IsSpot sizes went Within text (if b then record { place = 1024; cause = LineTooLong } else record { place = place; cause = cause_at text place })
+stuck_by sizes went Within text place is true e =
+    let past = ltb-true 1024 place e in
+    let inside = is.inside in
+    too_long sizes went Within text (omega arith) (goes_on_sooner (IsGoodText sizes went) text 1025 place (omega arith) is.goes_on)
+stuck_by sizes went Within text place is false e =
+    let near = ltb-false 1024 place e in
+    let taken = length-take-le place text is.inside in
+    record {
+      inside = is.inside;
+      goes_on = record { short = omega arith; on = is.goes_on };
+      stuck = λ h here. is.stuck h here.on;
+      bad = λ good. is.bad good.good;
+      cause = is_cause sizes went Within text place (cause_at text place) (cause_local text place) is refl;
+    }
+
+-- a text that, however long, is stuck at some place
+pub stuck_is : (sizes : Config) (went : Bool) (Within : Type 0) (text : List ℕ) (place : ℕ) → IsStuck (IsGoodText sizes went) text place
+    → IsSpot sizes went Within text (stuck_spot text place)
+stuck_is sizes went Within text place is = stuck_by sizes went Within text place is (nat_lt 1024 place) refl
+
+-- what is known of the spot of a line, or of a line without one
+abbrev IsJudged : Config → Bool → Bool → List ℕ → Option Spot → Type 0
+IsJudged sizes went is_within text found =
+    MatchOption found (IsGoodHere sizes went (is_within ≡ true) text) (λ spot. IsSpot sizes went (is_within ≡ true) text spot)
+
+whole_by : (sizes : Config) (went : Bool) (text : List ℕ) → IsGoodText sizes went text → (b is_within : Bool) → nat_lt 1024 (length text) ≡ b
+    → IsJudged sizes went is_within text (if b then Some (record { place = 1024; cause = LineTooLong })
+    else if is_within then None else Some (record { place = length text; cause = InputTooLong }))
+whole_by sizes went text good true is_within e =
+    too_long sizes went (is_within ≡ true) text (ltb-true 1024 (length text) e) (good_goes_on (IsGoodText sizes went) text 1025 good)
+whole_by sizes went text good false true e = let short = ltb-false 1024 (length text) e in record { good = good; short = short; within = refl }
+whole_by sizes went text good false false e =
+    let short = ltb-false 1024 (length text) e in
+    let taken = length-take-le (length text) text (omega arith) in
+    record {
+      inside = omega arith;
+      goes_on = record { short = omega arith; on = good_goes_on (IsGoodText sizes went) text (length text) good };
+      stuck = λ h. absurd (omega arith);
+      bad = λ here. let within = here.within in cc;
+      cause = (refl, good, λ within. cc);
+    }
+
+-- a text that, however long, is good
+pub whole_is : (sizes : Config) (went is_within : Bool) (text : List ℕ) → IsGoodText sizes went text
+    → MatchOption (whole_spot text is_within) (IsGoodHere sizes went (is_within ≡ true) text) (λ spot. IsSpot sizes went (is_within ≡ true) text spot)
+whole_is sizes went is_within text good = whole_by sizes went text good (nat_lt 1024 (length text)) is_within refl

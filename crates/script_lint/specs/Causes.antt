@@ -1,0 +1,146 @@
+-- Why no good line goes on at some place of a line: each cause as a test of the line's text and the place.
+use Rattle.std.specs.Prelude.{ℕ, zero, suc, ◌+◌, ◌-◌, Bool, true, not, ◌&&◌, ◌||◌, ◌==◌, List, [], ◌∷◌, codes, count_by, if◌then◌else◌, nat_eq, nat_lt, slice_get, take, Option, None, Some}
+use Rattle.std.specs.List.{list_any}
+use Rattle.std.specs.Cmp.Lexicographic.{pointwise}
+use Rattle.script_lines.specs.Script.{is_go}
+use Rattle.script_lines.specs.Verb.{name_of}
+use Rattle.script_lines.specs.declared.verb.Verb.{Verb}
+use Rattle.script_lines.specs.declared.verb.Verb.TheVariants.{Mkdir, Rmdir, Write, Read, Alloc, Fast, Release, Get, Put, Settle, Touch}
+use Rattle.script_lines.specs.declared.verb.Verb.TheVariants.{Dirty, Clean, Owner, Blocks, Show}
+use Rattle.script_lint.specs.declared.finding.Cause.{Cause}
+use Rattle.script_lint.specs.declared.finding.Cause.TheVariants.{NoProcessor, ProcessorOutOfRange, UnknownCommand, TooFewWords}
+use Rattle.script_lint.specs.declared.finding.Cause.TheVariants.{TooManyWords, TwoSpaces, SpaceAtEnd, Tab, CarriageReturn}
+use Rattle.script_lint.specs.declared.finding.Cause.TheVariants.{NumberOutOfRange, FrameOutOfZone, GroupOutOfRange, UnprintableByte, SecondGo}
+
+-- ---- the text and the place
+
+-- the byte, or a line feed if there is none
+abbrev pub or_feed : Option ℕ → ℕ
+or_feed None = 10
+or_feed (Some b) = b
+
+-- the byte at this place; at the end of the line it is the line feed
+abbrev pub byte_at : List ℕ → ℕ → ℕ
+byte_at text place = or_feed (slice_get text place)
+
+-- the byte before this place; at the beginning of the line it is the line feed of the line before
+abbrev pub byte_before : List ℕ → ℕ → ℕ
+byte_before text place = if place == 0 then 10 else byte_at text (place - 1)
+
+-- how many spaces are before this place
+abbrev pub spaces_before : List ℕ → ℕ → ℕ
+spaces_before text place = count_by (λ b. b == 32) (take place text)
+
+-- what follows the first space
+abbrev pub after_space : List ℕ → List ℕ
+after_space [] = []
+after_space (b ∷ bs) = if b == 32 then bs else after_space bs
+
+-- what is before the first space
+abbrev pub until_space : List ℕ → List ℕ
+until_space [] = []
+until_space (b ∷ bs) = if b == 32 then [] else b ∷ until_space bs
+
+-- the word behind so many spaces
+abbrev pub word_behind : ℕ → List ℕ → List ℕ
+word_behind zero text = until_space text
+word_behind (suc n) text = word_behind n (after_space text)
+
+-- the word that the place is in
+abbrev pub word_at : List ℕ → ℕ → List ℕ
+word_at text place = word_behind (spaces_before text place) text
+
+-- ---- bytes
+
+-- a decimal digit
+abbrev pub is_digit : ℕ → Bool
+is_digit b = nat_lt 47 b && nat_lt b 58
+
+-- a byte of the printable ASCII that isn't a space
+abbrev pub is_printable : ℕ → Bool
+is_printable b = nat_lt 32 b && nat_lt b 127
+
+-- a space, a tab, a carriage return, or a line feed
+abbrev pub is_gap : ℕ → Bool
+is_gap b = b == 32 || b == 9 || b == 13 || b == 10
+
+-- ---- the causes
+
+-- the first word isn't a number: a byte of it is neither a digit nor one of those that have causes of their own
+abbrev pub lacks_processor : List ℕ → ℕ → Bool
+lacks_processor text place =
+    (spaces_before text place == 0) && not (is_gap (byte_at text place)) && not (is_digit (byte_at text place)) && not (is_go text)
+
+-- the first word is a number, and no CPU has it: a digit makes it too great, or it ends as zero
+abbrev pub misses_processor : List ℕ → ℕ → Bool
+misses_processor text place =
+    (spaces_before text place == 0) && (is_digit (byte_at text place) || ((byte_at text place == 32) && is_digit (byte_at text 0)))
+
+-- all commands
+abbrev pub all_verbs : List Verb
+all_verbs =
+    Mkdir ∷ Rmdir ∷ Write ∷ Read ∷ Alloc ∷ Fast ∷ Release ∷ Get ∷ Put ∷ Settle ∷ Touch ∷ Dirty ∷ Clean ∷ Owner ∷ Blocks ∷ Show ∷ []
+
+-- the name of a command, or no name at all
+abbrev pub is_known : List ℕ → Bool
+is_known [] = true
+is_known (b ∷ bs) = list_any (λ v. pointwise nat_eq (b ∷ bs) (name_of v)) all_verbs
+
+-- no command has the second word as its name: a byte leaves all names, or it ends before it is one
+abbrev pub lacks_command : List ℕ → ℕ → Bool
+lacks_command text place =
+    (spaces_before text place == 1)
+    && (not (is_gap (byte_at text place))
+    || ((byte_at text place == 32 || byte_at text place == 10) && not (is_known (after_space (take place text)))))
+
+-- a space, and a word before and behind it
+abbrev pub is_between_words : List ℕ → ℕ → Bool
+is_between_words text place =
+    (byte_at text place == 32) && not (is_gap (byte_before text place)) && not (is_gap (byte_at text (place + 1)))
+
+-- a space, and another beside it
+abbrev pub is_double_space : List ℕ → ℕ → Bool
+is_double_space text place = (byte_at text place == 32) && (byte_before text place == 32 || byte_at text (place + 1) == 32)
+
+-- the line is that of this command
+abbrev pub is_line_of : List ℕ → List ℕ → Bool
+is_line_of name text = pointwise nat_eq (word_behind 1 text) name
+
+-- an argument is no number of 32 bits: a byte of it is no digit, or a digit makes an order too great
+abbrev pub lacks_number : List ℕ → ℕ → Bool
+lacks_number text place =
+    nat_lt 1 (spaces_before text place) && is_printable (byte_at text place)
+    && (not (is_digit (byte_at text place)) || is_line_of (codes "alloc") text)
+
+-- a digit makes the number of a group too great
+abbrev pub misses_group : List ℕ → ℕ → Bool
+misses_group text place =
+    nat_lt 1 (spaces_before text place) && is_digit (byte_at text place) && is_line_of (codes "fast") text
+
+-- a digit makes the number of a frame too great
+abbrev pub misses_frame : List ℕ → ℕ → Bool
+misses_frame text place =
+    nat_lt 1 (spaces_before text place) && is_digit (byte_at text place) && not (is_line_of (codes "fast") text)
+
+-- the first cause that holds at the place, of those that come late
+abbrev pub later_cause_at : List ℕ → ℕ → Cause
+later_cause_at text place =
+    if byte_at text place == 32 then SpaceAtEnd
+    else if byte_at text place == 9 then Tab
+    else if byte_at text place == 13 then CarriageReturn
+    else if lacks_number text place then NumberOutOfRange
+    else if misses_frame text place then FrameOutOfZone
+    else if misses_group text place then GroupOutOfRange
+    else if not (is_printable (byte_at text place)) then UnprintableByte
+    else SecondGo
+
+-- the first cause that holds at the place
+abbrev pub cause_at : List ℕ → ℕ → Cause
+cause_at text place =
+    if lacks_processor text place then NoProcessor
+    else if misses_processor text place then ProcessorOutOfRange
+    else if lacks_command text place then UnknownCommand
+    else if byte_at text place == 10 then TooFewWords
+    else if is_between_words text place then TooManyWords
+    else if is_double_space text place then TwoSpaces
+    else later_cause_at text place

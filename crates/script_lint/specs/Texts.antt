@@ -1,0 +1,87 @@
+-- What is written for what is found.
+use Rattle.std.specs.Prelude.{ℕ, ◌+◌, ◌-◌, ◌≤◌, Bool, List, [], ◌++◌, ◌==◌, Option, None, Some, codes, if◌then◌else◌, length, nat_lt}
+use Rattle.std.specs.Char.{encode_utf8}
+use Rattle.std.specs.Fmt.{decimal}
+use Rattle.std.specs.List.{flat_map}
+use Rattle.zone_sizes.specs.declared.config.Config.{Config}
+use Rattle.script_lines.specs.Verb.{name_of}
+use Rattle.script_lines.specs.declared.verb.Verb.{Verb}
+use Rattle.script_lint.specs.Causes.{byte_at, is_printable, word_at}
+use Rattle.script_lint.specs.declared.finding.Cause.{Cause}
+use Rattle.script_lint.specs.declared.finding.Cause.TheVariants.{NoProcessor, ProcessorOutOfRange, UnknownCommand, TooFewWords}
+use Rattle.script_lint.specs.declared.finding.Cause.TheVariants.{TooManyWords, TwoSpaces, SpaceAtEnd, Tab, CarriageReturn}
+use Rattle.script_lint.specs.declared.finding.Cause.TheVariants.{NumberOutOfRange, FrameOutOfZone, GroupOutOfRange, UnprintableByte}
+use Rattle.script_lint.specs.declared.finding.Cause.TheVariants.{LineTooLong, InputTooLong, SecondGo}
+use Rattle.script_lint.specs.declared.finding.Finding.{Finding}
+
+-- the place is one of the text, or its end
+abbrev pub IsInside : Finding → Type 0
+IsInside f = f.spot.place ≤ length f.text.now
+
+-- a byte as it is shown: a question mark for one outside the printable ASCII
+abbrev pub shown : ℕ → ℕ
+shown b = if is_printable b then b else 63
+
+-- the word that the place is in, as it is shown
+abbrev pub word_text : Finding → List ℕ
+word_text f = flat_map (λ b. encode_utf8 (shown b)) (word_at f.text.now f.spot.place)
+
+-- the command that may be meant
+abbrev pub near_text : Option Verb → List ℕ
+near_text None = []
+near_text (Some v) = codes "; did you mean '" ++ name_of v ++ codes "'?"
+
+-- what is said of a carriage return, at the end of the line or before
+abbrev pub return_text : Bool → List ℕ
+return_text at_end =
+    if at_end then codes "carriage return at the end of the line: the script has Windows line ends" else codes "carriage return"
+
+-- which CPUs there are
+abbrev pub cpus_text : ℕ → List ℕ
+cpus_text cpus = codes " doesn't exist (CPUs 1 to " ++ (decimal cpus ++ (codes " with --cpus " ++ (decimal cpus ++ codes ")")))
+
+-- which frames there are
+abbrev pub frames_text : ℕ → List ℕ
+frames_text frames =
+    codes " is outside the zone (frames 0 to " ++ (decimal (frames - 1) ++ (codes " with --frames " ++ (decimal frames ++ codes ")")))
+
+-- why the line is bad
+abbrev pub cause_text : Config → Finding → Cause → List ℕ
+cause_text sizes f NoProcessor = codes "no CPU's number: a line is P COMMAND or go"
+cause_text sizes f ProcessorOutOfRange = codes "CPU " ++ (word_text f ++ cpus_text sizes.cpus)
+cause_text sizes f UnknownCommand = codes "no command '" ++ (word_text f ++ (codes "'" ++ near_text f.near))
+cause_text sizes f TooFewWords = codes "too few words"
+cause_text sizes f TooManyWords = codes "too many words"
+cause_text sizes f TwoSpaces = codes "two spaces"
+cause_text sizes f SpaceAtEnd = codes "space at an end of the line"
+cause_text sizes f Tab = codes "tab"
+cause_text sizes f CarriageReturn = return_text (f.spot.place + 1 == length f.text.now)
+cause_text sizes f NumberOutOfRange = codes "'" ++ word_text f ++ codes "' isn't a number from 0 to 4294967295"
+cause_text sizes f FrameOutOfZone = codes "frame " ++ (word_text f ++ frames_text sizes.frames)
+cause_text sizes f GroupOutOfRange = codes "group " ++ word_text f ++ codes " is outside 0 to 63"
+cause_text sizes f UnprintableByte = codes "byte " ++ decimal (byte_at f.text.now f.spot.place) ++ codes " isn't printable ASCII"
+cause_text sizes f LineTooLong = codes "the line has more than 1024 bytes"
+cause_text sizes f InputTooLong = codes "the script has more than 1048576 bytes"
+cause_text sizes f SecondGo = codes "a second go"
+
+-- the line of a finding
+abbrev pub finding_text : List ℕ → Config → Finding → List ℕ
+finding_text name sizes f =
+    name ++ codes ":" ++ decimal f.line ++ codes ":" ++ decimal (f.spot.place + 1) ++ codes ": "
+    ++ cause_text sizes f f.spot.cause ++ codes "\n"
+
+-- the line that says that `high` is too low, if it may be the default
+abbrev pub default_text : (high batch : ℕ) → List ℕ
+default_text high batch =
+    codes "sizes: --high " ++ (decimal high ++ (codes " (the default) is below --batch " ++ (decimal batch ++ codes "\n")))
+
+-- the same, if it isn't
+abbrev pub given_text : (high batch : ℕ) → List ℕ
+given_text high batch = codes "sizes: --high " ++ decimal high ++ codes " is below --batch " ++ decimal batch ++ codes "\n"
+
+-- the line that says why the sizes are refused, if they are
+abbrev pub sizes_text : Config → List ℕ
+sizes_text sizes =
+    if nat_lt sizes.high sizes.batch then
+    if sizes.high == 8 then default_text sizes.high sizes.batch else given_text sizes.high sizes.batch
+    else []

@@ -1,0 +1,246 @@
+//! Why no good line goes on at some place.
+
+ghost use Rattle.std.specs.Prelude.{◌≡◌, ◌≤◌, length};
+ghost use Rattle.script_lint.specs.Causes.{after_space, byte_at, byte_before, cause_at, is_between_words};
+ghost use Rattle.script_lint.specs.Causes.{is_digit, is_double_space, is_gap};
+ghost use Rattle.script_lint.specs.Causes.{is_known, is_line_of, is_printable, later_cause_at};
+ghost use Rattle.script_lint.specs.Causes.{lacks_command, lacks_number, lacks_processor, misses_frame, misses_group};
+ghost use Rattle.script_lint.specs.Causes.{misses_processor, spaces_before, until_space, word_at, word_behind};
+
+use crate::command::{VERBS, name_of};
+use crate::finding::Cause;
+use script_lines::script::{first_word, is_go};
+
+// The first cause that holds at this place.
+pub(crate) fn cause_of(text: &[u8], place: usize) -> Cause
+    requires { place ≤ length text.now }
+    ensures { result ≡ cause_at text.now place }
+{
+    if lacks_processor(text, place) {
+        Cause::NoProcessor
+    } else if misses_processor(text, place) {
+        Cause::ProcessorOutOfRange
+    } else if lacks_command(text, place) {
+        Cause::UnknownCommand
+    } else if byte_at(text, place) == b'\n' {
+        Cause::TooFewWords
+    } else if is_between_words(text, place) {
+        Cause::TooManyWords
+    } else if is_double_space(text, place) {
+        Cause::TwoSpaces
+    } else {
+        later_cause(text, place)
+    }
+}
+
+// The first of the other causes that holds.
+fn later_cause(text: &[u8], place: usize) -> Cause
+    requires { place ≤ length text.now }
+    ensures { result ≡ later_cause_at text.now place }
+{
+    let byte = byte_at(text, place);
+    if byte == b' ' {
+        Cause::SpaceAtEnd
+    } else if byte == b'\t' {
+        Cause::Tab
+    } else if byte == b'\r' {
+        Cause::CarriageReturn
+    } else if lacks_number(text, place) {
+        Cause::NumberOutOfRange
+    } else if misses_frame(text, place) {
+        Cause::FrameOutOfZone
+    } else if misses_group(text, place) {
+        Cause::GroupOutOfRange
+    } else if !is_printable(byte) {
+        Cause::UnprintableByte
+    } else {
+        Cause::SecondGo
+    }
+}
+
+// The byte at this place: a line feed at the end of the line.
+pub(crate) fn byte_at(text: &[u8], place: usize) -> u8
+    ensures { result ≡ byte_at text.now place }
+{
+    match text.get(place) {
+        Some(byte) => *byte,
+        None => b'\n',
+    }
+}
+
+// The byte before this place: a line feed at the beginning.
+fn byte_before(text: &[u8], place: usize) -> u8
+    ensures { result ≡ byte_before text.now place }
+{
+    if place == 0 {
+        b'\n'
+    } else {
+        byte_at(text, place - 1)
+    }
+}
+
+// How many spaces are before this place.
+fn spaces_before(text: &[u8], place: usize) -> usize
+    requires { place ≤ length text.now }
+    ensures { result ≡ spaces_before text.now place }
+{
+    text[..place].iter().filter(|byte| **byte == b' ').count()
+}
+
+// What follows the first space.
+fn after_space(text: &[u8]) -> &[u8]
+    ensures { result.now ≡ after_space text.now }
+{
+    match first_word(text) {
+        Some((_, rest)) => rest,
+        None => &text[text.len()..],
+    }
+}
+
+// What is before the first space.
+fn until_space(text: &[u8]) -> &[u8]
+    ensures { result.now ≡ until_space text.now }
+{
+    match first_word(text) {
+        Some((word, _)) => word,
+        None => text,
+    }
+}
+
+// The word behind so many spaces.
+fn word_behind(spaces: usize, text: &[u8]) -> &[u8]
+    ensures { result.now ≡ word_behind spaces text.now }
+{
+    let mut rest = text;
+    let mut left = spaces;
+    while 0 < left {
+        rest = after_space(rest);
+        left -= 1;
+    }
+    until_space(rest)
+}
+
+// The word that the place is in.
+pub(crate) fn word_at(text: &[u8], place: usize) -> &[u8]
+    requires { place ≤ length text.now }
+    ensures { result.now ≡ word_at text.now place }
+{
+    word_behind(spaces_before(text, place), text)
+}
+
+// A decimal digit.
+fn is_digit(byte: u8) -> bool
+    ensures { result ≡ is_digit byte }
+{
+    47 < byte && byte < 58
+}
+
+// A byte of the printable ASCII that isn't a space.
+pub(crate) fn is_printable(byte: u8) -> bool
+    ensures { result ≡ is_printable byte }
+{
+    32 < byte && byte < 127
+}
+
+// A space, a tab, a carriage return, or a line feed.
+fn is_gap(byte: u8) -> bool
+    ensures { result ≡ is_gap byte }
+{
+    byte == 32 || byte == 9 || byte == 13 || byte == 10
+}
+
+// Whether the first word isn't a number.
+fn lacks_processor(text: &[u8], place: usize) -> bool
+    requires { place ≤ length text.now }
+    ensures { result ≡ lacks_processor text.now place }
+{
+    let byte = byte_at(text, place);
+    spaces_before(text, place) == 0 && !is_gap(byte) && !is_digit(byte) && !is_go(text)
+}
+
+// Whether the first word is a number, and no CPU has it.
+fn misses_processor(text: &[u8], place: usize) -> bool
+    requires { place ≤ length text.now }
+    ensures { result ≡ misses_processor text.now place }
+{
+    let byte = byte_at(text, place);
+    spaces_before(text, place) == 0
+        && (is_digit(byte) || (byte == 32 && is_digit(byte_at(text, 0))))
+}
+
+// Whether the second word is no command's name.
+fn lacks_command(text: &[u8], place: usize) -> bool
+    requires { place ≤ length text.now }
+    ensures { result ≡ lacks_command text.now place }
+{
+    let byte = byte_at(text, place);
+    spaces_before(text, place) == 1
+        && (!is_gap(byte) || ((byte == 32 || byte == 10) && !is_known(after_space(&text[..place]))))
+}
+
+// Whether it is the name of a command, or no name at all.
+fn is_known(name: &[u8]) -> bool
+    ensures { result ≡ is_known name.now }
+{
+    if name.is_empty() {
+        return true;
+    }
+    for verb in VERBS {
+        if name == name_of(verb).as_bytes() {
+            return true;
+        }
+    }
+    false
+}
+
+// Whether there is a space, and a word before and behind it.
+fn is_between_words(text: &[u8], place: usize) -> bool
+    requires { place ≤ length text.now }
+    ensures { result ≡ is_between_words text.now place }
+{
+    byte_at(text, place) == 32
+        && !is_gap(byte_before(text, place))
+        && !is_gap(byte_at(text, place + 1))
+}
+
+// Whether there is a space, and another beside it.
+fn is_double_space(text: &[u8], place: usize) -> bool
+    requires { place ≤ length text.now }
+    ensures { result ≡ is_double_space text.now place }
+{
+    byte_at(text, place) == 32 && (byte_before(text, place) == 32 || byte_at(text, place + 1) == 32)
+}
+
+// Whether the line is that of this command.
+fn is_line_of(name: &[u8], text: &[u8]) -> bool
+    ensures { result ≡ is_line_of name.now text.now }
+{
+    word_behind(1, text) == name
+}
+
+// Whether an argument is no number of 32 bits.
+fn lacks_number(text: &[u8], place: usize) -> bool
+    requires { place ≤ length text.now }
+    ensures { result ≡ lacks_number text.now place }
+{
+    let byte = byte_at(text, place);
+    1 < spaces_before(text, place)
+        && is_printable(byte)
+        && (!is_digit(byte) || is_line_of(b"alloc", text))
+}
+
+// Whether a digit makes the number of a group too great.
+fn misses_group(text: &[u8], place: usize) -> bool
+    requires { place ≤ length text.now }
+    ensures { result ≡ misses_group text.now place }
+{
+    1 < spaces_before(text, place) && is_digit(byte_at(text, place)) && is_line_of(b"fast", text)
+}
+
+// Whether a digit makes the number of a frame too great.
+fn misses_frame(text: &[u8], place: usize) -> bool
+    requires { place ≤ length text.now }
+    ensures { result ≡ misses_frame text.now place }
+{
+    1 < spaces_before(text, place) && is_digit(byte_at(text, place)) && !is_line_of(b"fast", text)
+}

@@ -1,0 +1,104 @@
+//! How far the text of a line is good, and why not further.
+
+ghost use Rattle.std.specs.Prelude.{◌≡◌, ◌≤◌, ◌∷◌, List, MatchOption, length, true, ℕ};
+ghost use Rattle.zone_sizes.specs.declared.config.Config.{Config};
+ghost use Rattle.script_lines.specs.Verb.{IsNames};
+ghost use Rattle.script_lint.specs.Continuation.{IsStuck};
+ghost use Rattle.script_lint.specs.Lines.{IsGoodHere, IsSpot, stuck_spot, whole_spot};
+ghost use Rattle.script_lint.specs.Shapes.{HasZone, IsGoodText};
+
+use crate::cause::cause_of;
+use crate::command::common;
+use crate::finding::{Cause, Spot};
+use crate::request::request_place;
+use script_lines::script::{MOST_LINE, is_go};
+use script_lines::verb::Names;
+use zone_sizes::config::Config;
+
+// The first place from which on the text doesn't go on to a good line, and why. None if it is good. A `go` has gone
+// before, or not; the line is within the bytes that a script may have, or not.
+pub(crate) fn lint_line(
+    names: &Names,
+    text: &[u8],
+    went: bool,
+    is_within: bool,
+    sizes: &Config,
+) -> Option<Spot>
+    requires names { IsNames names.now }
+    requires zone { HasZone sizes.now }
+    ensures { MatchOption result (IsGoodHere sizes.now went (is_within ≡ true) text.now)
+        (λ spot. IsSpot sizes.now went (is_within ≡ true) text.now spot) }
+{
+    match line_place(names, text, went, sizes) {
+        Some(place) => Some(stuck_spot(text, place)),
+        None => whole_spot(text, is_within),
+    }
+}
+
+// Where a text goes wrong that, however long, isn't good from this place on.
+fn stuck_spot(text: &[u8], place: usize) -> Spot
+    requires { place ≤ length text.now }
+    ensures { result ≡ stuck_spot text.now place }
+{
+    if MOST_LINE < place {
+        Spot {
+            place: MOST_LINE,
+            cause: Cause::LineTooLong,
+        }
+    } else {
+        Spot {
+            place,
+            cause: cause_of(text, place),
+        }
+    }
+}
+
+// Where a text goes wrong that, however long, is good.
+fn whole_spot(text: &[u8], is_within: bool) -> Option<Spot>
+    ensures { result ≡ whole_spot text.now is_within }
+{
+    if MOST_LINE < text.len() {
+        Some(Spot {
+            place: MOST_LINE,
+            cause: Cause::LineTooLong,
+        })
+    } else if is_within {
+        None
+    } else {
+        Some(Spot {
+            place: text.len(),
+            cause: Cause::InputTooLong,
+        })
+    }
+}
+
+// The place from which on the text, however long, doesn't go on to a good one. None if it is one.
+fn line_place(names: &Names, text: &[u8], went: bool, sizes: &Config) -> Option<usize>
+    requires names { IsNames names.now }
+    requires zone { HasZone sizes.now }
+    ensures { MatchOption result (IsGoodText sizes.now went text.now)
+        (λ place. IsStuck (IsGoodText sizes.now went) text.now place) }
+{
+    if text.is_empty() || text[0] == b'#' {
+        return None;
+    }
+    if text[0] == b'g' {
+        return go_place(text, went);
+    }
+    request_place(names, text, sizes)
+}
+
+// The same for a text that begins with `g`.
+fn go_place(text: &[u8], went: bool) -> Option<usize>
+    requires { (bs : List ℕ) × (text.now ≡ 103 ∷ bs) }
+    ensures { (sizes : Config) → MatchOption result (IsGoodText sizes went text.now)
+        (λ place. IsStuck (IsGoodText sizes went) text.now place) }
+{
+    if went {
+        return Some(0);
+    }
+    if is_go(text) {
+        return None;
+    }
+    Some(common(text, b"go"))
+}

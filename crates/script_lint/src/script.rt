@@ -1,0 +1,98 @@
+//! All bad lines of a script.
+
+ghost use Rattle.std.specs.Prelude.{◌≤◌, IfOk, IfSome, OnOk, length};
+ghost use Rattle.script_lines.specs.Verb.{IsNames};
+ghost use Rattle.script_lint.specs.Findings.{IsLinted};
+ghost use Rattle.script_lint.specs.Script.{AddsSpot};
+ghost use Rattle.script_lint.specs.Shapes.{HasZone};
+
+use crate::cause::word_at;
+use crate::finding::{Cause, Finding, Spot};
+use crate::line::lint_line;
+use crate::near::near_verb;
+use script_lines::script::{first_line, is_go, is_within, line_over};
+use script_lines::verb::{Names, Verb, command_names};
+use std::alloc::{AllocError, Global};
+use zone_sizes::config::Config;
+
+/// Every bad line of the script, in order: from which byte on no good line goes on, and why. If the script is too long,
+/// the lines behind the one with the byte after the first 1,048,576 aren't read. It fails only if memory runs out.
+pub fn lint_script<'a>(
+    alloc: Global,
+    input: &'a [u8],
+    sizes: &Config,
+) -> Result<Vec<Finding<'a>>, AllocError>
+    requires { HasZone sizes.now }
+    ensures { IfOk result (λ findings. IsLinted sizes.now input.entry.now findings.items) }
+{
+    let names = command_names(alloc)?;
+    lint_lines(alloc, &names, input, sizes)
+}
+
+// The bad lines, by the table of the commands' names.
+fn lint_lines<'a>(
+    alloc: Global,
+    names: &Names,
+    input: &'a [u8],
+    sizes: &Config,
+) -> Result<Vec<Finding<'a>>, AllocError>
+    requires names { IsNames names.now }
+    requires zone { HasZone sizes.now }
+    ensures { IfOk result (λ findings. IsLinted sizes.now input.entry.now findings.items) }
+{
+    let over = line_over(input);
+    let mut findings = Vec::new(alloc);
+    let mut went = false;
+    let mut number = 0;
+    let mut rest = Some(input);
+    while let Some(left) = rest {
+        let (text, after) = first_line(left);
+        number += 1;
+        let is_within = is_within(number, over);
+        let found = lint_line(names, text, went, is_within, sizes);
+        add_finding(alloc, number, text, found, &mut findings)?;
+        if !is_within {
+            return Ok(findings);
+        }
+        let goes = is_go(text);
+        went = went || goes;
+        rest = after;
+    }
+    Ok(findings)
+}
+
+// Adds what is found in a line.
+fn add_finding<'a>(
+    alloc: Global,
+    number: usize,
+    text: &'a [u8],
+    found: Option<Spot>,
+    findings: &mut Vec<Finding<'a>>,
+) -> Result<(), AllocError>
+    requires { IfSome found (λ spot. spot.place ≤ length text.now) }
+    ensures { OnOk result (AddsSpot number text.entry found findings.old.items findings.new.items) }
+{
+    match found {
+        None => Ok(()),
+        Some(spot) => {
+            let near = near_of(alloc, text, &spot)?;
+            findings.push(Finding {
+                line: number,
+                text,
+                spot,
+                near,
+            })?;
+            Ok(())
+        }
+    }
+}
+
+// The command that may be meant, if the line names none.
+fn near_of(alloc: Global, text: &[u8], spot: &Spot) -> Result<Option<Verb>, AllocError>
+    requires { spot.now.place ≤ length text.now }
+{
+    match spot.cause {
+        Cause::UnknownCommand => near_verb(alloc, word_at(text, spot.place)),
+        _ => Ok(None),
+    }
+}

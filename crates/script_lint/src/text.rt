@@ -1,0 +1,233 @@
+//! What is written for what is found.
+
+ghost use Rattle.std.specs.Prelude.{◌≡◌, ◌++◌, All, IfOk, Some};
+ghost use Rattle.std.specs.List.{flat_map};
+ghost use Rattle.std.specs.String.{string_bytes};
+ghost use Rattle.zone_sizes.specs.declared.config.Config.{Config};
+ghost use Rattle.script_lint.specs.Texts.{IsInside, cause_text, cpus_text, default_text, finding_text, frames_text};
+ghost use Rattle.script_lint.specs.Texts.{given_text, near_text, shown, sizes_text, word_text};
+ghost use Rattle.script_lint.specs.declared.finding.Cause.TheVariants.{CarriageReturn, FrameOutOfZone, GroupOutOfRange};
+ghost use Rattle.script_lint.specs.declared.finding.Cause.TheVariants.{NumberOutOfRange, ProcessorOutOfRange};
+ghost use Rattle.script_lint.specs.declared.finding.Cause.TheVariants.{UnknownCommand, UnprintableByte};
+
+use crate::cause::{byte_at, is_printable, word_at};
+use crate::command::name_of;
+use crate::finding::{Cause, Finding};
+use script_lines::verb::Verb;
+use std::alloc::AllocError;
+use zone_sizes::config::Config;
+
+// The `--high` that is taken if none is given.
+const DEFAULT_HIGH: u32 = 8;
+
+/// Adds a line for each finding, as compilers do: `NAME:LINE:COLUMN: WHY`. It fails only if memory runs out.
+pub fn write_findings(
+    name: &str,
+    findings: &[Finding<'_>],
+    sizes: &Config,
+    text: &mut String,
+) -> Result<(), AllocError>
+    requires { All IsInside findings.now }
+    ensures { IfOk result (λ _. string_bytes text.new
+        ≡ string_bytes text.old ++ flat_map (finding_text name.now sizes.now) findings.now) }
+{
+    for finding in findings {
+        write_finding(name, finding, sizes, text)?;
+    }
+    Ok(())
+}
+
+/// Adds the line that says why the sizes are refused, if they are. It fails only if memory runs out.
+pub fn write_sizes(sizes: &Config, text: &mut String) -> Result<(), AllocError>
+    ensures { IfOk result (λ _. string_bytes text.new ≡ string_bytes text.old ++ sizes_text sizes.now) }
+{
+    if sizes.high < sizes.batch {
+        if sizes.high == DEFAULT_HIGH {
+            write_default(sizes.high, sizes.batch, text)
+        } else {
+            write_given(sizes.high, sizes.batch, text)
+        }
+    } else {
+        Ok(())
+    }
+}
+
+fn write_default(high: u32, batch: u32, text: &mut String) -> Result<(), AllocError>
+    ensures { IfOk result (λ _. string_bytes text.new ≡ string_bytes text.old ++ default_text high batch) }
+{
+    writeln!(
+        text,
+        "sizes: --high {high} (the default) is below --batch {batch}"
+    )
+}
+
+fn write_given(high: u32, batch: u32, text: &mut String) -> Result<(), AllocError>
+    ensures { IfOk result (λ _. string_bytes text.new ≡ string_bytes text.old ++ given_text high batch) }
+{
+    writeln!(text, "sizes: --high {high} is below --batch {batch}")
+}
+
+// The line of a finding.
+fn write_finding(
+    name: &str,
+    finding: &Finding<'_>,
+    sizes: &Config,
+    text: &mut String,
+) -> Result<(), AllocError>
+    requires { IsInside finding.now }
+    ensures { IfOk result (λ _. string_bytes text.new
+        ≡ string_bytes text.old ++ finding_text name.now sizes.now finding.now) }
+{
+    let line = finding.line;
+    let column = finding.spot.place + 1;
+    write!(text, "{name}:{line}:{column}: ")?;
+    write_cause(finding, sizes, text)?;
+    text.push_str("\n")
+}
+
+// Why the line is bad.
+fn write_cause(finding: &Finding<'_>, sizes: &Config, text: &mut String) -> Result<(), AllocError>
+    requires { IsInside finding.now }
+    ensures { IfOk result (λ _. string_bytes text.new
+        ≡ string_bytes text.old ++ cause_text sizes.now finding.now finding.now.spot.cause) }
+{
+    match finding.spot.cause {
+        Cause::NoProcessor => text.push_str("no CPU's number: a line is P COMMAND or go"),
+        Cause::ProcessorOutOfRange => write_processor(finding, sizes, text),
+        Cause::UnknownCommand => write_unknown(finding, text),
+        Cause::TooFewWords => text.push_str("too few words"),
+        Cause::TooManyWords => text.push_str("too many words"),
+        Cause::TwoSpaces => text.push_str("two spaces"),
+        Cause::SpaceAtEnd => text.push_str("space at an end of the line"),
+        Cause::Tab => text.push_str("tab"),
+        Cause::CarriageReturn => write_return(finding, text),
+        Cause::NumberOutOfRange => write_number(finding, text),
+        Cause::FrameOutOfZone => write_frame(finding, sizes, text),
+        Cause::GroupOutOfRange => write_group(finding, text),
+        Cause::UnprintableByte => write_byte(finding, text),
+        Cause::LineTooLong => text.push_str("the line has more than 1024 bytes"),
+        Cause::InputTooLong => text.push_str("the script has more than 1048576 bytes"),
+        Cause::SecondGo => text.push_str("a second go"),
+    }
+}
+
+// The word that goes wrong, as it is shown.
+fn push_word(finding: &Finding<'_>, text: &mut String) -> Result<(), AllocError>
+    requires { IsInside finding.now }
+    ensures { IfOk result (λ _. string_bytes text.new ≡ string_bytes text.old ++ word_text finding.now) }
+{
+    for byte in word_at(finding.text, finding.spot.place) {
+        text.push(char::from(shown(*byte)))?;
+    }
+    Ok(())
+}
+
+// A byte, or a question mark for one outside the printable ASCII.
+fn shown(byte: u8) -> u8
+    ensures { result ≡ shown byte }
+{
+    if is_printable(byte) { byte } else { b'?' }
+}
+
+fn write_processor(
+    finding: &Finding<'_>,
+    sizes: &Config,
+    text: &mut String,
+) -> Result<(), AllocError>
+    requires { IsInside finding.now }
+    ensures { IfOk result (λ _. string_bytes text.new
+        ≡ string_bytes text.old ++ cause_text sizes.now finding.now ProcessorOutOfRange) }
+{
+    text.push_str("CPU ")?;
+    push_word(finding, text)?;
+    write_cpus(sizes.cpus, text)
+}
+
+fn write_cpus(cpus: u32, text: &mut String) -> Result<(), AllocError>
+    ensures { IfOk result (λ _. string_bytes text.new ≡ string_bytes text.old ++ cpus_text cpus) }
+{
+    write!(text, " doesn't exist (CPUs 1 to {cpus} with --cpus {cpus})")
+}
+
+fn write_unknown(finding: &Finding<'_>, text: &mut String) -> Result<(), AllocError>
+    requires { IsInside finding.now }
+    ensures { (sizes : Config) → IfOk result (λ _. string_bytes text.new
+        ≡ string_bytes text.old ++ cause_text sizes finding.now UnknownCommand) }
+{
+    text.push_str("no command '")?;
+    push_word(finding, text)?;
+    text.push_str("'")?;
+    match finding.near {
+        Some(verb) => write_near(verb, text),
+        None => Ok(()),
+    }
+}
+
+// The command that may be meant.
+fn write_near(verb: Verb, text: &mut String) -> Result<(), AllocError>
+    ensures { IfOk result (λ _. string_bytes text.new ≡ string_bytes text.old ++ near_text (Some verb)) }
+{
+    text.push_str("; did you mean '")?;
+    text.push_str(name_of(verb))?;
+    text.push_str("'?")
+}
+
+fn write_return(finding: &Finding<'_>, text: &mut String) -> Result<(), AllocError>
+    requires { IsInside finding.now }
+    ensures { (sizes : Config) → IfOk result (λ _. string_bytes text.new
+        ≡ string_bytes text.old ++ cause_text sizes finding.now CarriageReturn) }
+{
+    text.push_str(if finding.spot.place + 1 == finding.text.len() {
+        "carriage return at the end of the line: the script has Windows line ends"
+    } else {
+        "carriage return"
+    })
+}
+
+fn write_number(finding: &Finding<'_>, text: &mut String) -> Result<(), AllocError>
+    requires { IsInside finding.now }
+    ensures { (sizes : Config) → IfOk result (λ _. string_bytes text.new
+        ≡ string_bytes text.old ++ cause_text sizes finding.now NumberOutOfRange) }
+{
+    text.push_str("'")?;
+    push_word(finding, text)?;
+    text.push_str("' isn't a number from 0 to 4294967295")
+}
+
+fn write_frame(finding: &Finding<'_>, sizes: &Config, text: &mut String) -> Result<(), AllocError>
+    requires { IsInside finding.now }
+    ensures { IfOk result (λ _. string_bytes text.new
+        ≡ string_bytes text.old ++ cause_text sizes.now finding.now FrameOutOfZone) }
+{
+    text.push_str("frame ")?;
+    push_word(finding, text)?;
+    write_frames(sizes.frames, text)
+}
+
+fn write_frames(frames: u32, text: &mut String) -> Result<(), AllocError>
+    ensures { IfOk result (λ _. string_bytes text.new ≡ string_bytes text.old ++ frames_text frames) }
+{
+    let last = frames.saturating_sub(1);
+    write!(
+        text,
+        " is outside the zone (frames 0 to {last} with --frames {frames})"
+    )
+}
+
+fn write_group(finding: &Finding<'_>, text: &mut String) -> Result<(), AllocError>
+    requires { IsInside finding.now }
+    ensures { (sizes : Config) → IfOk result (λ _. string_bytes text.new
+        ≡ string_bytes text.old ++ cause_text sizes finding.now GroupOutOfRange) }
+{
+    text.push_str("group ")?;
+    push_word(finding, text)?;
+    text.push_str(" is outside 0 to 63")
+}
+
+fn write_byte(finding: &Finding<'_>, text: &mut String) -> Result<(), AllocError>
+    ensures { (sizes : Config) → IfOk result (λ _. string_bytes text.new
+        ≡ string_bytes text.old ++ cause_text sizes finding.now UnprintableByte) }
+{
+    let byte = byte_at(finding.text, finding.spot.place);
+    write!(text, "byte {byte} isn't printable ASCII")
+}
