@@ -162,8 +162,8 @@ impl<N: BootName> Machine<N> {
 
     /// Charges `pages` pages (1 to 65,535) to a group that isn't killed, and fills the visited CPU's stock with them.
     /// That stock is drained, or was never filled. If a limit has no room, the error names the lowest such group, and
-    /// nothing changed except what the watch saw. The CPU has no fresh frame. At most 2^32 - 1 pages can be charged in
-    /// all; `see_room` shows that there is room.
+    /// nothing changed except what the watch saw. The CPU has no fresh frame. At most 2^32 - 1 pages can be charged in all; `see_room` shows that
+    /// there is room.
     pub fn fill_stock(
         &mut self,
         tables: &Tables<N>,
