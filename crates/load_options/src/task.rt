@@ -31,6 +31,8 @@ pub enum Task {
     Run,
     /// The input is a log, which is checked.
     Check,
+    /// The bad lines of the script are reported.
+    Lint,
 }
 
 /// What the words of the command line ask for.
@@ -94,6 +96,8 @@ fn named_task(name: &str, given: &ArgMatches<'_>) -> Option<Task>
         Some(Task::Replay { is_explained })
     } else if name == "run" {
         Some(Task::Run)
+    } else if name == "lint" {
+        Some(Task::Lint)
     } else {
         None
     }
