@@ -14,7 +14,7 @@ use Rattle.zone_sizes.specs.declared.config.Config.{Config}
 use Rattle.zone_sizes.specs.Config.{most_batch, most_cpus, most_frames, most_high, most_stock}
 use Rattle.load_options.specs.declared.task.Options.{Options}
 use Rattle.load_options.specs.declared.task.Task.{Task}
-use Rattle.load_options.specs.declared.task.Task.TheVariants.{Replay, Run, Check}
+use Rattle.load_options.specs.declared.task.Task.TheVariants.{Replay, Run, Check, Lint}
 use Rattle.load_options.specs.declared.fault.LineFault.{LineFault}
 use Rattle.load_options.specs.declared.fault.LineFault.TheVariants.{BadWords, NoMemory}
 
@@ -34,18 +34,25 @@ flag_rule name = record (new_rule name) {
   action = Some SetTrue;
 }
 
--- the options that both subcommands on scripts have
-abbrev pub task_rules : List Rule
-task_rules =
+-- the options of the sizes
+abbrev pub size_rules : List Rule
+size_rules =
     size_rule (codes "frames") most_frames (codes "16")
     ∷ size_rule (codes "cpus") most_cpus (codes "2")
     ∷ size_rule (codes "batch") most_batch (codes "4")
     ∷ size_rule (codes "high") most_high (codes "8")
     ∷ size_rule (codes "stock") most_stock (codes "4")
-    ∷ flag_rule (codes "audit")
     ∷ []
 
--- the subcommand on scripts of this name, with these options
+-- the options that both subcommands that answer scripts have
+abbrev pub task_rules : List Rule
+task_rules = size_rules ++ flag_rule (codes "audit") ∷ []
+
+-- the subcommand on scripts of this name, with the options of the sizes
+abbrev pub sized_shape : List ℕ → Shape
+sized_shape name = record (new_shape name) { rules = size_rules }
+
+-- the subcommand of this name that answers scripts, with its options
 abbrev pub command_shape : List ℕ → Shape
 command_shape name = record (new_shape name) { rules = task_rules }
 
@@ -67,7 +74,7 @@ program = record {
     subcommand_required = true;
     is_leaf = false;
   };
-  subs = replay_shape ∷ command_shape (codes "run") ∷ check_shape ∷ [];
+  subs = replay_shape ∷ command_shape (codes "run") ∷ check_shape ∷ sized_shape (codes "lint") ∷ [];
 }
 
 -- the number that a text writes, in decimal digits and perhaps after a plus, if it is from 1 to `most`
@@ -106,7 +113,8 @@ abbrev pub task_in : List ℕ → List Row → Option Task
 task_in name found =
     if bytes_eq name (codes "replay")
     then Some (Replay (is_given (codes "explain") found) (is_given (codes "check") found))
-    else if bytes_eq name (codes "run") then Some Run else None
+    else if bytes_eq name (codes "run") then Some Run
+    else if bytes_eq name (codes "lint") then Some Lint else None
 
 -- the options that are given under the name of a subcommand on scripts
 abbrev pub script_options_under : List ℕ → List Row → Option Options

@@ -7,7 +7,7 @@ ghost use Rattle.clap.specs.declared.builder.value_parser.ValueParser.TheVariant
 ghost use Rattle.load_options.specs.Fault.{IsNoMemory};
 ghost use Rattle.load_options.specs.Sizes.{HasSizesInRange};
 ghost use Rattle.load_options.specs.Words.{TellsOptions, check_shape, command_shape, flag_rule, options_of, program, replay_shape};
-ghost use Rattle.load_options.specs.Words.{size_rule};
+ghost use Rattle.load_options.specs.Words.{size_rule, sized_shape};
 
 use crate::fault::LineFault;
 use crate::task::{
@@ -30,6 +30,8 @@ const RUN_HELP: &str =
     "Runs the lines before `go` in the same way, and the later ones in one thread for each CPU";
 
 const CHECK_HELP: &str = "Checks a log of steps: whether each step keeps the rules";
+
+const LINT_HELP: &str = "Reports every bad line of a script: from which byte on it is bad, and why";
 
 const FRAMES_HELP: &str = "Frames of the zone, 1 to 1048576";
 
@@ -63,9 +65,9 @@ pub fn words<R: Env + AllocGlobal>(rt: &R) -> Result<Vec<String>, LineFault> {
     }
 }
 
-/// Parses the words after the program's name. They are `replay` or `run`, then any of `--frames`, `--cpus`,
-/// `--batch`, `--high`, `--stock` and `--audit`, and after `replay` also `--explain` and `--check`, each at most once; or
-/// `check` alone. Anything else is a fault of the words, even a request for help.
+/// Parses the words after the program's name. They are `replay`, `run` or `lint`, then any of `--frames`, `--cpus`,
+/// `--batch`, `--high` and `--stock`, except after `lint` also `--audit`, and after `replay` also `--explain` and
+/// `--check`, each at most once; or `check` alone. Anything else is a fault of the words, even a request for help.
 ///
 /// A size is a whole number in its own range: 1 to 1,048,576 frames, 1 to 64 CPUs, batch 1 to 64, high 1 to 256,
 /// stock 1 to 64. `Config::is_valid` requires more: high is at least batch. The defaults are 16, 2, 4, 8 and 4.
@@ -115,7 +117,8 @@ fn memcg<'a>(alloc: Global) -> Result<Command<'a>, AllocError>
         .subcommand_required(true)
         .subcommand(replay_command(alloc)?)?
         .subcommand(subcommand(alloc, "run", RUN_HELP)?)?
-        .subcommand(check_command(alloc))
+        .subcommand(check_command(alloc))?
+        .subcommand(sized(alloc, "lint", LINT_HELP)?)
 }
 
 // `replay`, which has two more options.
@@ -136,9 +139,17 @@ fn check_command<'a>(alloc: Global) -> Command<'a>
     Command::new(alloc, "check").about(CHECK_HELP)
 }
 
-// A subcommand on scripts, with its options.
+// A subcommand that answers scripts, with its options.
 fn subcommand<'a>(alloc: Global, name: &'a str, about: &'a str) -> Result<Command<'a>, AllocError>
     ensures shape { IfOk result (λ command. (app_of command).top ≡ command_shape name.entry.now) }
+    ensures local { IfOk result (λ command. (fields_of command).has_globals ≡ false) }
+{
+    sized(alloc, name, about)?.arg(audit_option(alloc))
+}
+
+// A subcommand on scripts, with the options of the sizes.
+fn sized<'a>(alloc: Global, name: &'a str, about: &'a str) -> Result<Command<'a>, AllocError>
+    ensures shape { IfOk result (λ command. (app_of command).top ≡ sized_shape name.entry.now) }
     ensures local { IfOk result (λ command. (fields_of command).has_globals ≡ false) }
 {
     Command::new(alloc, name)
@@ -147,8 +158,7 @@ fn subcommand<'a>(alloc: Global, name: &'a str, about: &'a str) -> Result<Comman
         .arg(size_option(alloc, "cpus", CPUS_HELP, MOST_CPUS, "2"))?
         .arg(size_option(alloc, "batch", BATCH_HELP, MOST_BATCH, "4"))?
         .arg(size_option(alloc, "high", HIGH_HELP, MOST_HIGH, "8"))?
-        .arg(size_option(alloc, "stock", STOCK_HELP, MOST_STOCK, "4"))?
-        .arg(audit_option(alloc))
+        .arg(size_option(alloc, "stock", STOCK_HELP, MOST_STOCK, "4"))
 }
 
 // The option that asks for a report of the end.

@@ -33,6 +33,8 @@ pub enum Task {
     Run,
     /// The input is a log, which is checked.
     Check,
+    /// The bad lines of the script are reported.
+    Lint,
 }
 
 /// What the words of the command line ask for.
@@ -100,6 +102,8 @@ fn named_task(name: &str, given: &ArgMatches<'_>) -> Option<Task>
         })
     } else if name == "run" {
         Some(Task::Run)
+    } else if name == "lint" {
+        Some(Task::Lint)
     } else {
         None
     }

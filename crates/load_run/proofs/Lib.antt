@@ -2,7 +2,8 @@ pub mod Answering
 pub mod Causing
 pub mod Driving
 pub mod Joining
-pub mod Pieces
+pub mod Linting
+mod Pieces
 pub mod Putting
 pub mod Starting
 pub mod Verdicts

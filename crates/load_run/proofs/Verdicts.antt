@@ -11,17 +11,19 @@ use Rattle.log_check.specs.Texts.{end_text}
 use Rattle.load_options.specs.declared.fault.LineFault.TheVariants as words
 use Rattle.load_options.specs.declared.task.Options.{Options}
 use Rattle.load_options.specs.declared.task.Task.{Task}
-use Rattle.load_options.specs.declared.task.Task.TheVariants.{Check, Replay, Run}
+use Rattle.load_options.specs.declared.task.Task.TheVariants.{Check, Lint, Replay, Run}
 use Rattle.load_run.specs.declared.fault.ProgramFault.{ProgramFault}
 use Rattle.load_run.specs.declared.fault.ProgramFault.TheVariants.{BadConfig, BadLogLine, IllegalStep, Input, NoMemory, Output, Script, Words}
 use Rattle.load_run.specs.Answers.{IsOnScript}
 use Rattle.load_run.specs.Causes.{Written, written}
 use Rattle.load_run.specs.Checks.{Checks, FailsToCheck, IsEndOf, IsVerdict, LeavesLine, LeavesReport, ReportsBadLine, ReportsLegal, ReportsNotLegal}
-use Rattle.load_run.specs.Driving.{Drives, DrivesScript, DrivesTask}
+use Rattle.load_run.specs.Driving.{Drives, DrivesScript, DrivesTask, LintsAsked}
+use Rattle.load_run.specs.Lints.{Lints}
 use Rattle.load_run.specs.Fault.{IsWordsFault, fault_text, status_of}
 use Rattle.load_run.specs.Writing.{AppendsBeginning}
 use Rattle.load_run.proofs.Causing.{words_cause}
 use Rattle.load_run.proofs.Driving.{drives_badly}
+use Rattle.load_run.proofs.Linting.{lints_early}
 
 -- both are known of the input
 pub end_of : (input : Option (List ℕ)) (end : LogEnd) → IfSome input (λ text. IsEnd text end)
@@ -189,11 +191,24 @@ drives_words (Some options) input output faults faults_after fault status is end
     for_check Output is ended told = absurd is
     for_check (NoMemory e) is ended told = absurd is
 
+    for_lint : (f : ProgramFault) → IsWordsFault (Some options) f → status ≡ status_of f → AppendsBeginning faults faults_after (fault_text f)
+        → Lints options.sizes input (written output faults) (written output faults_after) status
+    for_lint (Words (words.NoMemory e)) is ended told =
+        lints_early options.sizes input output faults faults_after (Words (words.NoMemory e)) status tt ended told
+    for_lint (Words (words.BadWords text)) is ended told = absurd (false≢true (sym (ap is_some is)))
+    for_lint (Script f) is ended told = absurd is
+    for_lint (BadLogLine n) is ended told = absurd is
+    for_lint BadConfig is ended told = absurd is
+    for_lint Input is ended told = absurd is
+    for_lint Output is ended told = absurd is
+    for_lint (NoMemory e) is ended told = absurd is
+
     by_task : (task : Task) → DrivesTask task (Some options) input (written output faults) (written output faults_after) status
     by_task (Replay is_explained is_checked) =
         drives_badly (Some options) input output faults faults_after fault status (words_cause (Some options) input fault is) ended told
     by_task Run = drives_badly (Some options) input output faults faults_after fault status (words_cause (Some options) input fault is) ended told
     by_task Check = for_check fault is ended told
+    by_task Lint = record { options = options; is_asked = refl; lints = for_lint fault is ended told }
 
 -- what a task on a script promises
 pub script_drives : (options : Options) (input : Option (List ℕ)) (before after : Written) (status : ℕ) → IsOnScript options.task
@@ -204,12 +219,20 @@ script_drives options input before after status on_script drives = go options.ta
     go (Replay is_explained is_checked) on_script = drives
     go Run on_script = drives
     go Check on_script = absurd on_script
+    go Lint on_script = absurd on_script
 
 -- and a check
 pub check_drives : (options : Options) (input : Option (List ℕ)) (before after : Written) (status : ℕ) → options.task ≡ Check
     → Checks input before after status → Drives (Some options) input before after status
 check_drives options input before after status is checks =
     subst (λ (task : Task). DrivesTask task (Some options) input before after status) (sym is) checks
+
+-- and a lint
+pub lint_drives : (options : Options) (input : Option (List ℕ)) (before after : Written) (status : ℕ) → options.task ≡ Lint
+    → Lints options.sizes input before after status → Drives (Some options) input before after status
+lint_drives options input before after status is lints =
+    let here : LintsAsked (Some options) input before after status = record { options = options; is_asked = refl; lints = lints } in
+    subst (λ (task : Task). DrivesTask task (Some options) input before after status) (sym is) here
 
 -- what the options promise is what the words do that ask for them
 pub asked_drives : (asked : Option Options) (options : Options) (input : Option (List ℕ)) (before after : Written) (status : ℕ)

@@ -24,7 +24,7 @@ use Rattle.script_threads.specs.Each.{TellsEach, workers_from}
 use Rattle.script_threads.specs.Runs.{lines_before_go}
 use Rattle.load_options.specs.declared.task.Options.{Options}
 use Rattle.load_options.specs.declared.task.Task.{Task}
-use Rattle.load_options.specs.declared.task.Task.TheVariants.{Replay, Run, Check}
+use Rattle.load_options.specs.declared.task.Task.TheVariants.{Replay, Run, Check, Lint}
 use Rattle.load_run.specs.Ending.{TellsEnd}
 
 -- what is read of an input: a byte more than a script may have, as far as there are so many
@@ -117,14 +117,15 @@ pub record AreThreadAnswers (sizes : Config) (is_audited : Bool) (lines : List L
   pub ends : TellsEnd frames stocks is_audited end ending
   pub text_is : text ≡ (early ++ later) ++ ending
 
--- the task is one on a script
+-- the task is one that answers a script
 abbrev pub IsOnScript : Task → Type 0
 IsOnScript (Replay is_explained is_checked) = ⊤
 IsOnScript Run = ⊤
 IsOnScript Check = ⊥
+IsOnScript Lint = ⊥
 
--- what a boot with these sizes answers to the lines for this task, and reports of its end if it is audited; a check has
--- no boot
+-- what a boot with these sizes answers to the lines for this task, and reports of its end if it is audited; a check
+-- and a lint have no boot
 abbrev pub AreAnswers : Task → (sizes : Config) (is_audited : Bool) (lines : List Line) (text : List ℕ) → Type 0
 AreAnswers (Replay is_explained false) sizes is_audited lines text =
     AreReplayAnswers sizes is_explained is_audited lines text
@@ -132,6 +133,7 @@ AreAnswers (Replay is_explained true) sizes is_audited lines text =
     AreCheckedAnswers sizes is_explained is_audited lines text
 AreAnswers Run sizes is_audited lines text = AreThreadAnswers sizes is_audited lines text
 AreAnswers Check sizes is_audited lines text = ⊥
+AreAnswers Lint sizes is_audited lines text = ⊥
 
 -- These options are asked for, a boot takes their sizes, and the input is a script for them. The text is what a boot of
 -- these sizes answers to the script for the task of the options. It ends with a report of the end, if they ask for one.

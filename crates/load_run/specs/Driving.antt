@@ -2,11 +2,12 @@
 use Rattle.std.specs.Prelude.{◌≡◌, ℕ, ◌≤◌, List, Option, None, Some, Result, Vec, IfErr, IfOk, IfSome, IsSome, OnOk}
 use Rattle.load_options.specs.declared.task.Options.{Options}
 use Rattle.load_options.specs.declared.task.Task.{Task}
-use Rattle.load_options.specs.declared.task.Task.TheVariants.{Replay, Run, Check}
+use Rattle.load_options.specs.declared.task.Task.TheVariants.{Replay, Run, Check, Lint}
 use Rattle.load_run.specs.declared.fault.ProgramFault.{ProgramFault}
 use Rattle.load_run.specs.Answers.{IsAnswered, IsWritten}
 use Rattle.load_run.specs.Causes.{FailsAtWork, HasCause, IsMisused, Written}
 use Rattle.load_run.specs.Checks.{Checks}
+use Rattle.load_run.specs.Lints.{Lints}
 
 -- What the options that are asked for, if any, and an input lead to: answers or a fault. If the input's bytes are known,
 -- these are the answers to them, or the fault has its cause.
@@ -29,11 +30,18 @@ pub record DrivesScript (asked : Option Options) (input : Option (List ℕ)) (be
   pub quiet : status ≡ 2 → after.output ≡ before.output
   pub misused : status ≡ 2 → IfSome input (IsMisused asked before.faults after.faults)
 
+-- a script was linted for the sizes that are asked for
+pub record LintsAsked (asked : Option Options) (input : Option (List ℕ)) (before after : Written) (status : ℕ) : Type 0 where
+  pub options : Options
+  pub is_asked : asked ≡ Some options
+  pub lints : Lints options.sizes input before after status
+
 -- the program ran for this task, which is asked for
 abbrev pub DrivesTask : Task → (asked : Option Options) (input : Option (List ℕ)) (before after : Written) (status : ℕ) → Type 0
 DrivesTask (Replay is_explained is_checked) asked input before after status = DrivesScript asked input before after status
 DrivesTask Run asked input before after status = DrivesScript asked input before after status
 DrivesTask Check asked input before after status = Checks input before after status
+DrivesTask Lint asked input before after status = LintsAsked asked input before after status
 
 -- The program ran for the options that are asked for, if any. If none are, that is the fault of `DrivesScript`
 abbrev pub Drives : (asked : Option Options) (input : Option (List ℕ)) (before after : Written) (status : ℕ) → Type 0

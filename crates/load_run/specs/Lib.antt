@@ -4,4 +4,5 @@ pub mod Checks
 pub mod Driving
 pub mod Ending
 pub mod Fault
+pub mod Lints
 pub mod Writing

@@ -9,6 +9,7 @@ pub mod boot_end;
 pub mod checking;
 pub mod fault;
 pub mod fault_lines;
+pub mod linting;
 pub mod program;
 pub mod reading;
 pub mod running;

@@ -18,6 +18,7 @@ ghost use Rattle.load_run.specs.Writing.{AppendsBeginning};
 use crate::checking::drive_check;
 use crate::fault::ProgramFault;
 use crate::fault_lines::tell_fault;
+use crate::linting::drive_lint;
 use crate::reading::read_script;
 use crate::running::{check_on_boot, replay_on_boot};
 use crate::thread_running::run_by_threads;
@@ -64,7 +65,7 @@ pub fn drive<R: Threads + Wait + Sync, S: AsStr, I: Read, O: Write, F: Write>(
 }
 
 // Runs the task that is asked for.
-#[tactic(auto, using(crate::proofs::Verdicts::check_drives, crate::proofs::Verdicts::script_drives))]
+#[tactic(auto, using(crate::proofs::Verdicts::check_drives, crate::proofs::Verdicts::lint_drives, crate::proofs::Verdicts::script_drives))]
 fn drive_task<R: Threads + Wait + Sync, I: Read, O: Write, F: Write>(
     rt: &R,
     alloc: Global,
@@ -80,6 +81,7 @@ fn drive_task<R: Threads + Wait + Sync, I: Read, O: Write, F: Write>(
 {
     match options.task {
         Task::Check => drive_check(alloc, input, output, faults),
+        Task::Lint => drive_lint(alloc, &options.sizes, input, output, faults),
         Task::Replay { .. } => drive_script(rt, alloc, options, input, output, faults),
         Task::Run => drive_script(rt, alloc, options, input, output, faults),
     }
@@ -207,7 +209,7 @@ fn answers_on_boot<N: BootName + Send + Sync, R: Threads + Wait + Sync>(
             Ok(answers) => Ok(answers),
             Err(error) => Err(ProgramFault::NoMemory(error)),
         },
-        Task::Check => unreachable!(),
+        Task::Check | Task::Lint => unreachable!(),
     }
 }
 

@@ -10,7 +10,7 @@ use std::thread::Threads;
 const TEXTS: &str = r#"
 $ memcg
 error: 'memcg' requires a subcommand but one was not provided
-  [subcommands: replay, run, check, help]
+  [subcommands: replay, run, check, lint, help]
 
 Usage: memcg <COMMAND>
 
@@ -24,6 +24,7 @@ Commands:
   replay  Runs the lines of a script, one after the other
   run     Runs the lines before `go` in the same way, and the later ones in one thread for each CPU
   check   Checks a log of steps: whether each step keeps the rules
+  lint    Reports every bad line of a script: from which byte on it is bad, and why
   help    Print this message or the help of the given subcommand(s)
 
 Options:
@@ -37,6 +38,7 @@ Commands:
   replay  Runs the lines of a script, one after the other
   run     Runs the lines before `go` in the same way, and the later ones in one thread for each CPU
   check   Checks a log of steps: whether each step keeps the rules
+  lint    Reports every bad line of a script: from which byte on it is bad, and why
   help    Print this message or the help of the given subcommand(s)
 
 Options:
@@ -76,6 +78,18 @@ Usage: memcg check
 
 Options:
   -h, --help  Print help
+$ memcg lint --help
+Reports every bad line of a script: from which byte on it is bad, and why
+
+Usage: memcg lint [OPTIONS]
+
+Options:
+      --frames <N>  Frames of the zone, 1 to 1048576 [default: 16]
+      --cpus <N>    CPUs, 1 to 64 [default: 2]
+      --batch <N>   Frames by which a CPU's list is refilled, 1 to 64 [default: 4]
+      --high <N>    Frames at which a CPU's list returns some to the zone, batch to 256 [default: 8]
+      --stock <N>   Pages that a CPU charges ahead, 1 to 64 [default: 4]
+  -h, --help        Print help
 $ memcg play
 error: unrecognized subcommand 'play'
 

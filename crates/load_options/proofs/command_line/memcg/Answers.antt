@@ -13,7 +13,9 @@ returns c =
     ∙ ap₂ with_subcommand none c.in_ok-replay_command.ensures.shape in
     let run = c.in_ok-subcommand-3.ensures.shape c.in_ok-subcommand-2.ensures.local
     ∙ ap₂ with_subcommand replay c.in_ok-subcommand-2.ensures.shape in
+    let check = c.in_ok-subcommand-4.ensures.shape c.check_command.ensures.local
+    ∙ ap₂ with_subcommand run c.check_command.ensures.shape in
     record {
-      app = IfOk-weaker c.subcommand-4.result _ _ (λ command added.
-          added.shape c.check_command.ensures.local ∙ ap₂ with_subcommand run c.check_command.ensures.shape) c.subcommand-4.ensures;
+      app = IfOk-weaker c.subcommand-5.result _ _ (λ command added.
+          added.shape c.in_ok-sized.ensures.local ∙ ap₂ with_subcommand check c.in_ok-sized.ensures.shape) c.subcommand-5.ensures;
     }

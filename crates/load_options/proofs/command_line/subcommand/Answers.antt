@@ -1,24 +1,20 @@
--- Serves the contract of `subcommand`: its options, one after the other.
-use Rattle.std.proofs.Common.{◌∙◌, ap}
+-- Serves the contract of `subcommand`: the options of the sizes, and one more.
+use Rattle.std.proofs.Common.{◌∙◌, ◌∷◌, ◌++◌, [], ap, codes, refl}
 use Rattle.std.proofs.lemmas.Result.{IfOk-weaker}
-use Rattle.clap.specs.Simple.{App, app_of_fields, new_app}
-use Rattle.clap.specs.declared.builder.command.Command.{Command}
-use Rattle.clap.specs.declared.builder.command.Command.TheOpen.{Command-F}
-use Rattle.load_options.proofs.Asking.{IsRead, option_added}
+use Rattle.clap.specs.Simple.{App, Shape, app_of}
+use Rattle.load_options.specs.Words.{flag_rule}
+use Rattle.load_options.proofs.Asking.{option_added}
 use Rattle.load_options.proofs.command_line.subcommand.Goals as goal
 
 pub returns : goal.returns
 returns c =
-    let none : IsRead (new_app c.args.name.now) c.about.result =
-    (ap app_of_fields c.about.ensures ∙ c.new.ensures.app, ap (λ (f : Command-F Command). f.has_globals) c.about.ensures ∙ c.new.ensures.local) in
-    let frames = option_added _ _ _ _ _ none c.size_option.ensures.rule c.size_option.ensures.local c.in_ok-arg.ensures in
-    let cpus = option_added _ _ _ _ _ frames c.size_option-2.ensures.rule c.size_option-2.ensures.local c.in_ok-arg-2.ensures in
-    let batch = option_added _ _ _ _ _ cpus c.size_option-3.ensures.rule c.size_option-3.ensures.local c.in_ok-arg-3.ensures in
-    let high = option_added _ _ _ _ _ batch c.size_option-4.ensures.rule c.size_option-4.ensures.local c.in_ok-arg-4.ensures in
-    let stock = option_added _ _ _ _ _ high c.size_option-5.ensures.rule c.size_option-5.ensures.local c.in_ok-arg-5.ensures in
+    let old = c.in_ok-sized.field-0 in
     let rule = c.audit_option.ensures.rule in
     let local = c.audit_option.ensures.local in
+    let more : Shape → Shape = λ s. record s { rules = s.rules ++ flag_rule (codes "audit") ∷ [] } in
     record {
-      shape = IfOk-weaker c.arg-6.result _ _ (λ command added. ap (λ (a : App). a.top) (option_added _ command _ _ _ stock rule local added).0) c.arg-6.ensures;
-      local = IfOk-weaker c.arg-6.result _ _ (λ command added. (option_added _ command _ _ _ stock rule local added).1) c.arg-6.ensures;
+      shape = IfOk-weaker c.arg.result _ _ (λ command added. ap (λ (a : App). a.top)
+          (option_added old command _ (app_of old) _ (refl, c.in_ok-sized.ensures.local) rule local added).0 ∙ ap more c.in_ok-sized.ensures.shape) c.arg.ensures;
+      local = IfOk-weaker c.arg.result _ _ (λ command added.
+          (option_added old command _ (app_of old) _ (refl, c.in_ok-sized.ensures.local) rule local added).1) c.arg.ensures;
     }

@@ -1,0 +1,98 @@
+-- What a lint promises, from what it says and what the writers took. Serves `drive_lint`.
+use Rattle.std.proofs.Common.{◌≡◌, ◌∙◌, ℕ, ◌≤◌, List, Bool, true, false, Option, None, Some, IfSome, ap, arith, inl, inr, refl, subst, sym}
+use Rattle.std.specs.Prelude.{◌⊎◌}
+use Rattle.std.specs.Io.KnownBytes.{Appends}
+use Rattle.zone_sizes.specs.declared.config.Config.{Config}
+use Rattle.load_options.specs.declared.fault.LineFault.TheVariants as words
+use Rattle.load_run.specs.declared.fault.ProgramFault.{ProgramFault}
+use Rattle.load_run.specs.declared.fault.ProgramFault.TheVariants.{BadConfig, BadLogLine, Input, NoMemory, Output, Script, Words}
+use Rattle.load_run.specs.Answers.{bytes_read}
+use Rattle.load_run.specs.Causes.{written}
+use Rattle.load_run.specs.Fault.{fault_text, status_of}
+use Rattle.load_run.specs.Lints.{FailsToLint, IsEarlyFault, IsReport, LeavesFindings, Lints, ReportsFindings, ReportsNothing}
+use Rattle.load_run.specs.Writing.{AppendsBeginning}
+
+-- what is known of what the lint says, if the input's bytes are known
+abbrev pub Reports : Config → Option (List ℕ) → List ℕ → Bool → Type 0
+Reports sizes input text is_clean = IfSome input (λ bytes. IsReport sizes (bytes_read bytes) text is_clean)
+
+-- nothing was found
+pub lints_clean : (sizes : Config) (input before after faults : Option (List ℕ)) (text given : List ℕ) → Reports sizes input text true
+    → given ≡ text → Appends before after given → Lints sizes input (written before faults) (written after faults) 0
+lints_clean sizes input before after faults text given report same whole = record {
+  status_at_most = omega arith;
+  silent = λ zero. refl;
+  clean = λ zero. go input report;
+  found = λ one. absurd (omega (arith, one));
+}
+  where
+    go : (bytes : Option (List ℕ)) → Reports sizes bytes text true → IfSome bytes (ReportsNothing sizes before after)
+    go None is = tt
+    go (Some b) is = record { text = text; report = is; written = subst (Appends before after) same whole }
+
+-- something was
+pub lints_found : (sizes : Config) (input before after faults : Option (List ℕ)) (text given : List ℕ) → Reports sizes input text false
+    → given ≡ text → Appends before after given → Lints sizes input (written before faults) (written after faults) 1
+lints_found sizes input before after faults text given report same whole = record {
+  status_at_most = omega arith;
+  silent = λ zero. refl;
+  clean = λ zero. absurd (omega (arith, zero));
+  found = λ one. go input report;
+}
+  where
+    go : (bytes : Option (List ℕ)) → Reports sizes bytes text false
+        → IfSome bytes (λ b. ReportsFindings sizes (written before faults) (written after faults) b ⊎ FailsToLint sizes (written before faults) (written after faults) b)
+    go None is = tt
+    go (Some b) is = inl (record { text = text; report = is; written = subst (Appends before after) same whole; silent = refl })
+
+-- the lint failed
+lints_failed : (sizes : Config) (input before after faults faults_after : Option (List ℕ)) (fault : ProgramFault) (status : ℕ)
+    → IfSome input (LeavesFindings sizes fault before after) → status ≡ 1 → AppendsBeginning faults faults_after (fault_text fault)
+    → Lints sizes input (written before faults) (written after faults_after) status
+lints_failed sizes input before after faults faults_after fault status left ended told = record {
+  status_at_most = omega (arith, ended);
+  silent = λ zero. absurd (omega (arith, ended, zero));
+  clean = λ zero. absurd (omega (arith, ended, zero));
+  found = λ one. go input left;
+}
+  where
+    go : (bytes : Option (List ℕ)) → IfSome bytes (LeavesFindings sizes fault before after)
+        → IfSome bytes (λ b. ReportsFindings sizes (written before faults) (written after faults_after) b ⊎ FailsToLint sizes (written before faults) (written after faults_after) b)
+    go None left = tt
+    go (Some b) left = inr (record { fault = fault; left = left; told = told })
+
+-- the output failed
+pub lints_short : (sizes : Config) (input before after faults faults_after : Option (List ℕ)) (text given : List ℕ) (is_clean : Bool)
+    (fault : ProgramFault) (status : ℕ) → Reports sizes input text is_clean → given ≡ text → AppendsBeginning before after given
+    → fault ≡ Output → status ≡ status_of fault → AppendsBeginning faults faults_after (fault_text fault)
+    → Lints sizes input (written before faults) (written after faults_after) status
+lints_short sizes input before after faults faults_after text given is_clean fault status report same begun is status_is told =
+    lints_failed sizes input before after faults faults_after fault status
+    (subst (λ (f : ProgramFault). IfSome input (LeavesFindings sizes f before after)) (sym is) (go input report)) (status_is ∙ ap status_of is) told
+  where
+    go : (bytes : Option (List ℕ)) → Reports sizes bytes text is_clean → IfSome bytes (LeavesFindings sizes Output before after)
+    go None report = tt
+    go (Some b) report = record { text = text; is_clean = is_clean; report = report; begun = subst (AppendsBeginning before after) same begun }
+
+everywhere : (bytes : Option (List ℕ)) (P : List ℕ → Type 0) → ((text : List ℕ) → P text) → IfSome bytes P
+everywhere None P all = tt
+everywhere (Some text) P all = all text
+
+-- a fault came before there was anything to write
+pub lints_early : (sizes : Config) (input output faults faults_after : Option (List ℕ)) (fault : ProgramFault) (status : ℕ)
+    → IsEarlyFault fault → status ≡ status_of fault → AppendsBeginning faults faults_after (fault_text fault)
+    → Lints sizes input (written output faults) (written output faults_after) status
+lints_early sizes input output faults faults_after Input status early ended told =
+    lints_failed sizes input output output faults faults_after Input status
+    (everywhere input (LeavesFindings sizes Input output output) (λ b. (early, refl))) ended told
+lints_early sizes input output faults faults_after (NoMemory e) status early ended told =
+    lints_failed sizes input output output faults faults_after (NoMemory e) status
+    (everywhere input (LeavesFindings sizes (NoMemory e) output output) (λ b. (early, refl))) ended told
+lints_early sizes input output faults faults_after (Words (words.NoMemory e)) status early ended told =
+    lints_failed sizes input output output faults faults_after (Words (words.NoMemory e)) status
+    (everywhere input (LeavesFindings sizes (Words (words.NoMemory e)) output output) (λ b. (early, refl))) ended told
+lints_early sizes input output faults faults_after (Words (words.BadWords text)) status early ended told = absurd early
+lints_early sizes input output faults faults_after (Script f) status early ended told = absurd early
+lints_early sizes input output faults faults_after (BadLogLine n) status early ended told = absurd early
+lints_early sizes input output faults faults_after BadConfig status early ended told = absurd early
+lints_early sizes input output faults faults_after Output status early ended told = absurd early

@@ -1,0 +1,84 @@
+//! The lint of a script: its bad lines are written to the output, or a fault is reported, and the status says which.
+
+ghost use Rattle.std.specs.Prelude.{◌≡◌, ◌++◌, IfErr, IfOk, IfSome};
+ghost use Rattle.std.specs.Io.KnownBytes.{Appends};
+ghost use Rattle.std.specs.String.{string_bytes};
+ghost use Rattle.load_options.specs.Sizes.{HasSizesInRange};
+ghost use Rattle.load_run.specs.Answers.{bytes_read};
+ghost use Rattle.load_run.specs.Causes.{written};
+ghost use Rattle.load_run.specs.Lints.{IsEarlyFault, IsReport, Lints};
+
+use crate::fault::ProgramFault;
+use crate::fault_lines::tell_fault;
+use crate::program::write_answers;
+use crate::reading::read_script;
+use script_lint::{lint_script, write_findings, write_sizes};
+use std::alloc::{AllocError, Global};
+use std::io::{Read, Write};
+use zone_sizes::config::Config;
+
+// The name of the script in the findings: that of standard input.
+const NAME: &str = "-";
+
+/// What the lint of a script says.
+struct Report {
+    /// A line for each finding.
+    text: String,
+    /// Whether there is no finding.
+    is_clean: bool,
+}
+
+/// Lints the script that the input holds, and returns the status to end with: 0 if nothing is found. If something is, the
+/// output gets it, and the status is 1. If the input can't be read, the output can't be written, or memory runs out, that is a
+/// fault of status 1.
+pub fn drive_lint<I: Read, O: Write, F: Write>(
+    alloc: Global,
+    sizes: &Config,
+    input: &mut I,
+    output: &mut O,
+    faults: &mut F,
+) -> u8
+    requires in_range { HasSizesInRange sizes.now }
+    ensures lints { Lints sizes.now (I.remaining input.old) (written (O.contents output.old) (F.contents faults.old))
+        (written (O.contents output.new) (F.contents faults.new)) result }
+{
+    match report_of(alloc, sizes, input) {
+        Ok(report) => match write_answers(report.text.as_bytes(), output) {
+            Ok(()) if report.is_clean => 0,
+            Ok(()) => 1,
+            Err(unwritten) => tell_fault(&unwritten, faults),
+        },
+        Err(fault) => tell_fault(&fault, faults),
+    }
+}
+
+// What the lint says of the script that the input holds.
+fn report_of<I: Read>(
+    alloc: Global,
+    sizes: &Config,
+    input: &mut I,
+) -> Result<Report, ProgramFault>
+    requires in_range { HasSizesInRange sizes.now }
+    ensures report { IfOk result (λ report. IfSome (I.remaining input.old)
+        (λ bytes. IsReport sizes.now (bytes_read bytes) (string_bytes report.text) report.is_clean)) }
+    ensures fault { IfErr result IsEarlyFault }
+{
+    let script = read_script(alloc, input)?;
+    match report_on(alloc, sizes, &script) {
+        Ok(report) => Ok(report),
+        Err(error) => Err(ProgramFault::NoMemory(error)),
+    }
+}
+
+// What the lint says of the script.
+fn report_on(alloc: Global, sizes: &Config, script: &[u8]) -> Result<Report, AllocError>
+    requires in_range { HasSizesInRange sizes.now }
+    ensures report { IfOk result (λ report. IsReport sizes.now script.now (string_bytes report.text) report.is_clean) }
+{
+    let findings = lint_script(alloc, script, sizes)?;
+    let mut text = String::new(alloc);
+    write_findings(NAME, &findings, sizes, &mut text)?;
+    write_sizes(sizes, &mut text)?;
+    let is_clean = findings.is_empty() && sizes.batch <= sizes.high;
+    Ok(Report { text, is_clean })
+}
