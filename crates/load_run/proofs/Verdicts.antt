@@ -199,6 +199,7 @@ drives_words (Some options) input output faults faults_after fault status is end
     for_lint (Script f) is ended told = absurd is
     for_lint (BadLogLine n) is ended told = absurd is
     for_lint BadConfig is ended told = absurd is
+    for_lint (IllegalStep n) is ended told = absurd is
     for_lint Input is ended told = absurd is
     for_lint Output is ended told = absurd is
     for_lint (NoMemory e) is ended told = absurd is

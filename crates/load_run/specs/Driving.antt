@@ -31,7 +31,8 @@ pub record DrivesScript (asked : Option Options) (input : Option (List ℕ)) (be
   pub misused : status ≡ 2 → IfSome input (IsMisused asked before.faults after.faults)
 
 -- a script was linted for the sizes that are asked for
-pub record LintsAsked (asked : Option Options) (input : Option (List ℕ)) (before after : Written) (status : ℕ) : Type 0 where
+pub record LintsAsked (asked : Option Options) (input : Option (List ℕ)) (before after : Written) (status : ℕ)
+    : Type 0 where
   pub options : Options
   pub is_asked : asked ≡ Some options
   pub lints : Lints options.sizes input before after status

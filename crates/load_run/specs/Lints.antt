@@ -27,6 +27,11 @@ pub record IsReport (sizes : Config) (script text : List ℕ) (is_clean : Bool) 
   pub clean : is_clean ≡ true → IsClean sizes findings
   pub found : is_clean ≡ false → ¬ IsClean sizes findings
 
+-- the status of a lint that was written
+abbrev pub lint_status : Bool → ℕ
+lint_status true = 0
+lint_status false = 1
+
 -- nothing is found in what is read, and nothing is written
 pub record ReportsNothing (sizes : Config) (before after : Option (List ℕ)) (bytes : List ℕ) : Type 0 where
   pub text : List ℕ
@@ -65,10 +70,11 @@ pub record FailsToLint (sizes : Config) (before after : Written) (bytes : List �
   pub left : LeavesFindings sizes fault before.output after.output bytes
   pub told : AppendsBeginning before.faults after.faults (fault_text fault)
 
--- A script was linted, and the program ended with 0 or 1. With 0 nothing is found, and no fault is reported. With 1 something
--- is found, or the lint failed. What is found is said if the input's bytes are known
+-- A script was linted, and the program ended with 0 or 1. With 0 nothing is found, and no fault is reported. With 1
+-- something is found, or the lint failed. What is found is said if the input's bytes are known
 pub record Lints (sizes : Config) (input : Option (List ℕ)) (before after : Written) (status : ℕ) : Type 0 where
   pub status_at_most : status ≤ 1
   pub silent : status ≡ 0 → after.faults ≡ before.faults
   pub clean : status ≡ 0 → IfSome input (ReportsNothing sizes before.output after.output)
-  pub found : status ≡ 1 → IfSome input (λ bytes. ReportsFindings sizes before after bytes ⊎ FailsToLint sizes before after bytes)
+  pub found : status ≡ 1
+      → IfSome input (λ bytes. ReportsFindings sizes before after bytes ⊎ FailsToLint sizes before after bytes)

@@ -1,17 +1,17 @@
 //! The lint of a script: its bad lines are written to the output, or a fault is reported, and the status says which.
 
-ghost use Rattle.std.specs.Prelude.{◌≡◌, ◌++◌, IfErr, IfOk, IfSome};
-ghost use Rattle.std.specs.Io.KnownBytes.{Appends};
+ghost use Rattle.std.specs.Prelude.{◌≡◌, IfErr, IfOk, IfSome, false, true};
 ghost use Rattle.std.specs.String.{string_bytes};
 ghost use Rattle.load_options.specs.Sizes.{HasSizesInRange};
 ghost use Rattle.load_run.specs.Answers.{bytes_read};
 ghost use Rattle.load_run.specs.Causes.{written};
-ghost use Rattle.load_run.specs.Lints.{IsEarlyFault, IsReport, Lints};
+ghost use Rattle.load_run.specs.Lints.{IsClean, IsEarlyFault, IsReport, Lints, lint_status};
 
 use crate::fault::ProgramFault;
 use crate::fault_lines::tell_fault;
 use crate::program::write_answers;
 use crate::reading::read_script;
+use script_lint::finding::Finding;
 use script_lint::{lint_script, write_findings, write_sizes};
 use std::alloc::{AllocError, Global};
 use std::io::{Read, Write};
@@ -20,17 +20,18 @@ use zone_sizes::config::Config;
 // The name of the script in the findings: that of standard input.
 const NAME: &str = "-";
 
-/// What the lint of a script says.
+// What the lint of a script says.
+#[derive(Drop)]
 struct Report {
-    /// A line for each finding.
+    // A line for each finding.
     text: String,
-    /// Whether there is no finding.
+    // Whether there is no finding.
     is_clean: bool,
 }
 
-/// Lints the script that the input holds, and returns the status to end with: 0 if nothing is found. If something is, the
-/// output gets it, and the status is 1. If the input can't be read, the output can't be written, or memory runs out, that is a
-/// fault of status 1.
+/// Lints the script that the input holds, and returns the status to end with: 0 if nothing is found. If something is,
+/// the output gets it, and the status is 1. If the input can't be read, the output can't be written, or memory runs out,
+/// that is a fault of status 1.
 pub fn drive_lint<I: Read, O: Write, F: Write>(
     alloc: Global,
     sizes: &Config,
@@ -44,15 +45,22 @@ pub fn drive_lint<I: Read, O: Write, F: Write>(
 {
     match report_of(alloc, sizes, input) {
         Ok(report) => match write_answers(report.text.as_bytes(), output) {
-            Ok(()) if report.is_clean => 0,
-            Ok(()) => 1,
+            Ok(()) => status_of(report.is_clean),
             Err(unwritten) => tell_fault(&unwritten, faults),
         },
         Err(fault) => tell_fault(&fault, faults),
     }
 }
 
+// The status of a lint that was written.
+fn status_of(is_clean: bool) -> u8
+    ensures { result ≡ lint_status is_clean }
+{
+    if is_clean { 0 } else { 1 }
+}
+
 // What the lint says of the script that the input holds.
+#[tactic(auto, using(crate::proofs::Linting::read_early))]
 fn report_of<I: Read>(
     alloc: Global,
     sizes: &Config,
@@ -71,6 +79,7 @@ fn report_of<I: Read>(
 }
 
 // What the lint says of the script.
+#[tactic(auto, using(crate::proofs::Linting::has_zone, crate::proofs::Linting::all_inside))]
 fn report_on(alloc: Global, sizes: &Config, script: &[u8]) -> Result<Report, AllocError>
     requires in_range { HasSizesInRange sizes.now }
     ensures report { IfOk result (λ report. IsReport sizes.now script.now (string_bytes report.text) report.is_clean) }
@@ -79,6 +88,14 @@ fn report_on(alloc: Global, sizes: &Config, script: &[u8]) -> Result<Report, All
     let mut text = String::new(alloc);
     write_findings(NAME, &findings, sizes, &mut text)?;
     write_sizes(sizes, &mut text)?;
-    let is_clean = findings.is_empty() && sizes.batch <= sizes.high;
+    let is_clean = is_clean(&findings, sizes);
     Ok(Report { text, is_clean })
+}
+
+// Whether nothing is found.
+fn is_clean(findings: &[Finding<'_>], sizes: &Config) -> bool
+    ensures clean { result ≡ true → IsClean sizes.now findings.now }
+    ensures found { result ≡ false → ¬ IsClean sizes.now findings.now }
+{
+    findings.is_empty() && sizes.batch <= sizes.high
 }

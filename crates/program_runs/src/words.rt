@@ -11,7 +11,7 @@ use zone_sizes::config::Config;
 
 // Good words, separated by single spaces, and what they ask for: the task; frames, CPUs, `batch`, `high` and `stock`;
 // and whether the end is audited.
-const GOOD_WORDS: [(&str, Task, [u32; 5], bool); 12] = [
+const GOOD_WORDS: [(&str, Task, [u32; 5], bool); 14] = [
     ("replay", PLAIN_REPLAY, [16, 2, 4, 8, 4], false),
     ("replay --frames=9", PLAIN_REPLAY, [9, 2, 4, 8, 4], false),
     ("replay --cpus=9", PLAIN_REPLAY, [16, 9, 4, 8, 4], false),
@@ -56,6 +56,12 @@ const GOOD_WORDS: [(&str, Task, [u32; 5], bool); 12] = [
         [40, 3, 5, 12, 7],
         true,
     ),
+    (
+        "lint --stock 7 --frames=40 --cpus=3 --high=12 --batch=5",
+        Task::Lint,
+        [40, 3, 5, 12, 7],
+        false,
+    ),
 ];
 
 const PLAIN_REPLAY: Task = Task::Replay {
@@ -83,7 +89,7 @@ fn asks_for_what_the_words_say(rt: HostRuntime) {
 }
 
 // Bad words, and how the text that the program writes for them begins.
-const BAD_WORDS: [(&str, &str); 25] = [
+const BAD_WORDS: [(&str, &str); 28] = [
     (
         "replay --frames 0",
         "error: invalid value '0' for '--frames <N>': 0 is not in 1..=1048576\n",
@@ -120,6 +126,11 @@ const BAD_WORDS: [(&str, &str); 25] = [
     ),
     ("run --frames=0", "error: "),
     ("run run", ""),
+    (
+        "lint --audit",
+        "error: unexpected argument '--audit' found\n",
+    ),
+    ("lint --frames=0", "error: "),
     ("--help", ""),
     ("help", ""),
 ];
