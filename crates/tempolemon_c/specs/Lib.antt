@@ -1,3 +1,4 @@
 pub mod Buffers
+pub mod Handles
 pub mod Replays
 pub mod Statuses
