@@ -1,15 +1,13 @@
 -- What each request does to a live boot.
-use Rattle.std.specs.Prelude.{◌≡◌, ◌⊎◌, ℕ, Bool, List, [], Option, None, Some}
+use Rattle.std.specs.Prelude.{◌≡◌, [], Option, None, Some}
 use Rattle.frame_word.specs.Seats.{KnownTable}
 use Rattle.stock_word.specs.Stock.{Words}
 use Rattle.zone_sizes.specs.declared.config.Config.{Config}
-use Rattle.script_lines.specs.Script.{IsFirstBadLine}
-use Rattle.script_replay.specs.Terms.{terms}
 use Rattle.load_run.specs.Answers.{StandsAtFirst}
 use Rattle.load_run.specs.Ending.{EndsHeld}
 use Rattle.load_run.specs.declared.boot_end.Ended.{Ended}
 use Rattle.handles.specs.Known.{KnownLive}
-use Rattle.handles.specs.Commands.{ReplaysText, SameButState, StopsText, TakesKept}
+use Rattle.handles.specs.Commands.{AnswersScript, RefusesScript, RunsOut, TakesKept, with_kept}
 use Rattle.handles.specs.declared.requests.Request.{Request}
 use Rattle.handles.specs.declared.requests.Request.TheVariants.{Start, Command, Keep, Recall, End}
 use Rattle.handles.specs.declared.requests.Answer.{Answer}
@@ -79,24 +77,6 @@ pub record Ends (frames : KnownTable) (stocks : Words) (before after : Option Kn
   pub is : after ≡ None
   pub ends : EndsHeld frames stocks from.state ended
 
--- the text is a script, and its lines are replayed
-pub record AnswersScript (frames : KnownTable) (stocks : Words) (text : List ℕ) (is_explained : Bool)
-    (answers : List ℕ) (from to : KnownLive) : Type 0 where
-  pub replays : ReplaysText (terms frames stocks is_explained) from.sizes text from.state to.state answers
-  pub rest : SameButState from to
-
--- the first bad line of the text is this, and nothing is done
-pub record RefusesScript (text : List ℕ) (number : ℕ) (from to : KnownLive) : Type 0 where
-  pub first_bad : IsFirstBadLine from.sizes text number
-  pub stays : to ≡ from
-
--- memory ran out before the first line, or for the answer of a line that was served
-pub record RunsOut (frames : KnownTable) (stocks : Words) (text : List ℕ) (is_explained : Bool)
-    (from to : KnownLive) : Type 0 where
-  pub served : (to.state ≡ from.state)
-      ⊎ StopsText (terms frames stocks is_explained) from.sizes text from.state to.state
-  pub rest : SameButState from to
-
 -- What a request does under the name of these tables, and what is answered
 abbrev pub Serves : KnownTable → Words → (before : Option KnownLive) (request : Request) (after : Option KnownLive)
     (answer : Answer) → Type 0
@@ -109,7 +89,7 @@ Serves frames stocks before (Command alloc text is_explained) after (said.BadLin
 Serves frames stocks before (Command alloc text is_explained) after said.NoMemory =
     OnLive (RunsOut frames stocks text.items is_explained) before after
 Serves frames stocks before (Keep text) after said.Done =
-    OnLive (λ from to. to ≡ record from { kept = text.items }) before after
+    OnLive (λ from to. to ≡ with_kept from text.items) before after
 Serves frames stocks before (Recall alloc) after (said.Text text) =
     OnLive (λ from to. TakesKept from to text.items) before after
 Serves frames stocks before (End alloc) after (said.Ended ended) = Ends frames stocks before after ended

@@ -1,12 +1,13 @@
 //! The parts of a boot between calls.
 
-ghost use Rattle.std.specs.Prelude.{◌≡◌, [], IfOk, length};
+ghost use Rattle.std.specs.Prelude.{◌≡◌, [], IfErr, IfOk, length};
 ghost use Rattle.mem_system.specs.Boots.{IsSizedAs};
 ghost use Rattle.script_replay.specs.Lines.{system_state};
 ghost use Rattle.script_replay.specs.Terms.{terms};
 ghost use Rattle.load_run.specs.Answers.{StandsAtFirst};
 ghost use Rattle.load_run.specs.Ending.{EndsHeld};
-ghost use Rattle.handles.specs.Commands.{IsCommanded, SameButState, TakesKept};
+ghost use Rattle.handles.specs.Commands.{AnswersScript, FailsScript, FailsText, ReplaysText, TakesKept};
+ghost use Rattle.handles.specs.Commands.{with_kept};
 
 use cpu_part::{BootName, Cpu, Tables};
 use load_run::boot_end::{Ended, end_boot};
@@ -74,9 +75,9 @@ impl<N: BootName> Live<N> {
         text: &[u8],
         is_explained: bool,
     ) -> Result<Vec<u8>, ScriptFault>
-        ensures commanded { IsCommanded (terms N.frames N.stocks is_explained) self.old.sizes text.now
-            self.old.state self.new.state result }
-        ensures rest { SameButState self.old self.new }
+        ensures answered { IfOk result (λ answers.
+            AnswersScript N.frames N.stocks text.now is_explained answers.items self.old self.new) }
+        ensures fault { IfErr result (FailsScript N.frames N.stocks text.now is_explained self.old self.new) }
     {
         serve_lines(
             alloc,
@@ -91,7 +92,7 @@ impl<N: BootName> Live<N> {
 
     /// Keeps this text in place of the one that was kept.
     pub fn keep(&mut self, text: Vec<u8>)
-        ensures { self.new ≡ record self.old { kept = text.items } }
+        ensures { self.new ≡ with_kept self.old text.items }
     {
         self.kept = text;
     }
@@ -136,14 +137,17 @@ fn serve_lines<N: BootName>(
 ) -> Result<Vec<u8>, ScriptFault>
     requires sized { IsSizedAs sizes.now N.frames N.stocks }
     requires count { length cpus.old ≡ N.frames.cpus }
-    ensures commanded { IsCommanded (terms N.frames N.stocks is_explained) sizes.now text.now
-        (system_state locked.old cpus.old) (system_state locked.new cpus.new) result }
+    ensures answered { IfOk result (λ answers. ReplaysText (terms N.frames N.stocks is_explained) sizes.now text.now
+        (system_state locked.old cpus.old) (system_state locked.new cpus.new) answers.items) }
+    ensures fault { IfErr result (FailsText (terms N.frames N.stocks is_explained) sizes.now text.now
+        (system_state locked.old cpus.old) (system_state locked.new cpus.new)) }
 {
     match parse_script(alloc, text, sizes) {
         Ok(lines) => match replay(alloc, locked, tables, cpus, &lines, is_explained) {
             Ok(answers) => Ok(answers),
             Err(_) => Err(ScriptFault::NoMemory),
         },
-        Err(fault) => Err(fault),
+        Err(ScriptFault::BadLine(number)) => Err(ScriptFault::BadLine(number)),
+        Err(ScriptFault::NoMemory) => Err(ScriptFault::NoMemory),
     }
 }

@@ -5,8 +5,8 @@ use Rattle.script_lines.specs.declared.fault.ScriptFault.{ScriptFault}
 use Rattle.script_lines.specs.declared.fault.ScriptFault.TheVariants.{BadLine, NoMemory}
 use Rattle.load_run.specs.declared.boot_end.Ended.{Ended}
 use Rattle.handles.specs.Known.{KnownLive}
-use Rattle.handles.specs.Commands.{TakesKept}
-use Rattle.handles.specs.Serving.{AnswersScript, Ends, OnLive, RefusesScript, RunsOut, Starts}
+use Rattle.handles.specs.Commands.{AnswersScript, RefusesScript, RunsOut, TakesKept, with_kept}
+use Rattle.handles.specs.Serving.{Ends, OnLive, Starts}
 use Rattle.tempolemon_c.specs.declared.handle.Handle.{Handle}
 use Rattle.tempolemon_c.specs.declared.report.Report.{Report}
 
@@ -33,7 +33,7 @@ FailsCommand text is_explained before after NoMemory =
 
 -- the answer is kept in the boot, and nothing else changed
 abbrev pub KeepsAnswer : (answer : List ℕ) (before after : Handle) → Type 0
-KeepsAnswer answer before after = OnBoot (λ from to. to ≡ record from { kept = answer }) before after
+KeepsAnswer answer before after = OnBoot (λ from to. to ≡ with_kept from answer) before after
 
 -- the answer that was kept was taken out of the boot, and nothing else changed
 abbrev pub RecallsAnswer : (before after : Handle) (answer : List ℕ) → Type 0
