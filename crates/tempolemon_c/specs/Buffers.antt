@@ -1,11 +1,6 @@
 -- What a buffer of the host gets of a text.
 use Rattle.std.specs.Prelude.{◌≡◌, ℕ, ◌<◌, ◌≤◌, List, ◌++◌, drop, length}
 
--- this text was written at the start of a buffer that has room for all of it, and the rest of the buffer is as before
-pub record Fills (text before after : List ℕ) : Type 0 where
-  pub fits : length text ≤ length before
-  pub after_is : after ≡ text ++ drop (length text) before
-
 -- A text of which `is_it` holds was written at the start of a buffer that has room for all of it. The rest of the buffer
 -- is as before
 pub record FillsBuffer (is_it : List ℕ → Type 0) (before after : List ℕ) (written : ℕ) : Type 0 where

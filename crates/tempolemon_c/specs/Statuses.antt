@@ -26,25 +26,9 @@ abbrev pub no_boot : ℕ
 no_boot = 104
 
 -- the handle has a boot already
-abbrev pub is_live : ℕ
-is_live = 105
+abbrev pub already_live : ℕ
+already_live = 105
 
 -- the statuses with which a replay ends
 abbrev pub IsReplayStatus : ℕ → Type 0
 IsReplayStatus status = Contains (done ∷ bad_config ∷ no_memory ∷ bad_line ∷ small_buffer ∷ []) status
-
--- the statuses with which a start ends
-abbrev pub IsBootStatus : ℕ → Type 0
-IsBootStatus status = Contains (done ∷ bad_config ∷ no_memory ∷ is_live ∷ []) status
-
--- the statuses with which a command ends
-abbrev pub IsCommandStatus : ℕ → Type 0
-IsCommandStatus status = Contains (done ∷ no_memory ∷ bad_line ∷ small_buffer ∷ no_boot ∷ []) status
-
--- the statuses with which the answer that waits is written
-abbrev pub IsAnswerStatus : ℕ → Type 0
-IsAnswerStatus status = Contains (done ∷ small_buffer ∷ no_boot ∷ []) status
-
--- the statuses with which an answer is written into a buffer
-abbrev pub IsDeliveryStatus : ℕ → Type 0
-IsDeliveryStatus status = Contains (done ∷ small_buffer ∷ []) status

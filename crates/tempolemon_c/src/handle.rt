@@ -1,16 +1,9 @@
 //! A boot that lives between calls, as a host in C holds it.
 
-ghost use Rattle.std.specs.Prelude.{◌≡◌, ◌↔◌, IfErr, IfOk, IsSome, None, false, true};
-ghost use Rattle.tempolemon_c.specs.Handles.{EndsBoot, FailsCommand, KeepsAnswer, RecallsAnswer, ServesCommand};
-ghost use Rattle.tempolemon_c.specs.Handles.{StartsBoot};
+ghost use Rattle.std.specs.Prelude.{◌≡◌, ◌↔◌, IsSome, None, false, true};
 
-use handles::raw::{Raw, serve_raw};
-use handles::requests::{Answer, Request};
-use load_run::boot_end::Ended;
-use mem_system::Boot;
-use script_lines::fault::ScriptFault;
+use handles::raw::Raw;
 use std::alloc::Global;
-use zone_sizes::config::Config;
 
 /// A boot between calls, or none. A host begins with all bytes 0, which is none. Only the calls change it.
 #[repr(C)]
@@ -33,108 +26,5 @@ impl Handle {
             raw: Raw::none(alloc),
             is_live: false,
         }
-    }
-}
-
-// Takes the boot's parts out of a handle, which has no boot after that.
-fn take_raw(alloc: Global, handle: &mut Handle) -> Raw
-    ensures taken { result ≡ handle.old.raw }
-    ensures left { handle.new.raw.live ≡ None }
-    ensures live { (handle.old.is_live ≡ true) ↔ IsSome result.live }
-{
-    let Handle { raw, is_live: _ } = std::mem::replace(handle, Handle::none(alloc));
-    raw
-}
-
-/// Starts a boot of these sizes in a handle that has none. False means that memory ran out: the handle has none then.
-pub fn start_boot(alloc: Global, handle: &mut Handle, boot: Boot, sizes: Config) -> bool
-    requires none { handle.old.is_live ≡ false }
-    requires sizes { boot.sizes ≡ sizes }
-    ensures started { result ≡ true → StartsBoot sizes handle.new }
-    ensures failed { result ≡ false → handle.new.raw.live ≡ None }
-{
-    let raw = take_raw(alloc, handle);
-    let (raw, answer) = serve_raw(raw, Request::Start { alloc, boot, sizes });
-    match answer {
-        Answer::Done => {
-            *handle = Handle { raw, is_live: true };
-            true
-        }
-        Answer::NoMemory => false,
-        Answer::Text(_) => unreachable!(),
-        Answer::BadLine(_) => unreachable!(),
-        Answer::Ended(_) => unreachable!(),
-    }
-}
-
-/// Serves the lines of a script on the boot of a handle.
-pub fn serve_script(
-    alloc: Global,
-    handle: &mut Handle,
-    text: Vec<u8>,
-    is_explained: bool,
-) -> Result<Vec<u8>, ScriptFault>
-    requires live { handle.old.is_live ≡ true }
-    ensures served { IfOk result (λ answers. ServesCommand text.items is_explained handle.old handle.new answers.items) }
-    ensures fault { IfErr result (FailsCommand text.items is_explained handle.old handle.new) }
-{
-    let raw = take_raw(alloc, handle);
-    let request = Request::Command {
-        alloc,
-        text,
-        is_explained,
-    };
-    let (raw, answer) = serve_raw(raw, request);
-    *handle = Handle { raw, is_live: true };
-    match answer {
-        Answer::Text(answers) => Ok(answers),
-        Answer::BadLine(number) => Err(ScriptFault::BadLine(number)),
-        Answer::NoMemory => Err(ScriptFault::NoMemory),
-        Answer::Done => unreachable!(),
-        Answer::Ended(_) => unreachable!(),
-    }
-}
-
-/// Keeps an answer in the boot of a handle.
-pub fn keep_answer(alloc: Global, handle: &mut Handle, text: Vec<u8>)
-    requires live { handle.old.is_live ≡ true }
-    ensures kept { KeepsAnswer text.items handle.old handle.new }
-{
-    let raw = take_raw(alloc, handle);
-    let (raw, _answer) = serve_raw(raw, Request::Keep { text });
-    *handle = Handle { raw, is_live: true };
-}
-
-/// Takes the answer that is kept in the boot of a handle.
-pub fn take_answer(alloc: Global, handle: &mut Handle) -> Vec<u8>
-    requires live { handle.old.is_live ≡ true }
-    ensures taken { RecallsAnswer handle.old handle.new result.items }
-{
-    let raw = take_raw(alloc, handle);
-    let (raw, answer) = serve_raw(raw, Request::Recall { alloc });
-    *handle = Handle { raw, is_live: true };
-    match answer {
-        Answer::Text(text) => text,
-        Answer::BadLine(_) => unreachable!(),
-        Answer::NoMemory => unreachable!(),
-        Answer::Done => unreachable!(),
-        Answer::Ended(_) => unreachable!(),
-    }
-}
-
-/// Ends the boot of a handle, which has none after that.
-pub fn end_boot(alloc: Global, handle: &mut Handle) -> Ended
-    requires live { handle.old.is_live ≡ true }
-    ensures ended { EndsBoot handle.old result }
-    ensures none { handle.new.raw.live ≡ None }
-{
-    let raw = take_raw(alloc, handle);
-    let (_raw, answer) = serve_raw(raw, Request::End { alloc });
-    match answer {
-        Answer::Ended(ended) => ended,
-        Answer::Text(_) => unreachable!(),
-        Answer::BadLine(_) => unreachable!(),
-        Answer::NoMemory => unreachable!(),
-        Answer::Done => unreachable!(),
     }
 }

@@ -6,21 +6,21 @@
 //! A boot can live between calls, in a handle of the host. A handle begins with all bytes 0, and only the calls change it.
 #![tactic(auto)]
 
-ghost use Rattle.std.specs.Prelude.{◌≡◌, ◌≢◌, ◌<◌, ◌↔◌, ◌⊎◌, ℕ, false, length, true};
+ghost use Rattle.std.specs.Prelude.{◌≡◌, ◌≢◌, ◌↔◌, ◌⊎◌, ℕ, false, true};
 ghost use Rattle.zone_sizes.specs.Config.{IsValidConfig};
 ghost use Rattle.script_lines.specs.Script.{IsFirstBadLine};
-ghost use Rattle.tempolemon_c.specs.Buffers.{ExceedsBuffer, Fills, FillsBuffer};
+ghost use Rattle.tempolemon_c.specs.Buffers.{ExceedsBuffer, FillsBuffer};
 ghost use Rattle.tempolemon_c.specs.Handles.{AnswerWaits, CommandWaits, FailsCommand, RecallsAnswer, Reports, ServesCommand};
-ghost use Rattle.tempolemon_c.specs.Handles.{KeepsAnswer, StartsBoot};
+ghost use Rattle.tempolemon_c.specs.Handles.{StartsBoot};
 ghost use Rattle.tempolemon_c.specs.Replays.{IsAnswered, config_of};
-ghost use Rattle.tempolemon_c.specs.Statuses.{IsAnswerStatus, IsBootStatus, IsCommandStatus};
-ghost use Rattle.tempolemon_c.specs.Statuses.{IsDeliveryStatus, IsReplayStatus, bad_config};
-ghost use Rattle.tempolemon_c.specs.Statuses.{bad_line, done, is_live, no_boot, no_memory, small_buffer};
+ghost use Rattle.tempolemon_c.specs.Statuses.{IsReplayStatus, bad_config};
+ghost use Rattle.tempolemon_c.specs.Statuses.{already_live, bad_line, done, no_boot, no_memory, small_buffer};
 ghost use Rattle.script_lines.specs.declared.fault.ScriptFault.TheVariants as fault_is;
 
 mod buffers;
 mod fault;
 mod handle;
+mod handle_calls;
 mod replaying;
 mod report;
 mod sizes;
@@ -28,7 +28,8 @@ mod status;
 
 use crate::buffers::put_answers;
 use crate::fault::ReplayFault;
-use crate::handle::{Handle, end_boot, keep_answer, serve_script, start_boot, take_answer};
+use crate::handle::Handle;
+use crate::handle_calls::{end_boot, keep_answer, serve_script, start_boot, take_answer};
 use crate::replaying::answer_script;
 use crate::report::{Report, report_of};
 use crate::sizes::Sizes;
@@ -87,11 +88,11 @@ pub extern "C" fn tempolemon_replay(
 /// Boots a zone of these sizes, which lives in the handle until `tempolemon_end`.
 #[unsafe(no_mangle)]
 pub extern "C" fn tempolemon_boot(alloc: Global, sizes: &Sizes, handle: &mut Handle) -> u8
-    ensures statuses { IsBootStatus result }
-    ensures live { (result ≡ is_live) ↔ (handle.old.is_live ≡ true) }
+    ensures statuses { result ≢ done → result ≢ bad_config → result ≢ no_memory → result ≡ already_live }
+    ensures live { (result ≡ already_live) ↔ (handle.old.is_live ≡ true) }
     ensures bad_sizes { result ≡ bad_config → ¬ IsValidConfig (config_of sizes.now) }
     ensures started { result ≡ done → StartsBoot (config_of sizes.now) handle.new }
-    ensures refused { result ≢ done → handle.new.raw.live ≡ handle.old.raw.live }
+    ensures refused { result ≢ done → handle.new ≡ handle.old }
 {
     if handle.is_live {
         return IS_LIVE;
@@ -122,15 +123,15 @@ pub extern "C" fn tempolemon_command(
     answers: &mut [u8],
     written: &mut usize,
 ) -> u8
-    ensures statuses { IsCommandStatus result }
-    ensures no_boot { (result ≡ no_boot) ↔ (handle.old.is_live ≡ false) }
+    ensures statuses { result ≢ done → result ≢ no_memory → result ≢ bad_line → result ≢ small_buffer → result ≡ no_boot }
+    ensures without_boot { (result ≡ no_boot) ↔ (handle.old.is_live ≡ false) }
     ensures answered { result ≡ done → FillsBuffer
         (ServesCommand text.now is_explained handle.old handle.new) answers.old answers.new written.new }
     ensures too_small { result ≡ small_buffer →
         CommandWaits text.now is_explained handle.old handle.new answers.old written.new }
-    ensures bad_line { result ≡ bad_line →
+    ensures is_bad { result ≡ bad_line →
         (number : ℕ) × FailsCommand text.now is_explained handle.old handle.new (fault_is.BadLine number) }
-    ensures no_memory { result ≡ no_memory → (handle.new ≡ handle.old)
+    ensures without_memory { result ≡ no_memory → (handle.new ≡ handle.old)
         ⊎ FailsCommand text.now is_explained handle.old handle.new fault_is.NoMemory }
     ensures stays { result ≡ no_boot → handle.new ≡ handle.old }
     ensures buffer_stays { result ≢ done → answers.new ≡ answers.old }
@@ -144,7 +145,15 @@ pub extern "C" fn tempolemon_command(
         return NO_MEMORY;
     };
     match serve_script(alloc, handle, text, is_explained) {
-        Ok(answer) => deliver(alloc, handle, answer, answers, written),
+        Ok(answer) => {
+            *written = answer.len();
+            if put_answers(&answer, answers) {
+                DONE
+            } else {
+                keep_answer(alloc, handle, answer);
+                SMALL_BUFFER
+            }
+        }
         Err(ScriptFault::BadLine(_)) => BAD_LINE,
         Err(ScriptFault::NoMemory) => NO_MEMORY,
     }
@@ -159,8 +168,8 @@ pub extern "C" fn tempolemon_answer(
     answers: &mut [u8],
     written: &mut usize,
 ) -> u8
-    ensures statuses { IsAnswerStatus result }
-    ensures no_boot { (result ≡ no_boot) ↔ (handle.old.is_live ≡ false) }
+    ensures statuses { result ≢ done → result ≢ small_buffer → result ≡ no_boot }
+    ensures without_boot { (result ≡ no_boot) ↔ (handle.old.is_live ≡ false) }
     ensures answered { result ≡ done → FillsBuffer
         (RecallsAnswer handle.old handle.new) answers.old answers.new written.new }
     ensures too_small { result ≡ small_buffer → AnswerWaits handle.old handle.new answers.old written.new }
@@ -173,13 +182,19 @@ pub extern "C" fn tempolemon_answer(
         return NO_BOOT;
     }
     let answer = take_answer(alloc, handle);
-    deliver(alloc, handle, answer, answers, written)
+    *written = answer.len();
+    if put_answers(&answer, answers) {
+        DONE
+    } else {
+        keep_answer(alloc, handle, answer);
+        SMALL_BUFFER
+    }
 }
 
 /// Ends the boot of the handle. Pins that CPUs still hold are put first. The handle has no boot after that.
 #[unsafe(no_mangle)]
 pub extern "C" fn tempolemon_end(alloc: Global, handle: &mut Handle, report: &mut Report) -> u8
-    ensures no_boot { (result ≡ no_boot) ↔ (handle.old.is_live ≡ false) }
+    ensures without_boot { (result ≡ no_boot) ↔ (handle.old.is_live ≡ false) }
     ensures ended { result ≢ no_boot → (result ≡ done) × Reports handle.old report.new }
     ensures none { handle.new.is_live ≡ false }
     ensures report_stays { result ≡ no_boot → report.new ≡ report.old }
@@ -190,30 +205,4 @@ pub extern "C" fn tempolemon_end(alloc: Global, handle: &mut Handle, report: &mu
     let ended = end_boot(alloc, handle);
     *report = report_of(&ended);
     DONE
-}
-
-// Writes an answer into the buffer, or keeps it in the boot of the handle if the buffer is too small.
-fn deliver(
-    alloc: Global,
-    handle: &mut Handle,
-    answer: Vec<u8>,
-    buffer: &mut [u8],
-    written: &mut usize,
-) -> u8
-    requires live { handle.old.is_live ≡ true }
-    ensures statuses { IsDeliveryStatus result }
-    ensures written { written.new ≡ length answer.items }
-    ensures filled { result ≡ done → Fills answer.items buffer.old buffer.new }
-    ensures stays { result ≡ done → handle.new ≡ handle.old }
-    ensures kept { result ≡ small_buffer → KeepsAnswer answer.items handle.old handle.new }
-    ensures exceeds { result ≡ small_buffer → length buffer.old < length answer.items }
-    ensures buffer_stays { result ≡ small_buffer → buffer.new ≡ buffer.old }
-{
-    *written = answer.len();
-    if put_answers(&answer, buffer) {
-        DONE
-    } else {
-        keep_answer(alloc, handle, answer);
-        SMALL_BUFFER
-    }
 }
