@@ -1,38 +1,36 @@
-/* Boots a zone of 16 frames, gives it commands, and prints their answers: see docs/EMBED.md, "From C". */
-#include <inttypes.h>
+/* Replays a script on a zone of 16 frames, and prints the answers: see docs/EMBED.md, "From C". */
 #include <stdio.h>
 #include <stdlib.h>
 #include <string.h>
 #include <tempolemon.h>
 
-static const char *const LINES[] = {
-    "1 mkdir /web",   "1 write /web memory.max 16384", "1 alloc /web 1",
-    "1 alloc /web 1", "1 alloc /web 0",                "1 read /web memory.current",
-};
-
-/* Serves a line and prints its answer, for which any buffer of 160 bytes is long enough. */
-static uint8_t serve(tempolemon_handle *handle, const char *line) {
-    uint8_t answer[160];
-    size_t written = 0;
-    uint8_t status = tempolemon_command(handle, false, (const uint8_t *)line, strlen(line), answer, sizeof answer, &written);
-
-    if (status == TEMPOLEMON_DONE) fwrite(answer, 1, written, stdout);
-    return status;
-}
+static const char SCRIPT[] =
+    "1 mkdir /web\n"
+    "1 write /web memory.max 16384\n"
+    "1 alloc /web 1\n"
+    "1 alloc /web 1\n"
+    "1 alloc /web 0\n"
+    "1 read /web memory.current\n";
 
 int main(void) {
     const tempolemon_sizes sizes = {.frames = 16, .cpus = 2, .batch = 4, .high = 8, .stock = 4};
-    tempolemon_handle handle = {0};
-    tempolemon_report report;
-    uint8_t status = tempolemon_boot(&sizes, &handle);
+    size_t room = 16, written = 0, bad_line = 0;
+    uint8_t *answers = malloc(room), status = TEMPOLEMON_NO_MEMORY;
 
-    for (size_t at = 0; status == TEMPOLEMON_DONE && at < sizeof LINES / sizeof *LINES; at++)
-        status = serve(&handle, LINES[at]);
-    if (tempolemon_end(&handle, &report) == TEMPOLEMON_DONE) {
-        printf("audit frames %" PRIu64 " free %" PRIu64 " charged %" PRIu64 "\n", report.frames, report.free, report.charged);
-        printf("audit puts %" PRIu64 " freezes %" PRIu64 " drops %" PRIu64 " returns %" PRIu64 "\n", report.last_puts,
-               report.freezes, report.drops, report.returns);
+    while (answers != NULL) {
+        status = tempolemon_replay(&sizes, false, true, (const uint8_t *)SCRIPT, strlen(SCRIPT),
+                                   answers, room, &written, &bad_line);
+        if (status != TEMPOLEMON_SMALL_BUFFER) break;
+        room = written;
+        free(answers);
+        answers = malloc(room);
     }
-    if (status != TEMPOLEMON_DONE) fprintf(stderr, "status %u\n", status);
+    if (status == TEMPOLEMON_DONE)
+        fwrite(answers, 1, written, stdout);
+    else if (status == TEMPOLEMON_BAD_LINE)
+        fprintf(stderr, "bad line %zu\n", bad_line);
+    else
+        fprintf(stderr, "status %u\n", status);
+    free(answers);
     return status == TEMPOLEMON_DONE ? EXIT_SUCCESS : EXIT_FAILURE;
 }

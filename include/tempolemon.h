@@ -27,8 +27,6 @@ enum {
     TEMPOLEMON_NO_MEMORY = 101,    /* malloc or realloc returned null */
     TEMPOLEMON_BAD_LINE = 102,     /* a line of the script isn't in the grammar */
     TEMPOLEMON_SMALL_BUFFER = 103, /* the buffer is shorter than the answers */
-    TEMPOLEMON_NO_BOOT = 104,      /* the handle has no boot */
-    TEMPOLEMON_IS_LIVE = 105,      /* the handle has a boot already */
 };
 
 /* The sizes of a zone. */
@@ -39,29 +37,6 @@ typedef struct {
     uint32_t high;   /* frames at which a CPU's list is cut: batch to 256 */
     uint32_t stock;  /* pages that a CPU prepays at once: 1 to 64 */
 } tempolemon_sizes;
-
-/* A boot that lives between calls, or none. Begin with `tempolemon_handle handle = {0};`, which is none. Don't change or
- * copy it: only the calls do. A call on a handle ends before the next one on it begins. */
-typedef struct {
-    uint8_t *ptr;
-} tempolemon_raw;
-
-typedef struct {
-    tempolemon_raw raw;
-    bool is_live;
-} tempolemon_handle;
-
-/* What was counted when a boot ended. A count of units stays at 2^64 - 1. */
-typedef struct {
-    uint64_t held;      /* pins that CPUs still held, and that were put */
-    uint64_t frames;    /* frames of the zone */
-    uint64_t free;      /* frames that are free */
-    uint64_t charged;   /* frames that are charged to a group */
-    uint64_t last_puts; /* units whose last reference was put */
-    uint64_t freezes;   /* units that a freeze took out of use */
-    uint64_t drops;     /* fresh frames that were dropped */
-    uint64_t returns;   /* units that were freed */
-} tempolemon_report;
 
 /* Boots a zone, replays a script on it, and ends the boot. The answers are those of `memcg replay`, byte for byte.
  *
@@ -82,51 +57,6 @@ typedef struct {
 uint8_t tempolemon_replay(const tempolemon_sizes *sizes, bool is_explained, bool is_audited,
                           const uint8_t *script, size_t length, uint8_t *answers, size_t room,
                           size_t *written, size_t *first_bad);
-
-/* Boots a zone, which lives in the handle until tempolemon_end.
- *
- *   DONE        the handle has the boot
- *   BAD_CONFIG  a size is out of its range
- *   NO_MEMORY   memory ran out
- *   IS_LIVE     the handle has a boot already
- *
- * Unless the status is DONE the handle is as before, and nothing of a boot stays.
- */
-uint8_t tempolemon_boot(const tempolemon_sizes *sizes, tempolemon_handle *handle);
-
-/* Serves the lines of a script, mostly one, on the boot of the handle. The answers are those of `memcg replay` at this
- * point of the script. Each line is as in docs/MANUAL.md; a line feed at the end of the last may lack. is_explained asks
- * for why groups were killed. The text in the buffer doesn't end with a null byte.
- *
- *   DONE          the answers are the first *written bytes of the buffer; the rest of it is unchanged
- *   SMALL_BUFFER  the lines were served, and their answers have *written bytes, which is more than `room`: they wait in
- *                 the handle, until tempolemon_answer gets them or those of a later command wait in their place
- *   BAD_LINE      a line isn't in the grammar; no line was served
- *   NO_MEMORY     memory ran out: no line was served, or the lines up to one were, and their answers are lost
- *   NO_BOOT       the handle has no boot
- *
- * Unless the status is DONE the buffer is unchanged. *written is 0 unless the status is DONE or SMALL_BUFFER.
- */
-uint8_t tempolemon_command(tempolemon_handle *handle, bool is_explained, const uint8_t *text, size_t length,
-                           uint8_t *answers, size_t room, size_t *written);
-
-/* Writes the answers that wait in the handle into the buffer; if none wait, they are empty.
- *
- *   DONE          the answers are the first *written bytes of the buffer, and none wait
- *   SMALL_BUFFER  the answers have *written bytes, which is more than `room`; they still wait
- *   NO_BOOT       the handle has no boot
- *
- * Unless the status is DONE the buffer is unchanged. *written is 0 if the status is NO_BOOT.
- */
-uint8_t tempolemon_answer(tempolemon_handle *handle, uint8_t *answers, size_t room, size_t *written);
-
-/* Ends the boot of the handle, which has none after that, and frees all its memory. Pins that CPUs still hold are put
- * first.
- *
- *   DONE     *report is what was counted
- *   NO_BOOT  the handle has no boot; *report is unchanged
- */
-uint8_t tempolemon_end(tempolemon_handle *handle, tempolemon_report *report);
 
 #ifdef __cplusplus
 }

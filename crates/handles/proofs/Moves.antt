@@ -50,7 +50,6 @@ abbrev pub with_parts : Shape → Shape
 with_parts S = record { name = S.name; args = S.args; types = S.types; fields = parts }
 
 module _ (S : Shape) {M : Type 1} {𝓤 : Ura M} {𝓛 : Logic 𝓤} {K : Type 0} {Γ : List (Item 𝓤)} {G : Goal 𝓤 𝓛.H} where
-
   pub parts_out : K → (p : Ptr) (a : Heap.the_row.Denot) (vs : List Val) (F : Fml)
       → ((hv : Val) → vs ≡ word p hv ∷ [] → Fits al hv → Seq K 𝓛 (‵ F ∷ ‵ (Heap.the_row.own_val a (hv ∷ [])) ∷ Γ) G)
       → Seq K 𝓛 (‵ (fsep ((Struct (with_parts S)).own_val (p, (a, tt)) vs) F) ∷ Γ) G
@@ -71,7 +70,6 @@ abbrev pub alone : (R : RattleType) → Laws R → Al
 alone R L = record { row = R; laws = L; g = record { dealloc_token = λ a σ p. ftrue }; d = impl [] tnil dnil; drops = impl [] tnil dnil }
 
 module _ (R : RattleType) (L : Laws R) {M : Type 1} {𝓤 : Ura M} {𝓛 : Logic 𝓤} {K : Type 0} {Γ : List (Item 𝓤)} {G : Goal 𝓤 𝓛.H} where
-
   pub row_tells : K → (x : R.Denot) (vs : List Val) → ((v : Val) → vs ≡ v ∷ [] → Fits (alone R L) v → Seq K 𝓛 (‵ (R.own_val x (v ∷ [])) ∷ Γ) G)
       → Seq K 𝓛 (‵ (R.own_val x vs) ∷ Γ) G
   row_tells = handle_tells (alone R L)

@@ -1,5 +1,5 @@
-//! A boot that lives between the calls of a host in C: an owner of its parts, which needs no name, and the requests that
-//! it serves.
+//! A boot that lives between the calls of a host in C: an owner of its parts, which needs no name, and the requests
+//! that it serves.
 //!
 //! A boot's parts carry the name of its tables (`BootName`), and a struct that crosses to C can't have such a name. So
 //! `Raw` is a pointer to the parts in a box, and remembers which tables they are of. Only `serve_raw` reaches through

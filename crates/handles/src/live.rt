@@ -38,9 +38,9 @@ impl<N: BootName> Model for Live<N> {
     ghost Value = { KnownLive };
 
     ghost view = { λ l. record {
-        sizes = l.sizes;
-        state = system_state l.locked l.cpus.items;
-        kept = l.kept.items;
+      sizes = l.sizes;
+      state = system_state l.locked l.cpus.items;
+      kept = l.kept.items;
     } };
 
     ghost invariant = { λ l. (length l.cpus.items ≡ N.frames.cpus) × IsSizedAs l.sizes N.frames N.stocks };
@@ -67,8 +67,8 @@ impl<N: BootName> Live<N> {
         })
     }
 
-    /// Serves the lines of a script, in order, and returns what `replay` answers to them. A fault of the script is found
-    /// before the first line is served.
+    /// Serves the lines of a script, in order, and returns what `replay` answers to them. A fault of the script is
+    /// found before the first line is served.
     pub fn command(
         &mut self,
         alloc: Global,

@@ -50,7 +50,12 @@ fn start<N: BootName>(hold: Hold<N>, alloc: Global, boot: Boot, sizes: Config) -
 }
 
 // Serves the lines of a script.
-fn command<N: BootName>(hold: Hold<N>, alloc: Global, text: Vec<u8>, is_explained: bool) -> (Hold<N>, Answer)
+fn command<N: BootName>(
+    hold: Hold<N>,
+    alloc: Global,
+    text: Vec<u8>,
+    is_explained: bool,
+) -> (Hold<N>, Answer)
     requires some { IsSome hold.live }
     ensures serves { Serves N.frames N.stocks hold.live (Command alloc text is_explained) result.0.live result.1 }
 {

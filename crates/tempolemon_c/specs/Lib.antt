@@ -1,4 +1,3 @@
 pub mod Buffers
-pub mod Handles
 pub mod Replays
 pub mod Statuses

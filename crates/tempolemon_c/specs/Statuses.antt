@@ -21,14 +21,6 @@ bad_line = 102
 abbrev pub small_buffer : ℕ
 small_buffer = 103
 
--- the handle has no boot
-abbrev pub no_boot : ℕ
-no_boot = 104
-
--- the handle has a boot already
-abbrev pub already_live : ℕ
-already_live = 105
-
 -- the statuses with which a replay ends
 abbrev pub IsReplayStatus : ℕ → Type 0
 IsReplayStatus status = Contains (done ∷ bad_config ∷ no_memory ∷ bad_line ∷ small_buffer ∷ []) status

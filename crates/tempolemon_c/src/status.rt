@@ -15,9 +15,3 @@ pub const BAD_LINE: u8 = 102;
 
 /// The buffer is shorter than the answers.
 pub const SMALL_BUFFER: u8 = 103;
-
-/// The handle has no boot.
-pub const NO_BOOT: u8 = 104;
-
-/// The handle has a boot already.
-pub const IS_LIVE: u8 = 105;

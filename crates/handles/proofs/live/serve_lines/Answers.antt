@@ -9,5 +9,7 @@ pub replay-requires : goal.replay-requires
 replay-requires g c =
     let sized = c.requires.sized in
     let there = script_there c.args.sizes.now c.args.text.now c.in-Ok.lines.items c.in-Ok.ensures.ok in
-    record { there = subst (λ (b : ℕ × ℕ). All (LineIsThere b.0 b.1) c.deref.result.now) (λ i. (sym sized.frames i, (sym sized.cpus ∙ sym c.requires.count) i))
-    (subst (λ (lines : List Line). All (LineIsThere c.args.sizes.now.frames c.args.sizes.now.cpus) lines) (sym c.deref.ensures.value) there) }
+    record {
+      there = subst (λ (b : ℕ × ℕ). All (LineIsThere b.0 b.1) c.deref.result.now) (λ i. (sym sized.frames i, (sym sized.cpus ∙ sym c.requires.count) i))
+          (subst (λ (lines : List Line). All (LineIsThere c.args.sizes.now.frames c.args.sizes.now.cpus) lines) (sym c.deref.ensures.value) there);
+    }

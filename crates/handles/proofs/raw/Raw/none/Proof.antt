@@ -62,18 +62,18 @@ module _ {M : Type 1} {𝓤 : Ura M} (𝓛 : Logic 𝓤) (at_mem : Memory → SP
 
   walk : (z : (walk_of 𝓛 F.ended stayed held).Ghost) → ent 𝓤 ((walk_of 𝓛 F.ended stayed held).pre z) (WpFn 𝓤 H 𝓣.C 𝓣.Λ code.function (z.0.4.0 ++ []) ((walk_of 𝓛 F.ended stayed held).post z))
   walk z =
-        let Post = (walk_of 𝓛 F.ended stayed held).post z in
-        let x : Heap.the_row.Denot = z.0.3.0 in
-        qed 𝓛 ((‵ ftrue ⊛ ‵ (fsep (Heap.the_row.own_val x z.0.4.0) ftrue)) ∷ raw (emp 𝓤) ∷ []) ∵ split ! $ drop ! $ move ! (1 ∷ []) $ drop ! $ fsplit ! $
-        handle_tells al ! x z.0.4.0 (λ hv ws fa. move ! (1 ∷ []) $ drop ! $
-        let Γ : List (Item 𝓤) = ‵ (Heap.the_row.own_val x (hv ∷ [])) ∷ [] in
-        by ! (subst (λ (us : List Val). ent 𝓤 (types.Kit.⋆ 𝓛 Γ) (WpFn 𝓤 H 𝓣.C 𝓣.Λ code.function (us ++ []) Post)) (sym ws)
-        (qed 𝓛 Γ ∵ enter ! 𝓣.C 𝓣.Λ code.function (hv ∷ []) _ $ alloc_all ! (λ ls. pass_all ! refl (fa, tt) $
-        sets ! (agg ! (and_then ! (lit ! tt) (and_then ! (get ! refl) (no_more !)))) refl (word_typed null_ptr hv fa) $
-        returns ! (look_at ! 0 refl) $ free_all ! refl $
-        nothing ! $ parts_in (shape Raw.the_type) ! hv null_ptr x ftrue $
-        suffices ! _ (ends_at 𝓛 F.ended stayed held z (word null_ptr hv) (record { ptr = null_ptr; alloc = x; frames = (record { table = no_table; frames = 0; cpus = 0 }); stocks = (record { table = no_table; cpus = 0 }); live = None }) (rest (Heap.the_row.exit yes) x, tt) (tt, tt)) $ says ! refl $
-        nothing ! $ nothing ! $ fjoin ! $ join ! $ nothing ! $ join ! $ done !))))
+      let Post = (walk_of 𝓛 F.ended stayed held).post z in
+      let x : Heap.the_row.Denot = z.0.3.0 in
+      qed 𝓛 ((‵ ftrue ⊛ ‵ (fsep (Heap.the_row.own_val x z.0.4.0) ftrue)) ∷ raw (emp 𝓤) ∷ []) ∵ split ! $ drop ! $ move ! (1 ∷ []) $ drop ! $ fsplit ! $
+      handle_tells al ! x z.0.4.0 (λ hv ws fa. move ! (1 ∷ []) $ drop ! $
+      let Γ : List (Item 𝓤) = ‵ (Heap.the_row.own_val x (hv ∷ [])) ∷ [] in
+      by ! (subst (λ (us : List Val). ent 𝓤 (types.Kit.⋆ 𝓛 Γ) (WpFn 𝓤 H 𝓣.C 𝓣.Λ code.function (us ++ []) Post)) (sym ws)
+      (qed 𝓛 Γ ∵ enter ! 𝓣.C 𝓣.Λ code.function (hv ∷ []) _ $ alloc_all ! (λ ls. pass_all ! refl (fa, tt) $
+      sets ! (agg ! (and_then ! (lit ! tt) (and_then ! (get ! refl) (no_more !)))) refl (word_typed null_ptr hv fa) $
+      returns ! (look_at ! 0 refl) $ free_all ! refl $
+      nothing ! $ parts_in (shape Raw.the_type) ! hv null_ptr x ftrue $
+      suffices ! _ (ends_at 𝓛 F.ended stayed held z (word null_ptr hv) (record { ptr = null_ptr; alloc = x; frames = (record { table = no_table; frames = 0; cpus = 0 }); stocks = (record { table = no_table; cpus = 0 }); live = None }) (rest (Heap.the_row.exit yes) x, tt) (tt, tt)) $ says ! refl $
+      nothing ! $ nothing ! $ fjoin ! $ join ! $ nothing ! $ join ! $ done !))))
 
 pub none_spec : {M : Type 1} → stated.statement M
 unfolding tables_of
