@@ -77,7 +77,7 @@ impl<N: BootName> Visited<N> {
 }
 
 // Drops the value. A function that drops many parts itself takes long to check.
-fn drop_zone_reference<T: Drop>(_value: T) {}
+fn let_go<T: Drop>(_value: T) {}
 
 // Drops the machine and its tables, and takes the idle CPU part apart.
 fn take_apart<N: BootName>(visited: Visited<N>)
@@ -91,8 +91,8 @@ fn take_apart<N: BootName>(visited: Visited<N>)
         order: _,
         heads: _,
     } = visited;
-    drop_zone_reference(tables);
-    drop_zone_reference(machine);
+    let_go(tables);
+    let_go(machine);
     let _ = cpu.into_seats();
 }
 
@@ -146,15 +146,15 @@ fn start<N: BootName>(alloc: Global, parts: Parts) -> Result<Visited<N>, AllocEr
     let machine = match Machine::<N>::new(alloc, &tables, zone, machine) {
         Ok(machine) => machine,
         Err(error) => {
-            drop_zone_reference(tables);
+            let_go(tables);
             return Err(error);
         }
     };
     match Cpu::<N>::new(alloc, seat, payer) {
         Ok(cpu) => Ok(Visited::new(alloc, tables, machine, cpu)),
         Err(error) => {
-            drop_zone_reference(machine);
-            drop_zone_reference(tables);
+            let_go(machine);
+            let_go(tables);
             Err(error)
         }
     }

@@ -1,6 +1,8 @@
 //! Characters by their codes.
 
 ghost use Rattle.std.specs.Prelude.{◌≡◌, ◌++◌, IfOk};
+ghost use Rattle.std.specs.Char.{is_ascii};
+ghost use Rattle.std.specs.List.{list_all};
 ghost use Rattle.std.specs.String.{string_bytes};
 ghost use Rattle.machine_texts.specs.Characters.{characters};
 
@@ -8,6 +10,23 @@ use std::alloc::AllocError;
 
 /// Adds the characters that have these codes to a text. It fails only if memory runs out.
 pub fn push_characters(text: &mut String, codes: &[u8]) -> Result<(), AllocError>
+    ensures { IfOk result (λ _. string_bytes text.new ≡ string_bytes text.old ++ characters codes.now) }
+{
+    match str::from_utf8(codes) {
+        Ok(told) if are_ascii(codes) => text.push_str(told),
+        _ => push_each(text, codes),
+    }
+}
+
+// Whether each code is below 128. Such a text is its own bytes, and is added whole.
+fn are_ascii(codes: &[u8]) -> bool
+    ensures { result ≡ list_all is_ascii codes.now }
+{
+    codes.iter().all(|code| code.is_ascii())
+}
+
+// Adds one character after the other.
+fn push_each(text: &mut String, codes: &[u8]) -> Result<(), AllocError>
     ensures { IfOk result (λ _. string_bytes text.new ≡ string_bytes text.old ++ characters codes.now) }
 {
     for code in codes {

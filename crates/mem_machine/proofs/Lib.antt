@@ -46,3 +46,4 @@ pub mod Back
 pub mod Settled
 pub mod Keepers
 pub mod Fronts
+pub mod Depths

@@ -87,18 +87,23 @@ impl<N: BootName> Machine<N> {
         let Some(head) = tables.frames.frame(block.at) else {
             unreachable!()
         };
-        let frame = head.number();
+        let at = head.number();
         place_unit(&mut self.frame_states, block, group);
         self.watch.zone_made(
             Action::PlaceBlock { group, order },
-            Answer::Placed(Block { at: frame, order }),
+            Answer::Placed(Block { at, order }),
         );
         tables.frames.unfreeze(&mut self.frame_seat, head, 1);
+        self.watch.zone_made(
+            Action::Unfreeze {
+                frame: at,
+                count: 1,
+            },
+            Answer::Done,
+        );
+        join_list(&mut self.links, &mut self.lists, group, at);
         self.watch
-            .zone_made(Action::Unfreeze { frame, count: 1 }, Answer::Done);
-        join_list(&mut self.links, &mut self.lists, group, frame);
-        self.watch
-            .zone_made(Action::Publish { frame }, Answer::Done);
+            .zone_made(Action::Publish { frame: at }, Answer::Done);
         Ok(head)
     }
 }

@@ -24,28 +24,39 @@ impl<N: BootName> Machine<N> {
         ensures visit { StaysVisited N.frames self.old self.new }
         ensures steps { MakesForAny N.frames self.old (evict_steps head result) self.new }
     {
-        let frame = head.number();
+        let at = head.number();
         if !tables.frames.freeze(&mut self.frame_seat, head, 1) {
-            self.watch
-                .zone_made(Action::Freeze { frame, count: 1 }, Answer::Missed);
+            self.watch.zone_made(
+                Action::Freeze {
+                    frame: at,
+                    count: 1,
+                },
+                Answer::Missed,
+            );
             self.counts = self.counts.with_miss();
             return None;
         }
-        self.watch
-            .zone_made(Action::Freeze { frame, count: 1 }, Answer::Done);
-        let FrameState::Head(unit) = self.frame_states[frame as usize] else {
+        self.watch.zone_made(
+            Action::Freeze {
+                frame: at,
+                count: 1,
+            },
+            Answer::Done,
+        );
+        let FrameState::Head(unit) = self.frame_states[at as usize] else {
             unreachable!()
         };
         let order = unit.order;
-        leave_list(&mut self.links, &mut self.lists, frame);
+        leave_list(&mut self.links, &mut self.lists, at);
         free_unit(
             &mut self.zone,
             &mut self.frame_states,
             &mut self.charges,
-            frame,
+            at,
             unit,
         );
-        self.watch.zone_made(Action::Return { frame }, Answer::Done);
+        self.watch
+            .zone_made(Action::Return { frame: at }, Answer::Done);
         self.counts = self.counts.with_freeze();
         Some(order.frames())
     }

@@ -15,8 +15,27 @@ use crate::machine::Machine;
 use cpu_part::{BootName, Cpu, Tables};
 use group_charge::charges::Over;
 use group_tree::group::GroupId;
+use group_tree::tree::Tree;
 use kill_notes::note::Note;
 use step_rules::step::{Action, Answer};
+
+// Whether `other` is `group` or a descendant of it. Another group that is no deeper is neither, and most stocks are of
+// such a group: the depths spare the walk up from it.
+#[tactic(auto, using(crate::proofs::Depths::below_itself, crate::proofs::Depths::not_below))]
+fn is_at_or_below(tree: &Tree, group: GroupId, other: GroupId) -> bool
+    requires group { IsTrue (has_group tree.now group) }
+    requires other { IsTrue (has_group tree.now other) }
+    ensures { result ≡ in_subtree tree.now group other }
+{
+    let _groups = tree.groups(); // Called for its contract.
+    if other.number() == group.number() {
+        return true;
+    }
+    if tree.depth(other) <= tree.depth(group) {
+        return false;
+    }
+    tree.in_subtree(group, other)
+}
 
 impl<N: BootName> Machine<N> {
     // Drains the stock of the CPU, which a look found to be of this group, and returns how many pages were in it.
@@ -82,7 +101,7 @@ impl<N: BootName> Machine<N> {
         ensures { result ≡ in_subtree self.now.ledger.groups group other }
     {
         let tree = self.charges.tree();
-        tree.contains(other) && tree.in_subtree(group, other)
+        tree.contains(other) && is_at_or_below(tree, group, other)
     }
 
     // Drains and notes the CPU's stock if it is of a group in this group's subtree, and returns how many pages were in
@@ -143,8 +162,8 @@ impl<N: BootName> Machine<N> {
 
     /// Charges `pages` pages (1 to 65,535) to a group that isn't killed, and fills the visited CPU's stock with them.
     /// That stock is drained, or was never filled. If a limit has no room, the error names the lowest such group, and
-    /// nothing changed except what the watch saw. The CPU has no fresh frame. At most 2^32 - 1 pages can be charged in
-    /// all; `see_room` shows that there is room.
+    /// nothing changed except what the watch saw. The CPU has no fresh frame. At most 2^32 - 1 pages can be charged in all; `see_room` shows that
+    /// there is room.
     pub fn fill_stock(
         &mut self,
         tables: &Tables<N>,

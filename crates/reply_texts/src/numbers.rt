@@ -22,5 +22,5 @@ pub(crate) fn write_number(word: &str, number: u64, text: &mut String) -> Result
 {
     text.push_str(word)?;
     push_number(number, text)?;
-    text.push_str("\n")
+    text.push('\n') // One character costs a third of a text of one.
 }

@@ -1,16 +1,16 @@
 -- What follows from the steps that a watch took (for `Watch`, the laws, and the crates whose steps are watched).
-use Rattle.std.proofs.Common.{◌≡◌, ◌+◌, ◌++◌, Bool, true, false, Some, [], ◌∷◌, length-append, refl, sym, ◌∙◌, subst, arith}
+use Rattle.std.proofs.Common.{◌≡◌, ℕ, ◌+◌, ◌++◌, Bool, true, false, Some, None, [], ◌∷◌, length, length-append, refl, sym, ◌∙◌, ap, subst, arith}
 use Rattle.std.proofs.lemmas.Bool.{false≢true}
 use Rattle.std.proofs.lemmas.List.{append_assoc, append-nil}
 use Rattle.step_rules.specs.declared.step.Step.{Step}
 use Rattle.step_rules.specs.declared.step.Answer.{Answer}
-use Rattle.step_rules.specs.State.{Zone, State}
+use Rattle.step_rules.specs.State.{Zone, State, at_boot}
 use Rattle.step_rules.specs.After.{Run, after, state_of, IsLegalRun}
 use Rattle.step_rules.proofs.Runs.{one_more, state_more, legal_more}
 use Rattle.mem_core.specs.Shown.{CoreState, state_in}
 use Rattle.mem_core.specs.Checked.{Leads}
 use Rattle.mem_core.proofs.Keeping.{always_keeps}
-use Rattle.step_watch.specs.Watched.{KnownWatch, state_seen, AreAllowedFrom, Watches, IsNewWatch, SawRun}
+use Rattle.step_watch.specs.Watched.{KnownWatch, state_seen, steps_seen, AreAllowedFrom, Saw, Watches, IsNewWatch, SawRun}
 
 -- a watch whose flag is off says nothing
 pub watches_illegal : (before : KnownWatch) (steps : Run) (later : KnownWatch) → later.is_legal ≡ false → Watches before steps later

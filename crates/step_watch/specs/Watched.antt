@@ -1,6 +1,6 @@
 -- What a watch says of the steps that it took.
-use Rattle.std.specs.Prelude.{◌≡◌, ℕ, ◌+◌, ◌++◌, ◌&&◌, not, Bool, true, false}
-use Rattle.std.specs.Prelude.{Option, Some, None, is_some, [], ◌∷◌, length}
+use Rattle.std.specs.Prelude.{◌≡◌, ℕ, ◌+◌, ◌++◌, ◌&&◌, not, Bool, true, false, Option, Some, None, is_some, [], ◌∷◌, length}
+use Rattle.zone_sizes.specs.declared.config.Config.{Config}
 use Rattle.step_rules.specs.State.{Zone, State, at_boot}
 use Rattle.step_rules.specs.Legal.{Allows}
 use Rattle.step_rules.specs.After.{Run, after, state_of, IsLegalRun}

@@ -75,7 +75,7 @@ invariant_of-self-2 g c =
       alive = c.requires.charges.alive;
     }) (c.in_default.ensures.granted.0 refl) _ c.in_default.ensures.charged c.in_default.ensures.pages _ _ c.in-Some.block _ c.self.invariant.free
     c.in-Some.ensures.taken c.in-Some.ensures.frames c.in-Some.ensures.areas _ c.place_unit.ensures c.in-Some-frame.head _ c.in-Some-frame.ensures.0
-    c.number-frame.ensures c.unfreeze.ensures.no_reference _ c.unfreeze.ensures.seat _ _
+    c.number-at.ensures c.unfreeze.ensures.no_reference _ c.unfreeze.ensures.seat _ _
     (record { joins = j.joins; stand = j.lists.stand; frames = j.frames; groups = j.lists.groups }) in
     record { consistent = consistent_still _ _ _ _ all.consistent; free = all.free_is }
 
@@ -94,12 +94,12 @@ returns g c =
       alive = c.requires.charges.alive;
     }) (c.in_default.ensures.granted.0 refl) _ c.in_default.ensures.charged c.in_default.ensures.pages _ _ c.in-Some.block _ c.self.invariant.free
     c.in-Some.ensures.taken c.in-Some.ensures.frames c.in-Some.ensures.areas _ c.place_unit.ensures c.in-Some-frame.head _ c.in-Some-frame.ensures.0
-    c.number-frame.ensures c.unfreeze.ensures.no_reference _ c.unfreeze.ensures.seat _ _
+    c.number-at.ensures c.unfreeze.ensures.no_reference _ c.unfreeze.ensures.seat _ _
     (record { joins = j.joins; stand = j.lists.stand; frames = j.frames; groups = j.lists.groups }) in
     let took = subst (λ (x : ℕ × ℕ). Watches c.self.inside.watch
     (zone_makes (Grant c.args.group x.0) Granted ∷ zone_makes (PlaceBlock c.args.group c.args.order) (Placed (record { at = x.1; order = c.args.order }))
     ∷ zone_makes (Unfreeze x.1 1) Done ∷ zone_makes (Publish x.1) Done ∷ []) c.zone_made-5.new.self)
-    (λ i. (c.frames-pages.ensures.frames i, c.number-frame.ensures i))
+    (λ i. (c.frames-pages.ensures.frames i, c.number-at.ensures i))
     (watches_both _ _ _ _ _ c.zone_made-2.ensures (watches_both _ _ _ _ _ c.zone_made-3.ensures
     (watches_both _ _ _ _ _ c.zone_made-4.ensures c.zone_made-5.ensures))) in
     record {
