@@ -11,7 +11,7 @@ use zone_sizes::config::Config;
 
 // Good words, separated by single spaces, and what they ask for: the task; frames, CPUs, `batch`, `high` and `stock`;
 // and whether the end is audited.
-const GOOD_WORDS: [(&str, Task, [u32; 5], bool); 12] = [
+const GOOD_WORDS: [(&str, Task, [u32; 5], bool); 13] = [
     ("replay", PLAIN_REPLAY, [16, 2, 4, 8, 4], false),
     ("replay --frames=9", PLAIN_REPLAY, [9, 2, 4, 8, 4], false),
     ("replay --cpus=9", PLAIN_REPLAY, [16, 9, 4, 8, 4], false),
@@ -83,7 +83,7 @@ fn asks_for_what_the_words_say(rt: HostRuntime) {
 }
 
 // Bad words, and how the text that the program writes for them begins.
-const BAD_WORDS: [(&str, &str); 25] = [
+const BAD_WORDS: [(&str, &str); 26] = [
     (
         "replay --frames 0",
         "error: invalid value '0' for '--frames <N>': 0 is not in 1..=1048576\n",
