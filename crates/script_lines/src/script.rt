@@ -21,7 +21,7 @@ use zone_sizes::config::Config;
 /// The most bytes that a script has.
 pub const MOST_INPUT: usize = 1_048_576;
 
-//// The most bytes that a line has, its line feed not counted.
+/// The most bytes that a line has, its line feed not counted.
 pub const MOST_LINE: usize = 1_024;
 
 /// The lines of a script in their order, without the empty ones and those that begin with `#`, each with its number.

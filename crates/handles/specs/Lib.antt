@@ -1,0 +1,4 @@
+pub mod Commands
+pub mod Known
+pub mod Owned
+pub mod Serving

@@ -1,0 +1,14 @@
+//! A boot that lives between the calls of a host in C: an owner of its parts, which needs no name, and the requests
+//! that it serves.
+//!
+//! A boot's parts carry the name of its tables (`BootName`), and a struct that crosses to C can't have such a name. So
+//! `Raw` is a pointer to the parts in a box, and remembers which tables they are of. Only `serve_raw` reaches through
+//! it: it picks a name for those tables and calls `serve`, which is plain code over the box.
+#![tactic(auto)]
+
+pub mod hold;
+pub mod live;
+pub mod loose;
+pub mod raw;
+pub mod requests;
+pub mod serving;

@@ -1,0 +1,67 @@
+//! A pointer to the parts of a boot, or to nothing, without a name.
+
+ghost use Rattle.std.specs.Prelude.{◌≡◌, None, Option};
+ghost use Rattle.frame_word.specs.Seats.{KnownTable};
+ghost use Rattle.stock_word.specs.Stock.{Words};
+ghost use Rattle.handles.specs.Known.{KnownLive};
+ghost use Rattle.handles.specs.Owned.{frames_coded, known_coded, live_owns, marker, stocks_coded};
+ghost use Rattle.handles.specs.Serving.{IsFit, ServesRaw};
+
+use crate::hold::Hold;
+use crate::live::Live;
+use crate::requests::{Answer, Request};
+use crate::serving::serve;
+use std::alloc::Global;
+use std::marker::{Brand, Model};
+
+/// A pointer to the parts of a boot, or to nothing, and the tables that the parts are of. If it is dropped, what it
+/// points to stays in memory.
+#[repr(C)]
+#[derive(Drop)]
+pub struct Raw {
+    ptr: *mut u8,
+    alloc: Global,
+    pub ghost frames: { KnownTable } by { frames_coded },
+    pub ghost stocks: { Words } by { stocks_coded },
+    pub ghost live: { Option KnownLive } by { known_coded },
+}
+
+impl Model for Raw {
+    ghost also_owns = { λ r. live_owns marker r.frames r.stocks r.alloc r.ptr r.live };
+}
+
+impl Raw {
+    /// A pointer to nothing.
+    pub fn none(alloc: Global) -> Raw
+        ensures { result.live ≡ None }
+    {
+        Raw {
+            ptr: std::ptr::null_mut(),
+            alloc,
+        }
+    }
+}
+
+/// Serves a request, as `serve` does, under a name that it picks for the tables.
+pub fn serve_raw(raw: Raw, request: Request) -> (Raw, Answer)
+    requires fit { IsFit raw.live request }
+    ensures serves { ServesRaw raw.frames raw.stocks raw.live request
+        result.0.frames result.0.stocks result.0.live result.1 }
+{
+    let Raw { ptr, alloc } = raw;
+    let (hold, answer) = serve::<Brand>(
+        Hold {
+            ptr: ptr as *mut Live<Brand>,
+            alloc,
+        },
+        request,
+    );
+    let Hold { ptr, alloc } = hold;
+    (
+        Raw {
+            ptr: ptr as *mut u8,
+            alloc,
+        },
+        answer,
+    )
+}

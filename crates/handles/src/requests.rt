@@ -1,0 +1,50 @@
+//! What a live boot can be asked, and what it answers. Neither has a reference in it, so both cross by value.
+
+use load_run::boot_end::Ended;
+use mem_system::Boot;
+use std::alloc::Global;
+use zone_sizes::config::Config;
+
+/// What a live boot is asked.
+#[derive(Drop)]
+pub enum Request {
+    /// Start this boot, which has these sizes.
+    Start {
+        alloc: Global,
+        boot: Boot,
+        sizes: Config,
+    },
+    /// Serve the lines of a script.
+    Command {
+        alloc: Global,
+        text: Vec<u8>,
+        is_explained: bool,
+    },
+    /// Keep an answer that a buffer has no room for.
+    Keep {
+        text: Vec<u8>,
+    },
+    /// Return the answer that is kept, and keep none.
+    Recall {
+        alloc: Global,
+    },
+    /// End the boot.
+    End {
+        alloc: Global,
+    },
+}
+
+/// What a live boot answers.
+#[derive(Drop)]
+pub enum Answer {
+    /// The boot has started, or the answer is kept.
+    Done,
+    /// The answers of a script's lines, or the answer that was kept.
+    Text(Vec<u8>),
+    /// The number, from 1, of the first line that isn't in the grammar.
+    BadLine(usize),
+    /// Memory ran out.
+    NoMemory,
+    /// The boot has ended.
+    Ended(Ended),
+}
