@@ -2,9 +2,9 @@ pub mod Answering
 pub mod Causing
 pub mod Driving
 pub mod Joining
-pub mod Linting
 mod Pieces
 pub mod Putting
+pub mod Reporting
 pub mod Starting
 pub mod Verdicts
 pub mod Written

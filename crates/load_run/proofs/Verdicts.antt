@@ -23,7 +23,7 @@ use Rattle.load_run.specs.Fault.{IsWordsFault, fault_text, status_of}
 use Rattle.load_run.specs.Writing.{AppendsBeginning}
 use Rattle.load_run.proofs.Causing.{words_cause}
 use Rattle.load_run.proofs.Driving.{drives_badly}
-use Rattle.load_run.proofs.Linting.{lints_early}
+use Rattle.load_run.proofs.Reporting.{lints_early}
 
 -- both are known of the input
 pub end_of : (input : Option (List ℕ)) (end : LogEnd) → IfSome input (λ text. IsEnd text end)

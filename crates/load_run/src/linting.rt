@@ -60,7 +60,6 @@ fn status_of(is_clean: bool) -> u8
 }
 
 // What the lint says of the script that the input holds.
-#[tactic(auto, using(crate::proofs::Linting::read_early))]
 fn report_of<I: Read>(
     alloc: Global,
     sizes: &Config,
@@ -79,7 +78,6 @@ fn report_of<I: Read>(
 }
 
 // What the lint says of the script.
-#[tactic(auto, using(crate::proofs::Linting::has_zone, crate::proofs::Linting::all_inside))]
 fn report_on(alloc: Global, sizes: &Config, script: &[u8]) -> Result<Report, AllocError>
     requires in_range { HasSizesInRange sizes.now }
     ensures report { IfOk result (λ report. IsReport sizes.now script.now (string_bytes report.text) report.is_clean) }

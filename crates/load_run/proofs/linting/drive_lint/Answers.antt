@@ -1,19 +1,18 @@
 -- Serves the contract of `drive_lint`: what is found is written, or a beginning of it; or a fault came before, and is told.
-use Rattle.std.proofs.Common.{◌∙◌}
 use Rattle.std.specs.String.{string_bytes}
-use Rattle.load_run.proofs.Linting.{lints_early, lints_short, lints_written}
+use Rattle.load_run.proofs.Reporting.{lints_early, lints_short, lints_written}
 use Rattle.load_run.proofs.linting.drive_lint.Goals as goal
 
 pub returns-in-Ok-write_answers : goal.returns-in-Ok-write_answers
 returns-in-Ok-write_answers g c = record {
   lints = lints_written _ _ _ _ _ (string_bytes c.in-Ok.report.text) _ c.in-Ok.report.is_clean _ c.in-Ok.ensures.report
-      (c.as_bytes.ensures.value ∙ c.deref.ensures.value) c.in-Ok-write_answers.ensures.written c.status_of.ensures;
+      c.as_bytes.ensures.value c.in-Ok-write_answers.ensures.written c.status_of.ensures;
 }
 
 pub returns-in-Ok : goal.returns-in-Ok
 returns-in-Ok g c = record {
   lints = lints_short _ _ _ _ _ _ (string_bytes c.in-Ok.report.text) _ c.in-Ok.report.is_clean _ _ c.in-Ok.ensures.report
-      (c.as_bytes.ensures.value ∙ c.deref.ensures.value) c.write_answers.ensures.beginning
+      c.as_bytes.ensures.value c.write_answers.ensures.beginning
       c.in-Err-write_answers.ensures.fault c.tell_fault.ensures.status c.tell_fault.ensures.told;
 }
 

@@ -1,63 +1,16 @@
 -- What a lint promises, from what it says and what the writers took. Serves `drive_lint`.
-use Rattle.std.proofs.Common.{◌≡◌, ◌∙◌, ℕ, ◌≤◌, List, [], ◌++◌, All, Bool, true, false, Option, None, Some, IfSome, ap, ap₂, arith, codes, inl, inr, refl, subst, sym}
-use Rattle.std.proofs.lemmas.List.Elements.{All-weaker}
+use Rattle.std.proofs.Common.{◌≡◌, ◌∙◌, ℕ, ◌≤◌, List, Bool, true, false, Option, None, Some, IfSome, ap, arith, inl, inr, refl, subst, sym}
 use Rattle.std.specs.Prelude.{◌⊎◌}
-use Rattle.std.specs.List.{flat_map}
 use Rattle.std.specs.Io.KnownBytes.{Appends}
 use Rattle.zone_sizes.specs.declared.config.Config.{Config}
-use Rattle.script_lint.specs.Findings.{IsLinted}
-use Rattle.script_lint.specs.Shapes.{HasZone}
-use Rattle.script_lint.specs.Texts.{IsInside, finding_text, sizes_text}
-use Rattle.script_lint.specs.declared.finding.Finding.{Finding}
-use Rattle.load_options.specs.Sizes.{HasSizesInRange}
 use Rattle.load_options.specs.declared.fault.LineFault.TheVariants as words
 use Rattle.load_run.specs.declared.fault.ProgramFault.{ProgramFault}
 use Rattle.load_run.specs.declared.fault.ProgramFault.TheVariants.{BadConfig, BadLogLine, IllegalStep, Input, NoMemory, Output, Script, Words}
 use Rattle.load_run.specs.Answers.{bytes_read}
 use Rattle.load_run.specs.Causes.{written}
-use Rattle.load_run.specs.Fault.{IsReadFault, fault_text, status_of}
-use Rattle.load_run.specs.Lints.{FailsToLint, IsClean, IsEarlyFault, IsReport, LeavesFindings, Lints, ReportsFindings, ReportsNothing, lint_status}
+use Rattle.load_run.specs.Fault.{fault_text, status_of}
+use Rattle.load_run.specs.Lints.{FailsToLint, IsEarlyFault, IsReport, LeavesFindings, Lints, ReportsFindings, ReportsNothing, lint_status}
 use Rattle.load_run.specs.Writing.{AppendsBeginning}
-
--- a zone may have these sizes
-pub has_zone : (sizes : Config) → HasSizesInRange sizes → HasZone sizes
-has_zone sizes in_range = record {
-  frames_low = in_range.frames_low;
-  frames_high = in_range.frames_high;
-  cpus_low = in_range.cpus_low;
-  cpus_high = in_range.cpus_high;
-}
-
--- the place of each finding is in its text
-pub all_inside : (sizes : Config) (script : List ℕ) (findings given : List Finding) → IsLinted sizes script findings → given ≡ findings
-    → All IsInside given
-all_inside sizes script findings given linted same =
-    subst (All IsInside) (sym same) (All-weaker _ IsInside (λ f found. found.0.spot.inside) findings linted.are.sound)
-
--- the text that is written for the findings, and behind it that of the sizes
-pub reports : (sizes : Config) (script : List ℕ) (findings given also : List Finding) (is_clean : Bool) (none one two : List ℕ)
-    → IsLinted sizes script findings → given ≡ findings → also ≡ findings → none ≡ []
-    → one ≡ none ++ flat_map (finding_text (codes "-") sizes) given → two ≡ one ++ sizes_text sizes
-    → (is_clean ≡ true → IsClean sizes also) → (is_clean ≡ false → ¬ IsClean sizes also) → IsReport sizes script two is_clean
-reports sizes script findings given also is_clean none one two linted same same_also empty first last clean found = record {
-  findings = findings;
-  linted = linted;
-  text_is = last ∙ ap (λ (l : List ℕ). l ++ sizes_text sizes)
-      (first ∙ ap₂ (λ (l : List ℕ) (fs : List Finding). l ++ flat_map (finding_text (codes "-") sizes) fs) empty same);
-  clean = λ is. subst (IsClean sizes) same_also (clean is);
-  found = λ is here. found is (subst (IsClean sizes) (sym same_also) here);
-}
-
--- the input wasn't read
-pub read_early : (fault : ProgramFault) → IsReadFault fault → IsEarlyFault fault
-read_early Input is = tt
-read_early (NoMemory e) is = tt
-read_early (Words f) is = absurd is
-read_early (Script f) is = absurd is
-read_early (BadLogLine n) is = absurd is
-read_early BadConfig is = absurd is
-read_early (IllegalStep n) is = absurd is
-read_early Output is = absurd is
 
 -- what is known of what the lint says, if the input's bytes are known
 abbrev pub Reports : Config → Option (List ℕ) → List ℕ → Bool → Type 0
