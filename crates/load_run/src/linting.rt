@@ -60,11 +60,7 @@ fn status_of(is_clean: bool) -> u8
 }
 
 // What the lint says of the script that the input holds.
-fn report_of<I: Read>(
-    alloc: Global,
-    sizes: &Config,
-    input: &mut I,
-) -> Result<Report, ProgramFault>
+fn report_of<I: Read>(alloc: Global, sizes: &Config, input: &mut I) -> Result<Report, ProgramFault>
     requires in_range { HasSizesInRange sizes.now }
     ensures report { IfOk result (λ report. IfSome (I.remaining input.old)
         (λ bytes. IsReport sizes.now (bytes_read bytes) (string_bytes report.text) report.is_clean)) }
