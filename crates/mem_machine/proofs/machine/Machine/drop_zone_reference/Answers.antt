@@ -40,8 +40,8 @@ returns-in-Left g c =
     let all = left_all g.N.BootName.frames g.N.BootName.stocks _ _ c.self.view_is c.self.invariant.consistent c.args.head _
     c.requires.frame c.number-at.ensures c.requires.kept _ _ c.leave_list.ensures.leaves c.leave_list.ensures.lists.stand c.leave_list.ensures.frames
     c.leave_list.ensures.lists.groups c.in-Left.left _ c.in-Left.ensures.answer.2 in
-    let took = subst (λ (x : ℕ). Watches c.self.inside.watch (release_steps x (Left c.in-Left.left)) c.put.new.self)
-    c.number-at.ensures c.put.ensures in
+    let took = subst (λ (x : ℕ). Watches c.self.inside.watch (release_steps x (Left c.in-Left.left)) c.put_left.new.self)
+    c.number-at.ensures c.put_left.ensures in
     record {
       releases = search rules;
       visit = λ cpu visit. visits_still _ _ _ _ (all.visit cpu visit);
