@@ -36,7 +36,7 @@ impl<N: BootName> Machine<N> {
         leave_list(&mut self.links, &mut self.lists, at);
         match tables.frames.put(&mut self.frame_seat, head) {
             Put::Left(left) => {
-                self.watch.put(at, left as u32);
+                self.watch.put_left(at, left as u32);
                 Released::Left(left)
             }
             Put::Last => {

@@ -23,7 +23,7 @@ impl<N: BootName> Machine<N> {
     {
         let number = cpu.number();
         cpu.open(tables, &mut self.frame_seat);
-        self.watch.opened(number);
+        self.watch.visit_opened(number);
     }
 
     /// Shuts the visit of the CPU.
@@ -41,6 +41,6 @@ impl<N: BootName> Machine<N> {
     {
         let number = cpu.number();
         cpu.shut(tables, &mut self.frame_seat);
-        self.watch.shut(number);
+        self.watch.visit_shut(number);
     }
 }

@@ -117,7 +117,7 @@ impl Watch {
 
     /// The zone put its reference on a frame, and so many are left.
     #[inline(always)]
-    pub fn put(&mut self, frame: u32, left: u32)
+    pub fn put_left(&mut self, frame: u32, left: u32)
         ensures { Watches self.old (zone_makes (Put frame) (Left left) ∷ []) self.new }
     {
         if self.is_on() {
@@ -249,7 +249,7 @@ impl Watch {
 
     /// A visit of the CPU was opened.
     #[inline(always)]
-    pub fn opened(&mut self, cpu: u32)
+    pub fn visit_opened(&mut self, cpu: u32)
         ensures { Watches self.old (zone_makes (OpenVisit cpu) Done ∷ []) self.new }
     {
         if self.is_on() {
@@ -260,7 +260,7 @@ impl Watch {
 
     /// The visit of the CPU was shut.
     #[inline(always)]
-    pub fn shut(&mut self, cpu: u32)
+    pub fn visit_shut(&mut self, cpu: u32)
         ensures { Watches self.old (zone_makes (ShutVisit cpu) Done ∷ []) self.new }
     {
         if self.is_on() {
