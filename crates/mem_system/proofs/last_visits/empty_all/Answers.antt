@@ -18,10 +18,11 @@ loop-cpu-preserved g c =
     let done = c.empty_under_lock.ensures in
     let t = g.N.BootName.frames in
     let w = g.N.BootName.stocks in (
-      so_far_more (VisitsUnderLock t Empties) _ _ _ _ _ _ c.cpu-item.result _ c.loop-cpu.invariant.0 inside done.empties done.shut,
+      so_far_more (VisitsUnderLock t Empties) _ _ _ _ _ _ c.cpu-item.result _ c.loop-cpu.invariant.0 inside done.empties,
       all_more (IsSpent t w c.empty_under_lock.new.machine) c.loop-cpu.cpus c.loop-cpu.cpu-index c.empty_under_lock.new.cpu inside
           (all_still (IsSpent t w c.loop-cpu.machine) (IsSpent t w c.empty_under_lock.new.machine) (take c.loop-cpu.cpu-index c.loop-cpu.cpus)
           (spent_still t w c.loop-cpu.machine c.empty_under_lock.new.machine done.others) c.loop-cpu.invariant.1) done.spent,
+      done.shut,
     )
 
 pub returns-clause-empties : goal.returns-clause-empties

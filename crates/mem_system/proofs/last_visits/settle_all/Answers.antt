@@ -13,8 +13,9 @@ pub loop-cpu-preserved : goal.loop-cpu-preserved
 loop-cpu-preserved g c =
     let inside : c.loop-cpu.cpu-index < length c.loop-cpu.cpus = search rules in
     let done = c.settle_under_lock.ensures in (
-      so_far_more (VisitsUnderLock g.N.BootName.frames SettlesInVisit) _ _ _ _ _ _ c.cpu-item.result _ c.loop-cpu.invariant.0 inside done.settles done.shut,
+      so_far_more (VisitsUnderLock g.N.BootName.frames SettlesInVisit) _ _ _ _ _ _ c.cpu-item.result _ c.loop-cpu.invariant.0 inside done.settles,
       all_more IsSettledUnpinned c.loop-cpu.cpus c.loop-cpu.cpu-index c.settle_under_lock.new.cpu inside c.loop-cpu.invariant.1 done.settled,
+      done.shut,
     )
 
 pub returns-clause-settles : goal.returns-clause-settles
