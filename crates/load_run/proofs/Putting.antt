@@ -2,6 +2,8 @@
 use Rattle.std.proofs.Common.{◌≡◌, ℕ, ◌+◌, ◌<◌, ◌≤◌, List, [], ◌∷◌, ◌++◌, length, refl, sym, ap, ◌∙◌, subst, arith}
 use Rattle.std.specs.Prelude.{All}
 use Rattle.std.proofs.lemmas.List.Sums.{sum_by-append}
+use Rattle.frame_word.specs.Seats.{KnownTable}
+use Rattle.stock_word.specs.Stock.{Words}
 use Rattle.frame_word.specs.declared.answers.Put.{Put}
 use Rattle.frame_word.specs.declared.answers.Put.TheVariants.{Left, Last}
 use Rattle.cpu_part.specs.Cpus.{KnownCpu}
@@ -12,8 +14,10 @@ use Rattle.step_watch.specs.Watched.{KnownWatch, Watches, cpu_makes}
 use Rattle.step_watch.proofs.Watching.{watches_both, watches_none}
 use Rattle.mem_machine.specs.Machines.{KnownMachine, VisitState, visit_state}
 use Rattle.mem_history.specs.Leading.{put_answer}
-use Rattle.mem_system.specs.Ends.{ForEachCpu, pins_of}
-use Rattle.load_run.specs.Ending.{PutsAllPins, PutsEach, PutsPin, steps_of_all_puts, steps_of_puts}
+use Rattle.mem_system.specs.Ends.{ForEachCpu, KnownSpent, MakesLastVisits, pins_of}
+use Rattle.mem_system.specs.Locked.{KnownLocked}
+use Rattle.script_replay.specs.Lines.{SystemState, system_state}
+use Rattle.load_run.specs.Ending.{LeavesNothing, PutsAllPins, PutsEach, PutsPin, steps_of_all_puts, steps_of_puts}
 
 -- the pins of these frames were put so far
 pub record PutSoFar (before now : VisitState) : Type 0 where
@@ -94,3 +98,31 @@ puts_watched m (c ∷ cpus) n (d ∷ left) puts =
     watches_both m.watch (steps_of_puts puts.first.frames (visit_state m c) (visit_state puts.between d) puts.first.puts) puts.between.watch
     (steps_of_all_puts puts.between cpus n left puts.rest) n.watch
     (each_watched puts.first.frames (visit_state m c) (visit_state puts.between d) puts.first.puts) (puts_watched puts.between cpus n left puts.rest)
+
+-- ---- nothing is left
+
+pub leaves_nothing : (t : KnownTable) (w : Words) (before : SystemState) (held : ℕ) (spent : KnownSpent) (locked : KnownLocked) (cpus : List KnownCpu)
+    → held ≡ pins_of before.cpus → ForEachCpu PutsAllPins before.locked.machine before.cpus locked.machine cpus → locked.sizes ≡ before.locked.sizes
+    → (held ≡ 0 → system_state locked cpus ≡ before) → MakesLastVisits t w locked cpus spent → LeavesNothing t w before held spent
+leaves_nothing t w before held spent locked cpus held_are puts sizes free visits =
+    let putting = steps_of_all_puts before.locked.machine before.cpus locked.machine cpus puts in
+    record {
+      held_are = held_are;
+      locked = locked;
+      cpus = cpus;
+      puts = puts;
+      sizes = sizes;
+      free = free;
+      visits = visits;
+      steps = putting ++ visits.steps;
+      steps_are = refl;
+      watched = watches_both before.locked.machine.watch putting locked.machine.watch visits.steps spent.machine.watch
+          (puts_watched before.locked.machine before.cpus locked.machine cpus puts) visits.watched;
+    }
+
+-- no pin was held
+pub leaves_free : (t : KnownTable) (w : Words) (before : SystemState) (spent : KnownSpent) → MakesLastVisits t w before.locked before.cpus spent
+    → LeavesNothing t w before 0 spent
+leaves_free t w before spent visits =
+    leaves_nothing t w before 0 spent before.locked before.cpus (sym visits.no_pin) (none_put before.locked.machine before.cpus visits.no_pin) refl
+    (λ none. refl) visits

@@ -34,12 +34,7 @@ pub struct Seen {
 }
 
 // Puts a pin of the frame. The machine's watch takes the step.
-fn put_pin<N: BootName>(
-    locked: &mut Locked<N>,
-    tables: &Tables<N>,
-    cpu: &mut Cpu<N>,
-    frame: Frame,
-)
+fn put_pin<N: BootName>(locked: &mut Locked<N>, tables: &Tables<N>, cpu: &mut Cpu<N>, frame: Frame)
     requires pinned { 1 ≤ times frame cpu.old.pins }
     ensures puts { PutsPin frame (visit_state locked.old.machine cpu.old) (visit_state locked.new.machine cpu.new) }
     ensures sizes { locked.new.sizes ≡ locked.old.sizes }
