@@ -16,7 +16,7 @@ returns-in-Err-clause-asked g c =
     subst (λ (app : App). HasKind (fault_of app texts) c.in-Err.error) is (c.in-Err.ensures.kinds (ap is_simple_and_free is)) in
     elim kind [
       | inl memory ↦ answers_memory _ _ (c.fault_of.ensures memory)
-      | inr among ↦ answers_fault _ _ (asked_nothing texts _ among)
+      | inr among ↦ answers_fault _ _ (asked_nothing texts _ (search rules) among)
     ]
 
 pub returns-in-Some-clause-asked : goal.returns-in-Some-clause-asked
@@ -28,7 +28,7 @@ returns-in-Some-clause-asked g c =
     let none : fault_of program texts ≡ [] = subst (λ (app : App). fault_of app texts ≡ []) is (c.in-Ok.ensures.kinds (ap is_simple_and_free is)) in
     let found : subcommand_rows_of c.in-Ok.found ≡ subcommand_of program texts =
     (c.in-Ok.ensures.ok.2 (ap is_simple is)).1 ∙ ap (λ (app : App). subcommand_of app texts) is in
-    asked_found texts none ∙ ap (option_and_then (λ (p : List ℕ × List Row). options_under p.0 p.1)) (sym found) ∙ sym c.in-Some.ensures.asked
+    asked_found texts (search rules) none ∙ ap (option_and_then (λ (p : List ℕ × List Row). options_under p.0 p.1)) (sym found) ∙ sym c.in-Some.ensures.asked
 
 pub returns-clause-asked : goal.returns-clause-asked
 returns-clause-asked g c =
@@ -39,5 +39,5 @@ returns-clause-asked g c =
     let none : fault_of program texts ≡ [] = subst (λ (app : App). fault_of app texts ≡ []) is (c.in-Ok.ensures.kinds (ap is_simple_and_free is)) in
     let found : subcommand_rows_of c.in-Ok.found ≡ subcommand_of program texts =
     (c.in-Ok.ensures.ok.2 (ap is_simple is)).1 ∙ ap (λ (app : App). subcommand_of app texts) is in
-    answers_fault _ _ (asked_found texts none
+    answers_fault _ _ (asked_found texts (search rules) none
     ∙ ap (option_and_then (λ (p : List ℕ × List Row). options_under p.0 p.1)) (sym found) ∙ sym c.in-None.ensures.asked)
