@@ -5,6 +5,7 @@ ghost use Rattle.script_replay.specs.History.{ReplaysOrStops};
 ghost use Rattle.script_replay.specs.Lines.{system_state};
 ghost use Rattle.script_replay.specs.Ranges.{LineIsThere};
 ghost use Rattle.script_replay.specs.Terms.{terms};
+ghost use Rattle.step_watch.specs.Watched.{has_legal_steps};
 ghost use Rattle.zone_sizes.specs.Config.{IsValidConfig};
 ghost use Rattle.load_run.specs.Answers.{AreCheckedAnswers, AreReplayAnswers, ChecksLines, checked_text};
 ghost use Rattle.load_run.specs.Ending.{EndsAfter, end_text};
@@ -84,7 +85,7 @@ fn check_and_end_boot<N: BootName>(
 ) -> (Result<Vec<u8>, Stopped>, u64, Ended)
     requires count { length cpus.items ≡ N.frames.cpus }
     requires lines { All (LineIsThere N.frames.frames N.frames.cpus) lines.now }
-    requires legal { locked.machine.watch.is_legal ≡ true }
+    requires legal { has_legal_steps locked.machine.watch ≡ true }
     ensures ends { EndsAfter N.frames N.stocks (ChecksLines (terms N.frames N.stocks is_explained) lines.now
         (system_state locked cpus.items) result.0 result.1) result.2 }
 {

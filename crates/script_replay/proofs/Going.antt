@@ -12,6 +12,7 @@ use Rattle.stock_word.specs.declared.view.Stock.TheVariants as stock_is
 use Rattle.stock_word.specs.Stock.{Words, group_of}
 use Rattle.cpu_part.specs.Cpus.{KnownCpu, IsTied}
 use Rattle.step_rules.specs.After.{Run, IsLegalRun}
+use Rattle.step_watch.specs.Watched.{has_legal_steps}
 use Rattle.mem_machine.specs.Interleaving.{zone_of}
 use Rattle.mem_machine.specs.Telling.{TellsRun}
 use Rattle.mem_history.specs.Whole.{ShowsAll}
@@ -169,7 +170,7 @@ all_replayed on lines s e text all = record {
 
 -- and legally, if the watch allowed all their steps
 pub all_replayed_legally : (on : Terms) (lines : List Line) (s e : SystemState) (text : List ℕ) → ServesAllAndKeeps on lines s e text
-    → e.locked.machine.watch.is_legal ≡ true → ReplaysLegally on lines s e text
+    → has_legal_steps e.locked.machine.watch ≡ true → ReplaysLegally on lines s e text
 all_replayed_legally on lines s e text all allowed = let replays = all_replayed on lines s e text all in record {
   served = replays.served;
   history = λ shows tied told new. legal_history on lines s e text (replays.history [] shows tied) told new allowed;
@@ -201,7 +202,7 @@ numbers_stop lines i default inside =
 -- the watch didn't allow a step of the next line
 pub stops_illegal : (on : Terms) (s m e : SystemState) (lines : List Line) (i : ℕ) (default : Line) (text more : List ℕ)
     → i < length lines → ServesAllAndKeeps on (take i lines) s m text → ServesAndKeeps on (get_or lines i default) m e more
-    → e.locked.machine.watch.is_legal ≡ false → (n : ℕ) → n ≡ number_in_script (get_or lines i default) → StopsFor on lines s e (NotLegal n)
+    → has_legal_steps e.locked.machine.watch ≡ false → (n : ℕ) → n ≡ number_in_script (get_or lines i default) → StopsFor on lines s e (NotLegal n)
 unfolding keeps_stop
 stops_illegal on s m e lines i default text more inside all one off n is = record {
   stops = keeps_stop on s m e lines i default text more inside all one;

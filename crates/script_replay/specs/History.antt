@@ -6,7 +6,7 @@ use Rattle.stock_word.specs.Stock.{Words}
 use Rattle.group_charge.specs.Charges.{AreCharges}
 use Rattle.step_rules.specs.After.{Run, IsLegalRun}
 use Rattle.step_rules.specs.Promise.{Promise}
-use Rattle.step_watch.specs.Watched.{IsNewWatch, SawRun, Watches}
+use Rattle.step_watch.specs.Watched.{IsNewWatch, SawRun, Watches, has_legal_steps}
 use Rattle.mem_machine.specs.Machines.{IsConsistent}
 use Rattle.mem_machine.specs.Interleaving.{zone_of}
 use Rattle.mem_machine.specs.Telling.{TellsRun}
@@ -128,7 +128,7 @@ pub record ReplaysLegally (terms : Terms) (lines : List Line) (before after : Sy
 abbrev pub IsReason : (lines : List Line) (number : ℕ) (after : SystemState) → Stopped → Type 0
 IsReason lines number after (NoMemory error) = ⊤
 IsReason lines number after (NotLegal line) =
-    (after.locked.machine.watch.is_legal ≡ false) × (line ≡ number_in_script (get_or lines (number - 1) Go))
+    (has_legal_steps after.locked.machine.watch ≡ false) × (line ≡ number_in_script (get_or lines (number - 1) Go))
 
 -- a checked replay stopped for this reason: the lines up to the one where it stopped were served
 pub record StopsFor (terms : Terms) (lines : List Line) (before after : SystemState) (why : Stopped) : Type 0 where

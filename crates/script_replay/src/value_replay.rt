@@ -4,6 +4,7 @@ ghost use Rattle.std.specs.Prelude.{◌≡◌, [], All, length, true};
 ghost use Rattle.stock_word.specs.declared.view.Stock.TheVariants.{NoGroup};
 ghost use Rattle.cpu_part.specs.Cpus.{IsTied};
 ghost use Rattle.mem_system.specs.Visits.{locked_state};
+ghost use Rattle.step_watch.specs.Watched.{has_legal_steps};
 ghost use Rattle.script_replay.specs.declared.value_replay.Stopped.TheVariants.{NoMemory};
 ghost use Rattle.script_replay.specs.Answers.{AddsText, ServesCommand};
 ghost use Rattle.script_replay.specs.History.{HoldsInvariants, ReplaysCheckedOrStops, ReplaysOrStops, ServesAndKeeps};
@@ -68,7 +69,7 @@ pub fn replay_checked<N: BootName>(
     is_explained: bool,
 ) -> Result<Vec<u8>, Stopped>
     requires there { All (LineIsThere N.frames.frames (length cpus.old)) lines.now }
-    requires legal { locked.old.machine.watch.is_legal ≡ true }
+    requires legal { has_legal_steps locked.old.machine.watch ≡ true }
     ensures outcome { ReplaysCheckedOrStops (terms N.frames N.stocks is_explained) lines.now
         (system_state locked.old cpus.old) (system_state locked.new cpus.new) result }
 {

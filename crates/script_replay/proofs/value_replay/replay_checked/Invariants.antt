@@ -9,4 +9,4 @@ abbrev pub invariant-loop-next : goal.invariant-loop-next
 invariant-loop-next g l =
     ServesAllAndKeeps (terms g.N.BootName.frames g.N.BootName.stocks l.is_explained) (take l.next-index l.lines)
     (system_state l.initial.locked l.initial.cpus) (system_state l.locked l.cpus) (string_bytes l.answers)
-    × (l.locked.machine.watch.is_legal ≡ true)
+    × (has_legal_steps l.locked.machine.watch ≡ true)
