@@ -1,10 +1,13 @@
 -- Serves the contract of `options`: clap found no fault in the words and these values, or a fault.
-use Rattle.std.proofs.Common.{◌≡◌, ◌∙◌, ap, sym, subst, inl, inr, IfOk, List, [], ℕ, map, option_and_then}
+use Rattle.std.proofs.Common.{◌≡◌, ◌∙◌, ap, sym, subst, inl, inr, IfOk, List, [], ℕ, map, option_and_then, rules}
 use Rattle.clap.specs.Words.{App, Row, app_of, fault_of, is_simple, is_simple_and_free, subcommand_of, subcommand_rows_of}
 use Rattle.clap.specs.Kinds.{HasKind}
 use Rattle.load_options.specs.Words.{options_under, program}
-use Rattle.load_options.proofs.Asking.{answers_fault, answers_memory, asked_found, asked_nothing, kept}
+use Rattle.load_options.proofs.Asking.{answers_fault, answers_memory, asked_found, asked_nothing, asked_version, kept}
 use Rattle.load_options.proofs.command_line.options.Goals as goal
+
+pub returns-then-is_version-clause-asked : goal.returns-then-is_version-clause-asked
+returns-then-is_version-clause-asked g c = asked_version (map g.S.AsStr.text c.args.words.now) (search rules)
 
 pub returns-in-Err-clause-asked : goal.returns-in-Err-clause-asked
 returns-in-Err-clause-asked g c =
