@@ -34,6 +34,10 @@ numbered_terms frames stocks is_explained is_numbered = record {
 abbrev pub terms : KnownTable → Words → (is_explained : Bool) → Terms
 terms frames stocks is_explained = numbered_terms frames stocks is_explained false
 
+-- the form with these choices
+abbrev pub form_of : (is_explained is_numbered : Bool) → Form
+form_of is_explained is_numbered = record { is_explained = is_explained; is_numbered = is_numbered }
+
 -- the terms of this form of answers
 abbrev pub form_terms : KnownTable → Words → Form → Terms
 form_terms frames stocks form = numbered_terms frames stocks form.is_explained form.is_numbered
