@@ -140,7 +140,7 @@ all_kept on (line ∷ lines) begins end text tells whole is legal told =
       rest = tells.rest;
       between = tells.between;
       steps = tells.steps;
-      writes_first = tells.writes_first;
+      tells_first = tells.tells_first;
       kept = record { promise = holds.promise; tells = holds.tells told };
       keeps = all_kept on lines next end tells.rest tells.tells whole parts legal (holds.tells told);
       text_is = tells.text_is;

@@ -18,7 +18,8 @@ use Rattle.script_lines.specs.declared.line.Line.{Line}
 use Rattle.script_lines.specs.declared.line.Line.TheVariants.{Go}
 use Rattle.script_replay.specs.declared.value_replay.Stopped.{Stopped}
 use Rattle.script_replay.specs.declared.value_replay.Stopped.TheVariants.{NoMemory, NotLegal}
-use Rattle.script_replay.specs.Lines.{SystemState, ServesAll, ServesLine, StopsAt, WritesLine, number_in_script}
+use Rattle.script_replay.specs.Lines.{SystemState, ServesAll, ServesLine, StopsAt, TellsLine}
+use Rattle.script_replay.specs.Lines.{number_in_script}
 use Rattle.script_replay.specs.Ranges.{LineIsThere}
 use Rattle.script_replay.specs.Terms.{Terms}
 
@@ -52,7 +53,7 @@ pub record TellsFirstAndRest (terms : Terms) (line : Line) (past : Past) (text :
   pub rest : List ℕ
   pub between : SystemState
   pub steps : Run
-  pub writes_first : WritesLine terms.is_explained line (transition terms.frames past.now steps between) first
+  pub tells_first : TellsLine terms line (transition terms.frames past.now steps between) first
   pub watched : Watches past.now.locked.machine.watch steps between.locked.machine.watch
   pub kept_where_legal : IsLegalRun (zone_of terms.frames) (past.run ++ steps)
       → HoldsPromise terms.frames past.run past.now (past.run ++ steps) between
@@ -80,7 +81,7 @@ pub record KeepsFirstAndRest (terms : Terms) (line : Line) (past : Past) (text :
   pub rest : List ℕ
   pub between : SystemState
   pub steps : Run
-  pub writes_first : WritesLine terms.is_explained line (transition terms.frames past.now steps between) first
+  pub tells_first : TellsLine terms line (transition terms.frames past.now steps between) first
   pub kept : KeepsPromise terms.frames (past.run ++ steps) between
   pub keeps : keeps_rest (past_line past steps between) rest
   pub text_is : text ≡ first ++ rest
