@@ -1,6 +1,6 @@
 //! The steps of a script as a log: before the steps of each line stands a comment with its number and text.
 
-ghost use Rattle.std.specs.Prelude.{◌≡◌, ◌≤◌, ◌++◌, ◌∷◌, [], All, IfOk, OnOk, codes, drop, length, map, true};
+ghost use Rattle.std.specs.Prelude.{◌≡◌, ◌≤◌, ◌++◌, ◌∷◌, [], All, IfOk, OnOk, codes, drop, false, length, map, true};
 ghost use Rattle.log_lines.specs.Line.{zone_text};
 ghost use Rattle.script_lines.specs.Script.{texts_of};
 ghost use Rattle.script_replay.specs.Lines.{system_state};
