@@ -171,7 +171,8 @@ fn answers_of<R: Threads + Wait + Sync>(
     requires task { IsOnScript options.now.task }
     requires lines { All (LineIsThere options.now.sizes.frames options.now.sizes.cpus) lines.now }
     ensures answers { IfOk result (λ text.
-        AreAnswers options.now.task options.now.sizes options.now.is_audited options.now.is_numbered lines.now text.items) }
+        AreAnswers options.now.task options.now.sizes options.now.is_audited options.now.is_numbered lines.now
+        text.items) }
     ensures valid { OnOk result (IsValidConfig options.now.sizes) }
     ensures fault { IfErr result (IsBootFault options.now.task options.now.sizes) }
 {
@@ -209,11 +210,7 @@ fn answers_on_boot<N: BootName + Send + Sync, R: Threads + Wait + Sync>(
             is_explained,
             is_checked: false,
         } => {
-            let is_numbered = options.is_numbered;
-            let form = Form {
-                is_explained,
-                is_numbered,
-            };
+            let form = form_of(options, is_explained);
             match replay_on_boot::<N>(alloc, boot, lines, form, options.is_audited) {
                 Ok(answers) => Ok(answers),
                 Err(error) => Err(ProgramFault::NoMemory(error)),
@@ -228,6 +225,16 @@ fn answers_on_boot<N: BootName + Send + Sync, R: Threads + Wait + Sync>(
             }
         }
         Task::Steps | Task::Check | Task::Lint | Task::Version => unreachable!(),
+    }
+}
+
+// The form of the answers that the options ask for.
+fn form_of(options: &Options, is_explained: bool) -> Form
+    ensures { result ≡ form_of is_explained options.now.is_numbered }
+{
+    Form {
+        is_explained,
+        is_numbered: options.is_numbered,
     }
 }
 
@@ -251,11 +258,7 @@ fn check_answers<N: BootName>(
 {
     let sizes = options.sizes;
     let is_audited = options.is_audited;
-    let is_numbered = options.is_numbered;
-    let form = Form {
-        is_explained,
-        is_numbered,
-    };
+    let form = form_of(options, is_explained);
     match check_on_boot::<N>(alloc, boot, sizes, lines, form, is_audited) {
         Ok(answers) => Ok(answers),
         Err(Stopped::NoMemory(error)) => Err(ProgramFault::NoMemory(error)),
