@@ -6,6 +6,7 @@
 #![tactic(auto)]
 
 pub mod boot_end;
+pub mod checked_running;
 pub mod checking;
 pub mod fault;
 pub mod fault_lines;
