@@ -94,7 +94,8 @@ pub record StandsQuiet (frames : KnownTable) (stocks : Words) (now : SystemState
 -- Then each CPU is answered its own among the lines from `go` on, from its part as the lines before left it. No clause
 -- says what is behind the lock and at the parts after that, except that no visit is open and that there are as many
 -- parts; from there the boot ends
-pub record AreThreadAnswers (sizes : Config) (is_numbered is_audited : Bool) (lines : List Line) (text : List ℕ) : Type 0 where
+pub record AreThreadAnswers (sizes : Config) (is_numbered is_audited : Bool) (lines : List Line) (text : List ℕ)
+    : Type 0 where
   pub frames : KnownTable
   pub stocks : Words
   pub start : SystemState
@@ -104,9 +105,10 @@ pub record AreThreadAnswers (sizes : Config) (is_numbered is_audited : Bool) (li
   pub later : List ℕ
   pub ending : List ℕ
   pub first : StandsAtFirst sizes frames stocks start
-  pub served : ServesAll (numbered_terms frames stocks false is_numbered) (take (lines_before_go lines) lines) start at_go early
-  pub history : TellsHistory (numbered_terms frames stocks false is_numbered) (take (lines_before_go lines) lines) (past [] start)
-      at_go early
+  pub served : ServesAll (numbered_terms frames stocks false is_numbered) (take (lines_before_go lines) lines) start at_go
+      early
+  pub history : TellsHistory (numbered_terms frames stocks false is_numbered) (take (lines_before_go lines) lines)
+      (past [] start) at_go early
   pub tells : TellsEach (boot_tables frames stocks)
       (workers_from 1 at_go.cpus (drop (lines_before_go lines) lines) is_numbered) later
   pub quiet : StandsQuiet frames stocks end
@@ -122,9 +124,10 @@ IsOnScript Check = ⊥
 IsOnScript Lint = ⊥
 IsOnScript Version = ⊥
 
--- what a boot with these sizes answers to the lines for this task, with numbers or without, and reports of its end if it is
--- audited; the other tasks have no such answers
-abbrev pub AreAnswers : Task → (sizes : Config) (is_audited is_numbered : Bool) (lines : List Line) (text : List ℕ) → Type 0
+-- what a boot with these sizes answers to the lines for this task, with numbers or without, and reports of its end if
+-- it is audited; the other tasks have no such answers
+abbrev pub AreAnswers : Task → (sizes : Config) (is_audited is_numbered : Bool) (lines : List Line) (text : List ℕ)
+    → Type 0
 AreAnswers (Replay is_explained false) sizes is_audited is_numbered lines text =
     AreReplayAnswers sizes (form_of is_explained is_numbered) is_audited lines text
 AreAnswers (Replay is_explained true) sizes is_audited is_numbered lines text =
@@ -145,9 +148,10 @@ pub record IsAnswered (asked : Option Options) (text input : List ℕ) : Type 0 
   pub script : IsScript options.sizes input lines
   pub answers : AreAnswers options.task options.sizes options.is_audited options.is_numbered lines text
 
--- The options that are asked for have answers to the input, and a writer that held the bytes `before`, if they are known,
--- was given all of them. The status is 3 if the options are strict and some answer is a refusal, else 0.
-pub record IsWritten (asked : Option Options) (status : ℕ) (before after : Option (List ℕ)) (input : List ℕ) : Type 0 where
+-- The options that are asked for have answers to the input, and a writer that held the bytes `before`, if they are
+-- known, was given all of them. The status is 3 if the options are strict and some answer is a refusal, else 0.
+pub record IsWritten (asked : Option Options) (status : ℕ) (before after : Option (List ℕ)) (input : List ℕ)
+    : Type 0 where
   pub text : List ℕ
   pub answered : IsAnswered asked text input
   pub status_is : status ≡ answered_status answered.options.is_strict answered.options.is_numbered text

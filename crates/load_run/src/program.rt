@@ -172,7 +172,8 @@ fn answers_of<R: Threads + Wait + Sync>(
     requires task { IsOnScript options.now.task }
     requires lines { All (LineIsThere options.now.sizes.frames options.now.sizes.cpus) lines.now }
     ensures answers { IfOk result (λ text.
-        AreAnswers options.now.task options.now.sizes options.now.is_audited options.now.is_numbered lines.now text.items) }
+        AreAnswers options.now.task options.now.sizes options.now.is_audited options.now.is_numbered lines.now
+        text.items) }
     ensures valid { OnOk result (IsValidConfig options.now.sizes) }
     ensures fault { IfErr result (IsBootFault options.now.task options.now.sizes) }
 {
