@@ -10,3 +10,4 @@ pub mod Verdicts
 pub mod Written
 pub mod Telling
 pub mod Watched
+pub mod Logged
