@@ -9,6 +9,4 @@ mod greatest;
 #[cfg(test)]
 mod streams;
 #[cfg(test)]
-mod texts;
-#[cfg(test)]
 mod words;
