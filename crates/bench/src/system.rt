@@ -68,12 +68,7 @@ fn visit_here<N: BootName, R: Wait>(
 }
 
 // Serves the command by a visit, and returns its reply.
-fn visit<N: BootName, R: Wait>(
-    rt: &R,
-    system: &System<N>,
-    cpu: &mut Cpu<N>,
-    cmd: &Cmd<'_>,
-) -> Reply
+fn visit<N: BootName, R: Wait>(rt: &R, system: &System<N>, cpu: &mut Cpu<N>, cmd: &Cmd<'_>) -> Reply
     requires { IsOfZone N.frames cmd.now }
 {
     let mut reply = Reply::Done;

@@ -45,12 +45,7 @@ pub fn holds(rt: &impl Abort, is: bool) {
 
 // The reply to the CPU in a visit. This function drops the clauses of `System::visit`, so a caller that needs only
 // the reply doesn't pay for them.
-fn visit<N: BootName, R: Wait>(
-    rt: &R,
-    system: &System<N>,
-    cpu: &mut Cpu<N>,
-    cmd: &Cmd<'_>,
-) -> Reply
+fn visit<N: BootName, R: Wait>(rt: &R, system: &System<N>, cpu: &mut Cpu<N>, cmd: &Cmd<'_>) -> Reply
     requires { IsOfZone N.frames cmd.now }
 {
     system.visit(rt, cpu, cmd)

@@ -227,4 +227,3 @@ fn a_block_is_kept_whole(rt: HostRuntime) -> Result<(), Fail> {
     ];
     works_on_core(&rt, rt.alloc(), &with_block(), &[], &facts)
 }
-
