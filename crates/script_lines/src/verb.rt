@@ -116,8 +116,9 @@ fn verb_named(names: &Names, name: Name) -> Option<Verb>
     names.get(&name).copied()
 }
 
-/// The command that the text begins with the name of, and what follows the space behind that. The latter is None if nothing
-/// follows the name.
+/// The command that the text begins with the name of, and what follows the space behind that. The latter is None if
+/// nothing follows the name. It is inlined, because each line of a script calls it once, and its result is large.
+#[inline(always)]
 pub fn first_verb<'a>(names: &Names, text: &'a [u8]) -> Option<(Verb, Option<&'a [u8]>)>
     requires { IsNames names.now }
     ensures { MatchOption result ((verb : Verb) → ¬ BeginsWithName verb text.entry.now)
