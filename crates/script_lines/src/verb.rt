@@ -12,9 +12,8 @@ use std::alloc::{AllocError, Global};
 /// How many bytes the longest name has.
 const LONGEST_NAME: usize = 7;
 
-/// Each of the 16 names has a place of its own in the table: the remainder of its number by this one, and of that by
-/// 16.
-const SPREAD: u64 = 483_779;
+/// Each of the 16 names has a place of its own in the table: the upper four bits of its number times this one.
+const SPREAD: u64 = 7_351_189_111_781_068_673;
 
 /// Which command a line has.
 #[derive(Clone, Copy, Debug, PartialEq, Eq)]
@@ -81,22 +80,22 @@ pub fn command_names(alloc: Global) -> Result<Names, AllocError>
     IndexMap::from_array(
         alloc,
         [
-            (Name::of(b"fast"), Verb::Fast),
-            (Name::of(b"put"), Verb::Put),
-            (Name::of(b"release"), Verb::Release),
-            (Name::of(b"settle"), Verb::Settle),
-            (Name::of(b"get"), Verb::Get),
-            (Name::of(b"write"), Verb::Write),
-            (Name::of(b"clean"), Verb::Clean),
-            (Name::of(b"show"), Verb::Show),
-            (Name::of(b"owner"), Verb::Owner),
-            (Name::of(b"dirty"), Verb::Dirty),
-            (Name::of(b"blocks"), Verb::Blocks),
             (Name::of(b"touch"), Verb::Touch),
-            (Name::of(b"alloc"), Verb::Alloc),
+            (Name::of(b"blocks"), Verb::Blocks),
+            (Name::of(b"owner"), Verb::Owner),
+            (Name::of(b"clean"), Verb::Clean),
+            (Name::of(b"write"), Verb::Write),
+            (Name::of(b"settle"), Verb::Settle),
             (Name::of(b"read"), Verb::Read),
+            (Name::of(b"release"), Verb::Release),
+            (Name::of(b"dirty"), Verb::Dirty),
             (Name::of(b"rmdir"), Verb::Rmdir),
+            (Name::of(b"get"), Verb::Get),
+            (Name::of(b"alloc"), Verb::Alloc),
+            (Name::of(b"show"), Verb::Show),
+            (Name::of(b"fast"), Verb::Fast),
             (Name::of(b"mkdir"), Verb::Mkdir),
+            (Name::of(b"put"), Verb::Put),
         ],
     )
 }
@@ -107,7 +106,7 @@ fn verb_named(names: &Names, name: Name) -> Option<Verb>
     requires { IsNames names.now }
     ensures { result ≡ verb_coded name.code }
 {
-    let place = (name.code % SPREAD % 16) as usize;
+    let place = (name.code.wrapping_mul(SPREAD) >> 60) as usize;
     if let Some((found, verb)) = names.get_index(place) {
         if found.code == name.code {
             return Some(*verb);
