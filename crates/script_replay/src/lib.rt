@@ -8,6 +8,9 @@
 
 mod command_answers;
 mod locked_calls;
+mod said;
+mod typed_answers;
+mod typed_calls;
 mod unlocked_calls;
 mod value_replay;
 mod visit_answers;
@@ -15,6 +18,8 @@ mod visit_replay;
 mod watched_steps;
 mod work;
 
+pub use said::Said;
+pub use typed_calls::serve_typed;
 pub use value_replay::{Stopped, replay, replay_checked};
 pub use visit_answers::{Visitor, visit_line};
 pub use visit_replay::{replay_lines, visit_command};

@@ -1,3 +1,5 @@
+pub mod Asking
 pub mod Buffers
+pub mod Handles
 pub mod Replays
 pub mod Statuses

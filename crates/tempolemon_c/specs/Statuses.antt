@@ -24,3 +24,23 @@ small_buffer = 103
 -- the statuses with which a replay ends
 abbrev pub IsReplayStatus : ℕ → Type 0
 IsReplayStatus status = Contains (done ∷ bad_config ∷ no_memory ∷ bad_line ∷ small_buffer ∷ []) status
+
+-- no boot stands behind the handle
+abbrev pub not_live : ℕ
+not_live = 104
+
+-- a boot stands behind the handle already
+abbrev pub is_live : ℕ
+is_live = 105
+
+-- the zone has no CPU of this number
+abbrev pub bad_cpu : ℕ
+bad_cpu = 106
+
+-- the zone has no frame of this number
+abbrev pub bad_frame : ℕ
+bad_frame = 107
+
+-- no group has this number
+abbrev pub bad_group : ℕ
+bad_group = 108

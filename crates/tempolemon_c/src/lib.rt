@@ -13,6 +13,8 @@ ghost use Rattle.tempolemon_c.specs.Statuses.{IsReplayStatus, bad_config, bad_li
 
 mod buffers;
 mod fault;
+mod handle;
+mod report;
 mod replaying;
 mod sizes;
 mod status;

@@ -15,3 +15,18 @@ pub const BAD_LINE: u8 = 102;
 
 /// The buffer is shorter than the answers.
 pub const SMALL_BUFFER: u8 = 103;
+
+/// No boot stands behind the handle.
+pub const NOT_LIVE: u8 = 104;
+
+/// A boot stands behind the handle already.
+pub const IS_LIVE: u8 = 105;
+
+/// The zone has no CPU of this number.
+pub const BAD_CPU: u8 = 106;
+
+/// The zone has no frame of this number.
+pub const BAD_FRAME: u8 = 107;
+
+/// No group has this number.
+pub const BAD_GROUP: u8 = 108;
