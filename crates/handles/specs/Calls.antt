@@ -1,8 +1,10 @@
 -- What a call means, and what it does to a live boot.
-use Rattle.std.specs.Prelude.{◌≡◌, ℕ, ◌<◌, ◌≤◌, List, Some, false}
+use Rattle.std.specs.Prelude.{◌≡◌, ◌⊎◌, ℕ, ◌<◌, ◌≤◌, List, Some, false}
 use Rattle.frame_word.specs.Seats.{KnownTable}
 use Rattle.stock_word.specs.Stock.{Words}
-use Rattle.group_tree.specs.Groups.{Group, has_group, path_of}
+use Rattle.group_tree.specs.Bounds.{most_groups}
+use Rattle.group_tree.specs.declared.group.Group.{Group}
+use Rattle.group_tree.specs.Groups.{has_group, path_of}
 use Rattle.group_charge.specs.Charges.{Ledger}
 use Rattle.mem_system.specs.declared.command.Reply.TheVariants as reply
 use Rattle.reply_texts.specs.Answer.{Answer, Served}
@@ -53,9 +55,13 @@ abbrev pub NamesNoFrame : (frames : ℕ) → Call → Type 0
 NamesNoFrame frames (call.AtFrame frame what) = ¬ (frame < frames)
 NamesNoFrame frames other = ⊥
 
+-- no group has this number; those of groups are below 64
+abbrev pub HasNoGroup : List Group → ℕ → Type 0
+HasNoGroup groups number = (most_groups ≤ number) ⊎ (has_group groups number ≡ false)
+
 -- no group has the number that the call names
 abbrev pub NamesNoGroup : List Group → Call → Type 0
-NamesNoGroup groups (call.Alloc group order) = has_group groups group ≡ false
+NamesNoGroup groups (call.Alloc group order) = HasNoGroup groups group
 NamesNoGroup groups other = ⊥
 
 -- this is told of the answer, with the texts that the ledger gives it

@@ -1,7 +1,7 @@
 //! The parts of a boot between calls.
 
-ghost use Rattle.std.specs.Prelude.{◌≡◌, [], false, IfErr, IfNone, IfOk, IfSome, Some, length};
-ghost use Rattle.group_tree.specs.Groups.{has_group, path_of};
+ghost use Rattle.std.specs.Prelude.{◌≡◌, [], IfErr, IfNone, IfOk, IfSome, Some, length};
+ghost use Rattle.group_tree.specs.Groups.{path_of};
 ghost use Rattle.mem_system.specs.Boots.{IsSizedAs};
 ghost use Rattle.script_replay.specs.Lines.{system_state};
 ghost use Rattle.script_replay.specs.Ranges.{IsThere};
@@ -10,7 +10,7 @@ ghost use Rattle.script_replay.specs.Typed.{IsShort, SaysItsGroups, answer_of};
 ghost use Rattle.script_replay.specs.Works.{work_of};
 ghost use Rattle.load_run.specs.Answers.{StandsAtFirst};
 ghost use Rattle.load_run.specs.Ending.{EndsHeld};
-ghost use Rattle.handles.specs.Calls.{Calls, IsCpu, IsTold, TellsCommand};
+ghost use Rattle.handles.specs.Calls.{Calls, HasNoGroup, IsCpu, IsTold, TellsCommand};
 ghost use Rattle.handles.specs.declared.calls.Call.TheVariants.{Alloc, AtFrame};
 ghost use Rattle.handles.specs.Commands.{AnswersScript, FailsScript, FailsText, ReplaysText, TakesKept};
 ghost use Rattle.handles.specs.Commands.{with_kept};
@@ -136,7 +136,7 @@ impl<N: BootName> Live<N> {
             processor,
             command,
         );
-        tell(self.locked.charges(), said)
+        tell(self.locked.charges(), &said)
     }
 
     // Serves a call that names a frame, of a CPU that is there.
@@ -200,9 +200,11 @@ impl<N: BootName> Drop for Live<N> {
 // The path of the group of this number; None if there is none.
 fn path_of(charges: &Charges, group: u32) -> Option<PathText>
     ensures there { IfSome result (λ path. path_of charges.now.groups group ≡ Some path) }
-    ensures none { IfNone result (has_group charges.now.groups group ≡ false) }
+    ensures none { IfNone result (HasNoGroup charges.now.groups group) }
 {
-    let group = GroupId::of(group)?;
+    let Some(group) = GroupId::of(group) else {
+        return None;
+    };
     if !charges.tree().contains(group) {
         return None;
     }
@@ -210,16 +212,16 @@ fn path_of(charges: &Charges, group: u32) -> Option<PathText>
 }
 
 // What is told of an answer, with the texts that the charges give it.
-fn tell(charges: &Charges, said: Said) -> Told
-    requires { SaysItsGroups charges.now said }
-    ensures { IsTold charges.now (answer_of charges.now said) result }
+fn tell(charges: &Charges, said: &Said) -> Told
+    requires { SaysItsGroups charges.now said.now }
+    ensures { IsTold charges.now (answer_of charges.now said.now) result }
 {
-    match said {
+    match *said {
         Said::Served(Outcome::Text(group, file)) => match file_text(charges, group, file) {
             Ok(text) => Told::Text(text),
             Err(fault) => Told::Said(Said::Served(Outcome::Refused(fault))),
         },
-        said => Told::Said(said),
+        _ => Told::Said(*said),
     }
 }
 
