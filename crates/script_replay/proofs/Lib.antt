@@ -3,6 +3,7 @@ pub mod InOrder
 pub mod InRange
 pub mod Going
 pub mod Taking
+pub mod Numbering
 pub mod Saying
 pub mod Telling
 pub mod Following

@@ -95,12 +95,16 @@ module _ (tables : BootTables) (l m : KnownLocked) (cpus : List KnownCpu) (proce
     there = there;
     serves = record {
       steps = says.steps;
-      writes = record {
-        part = c;
-        left = d;
-        is_part = is_part;
-        done = as_text (transition tables.frames (locked_state l c) says.steps (locked_state m d)) said (work_of command) says.may_kill says.answered;
-        cpus = refl;
+      tells = record {
+        plain = answer_text said;
+        so = record {
+          part = c;
+          left = d;
+          is_part = is_part;
+          done = as_text (transition tables.frames (locked_state l c) says.steps (locked_state m d)) said (work_of command) says.may_kill says.answered;
+          cpus = refl;
+        };
+        text_is = refl;
       };
     };
     keeps = record {
