@@ -7,9 +7,13 @@ use Rattle.group_tree.specs.declared.group.Group.{Group}
 use Rattle.group_tree.specs.Groups.{has_group, path_of}
 use Rattle.group_charge.specs.Charges.{Ledger}
 use Rattle.mem_system.specs.declared.command.Reply.TheVariants as reply
+use Rattle.mem_system.specs.declared.outcome.Outcome.{Outcome}
+use Rattle.mem_system.specs.declared.outcome.Outcome.TheVariants as outcome
 use Rattle.reply_texts.specs.Answer.{Answer, Served}
 use Rattle.script_lines.specs.declared.line.Command.{Command}
 use Rattle.script_lines.specs.declared.line.Command.TheVariants as cmd
+use Rattle.script_replay.specs.declared.said.Said.{Said}
+use Rattle.script_replay.specs.declared.said.Said.TheVariants as said
 use Rattle.script_replay.specs.Terms.{boot_tables}
 use Rattle.script_replay.specs.Typed.{SaysCommand, answer_of}
 use Rattle.handles.specs.Known.{KnownLive}
@@ -64,9 +68,19 @@ abbrev pub NamesNoGroup : List Group → Call → Type 0
 NamesNoGroup groups (call.Alloc group order) = HasNoGroup groups group
 NamesNoGroup groups other = ⊥
 
+-- the outcome isn't a text
+abbrev pub IsPlainOutcome : Outcome → Type 0
+IsPlainOutcome (outcome.Text group file) = ⊥
+IsPlainOutcome other = Unit {0}
+
+-- the answer isn't a text
+abbrev pub IsPlain : Said → Type 0
+IsPlain (said.Served outcome) = IsPlainOutcome outcome
+IsPlain other = Unit {0}
+
 -- this is told of the answer, with the texts that the ledger gives it
 abbrev pub IsTold : Ledger → Answer → Told → Type 0
-IsTold ledger answer (told.Said said) = answer ≡ answer_of ledger said
+IsTold ledger answer (told.Said said) = IsPlain said × (answer ≡ answer_of ledger said)
 IsTold ledger answer (told.Text text) = answer ≡ Served (reply.Text text)
 IsTold ledger answer other = ⊥
 

@@ -1,5 +1,7 @@
 pub mod Asking
 pub mod Buffers
+pub mod Calls
 pub mod Handles
 pub mod Replays
 pub mod Statuses
+pub mod Words

@@ -44,3 +44,31 @@ bad_frame = 107
 -- no group has this number
 abbrev pub bad_group : ℕ
 bad_group = 108
+
+-- the limit of a group has no room; the number is that of the refusal
+abbrev pub over_limit : ℕ
+over_limit = 15
+
+-- the greatest number of a refusal
+abbrev pub most_refusal : ℕ
+most_refusal = 22
+
+-- the statuses with which a boot is answered
+abbrev pub IsBootStatus : ℕ → Type 0
+IsBootStatus status = Contains (done ∷ bad_config ∷ no_memory ∷ is_live ∷ []) status
+
+-- the statuses with which an end is answered
+abbrev pub IsEndStatus : ℕ → Type 0
+IsEndStatus status = Contains (done ∷ not_live ∷ []) status
+
+-- the statuses with which lines of a script are answered
+abbrev pub IsCommandStatus : ℕ → Type 0
+IsCommandStatus status = Contains (done ∷ no_memory ∷ bad_line ∷ small_buffer ∷ not_live ∷ []) status
+
+-- the statuses with which an answer that was kept is fetched
+abbrev pub IsAnswerStatus : ℕ → Type 0
+IsAnswerStatus status = Contains (done ∷ small_buffer ∷ not_live ∷ []) status
+
+-- the statuses above the refusals' numbers with which a call is answered
+abbrev pub IsHostStatus : ℕ → Type 0
+IsHostStatus status = Contains (no_memory ∷ small_buffer ∷ not_live ∷ bad_cpu ∷ bad_frame ∷ bad_group ∷ []) status

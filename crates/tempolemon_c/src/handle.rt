@@ -2,10 +2,12 @@
 
 ghost use Rattle.std.specs.Prelude.{◌≡◌, ◌↔◌, IsSome, IsTrue, MatchBool, None, Some};
 ghost use Rattle.zone_sizes.specs.Config.{IsValidConfig};
+ghost use Rattle.handles.specs.Calls.{Calls};
 ghost use Rattle.tempolemon_c.specs.Asking.{IsAsk, ServesBoot};
-ghost use Rattle.tempolemon_c.specs.Handles.{BootsNew, EndsBoot};
+ghost use Rattle.tempolemon_c.specs.Handles.{BootsNew, EndsBoot, OnBoot};
 
 use crate::report::Report;
+use handles::calls::{Call, Told};
 use handles::raw::{Raw, serve_raw};
 use handles::requests::{Answer, Request};
 use mem_system::Boot;
@@ -66,6 +68,17 @@ impl Handle {
         let (raw, answer) = serve_raw(raw, request);
         self.raw = raw;
         answer
+    }
+
+    /// Serves a call of the CPU of this number.
+    pub(crate) fn call(&mut self, alloc: Global, processor: u32, call: Call) -> Told
+        requires live { IsSome self.old }
+        ensures { OnBoot (λ frames stocks from to. Calls frames stocks processor call from to result) self.old self.new }
+    {
+        match self.ask(alloc, Request::Call { processor, call }) {
+            Answer::Told(told) => told,
+            _ => unreachable!(),
+        }
     }
 
     /// Ends the boot.

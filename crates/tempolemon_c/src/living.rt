@@ -97,13 +97,13 @@ pub extern "C" fn tempolemon_command(
     let Ok(text) = Vec::from_slice(alloc, script) else {
         return NO_MEMORY;
     };
-    match handle.command(alloc, text, is_explained) {
+    match handle.ask(alloc, Request::Command { alloc, text, is_explained }) {
         Answer::Text(told) => {
             *written = told.len();
             if put_answers(&told, answers) {
                 return DONE;
             }
-            handle.keep(alloc, told);
+            let _kept = handle.ask(alloc, Request::Keep { text: told });
             SMALL_BUFFER
         }
         Answer::BadLine(number) => {
@@ -111,6 +111,40 @@ pub extern "C" fn tempolemon_command(
             BAD_LINE
         }
         Answer::NoMemory => NO_MEMORY,
+        _ => unreachable!(),
+    }
+}
+
+/// Fetches the answers that the boot keeps, because a buffer was too small for them. If this buffer is too small as
+/// well, the boot keeps them still. If it keeps none, it gives an empty text.
+#[unsafe(no_mangle)]
+pub extern "C" fn tempolemon_answer(
+    alloc: Global,
+    handle: &mut Handle,
+    answers: &mut [u8],
+    written: &mut usize,
+) -> u8
+    ensures statuses { IsAnswerStatus result }
+    ensures none_live { (result ≡ not_live) ↔ (handle.old ≡ None) }
+    ensures fetched { result ≡ done → FillsBuffer
+        (TakesAnswer handle.old handle.new) answers.old answers.new written.new }
+    ensures too_small { result ≡ small_buffer → ExceedsBuffer (KeepsAnswer handle.old) answers.old written.new }
+    ensures stays { result ≢ done → handle.new ≡ handle.old }
+    ensures buffer_stays { result ≢ done → answers.new ≡ answers.old }
+{
+    *written = 0;
+    if !handle.is_live() {
+        return NOT_LIVE;
+    }
+    match handle.ask(alloc, Request::Recall { alloc }) {
+        Answer::Text(told) => {
+            *written = told.len();
+            if put_answers(&told, answers) {
+                return DONE;
+            }
+            let _kept = handle.ask(alloc, Request::Keep { text: told });
+            SMALL_BUFFER
+        }
         _ => unreachable!(),
     }
 }

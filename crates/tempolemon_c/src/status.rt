@@ -30,3 +30,6 @@ pub const BAD_FRAME: u8 = 107;
 
 /// No group has this number.
 pub const BAD_GROUP: u8 = 108;
+
+/// The limit of a group has no room.
+pub const OVER_LIMIT: u8 = 15;

@@ -50,6 +50,7 @@ use Rattle.handles.proofs.Moves.{word, ptr_typed, word_typed, both, and_tt, part
 use Rattle.handles.specs.Owned.{brand, marker, live_owns}
 use Rattle.handles.specs.Serving.{IsAsked, IsFit, IsNamed, Serves, frames_of, stocks_of}
 use Rattle.handles.specs.Known.{KnownLive}
+use Rattle.handles.specs.declared.calls.Call.TheVariants as call
 use Rattle.handles.specs.declared.requests.Request.TheVariants.{Start, Command, Call, Keep, Recall, End}
 use Rattle.cpu_part.specs.declared.boot_name.BootName.{Ghosts}
 use Rattle.handles.specs.contracts.raw.Raw as Raw
@@ -108,7 +109,13 @@ Asked = plain (λ _. Request.the_row)
 asked_blank : (x : Request.the_row.Denot) (f : Last (Request.the_row.exit yes) x) → T (blank (left (Request.the_row.exit yes) x f))
 asked_blank (Start alloc boot sizes) f = tt
 asked_blank (Command alloc text is_explained) f = tt
-asked_blank (Call processor call) f = tt
+asked_blank (Call processor (call.Mkdir path)) f = tt
+asked_blank (Call processor (call.Rmdir path)) f = tt
+asked_blank (Call processor (call.Write path file value)) f = tt
+asked_blank (Call processor (call.Read path file)) f = tt
+asked_blank (Call processor (call.Alloc group order)) f = tt
+asked_blank (Call processor (call.AtFrame frame what)) f = tt
+asked_blank (Call processor call.Settle) f = tt
 asked_blank (Keep text) f = tt
 asked_blank (Recall alloc) f = tt
 asked_blank (End alloc) f = tt

@@ -1,0 +1,49 @@
+//! How a typed call is served.
+
+ghost use Rattle.std.specs.Prelude.{◌≡◌, ◌≢◌, None};
+ghost use Rattle.handles.specs.declared.calls.Call.TheVariants.{Read};
+ghost use Rattle.tempolemon_c.specs.Calls.{CallsHost};
+
+use crate::handle::Handle;
+use crate::status::{BAD_CPU, BAD_FRAME, BAD_GROUP, DONE, NOT_LIVE};
+use crate::told::{Told, tell};
+use crate::words::{NOTHING, TEXT};
+use handles::calls::{Call, Told as Said};
+use handles::requests::{Answer, Request};
+use std::alloc::Global;
+
+/// Serves a call of the CPU of this number, and tells the host.
+pub(crate) fn serve_call(
+    alloc: Global,
+    handle: &mut Handle,
+    processor: u32,
+    call: Call,
+    told: &mut Told,
+) -> u8
+    ensures { CallsHost processor call handle.old handle.new result told.new }
+{
+    *told = Told {
+        number: 0,
+        word: NOTHING,
+    };
+    if !handle.is_live() {
+        return NOT_LIVE;
+    }
+    match handle.call(alloc, processor, call) {
+        Said::Said(said) => {
+            let answered = tell(&said);
+            *told = answered.told;
+            answered.status
+        }
+        Said::Text(text) => {
+            *told = Told {
+                number: text.as_bytes().len() as u64,
+                word: TEXT,
+            };
+            DONE
+        }
+        Said::NoCpu => BAD_CPU,
+        Said::NoFrame => BAD_FRAME,
+        Said::NoGroup => BAD_GROUP,
+    }
+}
