@@ -39,10 +39,13 @@ module _ (table : KnownTable) (f n : ℕ) (l m : KnownLocked) (c d : KnownCpu) (
       subst (SaysWork table (Get f) (locked_state l c) (locked_state m d)) says (record {
         steps = get_steps c.number f (pin_answer r);
         may_kill = false;
-        answered = (pins, record {
-          locked = subst (λ (k : ℕ). OnlyWatched (get_steps k f (pin_answer r)) l m) is watched;
-          steps_are = refl;
-        });
+        answered = (
+          pins,
+          record {
+            locked = subst (λ (k : ℕ). OnlyWatched (get_steps k f (pin_answer r)) l m) is watched;
+            steps_are = refl;
+          },
+        );
       })
 
   pub put : (r : Option PutAnswer) → PutsPin f c d (unpin_answer r) → OnlyWatched (put_steps n f (unpin_answer r)) l m
@@ -51,10 +54,13 @@ module _ (table : KnownTable) (f n : ℕ) (l m : KnownLocked) (c d : KnownCpu) (
       subst (SaysWork table (Put f) (locked_state l c) (locked_state m d)) says (record {
         steps = put_steps c.number f (unpin_answer r);
         may_kill = false;
-        answered = (pins, record {
-          locked = subst (λ (k : ℕ). OnlyWatched (put_steps k f (unpin_answer r)) l m) is watched;
-          steps_are = refl;
-        });
+        answered = (
+          pins,
+          record {
+            locked = subst (λ (k : ℕ). OnlyWatched (put_steps k f (unpin_answer r)) l m) is watched;
+            steps_are = refl;
+          },
+        );
       })
 
 -- ---- the text of what is said

@@ -2,6 +2,7 @@
 
 ghost use Rattle.std.specs.Prelude.{◌≡◌, ◌≢◌, None};
 ghost use Rattle.handles.specs.declared.calls.Call.TheVariants.{Read};
+ghost use Rattle.tempolemon_c.specs.Behind.{behind};
 ghost use Rattle.tempolemon_c.specs.Calls.{CallsHost};
 
 use crate::handle::Handle;
@@ -20,7 +21,7 @@ pub(crate) fn serve_call(
     call: Call,
     told: &mut Told,
 ) -> u8
-    ensures { CallsHost processor call handle.old handle.new result told.new }
+    ensures { CallsHost processor call (behind handle.old) (behind handle.new) result told.new }
 {
     *told = Told {
         number: 0,

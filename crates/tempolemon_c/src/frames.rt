@@ -2,6 +2,7 @@
 
 ghost use Rattle.handles.specs.declared.calls.Call.TheVariants.{Alloc, AtFrame, Settle};
 ghost use Rattle.handles.specs.declared.calls.FrameCall.TheVariants as at;
+ghost use Rattle.tempolemon_c.specs.Behind.{behind};
 ghost use Rattle.tempolemon_c.specs.Calls.{CallsHost};
 
 use crate::calling::serve_call;
@@ -20,7 +21,7 @@ pub extern "C" fn tempolemon_alloc(
     order: u32,
     told: &mut Told,
 ) -> u8
-    ensures { CallsHost cpu (Alloc group order) handle.old handle.new result told.new }
+    ensures { CallsHost cpu (Alloc group order) (behind handle.old) (behind handle.new) result told.new }
 {
     serve_call(alloc, handle, cpu, Call::Alloc { group, order }, told)
 }
@@ -34,7 +35,7 @@ pub extern "C" fn tempolemon_release(
     frame: u32,
     told: &mut Told,
 ) -> u8
-    ensures { CallsHost cpu (AtFrame frame at.Release) handle.old handle.new result told.new }
+    ensures { CallsHost cpu (AtFrame frame at.Release) (behind handle.old) (behind handle.new) result told.new }
 {
     let what = FrameCall::Release;
     serve_call(alloc, handle, cpu, Call::AtFrame { frame, what }, told)
@@ -49,7 +50,7 @@ pub extern "C" fn tempolemon_get(
     frame: u32,
     told: &mut Told,
 ) -> u8
-    ensures { CallsHost cpu (AtFrame frame at.Get) handle.old handle.new result told.new }
+    ensures { CallsHost cpu (AtFrame frame at.Get) (behind handle.old) (behind handle.new) result told.new }
 {
     let what = FrameCall::Get;
     serve_call(alloc, handle, cpu, Call::AtFrame { frame, what }, told)
@@ -64,7 +65,7 @@ pub extern "C" fn tempolemon_put(
     frame: u32,
     told: &mut Told,
 ) -> u8
-    ensures { CallsHost cpu (AtFrame frame at.Put) handle.old handle.new result told.new }
+    ensures { CallsHost cpu (AtFrame frame at.Put) (behind handle.old) (behind handle.new) result told.new }
 {
     let what = FrameCall::Put;
     serve_call(alloc, handle, cpu, Call::AtFrame { frame, what }, told)
@@ -79,7 +80,7 @@ pub extern "C" fn tempolemon_touch(
     frame: u32,
     told: &mut Told,
 ) -> u8
-    ensures { CallsHost cpu (AtFrame frame at.Touch) handle.old handle.new result told.new }
+    ensures { CallsHost cpu (AtFrame frame at.Touch) (behind handle.old) (behind handle.new) result told.new }
 {
     let what = FrameCall::Touch;
     serve_call(alloc, handle, cpu, Call::AtFrame { frame, what }, told)
@@ -94,7 +95,7 @@ pub extern "C" fn tempolemon_dirty(
     frame: u32,
     told: &mut Told,
 ) -> u8
-    ensures { CallsHost cpu (AtFrame frame at.Dirty) handle.old handle.new result told.new }
+    ensures { CallsHost cpu (AtFrame frame at.Dirty) (behind handle.old) (behind handle.new) result told.new }
 {
     let what = FrameCall::Dirty;
     serve_call(alloc, handle, cpu, Call::AtFrame { frame, what }, told)
@@ -109,7 +110,7 @@ pub extern "C" fn tempolemon_clean(
     frame: u32,
     told: &mut Told,
 ) -> u8
-    ensures { CallsHost cpu (AtFrame frame at.Clean) handle.old handle.new result told.new }
+    ensures { CallsHost cpu (AtFrame frame at.Clean) (behind handle.old) (behind handle.new) result told.new }
 {
     let what = FrameCall::Clean;
     serve_call(alloc, handle, cpu, Call::AtFrame { frame, what }, told)
@@ -124,7 +125,7 @@ pub extern "C" fn tempolemon_owner(
     frame: u32,
     told: &mut Told,
 ) -> u8
-    ensures { CallsHost cpu (AtFrame frame at.Owner) handle.old handle.new result told.new }
+    ensures { CallsHost cpu (AtFrame frame at.Owner) (behind handle.old) (behind handle.new) result told.new }
 {
     let what = FrameCall::Owner;
     serve_call(alloc, handle, cpu, Call::AtFrame { frame, what }, told)
@@ -132,8 +133,13 @@ pub extern "C" fn tempolemon_owner(
 
 /// Settles the CPU.
 #[unsafe(no_mangle)]
-pub extern "C" fn tempolemon_settle(alloc: Global, handle: &mut Handle, cpu: u32, told: &mut Told) -> u8
-    ensures { CallsHost cpu Settle handle.old handle.new result told.new }
+pub extern "C" fn tempolemon_settle(
+    alloc: Global,
+    handle: &mut Handle,
+    cpu: u32,
+    told: &mut Told,
+) -> u8
+    ensures { CallsHost cpu Settle (behind handle.old) (behind handle.new) result told.new }
 {
     serve_call(alloc, handle, cpu, Call::Settle, told)
 }

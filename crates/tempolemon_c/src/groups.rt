@@ -1,6 +1,7 @@
 //! The calls that make and remove groups, and write their files. Each takes memory for a copy of its texts, and frees it.
 
 ghost use Rattle.std.specs.Prelude.{◌≡◌, IfErr, IfOk};
+ghost use Rattle.tempolemon_c.specs.Behind.{behind};
 ghost use Rattle.tempolemon_c.specs.Calls.{CallsPath, IsMkdir, IsRmdir, IsWrite, RunsOutHost};
 
 use crate::calling::serve_call;
@@ -42,7 +43,7 @@ pub extern "C" fn tempolemon_mkdir(
     path: &[u8],
     told: &mut Told,
 ) -> u8
-    ensures { CallsPath (IsMkdir path.now) cpu handle.old handle.new result told.new }
+    ensures { CallsPath (IsMkdir path.now) cpu (behind handle.old) (behind handle.new) result told.new }
 {
     match Vec::from_slice(alloc, path) {
         Ok(path) => serve_call(alloc, handle, cpu, Call::Mkdir { path }, told),
@@ -59,7 +60,7 @@ pub extern "C" fn tempolemon_rmdir(
     path: &[u8],
     told: &mut Told,
 ) -> u8
-    ensures { CallsPath (IsRmdir path.now) cpu handle.old handle.new result told.new }
+    ensures { CallsPath (IsRmdir path.now) cpu (behind handle.old) (behind handle.new) result told.new }
 {
     match Vec::from_slice(alloc, path) {
         Ok(path) => serve_call(alloc, handle, cpu, Call::Rmdir { path }, told),
@@ -78,7 +79,7 @@ pub extern "C" fn tempolemon_write(
     value: &[u8],
     told: &mut Told,
 ) -> u8
-    ensures { CallsPath (IsWrite path.now file.now value.now) cpu handle.old handle.new result told.new }
+    ensures { CallsPath (IsWrite path.now file.now value.now) cpu (behind handle.old) (behind handle.new) result told.new }
 {
     match write_call(alloc, path, file, value) {
         Ok(call) => serve_call(alloc, handle, cpu, call, told),

@@ -17,6 +17,7 @@ mod fault;
 mod frames;
 mod groups;
 mod handle;
+mod hosting;
 mod living;
 mod replaying;
 mod report;

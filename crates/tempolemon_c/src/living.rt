@@ -2,6 +2,7 @@
 
 ghost use Rattle.std.specs.Prelude.{◌≡◌, ◌≢◌, ◌↔◌, None};
 ghost use Rattle.zone_sizes.specs.Config.{IsValidConfig};
+ghost use Rattle.tempolemon_c.specs.Behind.{behind};
 ghost use Rattle.tempolemon_c.specs.Buffers.{ExceedsBuffer, FillsBuffer};
 ghost use Rattle.tempolemon_c.specs.Handles.{BootsNew, CommandRunsOut, Commands, CommandsAndKeeps, EndsBoot};
 ghost use Rattle.tempolemon_c.specs.Handles.{KeepsAnswer, RefusesCommand, TakesAnswer};
@@ -13,7 +14,7 @@ use crate::buffers::put_answers;
 use crate::handle::Handle;
 use crate::report::Report;
 use crate::sizes::Sizes;
-use crate::status::{BAD_CONFIG, BAD_LINE, DONE, IS_LIVE, NOT_LIVE, NO_MEMORY, SMALL_BUFFER};
+use crate::status::{BAD_CONFIG, BAD_LINE, DONE, IS_LIVE, NO_MEMORY, NOT_LIVE, SMALL_BUFFER};
 use handles::requests::{Answer, Request};
 use mem_system::{BootFault, boot};
 use std::alloc::Global;
@@ -22,10 +23,10 @@ use std::alloc::Global;
 #[unsafe(no_mangle)]
 pub extern "C" fn tempolemon_boot(alloc: Global, sizes: &Sizes, handle: &mut Handle) -> u8
     ensures statuses { IsBootStatus result }
-    ensures refused_live { (result ≡ is_live) ↔ (handle.old ≢ None) }
+    ensures refused_live { (result ≡ is_live) ↔ (behind handle.old ≢ None) }
     ensures bad_sizes { result ≡ bad_config → ¬ IsValidConfig (config_of sizes.now) }
-    ensures booted { result ≡ done → BootsNew (config_of sizes.now) handle.new }
-    ensures stays { result ≢ done → handle.new ≡ handle.old }
+    ensures booted { result ≡ done → BootsNew (config_of sizes.now) (behind handle.new) }
+    ensures stays { result ≢ done → behind handle.new ≡ behind handle.old }
 {
     if handle.is_live() {
         return IS_LIVE;
@@ -48,9 +49,9 @@ pub extern "C" fn tempolemon_boot(alloc: Global, sizes: &Sizes, handle: &mut Han
 #[unsafe(no_mangle)]
 pub extern "C" fn tempolemon_end(alloc: Global, handle: &mut Handle, report: &mut Report) -> u8
     ensures statuses { IsEndStatus result }
-    ensures none_live { (result ≡ not_live) ↔ (handle.old ≡ None) }
-    ensures ended { result ≡ done → EndsBoot handle.old handle.new report.new }
-    ensures none_left { handle.new ≡ None }
+    ensures none_live { (result ≡ not_live) ↔ (behind handle.old ≡ None) }
+    ensures ended { result ≡ done → EndsBoot (behind handle.old) (behind handle.new) report.new }
+    ensures none_left { behind handle.new ≡ None }
     ensures report_stays { result ≢ done → report.new ≡ report.old }
 {
     if !handle.is_live() {
@@ -77,14 +78,14 @@ pub extern "C" fn tempolemon_command(
     first_bad: &mut usize,
 ) -> u8
     ensures statuses { IsCommandStatus result }
-    ensures none_live { (result ≡ not_live) ↔ (handle.old ≡ None) }
+    ensures none_live { (result ≡ not_live) ↔ (behind handle.old ≡ None) }
     ensures answered { result ≡ done → FillsBuffer
-        (Commands script.now is_explained handle.old handle.new) answers.old answers.new written.new }
+        (Commands script.now is_explained (behind handle.old) (behind handle.new)) answers.old answers.new written.new }
     ensures too_small { result ≡ small_buffer → ExceedsBuffer
-        (CommandsAndKeeps script.now is_explained handle.old handle.new) answers.old written.new }
-    ensures first_bad_line { result ≡ bad_line → RefusesCommand script.now first_bad.new handle.old handle.new }
-    ensures ran_out { result ≡ no_memory → CommandRunsOut script.now is_explained handle.old handle.new }
-    ensures stays { result ≡ not_live → handle.new ≡ handle.old }
+        (CommandsAndKeeps script.now is_explained (behind handle.old) (behind handle.new)) answers.old written.new }
+    ensures first_bad_line { result ≡ bad_line → RefusesCommand script.now first_bad.new (behind handle.old) (behind handle.new) }
+    ensures ran_out { result ≡ no_memory → CommandRunsOut script.now is_explained (behind handle.old) (behind handle.new) }
+    ensures stays { result ≡ not_live → behind handle.new ≡ behind handle.old }
     ensures buffer_stays { result ≢ done → answers.new ≡ answers.old }
     ensures no_length { result ≢ done → result ≢ small_buffer → written.new ≡ 0 }
     ensures no_bad_line { result ≢ bad_line → first_bad.new ≡ 0 }
@@ -97,7 +98,14 @@ pub extern "C" fn tempolemon_command(
     let Ok(text) = Vec::from_slice(alloc, script) else {
         return NO_MEMORY;
     };
-    match handle.ask(alloc, Request::Command { alloc, text, is_explained }) {
+    match handle.ask(
+        alloc,
+        Request::Command {
+            alloc,
+            text,
+            is_explained,
+        },
+    ) {
         Answer::Text(told) => {
             *written = told.len();
             if put_answers(&told, answers) {
@@ -125,11 +133,11 @@ pub extern "C" fn tempolemon_answer(
     written: &mut usize,
 ) -> u8
     ensures statuses { IsAnswerStatus result }
-    ensures none_live { (result ≡ not_live) ↔ (handle.old ≡ None) }
+    ensures none_live { (result ≡ not_live) ↔ (behind handle.old ≡ None) }
     ensures fetched { result ≡ done → FillsBuffer
-        (TakesAnswer handle.old handle.new) answers.old answers.new written.new }
-    ensures too_small { result ≡ small_buffer → ExceedsBuffer (KeepsAnswer handle.old) answers.old written.new }
-    ensures stays { result ≢ done → handle.new ≡ handle.old }
+        (TakesAnswer (behind handle.old) (behind handle.new)) answers.old answers.new written.new }
+    ensures too_small { result ≡ small_buffer → ExceedsBuffer (KeepsAnswer (behind handle.old)) answers.old written.new }
+    ensures stays { result ≢ done → behind handle.new ≡ behind handle.old }
     ensures buffer_stays { result ≢ done → answers.new ≡ answers.old }
 {
     *written = 0;
