@@ -1,12 +1,9 @@
 -- The list of steps of each call, with the answer of each step.
 use Rattle.std.specs.Prelude.{ℕ, zero, suc, Bool, Option, Some, None, List, [], ◌∷◌, sum_by}
 use Rattle.std.specs.List.{flat_map}
-use Rattle.step_rules.specs.declared.step.Step.{Step}
-use Rattle.step_rules.specs.declared.step.Action.{Action}
 use Rattle.step_rules.specs.declared.step.Action.TheVariants.{OpenVisit, ShutVisit, PassOut, TakeIn, PassBack}
 use Rattle.step_rules.specs.declared.step.Action.TheVariants.{Collect, Fill, DrainStock, Grant, Ungrant}
 use Rattle.step_rules.specs.declared.step.Action.TheVariants.{Consume, NoteMax, NoteOom, NoteGroupKill, SetMax, SetFlag, Make, Remove, Kill}
-use Rattle.step_rules.specs.declared.step.Answer.{Answer}
 use Rattle.step_rules.specs.declared.step.Answer.TheVariants.{Done, Took, Pages, Granted, Over, Number}
 use Rattle.step_rules.specs.After.{Run}
 -- a step of the zone's seat or of a CPU's, with its answer

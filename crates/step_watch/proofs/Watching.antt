@@ -1,19 +1,18 @@
 -- What follows from the steps that a watch took (for `Watch`, the laws, and the crates whose steps are watched).
-use Rattle.std.proofs.Common.{◌≡◌, ℕ, ◌+◌, ◌++◌, Bool, true, false, Option, Some, None, is_some, List, [], ◌∷◌, length, length-append, refl, sym, ◌∙◌, ap, subst, arith}
+use Rattle.std.proofs.Common.{◌≡◌, ℕ, ◌++◌, true, false, Option, Some, None, is_some, List, [], ◌∷◌, length-append, refl, sym, ◌∙◌, ap, subst, arith}
 use Rattle.std.proofs.lemmas.Bool.{and_parts, false≢true}
 use Rattle.std.proofs.lemmas.Grind.{flat_map-append}
 use Rattle.std.proofs.lemmas.List.{append_assoc, append-nil}
 use Rattle.step_rules.specs.declared.step.Step.{Step}
 use Rattle.step_rules.specs.declared.step.Answer.{Answer}
-use Rattle.step_rules.specs.State.{Zone, State, at_boot}
+use Rattle.step_rules.specs.State.{Zone, State}
 use Rattle.step_rules.specs.After.{Run, after, state_of, IsLegalRun}
 use Rattle.step_rules.proofs.Runs.{one_more, state_more, legal_more}
-use Rattle.mem_core.specs.Shown.{CoreState, state_in}
-use Rattle.mem_core.specs.Checked.{Leads}
+use Rattle.mem_core.specs.Shown.{CoreState}
 use Rattle.mem_core.proofs.Keeping.{always_keeps}
 use Rattle.log_lines.specs.Line.{entry_text}
 use Rattle.step_watch.specs.Watched.{KnownWatch, Accepts, Adds, AreAllowedFrom, IsNewWatch, Saw, SawRun, Watches, Wrote}
-use Rattle.step_watch.specs.Watched.{has_legal_steps, log_text, state_seen, steps_seen, steps_text}
+use Rattle.step_watch.specs.Watched.{has_legal_steps, log_text, state_seen, steps_text}
 
 -- a watch that takes no steps says nothing
 pub watches_off : (before : KnownWatch) (steps : Run) (later : KnownWatch) → later.is_on ≡ false → Watches before steps later

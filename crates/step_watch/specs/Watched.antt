@@ -1,7 +1,6 @@
 -- What a watch says of the steps that it took.
 use Rattle.std.specs.Prelude.{◌≡◌, ℕ, ◌+◌, ◌++◌, ◌&&◌, not, Bool, true, false, Option, Some, None, is_some}
 use Rattle.std.specs.Prelude.{List, Vec, [], ◌∷◌, flat_map, length, option_map, ⊤}
-use Rattle.zone_sizes.specs.declared.config.Config.{Config}
 use Rattle.step_rules.specs.declared.step.Action.{Action}
 use Rattle.step_rules.specs.declared.step.Answer.{Answer}
 use Rattle.step_rules.specs.declared.step.Step.{Step}

@@ -2,10 +2,13 @@
 //! whether the watch is on. An action has room for a path, so it is built only behind that test.
 
 ghost use Rattle.std.specs.Prelude.{◌∷◌, []};
-ghost use Rattle.step_rules.specs.declared.step.Action.TheVariants.{Absorb, Collect, Consume, DrainStock, Fill, Freeze, Grant, OpenVisit};
-ghost use Rattle.step_rules.specs.declared.step.Action.TheVariants.{PassBack, PassOut, PlaceBlock, Publish, Put, Report, Return, ShutVisit};
+ghost use Rattle.step_rules.specs.declared.step.Action.TheVariants.{Absorb, Collect, Consume, DrainStock};
+ghost use Rattle.step_rules.specs.declared.step.Action.TheVariants.{Fill, Freeze, Grant, OpenVisit};
+ghost use Rattle.step_rules.specs.declared.step.Action.TheVariants.{PassBack, PassOut, PlaceBlock, Publish};
+ghost use Rattle.step_rules.specs.declared.step.Action.TheVariants.{Put, Report, Return, ShutVisit};
 ghost use Rattle.step_rules.specs.declared.step.Action.TheVariants.{TakeIn, Unfreeze, Ungrant};
-ghost use Rattle.step_rules.specs.declared.step.Answer.TheVariants.{Done, Granted, Last, Left, Missed, NoFreeBlock, Over, Pages, Placed};
+ghost use Rattle.step_rules.specs.declared.step.Answer.TheVariants.{Done, Granted, Last, Left, Missed};
+ghost use Rattle.step_rules.specs.declared.step.Answer.TheVariants.{NoFreeBlock, Over, Pages, Placed};
 ghost use Rattle.step_rules.specs.declared.step.Answer.TheVariants.{Took};
 ghost use Rattle.step_watch.specs.Watched.{Watches, cpu_makes, zone_makes};
 

@@ -1,5 +1,4 @@
 use Rattle.std.proofs.Common.{◌≡◌, rules}
-use Rattle.std.specs.String.{string_bytes}
 use Rattle.script_replay.specs.Lines.{number_in_script, system_state}
 use Rattle.script_replay.specs.Numbers.{numbered_text}
 use Rattle.script_replay.proofs.Going.{number_added, numbered_keeps}
