@@ -1,4 +1,4 @@
--- Calls that were not served. Serves `serve_call` and `tempolemon_command`.
+-- Calls that were not served. Serves `serve_into`.
 use Rattle.std.proofs.Common.{◌≡◌, ◌∙◌, ℕ, Some, None, List, ap, arith, inr, refl, subst, sym}
 use Rattle.std.specs.Prelude.{Option}
 use Rattle.std.proofs.lemmas.Option.{none-some}
@@ -7,14 +7,14 @@ use Rattle.handles.specs.declared.calls.Call.{Call}
 use Rattle.handles.specs.Calls.{IsCpu, NamesNoFrame, RefusesCall}
 use Rattle.handles.specs.Commands.{with_kept}
 use Rattle.handles.specs.Known.{KnownLive}
-use Rattle.tempolemon_c.specs.Calls.{CallsHost, RefusesHost}
+use Rattle.tempolemon_c.specs.Calls.{CallsInto, RefusesHost}
 use Rattle.tempolemon_c.specs.Handles.{LiveBoot, OnBoot, live_boot}
 use Rattle.tempolemon_c.specs.Statuses.{bad_cpu, bad_frame, not_live}
 use Rattle.tempolemon_c.specs.Words.{nothing_told}
 
-module _ (processor : ℕ) (asked : Call) where
+module _ (processor : ℕ) (asked : Call) (buffer : List ℕ) where
   -- there is no boot
-  pub none_called : (before : Option LiveBoot) → before ≡ None → CallsHost processor asked before before not_live nothing_told
+  pub none_called : (before : Option LiveBoot) → before ≡ None → CallsInto processor asked before before not_live nothing_told buffer buffer
   none_called before none = record {
     statuses = inr (2, omega arith, refl);
     none_live = (λ e. none, λ e. refl);
@@ -24,6 +24,7 @@ module _ (processor : ℕ) (asked : Call) where
     no_group = λ e. absurd (omega (arith, e));
     stays = λ high. refl;
     no_word = λ high. refl;
+    buffer_stays = λ high. refl;
   }
 
   -- nothing is done, and there is a boot
@@ -36,7 +37,7 @@ module _ (processor : ℕ) (asked : Call) where
 
   -- there is no such CPU
   pub no_cpu_called : (before after : Option LiveBoot) → RefusesHost (λ from. ¬ IsCpu from.sizes.cpus processor) before after
-      → CallsHost processor asked before after bad_cpu nothing_told
+      → CallsInto processor asked before after bad_cpu nothing_told buffer buffer
   no_cpu_called before after refuses = record {
     statuses = inr (3, omega arith, refl);
     none_live = (λ e. absurd (omega (arith, e)), λ none. absurd (there (λ from. ¬ IsCpu from.sizes.cpus processor) before after refuses none));
@@ -46,11 +47,12 @@ module _ (processor : ℕ) (asked : Call) where
     no_group = λ e. absurd (omega (arith, e));
     stays = λ high. still (λ from. ¬ IsCpu from.sizes.cpus processor) before after refuses;
     no_word = λ high. refl;
+    buffer_stays = λ high. refl;
   }
 
   -- there is no such frame
   pub no_frame_called : (before after : Option LiveBoot) → RefusesHost (λ from. NamesNoFrame from.sizes.frames asked) before after
-      → CallsHost processor asked before after bad_frame nothing_told
+      → CallsInto processor asked before after bad_frame nothing_told buffer buffer
   no_frame_called before after refuses = record {
     statuses = inr (4, omega arith, refl);
     none_live = (λ e. absurd (omega (arith, e)), λ none. absurd (there (λ from. NamesNoFrame from.sizes.frames asked) before after refuses none));
@@ -60,4 +62,5 @@ module _ (processor : ℕ) (asked : Call) where
     no_group = λ e. absurd (omega (arith, e));
     stays = λ high. still (λ from. NamesNoFrame from.sizes.frames asked) before after refuses;
     no_word = λ high. refl;
+    buffer_stays = λ high. refl;
   }

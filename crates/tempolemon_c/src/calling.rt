@@ -1,16 +1,15 @@
 //! How a typed call is served.
 
-ghost use Rattle.std.specs.Prelude.{◌≡◌, ◌≢◌, None};
-ghost use Rattle.handles.specs.declared.calls.Call.TheVariants.{Read};
+ghost use Rattle.std.specs.Prelude.{◌≡◌};
 ghost use Rattle.tempolemon_c.specs.Behind.{behind};
-ghost use Rattle.tempolemon_c.specs.Calls.{CallsHost};
+ghost use Rattle.tempolemon_c.specs.Calls.{CallsHost, CallsInto};
 
+use crate::buffers::put_answers;
 use crate::handle::Handle;
 use crate::status::{BAD_CPU, BAD_FRAME, BAD_GROUP, DONE, NOT_LIVE};
 use crate::told::{Told, tell};
 use crate::words::{NOTHING, TEXT};
 use handles::calls::{Call, Told as Said};
-use handles::requests::{Answer, Request};
 use std::alloc::Global;
 
 /// Serves a call of the CPU of this number, and tells the host.
@@ -22,6 +21,20 @@ pub(crate) fn serve_call(
     told: &mut Told,
 ) -> u8
     ensures { CallsHost processor call (behind handle.old) (behind handle.new) result told.new }
+{
+    serve_into(alloc, handle, processor, call, &mut [], told)
+}
+
+/// Serves a call as `serve_call` does, and writes the text of a file into the buffer, if that has room for it.
+pub(crate) fn serve_into(
+    alloc: Global,
+    handle: &mut Handle,
+    processor: u32,
+    call: Call,
+    buffer: &mut [u8],
+    told: &mut Told,
+) -> u8
+    ensures { CallsInto processor call (behind handle.old) (behind handle.new) result told.new buffer.old buffer.new }
 {
     *told = Told {
         number: 0,
@@ -37,8 +50,10 @@ pub(crate) fn serve_call(
             answered.status
         }
         Said::Text(text) => {
+            let text = text.as_bytes();
+            let _fits = put_answers(text, buffer);
             *told = Told {
-                number: text.as_bytes().len() as u64,
+                number: text.len() as u64,
                 word: TEXT,
             };
             DONE

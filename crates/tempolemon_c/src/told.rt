@@ -1,10 +1,11 @@
 //! What a host is told by a call.
 
-ghost use Rattle.std.specs.Prelude.{◌≡◌};
+ghost use Rattle.std.specs.Prelude.{◌≡◌, List, ℕ};
 ghost use Rattle.group_charge.specs.Charges.{Ledger};
 ghost use Rattle.handles.specs.Calls.{IsPlain, IsPlainOutcome};
 ghost use Rattle.mem_system.specs.Outcomes.{reply_of};
 ghost use Rattle.script_replay.specs.Typed.{answer_of};
+ghost use Rattle.tempolemon_c.specs.Calls.{PutsAnswer, PutsReply};
 ghost use Rattle.tempolemon_c.specs.Words.{fast_told, get_told, put_told, reply_status, reply_told, status_of, told, told_of};
 
 use crate::status::{DONE, OVER_LIMIT};
@@ -52,6 +53,7 @@ pub(crate) fn tell(said: &Said) -> Answered
     requires { IsPlain said.now }
     ensures status { (ledger : Ledger) → result.status ≡ status_of (answer_of ledger said.now) }
     ensures told { (ledger : Ledger) → result.told ≡ told_of (answer_of ledger said.now) }
+    ensures no_text { (ledger : Ledger) (buffer : List ℕ) → PutsAnswer (answer_of ledger said.now) buffer buffer }
 {
     match said {
         Said::Served(outcome) => tell_outcome(outcome),
@@ -69,6 +71,7 @@ fn tell_outcome(outcome: &Outcome) -> Answered
     requires { IsPlainOutcome outcome.now }
     ensures status { (ledger : Ledger) → result.status ≡ reply_status (reply_of ledger outcome.now) }
     ensures told { (ledger : Ledger) → result.told ≡ reply_told (reply_of ledger outcome.now) }
+    ensures no_text { (ledger : Ledger) (buffer : List ℕ) → PutsReply (reply_of ledger outcome.now) buffer buffer }
 {
     match *outcome {
         Outcome::Group(group) => with_number(GROUP, u64::from(group.number())),
