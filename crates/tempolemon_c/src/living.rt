@@ -150,7 +150,7 @@ pub extern "C" fn tempolemon_answer(
             if put_answers(&told, answers) {
                 return DONE;
             }
-            let _kept = handle.ask(alloc, Request::Keep { text: told });
+            let _still = handle.ask(alloc, Request::Keep { text: told });
             SMALL_BUFFER
         }
         _ => unreachable!(),
