@@ -31,14 +31,14 @@ enum {
     TEMPOLEMON_NO_MEMORY = 101,    /* malloc or realloc returned null */
     TEMPOLEMON_BAD_LINE = 102,     /* a line of the script isn't in the grammar */
     TEMPOLEMON_SMALL_BUFFER = 103, /* the buffer is shorter than the answers */
-    TEMPOLEMON_NOT_LIVE = 104,     /* no boot stands behind the handle */
-    TEMPOLEMON_IS_LIVE = 105,      /* a boot stands behind the handle already */
+    TEMPOLEMON_NOT_LIVE = 104,     /* the handle has no boot */
+    TEMPOLEMON_IS_LIVE = 105,      /* the handle has a boot already */
     TEMPOLEMON_BAD_CPU = 106,      /* the zone has no CPU of this number */
     TEMPOLEMON_BAD_FRAME = 107,    /* the zone has no frame of this number */
     TEMPOLEMON_BAD_GROUP = 108,    /* no group has this number */
 };
 
-/* What a typed call is told: the word of the answer that a script's line gets, and the number that goes with it. */
+/* What a typed call answers: the word of the answer that a script's line gets, and the number that goes with it. */
 enum {
     TEMPOLEMON_NOTHING = 0,   /* the call wasn't served: its status is above 100 */
     TEMPOLEMON_OK = 1,        /* it was done */
@@ -60,7 +60,7 @@ enum {
     TEMPOLEMON_FULL = 17,     /* no pin: the frame has 255 references */
     TEMPOLEMON_LAST = 18,     /* the last reference was put */
     TEMPOLEMON_REFUSED = 20,  /* the status says why; of 15 the number is the group whose limit has no room */
-    TEMPOLEMON_NOT_FAST = 21, /* no call here is told this */
+    TEMPOLEMON_NOT_FAST = 21, /* no call here answers this */
 };
 
 /* The sizes of a zone. */
@@ -101,7 +101,7 @@ typedef struct {
     bool is_live;
 } tempolemon_handle;
 
-/* What a typed call is told. */
+/* What a typed call answers. */
 typedef struct {
     uint64_t number; /* 0 if none goes with the word */
     uint8_t word;
@@ -121,7 +121,7 @@ typedef struct {
 
 /* Boots a zone of these sizes behind a handle that has none.
  *
- *   DONE        a boot stands behind the handle; tempolemon_end frees it
+ *   DONE        the handle has a boot; tempolemon_end frees it
  *   IS_LIVE     the handle had a boot, and has it still
  *   BAD_CONFIG  a size is out of its range
  *   NO_MEMORY   memory ran out
@@ -198,7 +198,7 @@ uint8_t tempolemon_write(tempolemon_handle *handle, uint32_t cpu, const uint8_t 
 uint8_t tempolemon_read(tempolemon_handle *handle, uint32_t cpu, const uint8_t *path, size_t length,
                         const uint8_t *file, size_t file_length, uint8_t *text, size_t room, tempolemon_told *told);
 
-/* Allocates 2^order frames for the group of this number, which tempolemon_mkdir told: FRAME with the first one. */
+/* Allocates 2^order frames for the group of this number, which tempolemon_mkdir answered: FRAME with the first one. */
 uint8_t tempolemon_alloc(tempolemon_handle *handle, uint32_t cpu, uint32_t group, uint32_t order,
                          tempolemon_told *told);
 
@@ -220,7 +220,7 @@ uint8_t tempolemon_dirty(tempolemon_handle *handle, uint32_t cpu, uint32_t frame
 /* Notes that the unit that this frame heads is clean: OK. */
 uint8_t tempolemon_clean(tempolemon_handle *handle, uint32_t cpu, uint32_t frame, tempolemon_told *told);
 
-/* Tells the place of this frame: FREE, CPU with its number, or CHARGED with the group's. */
+/* Gives the place of this frame: FREE, CPU with its number, or CHARGED with the group's. */
 uint8_t tempolemon_owner(tempolemon_handle *handle, uint32_t cpu, uint32_t frame, tempolemon_told *told);
 
 /* Settles the CPU: SETTLED. */

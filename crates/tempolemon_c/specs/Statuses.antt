@@ -25,11 +25,11 @@ small_buffer = 103
 abbrev pub IsReplayStatus : ℕ → Type 0
 IsReplayStatus status = Contains (done ∷ bad_config ∷ no_memory ∷ bad_line ∷ small_buffer ∷ []) status
 
--- no boot stands behind the handle
+-- the handle has no boot
 abbrev pub not_live : ℕ
 not_live = 104
 
--- a boot stands behind the handle already
+-- the handle has a boot already
 abbrev pub is_live : ℕ
 is_live = 105
 

@@ -16,10 +16,10 @@ pub const BAD_LINE: u8 = 102;
 /// The buffer is shorter than the answers.
 pub const SMALL_BUFFER: u8 = 103;
 
-/// No boot stands behind the handle.
+/// The handle has no boot.
 pub const NOT_LIVE: u8 = 104;
 
-/// A boot stands behind the handle already.
+/// The handle has a boot already.
 pub const IS_LIVE: u8 = 105;
 
 /// The zone has no CPU of this number.
