@@ -7,6 +7,6 @@ pub mod Fault
 pub mod Lints
 pub mod Logs
 pub mod Refusals
-pub mod Steps
+pub mod Starting
 pub mod Versions
 pub mod Writing

@@ -17,7 +17,6 @@ pub mod program;
 pub mod reading;
 mod refusals;
 pub mod running;
-pub mod stepping;
 pub mod thread_running;
 pub mod versions;
 pub mod writing;
