@@ -77,8 +77,8 @@ fn say_fast<N: BootName>(
     group: u32,
 ) -> Said
     requires there { group < 64 }
-    ensures said { SaysWork N.frames (asked.Fast group) (locked_state locked.old cpu.old) (locked_state locked.new cpu.new)
-        (answer_of locked.new.machine.ledger result) }
+    ensures said { SaysWork N.frames (asked.Fast group) (locked_state locked.old cpu.old)
+        (locked_state locked.new cpu.new) (answer_of locked.new.machine.ledger result) }
     ensures groups { SaysItsGroups locked.new.machine.ledger result }
 {
     let number = cpu.number();
@@ -115,8 +115,8 @@ fn say_get<N: BootName>(
     number: u32,
 ) -> Said
     requires in_zone { number < N.frames.frames }
-    ensures said { SaysWork N.frames (asked.Get number) (locked_state locked.old cpu.old) (locked_state locked.new cpu.new)
-        (answer_of locked.new.machine.ledger result) }
+    ensures said { SaysWork N.frames (asked.Get number) (locked_state locked.old cpu.old)
+        (locked_state locked.new cpu.new) (answer_of locked.new.machine.ledger result) }
     ensures groups { SaysItsGroups locked.new.machine.ledger result }
 {
     let processor = cpu.number();
@@ -136,8 +136,8 @@ fn say_put<N: BootName>(
     number: u32,
 ) -> Said
     requires in_zone { number < N.frames.frames }
-    ensures said { SaysWork N.frames (asked.Put number) (locked_state locked.old cpu.old) (locked_state locked.new cpu.new)
-        (answer_of locked.new.machine.ledger result) }
+    ensures said { SaysWork N.frames (asked.Put number) (locked_state locked.old cpu.old)
+        (locked_state locked.new cpu.new) (answer_of locked.new.machine.ledger result) }
     ensures groups { SaysItsGroups locked.new.machine.ledger result }
 {
     let processor = cpu.number();

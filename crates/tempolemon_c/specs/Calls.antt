@@ -14,7 +14,8 @@ use Rattle.handles.specs.Calls.{IsCpu, Means, NamesNoFrame, NamesNoGroup, Refuse
 use Rattle.handles.specs.Known.{KnownLive}
 use Rattle.tempolemon_c.specs.declared.told.Told.{Told}
 use Rattle.tempolemon_c.specs.Handles.{LiveBoot, OnBoot}
-use Rattle.tempolemon_c.specs.Statuses.{IsHostStatus, bad_cpu, bad_frame, bad_group, most_refusal, no_memory, not_live, small_buffer}
+use Rattle.tempolemon_c.specs.Statuses.{IsHostStatus, bad_cpu, bad_frame, bad_group, most_refusal, no_memory}
+use Rattle.tempolemon_c.specs.Statuses.{not_live, small_buffer}
 use Rattle.tempolemon_c.specs.Words.{nothing_told, status_of, told_of}
 
 -- the call was served as the command of a script that it means, with this answer
@@ -55,7 +56,8 @@ pub record ServesHost (processor : ℕ) (asked : Call) (before after : Option Li
 
 -- the call names what the boot doesn't have, and nothing is done
 abbrev pub RefusesHost : (is_missing : KnownLive → Type 0) → (before after : Option LiveBoot) → Type 0
-RefusesHost is_missing before after = OnBoot (λ frames stocks from to. RefusesCall (is_missing from) from to) before after
+RefusesHost is_missing before after =
+    OnBoot (λ frames stocks from to. RefusesCall (is_missing from) from to) before after
 
 -- What a call with a buffer does, by its status. Up to the greatest number of a refusal it was served; above, nothing
 -- was done

@@ -26,7 +26,7 @@ pub extern "C" fn tempolemon_alloc(
     serve_call(alloc, handle, cpu, Call::Alloc { group, order }, told)
 }
 
-/// Releases the unit that this frame heads: a fresh frame of the CPU goes back to its list, or the zone's reference is put.
+/// Releases the unit that this frame heads: a fresh frame of the CPU is listed again, or the zone's reference is put.
 #[unsafe(no_mangle)]
 pub extern "C" fn tempolemon_release(
     alloc: Global,

@@ -1,4 +1,5 @@
-//! The calls that make and remove groups, and write and read their files. Each takes memory for a copy of its texts, and frees it.
+//! The calls that make and remove groups, and write and read their files. Each takes memory for a copy of its texts, and
+//! frees it.
 
 ghost use Rattle.std.specs.Prelude.{◌≡◌, IfErr, IfOk};
 ghost use Rattle.tempolemon_c.specs.Behind.{behind};
@@ -89,7 +90,8 @@ pub extern "C" fn tempolemon_write(
     value: &[u8],
     told: &mut Told,
 ) -> u8
-    ensures { CallsPath (IsWrite path.now file.now value.now) cpu (behind handle.old) (behind handle.new) result told.new }
+    ensures { CallsPath (IsWrite path.now file.now value.now) cpu
+        (behind handle.old) (behind handle.new) result told.new }
 {
     match write_call(alloc, path, file, value) {
         Ok(call) => serve_call(alloc, handle, cpu, call, told),

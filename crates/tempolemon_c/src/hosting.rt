@@ -54,7 +54,8 @@ impl Handle {
     /// Serves a call of the CPU of this number.
     pub(crate) fn call(&mut self, alloc: Global, processor: u32, call: Call) -> Told
         requires live { IsSome (behind self.old) }
-        ensures { OnBoot (λ frames stocks from to. Calls frames stocks processor call from to result) (behind self.old) (behind self.new) }
+        ensures { OnBoot (λ frames stocks from to. Calls frames stocks processor call from to result)
+            (behind self.old) (behind self.new) }
     {
         match self.ask(alloc, Request::Call { processor, call }) {
             Answer::Told(told) => told,

@@ -64,9 +64,9 @@ pub extern "C" fn tempolemon_end(alloc: Global, handle: &mut Handle, report: &mu
 /// Serves lines of a script, in order, and writes the answers that the program's `replay` gives them. A bad line is
 /// found before the first line is served.
 ///
-/// How long an answer is shows only once its line was served, and then it can't be undone. So if the buffer is too small
-/// for the answers, the boot keeps them, and `written` is the length that they need: `tempolemon_answer` fetches them.
-/// They take the place of answers that were kept before.
+/// How long an answer is shows only once its line was served, and then it can't be undone. So if the buffer is too
+/// small for the answers, the boot keeps them, and `written` is the length that they need: `tempolemon_answer` fetches
+/// them. They take the place of answers that were kept before.
 #[unsafe(no_mangle)]
 pub extern "C" fn tempolemon_command(
     alloc: Global,
@@ -83,8 +83,10 @@ pub extern "C" fn tempolemon_command(
         (Commands script.now is_explained (behind handle.old) (behind handle.new)) answers.old answers.new written.new }
     ensures too_small { result ≡ small_buffer → ExceedsBuffer
         (CommandsAndKeeps script.now is_explained (behind handle.old) (behind handle.new)) answers.old written.new }
-    ensures first_bad_line { result ≡ bad_line → RefusesCommand script.now first_bad.new (behind handle.old) (behind handle.new) }
-    ensures ran_out { result ≡ no_memory → CommandRunsOut script.now is_explained (behind handle.old) (behind handle.new) }
+    ensures first_bad_line { result ≡ bad_line
+        → RefusesCommand script.now first_bad.new (behind handle.old) (behind handle.new) }
+    ensures ran_out { result ≡ no_memory
+        → CommandRunsOut script.now is_explained (behind handle.old) (behind handle.new) }
     ensures stays { result ≡ not_live → behind handle.new ≡ behind handle.old }
     ensures buffer_stays { result ≢ done → answers.new ≡ answers.old }
     ensures no_length { result ≢ done → result ≢ small_buffer → written.new ≡ 0 }
@@ -136,7 +138,8 @@ pub extern "C" fn tempolemon_answer(
     ensures none_live { (result ≡ not_live) ↔ (behind handle.old ≡ None) }
     ensures fetched { result ≡ done → FillsBuffer
         (TakesAnswer (behind handle.old) (behind handle.new)) answers.old answers.new written.new }
-    ensures too_small { result ≡ small_buffer → ExceedsBuffer (KeepsAnswer (behind handle.old)) answers.old written.new }
+    ensures too_small { result ≡ small_buffer
+        → ExceedsBuffer (KeepsAnswer (behind handle.old)) answers.old written.new }
     ensures stays { result ≢ done → behind handle.new ≡ behind handle.old }
     ensures buffer_stays { result ≢ done → answers.new ≡ answers.old }
 {

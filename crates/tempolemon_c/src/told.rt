@@ -6,7 +6,8 @@ ghost use Rattle.handles.specs.Calls.{IsPlain, IsPlainOutcome};
 ghost use Rattle.mem_system.specs.Outcomes.{reply_of};
 ghost use Rattle.script_replay.specs.Typed.{answer_of};
 ghost use Rattle.tempolemon_c.specs.Calls.{PutsAnswer, PutsReply};
-ghost use Rattle.tempolemon_c.specs.Words.{fast_told, get_told, put_told, reply_status, reply_told, status_of, told, told_of};
+ghost use Rattle.tempolemon_c.specs.Words.{fast_told, get_told, put_told, reply_status, reply_told, status_of};
+ghost use Rattle.tempolemon_c.specs.Words.{told, told_of};
 
 use crate::status::{DONE, OVER_LIMIT};
 use crate::words::{
