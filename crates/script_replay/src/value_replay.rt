@@ -206,7 +206,7 @@ fn serve_part<N: BootName>(
 }
 
 // Shows what always holds behind the lock. It does nothing.
-fn see_invariants<N: BootName>(locked: &Locked<N>)
+pub(crate) fn see_invariants<N: BootName>(locked: &Locked<N>)
     ensures { HoldsInvariants N.frames N.stocks locked.now }
 {
     locked.see_quiet();
