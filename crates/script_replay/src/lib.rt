@@ -15,7 +15,7 @@ mod visit_replay;
 mod watched_steps;
 mod work;
 
-pub use value_replay::{Stopped, replay, replay_checked};
+pub use value_replay::{Stopped, replay, replay_checked, serve_line};
 pub use visit_answers::{Visitor, visit_line};
 pub use visit_replay::{replay_lines, visit_command};
 pub use work::Work;

@@ -92,8 +92,10 @@ fn number_of(line: &Line<'_>) -> usize
     }
 }
 
-// Serves a line and adds its answer.
-fn serve_line<N: BootName>(
+/// Serves a line for the CPU that it names, and appends its answer; each line of the answer ends with a line feed.
+/// `AllocError` is returned if memory runs out for the answer. The line was then served, and what was appended of its
+/// answer says nothing.
+pub fn serve_line<N: BootName>(
     locked: &mut Locked<N>,
     tables: &Tables<N>,
     cpus: &mut [Cpu<N>],
