@@ -115,8 +115,10 @@ impl<N: BootName> Server<N> {
         ensures terms { KeepsTerms self.old self.new }
     {
         for _ in 0..u64::MAX {
-            if !self.serve_line(alloc, input, output)? {
-                return Ok(());
+            match self.serve_line(alloc, input, output) {
+                Ok(true) => {}
+                Ok(false) => return Ok(()),
+                Err(fault) => return Err(fault),
             }
         }
         Err(ServeFault::Input)

@@ -36,7 +36,7 @@ either true = inl refl
 either false = inr refl
 
 -- a good text has a line of any number
-pub says_line : (sizes : Config) (n : ℕ) (went : Bool) (text : List ℕ) → IsGoodText sizes went text
+says_line : (sizes : Config) (n : ℕ) (went : Bool) (text : List ℕ) → IsGoodText sizes went text
     → is_skipped text ≡ false → (line : Line) × IsLineText sizes n line text
 says_line sizes n went text good asks = elim (good.says asks) [
   | inl goes ↦ (Go, go_text text goes)
