@@ -22,10 +22,11 @@ use Rattle.clap.specs.declared.parser.matches.Found.{Found}
 use Rattle.clap.proofs.WalkLemmas.{one_text-rows}
 use Rattle.clap.proofs.ValueTestLemmas.{Accepts-accepts, accepts-Accepts}
 use Rattle.load_options.specs.declared.task.Options.{Options}
+use Rattle.load_options.specs.declared.task.Task.TheVariants.{Version}
 use Rattle.load_options.specs.declared.fault.LineFault.{LineFault}
 use Rattle.load_options.specs.declared.fault.LineFault.TheVariants.{BadWords, NoMemory}
 use Rattle.load_options.specs.Fault.{IsNoMemory}
-use Rattle.load_options.specs.Words.{TellsOptions, if_none, number_in, number_kept, options_of, options_under, program, size_in}
+use Rattle.load_options.specs.Words.{TellsOptions, if_none, number_in, number_kept, asks_version, bare_options, options_of, options_under, parsed_options, program, size_in}
 
 -- ---- options
 
@@ -114,17 +115,25 @@ given_read E (Some t) None none value = go (bytes_eq t (codes "true")) refl
 
 -- ---- all the words
 
--- the options are those that clap found, if it found no fault
-pub asked_found : (words : List (List ℕ)) → fault_of program words ≡ []
+-- they ask for the version, and for nothing else
+pub asked_version : (words : List (List ℕ)) → asks_version words ≡ true → options_of words ≡ Some (bare_options Version)
+unfolding options_of
+asked_version words version = ap (λ (b : Bool). cond b (Some (bare_options Version)) (parsed_options words)) version
+
+-- the options are those that clap found, if they don't ask for the version and it found no fault
+pub asked_found : (words : List (List ℕ)) → asks_version words ≡ false → fault_of program words ≡ []
     → options_of words ≡ option_and_then (λ (p : List ℕ × List Row). options_under p.0 p.1) (subcommand_of program words)
 unfolding options_of
-asked_found words none =
-    ap (λ (kinds : Kinds). if_none kinds (option_and_then (λ (p : List ℕ × List Row). options_under p.0 p.1) (subcommand_of program words))) none
+asked_found words other none =
+    ap (λ (b : Bool). cond b (Some (bare_options Version)) (parsed_options words)) other
+    ∙ ap (λ (kinds : Kinds). if_none kinds (option_and_then (λ (p : List ℕ × List Row). options_under p.0 p.1) (subcommand_of program words))) none
 
 -- and there are none if it found one
-pub asked_nothing : (words : List (List ℕ)) (kind : ErrorKind) → IsAmong kind (fault_of program words) → options_of words ≡ None
+pub asked_nothing : (words : List (List ℕ)) (kind : ErrorKind) → asks_version words ≡ false → IsAmong kind (fault_of program words)
+    → options_of words ≡ None
 unfolding options_of
-asked_nothing words kind among = go (fault_of program words) among
+asked_nothing words kind other among =
+    ap (λ (b : Bool). cond b (Some (bare_options Version)) (parsed_options words)) other ∙ go (fault_of program words) among
   where
     go : (kinds : Kinds) → IsAmong kind kinds
         → if_none kinds (option_and_then (λ (p : List ℕ × List Row). options_under p.0 p.1) (subcommand_of program words)) ≡ None

@@ -14,7 +14,7 @@ use Rattle.zone_sizes.specs.declared.config.Config.{Config}
 use Rattle.zone_sizes.specs.Config.{most_batch, most_cpus, most_frames, most_high, most_stock}
 use Rattle.load_options.specs.declared.task.Options.{Options}
 use Rattle.load_options.specs.declared.task.Task.{Task}
-use Rattle.load_options.specs.declared.task.Task.TheVariants.{Replay, Run, Check, Lint}
+use Rattle.load_options.specs.declared.task.Task.TheVariants.{Replay, Steps, Run, Check, Lint, Version}
 use Rattle.load_options.specs.declared.fault.LineFault.{LineFault}
 use Rattle.load_options.specs.declared.fault.LineFault.TheVariants.{BadWords, NoMemory}
 
@@ -46,7 +46,9 @@ size_rules =
 
 -- the options that both subcommands that answer scripts have
 abbrev pub task_rules : List Rule
-task_rules = size_rules ++ flag_rule (codes "audit") ∷ []
+task_rules =
+    ((size_rules ++ flag_rule (codes "audit") ∷ []) ++ flag_rule (codes "numbered") ∷ [])
+    ++ flag_rule (codes "strict") ∷ []
 
 -- the subcommand on scripts of this name, with the options of the sizes
 abbrev pub sized_shape : List ℕ → Shape
@@ -56,10 +58,12 @@ sized_shape name = record (new_shape name) { rules = size_rules }
 abbrev pub command_shape : List ℕ → Shape
 command_shape name = record (new_shape name) { rules = task_rules }
 
--- `replay`, which has two more options
+-- `replay`, which has three more options
 abbrev pub replay_shape : Shape
 replay_shape = record (command_shape (codes "replay")) {
-  rules = (task_rules ++ flag_rule (codes "explain") ∷ []) ++ flag_rule (codes "check") ∷ [];
+  rules =
+      ((task_rules ++ flag_rule (codes "explain") ∷ []) ++ flag_rule (codes "check") ∷ [])
+      ++ flag_rule (codes "steps") ∷ [];
 }
 
 -- `check`, which has no option
@@ -72,6 +76,7 @@ program = record {
   top = record (new_shape (codes "memcg")) {
     no_binary_name = true;
     subcommand_required = true;
+    has_version = true;
     is_leaf = false;
   };
   subs = replay_shape ∷ command_shape (codes "run") ∷ check_shape ∷ sized_shape (codes "lint") ∷ [];
@@ -108,11 +113,27 @@ sizes_in found = do
   stock ← size_in (codes "stock") most_stock found
   Some (record { frames = frames; cpus = cpus; batch = batch; high = high; stock = stock })
 
--- the task on a script that has this name, with the options of this task alone
+-- whether a flag is given that both subcommands that answer scripts have
+abbrev pub has_task_flag : List Row → Bool
+has_task_flag found =
+    is_given (codes "audit") found || (is_given (codes "numbered") found || is_given (codes "strict") found)
+
+-- whether a flag of `replay` is given besides `--steps`
+abbrev pub has_other_flag : List Row → Bool
+has_other_flag found =
+    is_given (codes "explain") found || (is_given (codes "check") found || has_task_flag found)
+
+-- the task of `replay`, with the options of this task alone; `--steps` goes with no other flag
+abbrev pub replay_task_in : List Row → Option Task
+replay_task_in found =
+    if is_given (codes "steps") found
+    then if has_other_flag found then None else Some Steps
+    else Some (Replay (is_given (codes "explain") found) (is_given (codes "check") found))
+
+-- the task on a script that has this name
 abbrev pub task_in : List ℕ → List Row → Option Task
 task_in name found =
-    if bytes_eq name (codes "replay")
-    then Some (Replay (is_given (codes "explain") found) (is_given (codes "check") found))
+    if bytes_eq name (codes "replay") then replay_task_in found
     else if bytes_eq name (codes "run") then Some Run
     else if bytes_eq name (codes "lint") then Some Lint else None
 
@@ -121,29 +142,48 @@ abbrev pub script_options_under : List ℕ → List Row → Option Options
 script_options_under name found = do
   task ← task_in name found
   sizes ← sizes_in found
-  Some (record { task = task; sizes = sizes; is_audited = is_given (codes "audit") found })
+  Some (record {
+    task = task;
+    sizes = sizes;
+    is_audited = is_given (codes "audit") found;
+    is_numbered = is_given (codes "numbered") found;
+    is_strict = is_given (codes "strict") found;
+  })
 
--- the options of `check`: it boots nothing, and has the sizes that are the default of the other tasks
-abbrev pub check_options : Options
-check_options = record {
-  task = Check;
+-- the options of a task that boots nothing: it has the sizes that are the default of the other tasks
+abbrev pub bare_options : Task → Options
+bare_options task = record {
+  task = task;
   sizes = record { frames = 16; cpus = 2; batch = 4; high = 8; stock = 4 };
   is_audited = false;
+  is_numbered = false;
+  is_strict = false;
 }
 
 -- the options that are found under the name of a subcommand
 abbrev pub options_under : List ℕ → List Row → Option Options
-options_under name found = if bytes_eq name (codes "check") then Some check_options else script_options_under name found
+options_under name found =
+    if bytes_eq name (codes "check") then Some (bare_options Check) else script_options_under name found
 
 -- what was found, if there is no fault
 abbrev pub if_none : Kinds → Option Options → Option Options
 if_none [] asked = asked
 if_none (fault ∷ faults) asked = None
 
--- what the words ask for: clap finds no fault in them, and these options under the name of a subcommand
-unfoldable pub options_of : List (List ℕ) → Option Options
-options_of words =
+-- whether the words ask for the version: they are this one word
+abbrev pub asks_version : List (List ℕ) → Bool
+asks_version (word ∷ []) = bytes_eq word (codes "--version") || bytes_eq word (codes "-V")
+asks_version words = false
+
+-- what the words ask for, if it isn't the version: clap finds no fault in them, and these options under the name of a
+-- subcommand
+abbrev pub parsed_options : List (List ℕ) → Option Options
+parsed_options words =
     if_none (fault_of program words) (option_and_then (λ p. options_under p.0 p.1) (subcommand_of program words))
+
+-- what the words ask for
+unfoldable pub options_of : List (List ℕ) → Option Options
+options_of words = if asks_version words then Some (bare_options Version) else parsed_options words
 
 -- the answer to the words: the options that they ask for; a fault, if they ask for none; or that memory ran out
 abbrev pub TellsOptions : Option Options → Result Options LineFault → Type 0

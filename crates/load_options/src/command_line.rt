@@ -1,17 +1,18 @@
 //! Parses the words of the command line.
 
-ghost use Rattle.std.specs.Prelude.{◌≡◌, IfOk, codes, false, map, pos};
+ghost use Rattle.std.specs.Prelude.{◌≡◌, IfOk, false, map, pos};
 ghost use Rattle.clap.specs.Words.{app_of, kind_of, rule_of};
 ghost use Rattle.clap.specs.declared.builder.command.Command.TheViews.{out-Command as fields_of};
 ghost use Rattle.clap.specs.declared.builder.value_parser.ValueParser.TheVariants.{Signed};
 ghost use Rattle.load_options.specs.Fault.{IsNoMemory};
 ghost use Rattle.load_options.specs.Sizes.{HasSizesInRange};
-ghost use Rattle.load_options.specs.Words.{TellsOptions, check_shape, command_shape, flag_rule, options_of, program, replay_shape};
-ghost use Rattle.load_options.specs.Words.{size_rule, sized_shape};
+ghost use Rattle.load_options.specs.Words.{TellsOptions, asks_version, check_shape, command_shape, flag_rule, options_of};
+ghost use Rattle.load_options.specs.Words.{program, replay_shape, size_rule, sized_shape};
 
 use crate::fault::LineFault;
 use crate::task::{
-    MOST_BATCH, MOST_CPUS, MOST_FRAMES, MOST_HIGH, MOST_STOCK, Options, read_options,
+    MOST_BATCH, MOST_CPUS, MOST_FRAMES, MOST_HIGH, MOST_STOCK, Options, VERSION_OPTIONS,
+    read_options,
 };
 use clap::builder::ValueParser;
 use clap::error::ErrorKind;
@@ -20,6 +21,9 @@ use std::alloc::{AllocError, Global};
 use std::convert::AsStr;
 use std::rt::Env;
 use std::{env, io};
+
+/// The program's version.
+pub const VERSION: &str = "0.1.0";
 
 // The help texts of the program, its subcommands and their options.
 const MEMCG_HELP: &str = "Charges page frames to the groups of a tree";
@@ -45,10 +49,21 @@ const STOCK_HELP: &str = "Pages that a CPU charges ahead, 1 to 64";
 
 const AUDIT_HELP: &str = "Reports at the end which pins were held, and the counts";
 
+const NUMBERED_HELP: &str = "Begins each line of an answer with the number of its script line";
+
+const STRICT_HELP: &str = "Ends with status 3 if some answer is a refusal";
+
 const EXPLAIN_HELP: &str = "Explains after an answer why groups were killed for it";
 
 const CHECKED_HELP: &str =
     "Checks each step against the rules, and reports how many steps there were";
+
+const STEPS_HELP: &str = "Writes the steps of the lines as a log, in place of the answers";
+
+// Why the words are refused though clap takes each of them.
+const STEPS_ALONE: &str =
+    "the argument '--steps' cannot be used with '--audit', '--numbered', '--strict', '--explain' \
+    or '--check'";
 
 /// The words of the command line after the program's name. A word that isn't UTF-8 is a fault of the words. It has no
 /// contract: no clause can name the words with which a process was started.
@@ -66,8 +81,10 @@ pub fn words<R: Env + AllocGlobal>(rt: &R) -> Result<Vec<String>, LineFault> {
 }
 
 /// Parses the words after the program's name. They are `replay`, `run` or `lint`, then any of `--frames`, `--cpus`,
-/// `--batch`, `--high` and `--stock`, except after `lint` also `--audit`, and after `replay` also `--explain` and
-/// `--check`, each at most once; or `check` alone. Anything else is a fault of the words, even a request for help.
+/// `--batch`, `--high` and `--stock`. After `replay` and `run` there may also be `--audit`, `--numbered` and `--strict`,
+/// and after `replay` `--explain` and `--check`, or `--steps` without any of these five. Each stands at most once. Or
+/// the words are `check` alone, or `--version` or `-V` alone. Anything else is a fault of the words, even a request for
+/// help.
 ///
 /// A size is a whole number in its own range: 1 to 1,048,576 frames, 1 to 64 CPUs, batch 1 to 64, high 1 to 256,
 /// stock 1 to 64. `Config::is_valid` requires more: high is at least batch. The defaults are 16, 2, 4, 8 and 4.
@@ -75,6 +92,9 @@ pub fn options<S: AsStr>(alloc: Global, words: &[S]) -> Result<Options, LineFaul
     ensures asked { TellsOptions (options_of (map S.text words.now)) result }
     ensures in_range { IfOk result (λ o. HasSizesInRange o.sizes) }
 {
+    if is_version(words) {
+        return Ok(VERSION_OPTIONS);
+    }
     let mut command = memcg(alloc).map_err(LineFault::NoMemory)?;
     let found = match command.try_get_matches_from_mut(words) {
         Ok(found) => found,
@@ -82,15 +102,24 @@ pub fn options<S: AsStr>(alloc: Global, words: &[S]) -> Result<Options, LineFaul
     };
     match read_options(&found) {
         Some(options) => Ok(options),
-        // This can't happen: clap refuses words without a subcommand and values out of range, and every size has a
-        // default. But its contract says neither, so the case gets an answer.
+        // Clap takes `--steps` with any other option. Nothing else leads here: clap refuses words without a subcommand
+        // and values out of range, and every size has a default. But its contract says none of that.
         None => {
-            let text = "there is no subcommand, or an option has no value in its range";
             let error = command
-                .error(ErrorKind::InvalidValue, text)
+                .error(ErrorKind::ArgumentConflict, STEPS_ALONE)
                 .map_err(LineFault::NoMemory)?;
             Err(fault_of(alloc, &error))
         }
+    }
+}
+
+// Whether the words ask for the version. They are judged before clap, for which that is an error.
+fn is_version<S: AsStr>(words: &[S]) -> bool
+    ensures { result ≡ asks_version (map S.text words.now) }
+{
+    match words {
+        [word] => word.as_str() == "--version" || word.as_str() == "-V",
+        _ => false,
     }
 }
 
@@ -114,6 +143,7 @@ fn memcg<'a>(alloc: Global) -> Result<Command<'a>, AllocError>
         .bin_name("memcg")?
         .no_binary_name(true)
         .about(MEMCG_HELP)
+        .version(VERSION)
         .subcommand_required(true)
         .subcommand(replay_command(alloc)?)?
         .subcommand(subcommand(alloc, "run", RUN_HELP)?)?
@@ -121,14 +151,15 @@ fn memcg<'a>(alloc: Global) -> Result<Command<'a>, AllocError>
         .subcommand(sized(alloc, "lint", LINT_HELP)?)
 }
 
-// `replay`, which has two more options.
+// `replay`, which has three more options.
 fn replay_command<'a>(alloc: Global) -> Result<Command<'a>, AllocError>
     ensures shape { IfOk result (λ command. (app_of command).top ≡ replay_shape) }
     ensures local { IfOk result (λ command. (fields_of command).has_globals ≡ false) }
 {
     subcommand(alloc, "replay", REPLAY_HELP)?
-        .arg(explain_option(alloc))?
-        .arg(checked_option(alloc))
+        .arg(flag_option(alloc, "explain", EXPLAIN_HELP))?
+        .arg(flag_option(alloc, "check", CHECKED_HELP))?
+        .arg(flag_option(alloc, "steps", STEPS_HELP))
 }
 
 // `check`, which has no option.
@@ -144,7 +175,10 @@ fn subcommand<'a>(alloc: Global, name: &'a str, about: &'a str) -> Result<Comman
     ensures shape { IfOk result (λ command. (app_of command).top ≡ command_shape name.entry.now) }
     ensures local { IfOk result (λ command. (fields_of command).has_globals ≡ false) }
 {
-    sized(alloc, name, about)?.arg(audit_option(alloc))
+    sized(alloc, name, about)?
+        .arg(flag_option(alloc, "audit", AUDIT_HELP))?
+        .arg(flag_option(alloc, "numbered", NUMBERED_HELP))?
+        .arg(flag_option(alloc, "strict", STRICT_HELP))
 }
 
 // A subcommand on scripts, with the options of the sizes.
@@ -161,36 +195,14 @@ fn sized<'a>(alloc: Global, name: &'a str, about: &'a str) -> Result<Command<'a>
         .arg(size_option(alloc, "stock", STOCK_HELP, MOST_STOCK, "4"))
 }
 
-// The option that asks for a report of the end.
-fn audit_option<'a>(alloc: Global) -> Arg<'a>
-    ensures rule { rule_of result ≡ flag_rule (codes "audit") }
+// An option without a value.
+fn flag_option<'a>(alloc: Global, name: &'a str, help: &'a str) -> Arg<'a>
+    ensures rule { rule_of result ≡ flag_rule name.entry.now }
     ensures local { result.global ≡ false }
 {
-    Arg::new(alloc, "audit")
-        .long("audit")
-        .help(AUDIT_HELP)
-        .action(ArgAction::SetTrue)
-}
-
-// The option that asks for an explanation of each kill.
-fn explain_option<'a>(alloc: Global) -> Arg<'a>
-    ensures rule { rule_of result ≡ flag_rule (codes "explain") }
-    ensures local { result.global ≡ false }
-{
-    Arg::new(alloc, "explain")
-        .long("explain")
-        .help(EXPLAIN_HELP)
-        .action(ArgAction::SetTrue)
-}
-
-// The option that asks for a check of each step.
-fn checked_option<'a>(alloc: Global) -> Arg<'a>
-    ensures rule { rule_of result ≡ flag_rule (codes "check") }
-    ensures local { result.global ≡ false }
-{
-    Arg::new(alloc, "check")
-        .long("check")
-        .help(CHECKED_HELP)
+    Arg::new(alloc, name)
+        .long(name)
+        .help(help)
         .action(ArgAction::SetTrue)
 }
 

@@ -3,7 +3,8 @@
 ghost use Rattle.std.specs.Prelude.{◌≡◌, ◌≤◌, IfSome, option_and_then};
 ghost use Rattle.clap.specs.Words.{found_of, rows_of, subcommand_rows_of};
 ghost use Rattle.load_options.specs.Sizes.{HasSizesInRange};
-ghost use Rattle.load_options.specs.Words.{is_given, number_kept, options_under, script_options_under, size_in, sizes_in, task_in};
+ghost use Rattle.load_options.specs.Words.{has_task_flag, is_given, number_kept, options_under, replay_task_in};
+ghost use Rattle.load_options.specs.Words.{script_options_under, size_in, sizes_in, task_in};
 
 use clap::ArgMatches;
 use zone_sizes::config::Config;
@@ -29,12 +30,16 @@ pub enum Task {
         /// Whether each step is checked against the rules.
         is_checked: bool,
     },
+    /// The lines run one after another, and their steps are written as a log in place of the answers.
+    Steps,
     /// The lines from `go` on run in one thread for each CPU.
     Run,
     /// The input is a log, which is checked.
     Check,
     /// The bad lines of the script are reported.
     Lint,
+    /// The input isn't read, and the program's version is written.
+    Version,
 }
 
 /// What the words of the command line ask for.
@@ -42,26 +47,43 @@ pub enum Task {
 pub struct Options {
     /// What to do with the input.
     pub task: Task,
-    /// The sizes of the boot. `Check` boots nothing, and has the default sizes of the other tasks.
+    /// The sizes of the boot. `Check` and `Version` boot nothing, and have the default sizes of the other tasks.
     pub sizes: Config,
     /// Whether to report the end: the pins that are still held, and the counts.
     pub is_audited: bool,
+    /// Whether each line of an answer begins with the number of its script line.
+    pub is_numbered: bool,
+    /// Whether a refusal among the answers shows in the status.
+    pub is_strict: bool,
 }
+
+const DEFAULT_SIZES: Config = Config {
+    frames: 16,
+    cpus: 2,
+    batch: 4,
+    high: 8,
+    stock: 4,
+};
 
 // `check` takes no options.
 const CHECK_OPTIONS: Options = Options {
     task: Task::Check,
-    sizes: Config {
-        frames: 16,
-        cpus: 2,
-        batch: 4,
-        high: 8,
-        stock: 4,
-    },
+    sizes: DEFAULT_SIZES,
     is_audited: false,
+    is_numbered: false,
+    is_strict: false,
 };
 
-// The options, if there is a subcommand of the program and each size has a value in its range.
+// Nor does `--version`.
+pub(crate) const VERSION_OPTIONS: Options = Options {
+    task: Task::Version,
+    sizes: DEFAULT_SIZES,
+    is_audited: false,
+    is_numbered: false,
+    is_strict: false,
+};
+
+// The options, if there is a subcommand of the program, each size has a value in its range, and the flags go together.
 pub(crate) fn read_options(found: &ArgMatches<'_>) -> Option<Options>
     ensures asked { result ≡ option_and_then (λ p. options_under p.0 p.1) (subcommand_rows_of found.now) }
     ensures in_range { IfSome result (λ o. HasSizesInRange o.sizes) }
@@ -82,10 +104,14 @@ fn script_options(name: &str, given: &ArgMatches<'_>) -> Option<Options>
     let task = named_task(name, given)?;
     let sizes = sizes(given)?;
     let is_audited = is_set(given, "audit");
+    let is_numbered = is_set(given, "numbered");
+    let is_strict = is_set(given, "strict");
     Some(Options {
         task,
         sizes,
         is_audited,
+        is_numbered,
+        is_strict,
     })
 }
 
@@ -94,12 +120,7 @@ fn named_task(name: &str, given: &ArgMatches<'_>) -> Option<Task>
     ensures { result ≡ task_in name.now (rows_of (found_of given.now)) }
 {
     if name == "replay" {
-        let is_explained = is_set(given, "explain");
-        let is_checked = is_set(given, "check");
-        Some(Task::Replay {
-            is_explained,
-            is_checked,
-        })
+        replay_task(given)
     } else if name == "run" {
         Some(Task::Run)
     } else if name == "lint" {
@@ -107,6 +128,32 @@ fn named_task(name: &str, given: &ArgMatches<'_>) -> Option<Task>
     } else {
         None
     }
+}
+
+// The task of `replay`. `--steps` goes with no other flag.
+fn replay_task(given: &ArgMatches<'_>) -> Option<Task>
+    ensures { result ≡ replay_task_in (rows_of (found_of given.now)) }
+{
+    let is_explained = is_set(given, "explain");
+    let is_checked = is_set(given, "check");
+    if !is_set(given, "steps") {
+        return Some(Task::Replay {
+            is_explained,
+            is_checked,
+        });
+    }
+    if is_explained || is_checked || has_task_flag(given) {
+        None
+    } else {
+        Some(Task::Steps)
+    }
+}
+
+// Whether a flag is given that both `replay` and `run` have.
+fn has_task_flag(given: &ArgMatches<'_>) -> bool
+    ensures { result ≡ has_task_flag (rows_of (found_of given.now)) }
+{
+    is_set(given, "audit") || is_set(given, "numbered") || is_set(given, "strict")
 }
 
 fn sizes(given: &ArgMatches<'_>) -> Option<Config>

@@ -15,19 +15,29 @@ use Rattle.script_lines.specs.declared.line.Line.{Line}
 use Rattle.script_lines.specs.Script.{IsScript}
 use Rattle.load_options.specs.declared.task.Options.{Options}
 use Rattle.load_run.specs.Answers.{AreAnswers, IsAnswered, IsWritten}
+use Rattle.load_run.specs.Refusals.{answered_status}
 use Rattle.script_replay.specs.Ranges.{LineIsThere}
 use Rattle.script_replay.proofs.InRange.{script_there}
 
--- the answers were written behind what the writer held, where the script is known
-pub answers_written : (asked : Option Options) (input before after : Option (List ℕ)) (text : List ℕ) → IfSome input (IsAnswered asked text)
-    → Appends before after text → IfSome input (IsWritten asked before after)
-answers_written asked None before after text is written = tt
-answers_written asked (Some bytes) before after text is written = record { text = text; answered = is; written = written }
+the_same : (a b : Options) → Some a ≡ Some b → a ≡ b
+the_same a b e = cc
+
+-- the answers were written behind what the writer held, if the script is known
+pub answers_written : (options : Options) (input before after : Option (List ℕ)) (text : List ℕ) (status : ℕ)
+    → IfSome input (IsAnswered (Some options) text) → Appends before after text
+    → status ≡ answered_status options.is_strict options.is_numbered text → IfSome input (IsWritten (Some options) status before after)
+answers_written options None before after text status is written ended = tt
+answers_written options (Some bytes) before after text status is written ended = record {
+  text = text;
+  answered = is;
+  status_is = ended ∙ ap (λ (o : Options). answered_status o.is_strict o.is_numbered text) (the_same options is.options is.is_asked);
+  written = written;
+}
 
 -- what was read of an input is all of it, where it is a script, and is answered by what its lines are
 pub answered : (asked : Option Options) (input : Option (List ℕ)) (script : List ℕ) (options : Options) (lines : List Line) (text : List ℕ)
     → asked ≡ Some options → IfSome input (λ bytes. script ≡ take 1048577 bytes) → IsScript options.sizes script lines → IsValidConfig options.sizes
-    → AreAnswers options.task options.sizes options.is_audited lines text → IfSome input (IsAnswered asked text)
+    → AreAnswers options.task options.sizes options.is_audited options.is_numbered lines text → IfSome input (IsAnswered asked text)
 answered asked None script options lines text is_asked read is valid answers = tt
 answered asked (Some bytes) script options lines text is_asked read is valid answers =
     let fits = is.fits in

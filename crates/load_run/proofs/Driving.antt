@@ -1,16 +1,18 @@
 -- What a run on a script promises, from how it ended: its answers were written, or a beginning of them, or a fault came before.
 -- Serves `drive_script`.
-use Rattle.std.proofs.Common.{◌≡◌, ◌∙◌, ℕ, ◌≤◌, List, Option, IfSome, IsSome, ap, arith, refl, subst, sym}
+use Rattle.std.proofs.Common.{◌≡◌, ◌∙◌, ℕ, ◌≤◌, Bool, true, false, cond, List, Option, Some, IfSome, ap, arith, inl, inr, refl, subst, sym}
+use Rattle.std.specs.Prelude.{◌&&◌}
 use Rattle.std.specs.Io.KnownBytes.{Appends}
 use Rattle.script_lines.specs.declared.fault.ScriptFault.TheVariants as script
 use Rattle.load_options.specs.declared.fault.LineFault.TheVariants as words
 use Rattle.load_options.specs.declared.task.Options.{Options}
 use Rattle.load_run.specs.declared.fault.ProgramFault.{ProgramFault}
 use Rattle.load_run.specs.declared.fault.ProgramFault.TheVariants.{Words, Script, BadLogLine, BadConfig, IllegalStep, Input, Output, NoMemory}
-use Rattle.load_run.specs.Answers.{IsAnswered}
+use Rattle.load_run.specs.Answers.{IsAnswered, IsWritten}
 use Rattle.load_run.specs.Causes.{HasCause, written}
-use Rattle.load_run.specs.Driving.{DrivesScript}
+use Rattle.load_run.specs.Driving.{DrivesScript, IsAnsweredStatus}
 use Rattle.load_run.specs.Fault.{fault_text, status_of}
+use Rattle.load_run.specs.Refusals.{answered_status, has_refusal}
 use Rattle.load_run.specs.Writing.{AppendsBeginning}
 use Rattle.load_run.proofs.Answering.{answers_written}
 use Rattle.load_run.proofs.Causing.{cut_short, failed, misused}
@@ -40,19 +42,48 @@ status_high Input = omega arith
 status_high Output = omega arith
 status_high (NoMemory error) = omega arith
 
+not_answered : (status : ℕ) → status ≡ 1 → IsAnsweredStatus status → ⊥
+not_answered status one answered = elim answered [
+  | inl zero ↦ omega (arith, one, zero)
+  | inr three ↦ omega (arith, one, three)
+]
+
 -- the answers were written, all of them
-pub drives_well : (asked : Option Options) (input output output_after faults : Option (List ℕ)) (text given : List ℕ) → IsSome asked
-    → IfSome input (IsAnswered asked text) → given ≡ text → Appends output output_after given
-    → DrivesScript asked input (written output faults) (written output_after faults) 0
-drives_well asked input output output_after faults text given is_asked answered same whole = record {
-  status_at_most = omega arith;
-  is_asked = λ zero. is_asked;
-  silent = λ zero. refl;
-  answered = λ zero. answers_written asked input output output_after text answered (subst (Appends output output_after) same whole);
-  fails = λ one. absurd (omega (arith, one));
-  quiet = λ two. absurd (omega (arith, two));
-  misused = λ two. absurd (omega (arith, two));
+drives_as : (options : Options) (input output output_after faults : Option (List ℕ)) (status : ℕ) → IsAnsweredStatus status
+    → IfSome input (IsWritten (Some options) status output output_after)
+    → DrivesScript (Some options) input (written output faults) (written output_after faults) status
+drives_as options input output output_after faults status (inl zero) is = record {
+  status_at_most = omega (arith, zero);
+  is_asked = λ answered. refl;
+  silent = λ answered. refl;
+  answered = λ answered. is;
+  fails = λ one. absurd (omega (arith, zero, one));
+  quiet = λ two. absurd (omega (arith, zero, two));
+  misused = λ two. absurd (omega (arith, zero, two));
 }
+drives_as options input output output_after faults status (inr three) is = record {
+  status_at_most = omega (arith, three);
+  is_asked = λ answered. refl;
+  silent = λ answered. refl;
+  answered = λ answered. is;
+  fails = λ one. absurd (omega (arith, three, one));
+  quiet = λ two. absurd (omega (arith, three, two));
+  misused = λ two. absurd (omega (arith, three, two));
+}
+
+zero_or_three : (b : Bool) (status : ℕ) → status ≡ cond b 3 0 → IsAnsweredStatus status
+zero_or_three true status is = inr is
+zero_or_three false status is = inl is
+
+pub drives_well : (options : Options) (input output output_after faults : Option (List ℕ)) (text given : List ℕ) (status : ℕ)
+    → IfSome input (IsAnswered (Some options) text) → given ≡ text → Appends output output_after given
+    → status ≡ answered_status options.is_strict options.is_numbered given
+    → DrivesScript (Some options) input (written output faults) (written output_after faults) status
+drives_well options input output output_after faults text given status answered same whole ended =
+    drives_as options input output output_after faults status
+    (zero_or_three (options.is_strict && has_refusal options.is_numbered given) status ended)
+    (answers_written options input output output_after text status answered (subst (Appends output output_after) same whole)
+    (ended ∙ ap (answered_status options.is_strict options.is_numbered) same))
 
 -- the output failed, and took a beginning of them
 pub drives_short : (asked : Option Options) (input output output_after faults faults_after : Option (List ℕ)) (text given : List ℕ)
@@ -63,9 +94,9 @@ drives_short asked input output output_after faults faults_after text given faul
     let ended : status ≡ 1 = status_is ∙ ap status_of is in
     record {
       status_at_most = omega (arith, ended);
-      is_asked = λ zero. absurd (omega (arith, ended, zero));
-      silent = λ zero. absurd (omega (arith, ended, zero));
-      answered = λ zero. absurd (omega (arith, ended, zero));
+      is_asked = λ well. absurd (not_answered status ended well);
+      silent = λ well. absurd (not_answered status ended well);
+      answered = λ well. absurd (not_answered status ended well);
       fails = λ one. cut_short asked input output output_after faults faults_after text given fault answered same begun is told;
       quiet = λ two. absurd (omega (arith, ended, two));
       misused = λ two. absurd (omega (arith, ended, two));
@@ -78,11 +109,15 @@ pub drives_badly : (asked : Option Options) (input output faults faults_after : 
 drives_badly asked input output faults faults_after fault status cause status_is told =
     let low : 1 ≤ status_of fault = status_low fault in
     let high : status_of fault ≤ 2 = status_high fault in
+    let not_well : IsAnsweredStatus status → ⊥ = λ well. elim well [
+      | inl zero ↦ omega (arith, status_is, low, zero)
+      | inr three ↦ omega (arith, status_is, high, three)
+    ] in
     record {
       status_at_most = omega (arith, status_is, high);
-      is_asked = λ zero. absurd (omega (arith, status_is, low, zero));
-      silent = λ zero. absurd (omega (arith, status_is, low, zero));
-      answered = λ zero. absurd (omega (arith, status_is, low, zero));
+      is_asked = λ well. absurd (not_well well);
+      silent = λ well. absurd (not_well well);
+      answered = λ well. absurd (not_well well);
       fails = λ one. failed asked input output faults faults_after fault (sym status_is ∙ one) cause told;
       quiet = λ two. refl;
       misused = λ two. misused asked input faults faults_after fault (sym status_is ∙ two) cause told;

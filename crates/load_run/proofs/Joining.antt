@@ -9,7 +9,7 @@ use Rattle.script_lines.specs.declared.line.Line.{Line}
 use Rattle.script_replay.specs.History.{TellsHistory, past}
 use Rattle.script_replay.specs.Lines.{ServesAll, SystemState}
 use Rattle.script_replay.specs.Ranges.{LineIsThere}
-use Rattle.script_replay.specs.Terms.{boot_tables, terms}
+use Rattle.script_replay.specs.Terms.{boot_tables, numbered_terms}
 use Rattle.script_threads.specs.Each.{TellsEach, workers_from}
 use Rattle.script_threads.specs.Runs.{lines_before_go}
 use Rattle.load_run.specs.declared.boot_end.Ended.{Ended}
@@ -38,14 +38,14 @@ later_there sizes t w n lines later sized is all =
 
 -- the early lines were served from the boot on, the later ones told by processor, and the boot ended: these are the
 -- answers
-pub are_answers : (sizes : Config) (is_audited : Bool) (t : KnownTable) (w : Words) (lines first_lines other_lines : List Line)
+pub are_answers : (sizes : Config) (is_numbered is_audited : Bool) (t : KnownTable) (w : Words) (lines first_lines other_lines : List Line)
     (start at_go : SystemState) (early later text : List ℕ) (told : Ended) → StandsAtFirst sizes t w start
     → first_lines ≡ take (lines_before_go lines) lines → other_lines ≡ drop (lines_before_go lines) lines
-    → ServesAll (terms t w false) first_lines start at_go early → TellsHistory (terms t w false) first_lines (past [] start) at_go early
-    → TellsEach (boot_tables t w) (workers_from 1 at_go.cpus other_lines) later
+    → ServesAll (numbered_terms t w false is_numbered) first_lines start at_go early → TellsHistory (numbered_terms t w false is_numbered) first_lines (past [] start) at_go early
+    → TellsEach (boot_tables t w) (workers_from 1 at_go.cpus other_lines is_numbered) later
     → EndsAfter t w (StandsQuiet t w) told
-    → text ≡ (early ++ later) ++ end_text is_audited told → AreThreadAnswers sizes is_audited lines text
-are_answers sizes is_audited t w lines first_lines other_lines start at_go early later text told first is_first is_other served history tells
+    → text ≡ (early ++ later) ++ end_text is_audited told → AreThreadAnswers sizes is_numbered is_audited lines text
+are_answers sizes is_numbered is_audited t w lines first_lines other_lines start at_go early later text told first is_first is_other served history tells
     ended is = record {
       frames = t;
       stocks = w;
@@ -56,9 +56,9 @@ are_answers sizes is_audited t w lines first_lines other_lines start at_go early
       later = later;
       ending = end_text is_audited told;
       first = first;
-      served = subst (λ (l : List Line). ServesAll (terms t w false) l start at_go early) is_first served;
-      history = subst (λ (l : List Line). TellsHistory (terms t w false) l (past [] start) at_go early) is_first history;
-      tells = subst (λ (l : List Line). TellsEach (boot_tables t w) (workers_from 1 at_go.cpus l) later) is_other tells;
+      served = subst (λ (l : List Line). ServesAll (numbered_terms t w false is_numbered) l start at_go early) is_first served;
+      history = subst (λ (l : List Line). TellsHistory (numbered_terms t w false is_numbered) l (past [] start) at_go early) is_first history;
+      tells = subst (λ (l : List Line). TellsEach (boot_tables t w) (workers_from 1 at_go.cpus l is_numbered) later) is_other tells;
       quiet = ended.so;
       ends = record { ended = told; ends = ended.ends; text_is = refl };
       text_is = is;

@@ -8,3 +8,4 @@ pub mod Reporting
 pub mod Starting
 pub mod Verdicts
 pub mod Written
+pub mod Telling

@@ -1,91 +1,128 @@
--- Pins that are put, one after the other.
-use Rattle.std.proofs.Common.{◌≡◌, ℕ, suc, ◌+◌, ◌<◌, ◌≤◌, List, [], ◌∷◌, ◌++◌, length, take, drop, get_or, refl, sym, ap, ◌∙◌, subst, arith}
-use Rattle.std.specs.Prelude.{slice_set}
-use Rattle.std.specs.List.{AllZip}
-use Rattle.std.proofs.lemmas.List.{drop-set-lt, length-set, take_all, take_more, take_more_set}
+-- Pins that are put, one after the other, and the steps that the watch takes of them.
+use Rattle.std.proofs.Common.{◌≡◌, ℕ, ◌+◌, ◌<◌, ◌≤◌, List, [], ◌∷◌, ◌++◌, length, refl, sym, ap, ◌∙◌, subst, arith}
+use Rattle.std.specs.Prelude.{All}
 use Rattle.std.proofs.lemmas.List.Sums.{sum_by-append}
-use Rattle.std.proofs.lemmas.List.Elements.{AllZip-push}
+use Rattle.frame_word.specs.Seats.{KnownTable}
+use Rattle.stock_word.specs.Stock.{Words}
 use Rattle.frame_word.specs.declared.answers.Put.{Put}
 use Rattle.frame_word.specs.declared.answers.Put.TheVariants.{Left, Last}
 use Rattle.cpu_part.specs.Cpus.{KnownCpu}
 use Rattle.cpu_part.specs.Calls.{UnpinAnswers}
 use Rattle.cpu_part.proofs.Tied.{length_parted}
-use Rattle.mem_system.specs.Ends.{pins_of}
-use Rattle.mem_system.proofs.InTurns.{same_at, same_next}
-use Rattle.load_run.specs.Ending.{PutsAllPins, PutsEach}
+use Rattle.step_rules.specs.declared.step.Action.TheVariants as step
+use Rattle.step_watch.specs.Watched.{KnownWatch, Watches, cpu_makes}
+use Rattle.step_watch.proofs.Watching.{watches_both, watches_none}
+use Rattle.mem_machine.specs.Machines.{KnownMachine, VisitState, visit_state}
+use Rattle.mem_history.specs.Leading.{put_answer}
+use Rattle.mem_system.specs.Ends.{ForEachCpu, KnownSpent, MakesLastVisits, pins_of}
+use Rattle.mem_system.specs.Locked.{KnownLocked}
+use Rattle.script_replay.specs.Lines.{SystemState, system_state}
+use Rattle.load_run.specs.Ending.{LeavesNothing, PutsAllPins, PutsEach, PutsPin, steps_of_all_puts, steps_of_puts}
 
 -- the pins of these frames were put so far
-pub record PutSoFar (c d : KnownCpu) : Type 0 where
+pub record PutSoFar (before now : VisitState) : Type 0 where
   pub frames : List ℕ
-  pub puts : PutsEach frames c d
+  pub puts : PutsEach frames before now
 
-pub put_start : (c : KnownCpu) → PutSoFar c c
-put_start c = record { frames = []; puts = refl }
+pub put_start : (before : VisitState) → PutSoFar before before
+put_start before = record { frames = []; puts = refl }
 
-puts_more : (frames : List ℕ) (f : ℕ) (answer : Put) (c m d : KnownCpu) → PutsEach frames c m → UnpinAnswers f answer m d → PutsEach (frames ++ f ∷ []) c d
-puts_more [] f answer c m d puts one =
-    record { answer = answer; between = d; first = subst (λ (x : KnownCpu). UnpinAnswers f answer x d) puts one; rest = refl }
-puts_more (e ∷ frames) f answer c m d puts one = record {
-  answer = puts.answer;
+puts_more : (frames : List ℕ) (f : ℕ) (before mid after : VisitState) → PutsEach frames before mid → PutsPin f mid after → PutsEach (frames ++ f ∷ []) before after
+puts_more [] f before mid after puts one =
+    record { between = after; first = subst (λ (x : VisitState). PutsPin f x after) puts one; rest = refl }
+puts_more (e ∷ frames) f before mid after puts one = record {
   between = puts.between;
   first = puts.first;
-  rest = puts_more frames f answer puts.between m d puts.rest one;
+  rest = puts_more frames f puts.between mid after puts.rest one;
 }
 
-pub put_more : (f : ℕ) (answer : Put) (c m d : KnownCpu) → PutSoFar c m → UnpinAnswers f answer m d → PutSoFar c d
-put_more f answer c m d so_far one = record { frames = so_far.frames ++ f ∷ []; puts = puts_more so_far.frames f answer c m d so_far.puts one }
+pub put_more : (f : ℕ) (before mid after : VisitState) → PutSoFar before mid → PutsPin f mid after → PutSoFar before after
+put_more f before mid after so_far one = record {
+  frames = so_far.frames ++ f ∷ [];
+  puts = puts_more so_far.frames f before mid after so_far.puts one;
+}
 
 -- a pin less
-pub fewer_pins : (f : ℕ) (answer : Put) (c d : KnownCpu) → UnpinAnswers f answer c d → length d.pins < length c.pins
-fewer_pins f (Left n) c d one = let parted = length_parted f c.pins d.pins one.0 in omega arith
-fewer_pins f Last c d one = let parted = length_parted f c.pins d.pins one.0 in omega arith
+fewer_left : (f : ℕ) (answer : Put) (c d : KnownCpu) → UnpinAnswers f answer c d → length d.pins < length c.pins
+fewer_left f (Left n) c d one = let parted = length_parted f c.pins d.pins one.0 in omega arith
+fewer_left f Last c d one = let parted = length_parted f c.pins d.pins one.0 in omega arith
 
-pub lets_go : (c d : KnownCpu) → PutSoFar c d → d.pins ≡ [] → PutsAllPins c d
-lets_go c d so_far none = record { frames = so_far.frames; puts = so_far.puts; none_left = none }
+pub fewer_pins : (f : ℕ) (before after : VisitState) → PutsPin f before after → length after.cpu.pins < length before.cpu.pins
+fewer_pins f before after one = fewer_left f one.answer before.cpu after.cpu one.cpu
 
--- so it is with the first i of the processors, and the others are as they were
-pub record GoneSoFar (i : ℕ) (cpus now : List KnownCpu) : Type 0 where
-  pub long : length now ≡ length cpus
-  pub left : drop i now ≡ drop i cpus
-  pub gone : AllZip PutsAllPins (take i cpus) (take i now)
-
-pub gone_start : (cpus : List KnownCpu) → GoneSoFar 0 cpus cpus
-gone_start cpus = record { long = refl; left = refl; gone = tt }
-
-pub gone_more : (i : ℕ) (cpus now : List KnownCpu) (any d : KnownCpu) → GoneSoFar i cpus now → i < length now → PutsAllPins (get_or now i any) d
-    → GoneSoFar (i + 1) cpus (slice_set now i d)
-gone_more i cpus now any d so_far inside one =
-    let long = so_far.long in
-    let within : i < length cpus = omega (arith, inside, long) in
-    let next = same_next i cpus now any within long so_far.left in
-    let its : PutsAllPins (get_or cpus i any) d = subst (λ (c : KnownCpu). PutsAllPins c d) (same_at cpus now i any inside long so_far.left) one in
-    let both : AllZip PutsAllPins (take i cpus ++ get_or cpus i any ∷ []) (take i now ++ d ∷ []) = AllZip-push PutsAllPins _ _ _ _ so_far.gone its in
-    record {
-      long = length-set now i d ∙ long;
-      left = drop-set-lt (i + 1) now i d (omega arith) ∙ ap (λ (l : List KnownCpu). drop 1 l) next;
-      gone = subst (λ (l : List KnownCpu). AllZip PutsAllPins l (take (i + 1) (slice_set now i d))) (sym (take_more cpus i any within))
-          (subst (λ (l : List KnownCpu). AllZip PutsAllPins (take i cpus ++ get_or cpus i any ∷ []) l) (sym (take_more_set now i d inside)) both);
-    }
-
-pub gone_end : (i : ℕ) (cpus now : List KnownCpu) → GoneSoFar i cpus now → length now ≤ i → AllZip PutsAllPins cpus now
-gone_end i cpus now so_far past =
-    let long = so_far.long in
-    subst (λ (l : List KnownCpu). AllZip PutsAllPins l now) (take_all i cpus (omega (arith, past, long)))
-    (subst (λ (l : List KnownCpu). AllZip PutsAllPins (take i cpus) l) (take_all i now past) so_far.gone)
+pub lets_go : (before after : VisitState) → PutSoFar before after → after.cpu.pins ≡ [] → PutsAllPins before after
+lets_go before after so_far none = record { frames = so_far.frames; puts = so_far.puts; none_left = none }
 
 -- no pin is left then
-pub none_pinned : (cpus now : List KnownCpu) → AllZip PutsAllPins cpus now → pins_of now ≡ 0
-none_pinned [] [] zip = refl
-none_pinned [] (d ∷ now) zip = absurd zip
-none_pinned (c ∷ cpus) [] zip = absurd zip
-none_pinned (c ∷ cpus) (d ∷ now) zip =
-    let none : length d.pins ≡ 0 = ap length zip.0.none_left in
-    let rest = none_pinned cpus now zip.1 in
-    let parts = sum_by-append (λ (x : KnownCpu). length x.pins) (d ∷ []) now in
+pub none_pinned : (m : KnownMachine) (cpus : List KnownCpu) (n : KnownMachine) (left : List KnownCpu) → ForEachCpu PutsAllPins m cpus n left → pins_of left ≡ 0
+none_pinned m [] n [] puts = refl
+none_pinned m [] n (d ∷ left) puts = absurd puts
+none_pinned m (c ∷ cpus) n [] puts = absurd puts
+none_pinned m (c ∷ cpus) n (d ∷ left) puts =
+    let none : length d.pins ≡ 0 = ap length puts.first.none_left in
+    let rest = none_pinned puts.between cpus n left puts.rest in
+    let parts = sum_by-append (λ (x : KnownCpu). length x.pins) (d ∷ []) left in
     omega (arith, parts, none, rest)
 
-pub zip_long : (cpus now : List KnownCpu) → AllZip PutsAllPins cpus now → length now ≡ length cpus
-zip_long [] [] zip = refl
-zip_long [] (d ∷ now) zip = absurd zip
-zip_long (c ∷ cpus) [] zip = absurd zip
-zip_long (c ∷ cpus) (d ∷ now) zip = ap (λ (n : ℕ). suc n) (zip_long cpus now zip.1)
+nothing_held : (l : List ℕ) → length l ≡ 0 → l ≡ []
+nothing_held [] h = refl
+nothing_held (x ∷ xs) h = absurd (omega (arith, h))
+
+-- without a pin, none is put
+pub none_put : (m : KnownMachine) (cpus : List KnownCpu) → pins_of cpus ≡ 0 → ForEachCpu PutsAllPins m cpus m cpus
+none_put m [] none = refl
+none_put m (c ∷ cpus) none =
+    let parts = sum_by-append (λ (x : KnownCpu). length x.pins) (c ∷ []) cpus in
+    record {
+      between = m;
+      first = record { frames = []; puts = refl; none_left = nothing_held c.pins (omega (arith, parts, none)) };
+      rest = none_put m cpus (omega (arith, parts, none));
+    }
+
+-- ---- the watch
+
+each_watched : (frames : List ℕ) (before after : VisitState) (puts : PutsEach frames before after)
+    → Watches before.machine.watch (steps_of_puts frames before after puts) after.machine.watch
+each_watched [] before after puts = subst (λ (x : VisitState). Watches before.machine.watch [] x.machine.watch) (sym puts) (watches_none before.machine.watch)
+each_watched (f ∷ frames) before after puts =
+    watches_both before.machine.watch (cpu_makes before.cpu.number (step.Put f) (put_answer puts.first.answer) ∷ []) puts.between.machine.watch
+    (steps_of_puts frames puts.between after puts.rest) after.machine.watch puts.first.watched (each_watched frames puts.between after puts.rest)
+
+-- the watch takes the steps of all puts
+pub puts_watched : (m : KnownMachine) (cpus : List KnownCpu) (n : KnownMachine) (left : List KnownCpu) (puts : ForEachCpu PutsAllPins m cpus n left)
+    → Watches m.watch (steps_of_all_puts m cpus n left puts) n.watch
+puts_watched m [] n [] puts = subst (λ (k : KnownMachine). Watches m.watch [] k.watch) (sym puts) (watches_none m.watch)
+puts_watched m [] n (d ∷ left) puts = absurd puts
+puts_watched m (c ∷ cpus) n [] puts = absurd puts
+puts_watched m (c ∷ cpus) n (d ∷ left) puts =
+    watches_both m.watch (steps_of_puts puts.first.frames (visit_state m c) (visit_state puts.between d) puts.first.puts) puts.between.watch
+    (steps_of_all_puts puts.between cpus n left puts.rest) n.watch
+    (each_watched puts.first.frames (visit_state m c) (visit_state puts.between d) puts.first.puts) (puts_watched puts.between cpus n left puts.rest)
+
+-- ---- nothing is left
+
+pub leaves_nothing : (t : KnownTable) (w : Words) (before : SystemState) (held : ℕ) (spent : KnownSpent) (locked : KnownLocked) (cpus : List KnownCpu)
+    → held ≡ pins_of before.cpus → ForEachCpu PutsAllPins before.locked.machine before.cpus locked.machine cpus → locked.sizes ≡ before.locked.sizes
+    → (held ≡ 0 → system_state locked cpus ≡ before) → MakesLastVisits t w locked cpus spent → LeavesNothing t w before held spent
+leaves_nothing t w before held spent locked cpus held_are puts sizes free visits =
+    let putting = steps_of_all_puts before.locked.machine before.cpus locked.machine cpus puts in
+    record {
+      held_are = held_are;
+      locked = locked;
+      cpus = cpus;
+      puts = puts;
+      sizes = sizes;
+      free = free;
+      visits = visits;
+      steps = putting ++ visits.steps;
+      steps_are = refl;
+      watched = watches_both before.locked.machine.watch putting locked.machine.watch visits.steps spent.machine.watch
+          (puts_watched before.locked.machine before.cpus locked.machine cpus puts) visits.watched;
+    }
+
+-- no pin was held
+pub leaves_free : (t : KnownTable) (w : Words) (before : SystemState) (spent : KnownSpent) → MakesLastVisits t w before.locked before.cpus spent
+    → LeavesNothing t w before 0 spent
+leaves_free t w before spent visits =
+    leaves_nothing t w before 0 spent before.locked before.cpus (sym visits.no_pin) (none_put before.locked.machine before.cpus visits.no_pin) refl
+    (λ none. refl) visits

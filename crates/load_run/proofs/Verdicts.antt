@@ -3,6 +3,7 @@ use Rattle.std.proofs.Common.{◌≡◌, ◌∙◌, ◌↔◌, ℕ, ◌≤◌, L
 use Rattle.std.proofs.lemmas.Bool.{false≢true}
 use Rattle.std.specs.Prelude.{◌⊎◌, ⊤, is_some}
 use Rattle.std.specs.Io.KnownBytes.{Appends}
+use Rattle.std.proofs.KnownBytes.{Appends-nil}
 use Rattle.step_rules.specs.declared.step.Answer.{Answer}
 use Rattle.log_check.specs.declared.end.LogEnd.{LogEnd}
 use Rattle.log_check.specs.declared.end.LogEnd.TheVariants.{BadLine, Legal, NotLegal}
@@ -11,7 +12,7 @@ use Rattle.log_check.specs.Texts.{end_text}
 use Rattle.load_options.specs.declared.fault.LineFault.TheVariants as words
 use Rattle.load_options.specs.declared.task.Options.{Options}
 use Rattle.load_options.specs.declared.task.Task.{Task}
-use Rattle.load_options.specs.declared.task.Task.TheVariants.{Check, Lint, Replay, Run}
+use Rattle.load_options.specs.declared.task.Task.TheVariants.{Check, Lint, Replay, Run, Steps, Version}
 use Rattle.load_run.specs.declared.fault.ProgramFault.{ProgramFault}
 use Rattle.load_run.specs.declared.fault.ProgramFault.TheVariants.{BadConfig, BadLogLine, IllegalStep, Input, NoMemory, Output, Script, Words}
 use Rattle.load_run.specs.Answers.{IsOnScript}
@@ -19,11 +20,14 @@ use Rattle.load_run.specs.Causes.{Written, written}
 use Rattle.load_run.specs.Checks.{Checks, FailsToCheck, IsEndOf, IsVerdict, LeavesLine, LeavesReport, ReportsBadLine, ReportsLegal, ReportsNotLegal}
 use Rattle.load_run.specs.Driving.{Drives, DrivesScript, DrivesTask, LintsAsked}
 use Rattle.load_run.specs.Lints.{Lints}
+use Rattle.load_run.specs.Steps.{DrivesSteps}
+use Rattle.load_run.specs.Versions.{TellsVersion}
 use Rattle.load_run.specs.Fault.{IsWordsFault, fault_text, status_of}
 use Rattle.load_run.specs.Writing.{AppendsBeginning}
 use Rattle.load_run.proofs.Causing.{words_cause}
 use Rattle.load_run.proofs.Driving.{drives_badly}
 use Rattle.load_run.proofs.Reporting.{lints_early}
+use Rattle.load_run.proofs.Telling.{version_failed}
 
 -- both are known of the input
 pub end_of : (input : Option (List ℕ)) (end : LogEnd) → IfSome input (λ text. IsEnd text end)
@@ -204,12 +208,27 @@ drives_words (Some options) input output faults faults_after fault status is end
     for_lint Output is ended told = absurd is
     for_lint (NoMemory e) is ended told = absurd is
 
+    for_version : (f : ProgramFault) → IsWordsFault (Some options) f → status ≡ status_of f → AppendsBeginning faults faults_after (fault_text f)
+        → TellsVersion (written output faults) (written output faults_after) status
+    for_version (Words (words.NoMemory e)) is ended told =
+        version_failed output output faults faults_after (Words (words.NoMemory e)) status refl (0, Appends-nil output) ended told
+    for_version (Words (words.BadWords text)) is ended told = absurd (false≢true (sym (ap is_some is)))
+    for_version (Script f) is ended told = absurd is
+    for_version (BadLogLine n) is ended told = absurd is
+    for_version BadConfig is ended told = absurd is
+    for_version (IllegalStep n) is ended told = absurd is
+    for_version Input is ended told = absurd is
+    for_version Output is ended told = absurd is
+    for_version (NoMemory e) is ended told = absurd is
+
     by_task : (task : Task) → DrivesTask task (Some options) input (written output faults) (written output faults_after) status
     by_task (Replay is_explained is_checked) =
         drives_badly (Some options) input output faults faults_after fault status (words_cause (Some options) input fault is) ended told
     by_task Run = drives_badly (Some options) input output faults faults_after fault status (words_cause (Some options) input fault is) ended told
     by_task Check = for_check fault is ended told
     by_task Lint = record { options = options; is_asked = refl; lints = for_lint fault is ended told }
+    by_task Steps = record { quiet = refl }
+    by_task Version = for_version fault is ended told
 
 -- what a task on a script promises
 pub script_drives : (options : Options) (input : Option (List ℕ)) (before after : Written) (status : ℕ) → IsOnScript options.task
@@ -219,8 +238,10 @@ script_drives options input before after status on_script drives = go options.ta
     go : (task : Task) → IsOnScript task → DrivesTask task (Some options) input before after status
     go (Replay is_explained is_checked) on_script = drives
     go Run on_script = drives
+    go Steps on_script = absurd on_script
     go Check on_script = absurd on_script
     go Lint on_script = absurd on_script
+    go Version on_script = absurd on_script
 
 -- and a check
 pub check_drives : (options : Options) (input : Option (List ℕ)) (before after : Written) (status : ℕ) → options.task ≡ Check
@@ -234,6 +255,18 @@ pub lint_drives : (options : Options) (input : Option (List ℕ)) (before after 
 lint_drives options input before after status is lints =
     let here : LintsAsked (Some options) input before after status = record { options = options; is_asked = refl; lints = lints } in
     subst (λ (task : Task). DrivesTask task (Some options) input before after status) (sym is) here
+
+-- and the steps of a script
+pub steps_drive : (options : Options) (input : Option (List ℕ)) (before after : Written) (status : ℕ) → options.task ≡ Steps
+    → DrivesSteps before after status → Drives (Some options) input before after status
+steps_drive options input before after status is drives =
+    subst (λ (task : Task). DrivesTask task (Some options) input before after status) (sym is) drives
+
+-- and the version
+pub version_drives : (options : Options) (input : Option (List ℕ)) (before after : Written) (status : ℕ) → options.task ≡ Version
+    → TellsVersion before after status → Drives (Some options) input before after status
+version_drives options input before after status is tells =
+    subst (λ (task : Task). DrivesTask task (Some options) input before after status) (sym is) tells
 
 -- what the options promise is what the words do that ask for them
 pub asked_drives : (asked : Option Options) (options : Options) (input : Option (List ℕ)) (before after : Written) (status : ℕ)

@@ -18,14 +18,16 @@ use Rattle.script_lines.specs.declared.line.Line.{Line}
 use Rattle.script_lines.specs.Script.{IsScript, longest_script}
 use Rattle.script_replay.specs.Lines.{ServesAll, SystemState}
 use Rattle.script_replay.specs.declared.value_replay.Stopped.{Stopped}
+use Rattle.script_replay.specs.declared.form.Form.{Form}
 use Rattle.script_replay.specs.History.{KeepsHistory, ReplaysCheckedOrStops, TellsHistory, past}
-use Rattle.script_replay.specs.Terms.{Terms, boot_tables, terms}
+use Rattle.script_replay.specs.Terms.{Terms, boot_tables, form_of, form_terms, numbered_terms}
 use Rattle.script_threads.specs.Each.{TellsEach, workers_from}
 use Rattle.script_threads.specs.Runs.{lines_before_go}
 use Rattle.load_options.specs.declared.task.Options.{Options}
 use Rattle.load_options.specs.declared.task.Task.{Task}
-use Rattle.load_options.specs.declared.task.Task.TheVariants.{Replay, Run, Check, Lint}
+use Rattle.load_options.specs.declared.task.Task.TheVariants.{Replay, Steps, Run, Check, Lint, Version}
 use Rattle.load_run.specs.Ending.{TellsEnd}
+use Rattle.load_run.specs.Refusals.{answered_status}
 
 -- what is read of an input: a byte more than a script may have, as far as there are so many
 abbrev pub bytes_read : List ℕ → List ℕ
@@ -42,7 +44,7 @@ pub record StandsAtFirst (sizes : Config) (table : KnownTable) (stock_table : Wo
 -- then reports of its end. All steps of the lines together are one run from the boot on. Its history says of each line
 -- that the promise is kept after it, if the run is legal. The ledger of the boot is that of a run without steps, so
 -- after each line each group's peak and event counts are those of the run so far.
-pub record AreReplayAnswers (sizes : Config) (is_explained is_audited : Bool) (lines : List Line) (text : List ℕ)
+pub record AreReplayAnswers (sizes : Config) (form : Form) (is_audited : Bool) (lines : List Line) (text : List ℕ)
     : Type 0 where
   pub frames : KnownTable
   pub stocks : Words
@@ -51,8 +53,8 @@ pub record AreReplayAnswers (sizes : Config) (is_explained is_audited : Bool) (l
   pub answers : List ℕ
   pub ending : List ℕ
   pub first : StandsAtFirst sizes frames stocks start
-  pub served : ServesAll (terms frames stocks is_explained) lines start end answers
-  pub history : TellsHistory (terms frames stocks is_explained) lines (past [] start) end answers
+  pub served : ServesAll (form_terms frames stocks form) lines start end answers
+  pub history : TellsHistory (form_terms frames stocks form) lines (past [] start) end answers
   pub told : TellsRun frames [] start.locked.machine.ledger
   pub ends : TellsEnd frames stocks is_audited end ending
   pub text_is : text ≡ answers ++ ending
@@ -65,7 +67,7 @@ checked_text steps = codes "checked " ++ (decimal steps ++ codes " steps\n")
 -- steps the lines made. All these steps are one legal run from the boot on. The promise holds after each beginning of
 -- the run that leaves the lock free. After each line it holds of what the machine and the CPUs show, and each group's
 -- peak and event counts are those of the run so far.
-pub record AreCheckedAnswers (sizes : Config) (is_explained is_audited : Bool) (lines : List Line) (text : List ℕ)
+pub record AreCheckedAnswers (sizes : Config) (form : Form) (is_audited : Bool) (lines : List Line) (text : List ℕ)
     : Type 0 where
   pub frames : KnownTable
   pub stocks : Words
@@ -75,10 +77,10 @@ pub record AreCheckedAnswers (sizes : Config) (is_explained is_audited : Bool) (
   pub answers : List ℕ
   pub ending : List ℕ
   pub first : StandsAtFirst sizes frames stocks start
-  pub served : ServesAll (terms frames stocks is_explained) lines start end answers
+  pub served : ServesAll (form_terms frames stocks form) lines start end answers
   pub legal : IsLegalRun (zone_of frames) run
   pub promise : AlwaysKeepsPromise (zone_of frames) run
-  pub history : KeepsHistory (terms frames stocks is_explained) lines (past [] start) (past run end) answers
+  pub history : KeepsHistory (form_terms frames stocks form) lines (past [] start) (past run end) answers
   pub ends : TellsEnd frames stocks is_audited end ending
   pub text_is : text ≡ answers ++ (ending ++ checked_text (length run))
 
@@ -98,7 +100,7 @@ pub record StandsQuiet (frames : KnownTable) (stocks : Words) (now : SystemState
 -- Then each CPU is answered its own among the lines from `go` on, from its part as the lines before left it. No clause
 -- says what is behind the lock and at the parts after that, except that no visit is open and that there are as many
 -- parts; from there the boot ends
-pub record AreThreadAnswers (sizes : Config) (is_audited : Bool) (lines : List Line) (text : List ℕ) : Type 0 where
+pub record AreThreadAnswers (sizes : Config) (is_numbered is_audited : Bool) (lines : List Line) (text : List ℕ) : Type 0 where
   pub frames : KnownTable
   pub stocks : Words
   pub start : SystemState
@@ -108,11 +110,11 @@ pub record AreThreadAnswers (sizes : Config) (is_audited : Bool) (lines : List L
   pub later : List ℕ
   pub ending : List ℕ
   pub first : StandsAtFirst sizes frames stocks start
-  pub served : ServesAll (terms frames stocks false) (take (lines_before_go lines) lines) start at_go early
-  pub history : TellsHistory (terms frames stocks false) (take (lines_before_go lines) lines) (past [] start) at_go
-      early
+  pub served : ServesAll (numbered_terms frames stocks false is_numbered) (take (lines_before_go lines) lines) start at_go early
+  pub history : TellsHistory (numbered_terms frames stocks false is_numbered) (take (lines_before_go lines) lines) (past [] start)
+      at_go early
   pub tells : TellsEach (boot_tables frames stocks)
-      (workers_from 1 at_go.cpus (drop (lines_before_go lines) lines)) later
+      (workers_from 1 at_go.cpus (drop (lines_before_go lines) lines) is_numbered) later
   pub quiet : StandsQuiet frames stocks end
   pub ends : TellsEnd frames stocks is_audited end ending
   pub text_is : text ≡ (early ++ later) ++ ending
@@ -121,19 +123,23 @@ pub record AreThreadAnswers (sizes : Config) (is_audited : Bool) (lines : List L
 abbrev pub IsOnScript : Task → Type 0
 IsOnScript (Replay is_explained is_checked) = ⊤
 IsOnScript Run = ⊤
+IsOnScript Steps = ⊥
 IsOnScript Check = ⊥
 IsOnScript Lint = ⊥
+IsOnScript Version = ⊥
 
--- what a boot with these sizes answers to the lines for this task, and reports of its end if it is audited; a check
--- and a lint have no boot
-abbrev pub AreAnswers : Task → (sizes : Config) (is_audited : Bool) (lines : List Line) (text : List ℕ) → Type 0
-AreAnswers (Replay is_explained false) sizes is_audited lines text =
-    AreReplayAnswers sizes is_explained is_audited lines text
-AreAnswers (Replay is_explained true) sizes is_audited lines text =
-    AreCheckedAnswers sizes is_explained is_audited lines text
-AreAnswers Run sizes is_audited lines text = AreThreadAnswers sizes is_audited lines text
-AreAnswers Check sizes is_audited lines text = ⊥
-AreAnswers Lint sizes is_audited lines text = ⊥
+-- what a boot with these sizes answers to the lines for this task, with numbers or without, and reports of its end if it is
+-- audited; the other tasks have no such answers
+abbrev pub AreAnswers : Task → (sizes : Config) (is_audited is_numbered : Bool) (lines : List Line) (text : List ℕ) → Type 0
+AreAnswers (Replay is_explained false) sizes is_audited is_numbered lines text =
+    AreReplayAnswers sizes (form_of is_explained is_numbered) is_audited lines text
+AreAnswers (Replay is_explained true) sizes is_audited is_numbered lines text =
+    AreCheckedAnswers sizes (form_of is_explained is_numbered) is_audited lines text
+AreAnswers Run sizes is_audited is_numbered lines text = AreThreadAnswers sizes is_numbered is_audited lines text
+AreAnswers Steps sizes is_audited is_numbered lines text = ⊥
+AreAnswers Check sizes is_audited is_numbered lines text = ⊥
+AreAnswers Lint sizes is_audited is_numbered lines text = ⊥
+AreAnswers Version sizes is_audited is_numbered lines text = ⊥
 
 -- These options are asked for, a boot takes their sizes, and the input is a script for them. The text is what a boot of
 -- these sizes answers to the script for the task of the options. It ends with a report of the end, if they ask for one.
@@ -143,11 +149,12 @@ pub record IsAnswered (asked : Option Options) (text input : List ℕ) : Type 0 
   pub valid : IsValidConfig options.sizes
   pub lines : List Line
   pub script : IsScript options.sizes input lines
-  pub answers : AreAnswers options.task options.sizes options.is_audited lines text
+  pub answers : AreAnswers options.task options.sizes options.is_audited options.is_numbered lines text
 
--- the options that are asked for have answers to the input, and a writer that held the bytes `before`, if they are
--- known, was given all of them
-pub record IsWritten (asked : Option Options) (before after : Option (List ℕ)) (input : List ℕ) : Type 0 where
+-- The options that are asked for have answers to the input, and a writer that held the bytes `before`, if they are known,
+-- was given all of them. The status is 3 if the options are strict and some answer is a refusal, else 0.
+pub record IsWritten (asked : Option Options) (status : ℕ) (before after : Option (List ℕ)) (input : List ℕ) : Type 0 where
   pub text : List ℕ
   pub answered : IsAnswered asked text input
+  pub status_is : status ≡ answered_status answered.options.is_strict answered.options.is_numbered text
   pub written : Appends before after text

@@ -1,44 +1,87 @@
 -- How a run of the program ends, and what it writes about that.
-use Rattle.std.specs.Prelude.{◌≡◌, ℕ, ◌≤◌, Bool, true, false, List, [], ◌∷◌, ◌++◌, codes, ◌==◌, if◌then◌else◌}
-use Rattle.std.specs.List.{AllZip}
+use Rattle.std.specs.Prelude.{◌≡◌, ℕ, Bool, true, false, List, [], ◌∷◌, ◌++◌, codes, ◌==◌, if◌then◌else◌}
 use Rattle.std.specs.Fmt.{decimal}
 use Rattle.frame_word.specs.declared.answers.Put.{Put}
 use Rattle.frame_word.specs.Seats.{KnownTable}
 use Rattle.stock_word.specs.Stock.{Words}
 use Rattle.cpu_part.specs.Cpus.{KnownCpu}
 use Rattle.cpu_part.specs.Calls.{UnpinAnswers}
+use Rattle.step_rules.specs.declared.step.Action.TheVariants as step
+use Rattle.step_rules.specs.After.{Run}
+use Rattle.step_watch.specs.Watched.{Watches, cpu_makes, has_legal_steps, steps_seen}
+use Rattle.mem_machine.specs.Machines.{KnownMachine, VisitState, visit_state, with_watch}
+use Rattle.mem_history.specs.Leading.{put_answer}
 use Rattle.mem_system.specs.declared.audit.Audit.{Audit}
-use Rattle.mem_system.specs.Ends.{Ends, pins_of}
-use Rattle.script_replay.specs.Lines.{SystemState}
+use Rattle.mem_system.specs.Ends.{Closes, ForEachCpu, KnownSpent, MakesLastVisits, pins_of}
+use Rattle.mem_system.specs.Locked.{KnownLocked}
+use Rattle.script_replay.specs.Lines.{SystemState, system_state}
 use Rattle.load_run.specs.declared.boot_end.Ended.{Ended}
+use Rattle.load_run.specs.declared.boot_end.Seen.{Seen}
+
+-- a pin of this frame is put, and the machine's watch takes the step
+pub record PutsPin (frame : ℕ) (before after : VisitState) : Type 0 where
+  pub answer : Put
+  pub cpu : UnpinAnswers frame answer before.cpu after.cpu
+  pub machine : after.machine ≡ with_watch before.machine after.machine.watch
+  pub watched : Watches before.machine.watch
+      (cpu_makes before.cpu.number (step.Put frame) (put_answer answer) ∷ []) after.machine.watch
 
 -- a pin of this frame is put, and then what is to be put after it
-pub record PutsFirstAndRest (frame : ℕ) (puts_rest : (before after : KnownCpu) → Type 0)
-    (before after : KnownCpu) : Type 0 where
-  pub answer : Put
-  pub between : KnownCpu
-  pub first : UnpinAnswers frame answer before between
+pub record PutsFirstAndRest (frame : ℕ) (puts_rest : (before after : VisitState) → Type 0)
+    (before after : VisitState) : Type 0 where
+  pub between : VisitState
+  pub first : PutsPin frame before between
   pub rest : puts_rest between after
 
 -- a pin of each of these frames is put, one after the other
-abbrev pub PutsEach : List ℕ → (before after : KnownCpu) → Type 0
+abbrev pub PutsEach : List ℕ → (before after : VisitState) → Type 0
 PutsEach [] before after = after ≡ before
 PutsEach (frame ∷ frames) before after = PutsFirstAndRest frame (PutsEach frames) before after
 
+-- the steps of these puts
+abbrev pub steps_of_puts : (frames : List ℕ) (before after : VisitState) → PutsEach frames before after → Run
+steps_of_puts [] before after puts = []
+steps_of_puts (frame ∷ frames) before after puts =
+    cpu_makes before.cpu.number (step.Put frame) (put_answer puts.first.answer)
+    ∷ steps_of_puts frames puts.between after puts.rest
+
 -- every pin of the CPU is put
-pub record PutsAllPins (before after : KnownCpu) : Type 0 where
+pub record PutsAllPins (before after : VisitState) : Type 0 where
   pub frames : List ℕ
   pub puts : PutsEach frames before after
-  pub none_left : after.pins ≡ []
+  pub none_left : after.cpu.pins ≡ []
 
--- The boot ended, and says how many pins were held: none; or every pin was put, and then it ended. `cpus` are the CPUs
--- as it ended.
-pub record EndsHeld (table : KnownTable) (stock_table : Words) (before : SystemState) (ended : Ended) : Type 0 where
-  pub held_are : ended.held ≡ pins_of before.cpus
+-- the steps of the puts of all pins, one CPU after the other
+abbrev pub steps_of_all_puts : (before : KnownMachine) (cpus : List KnownCpu) (after : KnownMachine)
+    (left : List KnownCpu) → ForEachCpu PutsAllPins before cpus after left → Run
+steps_of_all_puts before [] after left puts = []
+steps_of_all_puts before (cpu ∷ cpus) after [] puts = []
+steps_of_all_puts before (cpu ∷ cpus) after (cpu_left ∷ left) puts =
+    steps_of_puts puts.first.frames (visit_state before cpu) (visit_state puts.between cpu_left) puts.first.puts
+    ++ steps_of_all_puts puts.between cpus after left puts.rest
+
+-- Nothing is left at any CPU, after so many pins were held. Every pin is put, one CPU after the other, and then the last
+-- visits are made. These are all steps, in order, and the machine's watch took them.
+pub record LeavesNothing (table : KnownTable) (stock_table : Words) (before : SystemState) (held : ℕ)
+    (spent : KnownSpent) : Type 0 where
+  pub held_are : held ≡ pins_of before.cpus
+  pub locked : KnownLocked
   pub cpus : List KnownCpu
-  pub free : ended.held ≡ 0 → cpus ≡ before.cpus
-  pub pinned : 1 ≤ ended.held → AllZip PutsAllPins before.cpus cpus
-  pub ends : Ends table stock_table before.locked cpus ended.audit
+  pub puts : ForEachCpu PutsAllPins before.locked.machine before.cpus locked.machine cpus
+  pub sizes : locked.sizes ≡ before.locked.sizes
+  pub free : held ≡ 0 → system_state locked cpus ≡ before
+  pub visits : MakesLastVisits table stock_table locked cpus spent
+  pub steps : Run
+  pub steps_are : steps
+      ≡ steps_of_all_puts before.locked.machine before.cpus locked.machine cpus puts ++ visits.steps
+  pub watched : Watches before.locked.machine.watch steps spent.machine.watch
+
+-- The boot ended, and says how many pins were held. Every pin was put, the last visits were made, and then the tables
+-- were closed.
+pub record EndsHeld (table : KnownTable) (stock_table : Words) (before : SystemState) (ended : Ended) : Type 0 where
+  pub spent : KnownSpent
+  pub leaves : LeavesNothing table stock_table before ended.held spent
+  pub closes : Closes table stock_table spent ended.audit
 
 -- this is so of some state, and the boot ended from that state
 pub record EndsAfter (table : KnownTable) (stock_table : Words) (is_so : SystemState → Type 0)
@@ -46,6 +89,20 @@ pub record EndsAfter (table : KnownTable) (stock_table : Words) (is_so : SystemS
   pub before : SystemState
   pub so : is_so before
   pub ends : EndsHeld table stock_table before ended
+
+-- a boot ended from this state, and this is what the machine's watch saw of all steps
+pub record EndsSeen (table : KnownTable) (stock_table : Words) (before : SystemState) (ended : Ended) (seen : Seen)
+    : Type 0 where
+  pub ends : EndsHeld table stock_table before ended
+  pub is_legal : seen.is_legal ≡ has_legal_steps ends.spent.machine.watch
+  pub steps : seen.steps ≡ steps_seen ends.spent.machine.watch
+
+-- this is so of some state, and the boot ended from that state; this is what the watch saw
+pub record EndsSeenAfter (table : KnownTable) (stock_table : Words) (is_so : SystemState → Type 0) (ended : Ended)
+    (seen : Seen) : Type 0 where
+  pub before : SystemState
+  pub so : is_so before
+  pub ends : EndsSeen table stock_table before ended seen
 
 -- how many frames there are, and where
 abbrev pub audit_places_text : Audit → List ℕ

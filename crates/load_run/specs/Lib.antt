@@ -5,4 +5,7 @@ pub mod Driving
 pub mod Ending
 pub mod Fault
 pub mod Lints
+pub mod Refusals
+pub mod Steps
+pub mod Versions
 pub mod Writing

@@ -1,15 +1,19 @@
 //! The end of a boot: every pin that is still held is put, the boot ends, and its counts are reported.
 
-ghost use Rattle.std.specs.Prelude.{◌≡◌, ◌++◌, OnOk, length};
-ghost use Rattle.std.specs.List.{AllZip};
+ghost use Rattle.std.specs.Prelude.{◌≡◌, ◌++◌, ◌≤◌, OnOk, length};
 ghost use Rattle.std.specs.String.{string_bytes};
+ghost use Rattle.cpu_part.specs.Cpus.{times};
+ghost use Rattle.mem_machine.specs.Machines.{visit_state};
+ghost use Rattle.mem_system.specs.Ends.{ForEachCpu};
 ghost use Rattle.script_replay.specs.Lines.{system_state};
-ghost use Rattle.load_run.specs.Ending.{EndsHeld, PutsAllPins, audit_counts_text, audit_places_text, audit_text};
-ghost use Rattle.load_run.specs.Ending.{held_text};
+ghost use Rattle.load_run.specs.Ending.{EndsHeld, EndsSeen, LeavesNothing, PutsAllPins, PutsPin};
+ghost use Rattle.load_run.specs.Ending.{audit_counts_text, audit_places_text, audit_text, held_text};
 
 use cpu_part::{BootName, Cpu, Tables};
-use mem_system::{Audit, Locked, Pinned, end};
+use frame_word::{Frame, Put};
+use mem_system::{Audit, Locked, Pinned, Spent, make_last_visits};
 use std::alloc::AllocError;
+use step_rules::step::{Action, Answer};
 
 /// What a boot reports at its end.
 #[derive(Clone, Copy, Debug, PartialEq, Eq)]
@@ -20,21 +24,74 @@ pub struct Ended {
     pub audit: Audit,
 }
 
+/// What the watch saw of all steps of a boot, those of its end included.
+#[derive(Clone, Copy, Debug, PartialEq, Eq)]
+pub struct Seen {
+    /// Whether each step was legal.
+    pub is_legal: bool,
+    /// How many steps the watch checked, with the one at which it stopped.
+    pub steps: u64,
+}
+
+// Puts a pin of the frame. The machine's watch takes the step.
+fn put_pin<N: BootName>(locked: &mut Locked<N>, tables: &Tables<N>, cpu: &mut Cpu<N>, frame: Frame)
+    requires pinned { 1 ≤ times frame cpu.old.pins }
+    ensures puts { PutsPin frame (visit_state locked.old.machine cpu.old) (visit_state locked.new.machine cpu.new) }
+    ensures sizes { locked.new.sizes ≡ locked.old.sizes }
+{
+    let number = cpu.number();
+    let answer = match cpu.put(tables, frame) {
+        Put::Left(left) => Answer::Left(left as u32),
+        Put::Last => Answer::Last,
+    };
+    let frame = frame.number();
+    locked.take_step(number, Action::Put { frame }, answer);
+}
+
 // Puts every pin of the CPU.
-fn put_pins<N: BootName>(tables: &Tables<N>, cpu: &mut Cpu<N>)
-    ensures { PutsAllPins cpu.old cpu.new }
+fn put_pins<N: BootName>(locked: &mut Locked<N>, tables: &Tables<N>, cpu: &mut Cpu<N>)
+    ensures puts { PutsAllPins (visit_state locked.old.machine cpu.old) (visit_state locked.new.machine cpu.new) }
+    ensures sizes { locked.new.sizes ≡ locked.old.sizes }
 {
     while let Some(frame) = cpu.first_pin() {
-        let _put = cpu.put(tables, frame);
+        put_pin(locked, tables, cpu, frame);
     }
 }
 
 // Puts every pin of the CPUs.
-fn put_all_pins<N: BootName>(tables: &Tables<N>, cpus: &mut [Cpu<N>])
-    ensures { AllZip PutsAllPins cpus.old cpus.new }
+fn put_all_pins<N: BootName>(locked: &mut Locked<N>, tables: &Tables<N>, cpus: &mut [Cpu<N>])
+    ensures puts { ForEachCpu PutsAllPins locked.old.machine cpus.old locked.new.machine cpus.new }
+    ensures sizes { locked.new.sizes ≡ locked.old.sizes }
 {
     for cpu in cpus.iter_mut() {
-        put_pins(tables, cpu);
+        put_pins(locked, tables, cpu);
+    }
+}
+
+// Leaves nothing at any CPU. Pins that are still held are put first; returns how many they were.
+pub(crate) fn leave_nothing<N: BootName>(
+    locked: Locked<N>,
+    tables: Tables<N>,
+    cpus: Vec<Cpu<N>>,
+) -> (u64, Spent<N>)
+    requires count { length cpus.items ≡ N.frames.cpus }
+    ensures leaves { LeavesNothing N.frames N.stocks (system_state locked cpus.items) result.0 result.1 }
+{
+    match make_last_visits(locked, tables, cpus) {
+        Ok(spent) => (0, spent),
+        Err(pinned) => {
+            let Pinned {
+                tables,
+                mut locked,
+                mut cpus,
+                pins,
+            } = pinned;
+            put_all_pins(&mut locked, &tables, &mut cpus);
+            match make_last_visits(locked, tables, cpus) {
+                Ok(spent) => (pins, spent),
+                Err(_) => unreachable!(),
+            }
+        }
     }
 }
 
@@ -43,22 +100,27 @@ pub fn end_boot<N: BootName>(locked: Locked<N>, tables: Tables<N>, cpus: Vec<Cpu
     requires count { length cpus.items ≡ N.frames.cpus }
     ensures ends { EndsHeld N.frames N.stocks (system_state locked cpus.items) result }
 {
-    match end(locked, tables, cpus) {
-        Ok(audit) => Ended { held: 0, audit },
-        Err(pinned) => {
-            let Pinned {
-                tables,
-                locked,
-                mut cpus,
-                pins,
-            } = pinned;
-            put_all_pins(&tables, &mut cpus);
-            match end(locked, tables, cpus) {
-                Ok(audit) => Ended { held: pins, audit },
-                Err(_) => unreachable!(),
-            }
-        }
-    }
+    let (held, spent) = leave_nothing(locked, tables, cpus);
+    let audit = spent.close();
+    Ended { held, audit }
+}
+
+/// Ends a boot as `end_boot` does. Returns also what the machine's watch saw of all steps.
+pub fn end_seen_boot<N: BootName>(
+    locked: Locked<N>,
+    tables: Tables<N>,
+    cpus: Vec<Cpu<N>>,
+) -> (Ended, Seen)
+    requires count { length cpus.items ≡ N.frames.cpus }
+    ensures ends { EndsSeen N.frames N.stocks (system_state locked cpus.items) result.0 result.1 }
+{
+    let (held, spent) = leave_nothing(locked, tables, cpus);
+    let seen = Seen {
+        is_legal: spent.watch().is_legal(),
+        steps: spent.watch().steps(),
+    };
+    let audit = spent.close();
+    (Ended { held, audit }, seen)
 }
 
 /// Adds the report of the end: the pins that were held, if there were any, and the counts. It fails only if memory runs

@@ -12,8 +12,11 @@ pub mod fault_lines;
 pub mod linting;
 pub mod program;
 pub mod reading;
+mod refusals;
 pub mod running;
+pub mod stepping;
 pub mod thread_running;
+pub mod versions;
 pub mod writing;
 
 pub use load_options::command_line::options;
@@ -22,5 +25,5 @@ pub use load_options::task::{Options, Task};
 pub use script_lines::fault::ScriptFault;
 pub use script_lines::line::Line;
 pub use script_lines::script::parse_script;
-pub use script_replay::replay_lines;
+pub use script_replay::{Form, replay_lines};
 pub use script_threads::run_lines;

@@ -9,6 +9,7 @@ ghost use Rattle.script_replay.specs.Ranges.{LineIsThere};
 ghost use Rattle.load_options.specs.Sizes.{HasSizesInRange};
 ghost use Rattle.load_options.specs.Words.{options_of};
 ghost use Rattle.load_options.specs.declared.task.Task.TheVariants.{Replay};
+ghost use Rattle.script_replay.specs.Terms.{form_of};
 ghost use Rattle.load_run.specs.Answers.{AreAnswers, AreCheckedAnswers, IsOnScript};
 ghost use Rattle.load_run.specs.Causes.{written};
 ghost use Rattle.load_run.specs.Driving.{AnswersTo, Drives, DrivesScript};
@@ -20,8 +21,11 @@ use crate::fault::ProgramFault;
 use crate::fault_lines::tell_fault;
 use crate::linting::drive_lint;
 use crate::reading::read_script;
+use crate::refusals::answered_status;
 use crate::running::{check_on_boot, replay_on_boot};
+use crate::stepping::drive_steps;
 use crate::thread_running::run_by_threads;
+use crate::versions::drive_version;
 use crate::writing::write_whole;
 use cpu_part::BootName;
 use load_options::command_line::options;
@@ -29,7 +33,7 @@ use load_options::task::{Options, Task};
 use mem_system::{Boot, BootFault, boot};
 use script_lines::line::Line;
 use script_lines::script::parse_script;
-use script_replay::Stopped;
+use script_replay::{Form, Stopped};
 use std::alloc::{AllocError, Global};
 use std::convert::AsStr;
 use std::io::{Read, Write};
@@ -43,7 +47,8 @@ use std::thread::Threads;
 /// First the words are read. For a task on a script, then the whole script is read and parsed, then the configuration
 /// checked, then a boot answers the lines, as the task says, and ends. The answers are gathered first and then written
 /// whole; if the output fails, a beginning of them may have been written, and after any other fault nothing. A fault is
-/// reported in one line, those of the words in clap's text. The status is 0; 2 after a fault of the words, a bad line or
+/// reported in one line, those of the words in clap's text. The status is 0, or with `--strict` 3 if some answer is a
+/// refusal; 2 after a fault of the words, a bad line or
 /// a bad configuration; 1 if the script can't be read, the answers can't be written, memory runs out, a thread can't be
 /// started, or a step of a replay with `--check` isn't legal. `drive_check` says how a log is checked.
 pub fn drive<R: Threads + Wait + Sync, S: AsStr, I: Read, O: Write, F: Write>(
@@ -65,7 +70,7 @@ pub fn drive<R: Threads + Wait + Sync, S: AsStr, I: Read, O: Write, F: Write>(
 }
 
 // Runs the task that is asked for.
-#[tactic(auto, using(crate::proofs::Verdicts::check_drives, crate::proofs::Verdicts::lint_drives, crate::proofs::Verdicts::script_drives))]
+#[tactic(auto, using(crate::proofs::Verdicts::check_drives, crate::proofs::Verdicts::lint_drives, crate::proofs::Verdicts::script_drives, crate::proofs::Verdicts::steps_drive, crate::proofs::Verdicts::version_drives))]
 fn drive_task<R: Threads + Wait + Sync, I: Read, O: Write, F: Write>(
     rt: &R,
     alloc: Global,
@@ -84,6 +89,8 @@ fn drive_task<R: Threads + Wait + Sync, I: Read, O: Write, F: Write>(
         Task::Lint => drive_lint(alloc, &options.sizes, input, output, faults),
         Task::Replay { .. } => drive_script(rt, alloc, options, input, output, faults),
         Task::Run => drive_script(rt, alloc, options, input, output, faults),
+        Task::Steps => drive_steps(output, faults),
+        Task::Version => drive_version(alloc, output, faults),
     }
 }
 
@@ -104,7 +111,7 @@ fn drive_script<R: Threads + Wait + Sync, I: Read, O: Write, F: Write>(
 {
     match answers_to(rt, alloc, options, input) {
         Ok(answers) => match write_answers(&answers, output) {
-            Ok(()) => 0,
+            Ok(()) => answered_status(options.is_strict, options.is_numbered, &answers),
             Err(unwritten) => tell_fault(&unwritten, faults),
         },
         Err(fault) => tell_fault(&fault, faults),
@@ -164,7 +171,7 @@ fn answers_of<R: Threads + Wait + Sync>(
     requires task { IsOnScript options.now.task }
     requires lines { All (LineIsThere options.now.sizes.frames options.now.sizes.cpus) lines.now }
     ensures answers { IfOk result (λ text.
-        AreAnswers options.now.task options.now.sizes options.now.is_audited lines.now text.items) }
+        AreAnswers options.now.task options.now.sizes options.now.is_audited options.now.is_numbered lines.now text.items) }
     ensures valid { OnOk result (IsValidConfig options.now.sizes) }
     ensures fault { IfErr result (IsBootFault options.now.task options.now.sizes) }
 {
@@ -190,7 +197,7 @@ fn answers_on_boot<N: BootName + Send + Sync, R: Threads + Wait + Sync>(
     requires valid { IsValidConfig options.now.sizes }
     requires lines { All (LineIsThere boot.sizes.frames boot.sizes.cpus) lines.now }
     ensures answers { IfOk result (λ text.
-        AreAnswers options.now.task boot.sizes options.now.is_audited lines.now text.items) }
+        AreAnswers options.now.task boot.sizes options.now.is_audited options.now.is_numbered lines.now text.items) }
     ensures fault { IfErr result (IsFailedTask options.now.task) }
 {
     match options.task {
@@ -201,15 +208,26 @@ fn answers_on_boot<N: BootName + Send + Sync, R: Threads + Wait + Sync>(
         Task::Replay {
             is_explained,
             is_checked: false,
-        } => match replay_on_boot::<N>(alloc, boot, lines, is_explained, options.is_audited) {
-            Ok(answers) => Ok(answers),
-            Err(error) => Err(ProgramFault::NoMemory(error)),
-        },
-        Task::Run => match run_by_threads::<N, R>(rt, alloc, boot, lines, options.is_audited) {
-            Ok(answers) => Ok(answers),
-            Err(error) => Err(ProgramFault::NoMemory(error)),
-        },
-        Task::Check | Task::Lint => unreachable!(),
+        } => {
+            let is_numbered = options.is_numbered;
+            let form = Form {
+                is_explained,
+                is_numbered,
+            };
+            match replay_on_boot::<N>(alloc, boot, lines, form, options.is_audited) {
+                Ok(answers) => Ok(answers),
+                Err(error) => Err(ProgramFault::NoMemory(error)),
+            }
+        }
+        Task::Run => {
+            let is_numbered = options.is_numbered;
+            let is_audited = options.is_audited;
+            match run_by_threads::<N, R>(rt, alloc, boot, lines, is_numbered, is_audited) {
+                Ok(answers) => Ok(answers),
+                Err(error) => Err(ProgramFault::NoMemory(error)),
+            }
+        }
+        Task::Steps | Task::Check | Task::Lint | Task::Version => unreachable!(),
     }
 }
 
@@ -227,12 +245,18 @@ fn check_answers<N: BootName>(
     requires valid { IsValidConfig options.now.sizes }
     requires lines { All (LineIsThere boot.sizes.frames boot.sizes.cpus) lines.now }
     ensures answers { IfOk result (λ text.
-        AreCheckedAnswers boot.sizes is_explained options.now.is_audited lines.now text.items) }
+        AreCheckedAnswers boot.sizes (form_of is_explained options.now.is_numbered) options.now.is_audited lines.now
+        text.items) }
     ensures fault { IfErr result (IsFailedTask (Replay is_explained true)) }
 {
     let sizes = options.sizes;
     let is_audited = options.is_audited;
-    match check_on_boot::<N>(alloc, boot, sizes, lines, is_explained, is_audited) {
+    let is_numbered = options.is_numbered;
+    let form = Form {
+        is_explained,
+        is_numbered,
+    };
+    match check_on_boot::<N>(alloc, boot, sizes, lines, form, is_audited) {
         Ok(answers) => Ok(answers),
         Err(Stopped::NoMemory(error)) => Err(ProgramFault::NoMemory(error)),
         Err(Stopped::NotLegal(line)) => Err(ProgramFault::IllegalStep(line)),

@@ -4,7 +4,8 @@ ghost use Rattle.std.specs.Prelude.{◌≡◌, ◌++◌, All, IfOk, length, true
 ghost use Rattle.script_replay.specs.History.{ReplaysOrStops};
 ghost use Rattle.script_replay.specs.Lines.{system_state};
 ghost use Rattle.script_replay.specs.Ranges.{LineIsThere};
-ghost use Rattle.script_replay.specs.Terms.{terms};
+ghost use Rattle.script_replay.specs.Terms.{form_terms};
+ghost use Rattle.step_watch.specs.Watched.{has_legal_steps};
 ghost use Rattle.zone_sizes.specs.Config.{IsValidConfig};
 ghost use Rattle.load_run.specs.Answers.{AreCheckedAnswers, AreReplayAnswers, ChecksLines, checked_text};
 ghost use Rattle.load_run.specs.Ending.{EndsAfter, end_text};
@@ -13,28 +14,28 @@ use crate::boot_end::{Ended, end_boot, write_end};
 use cpu_part::{BootName, Cpu, Tables};
 use mem_system::{Boot, Locked};
 use script_lines::line::Line;
-use script_replay::{Stopped, replay, replay_checked};
+use script_replay::{Form, Stopped, replay, replay_checked};
 use std::alloc::{AllocError, Global};
 use step_watch::Watch;
 use zone_sizes::config::Config;
 
-/// Replays the lines on a boot under a name of its tables, and ends it. It returns what they are answered, with why
-/// groups were killed and the report of the end if these are asked for. `AllocError` means that memory ran out: a boot
+/// Replays the lines on a boot under a name of its tables, and ends it. It returns what they are answered in this
+/// form, and the report of the end if that is asked for. `AllocError` means that memory ran out: a boot
 /// that began has ended then too.
 pub fn replay_on_boot<N: BootName>(
     alloc: Global,
     boot: Boot,
     lines: &[Line<'_>],
-    is_explained: bool,
+    form: Form,
     is_audited: bool,
 ) -> Result<Vec<u8>, AllocError>
     requires frames { boot.frames ≡ N.frames }
     requires stocks { boot.stocks ≡ N.stocks }
     requires lines { All (LineIsThere boot.sizes.frames boot.sizes.cpus) lines.now }
-    ensures answers { IfOk result (λ text. AreReplayAnswers boot.sizes is_explained is_audited lines.now text.items) }
+    ensures answers { IfOk result (λ text. AreReplayAnswers boot.sizes form is_audited lines.now text.items) }
 {
     let (locked, tables, cpus) = boot.into_parts::<N>(alloc)?;
-    let (answers, ended) = replay_and_end_boot(alloc, locked, tables, cpus, lines, is_explained);
+    let (answers, ended) = replay_and_end_boot(alloc, locked, tables, cpus, lines, form);
     tell_end(alloc, answers?, ended, is_audited)
 }
 
@@ -47,7 +48,7 @@ pub fn check_on_boot<N: BootName>(
     boot: Boot,
     sizes: Config,
     lines: &[Line<'_>],
-    is_explained: bool,
+    form: Form,
     is_audited: bool,
 ) -> Result<Vec<u8>, Stopped>
     requires frames { boot.frames ≡ N.frames }
@@ -55,19 +56,12 @@ pub fn check_on_boot<N: BootName>(
     requires sizes { boot.sizes ≡ sizes }
     requires valid { IsValidConfig sizes }
     requires lines { All (LineIsThere boot.sizes.frames boot.sizes.cpus) lines.now }
-    ensures answers { IfOk result (λ text. AreCheckedAnswers boot.sizes is_explained is_audited lines.now text.items) }
+    ensures answers { IfOk result (λ text. AreCheckedAnswers boot.sizes form is_audited lines.now text.items) }
 {
     let watch = Watch::new(alloc, sizes)?;
     let (mut locked, tables, cpus) = boot.into_parts::<N>(alloc)?;
     locked.set_watch(watch);
-    let (answers, steps, end) = check_and_end_boot(
-        alloc,
-        locked,
-        tables,
-        cpus,
-        lines,
-        is_explained,
-    );
+    let (answers, steps, end) = check_and_end_boot(alloc, locked, tables, cpus, lines, form);
     let told = tell_end(alloc, answers?, end, is_audited)?;
     tell_steps(alloc, told, steps)
 }
@@ -80,15 +74,15 @@ fn check_and_end_boot<N: BootName>(
     tables: Tables<N>,
     mut cpus: Vec<Cpu<N>>,
     lines: &[Line<'_>],
-    is_explained: bool,
+    form: Form,
 ) -> (Result<Vec<u8>, Stopped>, u64, Ended)
     requires count { length cpus.items ≡ N.frames.cpus }
     requires lines { All (LineIsThere N.frames.frames N.frames.cpus) lines.now }
-    requires legal { locked.machine.watch.is_legal ≡ true }
-    ensures ends { EndsAfter N.frames N.stocks (ChecksLines (terms N.frames N.stocks is_explained) lines.now
+    requires legal { has_legal_steps locked.machine.watch ≡ true }
+    ensures ends { EndsAfter N.frames N.stocks (ChecksLines (form_terms N.frames N.stocks form) lines.now
         (system_state locked cpus.items) result.0 result.1) result.2 }
 {
-    let answers = replay_checked(alloc, &mut locked, &tables, &mut cpus, lines, is_explained);
+    let answers = replay_checked(alloc, &mut locked, &tables, &mut cpus, lines, form);
     let steps = locked.watch().steps();
     let ended = end_boot(locked, tables, cpus);
     (answers, steps, ended)
@@ -111,14 +105,14 @@ fn replay_and_end_boot<N: BootName>(
     tables: Tables<N>,
     mut cpus: Vec<Cpu<N>>,
     lines: &[Line<'_>],
-    is_explained: bool,
+    form: Form,
 ) -> (Result<Vec<u8>, AllocError>, Ended)
     requires count { length cpus.items ≡ N.frames.cpus }
     requires lines { All (LineIsThere N.frames.frames N.frames.cpus) lines.now }
-    ensures ends { EndsAfter N.frames N.stocks (λ left. ReplaysOrStops (terms N.frames N.stocks is_explained) lines.now
+    ensures ends { EndsAfter N.frames N.stocks (λ left. ReplaysOrStops (form_terms N.frames N.stocks form) lines.now
         (system_state locked cpus.items) left result.0) result.1 }
 {
-    let answers = replay(alloc, &mut locked, &tables, &mut cpus, lines, is_explained);
+    let answers = replay(alloc, &mut locked, &tables, &mut cpus, lines, form);
     let ended = end_boot(locked, tables, cpus);
     (answers, ended)
 }

@@ -13,14 +13,14 @@ use crate::running::tell_end;
 use cpu_part::{BootName, Cpu, Tables};
 use mem_system::{Boot, Locked, NoGate, System};
 use script_lines::line::Line;
-use script_replay::replay;
+use script_replay::{Form, replay};
 use script_threads::{before_go, run_each};
 use std::alloc::{AllocError, Global};
 use std::sync::Wait;
 use std::thread::Threads;
 
-/// Runs the lines on a boot under a name of its tables, and ends it. It returns what they are answered, and the report of
-/// the end if that is asked for. The lines before `go` are served one after the other, as `replay` does, and those from
+/// Runs the lines on a boot under a name of its tables, and ends it. It returns what they are answered, with the numbers of
+/// the lines or without, and the report of the end if that is asked for. The lines before `go` are served one after the other, as `replay` does, and those from
 /// it on by a thread for each CPU, as `run_each` does; if there is no `go`, all lines run in threads. `AllocError` means
 /// that memory ran out or a thread can't be started: the boot has ended then too, and each thread that was started.
 pub fn run_by_threads<N: BootName + Send + Sync, R: Threads + Wait + Sync>(
@@ -28,17 +28,32 @@ pub fn run_by_threads<N: BootName + Send + Sync, R: Threads + Wait + Sync>(
     alloc: Global,
     boot: Boot,
     lines: &[Line<'_>],
+    is_numbered: bool,
     is_audited: bool,
 ) -> Result<Vec<u8>, AllocError>
     requires frames { boot.frames ≡ N.frames }
     requires stocks { boot.stocks ≡ N.stocks }
     requires lines { All (LineIsThere boot.sizes.frames boot.sizes.cpus) lines.now }
-    ensures answers { IfOk result (λ text. AreThreadAnswers boot.sizes is_audited lines.now text.items) }
+    ensures answers { IfOk result (λ text. AreThreadAnswers boot.sizes is_numbered is_audited lines.now text.items) }
 {
     let (early, later) = lines.split_at(before_go(lines));
     let (mut locked, tables, mut cpus) = boot.into_parts::<N>(alloc)?;
-    let first = replay(alloc, &mut locked, &tables, &mut cpus, early, false);
-    let (told, ended) = serve_and_end(rt, alloc, locked, tables, cpus, later, first.is_ok());
+    let form = Form {
+        is_explained: false,
+        is_numbered,
+    };
+    let first = replay(alloc, &mut locked, &tables, &mut cpus, early, form);
+    let has_memory = first.is_ok();
+    let (told, ended) = serve_and_end(
+        rt,
+        alloc,
+        locked,
+        tables,
+        cpus,
+        later,
+        is_numbered,
+        has_memory,
+    );
     let mut answers = first?;
     answers.extend_from_slice(&told?)?;
     tell_end(alloc, answers, ended, is_audited)
@@ -52,17 +67,26 @@ fn serve_and_end<N: BootName + Send + Sync, R: Threads + Wait + Sync>(
     tables: Tables<N>,
     mut cpus: Vec<Cpu<N>>,
     lines: &[Line<'_>],
+    is_numbered: bool,
     has_memory: bool,
 ) -> (Result<Vec<u8>, AllocError>, Ended)
     requires count { length cpus.items ≡ N.frames.cpus }
     requires lines { All (LineIsThere N.frames.frames N.frames.cpus) lines.now }
     ensures told { IfOk result.0 (λ text.
-        TellsEach (boot_tables N.frames N.stocks) (workers_from 1 cpus.items lines.now) text.items) }
+        TellsEach (boot_tables N.frames N.stocks) (workers_from 1 cpus.items lines.now is_numbered) text.items) }
     ensures ends { EndsAfter N.frames N.stocks (StandsQuiet N.frames N.stocks) result.1 }
 {
     locked.see_quiet(); // Called for its contract: there are fewer than 2^31 CPUs, as `run_each` requires.
     let system = System::of(locked, tables);
-    let told = serve_later(rt, alloc, &system, &mut cpus, lines, has_memory);
+    let told = serve_later(
+        rt,
+        alloc,
+        &system,
+        &mut cpus,
+        lines,
+        is_numbered,
+        has_memory,
+    );
     let (locked, tables) = system.into_parts();
     let ended = end_boot(locked, tables, cpus);
     (told, ended)
@@ -75,15 +99,16 @@ fn serve_later<N: BootName + Send + Sync, R: Threads + Wait + Sync>(
     system: &System<N>,
     cpus: &mut [Cpu<N>],
     lines: &[Line<'_>],
+    is_numbered: bool,
     has_memory: bool,
 ) -> Result<Vec<u8>, AllocError>
     requires count { length cpus.old < 2 ^ 31 }
     requires lines { All (LineIsThere N.frames.frames (length cpus.old)) lines.now }
     ensures told { IfOk result (λ text.
-        TellsEach (boot_tables N.frames N.stocks) (workers_from 1 cpus.old lines.now) text.items) }
+        TellsEach (boot_tables N.frames N.stocks) (workers_from 1 cpus.old lines.now is_numbered) text.items) }
 {
     if has_memory {
-        run_each(rt, alloc, system, cpus, lines, &NoGate)
+        run_each(rt, alloc, system, cpus, lines, is_numbered, &NoGate)
     } else {
         Err(AllocError)
     }

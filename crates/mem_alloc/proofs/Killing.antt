@@ -272,3 +272,13 @@ many_rest t r g pages m many = record {
   does = record { few = λ few. absurd (omega (arith, few, many)); many = λ _. record { machine = refl; steps_are = refl } };
   makes = λ c. makes_none t c.number (visit_state m c);
 }
+
+-- ---- no kill at all
+
+pub enough_room : (r : Option ℕ) (t : KnownTable) (g pages : ℕ) (m : KnownMachine) → has_room_at m.ledger g pages ≡ true
+    → ByStepsOfAny t (KillsFor r g pages) m m
+enough_room r t g pages m room = record {
+  steps = [];
+  does = record { room = λ _. record { machine = refl; steps_are = refl }; over = λ over. absurd (false≢true (sym over ∙ room)) };
+  makes = λ c. makes_none t c.number (visit_state m c);
+}

@@ -1,10 +1,12 @@
 -- All fresh frames and then all back frames are settled. Serves `settle_one` and the loops of `settle_fresh` and
 -- `settle_back`.
 use Rattle.std.proofs.Common.{◌≡◌, ◌≢◌, ℕ, ◌<◌, Bool, true, false, None, List, [], ◌∷◌, length, refl, sym, ap, ◌∙◌, subst}
-use Rattle.std.proofs.Common.{arith, inl, inr}
+use Rattle.std.proofs.Common.{arith, inl, inr, slice_index_or}
 use Rattle.std.specs.List.{flat_map}
 use Rattle.std.proofs.lemmas.Bool.{cases_Bool, false≢true}
+use Rattle.std.proofs.lemmas.List.{get_or_default}
 use Rattle.std.proofs.lemmas.Option.{none-some}
+use Rattle.group_tree.specs.Bounds.{most_groups}
 use Rattle.frame_word.specs.Seats.{KnownTable}
 use Rattle.stock_word.specs.declared.view.Stock.{Stock}
 use Rattle.stock_word.specs.declared.view.Stock.TheVariants.{NoGroup, HeldBy, DrainedOf}
@@ -44,6 +46,13 @@ settled_over f m c n d one = elim (cases_Bool (is_killed m.killed (fresh_group c
   | inl killed ↦ let drops = one.drops killed in went_over f m c n d drops.cpu (ap (λ (x : KnownMachine). x.killed) drops.machine)
   | inr alive ↦ let keeps = one.keeps alive in went_over f m c n d keeps.cpu (ap (λ (x : KnownMachine). x.killed) keeps.machine)
 ]
+
+-- the mark of a group that was found set
+pub killed_read : (killed : List Bool) (n g : ℕ) (mark : Bool) → n ≡ g → length killed ≡ most_groups → g < most_groups
+    → mark ≡ slice_index_or killed n mark → mark ≡ true → is_killed killed g ≡ true
+killed_read killed n g mark same size few read on =
+    let inside : g < length killed = omega (arith, size, few) in
+    get_or_default killed g false mark inside ∙ ap (λ (k : ℕ). slice_index_or killed k mark) (sym same) ∙ sym read ∙ on
 
 -- the two ways in which it goes
 pub settles_kept : (f g : ℕ) (m : KnownMachine) (c : KnownCpu) (n : KnownMachine) (d : KnownCpu) → fresh_group c ≡ g → is_killed m.killed g ≡ false

@@ -1,5 +1,5 @@
 -- What a call does stays true if the machine after it has another watch. Serves all calls that make steps.
-use Rattle.std.proofs.Common.{◌≡◌, ℕ, refl}
+use Rattle.std.proofs.Common.{ℕ}
 use Rattle.frame_word.specs.Seats.{KnownTable}
 use Rattle.stock_word.specs.Stock.{Words}
 use Rattle.cpu_part.specs.Cpus.{KnownCpu}

@@ -1,22 +1,13 @@
 -- The list of steps of each call, with the answer of each step.
 use Rattle.std.specs.Prelude.{ℕ, zero, suc, Bool, Option, Some, None, List, [], ◌∷◌, sum_by}
 use Rattle.std.specs.List.{flat_map}
-use Rattle.step_rules.specs.declared.step.Step.{Step}
-use Rattle.step_rules.specs.declared.step.Action.{Action}
 use Rattle.step_rules.specs.declared.step.Action.TheVariants.{OpenVisit, ShutVisit, PassOut, TakeIn, PassBack}
 use Rattle.step_rules.specs.declared.step.Action.TheVariants.{Collect, Fill, DrainStock, Grant, Ungrant}
 use Rattle.step_rules.specs.declared.step.Action.TheVariants.{Consume, NoteMax, NoteOom, NoteGroupKill, SetMax, SetFlag, Make, Remove, Kill}
-use Rattle.step_rules.specs.declared.step.Answer.{Answer}
 use Rattle.step_rules.specs.declared.step.Answer.TheVariants.{Done, Took, Pages, Granted, Over, Number}
 use Rattle.step_rules.specs.After.{Run}
-
--- a step of the zone's seat, and its answer
-abbrev pub zone_makes : Action → Answer → Step × Answer
-zone_makes action answer = (record { seat = 0; action = action }, answer)
-
--- a step of the CPU's own seat, and its answer
-abbrev pub cpu_makes : ℕ → Action → Answer → Step × Answer
-cpu_makes processor action answer = (record { seat = processor; action = action }, answer)
+-- a step of the zone's seat or of a CPU's, with its answer
+pub use Rattle.step_watch.specs.Watched.{zone_makes, cpu_makes}
 
 -- the CPU's visit begins
 abbrev pub open_steps : ℕ → Run

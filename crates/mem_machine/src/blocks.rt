@@ -14,7 +14,6 @@ use frame_word::Frame;
 use group_charge::charges::Over;
 use group_tree::group::GroupId;
 use step_rules::phase::ChargedUnit;
-use step_rules::step::{Action, Answer};
 use zone_blocks::block::Block;
 use zone_blocks::order::Order;
 
@@ -70,18 +69,14 @@ impl<N: BootName> Machine<N> {
         let _tree = self.charges.tree(); // Called for its contract.
         if let Err(over) = self.charges.try_charge(group, pages) {
             let lowest = over.group;
-            self.watch
-                .zone_made(Action::Grant { group, pages }, Answer::Over(lowest));
+            self.watch.refused(group, pages, lowest);
             return Err(TakeFault::Over(over));
         }
-        self.watch
-            .zone_made(Action::Grant { group, pages }, Answer::Granted);
+        self.watch.granted(group, pages);
         let Some(block) = self.zone.take(order) else {
-            self.watch
-                .zone_made(Action::PlaceBlock { group, order }, Answer::NoFreeBlock);
+            self.watch.found_no_block(group, order);
             self.charges.uncharge(group, pages);
-            self.watch
-                .zone_made(Action::Ungrant { group, pages }, Answer::Done);
+            self.watch.ungranted(group, pages);
             return Err(TakeFault::NoBlock);
         };
         let Some(head) = tables.frames.frame(block.at) else {
@@ -89,21 +84,11 @@ impl<N: BootName> Machine<N> {
         };
         let at = head.number();
         place_unit(&mut self.frame_states, block, group);
-        self.watch.zone_made(
-            Action::PlaceBlock { group, order },
-            Answer::Placed(Block { at, order }),
-        );
+        self.watch.placed(group, order, Block { at, order });
         tables.frames.unfreeze(&mut self.frame_seat, head, 1);
-        self.watch.zone_made(
-            Action::Unfreeze {
-                frame: at,
-                count: 1,
-            },
-            Answer::Done,
-        );
+        self.watch.unfroze(at, 1);
         join_list(&mut self.links, &mut self.lists, group, at);
-        self.watch
-            .zone_made(Action::Publish { frame: at }, Answer::Done);
+        self.watch.published(at);
         Ok(head)
     }
 }

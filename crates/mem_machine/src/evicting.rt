@@ -11,7 +11,6 @@ use crate::lists::leave_list;
 use crate::machine::Machine;
 use cpu_part::{BootName, Tables};
 use frame_word::Frame;
-use step_rules::step::{Action, Answer};
 
 impl<N: BootName> Machine<N> {
     /// Tries to take a kept unit out of use. If the zone's reference is the only one, nobody can get the unit any more:
@@ -26,23 +25,11 @@ impl<N: BootName> Machine<N> {
     {
         let at = head.number();
         if !tables.frames.freeze(&mut self.frame_seat, head, 1) {
-            self.watch.zone_made(
-                Action::Freeze {
-                    frame: at,
-                    count: 1,
-                },
-                Answer::Missed,
-            );
+            self.watch.missed(at, 1);
             self.counts = self.counts.with_miss();
             return None;
         }
-        self.watch.zone_made(
-            Action::Freeze {
-                frame: at,
-                count: 1,
-            },
-            Answer::Done,
-        );
+        self.watch.froze(at, 1);
         let FrameState::Head(unit) = self.frame_states[at as usize] else {
             unreachable!()
         };
@@ -55,8 +42,7 @@ impl<N: BootName> Machine<N> {
             at,
             unit,
         );
-        self.watch
-            .zone_made(Action::Return { frame: at }, Answer::Done);
+        self.watch.returned(at);
         self.counts = self.counts.with_freeze();
         Some(order.frames())
     }

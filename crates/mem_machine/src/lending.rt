@@ -14,7 +14,6 @@ use crate::frame_state::FrameState;
 use crate::machine::Machine;
 use cpu_part::{BootName, Cpu, Tables};
 use frame_word::Frame;
-use step_rules::step::{Action, Answer};
 use zone_blocks::block::Block;
 use zone_blocks::order::Order;
 
@@ -36,17 +35,10 @@ impl<N: BootName> Machine<N> {
         };
         let at = frame.number();
         tables.frames.pass_out(&mut self.frame_seat, frame, number);
-        self.watch.zone_made(
-            Action::PassOut {
-                frame: at,
-                cpu: number,
-            },
-            Answer::Done,
-        );
+        self.watch.passed_out(at, number);
         self.frame_states[at as usize] = FrameState::Lent(number as u8);
         cpu.accept(tables, &mut self.frame_seat, frame);
-        self.watch
-            .cpu_made(number, Action::TakeIn { frame: at }, Answer::Done);
+        self.watch.took_in(number, at);
         true
     }
 
@@ -85,17 +77,10 @@ impl<N: BootName> Machine<N> {
         let given = frame.number();
         self.zone.take_frame(given);
         tables.frames.pass_out(&mut self.frame_seat, frame, number);
-        self.watch.zone_made(
-            Action::PassOut {
-                frame: given,
-                cpu: number,
-            },
-            Answer::Done,
-        );
+        self.watch.passed_out(given, number);
         self.frame_states[given as usize] = FrameState::Lent(number as u8);
         cpu.accept(tables, &mut self.frame_seat, frame);
-        self.watch
-            .cpu_made(number, Action::TakeIn { frame: given }, Answer::Done);
+        self.watch.took_in(number, given);
     }
 
     // Frees the front of the CPU's list, if there is one.
@@ -109,16 +94,9 @@ impl<N: BootName> Machine<N> {
             return false;
         };
         let at = frame.number();
-        self.watch
-            .cpu_made(number, Action::PassBack { frame: at }, Answer::Done);
+        self.watch.passed_back(number, at);
         cpu.collect(tables, &mut self.frame_seat, frame);
-        self.watch.zone_made(
-            Action::Collect {
-                frame: at,
-                cpu: number,
-            },
-            Answer::Done,
-        );
+        self.watch.collected(at, number);
         self.frame_states[at as usize] = FrameState::Free;
         self.zone.give(Block {
             at,

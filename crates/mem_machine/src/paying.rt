@@ -11,7 +11,6 @@ use crate::machine::Machine;
 use cpu_part::{BootName, Cpu, Tables};
 use frame_word::Frame;
 use group_tree::group::GroupId;
-use step_rules::step::{Action, Answer};
 use stock_word::Stock;
 
 impl<N: BootName> Machine<N> {
@@ -50,8 +49,7 @@ impl<N: BootName> Machine<N> {
     {
         let number = cpu.number();
         let frame = self.stock_seat.take_front(tables, cpu, group);
-        self.watch
-            .cpu_made(number, Action::Consume { group }, Answer::Took);
+        self.watch.consumed(number, group);
         frame
     }
 }

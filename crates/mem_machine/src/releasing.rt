@@ -11,7 +11,6 @@ use crate::lists::leave_list;
 use crate::machine::Machine;
 use cpu_part::{BootName, Cpu, Tables};
 use frame_word::{Frame, Put};
-use step_rules::step::{Action, Answer};
 
 /// What a release left.
 #[derive(Clone, Copy, Debug, PartialEq, Eq)]
@@ -37,13 +36,11 @@ impl<N: BootName> Machine<N> {
         leave_list(&mut self.links, &mut self.lists, at);
         match tables.frames.put(&mut self.frame_seat, head) {
             Put::Left(left) => {
-                self.watch
-                    .zone_made(Action::Put { frame: at }, Answer::Left(left as u32));
+                self.watch.put_left(at, left as u32);
                 Released::Left(left)
             }
             Put::Last => {
-                self.watch
-                    .zone_made(Action::Put { frame: at }, Answer::Last);
+                self.watch.put_last(at);
                 let FrameState::Head(unit) = self.frame_states[at as usize] else {
                     unreachable!()
                 };
@@ -54,8 +51,7 @@ impl<N: BootName> Machine<N> {
                     at,
                     unit,
                 );
-                self.watch
-                    .zone_made(Action::Return { frame: at }, Answer::Done);
+                self.watch.returned(at);
                 self.counts = self.counts.with_last_put();
                 Released::Returned
             }

@@ -18,7 +18,6 @@ use cpu_part::{BootName, Cpu, Tables};
 use frame_word::Frame;
 use group_tree::group::GroupId;
 use step_rules::phase::ChargedUnit;
-use step_rules::step::{Action, Answer};
 use step_watch::Watch;
 use zone_blocks::order::Order;
 
@@ -26,10 +25,10 @@ use zone_blocks::order::Order;
 fn take_collected(watch: &mut Watch, number: u32, frame: u32)
     ensures { Watches watch.old (collect_steps number frame) watch.new }
 {
-    watch.cpu_made(number, Action::PassBack { frame }, Answer::Done);
-    watch.cpu_made(number, Action::Report { pages: 1 }, Answer::Done);
-    watch.zone_made(Action::Collect { frame, cpu: number }, Answer::Done);
-    watch.zone_made(Action::Absorb { cpu: number }, Answer::Pages(1));
+    watch.passed_back(number, frame);
+    watch.reported(number, 1);
+    watch.collected(frame, number);
+    watch.absorbed(number, 1);
 }
 
 impl<N: BootName> Machine<N> {
@@ -50,18 +49,11 @@ impl<N: BootName> Machine<N> {
         let at = frame.number();
         take_collected(&mut self.watch, number, at);
         tables.frames.unfreeze(&mut self.frame_seat, frame, 1);
-        self.watch.zone_made(
-            Action::Unfreeze {
-                frame: at,
-                count: 1,
-            },
-            Answer::Done,
-        );
+        self.watch.unfroze(at, 1);
         let order = Order::of(0).unwrap();
         self.frame_states[at as usize] = FrameState::Head(ChargedUnit { group, order });
         join_list(&mut self.links, &mut self.lists, group, at);
-        self.watch
-            .zone_made(Action::Publish { frame: at }, Answer::Done);
+        self.watch.published(at);
         frame
     }
 
@@ -91,8 +83,7 @@ impl<N: BootName> Machine<N> {
             at,
             unit,
         );
-        self.watch
-            .zone_made(Action::Return { frame: at }, Answer::Done);
+        self.watch.returned(at);
         self.counts = self.counts.with_drop();
         frame
     }
@@ -109,16 +100,9 @@ impl<N: BootName> Machine<N> {
             return None;
         };
         let at = frame.number();
-        self.watch
-            .cpu_made(number, Action::PassBack { frame: at }, Answer::Done);
+        self.watch.passed_back(number, at);
         cpu.collect(tables, &mut self.frame_seat, frame);
-        self.watch.zone_made(
-            Action::Collect {
-                frame: at,
-                cpu: number,
-            },
-            Answer::Done,
-        );
+        self.watch.collected(at, number);
         let FrameState::Head(unit) = self.frame_states[at as usize] else {
             unreachable!()
         };
@@ -129,8 +113,7 @@ impl<N: BootName> Machine<N> {
             at,
             unit,
         );
-        self.watch
-            .zone_made(Action::Return { frame: at }, Answer::Done);
+        self.watch.returned(at);
         self.counts = self.counts.with_last_put();
         Some(frame)
     }

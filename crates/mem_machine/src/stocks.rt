@@ -17,7 +17,6 @@ use group_charge::charges::Over;
 use group_tree::group::GroupId;
 use group_tree::tree::Tree;
 use kill_notes::note::Note;
-use step_rules::step::{Action, Answer};
 
 // Whether `other` is `group` or a descendant of it. Another group that is no deeper is neither, and most stocks are of
 // such a group: the depths spare the walk up from it.
@@ -48,14 +47,10 @@ impl<N: BootName> Machine<N> {
     {
         let _tree = self.charges.tree(); // Called for its contract.
         let pages = self.stock_seat.drain(tables, processor, group);
-        self.watch.zone_made(
-            Action::DrainStock { cpu: processor },
-            Answer::Pages(pages as u128),
-        );
+        self.watch.drained(processor, pages as u128);
         if pages > 0 {
             self.charges.uncharge(group, pages);
-            self.watch
-                .zone_made(Action::Ungrant { group, pages }, Answer::Done);
+            self.watch.ungranted(group, pages);
         }
         pages
     }
@@ -87,8 +82,7 @@ impl<N: BootName> Machine<N> {
     {
         match self.stock_seat.group(tables, processor) {
             None => {
-                self.watch
-                    .zone_made(Action::DrainStock { cpu: processor }, Answer::Pages(0));
+                self.watch.drained(processor, 0);
                 0
             }
             Some(group) => self.drain_of(tables, processor, group),
@@ -162,8 +156,8 @@ impl<N: BootName> Machine<N> {
 
     /// Charges `pages` pages (1 to 65,535) to a group that isn't killed, and fills the visited CPU's stock with them.
     /// That stock is drained, or was never filled. If a limit has no room, the error names the lowest such group, and
-    /// nothing changed except what the watch saw. The CPU has no fresh frame. At most 2^32 - 1 pages can be charged in all; `see_room` shows that
-    /// there is room.
+    /// nothing changed except what the watch saw. The CPU has no fresh frame. At most 2^32 - 1 pages can be charged in
+    /// all; `see_room` shows that there is room.
     pub fn fill_stock(
         &mut self,
         tables: &Tables<N>,
@@ -189,21 +183,12 @@ impl<N: BootName> Machine<N> {
         let _tree = self.charges.tree(); // Called for its contract.
         if let Err(over) = self.charges.try_charge(group, pages) {
             let lowest = over.group;
-            self.watch
-                .zone_made(Action::Grant { group, pages }, Answer::Over(lowest));
+            self.watch.refused(group, pages, lowest);
             return Err(over);
         }
-        self.watch
-            .zone_made(Action::Grant { group, pages }, Answer::Granted);
+        self.watch.granted(group, pages);
         self.stock_seat.fill(tables, cpu, group, pages);
-        self.watch.zone_made(
-            Action::Fill {
-                cpu: number,
-                group,
-                pages,
-            },
-            Answer::Done,
-        );
+        self.watch.filled(number, group, pages);
         Ok(())
     }
 

@@ -8,7 +8,6 @@ ghost use Rattle.mem_machine.specs.Steps.{open_steps, shut_steps};
 
 use crate::machine::Machine;
 use cpu_part::{BootName, Cpu, Tables};
-use step_rules::step::{Action, Answer};
 
 impl<N: BootName> Machine<N> {
     /// Opens the visit of the CPU, which is shut. Frames are handed over and pages reported only inside a visit.
@@ -24,8 +23,7 @@ impl<N: BootName> Machine<N> {
     {
         let number = cpu.number();
         cpu.open(tables, &mut self.frame_seat);
-        self.watch
-            .zone_made(Action::OpenVisit { cpu: number }, Answer::Done);
+        self.watch.visit_opened(number);
     }
 
     /// Shuts the visit of the CPU.
@@ -43,7 +41,6 @@ impl<N: BootName> Machine<N> {
     {
         let number = cpu.number();
         cpu.shut(tables, &mut self.frame_seat);
-        self.watch
-            .zone_made(Action::ShutVisit { cpu: number }, Answer::Done);
+        self.watch.visit_shut(number);
     }
 }

@@ -24,8 +24,10 @@ use Rattle.mem_machine.proofs.NoneLent.{lent_to_cpu, each_is_placed}
 use Rattle.mem_system.specs.declared.audit.Audit.{Audit}
 use Rattle.mem_system.specs.Locked.{KnownLocked, IsQuiet, AllShut}
 use Rattle.mem_machine.specs.Local.{VisitState}
-use Rattle.mem_system.specs.Commands.{BySteps}
-use Rattle.mem_system.specs.Ends.{ForEachCpu, SettlesInVisit, Empties, IsSpent, IsAuditOf, IsClosed, HasNoPage, Ends, frame_seat_of, stock_seat_of, drops_of, pins_of}
+use Rattle.mem_system.specs.Ends.{ForEachCpu, SettlesInVisit, VisitsUnderLock, Empties, IsSpent, IsAuditOf, IsClosed, HasNoPage, KnownSpent, MakesLastVisits}
+use Rattle.mem_system.specs.Ends.{Closes, frame_seat_of, stock_seat_of, steps_of_visits, drops_of, pins_of}
+use Rattle.step_watch.proofs.Watching.{watches_both}
+use Rattle.mem_system.proofs.Locking.{visits_watched}
 
 -- as many CPUs are visited as there are
 pub turn_long : (Visit : VisitState → VisitState → Type 0) (m : KnownMachine) (cpus : List KnownCpu) (n : KnownMachine) (after : List KnownCpu) → ForEachCpu Visit m cpus n after
@@ -182,16 +184,36 @@ module _ (t : KnownTable) (w : Words) (m : KnownMachine) (cpus : List KnownCpu) 
 drops_join : (a b c k most : ℕ) → min (min (a + b + c) most + k) most ≡ min (a + b + min (c + k) most) most
 drops_join a b c k most = omega arith
 
--- the whole end
-pub all_ends : (t : KnownTable) (w : Words) (l : KnownLocked) (cpus : List KnownCpu) (x : KnownMachine) (rested : List KnownCpu) (y : KnownMachine)
-    (spent : List KnownCpu) (a : Audit) (frame_seats : List KnownSeat) (stock_seats : List Seated) (drops : ℕ) → IsQuiet t w l → pins_of cpus ≡ 0
-    → drops ≡ min (drops_of cpus) max_count
-    → ForEachCpu (BySteps t SettlesInVisit) l.machine cpus x rested → ForEachCpu (BySteps t Empties) x rested y spent → AllShut y → All (λ c. IsSpent t w y c) spent → (((p : ℕ) → NoneLentTo p y.frame_states) → IsAuditOf t y drops a)
-    → IsClosed t w y frame_seats stock_seats → frame_seats ≡ map frame_seat_of spent → stock_seats ≡ map stock_seat_of spent → Ends t w l cpus a
-all_ends t w l cpus x rested y spent a frame_seats stock_seats drops quiet no_pin drops_are rests empties shut all tells_then closing frames stocks =
-    let closed : IsClosed t w y (map frame_seat_of spent) (map stock_seat_of spent) =
+-- the last visits, from their two rounds
+pub all_visits : (t : KnownTable) (w : Words) (l : KnownLocked) (cpus : List KnownCpu) (x : KnownMachine) (rested : List KnownCpu) (k : KnownSpent)
+    → IsQuiet t w l → pins_of cpus ≡ 0 → k.drops ≡ min (drops_of cpus) max_count
+    → ForEachCpu (VisitsUnderLock t SettlesInVisit) l.machine cpus x rested → ForEachCpu (VisitsUnderLock t Empties) x rested k.machine k.cpus
+    → MakesLastVisits t w l cpus k
+all_visits t w l cpus x rested k quiet no_pin drops rests empties = record {
+  quiet = quiet;
+  no_pin = no_pin;
+  settled = x;
+  settled_cpus = rested;
+  settles = rests;
+  empties = empties;
+  steps = steps_of_visits t SettlesInVisit l.machine cpus x rested rests ++ steps_of_visits t Empties x rested k.machine k.cpus empties;
+  steps_are = refl;
+  watched = watches_both l.machine.watch (steps_of_visits t SettlesInVisit l.machine cpus x rested rests) x.watch
+      (steps_of_visits t Empties x rested k.machine k.cpus empties) k.machine.watch
+      (visits_watched t SettlesInVisit l.machine cpus x rested rests) (visits_watched t Empties x rested k.machine k.cpus empties);
+  drops = drops;
+}
+
+-- the tables are closed
+pub all_closes : (t : KnownTable) (w : Words) (k : KnownSpent) (a : Audit) (frame_seats : List KnownSeat) (stock_seats : List Seated)
+    → AllShut k.machine → All (λ c. IsSpent t w k.machine c) k.cpus
+    → (((p : ℕ) → NoneLentTo p k.machine.frame_states) → IsAuditOf t k.machine k.drops a)
+    → IsClosed t w k.machine frame_seats stock_seats → frame_seats ≡ map frame_seat_of k.cpus → stock_seats ≡ map stock_seat_of k.cpus → Closes t w k a
+all_closes t w k a frame_seats stock_seats shut all tells_then closing frames stocks =
+    let y = k.machine in
+    let closed : IsClosed t w y (map frame_seat_of k.cpus) (map stock_seat_of k.cpus) =
     subst (λ (z : List KnownSeat × List Seated). IsClosed t w y z.0 z.1) (λ i. (frames i, stocks i)) closing in
-    let none = none_lent t w y spent shut all closed in
+    let none = none_lent t w y k.cpus shut all closed in
     let tells = tells_then (λ p f is. none p f is) in
     let placed = each_is_placed y.frame_states (λ f p is. none p f is) in
     let sized = closed.consistent.sizes.frame_states in
@@ -199,22 +221,14 @@ all_ends t w l cpus x rested y spent a frame_seats stock_seats drops quiet no_pi
     let charged = tells.charged in
     let count = tells.frames in
     record {
-      quiet = quiet;
-      no_pin = no_pin;
-      settled = x;
-      settled_cpus = rested;
-      settles = rests;
-      last = y;
-      spent = spent;
-      empties = empties;
       all_spent = all;
       none_lent = none;
-      no_page = λ p some within. (found t w y spent shut all closed p some within).3;
+      no_page = λ p some within. (found t w y k.cpus shut all closed p some within).3;
       stock_words = closed.stock_words;
-      told = told_each t w y spent shut all closed;
+      told = told_each t w y k.cpus shut all closed;
       frame_words = closed.frame_words;
-      last_words = record { rule = closed.rule; references = word_of_frame t w y spent shut all closed };
-      counted = subst (λ (k : ℕ). IsAuditOf t y k a) drops_are tells;
+      last_words = record { rule = closed.rule; references = word_of_frame t w y k.cpus shut all closed };
+      counted = tells;
       adds_up = record {
         places = omega (arith, placed, sized, free, charged, count);
         balances =
@@ -223,6 +237,6 @@ all_ends t w l cpus x rested y spent a frame_seats stock_seats drops quiet no_pi
             let dropped = tells.drops in
             let returns = tells.returns in
             let balanced = closed.consistent.balances in
-            rw (last_puts, freezes, dropped, returns, balanced) (drops_join y.counts.last_puts y.counts.freezes y.counts.drops drops max_count);
+            rw (last_puts, freezes, dropped, returns, balanced) (drops_join y.counts.last_puts y.counts.freezes y.counts.drops k.drops max_count);
       };
     }

@@ -8,7 +8,6 @@ use Rattle.frame_word.specs.Seats.{KnownTable}
 use Rattle.stock_word.specs.Stock.{Words}
 use Rattle.cpu_part.specs.Cpus.{KnownCpu}
 use Rattle.mem_machine.specs.Machines.{KnownMachine}
-use Rattle.mem_system.specs.Locked.{AllShut}
 use Rattle.mem_system.specs.Ends.{ForEachCpu, IsSpent, LendsAndFillsNone, pins_of}
 use Rattle.mem_machine.specs.Local.{VisitState, visit_state}
 
@@ -17,10 +16,9 @@ pub record SoFar (Visit : VisitState → VisitState → Type 0) (i : ℕ) (m : K
   pub long : length now ≡ length cpus
   pub left : drop i now ≡ drop i cpus
   pub turns : (n : KnownMachine) (rest : List KnownCpu) → ForEachCpu Visit x (drop i cpus) n rest → ForEachCpu Visit m cpus n (take i now ++ rest)
-  pub shut : AllShut x
 
-pub so_far_start : (Visit : VisitState → VisitState → Type 0) (m : KnownMachine) (cpus : List KnownCpu) → AllShut m → SoFar Visit 0 m cpus m cpus
-so_far_start Visit m cpus shut = record { long = refl; left = refl; turns = λ n rest turn. turn; shut = shut }
+pub so_far_start : (Visit : VisitState → VisitState → Type 0) (m : KnownMachine) (cpus : List KnownCpu) → SoFar Visit 0 m cpus m cpus
+so_far_start Visit m cpus = record { long = refl; left = refl; turns = λ n rest turn. turn }
 
 pub same_next : (i : ℕ) (cpus now : List KnownCpu) (any : KnownCpu) → i < length cpus → length now ≡ length cpus → drop i now ≡ drop i cpus
     → get_or now i any ∷ drop (i + 1) now ≡ get_or cpus i any ∷ drop (i + 1) cpus
@@ -32,9 +30,9 @@ pub same_at : (cpus now : List KnownCpu) (i : ℕ) (any : KnownCpu) → i < leng
 same_at cpus now i any inside long left = ap (λ (l : List KnownCpu). get_or l 0 any) (same_next i cpus now any (omega (arith, inside, long)) long left)
 
 pub so_far_more : (Visit : VisitState → VisitState → Type 0) (i : ℕ) (m : KnownMachine) (cpus : List KnownCpu) (x y : KnownMachine) (now : List KnownCpu) (any d : KnownCpu)
-    → SoFar Visit i m cpus x now → i < length now → Visit (visit_state x (get_or now i any)) (visit_state y d) → AllShut y
+    → SoFar Visit i m cpus x now → i < length now → Visit (visit_state x (get_or now i any)) (visit_state y d)
     → SoFar Visit (i + 1) m cpus y (slice_set now i d)
-so_far_more Visit i m cpus x y now any d so_far inside one shut =
+so_far_more Visit i m cpus x y now any d so_far inside one =
     let long = so_far.long in
     let within : i < length cpus = omega (arith, inside, long) in
     let next = same_next i cpus now any within long so_far.left in
@@ -47,7 +45,6 @@ so_far_more Visit i m cpus x y now any d so_far inside one shut =
       turns = λ n rest turn. subst (λ (l : List KnownCpu). ForEachCpu Visit m cpus n l)
           (sym (append_assoc (take i now) (d ∷ []) rest) ∙ ap (λ (l : List KnownCpu). l ++ rest) (sym (take_more_set now i d inside)))
           (so_far.turns n (d ∷ rest) (subst (λ (l : List KnownCpu). ForEachCpu Visit x l n (d ∷ rest)) (sym (drop_more cpus i any within)) (record { between = y; first = its; rest = turn })));
-      shut = shut;
     }
 
 pub so_far_end : (Visit : VisitState → VisitState → Type 0) (i : ℕ) (m : KnownMachine) (cpus : List KnownCpu) (x : KnownMachine) (now : List KnownCpu)

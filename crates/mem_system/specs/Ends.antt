@@ -1,9 +1,12 @@
--- How a system ends. Each CPU is settled, then each CPU's list is returned and its stock drained, and then the tables
--- are closed.
+-- How a system ends. Each CPU is settled, then each CPU's list is returned and its stock drained, each in a visit under
+-- the lock, and then the tables are closed.
 use Rattle.std.specs.Prelude.{◌≡◌, ℕ, ◌+◌, ◌≤◌, ◌<◌, false, is_some, List, [], ◌∷◌, ◌++◌, length, map, min}
 use Rattle.std.specs.Prelude.{sum_by, slice_index, All}
 use Rattle.frame_word.specs.ReferenceRule.{ReferenceRule}
+use Rattle.step_rules.specs.declared.step.Action.TheVariants.{Lock, Unlock}
+use Rattle.step_rules.specs.declared.step.Answer.TheVariants.{Done}
 use Rattle.step_rules.specs.State.{one_if}
+use Rattle.step_rules.specs.After.{Run}
 use Rattle.frame_word.specs.Seats.{KnownTable, KnownSeat, view_of}
 use Rattle.stock_word.specs.declared.view.Stock.{Stock}
 use Rattle.stock_word.specs.Stock.{Words, Seated, account_of, view_in, word_of, pages_of}
@@ -14,14 +17,14 @@ use Rattle.mem_machine.specs.Machines.{KnownMachine, IsConsistent, home_of, with
 use Rattle.mem_machine.specs.Settling.{Settles}
 use Rattle.mem_machine.specs.Lending.{TakesManyBack}
 use Rattle.mem_machine.specs.Stocks.{Drains, stock_group}
-use Rattle.mem_machine.specs.Steps.{open_steps, shut_steps, drain_list_steps, drain_steps}
+use Rattle.mem_machine.specs.Steps.{cpu_makes, open_steps, shut_steps, drain_list_steps, drain_steps}
 use Rattle.mem_machine.specs.Places.{frames_free, frames_in_groups, NoneLentTo}
 use Rattle.mem_system.specs.declared.audit.Audit.{Audit}
 use Rattle.mem_system.specs.Locked.{KnownLocked, IsQuiet}
 use Rattle.mem_machine.specs.Local.{VisitState, visit_state}
 use Rattle.mem_system.specs.Commands.{Transition, BySteps}
 use Rattle.mem_system.specs.Visits.{with_visit_of, with_watch_at, visited, visit_steps}
-use Rattle.step_watch.specs.Watched.{KnownWatch}
+use Rattle.step_watch.specs.Watched.{KnownWatch, Watches}
 
 -- how many pins the CPUs have together
 abbrev pub pins_of : List KnownCpu → ℕ
@@ -54,6 +57,16 @@ pub record Empties (way : Transition VisitState) : Type 0 where
       ++ (drain_steps way.before.cpu.number (stock_group emptied way.before.cpu.number) pages
       ++ shut_steps way.before.cpu.number))
 
+-- A visit that does this is made under the lock: the machine's watch takes the Lock before it and the Unlock after it.
+pub record VisitsUnderLock (table : KnownTable) (Does : Transition VisitState → Type 0) (before after : VisitState)
+    : Type 0 where
+  pub found : KnownWatch
+  pub left : KnownMachine
+  pub lock : Watches before.machine.watch (cpu_makes before.cpu.number Lock Done ∷ []) found
+  pub visit : BySteps table Does (with_watch_at before found) (visit_state left after.cpu)
+  pub unlock : Watches left.watch (cpu_makes before.cpu.number Unlock Done ∷ []) after.machine.watch
+  pub machine : after.machine ≡ with_watch left after.machine.watch
+
 -- `Visit` leads the machine and the first of several CPUs to a machine between, of which `Rest` holds
 pub record VisitsFirst (Visit : VisitState → VisitState → Type 0) (before : KnownMachine) (cpu cpu_left : KnownCpu)
     (Rest : KnownMachine → Type 0) : Type 0 where
@@ -69,6 +82,20 @@ ForEachCpu Visit before [] after [] = after ≡ before
 ForEachCpu Visit before (cpu ∷ cpus) after (cpu_left ∷ left) =
     VisitsFirst Visit before cpu cpu_left (λ between. ForEachCpu Visit between cpus after left)
 ForEachCpu Visit before cpus after left = ⊥
+
+-- the steps of a visit under the lock: the Lock, the steps of the visit itself, and the Unlock
+abbrev pub between_locks : (processor : ℕ) → Run → Run
+between_locks processor steps = cpu_makes processor Lock Done ∷ (steps ++ cpu_makes processor Unlock Done ∷ [])
+
+-- the steps of the visits under the lock, one CPU after the other
+abbrev pub steps_of_visits : (table : KnownTable) (Does : Transition VisitState → Type 0) (before : KnownMachine)
+    (cpus : List KnownCpu) (after : KnownMachine) (left : List KnownCpu)
+    → ForEachCpu (VisitsUnderLock table Does) before cpus after left → Run
+steps_of_visits table Does before [] after left visits = []
+steps_of_visits table Does before (cpu ∷ cpus) after [] visits = []
+steps_of_visits table Does before (cpu ∷ cpus) after (cpu_left ∷ left) visits =
+    between_locks cpu.number visits.first.visit.steps
+    ++ steps_of_visits table Does visits.between cpus after left visits.rest
 
 -- the CPU has no fresh frame, no back frame and no pin
 pub record IsSettledUnpinned (cpu : KnownCpu) : Type 0 where
@@ -155,25 +182,48 @@ pub record HasNoPage (machine : KnownMachine) (stock_words : List ℕ) (processo
   pub none_reported : slice_index stock_words (report_place processor) ≡ 0
   pub book : (account_of machine.stock_seat.view processor).book ≡ 0
 
--- The end of a boot without pins. Each CPU is settled, then each CPU's list is returned and its stock drained, by steps
--- that the machine's counts follow. Then no frame is lent to anyone, and no stock has a page. The closed words are what
--- the seats know. The audit counts what the machine and the CPUs counted, and it adds up.
-pub record Ends (table : KnownTable) (stock_table : Words) (locked : KnownLocked) (cpus : List KnownCpu)
-    (audit : Audit) : Type 0 where
+-- a boot whose last visits are made: its machine, the CPUs' parts, and how many fresh frames the CPUs put back on their
+-- own lists
+pub record KnownSpent : Type 0 where
+  pub machine : KnownMachine
+  pub cpus : List KnownCpu
+  pub drops : ℕ
+
+-- The last visits of a boot without pins, each under the lock. Each CPU is settled, then each CPU's list is returned and
+-- its stock drained, by steps that the machine's counts follow. These are all steps, in order, and the machine's watch
+-- took them.
+pub record MakesLastVisits (table : KnownTable) (stock_table : Words) (locked : KnownLocked) (cpus : List KnownCpu)
+    (spent : KnownSpent) : Type 0 where
   pub quiet : IsQuiet table stock_table locked
   pub no_pin : pins_of cpus ≡ 0
   pub settled : KnownMachine
   pub settled_cpus : List KnownCpu
-  pub settles : ForEachCpu (BySteps table SettlesInVisit) locked.machine cpus settled settled_cpus
-  pub last : KnownMachine
-  pub spent : List KnownCpu
-  pub empties : ForEachCpu (BySteps table Empties) settled settled_cpus last spent
-  pub all_spent : All (λ cpu. IsSpent table stock_table last cpu) spent
-  pub none_lent : (processor : ℕ) → NoneLentTo processor last.frame_states
+  pub settles : ForEachCpu (VisitsUnderLock table SettlesInVisit) locked.machine cpus settled settled_cpus
+  pub empties : ForEachCpu (VisitsUnderLock table Empties) settled settled_cpus spent.machine spent.cpus
+  pub steps : Run
+  pub steps_are : steps
+      ≡ steps_of_visits table SettlesInVisit locked.machine cpus settled settled_cpus settles
+      ++ steps_of_visits table Empties settled settled_cpus spent.machine spent.cpus empties
+  pub watched : Watches locked.machine.watch steps spent.machine.watch
+  pub drops : spent.drops ≡ min (drops_of cpus) max_count
+
+-- The tables of a boot are closed after its last visits. No frame is lent to anyone, and no stock has a page. The closed
+-- words are what the seats know. The audit counts what the machine and the CPUs counted, and it adds up.
+pub record Closes (table : KnownTable) (stock_table : Words) (spent : KnownSpent) (audit : Audit) : Type 0 where
+  pub all_spent : All (λ cpu. IsSpent table stock_table spent.machine cpu) spent.cpus
+  pub none_lent : (processor : ℕ) → NoneLentTo processor spent.machine.frame_states
   pub stock_words : List ℕ
-  pub told : All (λ cpu. IsStockOf stock_words cpu.number last.stock_seat.view cpu.stock_seat.view) spent
-  pub no_page : (processor : ℕ) → 1 ≤ processor → processor ≤ table.cpus → HasNoPage last stock_words processor
+  pub told : All (λ cpu. IsStockOf stock_words cpu.number spent.machine.stock_seat.view cpu.stock_seat.view) spent.cpus
+  pub no_page : (processor : ℕ) → 1 ≤ processor → processor ≤ table.cpus
+      → HasNoPage spent.machine stock_words processor
   pub frame_words : List ℕ
-  pub last_words : AreLastWords table last spent frame_words
-  pub counted : IsAuditOf table last (min (drops_of cpus) max_count) audit
+  pub last_words : AreLastWords table spent.machine spent.cpus frame_words
+  pub counted : IsAuditOf table spent.machine spent.drops audit
   pub adds_up : AddsUp audit
+
+-- the end of a boot without pins: its last visits are made, and then its tables are closed
+pub record Ends (table : KnownTable) (stock_table : Words) (locked : KnownLocked) (cpus : List KnownCpu)
+    (audit : Audit) : Type 0 where
+  pub spent : KnownSpent
+  pub visits : MakesLastVisits table stock_table locked cpus spent
+  pub closes : Closes table stock_table spent audit

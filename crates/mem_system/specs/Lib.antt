@@ -8,6 +8,7 @@ pub mod Groups
 pub mod Kept
 pub mod Laws
 pub mod Leaves
+pub mod Left
 pub mod Locked
 pub mod Outcomes
 pub mod Owners

@@ -1,14 +1,16 @@
-//! The last visits of the CPUs: each CPU is settled, and then each CPU's list is returned and its stock drained.
+//! The last visits of the CPUs: each CPU is settled, and then each CPU's list is returned and its stock drained. Each
+//! visit is made under the lock.
 
 ghost use Rattle.std.specs.Prelude.{◌≡◌, [], All};
 ghost use Rattle.mem_system.specs.Locked.{AllShut};
 ghost use Rattle.mem_system.specs.Commands.{BySteps};
-ghost use Rattle.mem_system.specs.Ends.{Empties, ForEachCpu, SettlesInVisit};
+ghost use Rattle.mem_system.specs.Ends.{Empties, ForEachCpu, SettlesInVisit, VisitsUnderLock};
 ghost use Rattle.mem_system.specs.Ends.{IsSettledUnpinned, IsSpent, LendsAndFillsNone, pins_of};
 ghost use Rattle.mem_machine.specs.Local.{visit_state};
 
 use cpu_part::{BootName, Cpu, Tables};
 use mem_machine::Machine;
+use step_rules::step::{Action, Answer};
 
 // Settles the CPU in a visit.
 fn settle_cpu<N: BootName>(machine: &mut Machine<N>, tables: &Tables<N>, cpu: &mut Cpu<N>)
@@ -40,6 +42,37 @@ fn empty_cpu<N: BootName>(machine: &mut Machine<N>, tables: &Tables<N>, cpu: &mu
     machine.see_none_lent(cpu);
 }
 
+// Settles the CPU in a visit under the lock.
+fn settle_under_lock<N: BootName>(machine: &mut Machine<N>, tables: &Tables<N>, cpu: &mut Cpu<N>)
+    requires shut { AllShut machine.old }
+    requires no_pin { cpu.old.pins ≡ [] }
+    ensures settles { VisitsUnderLock N.frames SettlesInVisit
+        (visit_state machine.old cpu.old) (visit_state machine.new cpu.new) }
+    ensures shut { AllShut machine.new }
+    ensures settled { IsSettledUnpinned cpu.new }
+{
+    let number = cpu.number();
+    machine.take_step(number, Action::Lock, Answer::Done);
+    settle_cpu(machine, tables, cpu);
+    machine.take_step(number, Action::Unlock, Answer::Done);
+}
+
+// Returns the list of the settled CPU to the zone and drains its stock, in a visit under the lock.
+fn empty_under_lock<N: BootName>(machine: &mut Machine<N>, tables: &Tables<N>, cpu: &mut Cpu<N>)
+    requires shut { AllShut machine.old }
+    requires settled { IsSettledUnpinned cpu.old }
+    ensures empties { VisitsUnderLock N.frames Empties
+        (visit_state machine.old cpu.old) (visit_state machine.new cpu.new) }
+    ensures shut { AllShut machine.new }
+    ensures spent { IsSpent N.frames N.stocks machine.new cpu.new }
+    ensures others { LendsAndFillsNone machine.old machine.new }
+{
+    let number = cpu.number();
+    machine.take_step(number, Action::Lock, Answer::Done);
+    empty_cpu(machine, tables, cpu);
+    machine.take_step(number, Action::Unlock, Answer::Done);
+}
+
 // Settles the CPUs, one after the other.
 pub(crate) fn settle_all<N: BootName>(
     machine: &mut Machine<N>,
@@ -48,12 +81,13 @@ pub(crate) fn settle_all<N: BootName>(
 )
     requires shut { AllShut machine.old }
     requires no_pin { pins_of cpus.old ≡ 0 }
-    ensures settles { ForEachCpu (BySteps N.frames SettlesInVisit) machine.old cpus.old machine.new cpus.new }
+    ensures settles { ForEachCpu (VisitsUnderLock N.frames SettlesInVisit)
+        machine.old cpus.old machine.new cpus.new }
     ensures shut { AllShut machine.new }
     ensures settled { All IsSettledUnpinned cpus.new }
 {
     for cpu in cpus.iter_mut() {
-        settle_cpu(machine, tables, cpu);
+        settle_under_lock(machine, tables, cpu);
     }
 }
 
@@ -65,11 +99,11 @@ pub(crate) fn empty_all<N: BootName>(
 )
     requires shut { AllShut machine.old }
     requires settled { All IsSettledUnpinned cpus.old }
-    ensures empties { ForEachCpu (BySteps N.frames Empties) machine.old cpus.old machine.new cpus.new }
+    ensures empties { ForEachCpu (VisitsUnderLock N.frames Empties) machine.old cpus.old machine.new cpus.new }
     ensures shut { AllShut machine.new }
     ensures spent { All (λ cpu. IsSpent N.frames N.stocks machine.new cpu) cpus.new }
 {
     for cpu in cpus.iter_mut() {
-        empty_cpu(machine, tables, cpu);
+        empty_under_lock(machine, tables, cpu);
     }
 }

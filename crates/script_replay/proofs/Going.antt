@@ -12,6 +12,7 @@ use Rattle.stock_word.specs.declared.view.Stock.TheVariants as stock_is
 use Rattle.stock_word.specs.Stock.{Words, group_of}
 use Rattle.cpu_part.specs.Cpus.{KnownCpu, IsTied}
 use Rattle.step_rules.specs.After.{Run, IsLegalRun}
+use Rattle.step_watch.specs.Watched.{has_legal_steps}
 use Rattle.mem_machine.specs.Interleaving.{zone_of}
 use Rattle.mem_machine.specs.Telling.{TellsRun}
 use Rattle.mem_history.specs.Whole.{ShowsAll}
@@ -55,19 +56,23 @@ tied_still t w cpus k c d is_part tied none all j e at = elim (cases_eq j k) [
 
 -- a command that was served at its part
 pub part_keeps : (on : Terms) (before after : KnownLocked) (cpus : List KnownCpu) (line : Line) (processor : ℕ) (command : Command) (c d : KnownCpu)
-    {number : ℕ} {Z U E : Type 0} (r : Result U E) (old new : String Z) → line ≡ At number processor command → LineIsThere on.frames.frames (length cpus) line →
-    slice_get cpus (processor - 1) ≡ Some c →
+    {number : ℕ} {Z U E : Type 0} (r : Result U E) (old new : String Z) → on.is_numbered ≡ false → line ≡ At number processor command →
+    LineIsThere on.frames.frames (length cpus) line → slice_get cpus (processor - 1) ≡ Some c →
     AddsText r old new (ServesCommand on command (locked_state before c) (locked_state after d)) →
     HoldsInvariants on.frames on.stocks after → IsTied on.frames on.stocks d → (d.stock_seat.view.last ≡ stock_is.NoGroup → d.fresh ≡ []) →
     AddsText r old new (ServesAndKeeps on line (system_state before cpus) (system_state after (slice_set cpus (processor - 1) d)))
-part_keeps on before after cpus line processor command c d r old new is there is_part answered holds tied none = record {
+part_keeps on before after cpus line processor command c d {number = number} r old new plain is there is_part answered holds tied none = record {
   text = answered.text;
   so = record {
     there = there;
     serves = subst (λ (x : Line). ServesLine on x (system_state before cpus) (system_state after (slice_set cpus (processor - 1) d)) answered.text) (sym is)
         (record {
           steps = answered.so.steps;
-          writes = record { part = c; left = d; is_part = is_part; done = answered.so.writes; cpus = refl };
+          tells = record {
+            plain = answered.text;
+            so = record { part = c; left = d; is_part = is_part; done = answered.so.writes; cpus = refl };
+            text_is = sym (ap (λ (b : Bool). text_with_number b number answered.text) plain);
+          };
         });
     keeps = record {
       holds = holds;
@@ -79,17 +84,63 @@ part_keeps on before after cpus line processor command c d r old new is there is
 
 -- the same, of the part that was read
 pub part_read : (on : Terms) (before after : KnownLocked) (cpus : List KnownCpu) (line : Line) (processor : ℕ) (command : Command) (c d : KnownCpu)
-    {number : ℕ} {Z U E : Type 0} (r : Result U E) (old new : String Z) → line ≡ At number processor command → LineIsThere on.frames.frames (length cpus) line →
-    c ≡ get_or cpus (processor - 1) c →
+    {number : ℕ} {Z U E : Type 0} (r : Result U E) (old new : String Z) → on.is_numbered ≡ false → line ≡ At number processor command →
+    LineIsThere on.frames.frames (length cpus) line → c ≡ get_or cpus (processor - 1) c →
     AddsText r old new (ServesCommand on command (locked_state before c) (locked_state after d)) →
     HoldsInvariants on.frames on.stocks after → IsTied on.frames on.stocks d → (d.stock_seat.view.last ≡ stock_is.NoGroup → d.fresh ≡ []) →
     AddsText r old new (ServesAndKeeps on line (system_state before cpus) (system_state after (slice_set cpus (processor - 1) d)))
-part_read on before after cpus line processor command c d {number = number} r old new is there read answered holds tied none =
+part_read on before after cpus line processor command c d {number = number} r old new plain is there read answered holds tied none =
     let named : LineIsThere on.frames.frames (length cpus) (At number processor command) = subst (LineIsThere on.frames.frames (length cpus)) is there in
     let low = named.low in
     let high = named.high in
-    part_keeps on before after cpus line processor command c d r old new is there
+    part_keeps on before after cpus line processor command c d r old new plain is there
     (slice_get_read cpus (length cpus) (processor - 1) c refl (omega arith) read) answered holds tied none
+
+-- nothing is done for `go`, and nothing is added
+pub go_keeps : (t : KnownTable) (w : Words) (is_explained : Bool) (before : KnownLocked) (cpus : List KnownCpu) {Z U E : Type 0} (r : Result U E)
+    (answers : String Z) (line : Line) → line ≡ Go → HoldsInvariants t w before
+    → AddsText r answers answers (ServesAndKeeps (terms t w is_explained) line (system_state before cpus) (system_state before cpus))
+go_keeps t w is_explained before cpus r answers line is holds = record {
+  text = [];
+  so = subst (λ (x : Line). ServesAndKeeps (terms t w is_explained) x (system_state before cpus) (system_state before cpus) []) (sym is) (record {
+    there = tt;
+    serves = record {
+      steps = [];
+      tells = record { plain = []; so = record { text_is = refl; stays = refl; steps_are = refl }; text_is = refl };
+    };
+    keeps = record { holds = holds; tied = λ all. all };
+  });
+  added = on_ok r (sym (append-nil (string_bytes answers)));
+}
+
+-- the same line with its number
+numbered_keeps : (t : KnownTable) (w : Words) (is_explained : Bool) (line : Line) (s e : SystemState) (text : List ℕ)
+    → ServesAndKeeps (terms t w is_explained) line s e text
+    → ServesAndKeeps (numbered_terms t w is_explained true) line s e (numbered_text (number_in_script line) text)
+numbered_keeps t w is_explained line s e text keeps = record {
+  there = keeps.there;
+  serves = record {
+    steps = keeps.serves.steps;
+    tells = record {
+      plain = keeps.serves.tells.plain;
+      so = keeps.serves.tells.so;
+      text_is = ap (numbered_text (number_in_script line)) keeps.serves.tells.text_is;
+    };
+  };
+  keeps = keeps.keeps;
+}
+
+-- a line that was answered into a text of its own, which is then added with its number, as far as there was memory
+pub number_added : (t : KnownTable) (w : Words) (is_explained : Bool) (line : Line) (s e : SystemState) {Z Y U E T D : Type 0}
+    (served : Result U E) (none plain : String Y) (r : Result T D) (old new : String Z) → string_bytes none ≡ []
+    → (keeps : AddsText served none plain (ServesAndKeeps (terms t w is_explained) line s e))
+    → IfOk r (λ _. (string_bytes plain ≡ keeps.text) × (string_bytes new ≡ string_bytes old ++ numbered_text (number_in_script line) (string_bytes plain)))
+    → AddsText r old new (ServesAndKeeps (numbered_terms t w is_explained true) line s e)
+number_added t w is_explained line s e served none plain r old new empty keeps added = record {
+  text = numbered_text (number_in_script line) keeps.text;
+  so = numbered_keeps t w is_explained line s e keeps.text keeps.so;
+  added = IfOk-weaker r _ _ (λ x both. both.1 ∙ ap (λ (l : List ℕ). string_bytes old ++ numbered_text (number_in_script line) l) both.0) added;
+}
 
 -- ---- the lines so far
 
@@ -122,15 +173,15 @@ line_follows : (on : Terms) (run : Run) (line : Line) (s e : SystemState) (text 
     IsLegalRun (zone_of on.frames) (run ++ keeps.serves.steps) →
     Follows on.frames run s (run ++ keeps.serves.steps) e
 line_follows on run Go s e text shows tied keeps legal =
-    subst (λ (r : Run). Follows on.frames run s r e) (sym (ap (λ (r : Run). run ++ r) keeps.serves.writes.steps_are ∙ append-nil run))
-    (subst (λ (x : SystemState). Follows on.frames run s run x) (sym keeps.serves.writes.stays) (shows, λ told. told))
+    subst (λ (r : Run). Follows on.frames run s r e) (sym (ap (λ (r : Run). run ++ r) keeps.serves.tells.so.steps_are ∙ append-nil run))
+    (subst (λ (x : SystemState). Follows on.frames run s run x) (sym keeps.serves.tells.so.stays) (shows, λ told. told))
 line_follows on run (At number processor command) s e text shows tied keeps legal =
     let steps = keeps.serves.steps in
     let is : AtPart processor (λ part left. WritesWork on.is_explained (work_of command)
-    (transition on.frames (locked_state s.locked part) steps (locked_state e.locked left)) text) s.cpus e.cpus = keeps.serves.writes in
+    (transition on.frames (locked_state s.locked part) steps (locked_state e.locked left)) keeps.serves.tells.plain) s.cpus e.cpus = keeps.serves.tells.so in
     subst (λ (cpus : List KnownCpu). ShowsAll on.frames (run ++ steps) e.locked.machine cpus
     × (TellsRun on.frames run s.locked.machine.ledger → TellsRun on.frames (run ++ steps) e.locked.machine.ledger)) (sym is.cpus)
-    (work_follows on.frames on.stocks run s.locked s.cpus (processor - 1) is.part shows is.is_part tied on.is_explained (work_of command) steps (locked_state e.locked is.left) text
+    (work_follows on.frames on.stocks run s.locked s.cpus (processor - 1) is.part shows is.is_part tied on.is_explained (work_of command) steps (locked_state e.locked is.left) keeps.serves.tells.plain
     (work_in_range on.frames.frames command keeps.there.names) is.done keeps.keeps.holds.quiet.shut legal)
 
 pub keeps_history : (on : Terms) (lines : List Line) (before : Past) (e : SystemState) (text : List ℕ) →
@@ -149,8 +200,8 @@ keeps_history on (line ∷ lines) before e text shows tied all =
       rest = all.rest;
       between = mid;
       steps = steps;
-      writes_first = one.serves.writes;
-      watched = line_seen on.frames on.is_explained line before.now steps mid all.first one.serves.writes;
+      tells_first = one.serves.tells;
+      watched = line_seen on.frames on.is_explained line before.now steps mid one.serves.tells.plain one.serves.tells.so;
       kept_where_legal = λ legal. record {
         tells = (follows legal).1;
         promise = the_whole_is_promised on.frames on.stocks next mid.locked.machine mid.cpus (follows legal).0 one.keeps.holds.consistent one.keeps.holds.charges tied_then
@@ -169,7 +220,7 @@ all_replayed on lines s e text all = record {
 
 -- and legally, if the watch allowed all their steps
 pub all_replayed_legally : (on : Terms) (lines : List Line) (s e : SystemState) (text : List ℕ) → ServesAllAndKeeps on lines s e text
-    → e.locked.machine.watch.is_legal ≡ true → ReplaysLegally on lines s e text
+    → has_legal_steps e.locked.machine.watch ≡ true → ReplaysLegally on lines s e text
 all_replayed_legally on lines s e text all allowed = let replays = all_replayed on lines s e text all in record {
   served = replays.served;
   history = λ shows tied told new. legal_history on lines s e text (replays.history [] shows tied) told new allowed;
@@ -201,7 +252,7 @@ numbers_stop lines i default inside =
 -- the watch didn't allow a step of the next line
 pub stops_illegal : (on : Terms) (s m e : SystemState) (lines : List Line) (i : ℕ) (default : Line) (text more : List ℕ)
     → i < length lines → ServesAllAndKeeps on (take i lines) s m text → ServesAndKeeps on (get_or lines i default) m e more
-    → e.locked.machine.watch.is_legal ≡ false → (n : ℕ) → n ≡ number_in_script (get_or lines i default) → StopsFor on lines s e (NotLegal n)
+    → has_legal_steps e.locked.machine.watch ≡ false → (n : ℕ) → n ≡ number_in_script (get_or lines i default) → StopsFor on lines s e (NotLegal n)
 unfolding keeps_stop
 stops_illegal on s m e lines i default text more inside all one off n is = record {
   stops = keeps_stop on s m e lines i default text more inside all one;

@@ -3,6 +3,7 @@ pub mod InOrder
 pub mod InRange
 pub mod Going
 pub mod Taking
+pub mod Numbering
 pub mod Telling
 pub mod Following
 pub mod Seeing

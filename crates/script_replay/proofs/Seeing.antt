@@ -8,7 +8,7 @@ use Rattle.cpu_part.specs.Cpus.{KnownCpu}
 use Rattle.step_rules.specs.declared.step.Action.TheVariants as step
 use Rattle.step_rules.specs.declared.step.Answer.TheVariants as says
 use Rattle.step_rules.specs.After.{Run, IsLegalRun}
-use Rattle.step_watch.specs.Watched.{KnownWatch, Watches, IsNewWatch, SawRun}
+use Rattle.step_watch.specs.Watched.{KnownWatch, Watches, IsNewWatch, SawRun, has_legal_steps}
 use Rattle.step_watch.proofs.Watching.{watches_none, watches_both, watched_runs_are_legal}
 use Rattle.mem_machine.specs.Interleaving.{zone_of}
 use Rattle.mem_machine.specs.Steps.{cpu_makes}
@@ -140,7 +140,7 @@ all_kept on (line ∷ lines) begins end text tells whole is legal told =
       rest = tells.rest;
       between = tells.between;
       steps = tells.steps;
-      writes_first = tells.writes_first;
+      tells_first = tells.tells_first;
       kept = record { promise = holds.promise; tells = holds.tells told };
       keeps = all_kept on lines next end tells.rest tells.tells whole parts legal (holds.tells told);
       text_is = tells.text_is;
@@ -149,7 +149,7 @@ all_kept on (line ∷ lines) begins end text tells whole is legal told =
 -- if the watch was new before the lines and allowed all steps, the lines have a legal history
 pub legal_history : (on : Terms) (lines : List Line) (before after : SystemState) (text : List ℕ) → TellsHistory on lines (past [] before) after text
     → TellsRun on.frames [] before.locked.machine.ledger → IsNewWatch (zone_of on.frames) before.locked.machine.watch
-    → after.locked.machine.watch.is_legal ≡ true → TellsLegalHistory on lines before after text
+    → has_legal_steps after.locked.machine.watch ≡ true → TellsLegalHistory on lines before after text
 legal_history on lines before after text tells told new allowed =
     let all = all_seen on lines (past [] before) after text tells in
     let saw : SawRun (zone_of on.frames) all.more after.locked.machine.watch =

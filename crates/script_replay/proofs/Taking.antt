@@ -1,15 +1,24 @@
--- The steps that the watch takes of calls without the lock. Serves `watch_fast`, `watch_put`, `unpin`.
-use Rattle.std.proofs.Common.{◌≡◌, ◌≢◌, ◌<◌, ◌^◌, ℕ, Option, Some, None, arith, refl}
+-- The steps that the watch takes of calls without the lock. Serves `watch_fast`, `watch_put`, `unpin`, `lock`.
+use Rattle.std.proofs.Common.{◌≡◌, ◌≢◌, ◌<◌, ◌^◌, ℕ, false, Option, Some, None, arith, refl}
 use Rattle.frame_word.specs.declared.answers.Put.{Put as PutAnswer}
 use Rattle.frame_word.specs.declared.answers.Put.TheVariants.{Left, Last}
 use Rattle.cpu_part.specs.declared.answers.Fast.{Fast}
 use Rattle.cpu_part.specs.declared.answers.Fast.TheVariants.{FreshFull, ListEmpty, OtherGroup, Drained, NoStock, Got}
 use Rattle.cpu_part.specs.Calls.{UnpinAnswers}
 use Rattle.cpu_part.specs.Cpus.{KnownCpu}
+use Rattle.step_rules.specs.After.{Run}
+use Rattle.step_watch.proofs.Watching.{watches_off}
 use Rattle.mem_system.specs.Locked.{KnownLocked}
 use Rattle.reply_texts.specs.Answer as answer
 use Rattle.script_replay.specs.Answers.{OnlyWatched, fast_steps, unpin_answer}
 use Rattle.script_replay.proofs.Following.{not_watched}
+
+-- a watch that is off takes no step
+pub unwatched : (steps : Run) (l : KnownLocked) → l.machine.watch.is_on ≡ false → OnlyWatched steps l l
+unwatched steps l off = record {
+  locked = refl;
+  watched = watches_off l.machine.watch steps l.machine.watch off;
+}
 
 -- a fast allocation without a frame made no step
 pub no_fast_step : (processor group : ℕ) (fast : Fast) → ((f : ℕ) → fast ≢ Got f) → (l : KnownLocked)

@@ -6,7 +6,7 @@ use Rattle.stock_word.specs.Stock.{Words}
 use Rattle.group_charge.specs.Charges.{AreCharges}
 use Rattle.step_rules.specs.After.{Run, IsLegalRun}
 use Rattle.step_rules.specs.Promise.{Promise}
-use Rattle.step_watch.specs.Watched.{IsNewWatch, SawRun, Watches}
+use Rattle.step_watch.specs.Watched.{IsNewWatch, SawRun, Watches, has_legal_steps}
 use Rattle.mem_machine.specs.Machines.{IsConsistent}
 use Rattle.mem_machine.specs.Interleaving.{zone_of}
 use Rattle.mem_machine.specs.Telling.{TellsRun}
@@ -18,7 +18,8 @@ use Rattle.script_lines.specs.declared.line.Line.{Line}
 use Rattle.script_lines.specs.declared.line.Line.TheVariants.{Go}
 use Rattle.script_replay.specs.declared.value_replay.Stopped.{Stopped}
 use Rattle.script_replay.specs.declared.value_replay.Stopped.TheVariants.{NoMemory, NotLegal}
-use Rattle.script_replay.specs.Lines.{SystemState, ServesAll, ServesLine, StopsAt, WritesLine, number_in_script}
+use Rattle.script_replay.specs.Lines.{SystemState, ServesAll, ServesLine, StopsAt, TellsLine}
+use Rattle.script_replay.specs.Lines.{number_in_script}
 use Rattle.script_replay.specs.Ranges.{LineIsThere}
 use Rattle.script_replay.specs.Terms.{Terms}
 
@@ -52,7 +53,7 @@ pub record TellsFirstAndRest (terms : Terms) (line : Line) (past : Past) (text :
   pub rest : List ℕ
   pub between : SystemState
   pub steps : Run
-  pub writes_first : WritesLine terms.is_explained line (transition terms.frames past.now steps between) first
+  pub tells_first : TellsLine terms line (transition terms.frames past.now steps between) first
   pub watched : Watches past.now.locked.machine.watch steps between.locked.machine.watch
   pub kept_where_legal : IsLegalRun (zone_of terms.frames) (past.run ++ steps)
       → HoldsPromise terms.frames past.run past.now (past.run ++ steps) between
@@ -80,7 +81,7 @@ pub record KeepsFirstAndRest (terms : Terms) (line : Line) (past : Past) (text :
   pub rest : List ℕ
   pub between : SystemState
   pub steps : Run
-  pub writes_first : WritesLine terms.is_explained line (transition terms.frames past.now steps between) first
+  pub tells_first : TellsLine terms line (transition terms.frames past.now steps between) first
   pub kept : KeepsPromise terms.frames (past.run ++ steps) between
   pub keeps : keeps_rest (past_line past steps between) rest
   pub text_is : text ≡ first ++ rest
@@ -128,7 +129,7 @@ pub record ReplaysLegally (terms : Terms) (lines : List Line) (before after : Sy
 abbrev pub IsReason : (lines : List Line) (number : ℕ) (after : SystemState) → Stopped → Type 0
 IsReason lines number after (NoMemory error) = ⊤
 IsReason lines number after (NotLegal line) =
-    (after.locked.machine.watch.is_legal ≡ false) × (line ≡ number_in_script (get_or lines (number - 1) Go))
+    (has_legal_steps after.locked.machine.watch ≡ false) × (line ≡ number_in_script (get_or lines (number - 1) Go))
 
 -- a checked replay stopped for this reason: the lines up to the one where it stopped were served
 pub record StopsFor (terms : Terms) (lines : List Line) (before after : SystemState) (why : Stopped) : Type 0 where

@@ -1,6 +1,7 @@
 pub mod Answers
 pub mod History
 pub mod Lines
+pub mod Numbers
 pub mod Ranges
 pub mod Terms
 pub mod Visits

@@ -9,6 +9,7 @@ use Rattle.script_lines.specs.declared.line.Line.{Line}
 use Rattle.script_lines.specs.declared.line.Line.TheVariants.{Go, At}
 use Rattle.script_replay.specs.Terms.{Terms}
 use Rattle.script_replay.specs.Answers.{WritesWork}
+use Rattle.script_replay.specs.Numbers.{SaysNumbered}
 use Rattle.script_replay.specs.Works.{work_of}
 
 -- what lies behind the lock, and the parts of all CPUs, from CPU 1 on
@@ -48,10 +49,15 @@ WritesLine is_explained (At number processor command) way text =
     (transition way.table (locked_state way.before.locked part) way.steps (locked_state way.after.locked left)) text)
     way.before.cpus way.after.cpus
 
+-- the answer of a line on these terms, as text, on this transition
+abbrev pub TellsLine : Terms → Line → Transition SystemState → (text : List ℕ) → Type 0
+TellsLine terms line way text =
+    SaysNumbered terms.is_numbered (number_in_script line) (WritesLine terms.is_explained line way) text
+
 -- the answer of a line, as text, by some steps
 pub record ServesLine (terms : Terms) (line : Line) (before after : SystemState) (text : List ℕ) : Type 0 where
   pub steps : Run
-  pub writes : WritesLine terms.is_explained line (transition terms.frames before steps after) text
+  pub tells : TellsLine terms line (transition terms.frames before steps after) text
 
 -- the first line leads to a state between, the other lines lead on from there, and the text is that of the first line
 -- followed by that of the rest

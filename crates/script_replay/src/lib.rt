@@ -7,6 +7,7 @@
 #![tactic(auto)]
 
 mod command_answers;
+mod form;
 mod locked_calls;
 mod unlocked_calls;
 mod value_replay;
@@ -15,7 +16,8 @@ mod visit_replay;
 mod watched_steps;
 mod work;
 
+pub use form::Form;
 pub use value_replay::{Stopped, replay, replay_checked, serve_line};
-pub use visit_answers::{Visitor, visit_line};
+pub use visit_answers::{Visitor, visit_line, visit_numbered_line};
 pub use visit_replay::{replay_lines, visit_command};
 pub use work::Work;

@@ -18,19 +18,28 @@ use group_tree::group::GroupId;
 use mem_system::{Cmd, Locked, Outcome, serve_frame_outcome, serve_outcome};
 use step_rules::step::{Action, Answer};
 
-// The CPU of this number takes the lock.
+// The CPU of this number takes the lock. The watch is asked first whether it is on, because an action has room for a
+// path, and building one for each line costs.
 #[inline(always)]
+#[tactic(auto, using(crate::proofs::Taking::unwatched))]
 fn lock<N: BootName>(locked: &mut Locked<N>, number: u32)
     ensures { OnlyWatched (cpu_makes number Lock Done ∷ []) locked.old locked.new }
 {
+    if !locked.watch().is_on() {
+        return;
+    }
     locked.take_step(number, Action::Lock, Answer::Done);
 }
 
 // The CPU of this number releases the lock.
 #[inline(always)]
+#[tactic(auto, using(crate::proofs::Taking::unwatched))]
 fn unlock<N: BootName>(locked: &mut Locked<N>, number: u32)
     ensures { OnlyWatched (cpu_makes number Unlock Done ∷ []) locked.old locked.new }
 {
+    if !locked.watch().is_on() {
+        return;
+    }
     locked.take_step(number, Action::Unlock, Answer::Done);
 }
 

@@ -4,38 +4,39 @@ ghost use Rattle.std.specs.Prelude.{◌≡◌, [], All, length, true};
 ghost use Rattle.stock_word.specs.declared.view.Stock.TheVariants.{NoGroup};
 ghost use Rattle.cpu_part.specs.Cpus.{IsTied};
 ghost use Rattle.mem_system.specs.Visits.{locked_state};
+ghost use Rattle.step_watch.specs.Watched.{has_legal_steps};
 ghost use Rattle.script_replay.specs.declared.value_replay.Stopped.TheVariants.{NoMemory};
 ghost use Rattle.script_replay.specs.Answers.{AddsText, ServesCommand};
 ghost use Rattle.script_replay.specs.History.{HoldsInvariants, ReplaysCheckedOrStops, ReplaysOrStops, ServesAndKeeps};
 ghost use Rattle.script_replay.specs.Lines.{number_in_script, system_state};
 ghost use Rattle.script_replay.specs.Ranges.{LineIsThere, NamesInRange};
-ghost use Rattle.script_replay.specs.Terms.{terms};
+ghost use Rattle.script_replay.specs.Terms.{form_terms, numbered_terms, terms};
 
 use crate::command_answers::answer_text;
+use crate::form::{Form, write_numbered};
 use cpu_part::{BootName, Cpu, Tables};
 use mem_system::Locked;
 use script_lines::line::{Command, Line};
 use std::alloc::{AllocError, Global};
 
 /// Serves the lines in order, each for the CPU that it names, and returns their answers; each line of an answer ends
-/// with a line feed. `go` does nothing. If `is_explained` is true, an answer for which groups were killed is followed
-/// by the explanation. `AllocError` is returned if memory runs out for the text of a line. That line and those before
-/// it were then served, once each, and no line after it was.
+/// with a line feed. `go` does nothing. `AllocError` is returned if memory runs out for the text of a line. That line and
+/// those before it were then served, once each, and no line after it was.
 pub fn replay<N: BootName>(
     alloc: Global,
     locked: &mut Locked<N>,
     tables: &Tables<N>,
     cpus: &mut [Cpu<N>],
     lines: &[Line<'_>],
-    is_explained: bool,
+    form: Form,
 ) -> Result<Vec<u8>, AllocError>
     requires there { All (LineIsThere N.frames.frames (length cpus.old)) lines.now }
-    ensures outcome { ReplaysOrStops (terms N.frames N.stocks is_explained) lines.now
+    ensures outcome { ReplaysOrStops (form_terms N.frames N.stocks form) lines.now
         (system_state locked.old cpus.old) (system_state locked.new cpus.new) result }
 {
     let mut answers = String::new(alloc);
     for line in lines {
-        serve_line(locked, tables, cpus, line, is_explained, &mut answers)?;
+        serve_in_form(alloc, locked, tables, cpus, line, form, &mut answers)?;
     }
     Ok(answers.into_bytes())
 }
@@ -65,16 +66,16 @@ pub fn replay_checked<N: BootName>(
     tables: &Tables<N>,
     cpus: &mut [Cpu<N>],
     lines: &[Line<'_>],
-    is_explained: bool,
+    form: Form,
 ) -> Result<Vec<u8>, Stopped>
     requires there { All (LineIsThere N.frames.frames (length cpus.old)) lines.now }
-    requires legal { locked.old.machine.watch.is_legal ≡ true }
-    ensures outcome { ReplaysCheckedOrStops (terms N.frames N.stocks is_explained) lines.now
+    requires legal { has_legal_steps locked.old.machine.watch ≡ true }
+    ensures outcome { ReplaysCheckedOrStops (form_terms N.frames N.stocks form) lines.now
         (system_state locked.old cpus.old) (system_state locked.new cpus.new) result }
 {
     let mut answers = String::new(alloc);
     for next in lines {
-        serve_line(locked, tables, cpus, next, is_explained, &mut answers)?;
+        serve_in_form(alloc, locked, tables, cpus, next, form, &mut answers)?;
         if !locked.watch().is_legal() {
             return Err(Stopped::NotLegal(number_of(next)));
         }
@@ -90,6 +91,56 @@ fn number_of(line: &Line<'_>) -> usize
         Line::Go => 0,
         Line::At { number, .. } => *number,
     }
+}
+
+// Serves a line and adds its answer in this form.
+fn serve_in_form<N: BootName>(
+    alloc: Global,
+    locked: &mut Locked<N>,
+    tables: &Tables<N>,
+    cpus: &mut [Cpu<N>],
+    line: &Line<'_>,
+    form: Form,
+    answers: &mut String,
+) -> Result<(), AllocError>
+    requires there { LineIsThere N.frames.frames (length cpus.old) line.now }
+    ensures served { AddsText result answers.old answers.new
+        (ServesAndKeeps (form_terms N.frames N.stocks form) line.now
+        (system_state locked.old cpus.old) (system_state locked.new cpus.new)) }
+{
+    if form.is_numbered {
+        serve_numbered(
+            alloc,
+            locked,
+            tables,
+            cpus,
+            line,
+            form.is_explained,
+            answers,
+        )
+    } else {
+        serve_line(locked, tables, cpus, line, form.is_explained, answers)
+    }
+}
+
+// Serves a line and adds its answer, with its number before each line of that.
+fn serve_numbered<N: BootName>(
+    alloc: Global,
+    locked: &mut Locked<N>,
+    tables: &Tables<N>,
+    cpus: &mut [Cpu<N>],
+    line: &Line<'_>,
+    is_explained: bool,
+    answers: &mut String,
+) -> Result<(), AllocError>
+    requires there { LineIsThere N.frames.frames (length cpus.old) line.now }
+    ensures served { AddsText result answers.old answers.new
+        (ServesAndKeeps (numbered_terms N.frames N.stocks is_explained true) line.now
+        (system_state locked.old cpus.old) (system_state locked.new cpus.new)) }
+{
+    let mut plain = String::new(alloc);
+    serve_line(locked, tables, cpus, line, is_explained, &mut plain)?;
+    write_numbered(alloc, number_of(line), plain.as_str(), answers)
 }
 
 /// Serves a line for the CPU that it names, and appends its answer; each line of the answer ends with a line feed.

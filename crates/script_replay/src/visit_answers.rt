@@ -1,14 +1,16 @@
 //! Serving one command of a CPU by visits, each of which takes the zone's lock by itself.
 
-ghost use Rattle.std.specs.Prelude.{◌<◌};
+ghost use Rattle.std.specs.Prelude.{◌<◌, true};
 ghost use Rattle.mem_system.specs.Commands.{IsOfZone};
 ghost use Rattle.script_replay.specs.Answers.{AddsAnswer, AddsText};
+ghost use Rattle.script_replay.specs.Numbers.{SaysNumbered};
 ghost use Rattle.script_replay.specs.declared.work.Work.TheVariants.{Blocks, Show};
 ghost use Rattle.script_replay.specs.Ranges.{NamesInRange, WorkInRange};
 ghost use Rattle.script_replay.specs.Terms.{boot_tables};
 ghost use Rattle.script_replay.specs.Visits.{AnswersFrameByVisit, AnswersReleaseByVisit, AnswersSettleByVisit};
 ghost use Rattle.script_replay.specs.Visits.{RepliesVisited, VisitsCommand, VisitsWork};
 
+use crate::form::write_numbered;
 use crate::unlocked_calls::{answer_get, answer_put, try_list};
 use crate::work::{Work, work_of};
 use cpu_part::{BootName, Cpu, Fast};
@@ -16,7 +18,7 @@ use group_tree::fault::Fault;
 use mem_system::{Cmd, Gate, Reply, System};
 use reply_texts::{write_fast, write_listed, write_refusal, write_reply, write_settled};
 use script_lines::line::Command;
-use std::alloc::AllocError;
+use std::alloc::{AllocError, Global};
 use std::sync::Wait;
 
 /// What a thread needs for its visits.
@@ -49,6 +51,24 @@ pub fn visit_line<N: BootName, R: Wait, G: Gate>(
     visit_text(visitor, cpu, command, text)?;
     visitor.gate.after(number, line);
     Ok(())
+}
+
+/// Serves the command of a line as `visit_line` does, and adds its answer with the line's number before each line of that.
+pub fn visit_numbered_line<N: BootName, R: Wait, G: Gate>(
+    alloc: Global,
+    visitor: &Visitor<'_, N, R, G>,
+    cpu: &mut Cpu<N>,
+    line: usize,
+    command: &Command<'_>,
+    text: &mut String,
+) -> Result<(), AllocError>
+    requires in_range { NamesInRange N.frames.frames command.now }
+    ensures answered { AddsText result text.old text.new (SaysNumbered true line
+        (VisitsCommand (boot_tables N.frames N.stocks) command.now cpu.old cpu.new)) }
+{
+    let mut plain = String::new(alloc);
+    visit_line(visitor, cpu, line, command, &mut plain)?;
+    write_numbered(alloc, line, plain.as_str(), text)
 }
 
 // Serves a command of the script and adds its answer. If memory runs out, the command was served all the same.

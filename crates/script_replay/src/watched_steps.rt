@@ -1,4 +1,5 @@
-//! The steps that CPUs make without the lock, by value: the machine's watch takes each of them.
+//! The steps that CPUs make without the lock, by value: the machine's watch takes each of them. It is asked first
+//! whether it is on, because an action has room for a path, and building one for each line costs.
 
 ghost use Rattle.std.specs.Prelude.{◌≡◌, ◌<◌, ◌^◌, ◌∷◌, [], ℕ};
 ghost use Rattle.frame_word.specs.declared.answers.Put.TheVariants.{Left};
@@ -17,10 +18,14 @@ use step_rules::step::{Action, Answer};
 
 // The watch takes the step of a fast allocation for this group, if that got a frame.
 #[inline(always)]
+#[tactic(auto, using(crate::proofs::Taking::unwatched))]
 pub(crate) fn watch_fast<N: BootName>(locked: &mut Locked<N>, number: u32, group: u32, fast: &Fast)
     requires there { group < 64 }
     ensures { OnlyWatched (fast_steps number group fast.now) locked.old locked.new }
 {
+    if !locked.watch().is_on() {
+        return;
+    }
     match fast {
         Fast::Got(_) => {
             let group = GroupId::of(group).unwrap();
@@ -32,6 +37,7 @@ pub(crate) fn watch_fast<N: BootName>(locked: &mut Locked<N>, number: u32, group
 
 // The watch takes the step of a call for a pin of this frame, if that was held.
 #[inline(always)]
+#[tactic(auto, using(crate::proofs::Taking::unwatched))]
 pub(crate) fn watch_get<N: BootName>(
     locked: &mut Locked<N>,
     number: u32,
@@ -40,6 +46,9 @@ pub(crate) fn watch_get<N: BootName>(
 )
     ensures { OnlyWatched (get_steps number frame (pin_answer got.now)) locked.old locked.new }
 {
+    if !locked.watch().is_on() {
+        return;
+    }
     match got {
         Ok(Get::Held) => locked.take_step(number, Action::Get { frame }, Answer::Held),
         Ok(Get::Zero) => {}
@@ -51,6 +60,7 @@ pub(crate) fn watch_get<N: BootName>(
 
 // The watch takes the step of the put of a pin of this frame, if there was a pin.
 #[inline(always)]
+#[tactic(auto, using(crate::proofs::Taking::unwatched))]
 pub(crate) fn watch_put<N: BootName>(
     locked: &mut Locked<N>,
     number: u32,
@@ -60,6 +70,9 @@ pub(crate) fn watch_put<N: BootName>(
     requires few { (left : ℕ) → unpin_answer put.now ≡ answer.Put (Left left) → left < 2 ^ 32 }
     ensures { OnlyWatched (put_steps number frame (unpin_answer put.now)) locked.old locked.new }
 {
+    if !locked.watch().is_on() {
+        return;
+    }
     match put {
         None => {}
         Some(Put::Left(left)) => {
@@ -72,8 +85,12 @@ pub(crate) fn watch_put<N: BootName>(
 
 // The watch takes the step of the drop of a fresh frame that listed it again.
 #[inline(always)]
+#[tactic(auto, using(crate::proofs::Taking::unwatched))]
 pub(crate) fn watch_credit<N: BootName>(locked: &mut Locked<N>, number: u32, frame: u32)
     ensures { OnlyWatched (cpu_makes number (step.Credit frame) says.Back ∷ []) locked.old locked.new }
 {
+    if !locked.watch().is_on() {
+        return;
+    }
     locked.take_step(number, Action::Credit { frame }, Answer::Back);
 }

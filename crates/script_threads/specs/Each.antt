@@ -1,5 +1,5 @@
 -- The answers of one thread for each CPU.
-use Rattle.std.specs.Prelude.{◌≡◌, ℕ, ◌+◌, List, [], ◌∷◌, ◌++◌, codes}
+use Rattle.std.specs.Prelude.{◌≡◌, ℕ, ◌+◌, Bool, List, [], ◌∷◌, ◌++◌, codes}
 use Rattle.std.specs.Fmt.{decimal}
 use Rattle.cpu_part.specs.Cpus.{KnownCpu}
 use Rattle.script_lines.specs.declared.line.Line.{Line}
@@ -7,10 +7,10 @@ use Rattle.script_replay.specs.Terms.{BootTables}
 use Rattle.script_threads.specs.Own.{KnownWorker, ServesOwn, worker}
 
 -- a worker for each of these parts, whose CPUs are numbered from this number on
-abbrev pub workers_from : ℕ → List KnownCpu → List Line → List KnownWorker
-workers_from number [] lines = []
-workers_from number (cpu ∷ cpus) lines =
-    worker number cpu lines ∷ workers_from (number + 1) cpus lines
+abbrev pub workers_from : ℕ → List KnownCpu → List Line → (is_numbered : Bool) → List KnownWorker
+workers_from number [] lines is_numbered = []
+workers_from number (cpu ∷ cpus) lines is_numbered =
+    worker number cpu lines is_numbered ∷ workers_from (number + 1) cpus lines is_numbered
 
 -- the line that heads the answers of a CPU
 abbrev pub heading : ℕ → List ℕ

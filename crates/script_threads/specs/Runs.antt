@@ -1,5 +1,5 @@
 -- The lines before `go`, and those from it on.
-use Rattle.std.specs.Prelude.{◌≡◌, ℕ, ◌+◌, List, [], ◌∷◌, ◌++◌, take, drop}
+use Rattle.std.specs.Prelude.{◌≡◌, ℕ, ◌+◌, false, List, [], ◌∷◌, ◌++◌, take, drop}
 use Rattle.cpu_part.specs.Cpus.{KnownCpu}
 use Rattle.script_lines.specs.declared.line.Line.{Line}
 use Rattle.script_lines.specs.declared.line.Line.TheVariants.{Go, At}
@@ -24,5 +24,5 @@ pub record RunsLines (tables : BootTables) (lines : List Line) (cpus : List Know
   pub later : List ℕ
   pub parts : List KnownCpu
   pub visits : VisitsAll tables (take (lines_before_go lines) lines) cpus parts early
-  pub tells : TellsEach tables (workers_from 1 parts (drop (lines_before_go lines) lines)) later
+  pub tells : TellsEach tables (workers_from 1 parts (drop (lines_before_go lines) lines) false) later
   pub text_is : text ≡ early ++ later

@@ -19,7 +19,7 @@ use std::thread::{Scope, Threads};
 
 /// Serves the lines by one thread for each CPU: each thread serves the lines of its own CPU in their order. All
 /// threads are started before any is joined. Returns the answers CPU by CPU, each CPU's behind a line `cpu P`, even
-/// if it has no lines.
+/// if it has no lines. Each line of an answer begins with the number of its line if `is_numbered` is true.
 ///
 /// The gate is called around each line, with the line's number in the script, and inside each visit of a command.
 /// `AllocError`: memory ran out, or a thread couldn't be started. The threads that were started have then ended.
@@ -29,14 +29,15 @@ pub fn run_each<N: BootName + Send + Sync, R: Threads + Wait + Sync, G: Gate + S
     system: &System<N>,
     cpus: &mut [Cpu<N>],
     lines: &[Line<'_>],
+    is_numbered: bool,
     gate: &G,
 ) -> Result<Vec<u8>, AllocError>
     requires count { length cpus.old < 2 ^ 31 }
     requires lines { All (LineIsThere N.frames.frames (length cpus.old)) lines.now }
     ensures { IfOk result (λ text.
-        TellsEach (boot_tables N.frames N.stocks) (workers_from 1 cpus.old lines.now) text.items) }
+        TellsEach (boot_tables N.frames N.stocks) (workers_from 1 cpus.old lines.now is_numbered) text.items) }
 {
-    run_named(rt, alloc, system, cpus, lines, gate)
+    run_named(rt, alloc, system, cpus, lines, is_numbered, gate)
 }
 
 // Serves the lines as `run_each` does. It requires only that the frames and groups in them are in range, not the
@@ -47,12 +48,13 @@ fn run_named<N: BootName + Send + Sync, R: Threads + Wait + Sync, G: Gate + Sync
     system: &System<N>,
     cpus: &mut [Cpu<N>],
     lines: &[Line<'_>],
+    is_numbered: bool,
     gate: &G,
 ) -> Result<Vec<u8>, AllocError>
     requires count { length cpus.old < 2 ^ 31 }
     requires lines { All (LineNames N.frames.frames) lines.now }
     ensures { IfOk result (λ text.
-        TellsEach (boot_tables N.frames N.stocks) (workers_from 1 cpus.old lines.now) text.items) }
+        TellsEach (boot_tables N.frames N.stocks) (workers_from 1 cpus.old lines.now is_numbered) text.items) }
 {
     // Shared borrows, which every thread can hold.
     let rt = &*rt;
@@ -66,9 +68,9 @@ fn run_named<N: BootName + Send + Sync, R: Threads + Wait + Sync, G: Gate + Sync
             requires { IsSync R.row × IsSync G.row × IsSync N.row × IsSend N.row × (length cpus.now < 2 ^ 31)
                 × All (LineNames N.frames.frames) lines.now }
             ensures { IfOk result (λ text. TellsEach (boot_tables N.frames N.stocks)
-                (workers_from 1 cpus.entry.now lines.entry.now) text.items) }
+                (workers_from 1 cpus.entry.now lines.entry.now is_numbered.entry) text.items) }
         {
-            let workers = start_all(scope, rt, alloc, system, lines, gate, cpus)?;
+            let workers = start_all(scope, rt, alloc, system, lines, is_numbered, gate, cpus)?;
             gather(rt, alloc, workers)
         },
     )
@@ -81,12 +83,13 @@ fn start_all<'s, E, N: BootName + Send + Sync, R: Wait + Sync, G: Gate + Sync>(
     alloc: Global,
     system: &'s System<N>,
     lines: &'s [Line<'s>],
+    is_numbered: bool,
     gate: &'s G,
     cpus: &'s mut [Cpu<N>],
 ) -> Result<Vec<Worker<'s, N>>, AllocError>
     requires count { length cpus.old < 2 ^ 31 }
     requires lines { All (LineNames N.frames.frames) lines.now }
-    ensures { IfOk result (λ workers. workers.items ≡ workers_from 1 cpus.old lines.now) }
+    ensures { IfOk result (λ workers. workers.items ≡ workers_from 1 cpus.old lines.now is_numbered) }
 {
     let mut workers = Vec::with_capacity(alloc, cpus.len())?;
     let mut number = 1;
@@ -98,6 +101,7 @@ fn start_all<'s, E, N: BootName + Send + Sync, R: Wait + Sync, G: Gate + Sync>(
             cpu,
             number,
             lines,
+            is_numbered,
             gate,
         };
         workers.push(start(scope, job)?)?;

@@ -9,12 +9,13 @@ ghost use Rattle.script_threads.specs.Own.{LineNames, ServesOwn, ServesOwnLine, 
 use cpu_part::{BootName, Cpu};
 use mem_system::{Gate, System};
 use script_lines::line::Line;
-use script_replay::{Visitor, visit_line};
+use script_replay::{Visitor, visit_line, visit_numbered_line};
 use std::alloc::{AllocError, Global};
 use std::sync::Wait;
 
-// Serves the lines of the CPU of this number, which `cpu` is the part of, and returns their answers. The gate is
-// called with the number of each of these lines in the script.
+// Serves the lines of the CPU of this number, which `cpu` is the part of, and returns their answers, with the number of
+// its line before each line of an answer if `is_numbered` is true. The gate is called with the number of each of these
+// lines in the script.
 pub(crate) fn serve_own<N: BootName, R: Wait, G: Gate>(
     rt: &R,
     alloc: Global,
@@ -22,31 +23,34 @@ pub(crate) fn serve_own<N: BootName, R: Wait, G: Gate>(
     cpu: &mut Cpu<N>,
     number: u32,
     lines: &[Line<'_>],
+    is_numbered: bool,
     gate: &G,
 ) -> Result<String, AllocError>
     requires { All (LineNames N.frames.frames) lines.now }
     ensures { IfOk result (λ text.
-        ServesOwn (boot_tables N.frames N.stocks) (worker number cpu.old lines.now) cpu.new (string_bytes text)) }
+        ServesOwn (boot_tables N.frames N.stocks) (worker number cpu.old lines.now is_numbered) cpu.new (string_bytes text)) }
 {
     let visitor = Visitor { rt, system, gate };
     let mut text = String::new(alloc);
     for line in lines {
-        serve_own_line(&visitor, cpu, number, line, &mut text)?;
+        serve_own_line(alloc, &visitor, cpu, number, line, is_numbered, &mut text)?;
     }
     Ok(text)
 }
 
 // Serves the line if it is one of the CPU of this number, and appends its answer.
 fn serve_own_line<N: BootName, R: Wait, G: Gate>(
+    alloc: Global,
     visitor: &Visitor<'_, N, R, G>,
     cpu: &mut Cpu<N>,
     number: u32,
     line: &Line<'_>,
+    is_numbered: bool,
     text: &mut String,
 ) -> Result<(), AllocError>
     requires { LineNames N.frames.frames line.now }
     ensures { AddsText result text.old text.new
-        (ServesOwnLine (boot_tables N.frames N.stocks) number line.now cpu.old cpu.new) }
+        (ServesOwnLine (boot_tables N.frames N.stocks) is_numbered number line.now cpu.old cpu.new) }
 {
     match line {
         Line::Go => Ok(()),
@@ -58,7 +62,11 @@ fn serve_own_line<N: BootName, R: Wait, G: Gate>(
             if *processor != number {
                 return Ok(());
             }
-            visit_line(visitor, cpu, *line, command, text)
+            if is_numbered {
+                visit_numbered_line(alloc, visitor, cpu, *line, command, text)
+            } else {
+                visit_line(visitor, cpu, *line, command, text)
+            }
         }
     }
 }

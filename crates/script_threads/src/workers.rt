@@ -32,6 +32,7 @@ pub(crate) struct Job<'a, N: BootName, R, G> {
     pub(crate) cpu: &'a mut Cpu<N>,
     pub(crate) number: u32,
     pub(crate) lines: &'a [Line<'a>],
+    pub(crate) is_numbered: bool,
     pub(crate) gate: &'a G,
 }
 
@@ -41,11 +42,12 @@ struct Answers<'a, N: BootName> {
     before: Snapshot<Cpu<N>>,
     number: u32,
     lines: &'a [Line<'a>],
+    is_numbered: bool,
 }
 
 impl<'a, N: BootName> Promise<Result<Told<N>, AllocError>> for Answers<'a, N> {
     ghost kept_by = { λ p r. IfOk r (λ told. ServesOwn (boot_tables N.frames N.stocks)
-        (worker p.number p.before.value p.lines.now) told.after.value (string_bytes told.text)) };
+        (worker p.number p.before.value p.lines.now p.is_numbered) told.after.value (string_bytes told.text)) };
 }
 
 #[derive(Drop)]
@@ -58,7 +60,7 @@ impl<'a, N: BootName> Model for Worker<'a, N> {
     ghost Value = { KnownWorker };
 
     ghost view = { λ w.
-        worker w.handle.promise.number w.handle.promise.before.value w.handle.promise.lines.now };
+        worker w.handle.promise.number w.handle.promise.before.value w.handle.promise.lines.now w.handle.promise.is_numbered };
 
     ghost invariant = { λ w. w.number ≡ w.handle.promise.number };
 }
@@ -67,7 +69,8 @@ impl<'a, N: BootName, R: Wait, G: Gate> Job<'a, N, R, G> {
     fn run(self) -> Result<Told<N>, AllocError>
         requires { All (LineNames N.frames.frames) self.lines.now }
         ensures { IfOk result (λ told. ServesOwn (boot_tables N.frames N.stocks)
-            (worker self.entry.number self.entry.cpu.now self.entry.lines.now) told.after.value (string_bytes told.text)) }
+            (worker self.entry.number self.entry.cpu.now self.entry.lines.now self.entry.is_numbered) told.after.value
+            (string_bytes told.text)) }
     {
         let Job {
             rt,
@@ -76,9 +79,10 @@ impl<'a, N: BootName, R: Wait, G: Gate> Job<'a, N, R, G> {
             cpu,
             number,
             lines,
+            is_numbered,
             gate,
         } = self;
-        let text = serve_own(rt, alloc, system, cpu, number, lines, gate)?;
+        let text = serve_own(rt, alloc, system, cpu, number, lines, is_numbered, gate)?;
         let after = Snapshot::of(&*cpu);
         Ok(Told { text, after })
     }
@@ -90,13 +94,15 @@ pub(crate) fn start<'s, E, N: BootName + Send + Sync, R: Wait + Sync, G: Gate + 
     job: Job<'s, N, R, G>,
 ) -> Result<Worker<'s, N>, AllocError>
     requires { All (LineNames N.frames.frames) job.lines.now }
-    ensures { IfOk result (λ started. started ≡ worker job.entry.number job.entry.cpu.now job.entry.lines.now) }
+    ensures { IfOk result (λ started. started
+        ≡ worker job.entry.number job.entry.cpu.now job.entry.lines.now job.entry.is_numbered) }
 {
     let number = job.number;
     let promise = Answers {
         before: Snapshot::of(&*job.cpu),
         number,
         lines: job.lines,
+        is_numbered: job.is_numbered,
     };
     let handle = scope.spawn_with(promise, move || job.run())?;
     Ok(Worker { number, handle })

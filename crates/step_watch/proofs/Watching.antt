@@ -1,35 +1,61 @@
 -- What follows from the steps that a watch took (for `Watch`, the laws, and the crates whose steps are watched).
-use Rattle.std.proofs.Common.{◌≡◌, ℕ, ◌+◌, ◌++◌, Bool, true, false, Some, None, [], ◌∷◌, length, length-append, refl, sym, ◌∙◌, ap, subst, arith}
-use Rattle.std.proofs.lemmas.Bool.{false≢true}
+use Rattle.std.proofs.Common.{◌≡◌, ℕ, ◌++◌, true, false, Option, Some, None, is_some, List, [], ◌∷◌, length-append, refl, sym, ◌∙◌, ap, subst, arith}
+use Rattle.std.proofs.lemmas.Bool.{and_parts, false≢true}
+use Rattle.std.proofs.lemmas.Grind.{flat_map-append}
 use Rattle.std.proofs.lemmas.List.{append_assoc, append-nil}
 use Rattle.step_rules.specs.declared.step.Step.{Step}
 use Rattle.step_rules.specs.declared.step.Answer.{Answer}
-use Rattle.step_rules.specs.State.{Zone, State, at_boot}
+use Rattle.step_rules.specs.State.{Zone, State}
 use Rattle.step_rules.specs.After.{Run, after, state_of, IsLegalRun}
 use Rattle.step_rules.proofs.Runs.{one_more, state_more, legal_more}
-use Rattle.mem_core.specs.Shown.{CoreState, state_in}
-use Rattle.mem_core.specs.Checked.{Leads}
+use Rattle.mem_core.specs.Shown.{CoreState}
 use Rattle.mem_core.proofs.Keeping.{always_keeps}
-use Rattle.step_watch.specs.Watched.{KnownWatch, state_seen, steps_seen, AreAllowedFrom, Saw, Watches, IsNewWatch, SawRun}
+use Rattle.log_lines.specs.Line.{entry_text}
+use Rattle.step_watch.specs.Watched.{KnownWatch, Accepts, Adds, AreAllowedFrom, IsNewWatch, Saw, SawRun, Watches, Wrote}
+use Rattle.step_watch.specs.Watched.{has_legal_steps, log_text, state_seen, steps_text}
 
--- a watch whose flag is off says nothing
-pub watches_illegal : (before : KnownWatch) (steps : Run) (later : KnownWatch) → later.is_legal ≡ false → Watches before steps later
-watches_illegal before steps later off = record { saw = λ on. absurd (false≢true (sym off ∙ on)) }
+-- a watch that takes no steps says nothing
+pub watches_off : (before : KnownWatch) (steps : Run) (later : KnownWatch) → later.is_on ≡ false → Watches before steps later
+watches_off before steps later off = record {
+  saw = λ on. absurd (false≢true (sym off ∙ (and_parts _ _ on).0));
+  wrote = λ on. absurd (false≢true (sym off ∙ (and_parts _ _ on).0));
+}
 
--- a checker accepted one more step
-pub watches_step : (old new : CoreState) (step : Step) (answer : Answer) (ok : Bool) →
-    (ok ≡ true → Leads (state_in old) step answer (state_in new)) → (ok ≡ true → new.steps ≡ old.steps + 1) →
-    Watches (record { core = Some old; is_legal = true }) ((step, answer) ∷ []) (record { core = Some new; is_legal = ok })
-watches_step old new step answer ok leads count = record {
-  saw = λ on. record {
-    was_legal = refl;
-    allowed = ((leads on).allowed, sym (leads on).state);
-    count = count on;
-  };
+saw_step : (old new : Option CoreState) (a b : Option (List ℕ)) (step : Step) (answer : Answer) → Accepts old step answer new → is_some new ≡ true →
+    Saw (record { core = old; log = a; is_on = true }) ((step, answer) ∷ []) (record { core = new; log = b; is_on = true })
+saw_step None None a b step answer accepts on = absurd (false≢true on)
+saw_step None (Some new) a b step answer accepts on = absurd accepts
+saw_step (Some old) None a b step answer accepts on = absurd accepts
+saw_step (Some old) (Some new) a b step answer accepts on = record {
+  was_legal = refl;
+  allowed = (accepts.0.allowed, sym accepts.0.state);
+  count = accepts.1;
+}
+
+wrote_step : (old new : Option CoreState) (a b : Option (List ℕ)) (step : Step) (answer : Answer) → Adds a step answer b → is_some b ≡ true →
+    Wrote (record { core = old; log = a; is_on = true }) ((step, answer) ∷ []) (record { core = new; log = b; is_on = true })
+wrote_step old new None None step answer adds on = absurd (false≢true on)
+wrote_step old new None (Some b) step answer adds on = absurd adds
+wrote_step old new (Some a) None step answer adds on = absurd adds
+wrote_step old new (Some a) (Some b) step answer adds on = record {
+  was_whole = refl;
+  added = adds ∙ ap (λ (line : List ℕ). a ++ line) (sym (append-nil (entry_text step answer ++ 10 ∷ [])));
+}
+
+-- a watch took one more step
+pub watches_step : (old new : Option CoreState) (a b : Option (List ℕ)) (step : Step) (answer : Answer) →
+    Accepts old step answer new → Adds a step answer b →
+    Watches (record { core = old; log = a; is_on = true }) ((step, answer) ∷ []) (record { core = new; log = b; is_on = true })
+watches_step old new a b step answer accepts adds = record {
+  saw = λ on. saw_step old new a b step answer accepts on;
+  wrote = λ on. wrote_step old new a b step answer adds on;
 }
 
 pub watches_none : (watch : KnownWatch) → Watches watch [] watch
-watches_none watch = record { saw = λ on. record { was_legal = on; allowed = refl; count = omega arith } }
+watches_none watch = record {
+  saw = λ on. record { was_legal = on; allowed = refl; count = omega arith };
+  wrote = λ on. record { was_whole = on; added = sym (append-nil (log_text watch)) };
+}
 
 allowed_both : (s : State) (first : Run) (t : State) (second : Run) (u : State) → AreAllowedFrom s first t → AreAllowedFrom t second u
     → AreAllowedFrom s (first ++ second) u
@@ -40,6 +66,15 @@ allowed_both s (made ∷ first) t second u allowed rest =
 pub watches_both : (before : KnownWatch) (first : Run) (between : KnownWatch) (second : Run) (later : KnownWatch)
     → Watches before first between → Watches between second later → Watches before (first ++ second) later
 watches_both before first between second later one two = record {
+  wrote = λ on.
+      let last = two.wrote on in
+      let start = one.wrote last.was_whole in
+      record {
+        was_whole = start.was_whole;
+        added = last.added ∙ ap (λ (text : List ℕ). text ++ steps_text second) start.added
+            ∙ append_assoc (log_text before) (steps_text first) (steps_text second)
+            ∙ ap (λ (text : List ℕ). log_text before ++ text) (sym (flat_map-append (λ (made : Step × Answer). entry_text made.0 made.1 ++ 10 ∷ []) first second));
+      };
   saw = λ on.
       let last = two.saw on in
       let start = one.saw last.was_legal in
@@ -66,7 +101,7 @@ goes_on zone run s (made ∷ steps) t legal here allowed =
     (legal_more zone run made.0 made.1 legal allowed_there.0) (sym (state_more zone run made.0 made.1)) allowed_there.1)
 
 pub watched_runs_are_legal : (zone : Zone) (new : KnownWatch) (run : Run) (later : KnownWatch)
-    → IsNewWatch zone new → Watches new run later → later.is_legal ≡ true → SawRun zone run later
+    → IsNewWatch zone new → Watches new run later → has_legal_steps later ≡ true → SawRun zone run later
 watched_runs_are_legal zone new run later first watched on =
     let saw = watched.saw on in
     let ends = goes_on zone [] (state_seen new) run (state_seen later) (λ k. tt) first.state saw.allowed in

@@ -1,24 +1,39 @@
 -- What a watch says of the steps that it took.
-use Rattle.std.specs.Prelude.{◌≡◌, ℕ, ◌+◌, ◌++◌, ◌&&◌, not, Bool, true, false, Option, Some, None, is_some, [], ◌∷◌, length}
-use Rattle.zone_sizes.specs.declared.config.Config.{Config}
+use Rattle.std.specs.Prelude.{◌≡◌, ℕ, ◌+◌, ◌++◌, ◌&&◌, not, Bool, true, false, Option, Some, None, is_some}
+use Rattle.std.specs.Prelude.{List, Vec, [], ◌∷◌, flat_map, length, option_map, ⊤}
+use Rattle.step_rules.specs.declared.step.Action.{Action}
+use Rattle.step_rules.specs.declared.step.Answer.{Answer}
+use Rattle.step_rules.specs.declared.step.Step.{Step}
 use Rattle.step_rules.specs.State.{Zone, State, at_boot}
 use Rattle.step_rules.specs.Legal.{Allows}
 use Rattle.step_rules.specs.After.{Run, after, state_of, IsLegalRun}
 use Rattle.mem_core.specs.Shown.{CoreState, state_in}
+use Rattle.mem_core.specs.Checked.{Leads}
 use Rattle.mem_core.specs.Promise.{AlwaysKeepsPromise}
+use Rattle.log_lines.specs.Line.{entry_text}
 
--- What a watch is: the state of its checker, or None if it is off; and whether it is on and each step so far was legal.
+-- What a watch is: the state of its checker, or None if it checks no step; the log that it wrote, or None if it writes
+-- none; and whether it takes steps: it was made to, and has not stopped.
 pub record KnownWatch : Type 0 where
   pub core : Option CoreState
-  pub is_legal : Bool
+  pub log : Option (List ℕ)
+  pub is_on : Bool
 
 -- a watch that is off
 abbrev pub watch_off : KnownWatch
-watch_off = record { core = None; is_legal = false }
+watch_off = record { core = None; log = None; is_on = false }
 
--- the watch is on and has stopped at a step
+-- the watch checks steps, and the rules allowed each step so far
+abbrev pub has_legal_steps : KnownWatch → Bool
+has_legal_steps watch = watch.is_on && is_some watch.core
+
+-- the watch writes a log, and the log has each step so far
+abbrev pub has_whole_log : KnownWatch → Bool
+has_whole_log watch = watch.is_on && is_some watch.log
+
+-- the watch checks steps, and has stopped at one
 abbrev pub has_failed : KnownWatch → Bool
-has_failed watch = is_some watch.core && not watch.is_legal
+has_failed watch = is_some watch.core && not watch.is_on
 
 -- the state of the rules that a checker has reached; without a checker, that of a zone without frames and CPUs
 abbrev pub state_reached : Option CoreState → State
@@ -28,6 +43,18 @@ state_reached (Some core) = state_in core
 -- the state of the rules that the watch saw its steps lead to
 abbrev pub state_seen : KnownWatch → State
 state_seen watch = state_reached watch.core
+
+-- the text of a log, if there is one
+abbrev pub known_log : {Z : Type 0} → Option (Vec ℕ Z) → Option (List ℕ)
+known_log log = option_map (λ text. text.items) log
+
+-- a step of the zone's own seat, with its answer
+abbrev pub zone_makes : Action → Answer → Step × Answer
+zone_makes action answer = (record { seat = 0; action = action }, answer)
+
+-- a step of a CPU's seat, with its answer
+abbrev pub cpu_makes : ℕ → Action → Answer → Step × Answer
+cpu_makes cpu action answer = (record { seat = cpu; action = action }, answer)
 
 -- how many steps a checker took
 abbrev pub steps_taken : Option CoreState → ℕ
@@ -44,20 +71,52 @@ AreAllowedFrom s [] t = s ≡ t
 AreAllowedFrom s (made ∷ rest) t =
     Allows s made.0.seat made.0.action made.1 × AreAllowedFrom (after s made.0.seat made.0.action made.1) rest t
 
+-- what is written of a log; nothing, if there is none
+abbrev pub text_written : Option (List ℕ) → List ℕ
+text_written None = []
+text_written (Some text) = text
+
+-- the log that the watch wrote
+abbrev pub log_text : KnownWatch → List ℕ
+log_text watch = text_written watch.log
+
+-- the steps with their answers, as the lines of a log
+abbrev pub steps_text : Run → List ℕ
+steps_text steps = flat_map (λ made. entry_text made.0 made.1 ++ 10 ∷ []) steps
+
+-- if there is a checker, it accepts this answer to the step
+abbrev pub Accepts : Option CoreState → Step → Answer → Option CoreState → Type 0
+Accepts None step answer None = ⊤
+Accepts (Some old) step answer (Some new) =
+    Leads (state_in old) step answer (state_in new) × (new.steps ≡ old.steps + 1)
+Accepts old step answer new = ⊥
+
+-- if there is a log, the line of the step is added to it
+abbrev pub Adds : Option (List ℕ) → Step → Answer → Option (List ℕ) → Type 0
+Adds None step answer None = ⊤
+Adds (Some old) step answer (Some new) = new ≡ old ++ (entry_text step answer ++ 10 ∷ [])
+Adds old step answer new = ⊥
+
 -- each step of the watch was legal before these, the rules allow these too, and the watch counted them
 pub record Saw (before : KnownWatch) (steps : Run) (later : KnownWatch) : Type 0 where
-  pub was_legal : before.is_legal ≡ true
+  pub was_legal : has_legal_steps before ≡ true
   pub allowed : AreAllowedFrom (state_seen before) steps (state_seen later)
   pub count : steps_seen later ≡ steps_seen before + length steps
 
--- Between these two states the watch took these steps: if its flag says that all steps were legal, it saw them. Of a
--- watch that is off this says nothing.
-pub record Watches (before : KnownWatch) (steps : Run) (later : KnownWatch) : Type 0 where
-  pub saw : later.is_legal ≡ true → Saw before steps later
+-- the log had each step before these, and these were added to it
+pub record Wrote (before : KnownWatch) (steps : Run) (later : KnownWatch) : Type 0 where
+  pub was_whole : has_whole_log before ≡ true
+  pub added : log_text later ≡ log_text before ++ steps_text steps
 
--- the watch of a zone that boots: it is on and took no step
+-- Between these two states the watch took these steps: if it says that all steps were legal, it saw them; if it says
+-- that its log is whole, it wrote them. Of a watch that is off this says nothing.
+pub record Watches (before : KnownWatch) (steps : Run) (later : KnownWatch) : Type 0 where
+  pub saw : has_legal_steps later ≡ true → Saw before steps later
+  pub wrote : has_whole_log later ≡ true → Wrote before steps later
+
+-- the watch that checks the steps of a zone that boots: it took no step
 pub record IsNewWatch (zone : Zone) (watch : KnownWatch) : Type 0 where
-  pub is_legal : watch.is_legal ≡ true
+  pub legal : has_legal_steps watch ≡ true
   pub state : state_seen watch ≡ at_boot zone
   pub steps : steps_seen watch ≡ 0
 
@@ -69,10 +128,15 @@ pub record SawRun (zone : Zone) (run : Run) (watch : KnownWatch) : Type 0 where
   pub count : steps_seen watch ≡ length run
   pub promise : AlwaysKeepsPromise zone run
 
--- a new watch that took these steps and whose flag says that all were legal, saw a legal run
+-- the watch that writes a log: nothing is written yet
+pub record IsNewLog (watch : KnownWatch) : Type 0 where
+  pub whole : has_whole_log watch ≡ true
+  pub none : log_text watch ≡ []
+
+-- a new watch that took these steps and says that all were legal, saw a legal run
 abbrev pub WatchedRunsAreLegal : Type 0
 WatchedRunsAreLegal = (zone : Zone) (new : KnownWatch) (run : Run) (later : KnownWatch)
-    → IsNewWatch zone new → Watches new run later → later.is_legal ≡ true → SawRun zone run later
+    → IsNewWatch zone new → Watches new run later → has_legal_steps later ≡ true → SawRun zone run later
 
 -- a watch that took some steps and then others took both lists, one after the other
 abbrev pub WatchedRunsCompose : Type 0

@@ -1,38 +1,42 @@
 //! The watch, and how it takes a step.
 
-ghost use Rattle.std.specs.Prelude.{◌≡◌, ◌∷◌, [], ◌+◌, IfOk, IsTrue};
+ghost use Rattle.std.specs.Prelude.{◌≡◌, ◌∷◌, [], ◌+◌, ◌++◌, IfOk, IsTrue};
 ghost use Rattle.step_rules.specs.declared.step.Action.TheVariants.{Make};
 ghost use Rattle.step_rules.specs.declared.step.Answer.TheVariants.{Number};
+ghost use Rattle.log_lines.specs.Line.{entry_text};
 ghost use Rattle.mem_core.specs.Shown.{state_in, zone_of};
 ghost use Rattle.mem_core.specs.Checked.{Leads};
-ghost use Rattle.step_watch.specs.Watched.{IsNewWatch, Watches, has_failed, steps_seen, watch_off};
+ghost use Rattle.step_watch.specs.Watched.{Accepts, Adds, IsNewLog, IsNewWatch, Watches, has_failed, has_legal_steps};
+ghost use Rattle.step_watch.specs.Watched.{has_whole_log, known_log, log_text, steps_seen, watch_off, zone_makes};
 ghost use Rattle.zone_sizes.specs.Config.{IsValidConfig};
 
 use group_tree::group::GroupId;
 use group_tree::path::PathText;
+use log_lines::write_entry;
 use mem_core::checker::Checker;
 use std::alloc::{AllocError, Global};
 use std::marker::Model;
 use step_rules::step::{Action, Answer, Step};
 use zone_sizes::config::Config;
 
-/// Takes steps where they are made, if it is on. It stops at the first step that the rules don't allow.
+/// Takes steps where they are made, if it is on. It stops at the first step that the rules don't allow, or for whose
+/// line of the log memory runs out.
 #[derive(Drop)]
 pub struct Watch {
-    // None if the watch is off.
+    // Checks each step, if there is one.
     checker: Option<Checker>,
-    // Whether the watch is on, and the rules allowed each step so far.
-    is_legal: bool,
+    // The lines of all steps, if they are written.
+    log: Option<Vec<u8>>,
+    // Whether it takes steps.
+    is_on: bool,
 }
 
 impl Model for Watch {
-    ghost use Rattle.step_watch.specs.Watched.{KnownWatch};
+    ghost use Rattle.step_watch.specs.Watched.{KnownWatch, known_log};
 
     ghost Value = { KnownWatch };
 
-    ghost view = { λ watch. record { core = watch.checker; is_legal = watch.is_legal } };
-
-    ghost inverse = { λ watch. record { checker = watch.core; is_legal = watch.is_legal } };
+    ghost view = { λ watch. record { core = watch.checker; log = known_log watch.log; is_on = watch.is_on } };
 }
 
 // Whether the checker accepts this answer. It counts its steps in 64 bits, and takes no step beyond them.
@@ -46,19 +50,49 @@ fn accepts(checker: &mut Checker, step: &Step, answer: &Answer) -> bool
     checker.accept(step, answer).is_ok()
 }
 
+// Whether the checker, if there is one, accepts this answer.
+fn check(checker: &mut Option<Checker>, step: &Step, answer: &Answer) -> bool
+    ensures { IsTrue result → Accepts checker.old step.now answer.now checker.new }
+{
+    match checker {
+        None => true,
+        Some(checker) => accepts(checker, step, answer),
+    }
+}
+
+// Adds the line of the step to a log.
+fn write_line(log: &mut Vec<u8>, step: &Step, answer: &Answer) -> Result<(), AllocError>
+    ensures { IfOk result (λ _. log.new.items ≡ log.old.items ++ (entry_text step.now answer.now ++ 10 ∷ [])) }
+{
+    write_entry(step, answer, log)?;
+    log.push(b'\n')?;
+    Ok(())
+}
+
+// Adds the line of the step to the log, if there is one. It returns false if memory runs out.
+fn write(log: &mut Option<Vec<u8>>, step: &Step, answer: &Answer) -> bool
+    ensures { IsTrue result → Adds (known_log log.old) step.now answer.now (known_log log.new) }
+{
+    match log {
+        None => true,
+        Some(log) => write_line(log, step, answer).is_ok(),
+    }
+}
+
 impl Watch {
-    /// A watch that is off: it takes no step and has no checker.
+    /// A watch that is off: it takes no step.
     pub fn off() -> Watch
         ensures { result ≡ watch_off }
     {
         Watch {
             checker: None,
-            is_legal: false,
+            log: None,
+            is_on: false,
         }
     }
 
-    /// A watch for the steps of a boot of these sizes, from its first step on. It reserves here all room that it needs.
-    /// Of the sizes only the frames and the CPUs matter.
+    /// A watch that checks the steps of a boot of these sizes, from its first step on. It reserves here all room that
+    /// it needs. Of the sizes only the frames and the CPUs matter.
     pub fn new(alloc: Global, config: Config) -> Result<Watch, AllocError>
         requires { IsValidConfig config }
         ensures { IfOk result (IsNewWatch (zone_of config)) }
@@ -66,26 +100,46 @@ impl Watch {
         let checker = Checker::new(alloc, config)?;
         Ok(Watch {
             checker: Some(checker),
-            is_legal: true,
+            log: None,
+            is_on: true,
         })
     }
 
-    /// Whether the watch is on, and the rules allowed each step that it took. The law `watched_runs_are_legal` says
+    /// A watch that writes each step as a line of a log. The log grows with the steps.
+    pub fn logging(alloc: Global) -> Watch
+        ensures { IsNewLog result }
+    {
+        Watch {
+            checker: None,
+            log: Some(Vec::new(alloc)),
+            is_on: true,
+        }
+    }
+
+    /// Whether the watch takes steps. Only then must a step be handed to it.
+    #[inline(always)]
+    pub fn is_on(&self) -> bool
+        ensures { result ≡ self.now.is_on }
+    {
+        self.is_on
+    }
+
+    /// Whether the watch checks steps, and the rules allowed each that it took. The law `watched_runs_are_legal` says
     /// what follows.
     pub fn is_legal(&self) -> bool
-        ensures { result ≡ self.now.is_legal }
+        ensures { result ≡ has_legal_steps self.now }
     {
-        self.is_legal
+        self.is_on && self.checker.is_some()
     }
 
     /// Whether the watch stopped at a step that the rules don't allow.
     pub fn has_failed(&self) -> bool
         ensures { result ≡ has_failed self.now }
     {
-        self.checker.is_some() && !self.is_legal
+        self.checker.is_some() && !self.is_on
     }
 
-    /// How many steps the watch took, with the one at which it stopped.
+    /// How many steps the watch checked, with the one at which it stopped.
     pub fn steps(&self) -> u64
         ensures { result ≡ steps_seen self.now }
     {
@@ -95,54 +149,49 @@ impl Watch {
         }
     }
 
+    /// Whether the watch writes a log that has each step so far. If not, no log is written or memory ran out for it.
+    pub fn is_whole(&self) -> bool
+        ensures { result ≡ has_whole_log self.now }
+    {
+        self.is_on && self.log.is_some()
+    }
+
+    /// The log so far: a line for each step. It is empty if no log is written.
+    pub fn log(&self) -> &[u8]
+        ensures { result.now ≡ log_text self.now }
+    {
+        match &self.log {
+            None => &[],
+            Some(log) => log.as_slice(),
+        }
+    }
+
     /// Takes a step with its answer. A watch that is off, or has stopped, does nothing.
     pub fn take(&mut self, step: &Step, answer: &Answer)
         ensures { Watches self.old ((step.now, answer.now) ∷ []) self.new }
     {
-        if !self.is_legal {
+        if !self.is_on {
             return;
         }
-        match &mut self.checker {
-            None => self.is_legal = false,
-            Some(checker) => self.is_legal = accepts(checker, step, answer),
-        }
+        self.is_on = check(&mut self.checker, step, answer) && write(&mut self.log, step, answer);
     }
 
     /// Takes a step of the zone's own seat with its answer.
-    #[inline(always)]
     pub fn zone_made(&mut self, action: Action, answer: Answer)
-        ensures { Watches self.old ((record { seat = 0; action = action }, answer) ∷ []) self.new }
+        ensures { Watches self.old (zone_makes action answer ∷ []) self.new }
     {
-        if self.is_legal {
-            self.take(&Step { seat: 0, action }, &answer);
-        }
-    }
-
-    /// Takes a step of a CPU's seat with its answer.
-    #[inline(always)]
-    pub fn cpu_made(&mut self, number: u32, action: Action, answer: Answer)
-        ensures { Watches self.old ((record { seat = number; action = action }, answer) ∷ []) self.new }
-    {
-        if self.is_legal {
-            self.take(
-                &Step {
-                    seat: number,
-                    action,
-                },
-                &answer,
-            );
-        }
+        self.take(&Step { seat: 0, action }, &answer);
     }
 
     /// Takes the step of the zone's own seat that made a group of this path.
     pub fn group_made(&mut self, path: &[u8], group: GroupId)
-        ensures { Watches self.old ((record { seat = 0; action = Make path.now }, Number group) ∷ []) self.new }
+        ensures { Watches self.old (zone_makes (Make path.now) (Number group) ∷ []) self.new }
     {
-        if !self.is_legal {
+        if !self.is_on {
             return;
         }
         match PathText::of(path) {
-            None => self.is_legal = false,
+            None => self.is_on = false,
             Some(path) => self.zone_made(Action::Make { path }, Answer::Number(group)),
         }
     }

@@ -4,7 +4,7 @@ use Rattle.mem_system.proofs.Closing.{written_back}
 use Rattle.script_replay.specs.History.{ReplaysCheckedOrStops}
 use Rattle.script_replay.specs.Lines.{system_state}
 use Rattle.script_replay.specs.Ranges.{LineIsThere}
-use Rattle.script_replay.specs.Terms.{terms}
+use Rattle.script_replay.specs.Terms.{form_terms}
 use Rattle.load_run.specs.Ending.{EndsHeld}
 use Rattle.load_run.proofs.running.check_and_end_boot.Goals as goal
 
@@ -31,7 +31,7 @@ returns g c =
       ends = record {
         before = system_state c.replay_checked-answers.new.locked c.replay_checked-answers.new.cpus;
         so = record {
-          replays = subst (λ (cpus : List KnownCpu). ReplaysCheckedOrStops (terms t w c.args.is_explained) c.args.lines.now (system_state c.args.locked cpus)
+          replays = subst (λ (cpus : List KnownCpu). ReplaysCheckedOrStops (form_terms t w c.args.form) c.args.lines.now (system_state c.args.locked cpus)
               (system_state c.replay_checked-answers.new.locked c.replay_checked-answers.new.cpus) c.replay_checked-answers.result) first
               c.replay_checked-answers.ensures.outcome;
           count = search rules;

@@ -1,5 +1,5 @@
 use Rattle.std.proofs.Common.{ℕ, List, All, ◌++◌, ◌∙◌, ap, append_assoc, refl, subst, sym}
-use Rattle.step_watch.specs.Watched.{IsNewWatch}
+use Rattle.step_watch.specs.Watched.{IsNewWatch, has_legal_steps}
 use Rattle.mem_machine.specs.Interleaving.{zone_of}
 use Rattle.mem_machine.specs.Machines.{IsFirst}
 use Rattle.mem_system.specs.Locked.{KnownLocked}
@@ -19,7 +19,7 @@ check_and_end_boot-answers-requires-clause-lines g c =
 
 pub check_and_end_boot-answers-requires-clause-legal : goal.check_and_end_boot-answers-requires-clause-legal
 check_and_end_boot-answers-requires-clause-legal g c =
-    ap (λ (l : KnownLocked). l.machine.watch.is_legal) c.set_watch.ensures ∙ c.in_ok-watch.ensures.is_legal
+    ap (λ (l : KnownLocked). has_legal_steps l.machine.watch) c.set_watch.ensures ∙ c.in_ok-watch.ensures.legal
 
 pub returns : goal.returns
 returns g c =

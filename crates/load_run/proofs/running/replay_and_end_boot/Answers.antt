@@ -4,7 +4,7 @@ use Rattle.mem_system.proofs.Closing.{written_back}
 use Rattle.script_replay.specs.History.{ReplaysOrStops}
 use Rattle.script_replay.specs.Lines.{system_state}
 use Rattle.script_replay.specs.Ranges.{LineIsThere}
-use Rattle.script_replay.specs.Terms.{terms}
+use Rattle.script_replay.specs.Terms.{form_terms}
 use Rattle.load_run.specs.Ending.{EndsHeld}
 use Rattle.load_run.proofs.running.replay_and_end_boot.Goals as goal
 
@@ -30,7 +30,7 @@ returns g c =
     record {
       ends = record {
         before = system_state c.replay-answers.new.locked c.replay-answers.new.cpus;
-        so = subst (λ (cpus : List KnownCpu). ReplaysOrStops (terms t w c.args.is_explained) c.args.lines.now (system_state c.args.locked cpus)
+        so = subst (λ (cpus : List KnownCpu). ReplaysOrStops (form_terms t w c.args.form) c.args.lines.now (system_state c.args.locked cpus)
             (system_state c.replay-answers.new.locked c.replay-answers.new.cpus) c.replay-answers.result) first c.replay-answers.ensures.outcome;
         ends = subst (λ (cpus : List KnownCpu). EndsHeld t w (system_state c.replay-answers.new.locked cpus) c.end_boot-ended.result) same c.end_boot-ended.ensures.ends;
       };

@@ -5,7 +5,7 @@ use Rattle.cpu_part.specs.Cpus.{KnownCpu}
 use Rattle.mem_system.proofs.Closing.{written_back}
 use Rattle.script_replay.specs.History.{Replays}
 use Rattle.script_replay.specs.Lines.{SystemState, system_state}
-use Rattle.script_replay.specs.Terms.{boot_tables, terms}
+use Rattle.script_replay.specs.Terms.{boot_tables, numbered_terms}
 use Rattle.script_threads.specs.Each.{TellsEach, workers_from}
 use Rattle.script_threads.proofs.Going.{go_least}
 use Rattle.load_run.specs.Ending.{end_text}
@@ -57,19 +57,19 @@ returns g c =
     let early = c.in_ok-answers.answers.items in
     let later = c.in_ok-told.field-0.items in
     let ended = c.serve_and_end-told.result.1 in
-    let replays : Replays (terms t w false) c.split_at.result.0.now start at_go early =
-    at_ok c.replay-first.result c.in_ok-answers.answers (λ v. Replays (terms t w false) c.split_at.result.0.now start at_go v.items) c.in_ok-answers.was
+    let replays : Replays (numbered_terms t w false c.args.is_numbered) c.split_at.result.0.now start at_go early =
+    at_ok c.replay-first.result c.in_ok-answers.answers (λ v. Replays (numbered_terms t w false c.args.is_numbered) c.split_at.result.0.now start at_go v.items) c.in_ok-answers.was
     c.replay-first.ensures.outcome.replayed in
     let history = replays.history [] (boot_shown sizes t w c.in_ok-locked.locked.machine c.deref_mut.result.now sized c.in_ok-locked.ensures.machine firsts)
     (parts_tied sizes t w c.in_ok-locked.locked.machine c.deref_mut.result.now sized c.in_ok-locked.ensures.machine firsts) in
-    let tells : TellsEach (boot_tables t w) (workers_from 1 at_go.cpus c.split_at.result.1.now) later =
-    subst (λ (cpus : List KnownCpu). TellsEach (boot_tables t w) (workers_from 1 cpus c.split_at.result.1.now) later) same
+    let tells : TellsEach (boot_tables t w) (workers_from 1 at_go.cpus c.split_at.result.1.now c.args.is_numbered) later =
+    subst (λ (cpus : List KnownCpu). TellsEach (boot_tables t w) (workers_from 1 cpus c.split_at.result.1.now c.args.is_numbered) later) same
     (at_ok c.serve_and_end-told.result.0 c.in_ok-told.field-0 _ c.in_ok-told.was c.serve_and_end-told.ensures.told) in
     let joined : c.extend_from_slice.new.self.items ≡ early ++ later =
     c.in_ok-extend_from_slice.ensures.items ∙ ap (λ (l : List ℕ). early ++ l) c.deref.ensures.value in
     record {
       answers = weakened c.tell_end.result _ _ (λ text is.
-          are_answers sizes c.args.is_audited t w lines c.split_at.result.0.now c.split_at.result.1.now start at_go early later text.items ended (record {
+          are_answers sizes c.args.is_numbered c.args.is_audited t w lines c.split_at.result.0.now c.split_at.result.1.now start at_go early later text.items ended (record {
             sized = sized;
             machine = c.in_ok-locked.ensures.machine;
             sizes_are = c.in_ok-locked.ensures.sizes;

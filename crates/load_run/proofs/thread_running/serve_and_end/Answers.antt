@@ -33,7 +33,7 @@ pub returns-clause-told : goal.returns-clause-told
 returns-clause-told g c =
     let t = g.N.BootName.frames in
     let w = g.N.BootName.stocks in
-    subst (λ (cpus : List KnownCpu). IfOk c.serve_later-told.result (λ text. TellsEach (boot_tables t w) (workers_from 1 cpus c.args.lines.now) text.items))
+    subst (λ (cpus : List KnownCpu). IfOk c.serve_later-told.result (λ text. TellsEach (boot_tables t w) (workers_from 1 cpus c.args.lines.now c.args.is_numbered) text.items))
     c.deref_mut.ensures.value c.serve_later-told.ensures.told
 
 pub returns-clause-ends : goal.returns-clause-ends

@@ -7,7 +7,7 @@ use Rattle.mem_alloc.specs.Stepping.{ByStepsOfAny}
 use Rattle.mem_alloc.specs.Room.{HasMadeRoom, RelievesLimit, TellsRoom, has_room_at}
 use Rattle.mem_alloc.proofs.Lowering.{Lowers, lowered_visit, lowers_both, usages_fall, watched_lowers}
 use Rattle.mem_alloc.proofs.Killing.{relieving_lowers}
-use Rattle.mem_alloc.proofs.Making.{answer_is, so_far_more, so_far_over}
+use Rattle.mem_alloc.proofs.Making.{answer_is, so_far_more, so_far_none, so_far_over}
 use Rattle.mem_alloc.proofs.Taking.{is_refused, by_refusal, is_none, by_none, so_far_takes, so_far_no_block, room_still, none_opened, over_charges, over_not_none}
 use Rattle.mem_alloc.proofs.blocks.charge_block.Goals as goal
 
@@ -107,3 +107,9 @@ returns-in_err-make_room-in-Err-Over-clause-room g c none =
     (answer_is c.from_residual.result x c.from_residual.ensures.0 is)
     (subst (λ (n : ℕ). TellsRoom c.args.group c.in-Err-Over.over.group n (Err x) c.make_room.new.machine) c.frames-pages.ensures.frames
     c.in_err-make_room-in-Err-Over.ensures.room) none)
+
+pub tries-init : goal.tries-init
+tries-init g c = (
+  so_far_none g.N.BootName.frames c.args.group (2 ^ c.args.order) c.args.cpu.now c.args.machine.now c.requires.may_charge.alive,
+  refl,
+)

@@ -5,7 +5,7 @@ use Rattle.group_tree.proofs.CallerLemmas.{in_subtree-above}
 use Rattle.mem_machine.specs.Machines.{KnownMachine}
 use Rattle.mem_alloc.proofs.Lowering.{Lowers, lowered_visit, lowers_both, usages_fall, watched_lowers}
 use Rattle.mem_alloc.proofs.Killing.{relieving_lowers}
-use Rattle.mem_alloc.proofs.Making.{answer_is, refuses_one, so_far_fills, so_far_more, so_far_over}
+use Rattle.mem_alloc.proofs.Making.{answer_is, refuses_one, so_far_fills, so_far_none, so_far_more, so_far_over}
 use Rattle.mem_alloc.proofs.charging.fill_one.Goals as goal
 
 pub returns-in_default-clause-charges : goal.returns-in_default-clause-charges
@@ -51,3 +51,6 @@ pub returns-in_err-make_room-clause-visit : goal.returns-in_err-make_room-clause
 returns-in_err-make_room-clause-visit g c =
     lowered_visit g.N.BootName.frames _ _ _ c.fill_stock.new.cpu (relieving_lowers g.N.BootName.frames c.args.group c.in-Err.over.group 1 _ _ c.make_room.ensures.relieves) refl
     c.in-Err.ensures.visit
+
+pub tries-init : goal.tries-init
+tries-init g c = (so_far_none g.N.BootName.frames c.args.group 1 c.args.cpu.now c.args.machine.now c.requires.may_charge.alive, refl)

@@ -1,6 +1,8 @@
-use Rattle.std.proofs.Common.{length, inl, inr, ap, ◌∙◌, arith, length-append}
+use Rattle.std.proofs.Common.{[], length, inl, inr, ap, refl, ◌∙◌, arith, length-append}
 use Rattle.std.proofs.lemmas.List.{nil_from_length}
+use Rattle.mem_machine.specs.Local.{visit_state}
 use Rattle.mem_machine.specs.Steps.{refill_steps}
+use Rattle.mem_machine.proofs.Followed.{makes_none}
 use Rattle.mem_alloc.proofs.Filling.{lent_part, lent_page, lent_none, lent_batch, no_frame, reclaims_for, reclaimed_page, reclaimed_front}
 use Rattle.mem_alloc.proofs.frames.fill_list.Goals as goal
 
@@ -78,3 +80,14 @@ returns-clause-fills g c =
     (nil_from_length c.args.cpu.now.list (omega (arith, c.list_len.ensures.count))) first c.drain_stock.result
     c.number-number.result c.if-refill_in_rounds.ensures.refills c.number-number.ensures.number c.drain_stock.ensures.drains
     c.drain_stock.ensures.steps
+
+pub returns-then-list_len-gt0-clause-fills : goal.returns-then-list_len-gt0-clause-fills
+returns-then-list_len-gt0-clause-fills g c =
+    let many = c.if-list_len-gt0.true in record {
+      steps = [];
+      does = inl (record {
+        is = omega (arith, many, c.list_len.ensures.count);
+        does = record { machine = refl; cpu = refl; steps_are = refl };
+      });
+      makes = makes_none g.N.BootName.frames c.args.cpu.now.number (visit_state c.args.machine.now c.args.cpu.now);
+    }

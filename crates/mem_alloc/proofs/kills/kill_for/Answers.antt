@@ -9,7 +9,7 @@ use Rattle.mem_reclaim.specs.Sets.{kill_set}
 use Rattle.mem_reclaim.specs.Victim.{IsVictim}
 use Rattle.mem_alloc.specs.Kills.{KillsFor, has_room_at}
 use Rattle.mem_alloc.specs.Stepping.{ByStepsOfAny}
-use Rattle.mem_alloc.proofs.Killing.{fewer_alive, kills_end, so_far_killed, so_far_nobody, so_far_there}
+use Rattle.mem_alloc.proofs.Killing.{enough_room, fewer_alive, kills_end, so_far_killed, so_far_nobody, so_far_there}
 use Rattle.mem_alloc.proofs.kills.kill_for.Goals as goal
 
 pub kills-init : goal.kills-init
@@ -74,3 +74,8 @@ kills-preserved g c =
     so_far_killed c.args.requester t g.N.BootName.stocks c.args.limited c.args.pages killed c.args.machine.now
     x n c.kills.invariant (c.is_wanting.ensures.0 c.if-not-is_wanting.false) c.frame_states-frame_states.ensures.consistent charges most kills
     marked c.kill.ensures.stocks c.kill.ensures.keeps
+
+pub returns-then-has_room_at : goal.returns-then-has_room_at
+returns-then-has_room_at g c =
+    enough_room c.args.requester g.N.BootName.frames c.args.limited c.args.pages c.args.machine.now
+    (ap (λ (l : Ledger). has_room_at l c.args.limited c.args.pages) (sym c.charges.ensures) ∙ sym c.has_room_at.ensures ∙ c.if-has_room_at.true)

@@ -45,3 +45,11 @@ returns-in-Owner-clause-executed g c =
       does = (c.tell_place.ensures.told, record { machine = refl; cpu = refl; steps_are = refl });
       makes = makes_none g.N.BootName.frames c.args.cpu.now.number (visit_state c.args.machine.now c.args.cpu.now);
     })
+
+pub returns-in-Settle-clause-executed : goal.returns-in-Settle-clause-executed
+returns-in-Settle-clause-executed g c =
+    rw c.in-Settle.is (record {
+      steps = [];
+      does = (refl, record { machine = refl; cpu = refl; steps_are = refl });
+      makes = makes_none g.N.BootName.frames c.args.cpu.now.number (visit_state c.args.machine.now c.args.cpu.now);
+    })

@@ -1,12 +1,11 @@
 use Rattle.std.proofs.Common.{◌<◌, ◌≤◌, length, arith, rules, subst, sym}
 use Rattle.std.specs.Prelude.{take}
-use Rattle.mem_system.specs.Commands.{BySteps}
-use Rattle.mem_system.specs.Ends.{Empties, IsSettledUnpinned, IsSpent}
+use Rattle.mem_system.specs.Ends.{Empties, VisitsUnderLock, IsSettledUnpinned, IsSpent}
 use Rattle.mem_system.proofs.InTurns.{so_far_more, so_far_end, same_at, all_still, all_more, all_taken, spent_still}
 use Rattle.mem_system.proofs.last_visits.empty_all.Goals as goal
 
-pub empty_cpu-requires-clause-settled : goal.empty_cpu-requires-clause-settled
-empty_cpu-requires-clause-settled g c =
+pub empty_under_lock-requires-clause-settled : goal.empty_under_lock-requires-clause-settled
+empty_under_lock-requires-clause-settled g c =
     let inside : c.loop-cpu.cpu-index < length c.loop-cpu.cpus = search rules in
     let so_far = c.loop-cpu.invariant.0 in
     let long = so_far.long in
@@ -16,19 +15,20 @@ empty_cpu-requires-clause-settled g c =
 pub loop-cpu-preserved : goal.loop-cpu-preserved
 loop-cpu-preserved g c =
     let inside : c.loop-cpu.cpu-index < length c.loop-cpu.cpus = search rules in
-    let done = c.empty_cpu.ensures in
+    let done = c.empty_under_lock.ensures in
     let t = g.N.BootName.frames in
     let w = g.N.BootName.stocks in (
-      so_far_more (BySteps t Empties) _ _ _ _ _ _ c.cpu-item.result _ c.loop-cpu.invariant.0 inside done.empties done.shut,
-      all_more (IsSpent t w c.empty_cpu.new.machine) c.loop-cpu.cpus c.loop-cpu.cpu-index c.empty_cpu.new.cpu inside
-          (all_still (IsSpent t w c.loop-cpu.machine) (IsSpent t w c.empty_cpu.new.machine) (take c.loop-cpu.cpu-index c.loop-cpu.cpus)
-          (spent_still t w c.loop-cpu.machine c.empty_cpu.new.machine done.others) c.loop-cpu.invariant.1) done.spent,
+      so_far_more (VisitsUnderLock t Empties) _ _ _ _ _ _ c.cpu-item.result _ c.loop-cpu.invariant.0 inside done.empties,
+      all_more (IsSpent t w c.empty_under_lock.new.machine) c.loop-cpu.cpus c.loop-cpu.cpu-index c.empty_under_lock.new.cpu inside
+          (all_still (IsSpent t w c.loop-cpu.machine) (IsSpent t w c.empty_under_lock.new.machine) (take c.loop-cpu.cpu-index c.loop-cpu.cpus)
+          (spent_still t w c.loop-cpu.machine c.empty_under_lock.new.machine done.others) c.loop-cpu.invariant.1) done.spent,
+      done.shut,
     )
 
 pub returns-clause-empties : goal.returns-clause-empties
 returns-clause-empties g c =
     let past : length c.loop-cpu.cpus ≤ c.loop-cpu.cpu-index = search rules in
-    so_far_end (BySteps g.N.BootName.frames Empties) _ _ _ _ _ c.loop-cpu.invariant.0 past
+    so_far_end (VisitsUnderLock g.N.BootName.frames Empties) _ _ _ _ _ c.loop-cpu.invariant.0 past
 
 pub returns-clause-spent : goal.returns-clause-spent
 returns-clause-spent g c =

@@ -1,11 +1,10 @@
 use Rattle.std.proofs.Common.{◌<◌, ◌≤◌, length, rules}
-use Rattle.mem_system.specs.Commands.{BySteps}
-use Rattle.mem_system.specs.Ends.{SettlesInVisit, IsSettledUnpinned}
+use Rattle.mem_system.specs.Ends.{SettlesInVisit, VisitsUnderLock, IsSettledUnpinned}
 use Rattle.mem_system.proofs.InTurns.{so_far_more, so_far_end, no_pin_at, all_more, all_taken}
 use Rattle.mem_system.proofs.last_visits.settle_all.Goals as goal
 
-pub settle_cpu-requires-clause-no_pin : goal.settle_cpu-requires-clause-no_pin
-settle_cpu-requires-clause-no_pin g c =
+pub settle_under_lock-requires-clause-no_pin : goal.settle_under_lock-requires-clause-no_pin
+settle_under_lock-requires-clause-no_pin g c =
     let inside : c.loop-cpu.cpu-index < length c.loop-cpu.cpus = search rules in
     let so_far = c.loop-cpu.invariant.0 in
     no_pin_at _ _ _ _ inside so_far.long so_far.left c.requires.no_pin
@@ -13,15 +12,16 @@ settle_cpu-requires-clause-no_pin g c =
 pub loop-cpu-preserved : goal.loop-cpu-preserved
 loop-cpu-preserved g c =
     let inside : c.loop-cpu.cpu-index < length c.loop-cpu.cpus = search rules in
-    let done = c.settle_cpu.ensures in (
-      so_far_more (BySteps g.N.BootName.frames SettlesInVisit) _ _ _ _ _ _ c.cpu-item.result _ c.loop-cpu.invariant.0 inside done.settles done.shut,
-      all_more IsSettledUnpinned c.loop-cpu.cpus c.loop-cpu.cpu-index c.settle_cpu.new.cpu inside c.loop-cpu.invariant.1 done.settled,
+    let done = c.settle_under_lock.ensures in (
+      so_far_more (VisitsUnderLock g.N.BootName.frames SettlesInVisit) _ _ _ _ _ _ c.cpu-item.result _ c.loop-cpu.invariant.0 inside done.settles,
+      all_more IsSettledUnpinned c.loop-cpu.cpus c.loop-cpu.cpu-index c.settle_under_lock.new.cpu inside c.loop-cpu.invariant.1 done.settled,
+      done.shut,
     )
 
 pub returns-clause-settles : goal.returns-clause-settles
 returns-clause-settles g c =
     let past : length c.loop-cpu.cpus ≤ c.loop-cpu.cpu-index = search rules in
-    so_far_end (BySteps g.N.BootName.frames SettlesInVisit) _ _ _ _ _ c.loop-cpu.invariant.0 past
+    so_far_end (VisitsUnderLock g.N.BootName.frames SettlesInVisit) _ _ _ _ _ c.loop-cpu.invariant.0 past
 
 pub returns-clause-settled : goal.returns-clause-settled
 returns-clause-settled g c =

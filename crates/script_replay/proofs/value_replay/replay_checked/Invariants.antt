@@ -1,12 +1,12 @@
 use Rattle.std.proofs.Common.{◌≡◌, true, take}
 use Rattle.std.specs.String.{string_bytes}
 use Rattle.script_replay.specs.Lines.{system_state}
-use Rattle.script_replay.specs.Terms.{terms}
+use Rattle.script_replay.specs.Terms.{form_terms}
 use Rattle.script_replay.proofs.Going.{ServesAllAndKeeps}
 use Rattle.script_replay.proofs.value_replay.replay_checked.Given as goal
 
 abbrev pub invariant-loop-next : goal.invariant-loop-next
 invariant-loop-next g l =
-    ServesAllAndKeeps (terms g.N.BootName.frames g.N.BootName.stocks l.is_explained) (take l.next-index l.lines)
+    ServesAllAndKeeps (form_terms g.N.BootName.frames g.N.BootName.stocks l.form) (take l.next-index l.lines)
     (system_state l.initial.locked l.initial.cpus) (system_state l.locked l.cpus) (string_bytes l.answers)
-    × (l.locked.machine.watch.is_legal ≡ true)
+    × (has_legal_steps l.locked.machine.watch ≡ true)

@@ -1,5 +1,5 @@
 use Rattle.std.proofs.Common.{rules}
-use Rattle.mem_machine.proofs.Many.{taken_more, taken_end, taken_front, taken_whole}
+use Rattle.mem_machine.proofs.Many.{taken_start, taken_more, taken_end, taken_front, taken_whole}
 use Rattle.mem_machine.proofs.machine.Machine.drain_list.Goals as goal
 
 pub returns-then-not-take_one_back-clause-listed : goal.returns-then-not-take_one_back-clause-listed
@@ -29,3 +29,6 @@ returns g c =
 
 pub returns-then-not-take_one_back-clause-at_most : goal.returns-then-not-take_one_back-clause-at_most
 returns-then-not-take_one_back-clause-at_most g c = search rules
+
+pub loop-taken-init : goal.loop-taken-init
+loop-taken-init g c = taken_start _ _ _ c.requires

@@ -26,7 +26,7 @@ returns-in-None g c =
     record {
       drains = drained_never _ _ _ c.self.view_is c.args.processor c.in-None.ensures.group (drains_still _ _ _ _ _ _ all.drains);
       steps = λ cpu. makes_watched _ _ _ _ c.self.view_is cpu cpu _ _ (all.steps cpu) _
-          (subst (λ (o : Option ℕ). Watches c.self.inside.watch (drain_steps c.args.processor o 0) c.zone_made.new.self) none c.zone_made.ensures);
+          (subst (λ (o : Option ℕ). Watches c.self.inside.watch (drain_steps c.args.processor o 0) c.drained.new.self) none c.drained.ensures);
     }
 
 pub invariant_of-self-in-Some : goal.invariant_of-self-in-Some

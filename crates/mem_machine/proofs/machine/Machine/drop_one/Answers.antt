@@ -53,8 +53,8 @@ returns g c =
     c.requires.visit _ _ c.self.invariant.free _ c.args.group was c.requires.killed e.cpu _ c.unwrap-order.result c.number-at.ensures k0 _ e.zone _ e.seat
     _ u.frame_states _ u.frames u.areas _ u.charges _
     c.with_drop-self-inside.ensures in
-    let took = subst (λ (x : ℕ × ℕ). Watches c.self.inside.watch (drop_steps x.0 x.1) c.zone_made.new.self)
-    (λ i. (c.number-number.ensures.number i, c.number-at.ensures i)) (watches_both _ _ _ _ _ c.take_collected.ensures c.zone_made.ensures) in
+    let took = subst (λ (x : ℕ × ℕ). Watches c.self.inside.watch (drop_steps x.0 x.1) c.returned.new.self)
+    (λ i. (c.number-number.ensures.number i, c.number-at.ensures i)) (watches_both _ _ _ _ _ c.take_collected.ensures c.returned.ensures) in
     record {
       drops = drops_still _ _ _ _ _ _ all.drops;
       visit = visits_still _ _ _ _ all.visit;

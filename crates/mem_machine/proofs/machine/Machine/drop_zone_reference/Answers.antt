@@ -40,8 +40,8 @@ returns-in-Left g c =
     let all = left_all g.N.BootName.frames g.N.BootName.stocks _ _ c.self.view_is c.self.invariant.consistent c.args.head _
     c.requires.frame c.number-at.ensures c.requires.kept _ _ c.leave_list.ensures.leaves c.leave_list.ensures.lists.stand c.leave_list.ensures.frames
     c.leave_list.ensures.lists.groups c.in-Left.left _ c.in-Left.ensures.answer.2 in
-    let took = subst (λ (x : ℕ). Watches c.self.inside.watch (release_steps x (Left c.in-Left.left)) c.zone_made.new.self)
-    c.number-at.ensures c.zone_made.ensures in
+    let took = subst (λ (x : ℕ). Watches c.self.inside.watch (release_steps x (Left c.in-Left.left)) c.put_left.new.self)
+    c.number-at.ensures c.put_left.ensures in
     record {
       releases = search rules;
       visit = λ cpu visit. visits_still _ _ _ _ (all.visit cpu visit);
@@ -66,8 +66,8 @@ returns-in-Head g c =
     c.requires.frame c.number-at.ensures c.requires.kept _ _ c.leave_list.ensures.leaves c.leave_list.ensures.lists.stand c.leave_list.ensures.frames
     c.leave_list.ensures.lists.groups _ c.in-Last.ensures.answer.0 c.in-Head.unit head _ _ _ _ _ _ c.self.invariant.free c.free_unit.ensures.frame_states
     c.free_unit.ensures.frames c.free_unit.ensures.areas c.free_unit.ensures.charges c.with_last_put-self-inside.ensures in
-    let took = subst (λ (x : ℕ). Watches c.self.inside.watch (release_steps x Returned) c.zone_made-in-Last-2.new.self)
-    c.number-at.ensures (watches_both _ _ _ _ _ c.zone_made-in-Last.ensures c.zone_made-in-Last-2.ensures) in
+    let took = subst (λ (x : ℕ). Watches c.self.inside.watch (release_steps x Returned) c.returned.new.self)
+    c.number-at.ensures (watches_both _ _ _ _ _ c.put_last.ensures c.returned.ensures) in
     record {
       releases = returned_still _ _ _ _ all.returns;
       visit = λ cpu visit. visits_still _ _ _ _ (all.visit cpu visit);

@@ -20,7 +20,7 @@ pub returns-then-not-freeze : goal.returns-then-not-freeze
 returns-then-not-freeze g c =
     let all = missed_all g.N.BootName.frames g.N.BootName.stocks _ _ c.self.view_is c.self.invariant.consistent c.args.head c.requires.frame c.requires.kept _
     c.if-not-freeze.ensures.answer _ c.with_miss-self-inside.ensures in
-    let took = subst (λ (x : ℕ). Watches c.self.inside.watch (evict_steps x None) c.zone_made.new.self) c.number-at.ensures c.zone_made.ensures in
+    let took = subst (λ (x : ℕ). Watches c.self.inside.watch (evict_steps x None) c.missed.new.self) c.number-at.ensures c.missed.ensures in
     record {
       evicts = misses_still _ _ _ _ all.misses;
       visit = λ cpu visit. visits_still _ _ _ _ (all.visit cpu visit);
@@ -65,8 +65,8 @@ returns g c =
     c.leave_list.ensures.lists.groups _ c.if-not-freeze.ensures.answer c.in-Head.unit head _ _ _ _ _ _ _ c.self.invariant.free c.free_unit.ensures.frame_states
     c.free_unit.ensures.frames c.free_unit.ensures.areas c.free_unit.ensures.charges c.free_unit.ensures.usage
     c.with_freeze-self-inside.ensures c.frames.ensures.frames in
-    let took = subst (λ (x : ℕ). Watches c.self.inside.watch (evict_steps x (Some c.frames.result)) c.zone_made-3.new.self)
-    c.number-at.ensures (watches_both _ _ _ _ _ c.zone_made-2.ensures c.zone_made-3.ensures) in
+    let took = subst (λ (x : ℕ). Watches c.self.inside.watch (evict_steps x (Some c.frames.result)) c.returned.new.self)
+    c.number-at.ensures (watches_both _ _ _ _ _ c.froze.ensures c.returned.ensures) in
     record {
       evicts = evicts_still _ _ _ _ _ all.evicts;
       visit = λ cpu visit. visits_still _ _ _ _ (all.visit cpu visit);

@@ -36,8 +36,8 @@ returns g c =
     c.requires.visit _ c.self.invariant.free _ c.args.group was e.cpu _ c.unwrap-order.result c.number-at.ensures k0 _ _
     e.zone c.unfreeze.ensures.seat _ e.seat _ _
     (record { joins = a.joins; stand = a.lists.stand; frames = a.frames; groups = a.lists.groups }) in
-    let took = subst (λ (x : ℕ × ℕ). Watches c.self.inside.watch (keep_steps x.0 x.1) c.zone_made-2.new.self)
-    (λ i. (c.number-number.ensures.number i, c.number-at.ensures i)) (watches_both _ _ _ _ _ c.take_collected.ensures (watches_both _ _ _ _ _ c.zone_made.ensures c.zone_made-2.ensures)) in
+    let took = subst (λ (x : ℕ × ℕ). Watches c.self.inside.watch (keep_steps x.0 x.1) c.published.new.self)
+    (λ i. (c.number-number.ensures.number i, c.number-at.ensures i)) (watches_both _ _ _ _ _ c.take_collected.ensures (watches_both _ _ _ _ _ c.unfroze.ensures c.published.ensures)) in
     record {
       keeps = keeps_still _ _ _ _ _ _ all.keeps;
       visit = visits_still _ _ _ _ all.visit;

@@ -37,9 +37,9 @@ returns g c =
     let all = given_all g.N.BootName.frames g.N.BootName.stocks _ _ c.self.view_is c.args.cpu.now _ c.number-number.ensures.tied c.self.invariant.consistent c.requires.visit
     _ _ _ c.args.frame _ c.number-number.result _ _ c.self.invariant.free c.requires.frame c.requires.free c.take_frame.ensures.frames c.take_frame.ensures.areas
     c.number-given.ensures c.number-number.ensures.number c.pass_out.ensures.zone c.accept.ensures.zone c.accept.ensures.cpu c.accept.ensures.nothing.1.1 in
-    let took = subst (λ (x : ℕ × ℕ). Watches c.self.inside.watch (lend_steps x.0 x.1) c.cpu_made.new.self)
+    let took = subst (λ (x : ℕ × ℕ). Watches c.self.inside.watch (lend_steps x.0 x.1) c.took_in.new.self)
     (λ i. (c.number-number.ensures.number i, c.number-given.ensures i))
-    (watches_both _ _ _ _ _ c.zone_made.ensures c.cpu_made.ensures) in
+    (watches_both _ _ _ _ _ c.passed_out.ensures c.took_in.ensures) in
     record {
       lends = lends_still _ _ _ _ _ all.lends;
       visit = visits_still _ _ _ _ all.visit;

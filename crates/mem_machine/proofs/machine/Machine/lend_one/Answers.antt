@@ -45,9 +45,9 @@ returns g c =
     c.unwrap.result c.in-Some.block _ c.in-Some-frame.frame _ c.number-number.result _ _ c.self.invariant.free k0 c.in-Some.ensures.taken c.in-Some.ensures.frames
     c.in-Some.ensures.areas c.in-Some-frame.ensures.0 c.number-at.ensures c.number-number.ensures.number c.pass_out.ensures.zone c.accept.ensures.zone
     c.accept.ensures.cpu c.accept.ensures.nothing.1.1 in
-    let took = subst (λ (x : ℕ × ℕ). Watches c.self.inside.watch (lend_steps x.0 x.1) c.cpu_made.new.self)
+    let took = subst (λ (x : ℕ × ℕ). Watches c.self.inside.watch (lend_steps x.0 x.1) c.took_in.new.self)
     (λ i. (c.number-number.ensures.number i, c.number-at.ensures i))
-    (watches_both _ _ _ _ _ c.zone_made.ensures c.cpu_made.ensures) in
+    (watches_both _ _ _ _ _ c.passed_out.ensures c.took_in.ensures) in
     record {
       lends = record {
         frame = c.in-Some-frame.frame;

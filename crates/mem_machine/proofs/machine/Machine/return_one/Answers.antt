@@ -69,8 +69,8 @@ returns g c =
     c.self.invariant.consistent c.requires _ _ c.self.invariant.free _ was c.in-Some.ensures.answer c.collect.ensures.cpu _ c.number-at.ensures _ heads _ collected
     _ u.frame_states _ u.frames u.areas _ u.charges _
     c.with_last_put-self-inside.ensures in
-    let took = subst (λ (x : ℕ × ℕ). Watches c.self.inside.watch (return_steps x.0 x.1) c.zone_made-2.new.self)
-    (λ i. (c.number-number.ensures.number i, c.number-at.ensures i)) (watches_both _ _ _ _ _ c.cpu_made.ensures (watches_both _ _ _ _ _ c.zone_made.ensures c.zone_made-2.ensures)) in
+    let took = subst (λ (x : ℕ × ℕ). Watches c.self.inside.watch (return_steps x.0 x.1) c.returned.new.self)
+    (λ i. (c.number-number.ensures.number i, c.number-at.ensures i)) (watches_both _ _ _ _ _ c.passed_back.ensures (watches_both _ _ _ _ _ c.collected.ensures c.returned.ensures)) in
     record {
       returns = returns_still _ _ _ _ _ all.returns;
       visit = visits_still _ _ _ _ all.visit;

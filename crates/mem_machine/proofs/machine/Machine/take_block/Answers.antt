@@ -32,8 +32,8 @@ returns-in_default-take g c =
     (ap (λ (z : Zone). z.blocks) c.in_default-take.ensures.none) c.in_default-take.ensures.taken in
     let took = subst (λ (n : ℕ). Watches c.self.inside.watch
     (zone_makes (Grant c.args.group n) Granted ∷ zone_makes (PlaceBlock c.args.group c.args.order) NoFreeBlock ∷ zone_makes (Ungrant c.args.group n) Done ∷ [])
-    c.zone_made-in_default-take-2.new.self) c.frames-pages.ensures.frames
-    (watches_both _ _ _ _ _ c.zone_made-2.ensures (watches_both _ _ _ _ _ c.zone_made-in_default-take.ensures c.zone_made-in_default-take-2.ensures)) in
+    c.ungranted.new.self) c.frames-pages.ensures.frames
+    (watches_both _ _ _ _ _ c.granted.ensures (watches_both _ _ _ _ _ c.found_no_block.ensures c.ungranted.ensures)) in
     record {
       takes = search rules;
       refuses = takes_none_still _ _ _ _ _ all.none;
@@ -98,10 +98,10 @@ returns g c =
     (record { joins = j.joins; stand = j.lists.stand; frames = j.frames; groups = j.lists.groups }) in
     let took = subst (λ (x : ℕ × ℕ). Watches c.self.inside.watch
     (zone_makes (Grant c.args.group x.0) Granted ∷ zone_makes (PlaceBlock c.args.group c.args.order) (Placed (record { at = x.1; order = c.args.order }))
-    ∷ zone_makes (Unfreeze x.1 1) Done ∷ zone_makes (Publish x.1) Done ∷ []) c.zone_made-5.new.self)
+    ∷ zone_makes (Unfreeze x.1 1) Done ∷ zone_makes (Publish x.1) Done ∷ []) c.published.new.self)
     (λ i. (c.frames-pages.ensures.frames i, c.number-at.ensures i))
-    (watches_both _ _ _ _ _ c.zone_made-2.ensures (watches_both _ _ _ _ _ c.zone_made-3.ensures
-    (watches_both _ _ _ _ _ c.zone_made-4.ensures c.zone_made-5.ensures))) in
+    (watches_both _ _ _ _ _ c.granted.ensures (watches_both _ _ _ _ _ c.placed.ensures
+    (watches_both _ _ _ _ _ c.unfroze.ensures c.published.ensures))) in
     record {
       takes = takes_block_still _ _ _ _ _ _ all.takes;
       refuses = search rules;
@@ -129,4 +129,4 @@ returns-in-Err-clause-steps g c =
     c.number-number.ensures.tied c.requires.visit c.requires.none_fresh c.requires.charges.there c.requires.charges.alive
     (subst (λ (n : ℕ). IsLowestOver m.ledger.groups (current_of m.ledger) c.args.group n over) c.frames-pages.ensures.frames low)) in
     makes_watched _ _ _ _ c.self.view_is _ _ _ _ refused _
-    (subst (λ (n : ℕ). Watches c.self.inside.watch (over_steps c.args.group n over) c.zone_made.new.self) c.frames-pages.ensures.frames c.zone_made.ensures)
+    (subst (λ (n : ℕ). Watches c.self.inside.watch (over_steps c.args.group n over) c.refused.new.self) c.frames-pages.ensures.frames c.refused.ensures)

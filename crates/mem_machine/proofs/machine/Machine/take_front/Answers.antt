@@ -24,8 +24,8 @@ returns g c =
     let all = front_paid g.N.BootName.frames g.N.BootName.stocks _ _ c.self.view_is c.args.cpu.now c.number-number.ensures.tied c.self.invariant.consistent
     c.requires.visit c.args.group c.take_front-frame.result c.args.group refl c.requires.page c.requires.none_fresh
     c.take_front-frame.ensures.frame _ c.take_front-frame.ensures.seat _ c.take_front-frame.ensures.cpu in
-    let took = subst (λ (n : ℕ). Watches c.self.inside.watch (take_front_steps n c.args.group) c.cpu_made.new.self)
-    c.number-number.ensures.number c.cpu_made.ensures in
+    let took = subst (λ (n : ℕ). Watches c.self.inside.watch (take_front_steps n c.args.group) c.consumed.new.self)
+    c.number-number.ensures.number c.consumed.ensures in
     record {
       pays = pays_still _ _ _ _ _ _ all.pays;
       frame = c.take_front-frame.ensures.frame;

@@ -44,9 +44,9 @@ returns g c =
     let all = take_all g.N.BootName.frames g.N.BootName.stocks _ _ c.self.view_is c.args.cpu.now c.hand_front.new.self _ c.number-number.ensures.tied c.self.invariant.consistent
     c.requires _ _ c.unwrap.result _ c.in-Some.frame _ _ c.self.invariant.free k0 c.give.ensures.frames c.give.ensures.areas inside c.in-Some.ensures.borrowed.1
     c.number-at.ensures c.in-Some.ensures.answer collected c.collect.ensures.cpu in
-    let took = subst (λ (x : ℕ × ℕ). Watches c.self.inside.watch (unlist_steps x.0 x.1) c.zone_made.new.self)
+    let took = subst (λ (x : ℕ × ℕ). Watches c.self.inside.watch (unlist_steps x.0 x.1) c.collected.new.self)
     (λ i. (c.number-number.ensures.number i, c.number-at.ensures i))
-    (watches_both _ _ _ _ _ c.cpu_made.ensures c.zone_made.ensures) in
+    (watches_both _ _ _ _ _ c.passed_back.ensures c.collected.ensures) in
     record {
       takes = record {
         frame = c.in-Some.frame;

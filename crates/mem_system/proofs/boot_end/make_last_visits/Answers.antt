@@ -1,0 +1,69 @@
+use Rattle.std.proofs.Common.{◌≡◌, ◌∙◌, ℕ, List, length, All, ap, sym, subst, arith}
+use Rattle.std.specs.Prelude.{min}
+use Rattle.std.specs.Vec.{vec_capacity}
+use Rattle.group_tree.specs.Room.{max_count}
+use Rattle.cpu_part.specs.Cpus.{KnownCpu}
+use Rattle.mem_system.specs.Locked.{IsEmptyWithRoom, KnownLocked}
+use Rattle.mem_system.specs.Left.{NothingIsLeft}
+use Rattle.mem_system.specs.Ends.{ForEachCpu, SettlesInVisit, VisitsUnderLock, Empties, IsSettledUnpinned, KnownSpent, MakesLastVisits, drops_of, pins_of}
+use Rattle.mem_system.proofs.Closing.{turn_long, written_back, all_visits}
+use Rattle.mem_system.proofs.boot_end.make_last_visits.Goals as goal
+
+pub empty_all-requires-clause-settled : goal.empty_all-requires-clause-settled
+empty_all-requires-clause-settled g c =
+    let t = g.N.BootName.frames in
+    let first = c.deref_mut.ensures.value in
+    let long = turn_long (VisitsUnderLock t SettlesInVisit) _ _ _ _ c.settle_all.ensures.settles ∙ ap length first in
+    let same = c.deref_mut-2.ensures.value ∙ written_back c.args.cpus.len c.settle_all.new.cpus c.args.cpus.items long
+    (sym c.deref_mut.ensures.len ∙ ap length first) in
+    subst (All IsSettledUnpinned) (sym same) c.settle_all.ensures.settled
+
+pub returns-clause-visits : goal.returns-clause-visits
+returns-clause-visits g c =
+    let t = g.N.BootName.frames in
+    let w = g.N.BootName.stocks in
+    let first = c.deref_mut.ensures.value in
+    let second = c.deref_mut-2.ensures.value in
+    let size = sym c.deref_mut.ensures.len ∙ ap length first in
+    let long = turn_long (VisitsUnderLock t SettlesInVisit) _ _ _ _ c.settle_all.ensures.settles ∙ ap length first in
+    let same = written_back c.args.cpus.len c.settle_all.new.cpus c.args.cpus.items long size in
+    let longer = turn_long (VisitsUnderLock t Empties) _ _ _ _ c.empty_all.ensures.empties ∙ ap length second in
+    let last = written_back c.args.cpus.len c.empty_all.new.cpus _ longer (size ∙ sym (ap length same ∙ long)) in
+    let read : c.deref.result.now ≡ c.args.cpus.items = c.deref.ensures.value in
+    let none : pins_of c.args.cpus.items ≡ 0 =
+    let counted = c.count_pins-pins.ensures in let zero = c.if-pins-gt0.false in sym (ap pins_of read) ∙ sym counted ∙ omega (arith, zero) in
+    let dropped = c.count_drops-drops.ensures ∙ ap (λ (l : List KnownCpu). min (drops_of l) max_count) c.deref-2.ensures.value in
+    let rests : ForEachCpu (VisitsUnderLock t SettlesInVisit) c.locked.inside.machine c.args.cpus.items c.settle_all.new.machine c.settle_all.new.cpus =
+    subst (λ (l : List KnownCpu). ForEachCpu (VisitsUnderLock t SettlesInVisit) c.locked.inside.machine l c.settle_all.new.machine c.settle_all.new.cpus) first c.settle_all.ensures.settles in
+    let empties : ForEachCpu (VisitsUnderLock t Empties) c.settle_all.new.machine c.settle_all.new.cpus c.empty_all.new.machine c.empty_all.new.cpus =
+    subst (λ (l : List KnownCpu). ForEachCpu (VisitsUnderLock t Empties) c.settle_all.new.machine l c.empty_all.new.machine c.empty_all.new.cpus) (second ∙ same)
+    c.empty_all.ensures.empties in
+    let spent : List KnownCpu → KnownSpent = λ (l : List KnownCpu). record { machine = c.empty_all.new.machine; cpus = l; drops = c.count_drops-drops.result } in
+    subst (λ (z : KnownLocked × List KnownCpu). MakesLastVisits t w z.0 c.args.cpus.items (spent z.1)) (λ i. (c.locked.view_is i, sym last i))
+    (all_visits t w (record { machine = c.locked.inside.machine; sizes = c.locked.inside.sizes }) c.args.cpus.items c.settle_all.new.machine c.settle_all.new.cpus
+    (spent c.empty_all.new.cpus) c.locked.invariant.quiet none dropped rests empties)
+
+pub invariant_of-result : goal.invariant_of-result
+invariant_of-result g c =
+    let t = g.N.BootName.frames in
+    let w = g.N.BootName.stocks in
+    let first = c.deref_mut.ensures.value in
+    let second = c.deref_mut-2.ensures.value in
+    let size = sym c.deref_mut.ensures.len ∙ ap length first in
+    let long = turn_long (VisitsUnderLock t SettlesInVisit) _ _ _ _ c.settle_all.ensures.settles ∙ ap length first in
+    let same = written_back c.args.cpus.len c.settle_all.new.cpus c.args.cpus.items long size in
+    let longer = turn_long (VisitsUnderLock t Empties) _ _ _ _ c.empty_all.ensures.empties ∙ ap length second in
+    let last = written_back c.args.cpus.len c.empty_all.new.cpus _ longer (size ∙ sym (ap length same ∙ long)) in
+    let sized = c.locked.invariant.quiet.sized in (
+      subst (λ (l : List KnownCpu). NothingIsLeft t w (record { machine = c.empty_all.new.machine; cpus = l; drops = c.count_drops-drops.result })) (sym last)
+          (record {
+            shut = c.empty_all.ensures.shut;
+            all_spent = c.empty_all.ensures.spent;
+            count = longer ∙ ap length same ∙ long ∙ c.requires;
+            stock_count = sized.stock_cpus ∙ sym sized.cpus;
+          }),
+      subst (λ (k : ℕ). IsEmptyWithRoom k (length c.locked.inside.frame_seats.items) (vec_capacity c.locked.inside.frame_seats)) (sym sized.cpus)
+          c.locked.invariant.frame_seats,
+      subst (λ (k : ℕ). IsEmptyWithRoom k (length c.locked.inside.stock_seats.items) (vec_capacity c.locked.inside.stock_seats)) (sym sized.cpus)
+          c.locked.invariant.stock_seats,
+    )
