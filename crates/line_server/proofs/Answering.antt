@@ -1,5 +1,7 @@
 -- What a line was answered.
 use Rattle.std.proofs.Common.{◌≡◌, ℕ, true, false, List, [], ◌++◌, None, Some, Result, Ok, Err, IfOk, OnOk, append-nil, codes, inl, inr, refl, sym}
+use Rattle.std.specs.Prelude.{if◌then◌else◌}
+use Rattle.std.specs.Result.{is_ok}
 use Rattle.std.specs.Cmp.Lexicographic.{same_text}
 use Rattle.zone_sizes.specs.declared.config.Config.{Config}
 use Rattle.script_lines.specs.Script.{IsLineText, is_skipped}
@@ -62,7 +64,7 @@ module _ (on : Terms) (sizes : Config) (text : List ℕ) where
 
 -- a line is too long
 pub too_long : {T E : Type 0} (on : Terms) (sizes : Config) (r : Result T E) (state : SystemState) (old new : List ℕ)
-    → IfOk r (λ _. new ≡ old ++ codes "bad: line too long\n") → OnOk r (AddsAnswer on sizes None state state old new)
+    → new ≡ (if is_ok r then old ++ codes "bad: line too long\n" else old) → OnOk r (AddsAnswer on sizes None state state old new)
 too_long on sizes (Ok x) state old new added = record {
   turn = record { text = None; served = None; answer = codes "bad: line too long\n" };
   text_is = refl;

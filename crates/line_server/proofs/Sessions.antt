@@ -1,16 +1,17 @@
 -- A session, turn by turn.
-use Rattle.std.proofs.Common.{◌≡◌, ◌∙◌, ℕ, List, [], ◌∷◌, ◌++◌, Option, None, Some, IfSome, ap, append_assoc, append-nil, refl, subst, sym}
+use Rattle.std.proofs.Common.{◌≡◌, ◌∙◌, ℕ, Bool, List, [], ◌∷◌, ◌++◌, Option, None, Some, ap, append_assoc, append-nil, refl, subst, sym}
 use Rattle.std.specs.Io.KnownBytes.{Appends}
-use Rattle.std.specs.List.{flat_map}
 use Rattle.std.proofs.KnownBytes.{Appends-nil, Appends-trans}
+use Rattle.frame_word.specs.Seats.{KnownTable}
+use Rattle.stock_word.specs.Stock.{Words}
 use Rattle.zone_sizes.specs.declared.config.Config.{Config}
 use Rattle.script_lines.specs.declared.line.Line.{Line}
-use Rattle.script_replay.specs.History.{Replays}
 use Rattle.script_replay.specs.Lines.{SystemState}
-use Rattle.script_replay.specs.Terms.{Terms}
+use Rattle.script_replay.specs.Terms.{Terms, terms}
 use Rattle.script_replay.proofs.Going.{ServesAllAndKeeps, all_replayed}
 use Rattle.line_server.specs.declared.fault.ServeFault.{ServeFault}
-use Rattle.line_server.specs.Lines.{EndsAt, ReadsLine}
+use Rattle.line_server.specs.Known.{KeepsTerms, KnownServer, terms_of}
+use Rattle.line_server.specs.Lines.{ReadsLine}
 use Rattle.line_server.specs.Turns.{AnswersLine, AnswersTurn, Turn, turn_text}
 use Rattle.line_server.specs.Sessions.{AnswersTurns, EndsHere, FailsSession, FailsTurn, HoldsSession, ReadsTurns, ServesSession, WritesOne}
 use Rattle.line_server.specs.Sessions.{answer_of, answers_of, lines_of, session_text, with_line}
@@ -101,3 +102,9 @@ module _ (on : Terms) (sizes : Config) (input left : Option (List ℕ)) (before 
 pub none_yet : (on : Terms) (sizes : Config) (input : Option (List ℕ)) (before : SystemState) (output : Option (List ℕ))
     → SoFar on sizes input input before before output output
 none_yet on sizes input before output = record { turns = []; reads = refl; answers = refl; written = Appends-nil output }
+
+-- what holds on the terms of now holds on those of the beginning
+pub at_first : (frames : KnownTable) (stocks : Words) (s t : KnownServer) (P : Terms → Config → Type 0) → KeepsTerms s t
+    → P (terms_of frames stocks t) t.sizes → P (terms_of frames stocks s) s.sizes
+at_first frames stocks s t P keeps is =
+    subst (λ (b : Bool). P (terms frames stocks b) s.sizes) keeps.is_explained (subst (P (terms_of frames stocks t)) keeps.sizes is)

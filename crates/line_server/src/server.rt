@@ -115,10 +115,12 @@ impl<N: BootName> Server<N> {
         ensures terms { KeepsTerms self.old self.new }
     {
         for _ in 0..u64::MAX {
-            match self.serve_line(alloc, input, output) {
-                Ok(true) => {}
-                Ok(false) => return Ok(()),
+            let goes_on = match self.serve_line(alloc, input, output) {
+                Ok(goes_on) => goes_on,
                 Err(fault) => return Err(fault),
+            };
+            if !goes_on {
+                return Ok(());
             }
         }
         Err(ServeFault::Input)
