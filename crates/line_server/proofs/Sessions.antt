@@ -1,7 +1,11 @@
 -- A session, turn by turn.
 use Rattle.std.proofs.Common.{◌≡◌, ◌∙◌, ℕ, Bool, List, [], ◌∷◌, ◌++◌, Option, None, Some, ap, append_assoc, append-nil, refl, subst, sym}
 use Rattle.std.specs.Io.KnownBytes.{Appends}
-use Rattle.std.proofs.KnownBytes.{Appends-nil, Appends-trans}
+use Rattle.std.proofs.KnownBytes.{Appends-nil, Appends-trans, prepend_known-nil}
+use Rattle.std.specs.Prelude.{if◌then◌else◌, ◌==◌}
+use Rattle.std.specs.Io.Buffered.{reader_buffer, reader_capacity, reader_inner, reader_remaining}
+use Rattle.std.specs.Io.KnownBytes.{prepend_known}
+use Rattle.std.specs.declared.io.buffered.BufReader.{BufReader}
 use Rattle.frame_word.specs.Seats.{KnownTable}
 use Rattle.stock_word.specs.Stock.{Words}
 use Rattle.zone_sizes.specs.declared.config.Config.{Config}
@@ -108,3 +112,16 @@ pub at_first : (frames : KnownTable) (stocks : Words) (s t : KnownServer) (P : T
     → P (terms_of frames stocks t) t.sizes → P (terms_of frames stocks s) s.sizes
 at_first frames stocks s t P keeps is =
     subst (λ (b : Bool). P (terms frames stocks b) s.sizes) keeps.is_explained (subst (P (terms_of frames stocks t)) keeps.sizes is)
+
+-- a session that failed before its first line
+pub none_served : (on : Terms) (sizes : Config) (input : Option (List ℕ)) (before : SystemState) (output : Option (List ℕ)) (fault : ServeFault)
+    → FailsTurn on sizes before before output output fault → FailsSession on sizes input before before output output fault
+none_served on sizes input before output fault fails =
+    session_failed on sizes input input before before output output before output fault (none_yet on sizes input before output) fails
+
+-- a new buffer before a reader has the bytes of the reader
+pub buffer_is_new : {T A : Type 0} (remaining : T → Option (List ℕ)) (r : BufReader T A) (inner : T) → reader_inner r ≡ inner → reader_buffer r ≡ []
+    → reader_capacity r ≡ 8192 → reader_remaining remaining r ≡ remaining inner
+buffer_is_new remaining r inner is empty capacity =
+    ap (λ (n : ℕ). if n == 0 then None else prepend_known (reader_buffer r) (remaining r.inner)) capacity
+    ∙ ap (λ (l : List ℕ). prepend_known l (remaining r.inner)) empty ∙ prepend_known-nil (remaining r.inner) ∙ ap remaining is

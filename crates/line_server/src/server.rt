@@ -21,7 +21,7 @@ use script_lines::script::{is_skipped, parse_line};
 use script_lines::verb::Names;
 use script_replay::serve_line;
 use std::alloc::{AllocError, Global};
-use std::io::{Read, Write};
+use std::io::{BufReader, Read, Write};
 use std::marker::Model;
 use zone_sizes::config::Config;
 
@@ -124,6 +124,25 @@ impl<N: BootName> Server<N> {
             }
         }
         Err(ServeFault::Input)
+    }
+
+    /// Does what `serve` does, with a buffer before the input, which is read ahead of the lines.
+    pub fn serve_buffered<I: Read, O: Write>(
+        &mut self,
+        alloc: Global,
+        input: &mut I,
+        output: &mut O,
+    ) -> Result<(), ServeFault>
+        ensures served { OnOk result (ServesSession (terms_of N.frames N.stocks self.old) self.old.sizes
+            (I.remaining input.old) self.old.state self.new.state (O.contents output.old) (O.contents output.new)) }
+        ensures failed { IfErr result (FailsSession (terms_of N.frames N.stocks self.old) self.old.sizes
+            (I.remaining input.old) self.old.state self.new.state (O.contents output.old) (O.contents output.new)) }
+        ensures terms { KeepsTerms self.old self.new }
+    {
+        match BufReader::new(alloc, input) {
+            Ok(mut lines) => self.serve(alloc, &mut lines, output),
+            Err(_) => Err(ServeFault::NoMemory),
+        }
     }
 
     /// Reads a line, writes its answer and an empty line, and flushes the output. False if the session ends instead:

@@ -7,7 +7,7 @@ ghost use Rattle.clap.specs.declared.builder.value_parser.ValueParser.TheVariant
 ghost use Rattle.load_options.specs.Fault.{IsNoMemory};
 ghost use Rattle.load_options.specs.Sizes.{HasSizesInRange};
 ghost use Rattle.load_options.specs.Words.{TellsOptions, asks_version, check_shape, command_shape, flag_rule, options_of};
-ghost use Rattle.load_options.specs.Words.{program, replay_shape, size_rule, sized_shape};
+ghost use Rattle.load_options.specs.Words.{program, replay_shape, serve_shape, size_rule, sized_shape};
 
 use crate::fault::LineFault;
 use crate::task::{
@@ -36,6 +36,8 @@ const RUN_HELP: &str =
 const CHECK_HELP: &str = "Checks a log of steps: whether each step keeps the rules";
 
 const LINT_HELP: &str = "Reports every bad line of a script: from which byte on it is bad, and why";
+
+const SERVE_HELP: &str = "Answers each line of its input before it reads the next one";
 
 const FRAMES_HELP: &str = "Frames of the zone, 1 to 1048576";
 
@@ -80,9 +82,10 @@ pub fn words<R: Env + AllocGlobal>(rt: &R) -> Result<Vec<String>, LineFault> {
     }
 }
 
-/// Parses the words after the program's name. They are `replay`, `run` or `lint`, then any of `--frames`, `--cpus`,
-/// `--batch`, `--high` and `--stock`. After `replay` and `run` there may also be `--audit`, `--numbered` and `--strict`,
-/// and after `replay` `--explain` and `--check`, or `--steps` without any of these five. Each stands at most once. Or
+/// Parses the words after the program's name. They are `replay`, `run`, `lint` or `serve`, then any of `--frames`,
+/// `--cpus`, `--batch`, `--high` and `--stock`. After `replay` and `run` there may also be `--audit`, `--numbered` and
+/// `--strict`, and after `replay` `--explain` and `--check`, or `--steps` without any of these five; after `serve` there
+/// may be `--audit` and `--explain`. Each stands at most once. Or
 /// the words are `check` alone, or `--version` or `-V` alone. Anything else is a fault of the words, even a request for
 /// help.
 ///
@@ -148,7 +151,8 @@ fn memcg<'a>(alloc: Global) -> Result<Command<'a>, AllocError>
         .subcommand(replay_command(alloc)?)?
         .subcommand(subcommand(alloc, "run", RUN_HELP)?)?
         .subcommand(check_command(alloc))?
-        .subcommand(sized(alloc, "lint", LINT_HELP)?)
+        .subcommand(sized(alloc, "lint", LINT_HELP)?)?
+        .subcommand(serve_command(alloc)?)
 }
 
 // `replay`, which has three more options.
@@ -160,6 +164,16 @@ fn replay_command<'a>(alloc: Global) -> Result<Command<'a>, AllocError>
         .arg(flag_option(alloc, "explain", EXPLAIN_HELP))?
         .arg(flag_option(alloc, "check", CHECKED_HELP))?
         .arg(flag_option(alloc, "steps", STEPS_HELP))
+}
+
+// `serve`, which has two more options than the sizes.
+fn serve_command<'a>(alloc: Global) -> Result<Command<'a>, AllocError>
+    ensures shape { IfOk result (λ command. (app_of command).top ≡ serve_shape) }
+    ensures local { IfOk result (λ command. (fields_of command).has_globals ≡ false) }
+{
+    sized(alloc, "serve", SERVE_HELP)?
+        .arg(flag_option(alloc, "audit", AUDIT_HELP))?
+        .arg(flag_option(alloc, "explain", EXPLAIN_HELP))
 }
 
 // `check`, which has no option.

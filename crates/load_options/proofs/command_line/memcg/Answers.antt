@@ -15,7 +15,9 @@ returns c =
     ∙ ap₂ with_subcommand replay c.in_ok-subcommand-2.ensures.shape in
     let check = c.in_ok-subcommand-4.ensures.shape c.check_command.ensures.local
     ∙ ap₂ with_subcommand run c.check_command.ensures.shape in
+    let lint = c.in_ok-subcommand-5.ensures.shape c.in_ok-sized.ensures.local
+    ∙ ap₂ with_subcommand check c.in_ok-sized.ensures.shape in
     record {
-      app = IfOk-weaker c.subcommand-5.result _ _ (λ command added.
-          added.shape c.in_ok-sized.ensures.local ∙ ap₂ with_subcommand check c.in_ok-sized.ensures.shape) c.subcommand-5.ensures;
+      app = IfOk-weaker c.subcommand-6.result _ _ (λ command added.
+          added.shape c.in_ok-serve_command.ensures.local ∙ ap₂ with_subcommand lint c.in_ok-serve_command.ensures.shape) c.subcommand-6.ensures;
     }
