@@ -14,7 +14,7 @@ use load_run::boot_end::{Ended, end_boot};
 use mem_system::{Boot, Locked};
 use script_lines::fault::ScriptFault;
 use script_lines::script::parse_script;
-use script_replay::replay;
+use script_replay::{Form, replay};
 use std::alloc::{AllocError, Global};
 use std::marker::Model;
 use zone_sizes::config::Config;
@@ -142,8 +142,12 @@ fn serve_lines<N: BootName>(
     ensures fault { IfErr result (FailsText (terms N.frames N.stocks is_explained) sizes.now text.now
         (system_state locked.old cpus.old) (system_state locked.new cpus.new)) }
 {
+    let form = Form {
+        is_explained,
+        is_numbered: false,
+    };
     match parse_script(alloc, text, sizes) {
-        Ok(lines) => match replay(alloc, locked, tables, cpus, &lines, is_explained) {
+        Ok(lines) => match replay(alloc, locked, tables, cpus, &lines, form) {
             Ok(answers) => Ok(answers),
             Err(_) => Err(ScriptFault::NoMemory),
         },

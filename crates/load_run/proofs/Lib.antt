@@ -9,3 +9,5 @@ pub mod Starting
 pub mod Verdicts
 pub mod Written
 pub mod Telling
+pub mod Watched
+pub mod Logged

@@ -14,7 +14,7 @@ use Rattle.load_options.specs.declared.task.Options.{Options}
 use Rattle.load_options.specs.declared.task.Task.{Task}
 use Rattle.load_options.specs.declared.task.Task.TheVariants.{Check, Lint, Replay, Run, Steps, Version}
 use Rattle.load_run.specs.declared.fault.ProgramFault.{ProgramFault}
-use Rattle.load_run.specs.declared.fault.ProgramFault.TheVariants.{BadConfig, BadLogLine, IllegalStep, Input, NoMemory, Output, Script, Words}
+use Rattle.load_run.specs.declared.fault.ProgramFault.TheVariants.{BadConfig, BadLogLine, IllegalEnd, IllegalStep, Input, NoMemory, Output, Script, Words}
 use Rattle.load_run.specs.Answers.{IsOnScript}
 use Rattle.load_run.specs.Causes.{Written, written}
 use Rattle.load_run.specs.Checks.{Checks, FailsToCheck, IsEndOf, IsVerdict, LeavesLine, LeavesReport, ReportsBadLine, ReportsLegal, ReportsNotLegal}
@@ -149,6 +149,7 @@ checks_fault input output faults faults_after (Script f) status is ended told = 
 checks_fault input output faults faults_after (BadLogLine n) status is ended told = absurd is
 checks_fault input output faults faults_after BadConfig status is ended told = absurd is
 checks_fault input output faults faults_after (IllegalStep n) status is ended told = absurd is
+checks_fault input output faults faults_after IllegalEnd status is ended told = absurd is
 checks_fault input output faults faults_after Output status is ended told = absurd is
 
 -- what was to be written wasn't, or not whole
@@ -171,6 +172,7 @@ checks_unwritten input before after faults faults_after end fault status is left
     go (BadLogLine n) left ended told = absurd left
     go BadConfig left ended told = absurd left
     go (IllegalStep n) left ended told = absurd left
+    go IllegalEnd left ended told = absurd left
     go Input left ended told = absurd left
 
 -- ---- all tasks
@@ -191,6 +193,7 @@ drives_words (Some options) input output faults faults_after fault status is end
     for_check (BadLogLine n) is ended told = absurd is
     for_check BadConfig is ended told = absurd is
     for_check (IllegalStep n) is ended told = absurd is
+    for_check IllegalEnd is ended told = absurd is
     for_check Input is ended told = absurd is
     for_check Output is ended told = absurd is
     for_check (NoMemory e) is ended told = absurd is
@@ -204,6 +207,7 @@ drives_words (Some options) input output faults faults_after fault status is end
     for_lint (BadLogLine n) is ended told = absurd is
     for_lint BadConfig is ended told = absurd is
     for_lint (IllegalStep n) is ended told = absurd is
+    for_lint IllegalEnd is ended told = absurd is
     for_lint Input is ended told = absurd is
     for_lint Output is ended told = absurd is
     for_lint (NoMemory e) is ended told = absurd is
@@ -217,6 +221,7 @@ drives_words (Some options) input output faults faults_after fault status is end
     for_version (BadLogLine n) is ended told = absurd is
     for_version BadConfig is ended told = absurd is
     for_version (IllegalStep n) is ended told = absurd is
+    for_version IllegalEnd is ended told = absurd is
     for_version Input is ended told = absurd is
     for_version Output is ended told = absurd is
     for_version (NoMemory e) is ended told = absurd is

@@ -8,7 +8,6 @@ use Rattle.zone_sizes.specs.declared.config.Config.{Config}
 use Rattle.zone_sizes.specs.Config.{IsValidConfig}
 use Rattle.step_rules.specs.After.{Run as StepRun, IsLegalRun}
 use Rattle.mem_core.specs.Promise.{AlwaysKeepsPromise}
-use Rattle.step_watch.specs.Watched.{steps_seen}
 use Rattle.mem_machine.specs.Interleaving.{zone_of}
 use Rattle.mem_machine.specs.Machines.{IsFirst}
 use Rattle.mem_machine.specs.Telling.{TellsRun}
@@ -17,10 +16,9 @@ use Rattle.mem_system.specs.Locked.{IsQuiet}
 use Rattle.script_lines.specs.declared.line.Line.{Line}
 use Rattle.script_lines.specs.Script.{IsScript, longest_script}
 use Rattle.script_replay.specs.Lines.{ServesAll, SystemState}
-use Rattle.script_replay.specs.declared.value_replay.Stopped.{Stopped}
 use Rattle.script_replay.specs.declared.form.Form.{Form}
-use Rattle.script_replay.specs.History.{KeepsHistory, ReplaysCheckedOrStops, TellsHistory, past}
-use Rattle.script_replay.specs.Terms.{Terms, boot_tables, form_of, form_terms, numbered_terms}
+use Rattle.script_replay.specs.History.{KeepsHistory, TellsHistory, past}
+use Rattle.script_replay.specs.Terms.{boot_tables, form_of, form_terms, numbered_terms}
 use Rattle.script_threads.specs.Each.{TellsEach, workers_from}
 use Rattle.script_threads.specs.Runs.{lines_before_go}
 use Rattle.load_options.specs.declared.task.Options.{Options}
@@ -64,9 +62,9 @@ abbrev pub checked_text : ℕ → List ℕ
 checked_text steps = codes "checked " ++ (decimal steps ++ codes " steps\n")
 
 -- What a boot with these sizes answers to the lines if each step is checked: as without the check, and then how many
--- steps the lines made. All these steps are one legal run from the boot on. The promise holds after each beginning of
--- the run that leaves the lock free. After each line it holds of what the machine and the CPUs show, and each group's
--- peak and event counts are those of the run so far.
+-- steps were made, by the lines and by the end. All these steps are one legal run from the boot on. The promise holds
+-- after each beginning of the run that leaves the lock free. After each line it holds of what the machine and the CPUs
+-- show, and each group's peak and event counts are those of the run so far.
 pub record AreCheckedAnswers (sizes : Config) (form : Form) (is_audited : Bool) (lines : List Line) (text : List ℕ)
     : Type 0 where
   pub frames : KnownTable
@@ -78,17 +76,13 @@ pub record AreCheckedAnswers (sizes : Config) (form : Form) (is_audited : Bool) 
   pub ending : List ℕ
   pub first : StandsAtFirst sizes frames stocks start
   pub served : ServesAll (form_terms frames stocks form) lines start end answers
-  pub legal : IsLegalRun (zone_of frames) run
-  pub promise : AlwaysKeepsPromise (zone_of frames) run
   pub history : KeepsHistory (form_terms frames stocks form) lines (past [] start) (past run end) answers
   pub ends : TellsEnd frames stocks is_audited end ending
-  pub text_is : text ≡ answers ++ (ending ++ checked_text (length run))
-
--- a replay with a check led here from the state before, and this is how many steps the watch counted
-pub record ChecksLines {Z : Type 0} (terms : Terms) (lines : List Line) (before : SystemState)
-    (result : Result (Vec ℕ Z) Stopped) (steps : ℕ) (left : SystemState) : Type 0 where
-  pub replays : ReplaysCheckedOrStops terms lines before left result
-  pub count : steps ≡ steps_seen left.locked.machine.watch
+  pub whole : StepRun
+  pub whole_is : whole ≡ run ++ ends.ends.leaves.steps
+  pub legal : IsLegalRun (zone_of frames) whole
+  pub promise : AlwaysKeepsPromise (zone_of frames) whole
+  pub text_is : text ≡ answers ++ (ending ++ checked_text (length whole))
 
 -- no visit is open behind the lock, and there are as many parts as CPUs
 pub record StandsQuiet (frames : KnownTable) (stocks : Words) (now : SystemState) : Type 0 where
@@ -100,7 +94,8 @@ pub record StandsQuiet (frames : KnownTable) (stocks : Words) (now : SystemState
 -- Then each CPU is answered its own among the lines from `go` on, from its part as the lines before left it. No clause
 -- says what is behind the lock and at the parts after that, except that no visit is open and that there are as many
 -- parts; from there the boot ends
-pub record AreThreadAnswers (sizes : Config) (is_numbered is_audited : Bool) (lines : List Line) (text : List ℕ) : Type 0 where
+pub record AreThreadAnswers (sizes : Config) (is_numbered is_audited : Bool) (lines : List Line) (text : List ℕ)
+    : Type 0 where
   pub frames : KnownTable
   pub stocks : Words
   pub start : SystemState
@@ -110,9 +105,10 @@ pub record AreThreadAnswers (sizes : Config) (is_numbered is_audited : Bool) (li
   pub later : List ℕ
   pub ending : List ℕ
   pub first : StandsAtFirst sizes frames stocks start
-  pub served : ServesAll (numbered_terms frames stocks false is_numbered) (take (lines_before_go lines) lines) start at_go early
-  pub history : TellsHistory (numbered_terms frames stocks false is_numbered) (take (lines_before_go lines) lines) (past [] start)
-      at_go early
+  pub served : ServesAll (numbered_terms frames stocks false is_numbered) (take (lines_before_go lines) lines) start at_go
+      early
+  pub history : TellsHistory (numbered_terms frames stocks false is_numbered) (take (lines_before_go lines) lines)
+      (past [] start) at_go early
   pub tells : TellsEach (boot_tables frames stocks)
       (workers_from 1 at_go.cpus (drop (lines_before_go lines) lines) is_numbered) later
   pub quiet : StandsQuiet frames stocks end
@@ -128,9 +124,10 @@ IsOnScript Check = ⊥
 IsOnScript Lint = ⊥
 IsOnScript Version = ⊥
 
--- what a boot with these sizes answers to the lines for this task, with numbers or without, and reports of its end if it is
--- audited; the other tasks have no such answers
-abbrev pub AreAnswers : Task → (sizes : Config) (is_audited is_numbered : Bool) (lines : List Line) (text : List ℕ) → Type 0
+-- what a boot with these sizes answers to the lines for this task, with numbers or without, and reports of its end if
+-- it is audited; the other tasks have no such answers
+abbrev pub AreAnswers : Task → (sizes : Config) (is_audited is_numbered : Bool) (lines : List Line) (text : List ℕ)
+    → Type 0
 AreAnswers (Replay is_explained false) sizes is_audited is_numbered lines text =
     AreReplayAnswers sizes (form_of is_explained is_numbered) is_audited lines text
 AreAnswers (Replay is_explained true) sizes is_audited is_numbered lines text =
@@ -151,9 +148,10 @@ pub record IsAnswered (asked : Option Options) (text input : List ℕ) : Type 0 
   pub script : IsScript options.sizes input lines
   pub answers : AreAnswers options.task options.sizes options.is_audited options.is_numbered lines text
 
--- The options that are asked for have answers to the input, and a writer that held the bytes `before`, if they are known,
--- was given all of them. The status is 3 if the options are strict and some answer is a refusal, else 0.
-pub record IsWritten (asked : Option Options) (status : ℕ) (before after : Option (List ℕ)) (input : List ℕ) : Type 0 where
+-- The options that are asked for have answers to the input, and a writer that held the bytes `before`, if they are
+-- known, was given all of them. The status is 3 if the options are strict and some answer is a refusal, else 0.
+pub record IsWritten (asked : Option Options) (status : ℕ) (before after : Option (List ℕ)) (input : List ℕ)
+    : Type 0 where
   pub text : List ℕ
   pub answered : IsAnswered asked text input
   pub status_is : status ≡ answered_status answered.options.is_strict answered.options.is_numbered text

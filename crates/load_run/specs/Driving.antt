@@ -1,5 +1,6 @@
 -- What a run of the program promises, by the status that it ends with.
-use Rattle.std.specs.Prelude.{◌≡◌, ◌⊎◌, ℕ, ◌≤◌, List, Option, None, Some, Result, Vec, IfErr, IfOk, IfSome, IsSome, OnOk}
+use Rattle.std.specs.Prelude.{◌≡◌, ◌⊎◌, ℕ, ◌≤◌, List, Option, None, Some, Result, Vec}
+use Rattle.std.specs.Prelude.{IfErr, IfOk, IfSome, IsSome, OnOk}
 use Rattle.load_options.specs.declared.task.Options.{Options}
 use Rattle.load_options.specs.declared.task.Task.{Task}
 use Rattle.load_options.specs.declared.task.Task.TheVariants.{Replay, Steps, Run, Check, Lint, Version}
@@ -23,10 +24,10 @@ pub record AnswersTo {Z : Type 0} (asked : Option Options) (input : Option (List
 abbrev pub IsAnsweredStatus : ℕ → Type 0
 IsAnsweredStatus status = (status ≡ 0) ⊎ (status ≡ 3)
 
--- The program ran on a script, and ended with at most 3. With 0 or 3, options are asked for, no fault is written, and the
--- output got the answers to the input, by which the status is 0 or 3. With 1, it failed at its work. With 2, words, script
--- or sizes are wrong, and nothing is written to the output. The answers and the cause of a fault are known if the input's
--- bytes are.
+-- The program ran on a script, and ended with at most 3. With 0 or 3, options are asked for, no fault is written, and
+-- the output got the answers to the input, by which the status is 0 or 3. With 1, it failed at its work. With 2, words,
+-- script or sizes are wrong, and nothing is written to the output. The answers and the cause of a fault are known if
+-- the input's bytes are.
 pub record DrivesScript (asked : Option Options) (input : Option (List ℕ)) (before after : Written)
     (status : ℕ) : Type 0 where
   pub status_at_most : status ≤ 3

@@ -12,7 +12,7 @@ use Rattle.load_options.specs.declared.task.Task.TheVariants.{Replay, Steps, Run
 use Rattle.load_options.specs.Words.{TellsOptions}
 use Rattle.load_run.specs.declared.fault.ProgramFault.{ProgramFault}
 use Rattle.load_run.specs.declared.fault.ProgramFault.TheVariants.{Words, Script, BadLogLine, BadConfig}
-use Rattle.load_run.specs.declared.fault.ProgramFault.TheVariants.{IllegalStep, Input, Output, NoMemory}
+use Rattle.load_run.specs.declared.fault.ProgramFault.TheVariants.{IllegalStep, IllegalEnd, Input, Output, NoMemory}
 
 -- 2 if the program was misused, 1 if it failed at its work
 abbrev pub status_of : ProgramFault → ℕ
@@ -23,6 +23,7 @@ status_of (Script script.NoMemory) = 1
 status_of (BadLogLine number) = 2
 status_of BadConfig = 2
 status_of (IllegalStep number) = 1
+status_of IllegalEnd = 1
 status_of Input = 1
 status_of Output = 1
 status_of (NoMemory error) = 1
@@ -44,6 +45,7 @@ fault_text (Script script.NoMemory) = codes "no memory\n"
 fault_text (BadLogLine number) = bad_line_text number
 fault_text BadConfig = codes "refused 14 BadConfig\n"
 fault_text (IllegalStep number) = illegal_step_text number
+fault_text IllegalEnd = codes "end: a step is not legal\n"
 fault_text Input = codes "input failed\n"
 fault_text Output = codes "output failed\n"
 fault_text (NoMemory error) = codes "no memory\n"
@@ -76,6 +78,7 @@ checks_steps Version = false
 -- a boot that took its sizes failed at this task: memory ran out, or a step isn't legal, if the task checks each step
 abbrev pub IsFailedTask : Task → ProgramFault → Type 0
 IsFailedTask task (IllegalStep number) = IsTrue (checks_steps task)
+IsFailedTask task IllegalEnd = IsTrue (checks_steps task)
 IsFailedTask task (NoMemory error) = ⊤
 IsFailedTask task fault = ⊥
 

@@ -5,6 +5,7 @@ pub mod Driving
 pub mod Ending
 pub mod Fault
 pub mod Lints
+pub mod Logs
 pub mod Refusals
 pub mod Steps
 pub mod Versions

@@ -25,6 +25,9 @@ pub enum ProgramFault {
     /// A step of the line of this number, counted from 1, isn't legal.
     #[error("line {0}: a step is not legal")]
     IllegalStep(usize),
+    /// A step of the boot's end isn't legal.
+    #[error("end: a step is not legal")]
+    IllegalEnd,
     /// The script can't be read.
     #[error("input failed")]
     Input,
@@ -51,6 +54,7 @@ impl ProgramFault {
             ProgramFault::Words(LineFault::NoMemory(_))
             | ProgramFault::Script(ScriptFault::NoMemory)
             | ProgramFault::IllegalStep(_)
+            | ProgramFault::IllegalEnd
             | ProgramFault::Input
             | ProgramFault::Output
             | ProgramFault::NoMemory(_) => 1,

@@ -37,6 +37,7 @@ fn write_fault<F: Write>(fault: &ProgramFault, faults: &mut F) -> io::Result<()>
         ProgramFault::IllegalStep(number) => {
             write_numbered("line ", *number as u64, ": a step is not legal\n", faults)
         }
+        ProgramFault::IllegalEnd => write_whole("end: a step is not legal\n".as_bytes(), faults),
         ProgramFault::BadConfig => write_whole("refused 14 BadConfig\n".as_bytes(), faults),
         ProgramFault::Input => write_whole("input failed\n".as_bytes(), faults),
         ProgramFault::Output => write_whole("output failed\n".as_bytes(), faults),

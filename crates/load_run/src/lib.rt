@@ -6,10 +6,13 @@
 #![tactic(auto)]
 
 pub mod boot_end;
+pub mod checked_running;
 pub mod checking;
+mod comments;
 pub mod fault;
 pub mod fault_lines;
 pub mod linting;
+pub mod logging;
 pub mod program;
 pub mod reading;
 mod refusals;

@@ -16,13 +16,14 @@ ghost use Rattle.load_run.specs.Driving.{AnswersTo, Drives, DrivesScript};
 ghost use Rattle.load_run.specs.Fault.{IsBootFault, IsFailedTask, IsScriptFault, IsWordsFault};
 ghost use Rattle.load_run.specs.Writing.{AppendsBeginning};
 
+use crate::checked_running::{Unanswered, check_on_boot};
 use crate::checking::drive_check;
 use crate::fault::ProgramFault;
 use crate::fault_lines::tell_fault;
 use crate::linting::drive_lint;
 use crate::reading::read_script;
 use crate::refusals::answered_status;
-use crate::running::{check_on_boot, replay_on_boot};
+use crate::running::replay_on_boot;
 use crate::stepping::drive_steps;
 use crate::thread_running::run_by_threads;
 use crate::versions::drive_version;
@@ -33,7 +34,7 @@ use load_options::task::{Options, Task};
 use mem_system::{Boot, BootFault, boot};
 use script_lines::line::Line;
 use script_lines::script::parse_script;
-use script_replay::{Form, Stopped};
+use script_replay::Form;
 use std::alloc::{AllocError, Global};
 use std::convert::AsStr;
 use std::io::{Read, Write};
@@ -171,7 +172,8 @@ fn answers_of<R: Threads + Wait + Sync>(
     requires task { IsOnScript options.now.task }
     requires lines { All (LineIsThere options.now.sizes.frames options.now.sizes.cpus) lines.now }
     ensures answers { IfOk result (λ text.
-        AreAnswers options.now.task options.now.sizes options.now.is_audited options.now.is_numbered lines.now text.items) }
+        AreAnswers options.now.task options.now.sizes options.now.is_audited options.now.is_numbered lines.now
+        text.items) }
     ensures valid { OnOk result (IsValidConfig options.now.sizes) }
     ensures fault { IfErr result (IsBootFault options.now.task options.now.sizes) }
 {
@@ -209,11 +211,7 @@ fn answers_on_boot<N: BootName + Send + Sync, R: Threads + Wait + Sync>(
             is_explained,
             is_checked: false,
         } => {
-            let is_numbered = options.is_numbered;
-            let form = Form {
-                is_explained,
-                is_numbered,
-            };
+            let form = form_of(options, is_explained);
             match replay_on_boot::<N>(alloc, boot, lines, form, options.is_audited) {
                 Ok(answers) => Ok(answers),
                 Err(error) => Err(ProgramFault::NoMemory(error)),
@@ -228,6 +226,16 @@ fn answers_on_boot<N: BootName + Send + Sync, R: Threads + Wait + Sync>(
             }
         }
         Task::Steps | Task::Check | Task::Lint | Task::Version => unreachable!(),
+    }
+}
+
+// The form of the answers that the options ask for.
+fn form_of(options: &Options, is_explained: bool) -> Form
+    ensures { result ≡ form_of is_explained options.now.is_numbered }
+{
+    Form {
+        is_explained,
+        is_numbered: options.is_numbered,
     }
 }
 
@@ -251,15 +259,12 @@ fn check_answers<N: BootName>(
 {
     let sizes = options.sizes;
     let is_audited = options.is_audited;
-    let is_numbered = options.is_numbered;
-    let form = Form {
-        is_explained,
-        is_numbered,
-    };
+    let form = form_of(options, is_explained);
     match check_on_boot::<N>(alloc, boot, sizes, lines, form, is_audited) {
         Ok(answers) => Ok(answers),
-        Err(Stopped::NoMemory(error)) => Err(ProgramFault::NoMemory(error)),
-        Err(Stopped::NotLegal(line)) => Err(ProgramFault::IllegalStep(line)),
+        Err(Unanswered::NoMemory(error)) => Err(ProgramFault::NoMemory(error)),
+        Err(Unanswered::IllegalLine(line)) => Err(ProgramFault::IllegalStep(line)),
+        Err(Unanswered::IllegalEnd) => Err(ProgramFault::IllegalEnd),
     }
 }
 

@@ -13,8 +13,8 @@ use load_options::command_line::VERSION;
 use std::alloc::Global;
 use std::io::Write;
 
-/// Writes the program's version to the output, and returns the status to end with: 0, or 1 if the output fails or memory
-/// runs out.
+/// Writes the program's version to the output, and returns the status to end with: 0, or 1 if the output fails or
+/// memory runs out.
 #[tactic(auto, using(crate::proofs::Telling::version_written, crate::proofs::Telling::version_unwritten))]
 pub fn drive_version<O: Write, F: Write>(alloc: Global, output: &mut O, faults: &mut F) -> u8
     ensures tells { TellsVersion (written (O.contents output.old) (F.contents faults.old))

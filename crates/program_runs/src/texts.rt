@@ -28,7 +28,8 @@ Commands:
   help    Print this message or the help of the given subcommand(s)
 
 Options:
-  -h, --help  Print help
+  -h, --help     Print help
+  -V, --version  Print version
 $ memcg help
 Charges page frames to the groups of a tree
 
@@ -42,7 +43,8 @@ Commands:
   help    Print this message or the help of the given subcommand(s)
 
 Options:
-  -h, --help  Print help
+  -h, --help     Print help
+  -V, --version  Print version
 $ memcg replay --help
 Runs the lines of a script, one after the other
 
@@ -55,8 +57,11 @@ Options:
       --high <N>    Frames at which a CPU's list returns some to the zone, batch to 256 [default: 8]
       --stock <N>   Pages that a CPU charges ahead, 1 to 64 [default: 4]
       --audit       Reports at the end which pins were held, and the counts
+      --numbered    Begins each line of an answer with the number of its script line
+      --strict      Ends with status 3 if some answer is a refusal
       --explain     Explains after an answer why groups were killed for it
       --check       Checks each step against the rules, and reports how many steps there were
+      --steps       Writes the steps of the lines as a log, in place of the answers
   -h, --help        Print help
 $ memcg run --help
 Runs the lines before `go` in the same way, and the later ones in one thread for each CPU
@@ -70,6 +75,8 @@ Options:
       --high <N>    Frames at which a CPU's list returns some to the zone, batch to 256 [default: 8]
       --stock <N>   Pages that a CPU charges ahead, 1 to 64 [default: 4]
       --audit       Reports at the end which pins were held, and the counts
+      --numbered    Begins each line of an answer with the number of its script line
+      --strict      Ends with status 3 if some answer is a refusal
   -h, --help        Print help
 $ memcg check --help
 Checks a log of steps: whether each step keeps the rules

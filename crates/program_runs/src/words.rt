@@ -10,14 +10,14 @@ use std::thread::Threads;
 use zone_sizes::config::Config;
 
 // Good words, separated by single spaces, and what they ask for: the task; frames, CPUs, `batch`, `high` and `stock`;
-// and whether the end is audited.
-const GOOD_WORDS: [(&str, Task, [u32; 5], bool); 14] = [
-    ("replay", PLAIN_REPLAY, [16, 2, 4, 8, 4], false),
-    ("replay --frames=9", PLAIN_REPLAY, [9, 2, 4, 8, 4], false),
-    ("replay --cpus=9", PLAIN_REPLAY, [16, 9, 4, 8, 4], false),
-    ("replay --batch=9", PLAIN_REPLAY, [16, 2, 9, 8, 4], false),
-    ("replay --high=9", PLAIN_REPLAY, [16, 2, 4, 9, 4], false),
-    ("replay --stock=9", PLAIN_REPLAY, [16, 2, 4, 8, 9], false),
+// and whether the end is audited, lines are numbered, and refusals count.
+const GOOD_WORDS: [(&str, Task, [u32; 5], [bool; 3]); 20] = [
+    ("replay", PLAIN_REPLAY, [16, 2, 4, 8, 4], PLAIN),
+    ("replay --frames=9", PLAIN_REPLAY, [9, 2, 4, 8, 4], PLAIN),
+    ("replay --cpus=9", PLAIN_REPLAY, [16, 9, 4, 8, 4], PLAIN),
+    ("replay --batch=9", PLAIN_REPLAY, [16, 2, 9, 8, 4], PLAIN),
+    ("replay --high=9", PLAIN_REPLAY, [16, 2, 4, 9, 4], PLAIN),
+    ("replay --stock=9", PLAIN_REPLAY, [16, 2, 4, 8, 9], PLAIN),
     (
         "replay --frames=1048576 --cpus 64 --batch 64 --high 256 --stock 64 --audit --explain",
         Task::Replay {
@@ -25,7 +25,7 @@ const GOOD_WORDS: [(&str, Task, [u32; 5], bool); 14] = [
             is_checked: false,
         },
         [1_048_576, 64, 64, 256, 64],
-        true,
+        AUDITED,
     ),
     (
         "replay --check",
@@ -34,35 +34,68 @@ const GOOD_WORDS: [(&str, Task, [u32; 5], bool); 14] = [
             is_checked: true,
         },
         [16, 2, 4, 8, 4],
-        false,
+        PLAIN,
     ),
     (
         "replay --frames=40 --cpus=3 --batch=5 --high=12 --stock=7 --audit",
         PLAIN_REPLAY,
         [40, 3, 5, 12, 7],
-        true,
+        AUDITED,
     ),
     (
         "replay --audit --stock +7 --high 012 --batch 5 --cpus 3 --frames 40 --",
         PLAIN_REPLAY,
         [40, 3, 5, 12, 7],
-        true,
+        AUDITED,
     ),
-    ("run", Task::Run, [16, 2, 4, 8, 4], false),
-    ("run --audit", Task::Run, [16, 2, 4, 8, 4], true),
+    ("run", Task::Run, [16, 2, 4, 8, 4], PLAIN),
+    ("run --audit", Task::Run, [16, 2, 4, 8, 4], AUDITED),
     (
         "run --stock 7 --frames=40 --audit --cpus=3 --high=12 --batch=5",
         Task::Run,
         [40, 3, 5, 12, 7],
-        true,
+        AUDITED,
     ),
     (
         "lint --stock 7 --frames=40 --cpus=3 --high=12 --batch=5",
         Task::Lint,
         [40, 3, 5, 12, 7],
-        false,
+        PLAIN,
     ),
+    (
+        "replay --strict --numbered --check",
+        Task::Replay {
+            is_explained: false,
+            is_checked: true,
+        },
+        [16, 2, 4, 8, 4],
+        [false, true, true],
+    ),
+    (
+        "run --numbered",
+        Task::Run,
+        [16, 2, 4, 8, 4],
+        [false, true, false],
+    ),
+    (
+        "run --audit --strict",
+        Task::Run,
+        [16, 2, 4, 8, 4],
+        [true, false, true],
+    ),
+    (
+        "replay --steps --cpus=9",
+        Task::Steps,
+        [16, 9, 4, 8, 4],
+        PLAIN,
+    ),
+    ("--version", Task::Version, [16, 2, 4, 8, 4], PLAIN),
+    ("-V", Task::Version, [16, 2, 4, 8, 4], PLAIN),
 ];
+
+const PLAIN: [bool; 3] = [false, false, false];
+
+const AUDITED: [bool; 3] = [true, false, false];
 
 const PLAIN_REPLAY: Task = Task::Replay {
     is_explained: false,
@@ -71,7 +104,8 @@ const PLAIN_REPLAY: Task = Task::Replay {
 
 #[test]
 fn asks_for_what_the_words_say(rt: HostRuntime) {
-    for (words, task, [frames, cpus, batch, high, stock], is_audited) in GOOD_WORDS {
+    for (words, task, [frames, cpus, batch, high, stock], flags) in GOOD_WORDS {
+        let [is_audited, is_numbered, is_strict] = flags;
         let wanted = Options {
             task,
             sizes: Config {
@@ -82,6 +116,8 @@ fn asks_for_what_the_words_say(rt: HostRuntime) {
                 stock,
             },
             is_audited,
+            is_numbered,
+            is_strict,
         };
         let asked = options(rt.alloc(), &words_of(&rt, words)).expect(&rt, words);
         row_holds(&rt, asked == wanted, words);
@@ -89,7 +125,7 @@ fn asks_for_what_the_words_say(rt: HostRuntime) {
 }
 
 // Bad words, and how the text that the program writes for them begins.
-const BAD_WORDS: [(&str, &str); 28] = [
+const BAD_WORDS: [(&str, &str); 36] = [
     (
         "replay --frames 0",
         "error: invalid value '0' for '--frames <N>': 0 is not in 1..=1048576\n",
@@ -131,6 +167,29 @@ const BAD_WORDS: [(&str, &str); 28] = [
         "error: unexpected argument '--audit' found\n",
     ),
     ("lint --frames=0", "error: "),
+    (
+        "lint --strict",
+        "error: unexpected argument '--strict' found\n",
+    ),
+    (
+        "run --steps",
+        "error: unexpected argument '--steps' found\n",
+    ),
+    (
+        "replay --steps --check",
+        "error: the argument '--steps' cannot be used with '--audit', '--numbered', '--strict', '--explain' or '--check'\n",
+    ),
+    ("replay --audit --steps", "error: the argument '--steps' "),
+    (
+        "replay --steps --numbered",
+        "error: the argument '--steps' ",
+    ),
+    ("replay --steps --strict", "error: the argument '--steps' "),
+    ("replay --explain --steps", "error: the argument '--steps' "),
+    (
+        "replay --version",
+        "error: unexpected argument '--version' found\n",
+    ),
     ("--help", ""),
     ("help", ""),
 ];

@@ -1,6 +1,6 @@
 -- A line carries the whole on. Serves `replay`.
-use Rattle.std.proofs.Common.{Bool, true, false, ◌≡◌, ◌≢◌, ℕ, ◌<◌, ◌==◌, ◌&&◌, ◌++◌, cond, Some, List, [], ◌∷◌, take, refl, sym, ◌∙◌, ap, subst, inl, inr, zero, suc}
-use Rattle.std.specs.Prelude.{IfSome, nat_le, slice_set}
+use Rattle.std.proofs.Common.{Bool, true, false, ◌≡◌, ◌≢◌, ℕ, ◌<◌, ◌==◌, ◌&&◌, ◌++◌, cond, Some, List, [], ◌∷◌, refl, sym, ◌∙◌, ap, subst, inl, inr, suc}
+use Rattle.std.specs.Prelude.{nat_le, slice_set}
 use Rattle.std.specs.List.{slice_get}
 use Rattle.std.specs.Borrow.{Bor}
 use Rattle.std.proofs.lemmas.Bool.{cases_eq}
@@ -24,7 +24,6 @@ use Rattle.cpu_part.specs.Cpus as parts
 use Rattle.cpu_part.specs.Cpus.{KnownCpu}
 use Rattle.cpu_part.specs.Calls.{FastAnswers, DropAnswers, UnpinAnswers}
 use Rattle.step_rules.specs.declared.phase.Way.TheVariants.{OnList}
-use Rattle.step_rules.specs.declared.phase.Hold.TheVariants.{HeldBy}
 use Rattle.step_rules.specs.declared.phase.Stage.TheVariants.{FreshAt}
 use Rattle.step_rules.specs.declared.phase.Phase.TheVariants as phase
 use Rattle.step_rules.specs.declared.step.Action.{Action}
@@ -57,7 +56,7 @@ use Rattle.mem_system.specs.declared.command.Cmd.TheVariants as cmd
 use Rattle.mem_system.specs.declared.command.Reply.{Reply}
 use Rattle.mem_system.specs.declared.command.Reply.TheVariants.{Refused, Done}
 use Rattle.mem_system.specs.Locked.{KnownLocked, AllShut}
-use Rattle.mem_system.specs.Visits.{transition, LockedState, locked_state, visit_state_of, IsServed}
+use Rattle.mem_system.specs.Visits.{transition, LockedState, locked_state, IsServed}
 use Rattle.reply_texts.specs.Answer.{Answer}
 use Rattle.reply_texts.specs.Answer as answer
 use Rattle.script_replay.specs.declared.work.Work.{Work}

@@ -1,8 +1,9 @@
 -- The lines that were served so far, and their history. Serves `serve_line`, `replay`.
-use Rattle.std.proofs.Common.{Result, ◌≡◌, ℕ, ◌+◌, ◌-◌, ◌<◌, ◌≤◌, true, false, Some, None, List, [], ◌∷◌, ◌++◌, length, take, get_or, append-nil, ap, refl, sym, ◌∙◌, subst, arith, inl, inr}
-use Rattle.std.specs.Prelude.{IfSome, Option, slice_set}
+use Rattle.std.proofs.Common.{Result, IfOk, ◌≡◌, ℕ, Bool, ◌+◌, ◌-◌, ◌<◌, ◌≤◌, true, false, Some, None, List, [], ◌∷◌, ◌++◌, length, take, get_or, append-nil, ap, refl, sym, ◌∙◌, subst, arith, inl, inr}
+use Rattle.std.specs.Prelude.{slice_set}
 use Rattle.std.specs.List.{slice_get}
 use Rattle.std.specs.declared.string.String.{String}
+use Rattle.std.specs.String.{string_bytes}
 use Rattle.std.proofs.lemmas.Bool.{cases_eq}
 use Rattle.std.proofs.lemmas.List.{get_or_default}
 use Rattle.std.proofs.lemmas.Option.{slice_get_within, slice_get_read, none-some}
@@ -21,7 +22,7 @@ use Rattle.mem_history.proofs.Wholes.{set_here, set_else}
 use Rattle.mem_history.proofs.Promised.{the_whole_is_promised}
 use Rattle.mem_history.proofs.Deciding.{legal_front}
 use Rattle.mem_system.specs.Locked.{KnownLocked, IsQuiet}
-use Rattle.mem_system.specs.Visits.{transition, locked_state, visit_state_of}
+use Rattle.mem_system.specs.Visits.{transition, locked_state}
 use Rattle.script_lines.specs.declared.line.Command.{Command}
 use Rattle.script_lines.specs.declared.line.Line.{Line}
 use Rattle.script_lines.specs.declared.line.Line.TheVariants.{Go, At}
@@ -30,12 +31,15 @@ use Rattle.script_replay.specs.Lines.{SystemState, system_state, AtPart, InOrder
 use Rattle.script_replay.specs.History.{Past, past, past_line, TellsHistory, Replays, ReplaysLegally, ServesAndKeeps, StopsFor, HoldsInvariants}
 use Rattle.script_replay.specs.declared.value_replay.Stopped.TheVariants.{NotLegal}
 use Rattle.script_replay.specs.Ranges.{LineIsThere}
-use Rattle.script_replay.specs.Terms.{Terms}
+use Rattle.script_replay.specs.declared.form.Form.{Form}
+use Rattle.script_replay.specs.Numbers.{numbered_text, text_with_number}
+use Rattle.script_replay.specs.Terms.{Terms, form_terms, numbered_terms, terms}
 use Rattle.script_replay.specs.Works.{work_of}
 use Rattle.script_replay.proofs.InOrder.{in_order_line}
 use Rattle.script_replay.proofs.InRange.{work_in_range}
 use Rattle.script_replay.proofs.Following.{work_follows}
 use Rattle.script_replay.proofs.Seeing.{legal_history, line_seen}
+use Rattle.script_replay.proofs.Telling.{at_ok}
 
 -- ---- one line
 
@@ -110,11 +114,11 @@ go_keeps t w is_explained before cpus r answers line is holds = record {
     };
     keeps = record { holds = holds; tied = λ all. all };
   });
-  added = on_ok r (sym (append-nil (string_bytes answers)));
+  added = at_ok r (sym (append-nil (string_bytes answers)));
 }
 
 -- the same line with its number
-numbered_keeps : (t : KnownTable) (w : Words) (is_explained : Bool) (line : Line) (s e : SystemState) (text : List ℕ)
+pub numbered_keeps : (t : KnownTable) (w : Words) (is_explained : Bool) (line : Line) (s e : SystemState) (text : List ℕ)
     → ServesAndKeeps (terms t w is_explained) line s e text
     → ServesAndKeeps (numbered_terms t w is_explained true) line s e (numbered_text (number_in_script line) text)
 numbered_keeps t w is_explained line s e text keeps = record {
@@ -130,17 +134,24 @@ numbered_keeps t w is_explained line s e text keeps = record {
   keeps = keeps.keeps;
 }
 
--- a line that was answered into a text of its own, which is then added with its number, as far as there was memory
-pub number_added : (t : KnownTable) (w : Words) (is_explained : Bool) (line : Line) (s e : SystemState) {Z Y U E T D : Type 0}
-    (served : Result U E) (none plain : String Y) (r : Result T D) (old new : String Z) → string_bytes none ≡ []
-    → (keeps : AddsText served none plain (ServesAndKeeps (terms t w is_explained) line s e))
-    → IfOk r (λ _. (string_bytes plain ≡ keeps.text) × (string_bytes new ≡ string_bytes old ++ numbered_text (number_in_script line) (string_bytes plain)))
+-- a line that was answered into a text of its own, which is then added with the number, as far as there is memory
+pub number_added : (t : KnownTable) (w : Words) (is_explained : Bool) (line : Line) (s e : SystemState) {Z U E : Type 0} (r : Result U E)
+    (old new : String Z) (number : ℕ) (said plain : List ℕ) → ServesAndKeeps (terms t w is_explained) line s e said → plain ≡ said
+    → number ≡ number_in_script line → IfOk r (λ _. string_bytes new ≡ string_bytes old ++ numbered_text number plain)
     → AddsText r old new (ServesAndKeeps (numbered_terms t w is_explained true) line s e)
-number_added t w is_explained line s e served none plain r old new empty keeps added = record {
-  text = numbered_text (number_in_script line) keeps.text;
-  so = numbered_keeps t w is_explained line s e keeps.text keeps.so;
-  added = IfOk-weaker r _ _ (λ x both. both.1 ∙ ap (λ (l : List ℕ). string_bytes old ++ numbered_text (number_in_script line) l) both.0) added;
+number_added t w is_explained line s e r old new number said plain keeps is numbers added = record {
+  text = numbered_text (number_in_script line) said;
+  so = numbered_keeps t w is_explained line s e said keeps;
+  added = subst (λ (b : ℕ × List ℕ). IfOk r (λ _. string_bytes new ≡ string_bytes old ++ numbered_text b.0 b.1)) (λ i. (numbers i, is i)) added;
 }
+
+-- an answer in this form, by whether lines are numbered in it
+pub formed : (t : KnownTable) (w : Words) (form : Form) (line : Line) (s e : SystemState) {Z U E : Type 0} (r : Result U E) (old new : String Z)
+    (is_numbered : Bool) → form.is_numbered ≡ is_numbered
+    → AddsText r old new (ServesAndKeeps (numbered_terms t w form.is_explained is_numbered) line s e)
+    → AddsText r old new (ServesAndKeeps (form_terms t w form) line s e)
+formed t w form line s e r old new is_numbered is adds =
+    subst (λ (b : Bool). AddsText r old new (ServesAndKeeps (numbered_terms t w form.is_explained b) line s e)) (sym is) adds
 
 -- ---- the lines so far
 

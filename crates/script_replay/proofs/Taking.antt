@@ -1,5 +1,5 @@
 -- The steps that the watch takes of calls without the lock. Serves `watch_fast`, `watch_put`, `unpin`, `lock`.
-use Rattle.std.proofs.Common.{◌≡◌, ◌≢◌, ◌<◌, ◌^◌, ℕ, false, Option, Some, None, arith, refl}
+use Rattle.std.proofs.Common.{◌≡◌, ◌≢◌, ◌<◌, ◌^◌, ℕ, false, Some, None, arith, refl}
 use Rattle.frame_word.specs.declared.answers.Put.{Put as PutAnswer}
 use Rattle.frame_word.specs.declared.answers.Put.TheVariants.{Left, Last}
 use Rattle.cpu_part.specs.declared.answers.Fast.{Fast}

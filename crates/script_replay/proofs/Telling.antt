@@ -1,5 +1,5 @@
 -- A text for an answer.
-use Rattle.std.proofs.Common.{◌≡◌, ◌∙◌, ◌++◌, ◌&&◌, Bool, true, false, List, ℕ, Result, Ok, Err, IfOk, IfErr, ap, append_assoc, append-nil, refl, sym}
+use Rattle.std.proofs.Common.{◌≡◌, ◌∙◌, ◌++◌, ◌&&◌, Bool, true, false, List, ℕ, Result, Ok, Err, IfOk, IfErr, ap, append_assoc, append-nil, refl, subst, sym}
 use Rattle.std.specs.declared.string.String.{String}
 use Rattle.std.specs.String.{string_bytes}
 use Rattle.mem_system.specs.declared.command.Cmd.{Cmd}
@@ -11,6 +11,7 @@ use Rattle.reply_texts.specs.Replies.{reply_text}
 use Rattle.script_replay.specs.declared.work.Work.{Work}
 use Rattle.script_replay.specs.declared.work.Work.TheVariants.{Visit, Settle}
 use Rattle.script_replay.specs.Answers.{AddsAnswer, AddsText, AnswersWork, ServesUnderLock, ServesWork, WritesAnswer, kills_text}
+use Rattle.script_replay.specs.Numbers.{SaysNumbered, numbered_text}
 use Rattle.script_replay.specs.Terms.{Terms}
 
 -- what holds of a text holds of the text that was added
@@ -82,3 +83,28 @@ behind (Err e) before mid after said more first is = tt
 pub at_error : {T E : Type 0} (r : Result T E) (P : Type 0) → P → IfErr r (λ _. P)
 at_error (Ok x) P is = tt
 at_error (Err e) P is = is
+
+pub at_ok : {T E : Type 0} (r : Result T E) {P : Type 0} → P → IfOk r (λ _. P)
+at_ok (Ok x) is = is
+at_ok (Err e) is = tt
+
+-- ---- with the number of a line
+
+-- an answer without the number
+pub without_number : {Z T E : Type 0} (is_said : List ℕ → Type 0) (number : ℕ) (before after : String Z) (r : Result T E)
+    → AddsText r before after is_said → AddsText r before after (SaysNumbered false number is_said)
+without_number is_said number before after r adds = record {
+  text = adds.text;
+  so = record { plain = adds.text; so = adds.so; text_is = refl };
+  added = adds.added;
+}
+
+-- an answer that is a text of its own, which is then added with the number, as far as there is memory
+pub with_number : {Z T E : Type 0} (is_said : List ℕ → Type 0) (number : ℕ) (said plain : List ℕ) (before after : String Z) (r : Result T E)
+    → is_said said → plain ≡ said → IfOk r (λ _. string_bytes after ≡ string_bytes before ++ numbered_text number plain)
+    → AddsText r before after (SaysNumbered true number is_said)
+with_number is_said number said plain before after r so is added = record {
+  text = numbered_text number said;
+  so = record { plain = said; so = so; text_is = refl };
+  added = subst (λ (l : List ℕ). IfOk r (λ _. string_bytes after ≡ string_bytes before ++ numbered_text number l)) is added;
+}

@@ -13,8 +13,8 @@ pub record BootTables : Type 0 where
 abbrev pub boot_tables : KnownTable → Words → BootTables
 boot_tables frames stocks = record { frames = frames; stocks = stocks }
 
--- the terms of a replay: the tables of its boot, whether kills are explained behind the answers, and whether each line of
--- an answer begins with the number of its script line
+-- the terms of a replay: the tables of its boot, whether kills are explained behind the answers, and whether each line
+-- of an answer begins with the number of its script line
 pub record Terms : Type 0 where
   pub frames : KnownTable
   pub stocks : Words

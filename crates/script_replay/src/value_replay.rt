@@ -20,8 +20,8 @@ use script_lines::line::{Command, Line};
 use std::alloc::{AllocError, Global};
 
 /// Serves the lines in order, each for the CPU that it names, and returns their answers; each line of an answer ends
-/// with a line feed. `go` does nothing. `AllocError` is returned if memory runs out for the text of a line. That line and
-/// those before it were then served, once each, and no line after it was.
+/// with a line feed. `go` does nothing. `AllocError` is returned if memory runs out for the text of a line. That line
+/// and those before it were then served, once each, and no line after it was.
 pub fn replay<N: BootName>(
     alloc: Global,
     locked: &mut Locked<N>,
@@ -93,7 +93,8 @@ fn number_of(line: &Line<'_>) -> usize
     }
 }
 
-// Serves a line and adds its answer in this form.
+// Serves a line and adds its answer in this form. It is inlined, so that the form costs a line one test.
+#[inline(always)]
 fn serve_in_form<N: BootName>(
     alloc: Global,
     locked: &mut Locked<N>,

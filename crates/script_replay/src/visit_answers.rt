@@ -53,7 +53,8 @@ pub fn visit_line<N: BootName, R: Wait, G: Gate>(
     Ok(())
 }
 
-/// Serves the command of a line as `visit_line` does, and adds its answer with the line's number before each line of that.
+/// Serves the command of a line as `visit_line` does, and adds its answer with the line's number before each line of
+/// that.
 pub fn visit_numbered_line<N: BootName, R: Wait, G: Gate>(
     alloc: Global,
     visitor: &Visitor<'_, N, R, G>,

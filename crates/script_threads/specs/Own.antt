@@ -14,17 +14,17 @@ abbrev pub LineNames : ℕ → Line → Type 0
 LineNames frames Go = Unit {0}
 LineNames frames (At number processor command) = NamesInRange frames command
 
--- a line of the CPU of this number is answered with this text on its part, with its number if that is asked for; any other
--- line is skipped
-abbrev pub ServesOwnLine : BootTables → (is_numbered : Bool) (own : ℕ) → Line → (before after : KnownCpu) (text : List ℕ)
-    → Type 0
+-- a line of the CPU of this number is answered with this text on its part, with its number if that is asked for; any
+-- other line is skipped
+abbrev pub ServesOwnLine : BootTables → (is_numbered : Bool) (own : ℕ) → Line → (before after : KnownCpu)
+    (text : List ℕ) → Type 0
 ServesOwnLine tables is_numbered own Go before after text = (text ≡ []) × (after ≡ before)
 ServesOwnLine tables is_numbered own (At number processor command) before after text =
     MatchBool (processor == own) (SaysNumbered is_numbered number (VisitsCommand tables command before after) text)
     ((text ≡ []) × (after ≡ before))
 
--- a worker: the number of its CPU, its part at the start, all lines, of which it serves its own, and whether their answers
--- have numbers
+-- a worker: the number of its CPU, its part at the start, all lines, of which it serves its own, and whether their
+-- answers have numbers
 pub record KnownWorker : Type 0 where
   pub number : ℕ
   pub before : KnownCpu

@@ -28,7 +28,8 @@ pub(crate) fn serve_own<N: BootName, R: Wait, G: Gate>(
 ) -> Result<String, AllocError>
     requires { All (LineNames N.frames.frames) lines.now }
     ensures { IfOk result (λ text.
-        ServesOwn (boot_tables N.frames N.stocks) (worker number cpu.old lines.now is_numbered) cpu.new (string_bytes text)) }
+        ServesOwn (boot_tables N.frames N.stocks) (worker number cpu.old lines.now is_numbered) cpu.new
+        (string_bytes text)) }
 {
     let visitor = Visitor { rt, system, gate };
     let mut text = String::new(alloc);

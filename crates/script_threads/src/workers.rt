@@ -60,7 +60,8 @@ impl<'a, N: BootName> Model for Worker<'a, N> {
     ghost Value = { KnownWorker };
 
     ghost view = { λ w.
-        worker w.handle.promise.number w.handle.promise.before.value w.handle.promise.lines.now w.handle.promise.is_numbered };
+        worker w.handle.promise.number w.handle.promise.before.value w.handle.promise.lines.now
+        w.handle.promise.is_numbered };
 
     ghost invariant = { λ w. w.number ≡ w.handle.promise.number };
 }

@@ -1,5 +1,5 @@
 -- What a replay for a host answers, and why it fails.
-use Rattle.std.specs.Prelude.{ℕ, Bool, List}
+use Rattle.std.specs.Prelude.{ℕ, Bool, false, List}
 use Rattle.zone_sizes.specs.declared.config.Config.{Config}
 use Rattle.zone_sizes.specs.Config.{IsValidConfig}
 use Rattle.script_lines.specs.declared.line.Line.{Line}
@@ -25,7 +25,7 @@ pub record IsAnswered (sizes : Config) (is_explained is_audited : Bool) (script 
   pub valid : IsValidConfig sizes
   pub lines : List Line
   pub script_is : IsScript sizes script lines
-  pub answers : AreReplayAnswers sizes is_explained is_audited lines text
+  pub answers : AreReplayAnswers sizes (record { is_explained = is_explained; is_numbered = false }) is_audited lines text
 
 -- the sizes are in their ranges, and this is the number of the first bad line of the script
 pub record IsBadAt (sizes : Config) (script : List ℕ) (number : ℕ) : Type 0 where

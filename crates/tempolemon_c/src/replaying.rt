@@ -5,6 +5,7 @@ ghost use Rattle.zone_sizes.specs.Config.{IsValidConfig};
 ghost use Rattle.tempolemon_c.specs.Replays.{HasCause, IsAnswered};
 
 use crate::fault::ReplayFault;
+use load_run::Form;
 use load_run::running::replay_on_boot;
 use mem_system::{Boot, BootFault, boot};
 use script_lines::fault::ScriptFault;
@@ -46,8 +47,12 @@ fn answer_on_boot(
     ensures answers { IfOk result (λ text. IsAnswered sizes.now is_explained is_audited script.now text.items) }
     ensures fault { IfErr result (HasCause sizes.now script.now) }
 {
+    let form = Form {
+        is_explained,
+        is_numbered: false,
+    };
     match parse_script(alloc, script, sizes) {
-        Ok(lines) => match replay_on_boot::<Brand>(alloc, boot, &lines, is_explained, is_audited) {
+        Ok(lines) => match replay_on_boot::<Brand>(alloc, boot, &lines, form, is_audited) {
             Ok(text) => Ok(text),
             Err(_) => Err(ReplayFault::NoMemory),
         },

@@ -1,5 +1,6 @@
 use Rattle.std.proofs.Common.{◌≡◌, true, take}
 use Rattle.std.specs.String.{string_bytes}
+use Rattle.step_watch.specs.Watched.{has_legal_steps}
 use Rattle.script_replay.specs.Lines.{system_state}
 use Rattle.script_replay.specs.Terms.{form_terms}
 use Rattle.script_replay.proofs.Going.{ServesAllAndKeeps}

@@ -1,20 +1,20 @@
-use Rattle.std.proofs.Common.{◌≡◌, ◌∙◌, ℕ, List, All, length, ap, rules, sym, subst}
+use Rattle.std.proofs.Common.{◌≡◌, ◌∙◌, ℕ, List, All, length, ap, sym, subst}
 use Rattle.cpu_part.specs.Cpus.{KnownCpu}
 use Rattle.mem_system.proofs.Closing.{written_back}
 use Rattle.script_replay.specs.History.{ReplaysCheckedOrStops}
 use Rattle.script_replay.specs.Lines.{system_state}
 use Rattle.script_replay.specs.Ranges.{LineIsThere}
 use Rattle.script_replay.specs.Terms.{form_terms}
-use Rattle.load_run.specs.Ending.{EndsHeld}
-use Rattle.load_run.proofs.running.check_and_end_boot.Goals as goal
+use Rattle.load_run.specs.Ending.{EndsSeen}
+use Rattle.load_run.proofs.checked_running.check_and_end_boot.Goals as goal
 
 pub replay_checked-answers-requires-clause-there : goal.replay_checked-answers-requires-clause-there
 replay_checked-answers-requires-clause-there g c =
     let long : length c.deref_mut.result.now ≡ g.N.BootName.frames.cpus = ap length c.deref_mut.ensures.value ∙ c.requires.count in
     subst (λ (n : ℕ). All (LineIsThere g.N.BootName.frames.frames n) c.args.lines.now) (sym long) c.requires.lines
 
-pub end_boot-ended-requires : goal.end_boot-ended-requires
-end_boot-ended-requires g c =
+pub end_seen_boot-requires : goal.end_seen_boot-requires
+end_seen_boot-requires g c =
     let first = c.deref_mut.ensures.value in
     let long : length c.replay_checked-answers.new.cpus ≡ length c.args.cpus.items = c.replay_checked-answers.auto.cpus ∙ ap length first in
     let same = written_back c.args.cpus.len c.replay_checked-answers.new.cpus c.args.cpus.items long (sym c.deref_mut.ensures.len ∙ ap length first) in
@@ -30,12 +30,10 @@ returns g c =
     record {
       ends = record {
         before = system_state c.replay_checked-answers.new.locked c.replay_checked-answers.new.cpus;
-        so = record {
-          replays = subst (λ (cpus : List KnownCpu). ReplaysCheckedOrStops (form_terms t w c.args.form) c.args.lines.now (system_state c.args.locked cpus)
-              (system_state c.replay_checked-answers.new.locked c.replay_checked-answers.new.cpus) c.replay_checked-answers.result) first
-              c.replay_checked-answers.ensures.outcome;
-          count = search rules;
-        };
-        ends = subst (λ (cpus : List KnownCpu). EndsHeld t w (system_state c.replay_checked-answers.new.locked cpus) c.end_boot-ended.result) same c.end_boot-ended.ensures.ends;
+        so = subst (λ (cpus : List KnownCpu). ReplaysCheckedOrStops (form_terms t w c.args.form) c.args.lines.now (system_state c.args.locked cpus)
+            (system_state c.replay_checked-answers.new.locked c.replay_checked-answers.new.cpus) c.replay_checked-answers.result) first
+            c.replay_checked-answers.ensures.outcome;
+        ends = subst (λ (cpus : List KnownCpu). EndsSeen t w (system_state c.replay_checked-answers.new.locked cpus) c.end_seen_boot.result.0
+            c.end_seen_boot.result.1) same c.end_seen_boot.ensures.ends;
       };
     }

@@ -1,4 +1,4 @@
-use Rattle.std.proofs.Common.{ℕ, List, All, ◌++◌, ◌∙◌, ap, append_assoc, refl, subst, sym}
+use Rattle.std.proofs.Common.{◌≡◌, ℕ, List, All, true, ◌++◌, ◌∙◌, ap, append_assoc, refl, subst, sym}
 use Rattle.step_watch.specs.Watched.{IsNewWatch, has_legal_steps}
 use Rattle.mem_machine.specs.Interleaving.{zone_of}
 use Rattle.mem_machine.specs.Machines.{IsFirst}
@@ -8,9 +8,10 @@ use Rattle.script_replay.specs.Ranges.{LineIsThere}
 use Rattle.mem_history.proofs.Told.{a_boot_tells}
 use Rattle.load_run.specs.Answers.{checked_text}
 use Rattle.load_run.specs.Ending.{end_text}
-use Rattle.load_run.proofs.Answering.{at_ok, weakened}
+use Rattle.load_run.proofs.Answering.{at_ok}
 use Rattle.load_run.proofs.Starting.{boot_shown, new_watch, parts_tied, watched_first}
-use Rattle.load_run.proofs.running.check_on_boot.Goals as goal
+use Rattle.load_run.proofs.Watched.{saw_more}
+use Rattle.load_run.proofs.checked_running.check_on_boot.Goals as goal
 
 pub check_and_end_boot-answers-requires-clause-lines : goal.check_and_end_boot-answers-requires-clause-lines
 check_and_end_boot-answers-requires-clause-lines g c =
@@ -35,20 +36,24 @@ returns g c =
     subst (λ (l : KnownLocked). IsNewWatch (zone_of t) l.machine.watch) (sym c.set_watch.ensures)
     (new_watch c.args.boot.sizes c.args.sizes t w sized c.requires.sizes c.in_ok-watch.watch c.in_ok-watch.ensures) in
     let ended = c.check_and_end_boot-answers.ensures.ends in
-    let replays = at_ok _ _ _ c.in_ok-answers.was ended.so.replays.replayed in
-    let legal = replays.history (boot_shown c.args.boot.sizes t w start.locked.machine c.in_ok-locked.cpus.items sized is_first first)
+    let replays = at_ok _ _ _ c.in_ok-answers.was ended.so.replayed in
+    let tells = replays.history (boot_shown c.args.boot.sizes t w start.locked.machine c.in_ok-locked.cpus.items sized is_first first)
     (parts_tied c.args.boot.sizes t w start.locked.machine c.in_ok-locked.cpus.items sized is_first first)
     (a_boot_tells t w start.locked.machine is_first) new in
-    let told = c.check_and_end_boot-answers.result.2 in
-    let answers = c.in_ok-answers.field-0.items in
+    let held = ended.ends.ends in
+    let on : has_legal_steps held.spent.machine.watch ≡ true = sym ended.ends.is_legal ∙ c.if-not-seen.false in
+    let saw = saw_more (zone_of t) tells.run ended.before.locked.machine.watch held.leaves.steps held.spent.machine.watch tells.saw held.leaves.watched on in
+    let told = c.check_and_end_boot-answers.result.1 in
+    let steps = c.check_and_end_boot-answers.result.2.steps in
+    let answers = c.in_ok-answers.answers.items in
     let ending = end_text c.args.is_audited told in
     record {
-      answers = weakened c.tell_steps.result _ _ (λ text is. record {
+      answers = record {
         frames = t;
         stocks = w;
         start = start;
         end = ended.before;
-        run = legal.run;
+        run = tells.run;
         answers = answers;
         ending = ending;
         first = record {
@@ -58,12 +63,14 @@ returns g c =
           cpus = first;
         };
         served = replays.served;
-        legal = legal.saw.legal;
-        promise = legal.saw.promise;
-        history = legal.history;
-        ends = record { ended = told; ends = ended.ends; text_is = refl };
-        text_is = is ∙ (ap (λ (l : List ℕ). l ++ checked_text c.check_and_end_boot-answers.result.1) c.in_ok-told.ensures.told
-            ∙ (append_assoc answers ending (checked_text c.check_and_end_boot-answers.result.1)
-            ∙ ap (λ (n : ℕ). answers ++ (ending ++ checked_text n)) (ended.so.count ∙ legal.saw.count)));
-      }) c.tell_steps.ensures.told;
+        history = tells.history;
+        ends = record { ended = told; ends = held; text_is = refl };
+        whole = tells.run ++ held.leaves.steps;
+        whole_is = refl;
+        legal = saw.legal;
+        promise = saw.promise;
+        text_is = c.in_ok-tell_steps.ensures.told ∙ (ap (λ (l : List ℕ). l ++ checked_text steps) c.in_ok-told.ensures.told
+            ∙ (append_assoc answers ending (checked_text steps)
+            ∙ ap (λ (n : ℕ). answers ++ (ending ++ checked_text n)) (ended.ends.steps ∙ saw.count)));
+      };
     }

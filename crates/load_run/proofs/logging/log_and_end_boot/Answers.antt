@@ -1,0 +1,49 @@
+use Rattle.std.specs.Prelude.{codes}
+use Rattle.std.proofs.Common.{◌≡◌, ◌∙◌, ◌≤◌, ◌++◌, Bor, List, ℕ, drop, false, length, map, ap, subst, sym}
+use Rattle.cpu_part.specs.Cpus.{KnownCpu}
+use Rattle.step_watch.specs.Watched.{KnownWatch, has_whole_log, log_text}
+use Rattle.mem_system.proofs.Closing.{written_back}
+use Rattle.script_replay.specs.Lines.{SystemState, system_state}
+use Rattle.script_replay.specs.Terms.{terms}
+use Rattle.load_run.specs.Ending.{LeavesNothing}
+use Rattle.load_run.specs.Logs.{GrowsBy, LogsAll}
+use Rattle.load_run.proofs.Logged.{end_logged, on_both, wrote_more}
+use Rattle.load_run.proofs.logging.log_and_end_boot.Goals as goal
+
+pub log_end-ended-requires : goal.log_end-ended-requires
+log_end-ended-requires g c =
+    let leaves = c.leave_nothing-held.ensures.leaves in
+    let at = ap length (c.log-seen.ensures ∙ ap log_text c.watch.ensures) in
+    record {
+      within = λ whole. subst (λ (k : KnownWatch). length c.log-seen.result.now ≤ length (log_text k)) (sym c.watch-2.ensures)
+          (wrote_more c.log_lines-served.new.locked.machine.watch leaves.steps c.leave_nothing-held.result.1.machine.watch _ at leaves.watched
+          (ap has_whole_log (sym c.watch-2.ensures) ∙ whole));
+    }
+
+pub returns : goal.returns
+returns g c =
+    let t = g.N.BootName.frames in
+    let w = g.N.BootName.stocks in
+    let first = c.deref_mut.ensures.value in
+    let now = c.log_lines-served.new in
+    let long : length now.cpus ≡ length c.args.cpus.items = c.log_lines-served.auto.cpus ∙ ap length first in
+    let same = written_back c.args.cpus.len now.cpus c.args.cpus.items long (sym c.deref_mut.ensures.len ∙ ap length first) in
+    let texts = map (λ (text : Bor (List ℕ)). text.now) c.args.texts.now in
+    let s : SystemState = system_state c.args.locked c.args.cpus.items in
+    let e : SystemState = system_state now.locked now.cpus in
+    let held = c.leave_nothing-held.result.0 in
+    let spent = c.leave_nothing-held.result.1 in
+    let leaves : LeavesNothing t w e held spent =
+    subst (λ (cpus : List KnownCpu). LeavesNothing t w (system_state now.locked cpus) held spent) same c.leave_nothing-held.ensures.leaves in
+    let served : GrowsBy (LogsAll (terms t w false) texts c.args.lines.now s e) c.args.log.now.items now.log.items =
+    subst (λ (cpus : List KnownCpu). GrowsBy (LogsAll (terms t w false) texts c.args.lines.now (system_state c.args.locked cpus) e) c.args.log.now.items now.log.items)
+    first c.in_ok-served.ensures.logged in
+    let at = ap length (c.log-seen.ensures ∙ ap log_text c.watch.ensures) in
+    let seen = length c.log-seen.result.now in
+    record {
+      logged = on_both c.log_end-ended.result _ _ _ (λ whole added.
+          end_logged t w texts c.args.lines.now s e held spent seen c.args.log.now.items now.log.items c.log_end-ended.new.log.items leaves at
+          (ap has_whole_log (sym c.watch-2.ensures) ∙ whole)
+          (added ∙ ap (λ (k : KnownWatch). now.log.items ++ (codes "# end\n" ++ drop seen (log_text k))) c.watch-2.ensures) served)
+          c.log_end-ended.ensures.whole c.log_end-ended.ensures.added;
+    }

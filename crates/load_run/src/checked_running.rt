@@ -1,0 +1,108 @@
+//! What a boot answers to lines if each step is checked, those of the end included.
+
+ghost use Rattle.std.specs.Prelude.{◌≡◌, ◌++◌, All, IfOk, length, true};
+ghost use Rattle.script_replay.specs.History.{ReplaysCheckedOrStops};
+ghost use Rattle.script_replay.specs.Lines.{system_state};
+ghost use Rattle.script_replay.specs.Ranges.{LineIsThere};
+ghost use Rattle.script_replay.specs.Terms.{form_terms};
+ghost use Rattle.step_watch.specs.Watched.{has_legal_steps};
+ghost use Rattle.zone_sizes.specs.Config.{IsValidConfig};
+ghost use Rattle.load_run.specs.Answers.{AreCheckedAnswers, checked_text};
+ghost use Rattle.load_run.specs.Ending.{EndsSeenAfter};
+
+use crate::boot_end::{Ended, Seen, end_seen_boot};
+use crate::running::tell_end;
+use cpu_part::{BootName, Cpu, Tables};
+use mem_system::{Boot, Locked};
+use script_lines::line::Line;
+use script_replay::{Form, Stopped, replay_checked};
+use std::alloc::{AllocError, Global};
+use step_watch::Watch;
+use zone_sizes::config::Config;
+
+/// Why a boot whose steps are checked gives no answers.
+#[derive(Clone, Copy, Debug, PartialEq, Eq)]
+pub enum Unanswered {
+    /// Memory ran out.
+    NoMemory(AllocError),
+    /// A step of this line, counted from 1 among all lines of the script, isn't legal.
+    IllegalLine(usize),
+    /// The steps of the lines are legal, but one of the end isn't.
+    IllegalEnd,
+}
+
+impl From<AllocError> for Unanswered {
+    fn from(error: AllocError) -> Unanswered {
+        Unanswered::NoMemory(error)
+    }
+}
+
+impl From<Stopped> for Unanswered {
+    fn from(stopped: Stopped) -> Unanswered {
+        match stopped {
+            Stopped::NoMemory(error) => Unanswered::NoMemory(error),
+            Stopped::NotLegal(line) => Unanswered::IllegalLine(line),
+        }
+    }
+}
+
+/// Replays the lines as `replay_on_boot` does, with a check of each step that they and the end make. What they are
+/// answered is followed by the report of the end, if that is asked for, and by the number of all steps. The replay stops
+/// after the first line with a step that isn't legal, or if memory runs out: a boot that began has ended then too.
+pub fn check_on_boot<N: BootName>(
+    alloc: Global,
+    boot: Boot,
+    sizes: Config,
+    lines: &[Line<'_>],
+    form: Form,
+    is_audited: bool,
+) -> Result<Vec<u8>, Unanswered>
+    requires frames { boot.frames ≡ N.frames }
+    requires stocks { boot.stocks ≡ N.stocks }
+    requires sizes { boot.sizes ≡ sizes }
+    requires valid { IsValidConfig sizes }
+    requires lines { All (LineIsThere boot.sizes.frames boot.sizes.cpus) lines.now }
+    ensures answers { IfOk result (λ text. AreCheckedAnswers boot.sizes form is_audited lines.now text.items) }
+{
+    let watch = Watch::new(alloc, sizes)?;
+    let (mut locked, tables, cpus) = boot.into_parts::<N>(alloc)?;
+    locked.set_watch(watch);
+    let (answers, end, seen) = check_and_end_boot(alloc, locked, tables, cpus, lines, form);
+    let answers = answers?;
+    if !seen.is_legal {
+        return Err(Unanswered::IllegalEnd);
+    }
+    let told = tell_end(alloc, answers, end, is_audited)?;
+    Ok(tell_steps(alloc, told, seen.steps)?)
+}
+
+// Replays the lines with a check of each step, and ends the boot, also if the replay stopped.
+fn check_and_end_boot<N: BootName>(
+    alloc: Global,
+    mut locked: Locked<N>,
+    tables: Tables<N>,
+    mut cpus: Vec<Cpu<N>>,
+    lines: &[Line<'_>],
+    form: Form,
+) -> (Result<Vec<u8>, Stopped>, Ended, Seen)
+    requires count { length cpus.items ≡ N.frames.cpus }
+    requires lines { All (LineIsThere N.frames.frames N.frames.cpus) lines.now }
+    requires legal { has_legal_steps locked.machine.watch ≡ true }
+    ensures ends { EndsSeenAfter N.frames N.stocks
+        (λ left. ReplaysCheckedOrStops (form_terms N.frames N.stocks form) lines.now (system_state locked cpus.items) left
+        result.0) result.1 result.2 }
+{
+    let answers = replay_checked(alloc, &mut locked, &tables, &mut cpus, lines, form);
+    let (ended, seen) = end_seen_boot(locked, tables, cpus);
+    (answers, ended, seen)
+}
+
+// The answers, and after them the number of steps that were checked.
+fn tell_steps(alloc: Global, mut answers: Vec<u8>, steps: u64) -> Result<Vec<u8>, AllocError>
+    ensures told { IfOk result (λ text. text.items ≡ answers.items ++ checked_text steps) }
+{
+    let mut told = String::new(alloc);
+    writeln!(told, "checked {steps} steps")?;
+    answers.extend_from_slice(told.as_bytes())?;
+    Ok(answers)
+}
