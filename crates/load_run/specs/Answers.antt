@@ -23,7 +23,7 @@ use Rattle.script_threads.specs.Each.{TellsEach, workers_from}
 use Rattle.script_threads.specs.Runs.{lines_before_go}
 use Rattle.load_options.specs.declared.task.Options.{Options}
 use Rattle.load_options.specs.declared.task.Task.{Task}
-use Rattle.load_options.specs.declared.task.Task.TheVariants.{Replay, Steps, Run, Check, Lint, Version}
+use Rattle.load_options.specs.declared.task.Task.TheVariants.{Replay, Steps, Run, Check, Lint, Serve, Version}
 use Rattle.load_run.specs.Ending.{TellsEnd}
 use Rattle.load_run.specs.Refusals.{answered_status}
 
@@ -122,6 +122,7 @@ IsOnScript Run = ⊤
 IsOnScript Steps = ⊥
 IsOnScript Check = ⊥
 IsOnScript Lint = ⊥
+IsOnScript (Serve is_explained) = ⊥
 IsOnScript Version = ⊥
 
 -- what a boot with these sizes answers to the lines for this task, with numbers or without, and reports of its end if
@@ -136,6 +137,7 @@ AreAnswers Run sizes is_audited is_numbered lines text = AreThreadAnswers sizes 
 AreAnswers Steps sizes is_audited is_numbered lines text = ⊥
 AreAnswers Check sizes is_audited is_numbered lines text = ⊥
 AreAnswers Lint sizes is_audited is_numbered lines text = ⊥
+AreAnswers (Serve is_explained) sizes is_audited is_numbered lines text = ⊥
 AreAnswers Version sizes is_audited is_numbered lines text = ⊥
 
 -- These options are asked for, a boot takes their sizes, and the input is a script for them. The text is what a boot of

@@ -63,7 +63,15 @@ fn serve_input<I: Read, O: Write>(
     match command_names(alloc) {
         Ok(names) => match boot(alloc, options.sizes) {
             Ok(boot) => {
-                serve_on_boot::<Brand, I, O>(alloc, names, boot, options, is_explained, input, output)
+                serve_on_boot::<Brand, I, O>(
+                    alloc,
+                    names,
+                    boot,
+                    options,
+                    is_explained,
+                    input,
+                    output,
+                )
             }
             Err(BootFault::BadConfig) => Err(ProgramFault::BadConfig),
             Err(BootFault::NoMemory) => Err(ProgramFault::NoMemory(AllocError)),
