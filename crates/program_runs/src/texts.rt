@@ -10,7 +10,7 @@ use std::thread::Threads;
 const TEXTS: &str = r#"
 $ memcg
 error: 'memcg' requires a subcommand but one was not provided
-  [subcommands: replay, run, check, lint, help]
+  [subcommands: replay, run, check, lint, serve, help]
 
 Usage: memcg <COMMAND>
 
@@ -25,6 +25,7 @@ Commands:
   run     Runs the lines before `go` in the same way, and the later ones in one thread for each CPU
   check   Checks a log of steps: whether each step keeps the rules
   lint    Reports every bad line of a script: from which byte on it is bad, and why
+  serve   Answers each line of its input before it reads the next one
   help    Print this message or the help of the given subcommand(s)
 
 Options:
@@ -40,6 +41,7 @@ Commands:
   run     Runs the lines before `go` in the same way, and the later ones in one thread for each CPU
   check   Checks a log of steps: whether each step keeps the rules
   lint    Reports every bad line of a script: from which byte on it is bad, and why
+  serve   Answers each line of its input before it reads the next one
   help    Print this message or the help of the given subcommand(s)
 
 Options:
