@@ -131,8 +131,9 @@ fn named_task(name: &str, given: &ArgMatches<'_>) -> Option<Task>
     } else if name == "lint" {
         Some(Task::Lint)
     } else if name == "serve" {
-        let is_explained = is_set(given, "explain");
-        Some(Task::Serve { is_explained })
+        Some(Task::Serve {
+            is_explained: is_set(given, "explain"),
+        })
     } else {
         None
     }
