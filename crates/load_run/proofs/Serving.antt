@@ -210,3 +210,9 @@ report_begun options is_explained input before middle after ending (Err fault) e
   at_work = is.at_work;
   left = inr (inr (record { middle = middle; ending = ending; ends = ends; begun = is.begun }));
 }
+
+-- the output took a beginning of the report
+pub report_unwritten : {T : Type 0} (r : Result T ProgramFault) (before after : Option (List ℕ)) (report : List ℕ) → IfErr r (λ fault. fault ≡ Output)
+    → AppendsBeginning before after report → IfErr r (BeginsReport before after report)
+report_unwritten (Ok x) before after report is begun = tt
+report_unwritten (Err fault) before after report is begun = record { at_work = subst IsWorkFault (sym is) tt; begun = begun }
