@@ -10,7 +10,8 @@ use Rattle.mem_history.proofs.Told.{a_boot_tells}
 use Rattle.mem_system.specs.Boots.{IsSizedAs, first_cpus}
 use Rattle.mem_system.specs.Locked.{KnownLocked}
 use Rattle.script_replay.specs.Lines.{SystemState, system_state}
-use Rattle.script_replay.specs.Terms.{terms}
+use Rattle.script_replay.specs.Terms.{Terms, terms}
+use Rattle.line_server.specs.Known.{KnownServer, terms_of}
 use Rattle.line_server.specs.Sessions.{FailsSession, ServesSession}
 use Rattle.line_server.specs.declared.fault.ServeFault.{ServeFault}
 use Rattle.line_server.specs.declared.fault.ServeFault.TheVariants as serve
@@ -147,6 +148,15 @@ stops_at_work options is_explained input before after (Err BadConfig) left = abs
 stops_at_work options is_explained input before after (Err fault) left = left
 
 -- ---- on a boot
+
+-- what holds on the terms of a server holds on what it was made of
+pub as_made : (t : KnownTable) (w : Words) (server : KnownServer) (sizes : Config) (is_explained : Bool) (state : SystemState)
+    (P : Terms → Config → SystemState → Type 0) → server.sizes ≡ sizes → server.is_explained ≡ is_explained → server.state ≡ state
+    → P (terms_of t w server) server.sizes server.state → P (terms t w is_explained) sizes state
+as_made t w server sizes is_explained state P same explained stands is =
+    subst (λ (s : SystemState). P (terms t w is_explained) sizes s) stands
+    (subst (λ (c : Config). P (terms t w is_explained) c server.state) same
+    (subst (λ (b : Bool). P (terms t w b) server.sizes server.state) explained is))
 
 -- a boot as it is at first
 module _ (booted : Config) (options : Options) (is_explained : Bool) (t : KnownTable) (w : Words) (locked : KnownLocked) (cpus : List KnownCpu)
