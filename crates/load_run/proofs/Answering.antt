@@ -37,7 +37,7 @@ answers_written options (Some bytes) before after text status is written ended =
 -- what was read of an input is all of it, where it is a script, and is answered by what its lines are
 pub answered : (asked : Option Options) (input : Option (List ℕ)) (script : List ℕ) (options : Options) (lines : List Line) (text : List ℕ)
     → asked ≡ Some options → IfSome input (λ bytes. script ≡ take 1048577 bytes) → IsScript options.sizes script lines → IsValidConfig options.sizes
-    → AreAnswers options.task options.sizes options.is_audited options.is_numbered lines text → IfSome input (IsAnswered asked text)
+    → AreAnswers options.task options.sizes options.is_audited options.is_numbered script lines text → IfSome input (IsAnswered asked text)
 answered asked None script options lines text is_asked read is valid answers = tt
 answered asked (Some bytes) script options lines text is_asked read is valid answers =
     let fits = is.fits in
@@ -45,7 +45,14 @@ answered asked (Some bytes) script options lines text is_asked read is valid ans
     let taken = length-take 1048577 bytes in
     let whole : take 1048577 bytes ≡ bytes = take_all 1048577 bytes (omega arith) in
     let is_script : IsScript options.sizes bytes lines = subst (λ (all : List ℕ). IsScript options.sizes all lines) (read ∙ whole) is in
-    record { options = options; is_asked = is_asked; valid = valid; lines = lines; script = is_script; answers = answers }
+    record {
+      options = options;
+      is_asked = is_asked;
+      valid = valid;
+      lines = lines;
+      script = is_script;
+      answers = subst (λ (all : List ℕ). AreAnswers options.task options.sizes options.is_audited options.is_numbered all lines text) (read ∙ whole) answers;
+    }
 
 -- so does what follows from it
 pub weakened : {T E : Type 0} (r : Result T E) (P Q : T → Type 0) → ((x : T) → P x → Q x) → IfOk r P → IfOk r Q

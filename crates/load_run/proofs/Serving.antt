@@ -20,7 +20,7 @@ use Rattle.load_options.specs.declared.task.Options.{Options}
 use Rattle.load_run.specs.declared.fault.ProgramFault.{ProgramFault}
 use Rattle.load_run.specs.declared.fault.ProgramFault.TheVariants.{BadConfig, BadLogLine, IllegalEnd, IllegalStep, Input, NoMemory, Output, Script, Words}
 use Rattle.load_run.specs.declared.boot_end.Ended.{Ended}
-use Rattle.load_run.specs.Answers.{StandsAtFirst}
+use Rattle.load_run.specs.Starting.{StandsAtFirst}
 use Rattle.load_run.specs.Causes.{Written, written}
 use Rattle.load_run.specs.Ending.{EndsHeld, end_text}
 use Rattle.load_run.specs.Fault.{fault_text, status_of}

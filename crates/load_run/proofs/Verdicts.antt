@@ -21,7 +21,6 @@ use Rattle.load_run.specs.Checks.{Checks, FailsToCheck, IsEndOf, IsVerdict, Leav
 use Rattle.load_run.specs.Driving.{Drives, DrivesScript, DrivesTask, LintsAsked}
 use Rattle.load_run.specs.Lints.{Lints}
 use Rattle.load_run.specs.Sessions.{DrivesSession, SessionAsked}
-use Rattle.load_run.specs.Steps.{DrivesSteps}
 use Rattle.load_run.specs.Versions.{TellsVersion}
 use Rattle.load_run.specs.Fault.{IsWordsFault, fault_text, status_of}
 use Rattle.load_run.specs.Writing.{AppendsBeginning}
@@ -250,7 +249,7 @@ drives_words (Some options) input output faults faults_after fault status is end
     by_task Run = drives_badly (Some options) input output faults faults_after fault status (words_cause (Some options) input fault is) ended told
     by_task Check = for_check fault is ended told
     by_task Lint = record { options = options; is_asked = refl; lints = for_lint fault is ended told }
-    by_task Steps = record { quiet = refl }
+    by_task Steps = drives_badly (Some options) input output faults faults_after fault status (words_cause (Some options) input fault is) ended told
     by_task (Serve is_explained) = record { options = options; is_asked = refl; drives = for_serve is_explained fault is ended told }
     by_task Version = for_version fault is ended told
 
@@ -262,7 +261,7 @@ script_drives options input before after status on_script drives = go options.ta
     go : (task : Task) → IsOnScript task → DrivesTask task (Some options) input before after status
     go (Replay is_explained is_checked) on_script = drives
     go Run on_script = drives
-    go Steps on_script = absurd on_script
+    go Steps on_script = drives
     go Check on_script = absurd on_script
     go Lint on_script = absurd on_script
     go (Serve is_explained) on_script = absurd on_script
@@ -280,12 +279,6 @@ pub lint_drives : (options : Options) (input : Option (List ℕ)) (before after 
 lint_drives options input before after status is lints =
     let here : LintsAsked (Some options) input before after status = record { options = options; is_asked = refl; lints = lints } in
     subst (λ (task : Task). DrivesTask task (Some options) input before after status) (sym is) here
-
--- and the steps of a script
-pub steps_drive : (options : Options) (input : Option (List ℕ)) (before after : Written) (status : ℕ) → options.task ≡ Steps
-    → DrivesSteps before after status → Drives (Some options) input before after status
-steps_drive options input before after status is drives =
-    subst (λ (task : Task). DrivesTask task (Some options) input before after status) (sym is) drives
 
 -- and a session
 pub serve_drives : (options : Options) (is_explained : Bool) (input : Option (List ℕ)) (before after : Written) (status : ℕ)

@@ -9,9 +9,7 @@ use Rattle.zone_sizes.specs.Config.{IsValidConfig}
 use Rattle.step_rules.specs.After.{Run as StepRun, IsLegalRun}
 use Rattle.mem_core.specs.Promise.{AlwaysKeepsPromise}
 use Rattle.mem_machine.specs.Interleaving.{zone_of}
-use Rattle.mem_machine.specs.Machines.{IsFirst}
 use Rattle.mem_machine.specs.Telling.{TellsRun}
-use Rattle.mem_system.specs.Boots.{IsSizedAs, first_cpus}
 use Rattle.mem_system.specs.Locked.{IsQuiet}
 use Rattle.script_lines.specs.declared.line.Line.{Line}
 use Rattle.script_lines.specs.Script.{IsScript, longest_script}
@@ -25,18 +23,14 @@ use Rattle.load_options.specs.declared.task.Options.{Options}
 use Rattle.load_options.specs.declared.task.Task.{Task}
 use Rattle.load_options.specs.declared.task.Task.TheVariants.{Replay, Steps, Run, Check, Lint, Serve, Version}
 use Rattle.load_run.specs.Ending.{TellsEnd}
+use Rattle.load_run.specs.Logs.{AreLoggedSteps}
+-- what stands after a boot
+pub use Rattle.load_run.specs.Starting.{StandsAtFirst}
 use Rattle.load_run.specs.Refusals.{answered_status}
 
 -- what is read of an input: a byte more than a script may have, as far as there are so many
 abbrev pub bytes_read : List ℕ → List ℕ
 bytes_read input = take (longest_script + 1) input
-
--- the state after a boot with these sizes, under these tables: a new machine, and CPUs that did nothing yet
-pub record StandsAtFirst (sizes : Config) (table : KnownTable) (stock_table : Words) (first : SystemState) : Type 0 where
-  pub sized : IsSizedAs sizes table stock_table
-  pub machine : IsFirst table stock_table first.locked.machine
-  pub sizes_are : first.locked.sizes ≡ sizes
-  pub cpus : first.cpus ≡ first_cpus table stock_table 1 sizes.cpus
 
 -- What a boot with these sizes answers to the lines, one after the other, with why groups were killed or without, and
 -- then reports of its end. All steps of the lines together are one run from the boot on. Its history says of each line
@@ -119,26 +113,26 @@ pub record AreThreadAnswers (sizes : Config) (is_numbered is_audited : Bool) (li
 abbrev pub IsOnScript : Task → Type 0
 IsOnScript (Replay is_explained is_checked) = ⊤
 IsOnScript Run = ⊤
-IsOnScript Steps = ⊥
+IsOnScript Steps = ⊤
 IsOnScript Check = ⊥
 IsOnScript Lint = ⊥
 IsOnScript (Serve is_explained) = ⊥
 IsOnScript Version = ⊥
 
--- what a boot with these sizes answers to the lines for this task, with numbers or without, and reports of its end if
--- it is audited; the other tasks have no such answers
-abbrev pub AreAnswers : Task → (sizes : Config) (is_audited is_numbered : Bool) (lines : List Line) (text : List ℕ)
-    → Type 0
-AreAnswers (Replay is_explained false) sizes is_audited is_numbered lines text =
+-- what a boot with these sizes answers to the lines of the script for this task, with numbers or without, and reports of
+-- its end if it is audited, or the steps as a log; the other tasks have no such answers
+abbrev pub AreAnswers : Task → (sizes : Config) (is_audited is_numbered : Bool) (script : List ℕ) (lines : List Line)
+    (text : List ℕ) → Type 0
+AreAnswers (Replay is_explained false) sizes is_audited is_numbered script lines text =
     AreReplayAnswers sizes (form_of is_explained is_numbered) is_audited lines text
-AreAnswers (Replay is_explained true) sizes is_audited is_numbered lines text =
+AreAnswers (Replay is_explained true) sizes is_audited is_numbered script lines text =
     AreCheckedAnswers sizes (form_of is_explained is_numbered) is_audited lines text
-AreAnswers Run sizes is_audited is_numbered lines text = AreThreadAnswers sizes is_numbered is_audited lines text
-AreAnswers Steps sizes is_audited is_numbered lines text = ⊥
-AreAnswers Check sizes is_audited is_numbered lines text = ⊥
-AreAnswers Lint sizes is_audited is_numbered lines text = ⊥
-AreAnswers (Serve is_explained) sizes is_audited is_numbered lines text = ⊥
-AreAnswers Version sizes is_audited is_numbered lines text = ⊥
+AreAnswers Run sizes is_audited is_numbered script lines text = AreThreadAnswers sizes is_numbered is_audited lines text
+AreAnswers Steps sizes is_audited is_numbered script lines text = AreLoggedSteps sizes script lines text
+AreAnswers Check sizes is_audited is_numbered script lines text = ⊥
+AreAnswers Lint sizes is_audited is_numbered script lines text = ⊥
+AreAnswers (Serve is_explained) sizes is_audited is_numbered script lines text = ⊥
+AreAnswers Version sizes is_audited is_numbered script lines text = ⊥
 
 -- These options are asked for, a boot takes their sizes, and the input is a script for them. The text is what a boot of
 -- these sizes answers to the script for the task of the options. It ends with a report of the end, if they ask for one.
@@ -148,7 +142,7 @@ pub record IsAnswered (asked : Option Options) (text input : List ℕ) : Type 0 
   pub valid : IsValidConfig options.sizes
   pub lines : List Line
   pub script : IsScript options.sizes input lines
-  pub answers : AreAnswers options.task options.sizes options.is_audited options.is_numbered lines text
+  pub answers : AreAnswers options.task options.sizes options.is_audited options.is_numbered input lines text
 
 -- The options that are asked for have answers to the input, and a writer that held the bytes `before`, if they are
 -- known, was given all of them. The status is 3 if the options are strict and some answer is a refusal, else 0.

@@ -10,7 +10,6 @@ use Rattle.load_run.specs.Causes.{FailsAtWork, HasCause, IsMisused, Written}
 use Rattle.load_run.specs.Checks.{Checks}
 use Rattle.load_run.specs.Lints.{Lints}
 use Rattle.load_run.specs.Sessions.{SessionAsked}
-use Rattle.load_run.specs.Steps.{DrivesSteps}
 use Rattle.load_run.specs.Versions.{TellsVersion}
 
 -- What the options that are asked for, if any, and an input lead to: answers or a fault. If the input's bytes are known,
@@ -50,7 +49,7 @@ pub record LintsAsked (asked : Option Options) (input : Option (List ℕ)) (befo
 abbrev pub DrivesTask : Task → (asked : Option Options) (input : Option (List ℕ)) (before after : Written) (status : ℕ)
     → Type 0
 DrivesTask (Replay is_explained is_checked) asked input before after status = DrivesScript asked input before after status
-DrivesTask Steps asked input before after status = DrivesSteps before after status
+DrivesTask Steps asked input before after status = DrivesScript asked input before after status
 DrivesTask Run asked input before after status = DrivesScript asked input before after status
 DrivesTask Check asked input before after status = Checks input before after status
 DrivesTask Lint asked input before after status = LintsAsked asked input before after status

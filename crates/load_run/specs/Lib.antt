@@ -8,6 +8,6 @@ pub mod Lints
 pub mod Logs
 pub mod Refusals
 pub mod Sessions
-pub mod Steps
+pub mod Starting
 pub mod Versions
 pub mod Writing

@@ -11,8 +11,8 @@ use Rattle.script_lines.specs.declared.line.Line.TheVariants.{Go, At}
 use Rattle.script_lines.specs.Script.{texts_of}
 use Rattle.script_replay.specs.Lines.{InOrder, ServesLine, SystemState}
 use Rattle.script_replay.specs.Terms.{Terms, terms}
-use Rattle.load_run.specs.Answers.{StandsAtFirst}
 use Rattle.load_run.specs.Ending.{LeavesNothing}
+use Rattle.load_run.specs.Starting.{StandsAtFirst}
 
 -- a byte of a comment: one outside 32 to 126 is shown as `?`
 abbrev pub printed : ℕ → ℕ

@@ -16,7 +16,7 @@ use Rattle.load_options.specs.declared.task.Options.{Options}
 use Rattle.load_run.specs.declared.fault.ProgramFault.{ProgramFault}
 use Rattle.load_run.specs.declared.fault.ProgramFault.TheVariants.{Words, Script, BadLogLine, BadConfig}
 use Rattle.load_run.specs.declared.fault.ProgramFault.TheVariants.{IllegalStep, Input, Output, NoMemory}
-use Rattle.load_run.specs.Answers.{StandsAtFirst}
+use Rattle.load_run.specs.Starting.{StandsAtFirst}
 use Rattle.load_run.specs.Causes.{Written}
 use Rattle.load_run.specs.Ending.{TellsEnd}
 use Rattle.load_run.specs.Fault.{fault_text}

@@ -12,7 +12,11 @@ use std::alloc::{AllocError, Global};
 fn printed(byte: u8) -> u8
     ensures { result ≡ printed byte }
 {
-    if 32 <= byte && byte <= 126 { byte } else { b'?' }
+    if 32 <= byte && byte <= 126 {
+        byte
+    } else {
+        b'?'
+    }
 }
 
 // Adds `# line N: `.

@@ -18,7 +18,6 @@ pub mod reading;
 mod refusals;
 pub mod running;
 pub mod serving;
-pub mod stepping;
 pub mod thread_running;
 pub mod versions;
 pub mod writing;

@@ -1,4 +1,4 @@
-//! The steps of a script as a log: before the steps of each line stands a comment with its number and text.
+//! The steps of a script as a log. A comment with the number and text of each line precedes its steps.
 
 ghost use Rattle.std.specs.Prelude.{◌≡◌, ◌≤◌, ◌++◌, ◌∷◌, [], All, IfOk, OnOk, codes, drop, false, length, map, true};
 ghost use Rattle.log_lines.specs.Line.{zone_text};
@@ -22,7 +22,7 @@ use std::slice;
 use step_watch::Watch;
 use zone_sizes::config::Config;
 
-// The answers of the lines are not told.
+// The answers to the lines aren't written.
 const UNTOLD: Form = Form {
     is_explained: false,
     is_numbered: false,

@@ -21,11 +21,11 @@ use crate::checking::drive_check;
 use crate::fault::ProgramFault;
 use crate::fault_lines::tell_fault;
 use crate::linting::drive_lint;
+use crate::logging::steps_on_boot;
 use crate::reading::read_script;
 use crate::refusals::answered_status;
 use crate::running::replay_on_boot;
 use crate::serving::drive_serve;
-use crate::stepping::drive_steps;
 use crate::thread_running::run_by_threads;
 use crate::versions::drive_version;
 use crate::writing::write_whole;
@@ -72,7 +72,7 @@ pub fn drive<R: Threads + Wait + Sync, S: AsStr, I: Read, O: Write, F: Write>(
 }
 
 // Runs the task that is asked for.
-#[tactic(auto, using(crate::proofs::Verdicts::check_drives, crate::proofs::Verdicts::lint_drives, crate::proofs::Verdicts::script_drives, crate::proofs::Verdicts::serve_drives, crate::proofs::Verdicts::steps_drive, crate::proofs::Verdicts::version_drives))]
+#[tactic(auto, using(crate::proofs::Verdicts::check_drives, crate::proofs::Verdicts::lint_drives, crate::proofs::Verdicts::script_drives, crate::proofs::Verdicts::serve_drives, crate::proofs::Verdicts::version_drives))]
 fn drive_task<R: Threads + Wait + Sync, I: Read, O: Write, F: Write>(
     rt: &R,
     alloc: Global,
@@ -91,7 +91,7 @@ fn drive_task<R: Threads + Wait + Sync, I: Read, O: Write, F: Write>(
         Task::Lint => drive_lint(alloc, &options.sizes, input, output, faults),
         Task::Replay { .. } => drive_script(rt, alloc, options, input, output, faults),
         Task::Run => drive_script(rt, alloc, options, input, output, faults),
-        Task::Steps => drive_steps(output, faults),
+        Task::Steps => drive_script(rt, alloc, options, input, output, faults),
         Task::Serve { is_explained } => {
             drive_serve(alloc, options, is_explained, input, output, faults)
         }
@@ -136,7 +136,7 @@ fn answers_to<R: Threads + Wait + Sync, I: Read>(
 {
     let script = read_script(alloc, input)?;
     let lines = lines_of(alloc, &script, options)?;
-    answers_of(rt, alloc, options, &lines)
+    answers_of(rt, alloc, options, &script, &lines)
 }
 
 // The options that the words ask for.
@@ -166,23 +166,24 @@ fn lines_of<'a>(
     }
 }
 
-// What a new boot answers to the lines.
+// What a new boot answers to the lines of this script.
 fn answers_of<R: Threads + Wait + Sync>(
     rt: &R,
     alloc: Global,
     options: &Options,
+    script: &[u8],
     lines: &[Line<'_>],
 ) -> Result<Vec<u8>, ProgramFault>
     requires task { IsOnScript options.now.task }
     requires lines { All (LineIsThere options.now.sizes.frames options.now.sizes.cpus) lines.now }
     ensures answers { IfOk result (λ text.
-        AreAnswers options.now.task options.now.sizes options.now.is_audited options.now.is_numbered lines.now
+        AreAnswers options.now.task options.now.sizes options.now.is_audited options.now.is_numbered script.now lines.now
         text.items) }
     ensures valid { OnOk result (IsValidConfig options.now.sizes) }
     ensures fault { IfErr result (IsBootFault options.now.task options.now.sizes) }
 {
     match boot(alloc, options.sizes) {
-        Ok(boot) => answers_on_boot::<Brand, R>(rt, alloc, boot, options, lines),
+        Ok(boot) => answers_on_boot::<Brand, R>(rt, alloc, boot, options, script, lines),
         Err(BootFault::BadConfig) => Err(ProgramFault::BadConfig),
         Err(BootFault::NoMemory) => Err(ProgramFault::NoMemory(AllocError)),
     }
@@ -194,6 +195,7 @@ fn answers_on_boot<N: BootName + Send + Sync, R: Threads + Wait + Sync>(
     alloc: Global,
     boot: Boot,
     options: &Options,
+    script: &[u8],
     lines: &[Line<'_>],
 ) -> Result<Vec<u8>, ProgramFault>
     requires task { IsOnScript options.now.task }
@@ -203,7 +205,7 @@ fn answers_on_boot<N: BootName + Send + Sync, R: Threads + Wait + Sync>(
     requires valid { IsValidConfig options.now.sizes }
     requires lines { All (LineIsThere boot.sizes.frames boot.sizes.cpus) lines.now }
     ensures answers { IfOk result (λ text.
-        AreAnswers options.now.task boot.sizes options.now.is_audited options.now.is_numbered lines.now text.items) }
+        AreAnswers options.now.task boot.sizes options.now.is_audited options.now.is_numbered script.now lines.now text.items) }
     ensures fault { IfErr result (IsFailedTask options.now.task) }
 {
     match options.task {
@@ -229,8 +231,11 @@ fn answers_on_boot<N: BootName + Send + Sync, R: Threads + Wait + Sync>(
                 Err(error) => Err(ProgramFault::NoMemory(error)),
             }
         }
-        Task::Steps | Task::Check | Task::Lint | Task::Serve { .. } | Task::Version =>
-            unreachable!(),
+        Task::Steps => match steps_on_boot::<N>(alloc, boot, options.sizes, script, lines) {
+            Ok(log) => Ok(log),
+            Err(error) => Err(ProgramFault::NoMemory(error)),
+        },
+        Task::Check | Task::Lint | Task::Serve { .. } | Task::Version => unreachable!(),
     }
 }
 

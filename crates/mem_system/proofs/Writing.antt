@@ -17,7 +17,6 @@ use Rattle.mem_reclaim.specs.Rounds.{ReclaimsAmount}
 use Rattle.mem_reclaim.specs.Staying.{Keeps, MissedAll}
 use Rattle.mem_alloc.specs.Stepping.{ByStepsOfAny}
 use Rattle.mem_system.specs.declared.command.Reply.TheVariants.{Done, Refused}
-use Rattle.mem_system.specs.declared.command.Reply.{Reply}
 use Rattle.mem_system.specs.Files.{IsFileOf, RefusesValue, Writes, WritesTo}
 
 pub refused_limit : (value : List ℕ) (fault : Fault) → (fault ≡ BadNumber) ⊎ (fault ≡ BadLimit) → (fault ≡ BadNumber → IsTooGreat value)

@@ -68,7 +68,7 @@ fn run_named<N: BootName + Send + Sync, R: Threads + Wait + Sync, G: Gate + Sync
             requires { IsSync R.row × IsSync G.row × IsSync N.row × IsSend N.row × (length cpus.now < 2 ^ 31)
                 × All (LineNames N.frames.frames) lines.now }
             ensures { IfOk result (λ text. TellsEach (boot_tables N.frames N.stocks)
-                (workers_from 1 cpus.entry.now lines.entry.now is_numbered.entry) text.items) }
+                (workers_from 1 cpus.entry.now lines.entry.now is_numbered) text.items) }
         {
             let workers = start_all(scope, rt, alloc, system, lines, is_numbered, gate, cpus)?;
             gather(rt, alloc, workers)

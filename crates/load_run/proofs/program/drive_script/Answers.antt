@@ -9,7 +9,7 @@ returns-in-Ok-write_answers g c = record {
   drives = drives_well c.args.options.now _ _ _ _ c.in-Ok.answers.items _ _ c.in-Ok.ensures.answered c.deref.ensures.value
       c.in-Ok-write_answers.ensures.written
       (c.answered_status.ensures ∙ ap (answered_status c.args.options.now.is_strict c.args.options.now.is_numbered)
-      (c.deref-2.ensures.value ∙ sym c.deref.ensures.value));
+      (c.deref-in-Ok-write_answers.ensures.value ∙ sym c.deref.ensures.value));
 }
 
 pub returns-in-Ok : goal.returns-in-Ok

@@ -1,4 +1,4 @@
-use Rattle.std.proofs.Common.{◌≡◌, ◌∙◌, length, sym, ap, subst}
+use Rattle.std.proofs.Common.{◌∙◌, length, sym, ap, subst}
 use Rattle.frame_word.specs.Seats.{AreSeatsAt}
 use Rattle.stock_word.specs.Stock.{AreOf}
 use Rattle.mem_system.specs.Ends.{KnownSpent, Closes}
