@@ -27,7 +27,7 @@ use Rattle.load_run.specs.Writing.{AppendsBeginning}
 use Rattle.load_run.proofs.Causing.{words_cause}
 use Rattle.load_run.proofs.Driving.{drives_badly}
 use Rattle.load_run.proofs.Reporting.{lints_early}
-use Rattle.load_run.proofs.Serving.{drives_failed}
+use Rattle.load_run.proofs.SessionEnds.{drives_failed}
 use Rattle.load_run.proofs.Telling.{version_failed}
 
 -- both are known of the input

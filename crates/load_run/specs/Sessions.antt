@@ -14,8 +14,7 @@ use Rattle.line_server.specs.Sessions.{FailsSession, ServesSession, answers_of, 
 use Rattle.load_options.specs.declared.fault.LineFault.TheVariants as words
 use Rattle.load_options.specs.declared.task.Options.{Options}
 use Rattle.load_run.specs.declared.fault.ProgramFault.{ProgramFault}
-use Rattle.load_run.specs.declared.fault.ProgramFault.TheVariants.{Words, Script, BadLogLine, BadConfig}
-use Rattle.load_run.specs.declared.fault.ProgramFault.TheVariants.{IllegalStep, Input, Output, NoMemory}
+use Rattle.load_run.specs.declared.fault.ProgramFault.TheVariants as kinds
 use Rattle.load_run.specs.Starting.{StandsAtFirst}
 use Rattle.load_run.specs.Causes.{Written}
 use Rattle.load_run.specs.Ending.{TellsEnd}
@@ -55,9 +54,9 @@ pub record BeginsEnding (options : Options) (is_explained : Bool) (input before 
 
 -- the same fault of the program
 abbrev pub IsSameFault : ServeFault → ProgramFault → Type 0
-IsSameFault serve.Input Input = ⊤
-IsSameFault serve.Output Output = ⊤
-IsSameFault serve.NoMemory (NoMemory error) = ⊤
+IsSameFault serve.Input kinds.Input = ⊤
+IsSameFault serve.Output kinds.Output = ⊤
+IsSameFault serve.NoMemory (kinds.NoMemory error) = ⊤
 IsSameFault why fault = ⊥
 
 -- a session on a new boot failed with this fault
@@ -74,10 +73,10 @@ pub record FailsOnBoot (options : Options) (is_explained : Bool) (input before a
 
 -- a fault at work
 abbrev pub IsWorkFault : ProgramFault → Type 0
-IsWorkFault Input = ⊤
-IsWorkFault Output = ⊤
-IsWorkFault (NoMemory error) = ⊤
-IsWorkFault (Words (words.NoMemory error)) = ⊤
+IsWorkFault kinds.Input = ⊤
+IsWorkFault kinds.Output = ⊤
+IsWorkFault (kinds.NoMemory error) = ⊤
+IsWorkFault (kinds.Words (words.NoMemory error)) = ⊤
 IsWorkFault fault = ⊥
 
 -- a report wasn't written, or a beginning of it was
@@ -96,7 +95,7 @@ pub record LeavesSession (options : Options) (is_explained : Bool) (input before
 -- Why there is no session, or no more of it: a boot refuses the sizes, and nothing is written; or a fault at work.
 abbrev pub StopsSession : (options : Options) (is_explained : Bool) (input before after : Option (List ℕ))
     → ProgramFault → Type 0
-StopsSession options is_explained input before after BadConfig = (after ≡ before) × ¬ IsValidConfig options.sizes
+StopsSession options is_explained input before after kinds.BadConfig = (after ≡ before) × ¬ IsValidConfig options.sizes
 StopsSession options is_explained input before after fault =
     LeavesSession options is_explained input before after fault
 
@@ -110,7 +109,7 @@ pub record FailsToServe (options : Options) (is_explained : Bool) (input : Optio
 -- a boot refuses the sizes, and that was told, as far as the writer took it
 pub record RefusesSizes (options : Options) (before after : Option (List ℕ)) : Type 0 where
   pub refused : ¬ IsValidConfig options.sizes
-  pub told : AppendsBeginning before after (fault_text BadConfig)
+  pub told : AppendsBeginning before after (fault_text kinds.BadConfig)
 
 -- A session on an input ended with at most 2. With 0 it ended by `quit` or at the end of the input, and no fault is
 -- reported. With 1 it failed at its work. With 2 the sizes are refused, and nothing is written to the output.

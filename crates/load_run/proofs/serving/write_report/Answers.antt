@@ -1,9 +1,9 @@
 -- Serves the contract of `write_report`: what is written is the report of the end.
-use Rattle.std.proofs.Common.{◌≡◌, ◌∙◌, List, OnOk, ap, refl, subst, ◌++◌, [], ℕ}
+use Rattle.std.proofs.Common.{◌≡◌, ◌∙◌, List, OnOk, ap, subst, ◌++◌, ℕ}
 use Rattle.std.specs.Io.KnownBytes.{Appends}
 use Rattle.load_run.specs.Ending.{end_text}
 use Rattle.load_run.specs.Writing.{AppendsBeginning}
-use Rattle.load_run.proofs.Serving.{report_unwritten}
+use Rattle.load_run.proofs.SessionEnds.{report_unwritten}
 use Rattle.load_run.proofs.serving.write_report.Goals as goal
 
 pub returns-in-Ok-clause-written : goal.returns-in-Ok-clause-written

@@ -1,5 +1,5 @@
 -- What a session promises, from how it ended. Serves `drive_serve`, `serve_on_boot`.
-use Rattle.std.proofs.Common.{◌≡◌, ◌∙◌, ℕ, ◌≤◌, Bool, List, [], Option, Result, Ok, Err, IfErr, OnOk, ap, arith, inl, inr, refl, subst, sym}
+use Rattle.std.proofs.Common.{◌≡◌, ◌∙◌, ℕ, Bool, List, [], Option, Result, Ok, Err, IfErr, OnOk, arith, inl, inr, refl, subst, sym}
 use Rattle.std.specs.Io.KnownBytes.{Appends}
 use Rattle.frame_word.specs.Seats.{KnownTable}
 use Rattle.stock_word.specs.Stock.{Words}
@@ -18,70 +18,70 @@ use Rattle.line_server.specs.declared.fault.ServeFault.TheVariants as serve
 use Rattle.load_options.specs.declared.fault.LineFault.TheVariants as words
 use Rattle.load_options.specs.declared.task.Options.{Options}
 use Rattle.load_run.specs.declared.fault.ProgramFault.{ProgramFault}
-use Rattle.load_run.specs.declared.fault.ProgramFault.TheVariants.{BadConfig, BadLogLine, IllegalEnd, IllegalStep, Input, NoMemory, Output, Script, Words}
+use Rattle.load_run.specs.declared.fault.ProgramFault.TheVariants as kinds
 use Rattle.load_run.specs.declared.boot_end.Ended.{Ended}
 use Rattle.load_run.specs.Starting.{StandsAtFirst}
-use Rattle.load_run.specs.Causes.{Written, written}
+use Rattle.load_run.specs.Causes.{written}
 use Rattle.load_run.specs.Ending.{EndsHeld, end_text}
 use Rattle.load_run.specs.Fault.{fault_text, status_of}
-use Rattle.load_run.specs.Sessions.{BeginsReport, DrivesSession, EndsSession, FailsOnBoot, IsSameFault, IsWorkFault, LeavesSession, ServesInput, StopsSession}
+use Rattle.load_run.specs.Sessions.{BeginsReport, DrivesSession, EndsSession, IsSameFault, IsWorkFault, LeavesSession, ServesInput, StopsSession}
 use Rattle.load_run.specs.Writing.{AppendsBeginning}
 use Rattle.load_run.proofs.Starting.{boot_shown, parts_tied}
 
 -- a fault at work has status 1
 work_status : (fault : ProgramFault) → IsWorkFault fault → status_of fault ≡ 1
-work_status Input is = refl
-work_status Output is = refl
-work_status (NoMemory error) is = refl
-work_status (Words (words.NoMemory error)) is = refl
-work_status (Words (words.BadWords text)) is = absurd is
-work_status (Script f) is = absurd is
-work_status (BadLogLine n) is = absurd is
-work_status BadConfig is = absurd is
-work_status (IllegalStep n) is = absurd is
-work_status IllegalEnd is = absurd is
+work_status kinds.Input is = refl
+work_status kinds.Output is = refl
+work_status (kinds.NoMemory error) is = refl
+work_status (kinds.Words (words.NoMemory error)) is = refl
+work_status (kinds.Words (words.BadWords text)) is = absurd is
+work_status (kinds.Script f) is = absurd is
+work_status (kinds.BadLogLine n) is = absurd is
+work_status kinds.BadConfig is = absurd is
+work_status (kinds.IllegalStep n) is = absurd is
+work_status kinds.IllegalEnd is = absurd is
 
 -- a fault of a session is one at work
 pub same_at_work : (why : ServeFault) (fault : ProgramFault) → IsSameFault why fault → IsWorkFault fault
-same_at_work serve.Input Input is = tt
-same_at_work serve.Output Output is = tt
-same_at_work serve.NoMemory (NoMemory error) is = tt
-same_at_work serve.Input (NoMemory error) is = absurd is
-same_at_work serve.Input (Words f) is = absurd is
-same_at_work serve.Output (NoMemory error) is = absurd is
-same_at_work serve.Output (Words f) is = absurd is
-same_at_work serve.NoMemory (Words f) is = absurd is
-same_at_work serve.Input Output is = absurd is
-same_at_work serve.Output Input is = absurd is
-same_at_work serve.NoMemory Input is = absurd is
-same_at_work serve.NoMemory Output is = absurd is
-same_at_work why (Script f) is = absurd (none why is)
+same_at_work serve.Input kinds.Input is = tt
+same_at_work serve.Output kinds.Output is = tt
+same_at_work serve.NoMemory (kinds.NoMemory error) is = tt
+same_at_work serve.Input (kinds.NoMemory error) is = absurd is
+same_at_work serve.Input (kinds.Words f) is = absurd is
+same_at_work serve.Output (kinds.NoMemory error) is = absurd is
+same_at_work serve.Output (kinds.Words f) is = absurd is
+same_at_work serve.NoMemory (kinds.Words f) is = absurd is
+same_at_work serve.Input kinds.Output is = absurd is
+same_at_work serve.Output kinds.Input is = absurd is
+same_at_work serve.NoMemory kinds.Input is = absurd is
+same_at_work serve.NoMemory kinds.Output is = absurd is
+same_at_work why (kinds.Script f) is = absurd (none why is)
   where
-    none : (why : ServeFault) → IsSameFault why (Script f) → ⊥
+    none : (why : ServeFault) → IsSameFault why (kinds.Script f) → ⊥
     none serve.Input is = is
     none serve.Output is = is
     none serve.NoMemory is = is
-same_at_work why (BadLogLine n) is = absurd (none why is)
+same_at_work why (kinds.BadLogLine n) is = absurd (none why is)
   where
-    none : (why : ServeFault) → IsSameFault why (BadLogLine n) → ⊥
+    none : (why : ServeFault) → IsSameFault why (kinds.BadLogLine n) → ⊥
     none serve.Input is = is
     none serve.Output is = is
     none serve.NoMemory is = is
-same_at_work why BadConfig is = absurd (none why is)
+same_at_work why kinds.BadConfig is = absurd (none why is)
   where
-    none : (why : ServeFault) → IsSameFault why BadConfig → ⊥
+    none : (why : ServeFault) → IsSameFault why kinds.BadConfig → ⊥
     none serve.Input is = is
     none serve.Output is = is
     none serve.NoMemory is = is
-same_at_work why (IllegalStep n) is = absurd (none why is)
+same_at_work why (kinds.IllegalStep n) is = absurd (none why is)
   where
-    none : (why : ServeFault) → IsSameFault why (IllegalStep n) → ⊥
+    none : (why : ServeFault) → IsSameFault why (kinds.IllegalStep n) → ⊥
     none serve.Input is = is
     none serve.Output is = is
     none serve.NoMemory is = is
-same_at_work why IllegalEnd is = absurd (none why is)
+same_at_work why kinds.IllegalEnd is = absurd (none why is)
   where
-    none : (why : ServeFault) → IsSameFault why IllegalEnd → ⊥
+    none : (why : ServeFault) → IsSameFault why kinds.IllegalEnd → ⊥
     none serve.Input is = is
     none serve.Output is = is
     none serve.NoMemory is = is
@@ -119,7 +119,7 @@ drives_failed options is_explained input before after faults faults_after fault 
 
 -- the sizes are refused
 drives_refused : (options : Options) (is_explained : Bool) (input before after faults faults_after : Option (List ℕ)) (status : ℕ)
-    → StopsSession options is_explained input before after BadConfig → status ≡ 2 → AppendsBeginning faults faults_after (fault_text BadConfig)
+    → StopsSession options is_explained input before after kinds.BadConfig → status ≡ 2 → AppendsBeginning faults faults_after (fault_text kinds.BadConfig)
     → DrivesSession options is_explained input (written before faults) (written after faults_after) status
 drives_refused options is_explained input before after faults faults_after status stops two told = record {
   status_at_most = omega (arith, two);
@@ -135,7 +135,7 @@ pub drives_stopped : (options : Options) (is_explained : Bool) (input before aft
     (status : ℕ) → StopsSession options is_explained input before after fault → status ≡ status_of fault
     → AppendsBeginning faults faults_after (fault_text fault)
     → DrivesSession options is_explained input (written before faults) (written after faults_after) status
-drives_stopped options is_explained input before after faults faults_after BadConfig status stops ended told =
+drives_stopped options is_explained input before after faults faults_after kinds.BadConfig status stops ended told =
     drives_refused options is_explained input before after faults faults_after status stops ended told
 drives_stopped options is_explained input before after faults faults_after fault status stops ended told =
     drives_failed options is_explained input before after faults faults_after fault status stops ended told
@@ -144,7 +144,7 @@ drives_stopped options is_explained input before after faults faults_after fault
 pub stops_at_work : {T : Type 0} (options : Options) (is_explained : Bool) (input before after : Option (List ℕ)) (r : Result T ProgramFault)
     → IfErr r (LeavesSession options is_explained input before after) → IfErr r (StopsSession options is_explained input before after)
 stops_at_work options is_explained input before after (Ok x) left = tt
-stops_at_work options is_explained input before after (Err BadConfig) left = absurd left.at_work
+stops_at_work options is_explained input before after (Err kinds.BadConfig) left = absurd left.at_work
 stops_at_work options is_explained input before after (Err fault) left = left
 
 -- ---- on a boot
@@ -222,7 +222,7 @@ report_begun options is_explained input before middle after ending (Err fault) e
 }
 
 -- the output took a beginning of the report
-pub report_unwritten : {T : Type 0} (r : Result T ProgramFault) (before after : Option (List ℕ)) (report : List ℕ) → IfErr r (λ fault. fault ≡ Output)
+pub report_unwritten : {T : Type 0} (r : Result T ProgramFault) (before after : Option (List ℕ)) (report : List ℕ) → IfErr r (λ fault. fault ≡ kinds.Output)
     → AppendsBeginning before after report → IfErr r (BeginsReport before after report)
 report_unwritten (Ok x) before after report is begun = tt
 report_unwritten (Err fault) before after report is begun = record { at_work = subst IsWorkFault (sym is) tt; begun = begun }
