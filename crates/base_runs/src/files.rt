@@ -1,12 +1,23 @@
 //! The lines that the README of `control_files` shows, and what no script can ask.
 
-use crate::calls::groups_tell;
+use crate::calls::{charge_pages, group_stands, groups_tell};
 use control_files::file::{File, file_named, file_text};
 use control_files::flag::{read_flag, write_flag};
 use control_files::limit::{read_limit, write_limit};
 use group_charge::charges::Charges;
 use group_tree::fault::Fault;
+use group_tree::group::GroupId;
+use std::process::Abort;
 use std::test::Fail;
+
+// The file of the group has this text.
+fn file_reads(rt: &impl Abort, charges: &Charges, group: GroupId, file: File, text: &[u8]) {
+    group_stands(rt, charges.tree(), group);
+    match file_text(charges, group, file) {
+        Ok(found) => groups_tell(rt, found.as_bytes() == text),
+        Err(_) => groups_tell(rt, false),
+    }
+}
 
 // The lines of the README.
 #[test]
@@ -14,13 +25,10 @@ fn the_first_lines_of_use(rt: HostRuntime) -> Result<(), Fail> {
     let mut charges = Charges::new(rt.alloc())?;
     let web = charges.make(b"/web")?;
     charges.set_max(web, read_limit(b"1M\n")?);
-    assert!(rt; charges.fits(5));
-    charges.try_charge(web, 5)?;
-    let text = file_text(&charges, web, File::Max)?;
-    assert_eq!(rt; text.as_bytes(), b"1048576\n".as_slice());
-    let text = file_text(&charges, web, File::Current)?;
-    assert_eq!(rt; text.as_bytes(), b"20480\n".as_slice());
-    assert_eq!(rt; read_limit(b"1 M"), Err(Fault::BadLimit));
+    charge_pages(&rt, &mut charges, web, 5, Ok(()));
+    file_reads(&rt, &charges, web, File::Max, b"1048576\n");
+    file_reads(&rt, &charges, web, File::Current, b"20480\n");
+    groups_tell(&rt, read_limit(b"1 M") == Err(Fault::BadLimit));
     Ok(())
 }
 

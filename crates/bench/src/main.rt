@@ -3,17 +3,12 @@
 //! most a few times and only its name is printed, so that the stored run never varies.
 #![tactic(auto)]
 
-mod charges;
 mod costs;
-mod lists;
 mod pins;
 mod prepaid;
-mod reclaim;
 mod references;
-mod script;
 mod system;
 mod tables;
-mod zone;
 
 use crate::costs::Pace;
 use crate::tables::{TABLES, table_named, tell_table};
@@ -50,9 +45,7 @@ fn tell_named<R: Threads + Wait + Print + Clock + Alloc<A = Global> + Sync>(
     for word in words {
         match table_named(word.as_str()) {
             Some(table) => tell_table(rt, table, Pace::Timed { unit })?,
-            None => println!(rt;
-                "{word}: no table; there are references, prepaid, lists, charges, zone, system, reclaim and script"
-            )?,
+            None => println!(rt; "{word}: no table; there are references, prepaid and system")?,
         }
     }
     Ok(())

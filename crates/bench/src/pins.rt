@@ -19,8 +19,8 @@ fn put_first<N: BootName>(tables: &Tables<N>, cpu: &mut Cpu<N>) -> Option<Frame>
     Some(first)
 }
 
-/// Puts all pins of the CPU.
-pub fn put_all<N: BootName>(tables: &Tables<N>, cpu: &mut Cpu<N>) {
+// Puts all pins of the CPU.
+fn put_all<N: BootName>(tables: &Tables<N>, cpu: &mut Cpu<N>) {
     for _ in 0..cpu.pins() {
         let _ = put_first(tables, cpu);
     }

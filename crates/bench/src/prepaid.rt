@@ -6,7 +6,7 @@ ghost use Rattle.stock_word.specs.Stock.{IsProcessor};
 use crate::costs::{Pace, Row, Subject, tell_rows};
 use crate::system::{alloc, settle};
 use anyhow::{Context, Result, ensure};
-use cpu_part::{BootName, Cpu, Fast};
+use cpu_part::{BootName, Cpu, Fast, Tables};
 use group_tree::group::GroupId;
 use mem_system::System;
 use std::alloc::Global;
@@ -75,6 +75,14 @@ const ROUNDS: [Rounds; 3] = [
     },
 ];
 
+// Takes the front of the list, if the stock pays for it, and drops it.
+#[inline(always)]
+fn take_and_drop<N: BootName>(tables: &Tables<N>, cpu: &mut Cpu<N>, group: GroupId) {
+    if let Fast::Got(frame) = cpu.alloc_fast(tables, group.number()) {
+        let _ = cpu.drop_fresh(tables, frame);
+    }
+}
+
 // Makes this many rounds. If a round can't take a frame, it drops none.
 fn go_through<N: BootName, R: Wait>(
     rt: &R,
@@ -85,9 +93,7 @@ fn go_through<N: BootName, R: Wait>(
     visit_every: u32,
 ) {
     for number in 0..count {
-        if let Fast::Got(frame) = cpu.alloc_fast(system.tables(), group.number()) {
-            let _ = cpu.drop_fresh(system.tables(), frame);
-        }
+        take_and_drop(system.tables(), cpu, group);
         if number.checked_rem(visit_every) == Some(0) {
             settle(rt, system, cpu, 1);
         }

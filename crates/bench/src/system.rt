@@ -36,8 +36,8 @@ const BIG: Config = Config {
     stock: 64,
 };
 
-/// The path of the group of depth 1.
-pub const SHALLOW: &[u8] = b"/a";
+// The path of the group of depth 1.
+const SHALLOW: &[u8] = b"/a";
 
 // Paths of groups, each below the one before.
 const PATHS: [&[u8]; 8] = [
@@ -67,13 +67,8 @@ fn visit_here<N: BootName, R: Wait>(
     system.visit_into(rt, cpu, cmd, &NoGate, reply);
 }
 
-/// Serves the command by a visit, and returns its reply.
-pub fn visit<N: BootName, R: Wait>(
-    rt: &R,
-    system: &System<N>,
-    cpu: &mut Cpu<N>,
-    cmd: &Cmd<'_>,
-) -> Reply
+// Serves the command by a visit, and returns its reply.
+fn visit<N: BootName, R: Wait>(rt: &R, system: &System<N>, cpu: &mut Cpu<N>, cmd: &Cmd<'_>) -> Reply
     requires { IsOfZone N.frames cmd.now }
 {
     let mut reply = Reply::Done;
@@ -101,8 +96,8 @@ fn settle_once<N: BootName, R: Wait>(rt: &R, system: &System<N>, cpu: &mut Cpu<N
     matches!(reply, Reply::Done)
 }
 
-/// Makes the group of the path.
-pub fn make<N: BootName, R: Wait>(
+// Makes the group of the path.
+fn make<N: BootName, R: Wait>(
     rt: &R,
     system: &System<N>,
     cpu: &mut Cpu<N>,
@@ -279,8 +274,8 @@ fn tell_on<N: BootName + Send + Sync, R: Threads + Wait + Print + Clock + Sync>(
     }
 }
 
-/// Shuts the system down, in which no CPU has a pin.
-pub fn end<N: BootName, R: Wait>(rt: &R, mut system: System<N>, mut cpus: Vec<Cpu<N>>)
+// Shuts the system down, in which no CPU has a pin.
+fn end<N: BootName, R: Wait>(rt: &R, mut system: System<N>, mut cpus: Vec<Cpu<N>>)
     requires { length cpus.items ≡ N.frames.cpus }
 {
     for _ in rt.forever() {

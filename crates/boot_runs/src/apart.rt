@@ -2,7 +2,7 @@
 //! a pin.
 ghost use Rattle.std.specs.Prelude.{◌≡◌, ◌<◌, length};
 
-use crate::life::{SIZES, answers, ends, holds, visit};
+use crate::life::{SIZES, answers, ends, holds};
 use cpu_part::{BootName, Cpu};
 use frame_word::{Frame, Get};
 use group_tree::group::GroupId;
@@ -12,43 +12,12 @@ use std::marker::Brand;
 use std::process::Abort;
 use std::sync::Wait;
 
-const FILES: [&[u8]; 6] = [
-    b"memory.current",
-    b"memory.max",
-    b"memory.peak",
-    b"memory.events",
-    b"memory.events.local",
-    b"memory.oom.group",
-];
-
-// What a host sees: all frames, the free blocks, the files of `/a`, and whether some groups exist.
+// What a host sees: all frames with the usage of the groups, the free blocks, and the number of `/a`.
 #[derive(Drop)]
 struct Seen {
     frames: Vec<u8>,
     blocks: Vec<u8>,
-    files: Vec<u8>,
     group: Option<GroupId>,
-    other: Option<GroupId>,
-}
-
-// The files of `/a`, one after another.
-fn read_files<N: BootName, R: Wait + Abort>(
-    rt: &R,
-    alloc: Global,
-    system: &System<N>,
-    cpu: &mut Cpu<N>,
-) -> Vec<u8> {
-    let path: &[u8] = b"/a";
-    let mut files = Vec::new(alloc);
-    for file in FILES {
-        match visit(rt, system, cpu, &Cmd::Read { path, file }) {
-            Reply::Text(found) => files
-                .extend_from_slice(found.as_bytes())
-                .expect(rt, "memory"),
-            _ => panic!(rt; "no text"),
-        }
-    }
-    files
 }
 
 // What the first CPU sees.
@@ -59,14 +28,11 @@ fn sees<N: BootName, R: Wait + Abort>(
     cpus: &mut [Cpu<N>],
 ) -> Seen {
     let cpu = cpus.first_mut().expect(rt, "a CPU");
-    let group: &[u8] = b"/a";
-    let other: &[u8] = b"/made";
+    let path: &[u8] = b"/a";
     Seen {
         frames: system.show(rt, alloc, cpu).expect(rt, "memory"),
         blocks: system.blocks(rt, alloc, cpu).expect(rt, "memory"),
-        files: read_files(rt, alloc, system, cpu),
-        group: system.find(rt, group),
-        other: system.find(rt, other),
+        group: system.find(rt, path),
     }
 }
 
@@ -74,8 +40,7 @@ fn sees<N: BootName, R: Wait + Abort>(
 fn are_same(rt: &impl Abort, one: &Seen, other: &Seen) {
     holds(rt, one.frames.as_slice() == other.frames.as_slice());
     holds(rt, one.blocks.as_slice() == other.blocks.as_slice());
-    holds(rt, one.files.as_slice() == other.files.as_slice());
-    holds(rt, one.group == other.group && one.other == other.other);
+    holds(rt, one.group == other.group);
 }
 
 fn first_frame<N: BootName>(rt: &impl Abort, system: &System<N>) -> Frame

@@ -1,4 +1,4 @@
-//! A boot of 16 frames and two CPUs starts. Visits make, read, limit and remove a group.
+//! A boot of 16 frames and two CPUs starts. Visits make, limit, read and remove a group.
 ghost use Rattle.std.specs.Prelude.{◌≡◌, ◌<◌, length};
 ghost use Rattle.mem_system.specs.Commands.{IsOfZone};
 
@@ -43,14 +43,9 @@ pub fn holds(rt: &impl Abort, is: bool) {
     assert!(rt; is);
 }
 
-/// The reply to the CPU in a visit. This function drops the clauses of `System::visit`, so a caller that needs only
-/// the reply doesn't pay for them.
-pub fn visit<N: BootName, R: Wait>(
-    rt: &R,
-    system: &System<N>,
-    cpu: &mut Cpu<N>,
-    cmd: &Cmd<'_>,
-) -> Reply
+// The reply to the CPU in a visit. This function drops the clauses of `System::visit`, so a caller that needs only
+// the reply doesn't pay for them.
+fn visit<N: BootName, R: Wait>(rt: &R, system: &System<N>, cpu: &mut Cpu<N>, cmd: &Cmd<'_>) -> Reply
     requires { IsOfZone N.frames cmd.now }
 {
     system.visit(rt, cpu, cmd)
@@ -70,65 +65,34 @@ pub fn answers<N: BootName, R: Wait + Abort>(
     holds(rt, told == *reply);
 }
 
-// The file of `/a` reads as this text.
-fn reads<N: BootName, R: Wait + Abort>(
+// The limit of `/a` reads as this text.
+fn reads_limit<N: BootName, R: Wait + Abort>(
     rt: &R,
     system: &System<N>,
     cpu: &mut Cpu<N>,
-    file: &[u8],
     text: &[u8],
 ) {
     let path: &[u8] = b"/a";
+    let file: &[u8] = b"memory.max";
     match visit(rt, system, cpu, &Cmd::Read { path, file }) {
         Reply::Text(found) => holds(rt, found.as_bytes() == text),
         _ => panic!(rt; "no text"),
     }
 }
 
-// The text of an events file with these counts of `max`, `oom`, `oom_kill` and `oom_group_kill`.
-fn events_text(rt: &impl Abort, alloc: Global, counts: [u64; 4]) -> String {
-    let [max, oom, kills, sets] = counts;
-    format!(in alloc;
-        "low 0\nhigh 0\nmax {max}\noom {oom}\noom_kill {kills}\noom_group_kill {sets}\n"
-    ).expect(rt, "memory")
-}
-
-// CPU 1 makes the group, limits it and reads its files.
-fn makes_and_reads<N: BootName, R: Wait + Abort>(
-    rt: &R,
-    alloc: Global,
-    system: &System<N>,
-    cpu: &mut Cpu<N>,
-) {
+// CPU 1 makes the group, limits it and reads its limit.
+fn makes_and_reads<N: BootName, R: Wait + Abort>(rt: &R, system: &System<N>, cpu: &mut Cpu<N>) {
     let path: &[u8] = b"/a";
     let file: &[u8] = b"memory.max";
     let value: &[u8] = b"8K";
     let group = GroupId::of(1).expect(rt, "a group");
-    let exists = Reply::Refused(Fault::Exists);
     holds(rt, system.find(rt, path).is_none());
     answers(rt, system, cpu, &Cmd::Mkdir { path }, &Reply::Group(group));
     holds(rt, system.find(rt, path) == Some(group));
-    answers(rt, system, cpu, &Cmd::Mkdir { path }, &exists);
-    reads(rt, system, cpu, b"memory.max", b"max\n");
+    reads_limit(rt, system, cpu, b"max\n");
     let write = Cmd::Write { path, file, value };
     answers(rt, system, cpu, &write, &Reply::Done);
-    reads(rt, system, cpu, b"memory.max", b"8192\n");
-    reads_nothing(rt, alloc, system, cpu);
-}
-
-// Nothing was charged to the group.
-fn reads_nothing<N: BootName, R: Wait + Abort>(
-    rt: &R,
-    alloc: Global,
-    system: &System<N>,
-    cpu: &mut Cpu<N>,
-) {
-    reads(rt, system, cpu, b"memory.current", b"0\n");
-    reads(rt, system, cpu, b"memory.peak", b"0\n");
-    reads(rt, system, cpu, b"memory.oom.group", b"0\n");
-    let events = events_text(rt, alloc, [0, 0, 0, 0]);
-    reads(rt, system, cpu, b"memory.events", events.as_bytes());
-    reads(rt, system, cpu, b"memory.events.local", events.as_bytes());
+    reads_limit(rt, system, cpu, b"8192\n");
 }
 
 // All frames are free, and the group's usage is 0.
@@ -150,30 +114,10 @@ fn tells<N: BootName, R: Wait + Abort>(
 // CPU 2 finds the group and removes it.
 fn takes_out<N: BootName, R: Wait + Abort>(rt: &R, system: &System<N>, cpu: &mut Cpu<N>) {
     let path: &[u8] = b"/a";
-    holds(rt, system.find(rt, path) == GroupId::of(1));
     let no_group = Reply::Refused(Fault::NoGroup);
+    holds(rt, system.find(rt, path) == GroupId::of(1));
     answers(rt, system, cpu, &Cmd::Rmdir { path }, &Reply::Done);
     answers(rt, system, cpu, &Cmd::Rmdir { path }, &no_group);
-    let root: &[u8] = b"/";
-    let bad_name = Reply::Refused(Fault::BadName);
-    answers(rt, system, cpu, &Cmd::Rmdir { path: root }, &bad_name);
-    keeps_none(rt, system, cpu);
-}
-
-// Frame 3 is free and isn't a unit.
-fn keeps_none<N: BootName, R: Wait + Abort>(rt: &R, system: &System<N>, cpu: &mut Cpu<N>) {
-    let frame = system
-        .tables()
-        .frames
-        .frame(3)
-        .expect(rt, "a frame")
-        .number();
-    answers(rt, system, cpu, &Cmd::Owner { frame }, &Reply::Free);
-    let refused = Reply::Refused(Fault::NotKept);
-    answers(rt, system, cpu, &Cmd::Touch { frame }, &refused);
-    answers(rt, system, cpu, &Cmd::Dirty { frame }, &refused);
-    answers(rt, system, cpu, &Cmd::Clean { frame }, &refused);
-    answers(rt, system, cpu, &Cmd::Release { frame }, &refused);
 }
 
 // The reply to a settle in a visit with this gate.
@@ -265,7 +209,7 @@ fn visits<N: BootName, R: Wait + Abort>(
 ) {
     for (at, cpu) in cpus.iter_mut().enumerate() {
         if at == 0 {
-            makes_and_reads(rt, alloc, system, cpu);
+            makes_and_reads(rt, system, cpu);
             tells(rt, alloc, system, cpu);
         } else {
             takes_out(rt, system, cpu);

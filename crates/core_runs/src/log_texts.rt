@@ -8,54 +8,49 @@ use std::alloc::{AllocError, Global};
 use std::process::Abort;
 use step_rules::step::{Action, Answer, Step};
 
-// Lines that have each answer, and each action except those of `OTHER_ENTRIES`.
-const ENTRIES: [&str; 36] = [
-    "1 lock > done",
-    "1 unlock > done",
-    "0 open 1 > done",
-    "0 shut 64 > done",
-    "2 get 5 > held",
-    "2 get 5 > zero",
-    "2 get 5 > full",
-    "1 put 4294967295 > left 254",
-    "1 put 0 > last",
-    "0 freeze 7 1 > missed",
-    "0 unfreeze 7 255 > done",
-    "0 pass-out 3 1 > done",
-    "1 take-in 3 > illegal",
-    "1 pass-back 3 > done",
-    "0 collect 3 1 > done",
-    "1 consume 63 > took",
-    "1 consume 0 > empty",
-    "1 consume 1 > other-group",
-    "1 consume 1 > drained",
-    "1 credit 3 > back",
-    "1 report 4 > done",
-    "0 absorb 1 > pages 18446744073709551615",
-    "0 fill 1 2 64 > done",
-    "0 drain 1 > pages 0",
-    "0 grant 1 4 > granted",
-    "0 grant 1 4 > over 0",
-    "0 ungrant 1 4 > done",
-    "0 place 1 3 > placed 8 3",
-    "0 place 1 10 > no-block",
-    "0 limit 1 max > done",
-    "0 limit 1 4294967295 > done",
-    "0 flag 1 0 > done",
-    "0 flag 1 1 > done",
-    "0 make /a/b > number 63",
-    "0 remove 1 > done",
-    "4294967295 kill 1 > illegal",
-];
-
-// Lines for the actions that `ENTRIES` leaves out.
-const OTHER_ENTRIES: [&str; 5] = [
-    "0 publish 3 > done",
-    "0 return 3 > done",
-    "0 note-max 1 > done",
-    "0 note-oom 1 > done",
-    "0 group-kill 1 > done",
-];
+// Lines that have each action and each answer. (An array would make the check dearer.)
+const ENTRIES: &str = "\
+1 lock > done
+1 unlock > done
+0 open 1 > done
+0 shut 64 > done
+2 get 5 > held
+2 get 5 > zero
+2 get 5 > full
+1 put 4294967295 > left 254
+1 put 0 > last
+0 freeze 7 1 > missed
+0 unfreeze 7 255 > done
+0 pass-out 3 1 > done
+1 take-in 3 > illegal
+1 pass-back 3 > done
+0 collect 3 1 > done
+1 consume 63 > took
+1 consume 0 > empty
+1 consume 1 > other-group
+1 consume 1 > drained
+1 credit 3 > back
+1 report 4 > done
+0 absorb 1 > pages 18446744073709551615
+0 fill 1 2 64 > done
+0 drain 1 > pages 0
+0 grant 1 4 > granted
+0 grant 1 4 > over 0
+0 ungrant 1 4 > done
+0 place 1 3 > placed 8 3
+0 place 1 10 > no-block
+0 limit 1 max > done
+0 limit 1 4294967295 > done
+0 flag 1 0 > done
+0 flag 1 1 > done
+0 make /a/b > number 63
+0 remove 1 > done
+4294967295 kill 1 > illegal
+0 publish 3 > done
+0 return 3 > done
+0 note-max 1 > done
+0 note-oom 1 > done
+0 group-kill 1 > done";
 
 // The line is read as a step, and this step is written as the same line.
 fn is_entry(rt: &(impl Abort + AllocGlobal), text: &str) -> Result<(), AllocError> {
@@ -70,10 +65,7 @@ fn is_entry(rt: &(impl Abort + AllocGlobal), text: &str) -> Result<(), AllocErro
 
 #[test]
 fn reads_and_writes_each_action_and_answer(rt: HostRuntime) -> Result<(), AllocError> {
-    for text in ENTRIES {
-        is_entry(&rt, text)?;
-    }
-    for text in OTHER_ENTRIES {
+    for text in ENTRIES.split('\n') {
         is_entry(&rt, text)?;
     }
     Ok(())
@@ -123,57 +115,56 @@ fn the_zone_has_a_line(rt: HostRuntime) -> Result<(), AllocError> {
     Ok(())
 }
 
-// Lines that no log has.
-const BAD_LINES: [&str; 44] = [
-    " ",
-    " 1 lock > done",
-    "1  lock > done",
-    "1 lock > done ",
-    "1 lock >  done",
-    "1 lock > done\r",
-    "1\tlock > done",
-    "1 lock",
-    "1 lock >",
-    "1 lock done",
-    "1 lock > done done",
-    "1 lock 1 > done",
-    "lock > done",
-    "01 lock > done",
-    "-1 lock > done",
-    "+1 lock > done",
-    "4294967296 lock > done",
-    "18446744073709551616 lock > done",
-    "1 Lock > done",
-    "1 show > done",
-    "1 get > held",
-    "1 get x > held",
-    "1 get 05 > held",
-    "1 get 4294967296 > held",
-    "1 consume 64 > took",
-    "0 freeze 7 > last",
-    "0 place 1 11 > no-block",
-    "0 limit 1 Max > done",
-    "0 limit 1 4294967296 > done",
-    "0 limit 1 > done",
-    "0 flag 1 2 > done",
-    "0 flag 1 00 > done",
-    "0 make > number 1",
-    "0 make  > number 1",
-    "0 make /\x7f > number 1",
-    "0 make /a > number 64",
-    "0 grant 1 4 > over",
-    "0 drain 1 > pages 18446744073709551616",
-    "zone 0 1",
-    "zone 1 0",
-    "zone 1048577 1",
-    "zone 16 65",
-    "zone 16",
-    "zone 16 02",
-];
+// Lines that no log has. A space at an end of one is `\x20`.
+const BAD_LINES: &str = "\
+\x20
+\x201 lock > done
+1  lock > done
+1 lock > done\x20
+1 lock >  done
+1 lock > done\r
+1\tlock > done
+1 lock
+1 lock >
+1 lock done
+1 lock > done done
+1 lock 1 > done
+lock > done
+01 lock > done
+-1 lock > done
++1 lock > done
+4294967296 lock > done
+18446744073709551616 lock > done
+1 Lock > done
+1 show > done
+1 get > held
+1 get x > held
+1 get 05 > held
+1 get 4294967296 > held
+1 consume 64 > took
+0 freeze 7 > last
+0 place 1 11 > no-block
+0 limit 1 Max > done
+0 limit 1 4294967296 > done
+0 limit 1 > done
+0 flag 1 2 > done
+0 flag 1 00 > done
+0 make > number 1
+0 make  > number 1
+0 make /\x7f > number 1
+0 make /a > number 64
+0 grant 1 4 > over
+0 drain 1 > pages 18446744073709551616
+zone 0 1
+zone 1 0
+zone 1048577 1
+zone 16 65
+zone 16
+zone 16 02";
 
 #[test]
 fn refuses_what_no_log_has(rt: HostRuntime) {
-    for text in BAD_LINES {
+    for text in BAD_LINES.split('\n') {
         assert!(rt; parse_line(text.as_bytes()).is_none(), "{text}");
     }
 }

@@ -1,6 +1,5 @@
 -- Pins that are put, one after the other, and the steps that the watch takes of them.
-use Rattle.std.proofs.Common.{◌≡◌, ℕ, ◌+◌, ◌<◌, ◌≤◌, List, [], ◌∷◌, ◌++◌, length, refl, sym, ap, ◌∙◌, subst, arith}
-use Rattle.std.specs.Prelude.{All}
+use Rattle.std.proofs.Common.{◌≡◌, ℕ, ◌<◌, List, [], ◌∷◌, ◌++◌, length, refl, sym, ap, subst, arith}
 use Rattle.std.proofs.lemmas.List.Sums.{sum_by-append}
 use Rattle.frame_word.specs.Seats.{KnownTable}
 use Rattle.stock_word.specs.Stock.{Words}
@@ -10,7 +9,7 @@ use Rattle.cpu_part.specs.Cpus.{KnownCpu}
 use Rattle.cpu_part.specs.Calls.{UnpinAnswers}
 use Rattle.cpu_part.proofs.Tied.{length_parted}
 use Rattle.step_rules.specs.declared.step.Action.TheVariants as step
-use Rattle.step_watch.specs.Watched.{KnownWatch, Watches, cpu_makes}
+use Rattle.step_watch.specs.Watched.{Watches, cpu_makes}
 use Rattle.step_watch.proofs.Watching.{watches_both, watches_none}
 use Rattle.mem_machine.specs.Machines.{KnownMachine, VisitState, visit_state}
 use Rattle.mem_history.specs.Leading.{put_answer}

@@ -1,5 +1,5 @@
 -- What a request for the version promises, from what the writers took. Serves `drive_version`.
-use Rattle.std.proofs.Common.{◌≡◌, ◌∙◌, ℕ, ◌≤◌, List, Option, ap, arith, refl, sym, subst}
+use Rattle.std.proofs.Common.{◌≡◌, ◌∙◌, ℕ, List, Option, arith, refl, sym, subst}
 use Rattle.std.specs.Io.KnownBytes.{Appends}
 use Rattle.std.proofs.KnownBytes.{Appends-nil}
 use Rattle.load_run.specs.declared.fault.ProgramFault.{ProgramFault}
@@ -7,7 +7,7 @@ use Rattle.load_run.specs.declared.fault.ProgramFault.TheVariants.{Words, Script
 use Rattle.load_run.specs.Causes.{written}
 use Rattle.load_run.specs.Checks.{LeavesLine}
 use Rattle.load_run.specs.Fault.{fault_text, status_of}
-use Rattle.load_run.specs.Versions.{FailsToTellVersion, TellsVersion, version_text}
+use Rattle.load_run.specs.Versions.{TellsVersion, version_text}
 use Rattle.load_run.specs.Writing.{AppendsBeginning}
 
 -- the version was written, whole

@@ -1,5 +1,5 @@
 -- A run that a watch saw goes on. Serves `check_on_boot`.
-use Rattle.std.proofs.Common.{◌≡◌, ℕ, ◌++◌, true, arith, length-append}
+use Rattle.std.proofs.Common.{◌≡◌, ◌++◌, true, arith, length-append}
 use Rattle.step_rules.specs.State.{Zone}
 use Rattle.step_rules.specs.After.{Run}
 use Rattle.mem_core.proofs.Keeping.{always_keeps}

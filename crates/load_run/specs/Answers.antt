@@ -1,6 +1,6 @@
 -- What a script is answered.
 use Rattle.std.specs.Prelude.{◌≡◌, ℕ, ◌+◌, Bool, false, true, ⊤, Option, Some, List, [], ◌++◌}
-use Rattle.std.specs.Prelude.{Result, Vec, codes, decimal, drop, length, take}
+use Rattle.std.specs.Prelude.{codes, decimal, drop, length, take}
 use Rattle.std.specs.Io.KnownBytes.{Appends}
 use Rattle.frame_word.specs.Seats.{KnownTable}
 use Rattle.stock_word.specs.Stock.{Words}

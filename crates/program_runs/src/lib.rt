@@ -5,10 +5,6 @@
 #[cfg(test)]
 mod faults;
 #[cfg(test)]
-mod greatest;
-#[cfg(test)]
 mod streams;
-#[cfg(test)]
-mod texts;
 #[cfg(test)]
 mod words;

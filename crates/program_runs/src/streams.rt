@@ -15,8 +15,6 @@ use std::thread::Threads;
 pub struct ScriptReader<'a> {
     pub rest_of_script: &'a [u8],
     pub bytes_at_once: usize,
-    /// How many reads were made.
-    pub reads: u32,
     /// How many reads succeed before the one that fails.
     pub good_reads: Option<u32>,
     /// Why that one fails.
@@ -25,7 +23,6 @@ pub struct ScriptReader<'a> {
 
 impl Read for ScriptReader<'_> {
     fn read(&mut self, buf: &mut [u8]) -> io::Result<usize> {
-        self.reads = self.reads.saturating_add(1);
         match self.good_reads {
             Some(0) => {
                 self.good_reads = None;
@@ -49,7 +46,6 @@ pub fn reader_in_steps(rest_of_script: &[u8], bytes_at_once: usize) -> ScriptRea
     ScriptReader {
         rest_of_script,
         bytes_at_once,
-        reads: 0,
         good_reads: None,
         read_fault: ErrorKind::ConnectionReset,
     }
@@ -180,15 +176,8 @@ pub fn words_of<'a>(rt: &(impl Abort + AllocGlobal), words: &'a str) -> Vec<&'a 
     words_apart.expect(rt, words)
 }
 
-/// The run ended with this status, without an answer, and with a fault that begins like this.
-pub fn run_is_refused(rt: &impl Abort, ended: &ProgramRun, status: u8, begin: &str, name: &str) {
-    row_holds(rt, ended.status == status, name);
-    row_holds(rt, ended.output.is_empty(), name);
-    row_holds(rt, !ended.faults.is_empty(), name);
-    row_holds(rt, ended.faults.starts_with(begin.as_bytes()), name);
-}
-
-/// A run with these words over this script is refused with this status and a fault that begins like this.
+/// A run with these words over this script is refused with this status, without an answer, and with a fault that begins
+/// like this.
 pub fn is_refused(
     rt: &(impl AllocGlobal + Threads + Wait + Abort + Sync),
     words: &str,
@@ -197,7 +186,9 @@ pub fn is_refused(
     begin: &str,
 ) {
     let ended = run_program(rt, &words_of(rt, words), script, 10_000);
-    run_is_refused(rt, &ended, status, begin, words);
+    row_holds(rt, ended.status == status, words);
+    row_holds(rt, ended.output.is_empty(), words);
+    row_holds(rt, ended.faults.starts_with(begin.as_bytes()), words);
 }
 
 /// It holds, or the test fails. A call is cheaper to prove than the macro in its place.

@@ -1,12 +1,7 @@
-//! The words of the command line.
+//! Words of the command line that `options` accepts. `tests/compare-help` has others.
 
-use crate::streams::{
-    row_holds, run_is_refused, run_program_on, script_reader, words_of, writer_with_room,
-};
+use crate::streams::{row_holds, words_of};
 use load_run::{Options, Task, options};
-use std::process::Abort;
-use std::sync::Wait;
-use std::thread::Threads;
 use zone_sizes::config::Config;
 
 // Good words, separated by single spaces, and what they ask for: the task; frames, CPUs, `batch`, `high` and `stock`;
@@ -121,98 +116,5 @@ fn asks_for_what_the_words_say(rt: HostRuntime) {
         };
         let asked = options(rt.alloc(), &words_of(&rt, words)).expect(&rt, words);
         row_holds(&rt, asked == wanted, words);
-    }
-}
-
-// Bad words, and how the text that the program writes for them begins.
-const BAD_WORDS: [(&str, &str); 36] = [
-    (
-        "replay --frames 0",
-        "error: invalid value '0' for '--frames <N>': 0 is not in 1..=1048576\n",
-    ),
-    ("play", "error: unrecognized subcommand 'play'\n"),
-    (
-        "replay --help",
-        "Runs the lines of a script, one after the other\n\nUsage: memcg replay [OPTIONS]\n",
-    ),
-    ("replay --frames=1048577", "error: "),
-    ("replay --cpus=65", "error: "),
-    ("replay --cpus=0", "error: "),
-    ("replay --batch=65", "error: "),
-    ("replay --batch=0", "error: "),
-    ("replay --high=257", "error: "),
-    ("replay --high=0", "error: "),
-    ("replay --stock=65", "error: "),
-    ("replay --stock=0", "error: "),
-    ("replay --frames=1.5", "error: "),
-    ("replay --frames=-1", "error: "),
-    ("replay --frames=", "error: "),
-    ("replay --frames", "error: "),
-    ("replay --audit=1", "error: "),
-    ("replay --frames=1 --frames=1", ""),
-    ("replay --audit --audit", ""),
-    ("replay x", ""),
-    (
-        "run --explain",
-        "error: unexpected argument '--explain' found\n",
-    ),
-    (
-        "run --check",
-        "error: unexpected argument '--check' found\n",
-    ),
-    ("run --frames=0", "error: "),
-    ("run run", ""),
-    (
-        "lint --audit",
-        "error: unexpected argument '--audit' found\n",
-    ),
-    ("lint --frames=0", "error: "),
-    (
-        "lint --strict",
-        "error: unexpected argument '--strict' found\n",
-    ),
-    (
-        "run --steps",
-        "error: unexpected argument '--steps' found\n",
-    ),
-    (
-        "replay --steps --check",
-        "error: the argument '--steps' cannot be used with '--audit', '--numbered', '--strict', '--explain' or '--check'\n",
-    ),
-    ("replay --audit --steps", "error: the argument '--steps' "),
-    (
-        "replay --steps --numbered",
-        "error: the argument '--steps' ",
-    ),
-    ("replay --steps --strict", "error: the argument '--steps' "),
-    ("replay --explain --steps", "error: the argument '--steps' "),
-    (
-        "replay --version",
-        "error: unexpected argument '--version' found\n",
-    ),
-    ("--help", ""),
-    ("help", ""),
-];
-
-// The words are refused with a text that begins like this, and the script isn't read.
-fn are_refused_unread(
-    rt: &(impl AllocGlobal + Threads + Wait + Abort + Sync),
-    words: &[&str],
-    begin: &str,
-    name: &str,
-) {
-    let mut script = script_reader(b"1 show\n".as_slice());
-    let output = writer_with_room(rt, 100);
-    let faults = writer_with_room(rt, 10_000);
-    let ended = run_program_on(rt, words, &mut script, output, faults);
-    run_is_refused(rt, &ended, 2, begin, name);
-    row_holds(rt, script.reads == 0, name);
-}
-
-#[test]
-fn refuses_bad_words_before_it_reads_the_script(rt: HostRuntime) {
-    are_refused_unread(&rt, &[], "", "no words");
-    for (words, begin) in BAD_WORDS {
-        are_refused_unread(&rt, &words_of(&rt, words), begin, words);
     }
 }

@@ -9,8 +9,8 @@ use std::process::Abort;
 use std::test::Fail;
 use step_rules::phase::Phase;
 
-/// A zone of eight frames and three CPUs.
-pub const EIGHT_FRAMES: Config = Config {
+// A zone of eight frames and three CPUs.
+const EIGHT_FRAMES: Config = Config {
     frames: 8,
     cpus: 3,
     batch: 1,
@@ -79,8 +79,8 @@ pub fn core_tells(rt: &impl Abort, is: bool) {
     assert!(rt; is);
 }
 
-/// Makes the steps, each of which must get its answer.
-pub fn plays_rows(rt: &impl Abort, core: &mut Core, rows: &[CoreRow]) {
+// Makes the steps, each of which must get its answer.
+fn plays_rows(rt: &impl Abort, core: &mut Core, rows: &[CoreRow]) {
     for (seat, action, wanted) in rows {
         let answer = core_step(core, *seat, *action);
         assert!(rt; answer == *wanted, "step {}", core.steps());

@@ -1,4 +1,4 @@
-use Rattle.std.proofs.Common.{◌≡◌, ◌∙◌, ◌≤◌, ◌++◌, Bor, List, ℕ, false, true, ap, drop, length, map, subst, sym}
+use Rattle.std.proofs.Common.{◌∙◌, ◌≤◌, ◌++◌, Bor, List, ℕ, false, ap, drop, length, map, subst, sym}
 use Rattle.step_watch.specs.Watched.{KnownWatch, has_whole_log, log_text}
 use Rattle.script_lines.specs.declared.line.Line.{Line}
 use Rattle.script_replay.specs.Lines.{ServesAll, SystemState, system_state}

@@ -1,4 +1,0 @@
-use Rattle.bench.proofs.reclaim.tell_reclaim.Given as goal
-
-abbrev pub ghosts-live : goal.ghosts-live
-ghosts-live g a = record { frames = a.boot.frames; stocks = a.boot.stocks }
