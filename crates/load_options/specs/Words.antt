@@ -76,6 +76,13 @@ serve_shape = record (sized_shape (codes "serve")) {
 abbrev pub check_shape : Shape
 check_shape = new_shape (codes "check")
 
+-- the program without its subcommands
+abbrev pub bare_program : App
+bare_program = record {
+  top = record (new_shape (codes "memcg")) { no_binary_name = true; subcommand_required = true; has_version = true };
+  subs = [];
+}
+
 -- the program: it requires one of its subcommands, and its own name is not among the words
 abbrev pub program : App
 program = record {

@@ -6,7 +6,7 @@ ghost use Rattle.clap.specs.declared.builder.command.Command.TheViews.{out-Comma
 ghost use Rattle.clap.specs.declared.builder.value_parser.ValueParser.TheVariants.{Signed};
 ghost use Rattle.load_options.specs.Fault.{IsNoMemory};
 ghost use Rattle.load_options.specs.Sizes.{HasSizesInRange};
-ghost use Rattle.load_options.specs.Words.{TellsOptions, asks_version, check_shape, command_shape, flag_rule};
+ghost use Rattle.load_options.specs.Words.{TellsOptions, asks_version, bare_program, check_shape, command_shape, flag_rule};
 ghost use Rattle.load_options.specs.Words.{options_of, program, replay_shape, serve_shape, size_rule, sized_shape};
 
 use crate::fault::LineFault;
@@ -141,17 +141,26 @@ fn fault_of(alloc: Global, error: &Error) -> LineFault
 fn memcg<'a>(alloc: Global) -> Result<Command<'a>, AllocError>
     ensures app { IfOk result (λ command. app_of command ≡ program) }
 {
-    Command::new(alloc, "memcg")
-        .bin_name("memcg")?
-        .no_binary_name(true)
-        .about(MEMCG_HELP)
-        .version(VERSION)
-        .subcommand_required(true)
+    bare_command(alloc)?
         .subcommand(replay_command(alloc)?)?
         .subcommand(subcommand(alloc, "run", RUN_HELP)?)?
         .subcommand(check_command(alloc))?
         .subcommand(sized(alloc, "lint", LINT_HELP)?)?
         .subcommand(serve_command(alloc)?)
+}
+
+// The program without its subcommands.
+fn bare_command<'a>(alloc: Global) -> Result<Command<'a>, AllocError>
+    ensures app { IfOk result (λ command. app_of command ≡ bare_program) }
+{
+    let command = Command::new(alloc, "memcg").bin_name("memcg")?;
+    Ok(
+        command
+            .no_binary_name(true)
+            .about(MEMCG_HELP)
+            .version(VERSION)
+            .subcommand_required(true),
+    )
 }
 
 // `replay`, which has three more options.
