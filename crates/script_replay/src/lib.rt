@@ -22,7 +22,7 @@ mod work;
 pub use form::Form;
 pub use said::Said;
 pub use typed_calls::serve_typed;
-pub use value_replay::{Stopped, replay, replay_checked};
+pub use value_replay::{Stopped, replay, replay_checked, serve_line};
 pub use visit_answers::{Visitor, visit_line, visit_numbered_line};
 pub use visit_replay::{replay_lines, visit_command};
 pub use work::Work;

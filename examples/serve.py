@@ -1,0 +1,27 @@
+"""Drives the controller through a pipe, line by line: see docs/EMBED.md, "Through a pipe".
+
+    python3 examples/serve.py ./memcg
+"""
+import subprocess
+import sys
+
+memcg = subprocess.Popen([sys.argv[1], "serve", "--frames", "16"], stdin=subprocess.PIPE, stdout=subprocess.PIPE, text=True)
+
+
+def ask(line):
+    """The lines of the answer to this line."""
+    memcg.stdin.write(line + "\n")
+    memcg.stdin.flush()
+    return list(iter(lambda: memcg.stdout.readline().rstrip("\n"), ""))
+
+
+ask("1 mkdir /web")
+ask("1 mkdir /web/cache")
+ask("1 write /web memory.max 16384")
+frames = 0
+while ask("1 alloc /web/cache 0")[0].startswith("frame"):
+    frames += 1
+print(f"frames before the limit: {frames}")
+print(f"usage of /web: {ask('1 read /web memory.current')[0]} bytes")
+memcg.stdin.close()
+sys.exit(memcg.wait())
