@@ -5,7 +5,7 @@
 import subprocess
 import sys
 
-memcg = subprocess.Popen([sys.argv[1], "serve", "--frames", "16"], stdin=subprocess.PIPE, stdout=subprocess.PIPE, text=True)
+memcg = subprocess.Popen([sys.argv[1], "serve", "--frames", "64"], stdin=subprocess.PIPE, stdout=subprocess.PIPE, text=True)
 
 
 def ask(line):
@@ -17,11 +17,12 @@ def ask(line):
 
 ask("1 mkdir /web")
 ask("1 mkdir /web/cache")
-ask("1 write /web memory.max 16384")
-frames = 0
-while ask("1 alloc /web/cache 0")[0].startswith("frame"):
-    frames += 1
-print(f"frames before the limit: {frames}")
+ask("1 write /web memory.max 128K")
+blocks = []
+while (answer := ask("1 alloc /web/cache 4")[0]).startswith("frame "):
+    blocks.append(answer.removeprefix("frame "))
+    ask(f"1 dirty {blocks[-1]}")  # so that it isn't reclaimed
+print(f"blocks before the limit: {len(blocks)}, then {answer}")
 print(f"usage of /web: {ask('1 read /web memory.current')[0]} bytes")
 memcg.stdin.close()
 sys.exit(memcg.wait())
