@@ -64,7 +64,12 @@ static void live(void) {
     is("enough", tempolemon_answer(&host, buffer, 8, &written), TEMPOLEMON_DONE);
     is("the answer", memcmp(buffer, "group 1\n", 8) != 0, 0);
     is("an alloc", tempolemon_alloc(&host, 1, 1, 0, &told), TEMPOLEMON_DONE);
-    is("a get", tempolemon_get(&host, 2, (uint32_t)told.number, &told), TEMPOLEMON_DONE);
+    const uint32_t frame = (uint32_t)told.number;
+    is("a get of a fresh frame", tempolemon_get(&host, 2, frame, &told), TEMPOLEMON_DONE);
+    is("its word", told.word, TEMPOLEMON_ZERO);
+    is("a settle", tempolemon_settle(&host, 1, &told), TEMPOLEMON_DONE);
+    is("a get", tempolemon_get(&host, 2, frame, &told), TEMPOLEMON_DONE);
+    is("its word then", told.word, TEMPOLEMON_HELD);
     is("an end", tempolemon_end(&host, &report), TEMPOLEMON_DONE);
     is("its pins", (uint8_t)report.held, 1);
     is("a second end", tempolemon_end(&host, &report), TEMPOLEMON_NOT_LIVE);
