@@ -1,36 +1,40 @@
-/* Replays a script on a zone of 16 frames, and prints the answers: see docs/EMBED.md, "From C". */
+/* Boots a zone of 64 frames, fills a group up to its limit, and prints what it uses: see docs/EMBED.md, "From C". */
 #include <stdio.h>
 #include <stdlib.h>
 #include <string.h>
 #include <tempolemon.h>
 
-static const char SCRIPT[] =
-    "1 mkdir /web\n"
-    "1 write /web memory.max 16384\n"
-    "1 alloc /web 1\n"
-    "1 alloc /web 1\n"
-    "1 alloc /web 0\n"
-    "1 read /web memory.current\n";
+#define BYTES(text) (const uint8_t *)(text), strlen(text)
+
+static tempolemon_handle host;
+static tempolemon_told told;
+
+static void ask(uint8_t status, const char *what) {
+    if (status == TEMPOLEMON_DONE) return;
+    fprintf(stderr, "%s: status %u\n", what, status);
+    exit(EXIT_FAILURE);
+}
 
 int main(void) {
-    const tempolemon_sizes sizes = {.frames = 16, .cpus = 2, .batch = 4, .high = 8, .stock = 4};
-    size_t room = 16, written = 0, bad_line = 0;
-    uint8_t *answers = malloc(room), status = TEMPOLEMON_NO_MEMORY;
+    const tempolemon_sizes sizes = {.frames = 64, .cpus = 2, .batch = 4, .high = 8, .stock = 4};
+    tempolemon_report report;
+    uint8_t status, text[160];
 
-    while (answers != NULL) {
-        status = tempolemon_replay(&sizes, false, true, (const uint8_t *)SCRIPT, strlen(SCRIPT),
-                                   answers, room, &written, &bad_line);
-        if (status != TEMPOLEMON_SMALL_BUFFER) break;
-        room = written;
-        free(answers);
-        answers = malloc(room);
+    ask(tempolemon_boot(&sizes, &host), "boot");
+    ask(tempolemon_mkdir(&host, 1, BYTES("/web"), &told), "mkdir");
+    const uint32_t web = (uint32_t)told.number;
+    ask(tempolemon_write(&host, 1, BYTES("/web"), BYTES("memory.max"), BYTES("128K"), &told), "write");
+
+    while ((status = tempolemon_alloc(&host, 1, web, 4, &told)) == TEMPOLEMON_DONE) {
+        const uint32_t frame = (uint32_t)told.number;
+        printf("frame %u\n", frame);
+        ask(tempolemon_dirty(&host, 1, frame, &told), "dirty"); /* so that it isn't reclaimed */
     }
-    if (status == TEMPOLEMON_DONE)
-        fwrite(answers, 1, written, stdout);
-    else if (status == TEMPOLEMON_BAD_LINE)
-        fprintf(stderr, "bad line %zu\n", bad_line);
-    else
-        fprintf(stderr, "status %u\n", status);
-    free(answers);
-    return status == TEMPOLEMON_DONE ? EXIT_SUCCESS : EXIT_FAILURE;
+    printf("refused %u\n", status);
+    ask(tempolemon_read(&host, 1, BYTES("/web"), BYTES("memory.current"), text, sizeof text, &told), "read");
+    printf("%.*s", (int)told.number, (const char *)text);
+
+    ask(tempolemon_end(&host, &report), "end");
+    printf("%u of %u frames were charged\n", report.charged, report.frames);
+    return EXIT_SUCCESS;
 }

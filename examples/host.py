@@ -1,53 +1,75 @@
-"""Replays a script on a zone of 16 frames, and prints the answers: see docs/EMBED.md, "From Python".
+"""Boots a zone of 64 frames, fills a group up to its limit, and prints what it uses: see docs/EMBED.md, "From Python".
 
     python3 examples/host.py out/lib/libtempolemon.so
 """
 import ctypes
 import sys
 
-DONE, BAD_LINE, SMALL_BUFFER = 0, 102, 103
-
-SCRIPT = b"""\
-1 mkdir /web
-1 write /web memory.max 16384
-1 alloc /web 1
-1 alloc /web 1
-1 alloc /web 0
-1 read /web memory.current
-"""
+DONE, FRAME = 0, 3
 
 
 class Sizes(ctypes.Structure):
     _fields_ = [(name, ctypes.c_uint32) for name in ("frames", "cpus", "batch", "high", "stock")]
 
 
-def load(path):
-    """The library, with the types of its call."""
-    library = ctypes.CDLL(path)
-    size = ctypes.POINTER(ctypes.c_size_t)
-    library.tempolemon_replay.restype = ctypes.c_uint8
-    library.tempolemon_replay.argtypes = [
-        ctypes.POINTER(Sizes), ctypes.c_bool, ctypes.c_bool,
-        ctypes.c_char_p, ctypes.c_size_t, ctypes.c_char_p, ctypes.c_size_t, size, size,
-    ]
-    return library
+class Handle(ctypes.Structure):
+    _fields_ = [("raw", ctypes.c_void_p), ("is_live", ctypes.c_bool)]
 
 
-def replay(library, sizes, script):
-    """The answers to the script, with the report of the end."""
-    written, bad_line, room = ctypes.c_size_t(), ctypes.c_size_t(), 16
-    while True:
-        answers = ctypes.create_string_buffer(room)
-        status = library.tempolemon_replay(
-            sizes, False, True, script, len(script), answers, room, written, bad_line)
-        if status != SMALL_BUFFER:
-            break
-        room = written.value
-    if status == BAD_LINE:
-        raise ValueError(f"bad line {bad_line.value}")
-    if status != DONE:
-        raise RuntimeError(f"status {status}")
-    return answers.raw[: written.value]
+class Told(ctypes.Structure):
+    _fields_ = [("number", ctypes.c_uint64), ("word", ctypes.c_uint8)]
 
 
-print(replay(load(sys.argv[1]), Sizes(frames=16, cpus=2, batch=4, high=8, stock=4), SCRIPT).decode(), end="")
+class Report(ctypes.Structure):
+    _fields_ = [(name, ctypes.c_uint64) for name in ("held", "last_puts", "freezes", "drops", "returns")] + \
+               [(name, ctypes.c_uint32) for name in ("frames", "free", "charged")]
+
+
+class Host:
+    """A boot behind a handle."""
+
+    def __init__(self, library, sizes):
+        self.library, self.handle, self.told = library, Handle(), Told()
+        self.ask("boot", self.function("boot")(ctypes.byref(sizes), ctypes.byref(self.handle)))
+
+    def function(self, name):
+        function = getattr(self.library, f"tempolemon_{name}")
+        function.restype = ctypes.c_uint8
+        return function
+
+    def ask(self, name, status):
+        if status != DONE:
+            raise RuntimeError(f"{name}: status {status}")
+
+    def call(self, name, cpu, *what):
+        """The status of a typed call. Bytes become a pointer and a length, and a number is a uint32_t."""
+        words = []
+        for it in what:
+            words += [it, ctypes.c_size_t(len(it))] if isinstance(it, (bytes, ctypes.Array)) else [ctypes.c_uint32(it)]
+        return self.function(name)(ctypes.byref(self.handle), ctypes.c_uint32(cpu), *words, ctypes.byref(self.told))
+
+    def end(self):
+        report = Report()
+        self.ask("end", self.function("end")(ctypes.byref(self.handle), ctypes.byref(report)))
+        return report
+
+
+def main():
+    host = Host(ctypes.CDLL(sys.argv[1]), Sizes(frames=64, cpus=2, batch=4, high=8, stock=4))
+    host.ask("mkdir", host.call("mkdir", 1, b"/web"))
+    web = host.told.number
+    host.ask("write", host.call("write", 1, b"/web", b"memory.max", b"128K"))
+    while (status := host.call("alloc", 1, web, 4)) == DONE:
+        frame = host.told.number
+        print("frame", frame)
+        host.ask("dirty", host.call("dirty", 1, frame))  # so that it isn't reclaimed
+    print("refused", status)
+    text = ctypes.create_string_buffer(160)
+    host.ask("read", host.call("read", 1, b"/web", b"memory.current", text))
+    print(text.raw[: host.told.number].decode(), end="")
+    report = host.end()
+    print(f"{report.charged} of {report.frames} frames were charged")
+
+
+if __name__ == "__main__":
+    main()

@@ -1,19 +1,8 @@
-//! Replays a script on a zone of 16 frames, and prints the answers: see docs/EMBED.md, "From Rust".
+//! Boots a zone of 64 frames, fills a group up to its limit, and prints what it uses: see docs/EMBED.md, "From Rust".
 //!
 //!     rustc examples/host.rs -L out/lib -l static=tempolemon
 
 const DONE: u8 = 0;
-const BAD_LINE: u8 = 102;
-const SMALL_BUFFER: u8 = 103;
-
-const SCRIPT: &str = "\
-1 mkdir /web
-1 write /web memory.max 16384
-1 alloc /web 1
-1 alloc /web 1
-1 alloc /web 0
-1 read /web memory.current
-";
 
 #[repr(C)]
 struct Sizes {
@@ -24,46 +13,116 @@ struct Sizes {
     stock: u32,
 }
 
-extern "C" {
-    fn tempolemon_replay(
-        sizes: *const Sizes,
-        is_explained: bool,
-        is_audited: bool,
-        script: *const u8,
-        length: usize,
-        answers: *mut u8,
-        room: usize,
-        written: *mut usize,
-        first_bad: *mut usize,
-    ) -> u8;
+#[repr(C)]
+struct Handle {
+    raw: *mut u8,
+    is_live: bool,
 }
 
-/// The answers to the script, with the report of the end.
-fn replay(sizes: &Sizes, script: &str) -> Result<Vec<u8>, String> {
-    let (mut written, mut bad_line) = (0, 0);
-    let mut answers = vec![0; 16];
-    loop {
-        // Safe: no pointer is null, each leads to as many bytes as are said, and none to those of another.
-        let status = unsafe {
-            tempolemon_replay(
-                sizes, false, true, script.as_ptr(), script.len(),
-                answers.as_mut_ptr(), answers.len(), &mut written, &mut bad_line,
-            )
-        };
-        match status {
-            DONE => {
-                answers.truncate(written);
-                return Ok(answers);
-            }
-            SMALL_BUFFER => answers = vec![0; written],
-            BAD_LINE => return Err(format!("bad line {bad_line}")),
-            other => return Err(format!("status {other}")),
-        }
+#[repr(C)]
+#[derive(Default)]
+struct Told {
+    number: u64,
+    word: u8,
+}
+
+#[repr(C)]
+#[derive(Default)]
+struct Report {
+    counts: [u64; 5],
+    frames: u32,
+    free: u32,
+    charged: u32,
+}
+
+#[rustfmt::skip]
+extern "C" {
+    fn tempolemon_boot(sizes: *const Sizes, handle: *mut Handle) -> u8;
+    fn tempolemon_end(handle: *mut Handle, report: *mut Report) -> u8;
+    fn tempolemon_mkdir(handle: *mut Handle, cpu: u32, path: *const u8, length: usize, told: *mut Told) -> u8;
+    fn tempolemon_write(handle: *mut Handle, cpu: u32, path: *const u8, length: usize, file: *const u8,
+        file_length: usize, value: *const u8, value_length: usize, told: *mut Told) -> u8;
+    fn tempolemon_read(handle: *mut Handle, cpu: u32, path: *const u8, length: usize, file: *const u8,
+        file_length: usize, text: *mut u8, room: usize, told: *mut Told) -> u8;
+    fn tempolemon_alloc(handle: *mut Handle, cpu: u32, group: u32, order: u32, told: *mut Told) -> u8;
+    fn tempolemon_dirty(handle: *mut Handle, cpu: u32, frame: u32, told: *mut Told) -> u8;
+}
+
+/// A boot behind a handle. It has to be ended: there is no `Drop`, so that the report isn't lost.
+struct Host(Handle);
+
+/// What a call was told, or its status if that isn't 0.
+fn told(call: impl FnOnce(*mut Told) -> u8) -> Result<u64, u8> {
+    let mut told = Told::default();
+    match call(&mut told) {
+        DONE => Ok(told.number),
+        status => Err(status),
     }
 }
 
-fn main() -> Result<(), String> {
-    let sizes = Sizes { frames: 16, cpus: 2, batch: 4, high: 8, stock: 4 };
-    print!("{}", String::from_utf8_lossy(&replay(&sizes, SCRIPT)?));
+// Each call is safe: no pointer is null, each leads to as many bytes as are said, and none to those of another.
+impl Host {
+    fn boot(sizes: &Sizes) -> Result<Host, u8> {
+        let mut handle = Handle { raw: std::ptr::null_mut(), is_live: false };
+        match unsafe { tempolemon_boot(sizes, &mut handle) } {
+            DONE => Ok(Host(handle)),
+            status => Err(status),
+        }
+    }
+
+    fn end(mut self) -> Report {
+        let mut report = Report::default();
+        unsafe { tempolemon_end(&mut self.0, &mut report) };
+        report
+    }
+
+    fn mkdir(&mut self, path: &str) -> Result<u32, u8> {
+        told(|it| unsafe { tempolemon_mkdir(&mut self.0, 1, path.as_ptr(), path.len(), it) }).map(|group| group as u32)
+    }
+
+    fn write(&mut self, path: &str, file: &str, value: &str) -> Result<u64, u8> {
+        told(|it| unsafe {
+            tempolemon_write(
+                &mut self.0, 1, path.as_ptr(), path.len(), file.as_ptr(), file.len(), value.as_ptr(), value.len(), it,
+            )
+        })
+    }
+
+    fn read(&mut self, path: &str, file: &str) -> Result<String, u8> {
+        let mut text = [0; 160];
+        let length = told(|it| unsafe {
+            tempolemon_read(
+                &mut self.0, 1, path.as_ptr(), path.len(), file.as_ptr(), file.len(), text.as_mut_ptr(), text.len(), it,
+            )
+        })?;
+        Ok(String::from_utf8_lossy(&text[..length as usize]).into_owned())
+    }
+
+    fn alloc(&mut self, group: u32, order: u32) -> Result<u32, u8> {
+        told(|it| unsafe { tempolemon_alloc(&mut self.0, 1, group, order, it) }).map(|frame| frame as u32)
+    }
+
+    fn dirty(&mut self, frame: u32) -> Result<u64, u8> {
+        told(|it| unsafe { tempolemon_dirty(&mut self.0, 1, frame, it) })
+    }
+}
+
+fn main() -> Result<(), u8> {
+    let mut host = Host::boot(&Sizes { frames: 64, cpus: 2, batch: 4, high: 8, stock: 4 })?;
+    let web = host.mkdir("/web")?;
+    host.write("/web", "memory.max", "128K")?;
+    let status = loop {
+        match host.alloc(web, 4) {
+            Ok(frame) => {
+                println!("frame {frame}");
+                host.dirty(frame)?; // so that it isn't reclaimed
+            }
+            Err(status) => break status,
+        }
+    };
+    println!("refused {status}");
+    print!("{}", host.read("/web", "memory.current")?);
+    let report = host.end();
+    println!("{} of {} frames were charged", report.charged, report.frames);
     Ok(())
 }

@@ -2,6 +2,9 @@
  *
  *     cc host.c -Iinclude -Lout/lib -ltempolemon
  *
+ * tempolemon_replay answers a whole script in one call. tempolemon_boot starts a boot that lives until tempolemon_end, and
+ * the other calls are made on its handle.
+ *
  * The archive has no state of its own: calls on different memory may run on different threads at once. Memory comes from
  * the program's malloc, realloc and free, which align a block to each power of two up to 16 that divides its size. Don't
  * call from a signal handler, nor in the forked child of a process with threads.
@@ -20,13 +23,44 @@
 extern "C" {
 #endif
 
-/* What a call returns. A refusal has the number that docs/MANUAL.md gives it. */
+/* What a call returns: 0, the number that docs/MANUAL.md gives a refusal, 1 to 22, or one above 100. */
 enum {
     TEMPOLEMON_DONE = 0,           /* the call did what it is for */
     TEMPOLEMON_BAD_CONFIG = 14,    /* a size is out of its range */
+    TEMPOLEMON_OVER_LIMIT = 15,    /* the limit of a group has no room */
     TEMPOLEMON_NO_MEMORY = 101,    /* malloc or realloc returned null */
     TEMPOLEMON_BAD_LINE = 102,     /* a line of the script isn't in the grammar */
     TEMPOLEMON_SMALL_BUFFER = 103, /* the buffer is shorter than the answers */
+    TEMPOLEMON_NOT_LIVE = 104,     /* the handle has no boot */
+    TEMPOLEMON_IS_LIVE = 105,      /* the handle has a boot already */
+    TEMPOLEMON_BAD_CPU = 106,      /* the zone has no CPU of this number */
+    TEMPOLEMON_BAD_FRAME = 107,    /* the zone has no frame of this number */
+    TEMPOLEMON_BAD_GROUP = 108,    /* no group has this number */
+};
+
+/* What a typed call answers: the word of the answer that a script's line gets, and the number that goes with it. */
+enum {
+    TEMPOLEMON_NOTHING = 0,   /* the call wasn't served: its status is above 100 */
+    TEMPOLEMON_OK = 1,        /* it was done */
+    TEMPOLEMON_GROUP = 2,     /* the group of this number was made */
+    TEMPOLEMON_FRAME = 3,     /* the unit that was allocated begins at this frame */
+    TEMPOLEMON_TEXT = 4,      /* the file's text has so many bytes */
+    TEMPOLEMON_FREE = 5,      /* the frame is free */
+    TEMPOLEMON_CPU = 6,       /* the frame is lent to this CPU */
+    TEMPOLEMON_CHARGED = 7,   /* the frame is charged to the group of this number */
+    TEMPOLEMON_MARKED = 8,    /* the unit is marked now */
+    TEMPOLEMON_ACTIVE = 9,    /* the unit is the newest active one */
+    TEMPOLEMON_LEFT = 10,     /* so many references are left */
+    TEMPOLEMON_RETURNED = 11, /* the unit was freed */
+    TEMPOLEMON_SETTLED = 12,  /* the CPU was settled */
+    TEMPOLEMON_LISTED = 13,   /* a fresh frame is on the CPU's list again */
+    TEMPOLEMON_HELD = 14,     /* the pin is held */
+    TEMPOLEMON_ZERO = 15,     /* no pin: the frame has no reference */
+    TEMPOLEMON_RACED = 16,    /* no pin: the references changed meanwhile */
+    TEMPOLEMON_FULL = 17,     /* no pin: the frame has 255 references */
+    TEMPOLEMON_LAST = 18,     /* the last reference was put */
+    TEMPOLEMON_REFUSED = 20,  /* the status says why; of 15 the number is the group whose limit has no room */
+    TEMPOLEMON_NOT_FAST = 21, /* no call here answers this */
 };
 
 /* The sizes of a zone. */
@@ -57,6 +91,140 @@ typedef struct {
 uint8_t tempolemon_replay(const tempolemon_sizes *sizes, bool is_explained, bool is_audited,
                           const uint8_t *script, size_t length, uint8_t *answers, size_t room,
                           size_t *written, size_t *first_bad);
+
+/* A handle to a boot that lives between calls. All bytes 0, `{0}`, is none; a host begins with that, and writes nothing
+ * into it afterwards. Don't copy it: one boot has one handle. A handle may pass from thread to thread, but is used by one
+ * call at a time. Handles don't see each other.
+ */
+typedef struct {
+    void *raw;
+    bool is_live;
+} tempolemon_handle;
+
+/* What a typed call answers. */
+typedef struct {
+    uint64_t number; /* 0 if none goes with the word */
+    uint8_t word;
+} tempolemon_told;
+
+/* What a boot reports at its end, in the words of docs/MANUAL.md, "The end, and --audit". */
+typedef struct {
+    uint64_t held;      /* pins that were still held, and were put then */
+    uint64_t last_puts; /* uses of units that ended by a last put */
+    uint64_t freezes;   /* by reclaim */
+    uint64_t drops;     /* by a drop of a fresh frame */
+    uint64_t returns;   /* units that were freed */
+    uint32_t frames;    /* frames of the zone */
+    uint32_t free;      /* those that are free */
+    uint32_t charged;   /* those that are charged to a group */
+} tempolemon_report;
+
+/* Boots a zone of these sizes behind a handle that has none.
+ *
+ *   DONE        the handle has a boot; tempolemon_end frees it
+ *   IS_LIVE     the handle had a boot, and has it still
+ *   BAD_CONFIG  a size is out of its range
+ *   NO_MEMORY   memory ran out
+ *
+ * Unless the status is DONE, the handle is unchanged and nothing of the boot stays. A boot takes all memory that it ever
+ * needs, except for texts: each call that has a path, a script or a kept answer says so.
+ */
+uint8_t tempolemon_boot(const tempolemon_sizes *sizes, tempolemon_handle *handle);
+
+/* Ends the boot and frees its memory. Pins that are still held are put first.
+ *
+ *   DONE      the handle has no boot any more, and the report is that of the end
+ *   NOT_LIVE  the handle had none; the report is unchanged
+ */
+uint8_t tempolemon_end(tempolemon_handle *handle, tempolemon_report *report);
+
+/* Serves lines of a script, in order, and writes what `memcg replay` answers to them. Each line has its line feed, except
+ * that the last may lack it. The text has at most 1,048,576 bytes. It and its answers are copied in memory of malloc.
+ *
+ *   DONE          the answers are the first *written bytes of the buffer; the rest of it is unchanged
+ *   BAD_LINE      *first_bad is the number of the first bad line, from 1; no line was served
+ *   SMALL_BUFFER  the lines were served. Their answers have *written bytes, more than `room`, and the boot keeps them:
+ *                 fetch them by tempolemon_answer. How long an answer is shows only when its line was served, and that
+ *                 can't be undone
+ *   NO_MEMORY     memory ran out, before the first line or for the answer of one; the lines up to that were served
+ *   NOT_LIVE      the handle has no boot
+ *
+ * Unless the status is DONE the buffer is unchanged. *written is 0 for all but DONE and SMALL_BUFFER, and *first_bad is 0
+ * unless the status is BAD_LINE.
+ */
+uint8_t tempolemon_command(tempolemon_handle *handle, bool is_explained, const uint8_t *script, size_t length,
+                           uint8_t *answers, size_t room, size_t *written, size_t *first_bad);
+
+/* Fetches the answers that the boot keeps since tempolemon_command returned SMALL_BUFFER. The boot keeps those of the
+ * last such call, until they are fetched or it ends.
+ *
+ *   DONE          the answers are the first *written bytes of the buffer, and the boot keeps none now; 0 if it kept none
+ *   SMALL_BUFFER  they have *written bytes, more than `room`, and the boot keeps them still
+ *   NOT_LIVE      the handle has no boot; *written is 0
+ */
+uint8_t tempolemon_answer(tempolemon_handle *handle, uint8_t *answers, size_t room, size_t *written);
+
+/* The typed calls. Each does what the command of a script of its name does, for the CPU of this number, from 1: a sequence
+ * of them is a replay of these commands. A status up to 22 says that the call was served: 0, or a refusal's number. Above,
+ * nothing was done, and the word is NOTHING:
+ *
+ *   NOT_LIVE   the handle has no boot; this is tested first
+ *   BAD_CPU    the zone has no such CPU; this is tested second
+ *   BAD_FRAME  the zone has no such frame (of calls that name one)
+ *   BAD_GROUP  no group has such a number (tempolemon_alloc)
+ *   NO_MEMORY  memory ran out for a copy of a text (of calls that have a path)
+ */
+
+/* Makes the group of this path: GROUP with its number, the least free one. */
+uint8_t tempolemon_mkdir(tempolemon_handle *handle, uint32_t cpu, const uint8_t *path, size_t length,
+                         tempolemon_told *told);
+
+/* Removes the group of this path: OK. A group that is made later may get its number. */
+uint8_t tempolemon_rmdir(tempolemon_handle *handle, uint32_t cpu, const uint8_t *path, size_t length,
+                         tempolemon_told *told);
+
+/* Writes a value to a file of the group of this path: OK. */
+uint8_t tempolemon_write(tempolemon_handle *handle, uint32_t cpu, const uint8_t *path, size_t length,
+                         const uint8_t *file, size_t file_length, const uint8_t *value, size_t value_length,
+                         tempolemon_told *told);
+
+/* Reads a file of the group of this path: TEXT with the length of the text, which is written at the start of the buffer. The
+ * text doesn't end with a null byte.
+ *
+ *   SMALL_BUFFER  `room` is below 160, the most that a file's text has; this is tested before all else, and nothing was done
+ *
+ * Unless the word is TEXT, the buffer is unchanged.
+ */
+uint8_t tempolemon_read(tempolemon_handle *handle, uint32_t cpu, const uint8_t *path, size_t length,
+                        const uint8_t *file, size_t file_length, uint8_t *text, size_t room, tempolemon_told *told);
+
+/* Allocates 2^order frames for the group of this number, which tempolemon_mkdir answered: FRAME with the first one. */
+uint8_t tempolemon_alloc(tempolemon_handle *handle, uint32_t cpu, uint32_t group, uint32_t order,
+                         tempolemon_told *told);
+
+/* Releases the unit that this frame heads, or a fresh frame of the CPU: LISTED, RETURNED, or LEFT with the references. */
+uint8_t tempolemon_release(tempolemon_handle *handle, uint32_t cpu, uint32_t frame, tempolemon_told *told);
+
+/* Pins this frame: HELD, or ZERO, FULL or RACED, and then it isn't pinned. */
+uint8_t tempolemon_get(tempolemon_handle *handle, uint32_t cpu, uint32_t frame, tempolemon_told *told);
+
+/* Puts a pin of the CPU on this frame: LEFT with the references, or LAST. */
+uint8_t tempolemon_put(tempolemon_handle *handle, uint32_t cpu, uint32_t frame, tempolemon_told *told);
+
+/* Notes that the unit that this frame heads was used: MARKED or ACTIVE. */
+uint8_t tempolemon_touch(tempolemon_handle *handle, uint32_t cpu, uint32_t frame, tempolemon_told *told);
+
+/* Notes that the unit that this frame heads is dirty: OK. */
+uint8_t tempolemon_dirty(tempolemon_handle *handle, uint32_t cpu, uint32_t frame, tempolemon_told *told);
+
+/* Notes that the unit that this frame heads is clean: OK. */
+uint8_t tempolemon_clean(tempolemon_handle *handle, uint32_t cpu, uint32_t frame, tempolemon_told *told);
+
+/* Gives the place of this frame: FREE, CPU with its number, or CHARGED with the group's. */
+uint8_t tempolemon_owner(tempolemon_handle *handle, uint32_t cpu, uint32_t frame, tempolemon_told *told);
+
+/* Settles the CPU: SETTLED. */
+uint8_t tempolemon_settle(tempolemon_handle *handle, uint32_t cpu, tempolemon_told *told);
 
 #ifdef __cplusplus
 }

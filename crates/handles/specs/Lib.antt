@@ -1,3 +1,4 @@
+pub mod Calls
 pub mod Commands
 pub mod Known
 pub mod Owned

@@ -7,9 +7,10 @@ use Rattle.load_run.specs.Answers.{StandsAtFirst}
 use Rattle.load_run.specs.Ending.{EndsHeld}
 use Rattle.load_run.specs.declared.boot_end.Ended.{Ended}
 use Rattle.handles.specs.Known.{KnownLive}
+use Rattle.handles.specs.Calls.{Calls}
 use Rattle.handles.specs.Commands.{AnswersScript, RefusesScript, RunsOut, TakesKept, with_kept}
 use Rattle.handles.specs.declared.requests.Request.{Request}
-use Rattle.handles.specs.declared.requests.Request.TheVariants.{Start, Command, Keep, Recall, End}
+use Rattle.handles.specs.declared.requests.Request.TheVariants.{Start, Command, Call, Keep, Recall, End}
 use Rattle.handles.specs.declared.requests.Answer.{Answer}
 use Rattle.handles.specs.declared.requests.Answer.TheVariants as said
 
@@ -17,6 +18,7 @@ use Rattle.handles.specs.declared.requests.Answer.TheVariants as said
 abbrev pub frames_of : KnownTable → Request → KnownTable
 frames_of frames (Start alloc boot sizes) = boot.frames
 frames_of frames (Command alloc text is_explained) = frames
+frames_of frames (Call processor call) = frames
 frames_of frames (Keep text) = frames
 frames_of frames (Recall alloc) = frames
 frames_of frames (End alloc) = frames
@@ -25,6 +27,7 @@ frames_of frames (End alloc) = frames
 abbrev pub stocks_of : Words → Request → Words
 stocks_of stocks (Start alloc boot sizes) = boot.stocks
 stocks_of stocks (Command alloc text is_explained) = stocks
+stocks_of stocks (Call processor call) = stocks
 stocks_of stocks (Keep text) = stocks
 stocks_of stocks (Recall alloc) = stocks
 stocks_of stocks (End alloc) = stocks
@@ -33,11 +36,13 @@ stocks_of stocks (End alloc) = stocks
 abbrev pub IsFit : Option KnownLive → Request → Type 0
 IsFit None (Start alloc boot sizes) = boot.sizes ≡ sizes
 IsFit None (Command alloc text is_explained) = ⊥
+IsFit None (Call processor call) = ⊥
 IsFit None (Keep text) = ⊥
 IsFit None (Recall alloc) = ⊥
 IsFit None (End alloc) = ⊥
 IsFit (Some live) (Start alloc boot sizes) = ⊥
 IsFit (Some live) (Command alloc text is_explained) = Unit {0}
+IsFit (Some live) (Call processor call) = Unit {0}
 IsFit (Some live) (Keep text) = Unit {0}
 IsFit (Some live) (Recall alloc) = Unit {0}
 IsFit (Some live) (End alloc) = Unit {0}
@@ -46,6 +51,7 @@ IsFit (Some live) (End alloc) = Unit {0}
 abbrev pub IsNamed : KnownTable → Words → Request → Type 0
 IsNamed frames stocks (Start alloc boot sizes) = (boot.frames ≡ frames) × (boot.stocks ≡ stocks)
 IsNamed frames stocks (Command alloc text is_explained) = Unit {0}
+IsNamed frames stocks (Call processor call) = Unit {0}
 IsNamed frames stocks (Keep text) = Unit {0}
 IsNamed frames stocks (Recall alloc) = Unit {0}
 IsNamed frames stocks (End alloc) = Unit {0}
@@ -88,6 +94,8 @@ Serves frames stocks before (Command alloc text is_explained) after (said.BadLin
     OnLive (RefusesScript text.items number) before after
 Serves frames stocks before (Command alloc text is_explained) after said.NoMemory =
     OnLive (RunsOut frames stocks text.items is_explained) before after
+Serves frames stocks before (Call processor call) after (said.Told told) =
+    OnLive (λ from to. Calls frames stocks processor call from to told) before after
 Serves frames stocks before (Keep text) after said.Done =
     OnLive (λ from to. to ≡ with_kept from text.items) before after
 Serves frames stocks before (Recall alloc) after (said.Text text) =

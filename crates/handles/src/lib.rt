@@ -6,6 +6,7 @@
 //! it: it picks a name for those tables and calls `serve`, which is plain code over the box.
 #![tactic(auto)]
 
+pub mod calls;
 pub mod hold;
 pub mod live;
 pub mod loose;

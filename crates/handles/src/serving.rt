@@ -2,8 +2,9 @@
 
 ghost use Rattle.std.specs.Prelude.{◌≡◌, IsSome, None};
 ghost use Rattle.handles.specs.Serving.{IsAsked, Serves};
-ghost use Rattle.handles.specs.declared.requests.Request.TheVariants.{Command, End, Keep, Recall, Start};
+ghost use Rattle.handles.specs.declared.requests.Request.TheVariants.{Call, Command, End, Keep, Recall, Start};
 
+use crate::calls;
 use crate::hold::Hold;
 use crate::live::Live;
 use crate::loose::Loose;
@@ -26,6 +27,7 @@ pub fn serve<N: BootName>(hold: Hold<N>, request: Request) -> (Hold<N>, Answer)
             text,
             is_explained,
         } => command(hold, alloc, text, is_explained),
+        Request::Call { processor, call } => serve_call(hold, processor, call),
         Request::Keep { text } => keep(hold, text),
         Request::Recall { alloc } => recall(hold, alloc),
         Request::End { alloc } => finish(hold, alloc),
@@ -67,6 +69,16 @@ fn command<N: BootName>(
         Err(ScriptFault::BadLine(number)) => (hold, Answer::BadLine(number)),
         Err(ScriptFault::NoMemory) => (hold, Answer::NoMemory),
     }
+}
+
+// Serves a call of the CPU of this number.
+fn serve_call<N: BootName>(hold: Hold<N>, processor: u32, call: calls::Call) -> (Hold<N>, Answer)
+    requires some { IsSome hold.live }
+    ensures serves { Serves N.frames N.stocks hold.live (Call processor call) result.0.live result.1 }
+{
+    let mut live = hold.into_loose().into_box();
+    let told = live.call(processor, &call);
+    (Hold::of(Loose::of(live)), Answer::Told(told))
 }
 
 // Keeps an answer.

@@ -14,7 +14,7 @@ use Rattle.zone_sizes.specs.declared.config.Config.{Config}
 use Rattle.zone_sizes.specs.Config.{most_batch, most_cpus, most_frames, most_high, most_stock}
 use Rattle.load_options.specs.declared.task.Options.{Options}
 use Rattle.load_options.specs.declared.task.Task.{Task}
-use Rattle.load_options.specs.declared.task.Task.TheVariants.{Replay, Steps, Run, Check, Lint, Version}
+use Rattle.load_options.specs.declared.task.Task.TheVariants.{Replay, Steps, Run, Check, Lint, Serve, Version}
 use Rattle.load_options.specs.declared.fault.LineFault.{LineFault}
 use Rattle.load_options.specs.declared.fault.LineFault.TheVariants.{BadWords, NoMemory}
 
@@ -66,9 +66,22 @@ replay_shape = record (command_shape (codes "replay")) {
       ++ flag_rule (codes "steps") ∷ [];
 }
 
+-- `serve`, which has two more options than the sizes
+abbrev pub serve_shape : Shape
+serve_shape = record (sized_shape (codes "serve")) {
+  rules = (size_rules ++ flag_rule (codes "audit") ∷ []) ++ flag_rule (codes "explain") ∷ [];
+}
+
 -- `check`, which has no option
 abbrev pub check_shape : Shape
 check_shape = new_shape (codes "check")
+
+-- the program without its subcommands
+abbrev pub bare_program : App
+bare_program = record {
+  top = record (new_shape (codes "memcg")) { no_binary_name = true; subcommand_required = true; has_version = true };
+  subs = [];
+}
 
 -- the program: it requires one of its subcommands, and its own name is not among the words
 abbrev pub program : App
@@ -79,7 +92,8 @@ program = record {
     has_version = true;
     is_leaf = false;
   };
-  subs = replay_shape ∷ command_shape (codes "run") ∷ check_shape ∷ sized_shape (codes "lint") ∷ [];
+  subs =
+      replay_shape ∷ command_shape (codes "run") ∷ check_shape ∷ sized_shape (codes "lint") ∷ serve_shape ∷ [];
 }
 
 -- the number that a text writes, in decimal digits and perhaps after a plus, if it is from 1 to `most`
@@ -135,7 +149,8 @@ abbrev pub task_in : List ℕ → List Row → Option Task
 task_in name found =
     if bytes_eq name (codes "replay") then replay_task_in found
     else if bytes_eq name (codes "run") then Some Run
-    else if bytes_eq name (codes "lint") then Some Lint else None
+    else if bytes_eq name (codes "lint") then Some Lint
+    else if bytes_eq name (codes "serve") then Some (Serve (is_given (codes "explain") found)) else None
 
 -- the options that are given under the name of a subcommand on scripts
 abbrev pub script_options_under : List ℕ → List Row → Option Options

@@ -6,8 +6,8 @@ ghost use Rattle.clap.specs.declared.builder.command.Command.TheViews.{out-Comma
 ghost use Rattle.clap.specs.declared.builder.value_parser.ValueParser.TheVariants.{Signed};
 ghost use Rattle.load_options.specs.Fault.{IsNoMemory};
 ghost use Rattle.load_options.specs.Sizes.{HasSizesInRange};
-ghost use Rattle.load_options.specs.Words.{TellsOptions, asks_version, check_shape, command_shape, flag_rule};
-ghost use Rattle.load_options.specs.Words.{options_of, program, replay_shape, size_rule, sized_shape};
+ghost use Rattle.load_options.specs.Words.{TellsOptions, asks_version, bare_program, check_shape, command_shape, flag_rule};
+ghost use Rattle.load_options.specs.Words.{options_of, program, replay_shape, serve_shape, size_rule, sized_shape};
 
 use crate::fault::LineFault;
 use crate::task::{
@@ -36,6 +36,8 @@ const RUN_HELP: &str =
 const CHECK_HELP: &str = "Checks a log of steps: whether each step keeps the rules";
 
 const LINT_HELP: &str = "Reports every bad line of a script: from which byte on it is bad, and why";
+
+const SERVE_HELP: &str = "Answers each line of its input before it reads the next one";
 
 const FRAMES_HELP: &str = "Frames of the zone, 1 to 1048576";
 
@@ -80,11 +82,11 @@ pub fn words<R: Env + AllocGlobal>(rt: &R) -> Result<Vec<String>, LineFault> {
     }
 }
 
-/// Parses the words after the program's name. They are `replay`, `run` or `lint`, then any of `--frames`, `--cpus`,
-/// `--batch`, `--high` and `--stock`. After `replay` and `run` there may also be `--audit`, `--numbered` and
-/// `--strict`, and after `replay` `--explain` and `--check`, or `--steps` without any of these five. Each stands at
-/// most once. Or the words are `check` alone, or `--version` or `-V` alone. Anything else is a fault of the words, even
-/// a request for help.
+/// Parses the words after the program's name. They are `replay`, `run`, `lint` or `serve`, then any of `--frames`,
+/// `--cpus`, `--batch`, `--high` and `--stock`. After `replay` and `run` there may also be `--audit`, `--numbered` and
+/// `--strict`, and after `replay` `--explain` and `--check`, or `--steps` without any of these five. After `serve` there
+/// may be `--audit` and `--explain`. Each stands at most once. Or the words are `check` alone, or `--version` or `-V`
+/// alone. Anything else is a fault of the words, even a request for help.
 ///
 /// A size is a whole number in its own range: 1 to 1,048,576 frames, 1 to 64 CPUs, batch 1 to 64, high 1 to 256,
 /// stock 1 to 64. `Config::is_valid` requires more: high is at least batch. The defaults are 16, 2, 4, 8 and 4.
@@ -139,16 +141,26 @@ fn fault_of(alloc: Global, error: &Error) -> LineFault
 fn memcg<'a>(alloc: Global) -> Result<Command<'a>, AllocError>
     ensures app { IfOk result (λ command. app_of command ≡ program) }
 {
-    Command::new(alloc, "memcg")
-        .bin_name("memcg")?
-        .no_binary_name(true)
-        .about(MEMCG_HELP)
-        .version(VERSION)
-        .subcommand_required(true)
+    bare_command(alloc)?
         .subcommand(replay_command(alloc)?)?
         .subcommand(subcommand(alloc, "run", RUN_HELP)?)?
         .subcommand(check_command(alloc))?
-        .subcommand(sized(alloc, "lint", LINT_HELP)?)
+        .subcommand(sized(alloc, "lint", LINT_HELP)?)?
+        .subcommand(serve_command(alloc)?)
+}
+
+// The program without its subcommands.
+fn bare_command<'a>(alloc: Global) -> Result<Command<'a>, AllocError>
+    ensures app { IfOk result (λ command. app_of command ≡ bare_program) }
+{
+    let command = Command::new(alloc, "memcg").bin_name("memcg")?;
+    Ok(
+        command
+            .no_binary_name(true)
+            .about(MEMCG_HELP)
+            .version(VERSION)
+            .subcommand_required(true),
+    )
 }
 
 // `replay`, which has three more options.
@@ -160,6 +172,16 @@ fn replay_command<'a>(alloc: Global) -> Result<Command<'a>, AllocError>
         .arg(flag_option(alloc, "explain", EXPLAIN_HELP))?
         .arg(flag_option(alloc, "check", CHECKED_HELP))?
         .arg(flag_option(alloc, "steps", STEPS_HELP))
+}
+
+// `serve`, which has two more options than the sizes.
+fn serve_command<'a>(alloc: Global) -> Result<Command<'a>, AllocError>
+    ensures shape { IfOk result (λ command. (app_of command).top ≡ serve_shape) }
+    ensures local { IfOk result (λ command. (fields_of command).has_globals ≡ false) }
+{
+    sized(alloc, "serve", SERVE_HELP)?
+        .arg(flag_option(alloc, "audit", AUDIT_HELP))?
+        .arg(flag_option(alloc, "explain", EXPLAIN_HELP))
 }
 
 // `check`, which has no option.

@@ -38,6 +38,11 @@ pub enum Task {
     Check,
     /// The bad lines of the script are reported.
     Lint,
+    /// Each line is answered before the next one is read.
+    Serve {
+        /// Whether each kill is explained after the answer of its command.
+        is_explained: bool,
+    },
     /// The input isn't read, and the program's version is written.
     Version,
 }
@@ -125,6 +130,10 @@ fn named_task(name: &str, given: &ArgMatches<'_>) -> Option<Task>
         Some(Task::Run)
     } else if name == "lint" {
         Some(Task::Lint)
+    } else if name == "serve" {
+        Some(Task::Serve {
+            is_explained: is_set(given, "explain"),
+        })
     } else {
         None
     }

@@ -5,6 +5,7 @@ pub mod Joining
 mod Pieces
 pub mod Putting
 pub mod Reporting
+pub mod SessionEnds
 pub mod Starting
 pub mod Verdicts
 pub mod Written

@@ -1,5 +1,5 @@
 -- What a check promises, from what the log is and what the writers took. Serves `drive_check`.
-use Rattle.std.proofs.Common.{◌≡◌, ◌↔◌, ℕ, List, Option, None, Some, IfSome, IsTrue, ap, arith, inl, inr, refl, subst, sym}
+use Rattle.std.proofs.Common.{◌≡◌, ◌↔◌, ℕ, Bool, List, Option, None, Some, IfSome, IsTrue, ap, arith, inl, inr, refl, subst, sym}
 use Rattle.std.proofs.lemmas.Bool.{false≢true}
 use Rattle.std.specs.Prelude.{◌⊎◌, ⊤, is_some}
 use Rattle.std.specs.Io.KnownBytes.{Appends}
@@ -12,7 +12,7 @@ use Rattle.log_check.specs.Texts.{end_text}
 use Rattle.load_options.specs.declared.fault.LineFault.TheVariants as words
 use Rattle.load_options.specs.declared.task.Options.{Options}
 use Rattle.load_options.specs.declared.task.Task.{Task}
-use Rattle.load_options.specs.declared.task.Task.TheVariants.{Check, Lint, Replay, Run, Steps, Version}
+use Rattle.load_options.specs.declared.task.Task.TheVariants.{Check, Lint, Replay, Run, Serve, Steps, Version}
 use Rattle.load_run.specs.declared.fault.ProgramFault.{ProgramFault}
 use Rattle.load_run.specs.declared.fault.ProgramFault.TheVariants.{BadConfig, BadLogLine, IllegalEnd, IllegalStep, Input, NoMemory, Output, Script, Words}
 use Rattle.load_run.specs.Answers.{IsOnScript}
@@ -20,12 +20,14 @@ use Rattle.load_run.specs.Causes.{Written, written}
 use Rattle.load_run.specs.Checks.{Checks, FailsToCheck, IsEndOf, IsVerdict, LeavesLine, LeavesReport, ReportsBadLine, ReportsLegal, ReportsNotLegal}
 use Rattle.load_run.specs.Driving.{Drives, DrivesScript, DrivesTask, LintsAsked}
 use Rattle.load_run.specs.Lints.{Lints}
+use Rattle.load_run.specs.Sessions.{DrivesSession, SessionAsked}
 use Rattle.load_run.specs.Versions.{TellsVersion}
 use Rattle.load_run.specs.Fault.{IsWordsFault, fault_text, status_of}
 use Rattle.load_run.specs.Writing.{AppendsBeginning}
 use Rattle.load_run.proofs.Causing.{words_cause}
 use Rattle.load_run.proofs.Driving.{drives_badly}
 use Rattle.load_run.proofs.Reporting.{lints_early}
+use Rattle.load_run.proofs.SessionEnds.{drives_failed}
 use Rattle.load_run.proofs.Telling.{version_failed}
 
 -- both are known of the input
@@ -225,6 +227,22 @@ drives_words (Some options) input output faults faults_after fault status is end
     for_version Output is ended told = absurd is
     for_version (NoMemory e) is ended told = absurd is
 
+    for_serve : (is_explained : Bool) (f : ProgramFault) → IsWordsFault (Some options) f → status ≡ status_of f
+        → AppendsBeginning faults faults_after (fault_text f)
+        → DrivesSession options is_explained input (written output faults) (written output faults_after) status
+    for_serve is_explained (Words (words.NoMemory e)) is ended told =
+        drives_failed options is_explained input output output faults faults_after (Words (words.NoMemory e)) status
+        (record { at_work = tt; left = inl refl }) ended told
+    for_serve is_explained (Words (words.BadWords text)) is ended told = absurd (false≢true (sym (ap is_some is)))
+    for_serve is_explained (Script f) is ended told = absurd is
+    for_serve is_explained (BadLogLine n) is ended told = absurd is
+    for_serve is_explained BadConfig is ended told = absurd is
+    for_serve is_explained (IllegalStep n) is ended told = absurd is
+    for_serve is_explained IllegalEnd is ended told = absurd is
+    for_serve is_explained Input is ended told = absurd is
+    for_serve is_explained Output is ended told = absurd is
+    for_serve is_explained (NoMemory e) is ended told = absurd is
+
     by_task : (task : Task) → DrivesTask task (Some options) input (written output faults) (written output faults_after) status
     by_task (Replay is_explained is_checked) =
         drives_badly (Some options) input output faults faults_after fault status (words_cause (Some options) input fault is) ended told
@@ -232,6 +250,7 @@ drives_words (Some options) input output faults faults_after fault status is end
     by_task Check = for_check fault is ended told
     by_task Lint = record { options = options; is_asked = refl; lints = for_lint fault is ended told }
     by_task Steps = drives_badly (Some options) input output faults faults_after fault status (words_cause (Some options) input fault is) ended told
+    by_task (Serve is_explained) = record { options = options; is_asked = refl; drives = for_serve is_explained fault is ended told }
     by_task Version = for_version fault is ended told
 
 -- what a task on a script promises
@@ -245,6 +264,7 @@ script_drives options input before after status on_script drives = go options.ta
     go Steps on_script = drives
     go Check on_script = absurd on_script
     go Lint on_script = absurd on_script
+    go (Serve is_explained) on_script = absurd on_script
     go Version on_script = absurd on_script
 
 -- and a check
@@ -258,6 +278,15 @@ pub lint_drives : (options : Options) (input : Option (List ℕ)) (before after 
     → Lints options.sizes input before after status → Drives (Some options) input before after status
 lint_drives options input before after status is lints =
     let here : LintsAsked (Some options) input before after status = record { options = options; is_asked = refl; lints = lints } in
+    subst (λ (task : Task). DrivesTask task (Some options) input before after status) (sym is) here
+
+-- and a session
+pub serve_drives : (options : Options) (is_explained : Bool) (input : Option (List ℕ)) (before after : Written) (status : ℕ)
+    → options.task ≡ Serve is_explained → DrivesSession options is_explained input before after status
+    → Drives (Some options) input before after status
+serve_drives options is_explained input before after status is drives =
+    let here : SessionAsked is_explained (Some options) input before after status =
+    record { options = options; is_asked = refl; drives = drives } in
     subst (λ (task : Task). DrivesTask task (Some options) input before after status) (sym is) here
 
 -- and the version

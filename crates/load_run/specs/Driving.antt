@@ -3,12 +3,13 @@ use Rattle.std.specs.Prelude.{◌≡◌, ◌⊎◌, ℕ, ◌≤◌, List, Option
 use Rattle.std.specs.Prelude.{IfErr, IfOk, IfSome, IsSome, OnOk}
 use Rattle.load_options.specs.declared.task.Options.{Options}
 use Rattle.load_options.specs.declared.task.Task.{Task}
-use Rattle.load_options.specs.declared.task.Task.TheVariants.{Replay, Steps, Run, Check, Lint, Version}
+use Rattle.load_options.specs.declared.task.Task.TheVariants.{Replay, Steps, Run, Check, Lint, Serve, Version}
 use Rattle.load_run.specs.declared.fault.ProgramFault.{ProgramFault}
 use Rattle.load_run.specs.Answers.{IsAnswered, IsWritten}
 use Rattle.load_run.specs.Causes.{FailsAtWork, HasCause, IsMisused, Written}
 use Rattle.load_run.specs.Checks.{Checks}
 use Rattle.load_run.specs.Lints.{Lints}
+use Rattle.load_run.specs.Sessions.{SessionAsked}
 use Rattle.load_run.specs.Versions.{TellsVersion}
 
 -- What the options that are asked for, if any, and an input lead to: answers or a fault. If the input's bytes are known,
@@ -52,6 +53,8 @@ DrivesTask Steps asked input before after status = DrivesScript asked input befo
 DrivesTask Run asked input before after status = DrivesScript asked input before after status
 DrivesTask Check asked input before after status = Checks input before after status
 DrivesTask Lint asked input before after status = LintsAsked asked input before after status
+DrivesTask (Serve is_explained) asked input before after status =
+    SessionAsked is_explained asked input before after status
 DrivesTask Version asked input before after status = TellsVersion before after status
 
 -- The program ran for the options that are asked for, if any. If none are, that is the fault of `DrivesScript`

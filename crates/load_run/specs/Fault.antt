@@ -8,7 +8,7 @@ use Rattle.script_lines.specs.Script.{NamesFirstBadLine}
 use Rattle.load_options.specs.declared.fault.LineFault.TheVariants as words
 use Rattle.load_options.specs.declared.task.Options.{Options}
 use Rattle.load_options.specs.declared.task.Task.{Task}
-use Rattle.load_options.specs.declared.task.Task.TheVariants.{Replay, Steps, Run, Check, Lint, Version}
+use Rattle.load_options.specs.declared.task.Task.TheVariants.{Replay, Steps, Run, Check, Lint, Serve, Version}
 use Rattle.load_options.specs.Words.{TellsOptions}
 use Rattle.load_run.specs.declared.fault.ProgramFault.{ProgramFault}
 use Rattle.load_run.specs.declared.fault.ProgramFault.TheVariants.{Words, Script, BadLogLine, BadConfig}
@@ -73,6 +73,7 @@ checks_steps Steps = false
 checks_steps Run = false
 checks_steps Check = false
 checks_steps Lint = false
+checks_steps (Serve is_explained) = false
 checks_steps Version = false
 
 -- a boot that took its sizes failed at this task: memory ran out, or a step isn't legal, if the task checks each step

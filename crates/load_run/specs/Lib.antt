@@ -7,6 +7,7 @@ pub mod Fault
 pub mod Lints
 pub mod Logs
 pub mod Refusals
+pub mod Sessions
 pub mod Starting
 pub mod Versions
 pub mod Writing

@@ -17,6 +17,7 @@ pub mod program;
 pub mod reading;
 mod refusals;
 pub mod running;
+pub mod serving;
 pub mod thread_running;
 pub mod versions;
 pub mod writing;

@@ -25,6 +25,7 @@ use crate::logging::steps_on_boot;
 use crate::reading::read_script;
 use crate::refusals::answered_status;
 use crate::running::replay_on_boot;
+use crate::serving::drive_serve;
 use crate::thread_running::run_by_threads;
 use crate::versions::drive_version;
 use crate::writing::write_whole;
@@ -71,7 +72,7 @@ pub fn drive<R: Threads + Wait + Sync, S: AsStr, I: Read, O: Write, F: Write>(
 }
 
 // Runs the task that is asked for.
-#[tactic(auto, using(crate::proofs::Verdicts::check_drives, crate::proofs::Verdicts::lint_drives, crate::proofs::Verdicts::script_drives, crate::proofs::Verdicts::version_drives))]
+#[tactic(auto, using(crate::proofs::Verdicts::check_drives, crate::proofs::Verdicts::lint_drives, crate::proofs::Verdicts::script_drives, crate::proofs::Verdicts::serve_drives, crate::proofs::Verdicts::version_drives))]
 fn drive_task<R: Threads + Wait + Sync, I: Read, O: Write, F: Write>(
     rt: &R,
     alloc: Global,
@@ -91,6 +92,9 @@ fn drive_task<R: Threads + Wait + Sync, I: Read, O: Write, F: Write>(
         Task::Replay { .. } => drive_script(rt, alloc, options, input, output, faults),
         Task::Run => drive_script(rt, alloc, options, input, output, faults),
         Task::Steps => drive_script(rt, alloc, options, input, output, faults),
+        Task::Serve { is_explained } => {
+            drive_serve(alloc, options, is_explained, input, output, faults)
+        }
         Task::Version => drive_version(alloc, output, faults),
     }
 }
@@ -231,7 +235,7 @@ fn answers_on_boot<N: BootName + Send + Sync, R: Threads + Wait + Sync>(
             Ok(log) => Ok(log),
             Err(error) => Err(ProgramFault::NoMemory(error)),
         },
-        Task::Check | Task::Lint | Task::Version => unreachable!(),
+        Task::Check | Task::Lint | Task::Serve { .. } | Task::Version => unreachable!(),
     }
 }
 

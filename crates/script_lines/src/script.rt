@@ -135,8 +135,14 @@ pub fn is_go(text: &[u8]) -> bool
     text == b"go".as_slice()
 }
 
-// The line of this number, from 1, which has this text.
-fn parse_line<'a>(names: &Names, number: usize, text: &'a [u8], sizes: &Config) -> Option<Line<'a>>
+/// The line of this number, from 1, which has this text. None if the text is empty or a comment, or isn't in the
+/// grammar. A text of more than 1,024 bytes isn't refused here.
+pub fn parse_line<'a>(
+    names: &Names,
+    number: usize,
+    text: &'a [u8],
+    sizes: &Config,
+) -> Option<Line<'a>>
     requires { IsNames names.now }
     ensures { MatchOption result ((line : Line) → ¬ IsLineText sizes.now number line text.entry.now)
         (λ line. IsLineText sizes.now number line text.entry.now) }

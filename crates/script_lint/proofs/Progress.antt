@@ -1,6 +1,7 @@
 -- How far a script was linted.
 use Rattle.std.proofs.Common.{◌≡◌, ◌⊎◌, ◌↔◌, inl, inr, ℕ, Bor, ◌+◌, ◌-◌, ◌<◌, ◌≤◌, List, [], ◌∷◌, ◌++◌, All, length, Bool, true, false, ◌||◌, ap₂, take, Option, Some, None}
 use Rattle.std.proofs.Common.{IfSome, IsTrue, MatchOption, get_or, slice_get, refl, sym, ap, subst, ◌∙◌, arith}
+use Rattle.std.specs.Prelude.{⊤}
 use Rattle.std.proofs.Math.Bool.{or-false}
 use Rattle.std.proofs.lemmas.Bool.{cases_lt}
 use Rattle.std.proofs.lemmas.List.Elements.{All-push}
@@ -82,6 +83,14 @@ spot_to sizes went A B to text spot is = record {
   bad = λ good. is.bad (record { good = good.good; short = good.short; within = to good.within });
   cause = cause_to sizes went A B to text spot.place spot.cause is.cause;
 }
+
+-- what is true within the script is true of the text by itself
+pub good_alone : (sizes : Config) (Within : Type 0) (text : List ℕ) → IsGoodHere sizes false Within text → IsGoodHere sizes false ⊤ text
+good_alone sizes Within text is = record { good = is.good; short = is.short; within = tt }
+
+pub spot_alone : (sizes : Config) (Within : Type 0) (text : List ℕ) (spot : Spot) → Within → IsSpot sizes false Within text spot
+    → IsSpot sizes false ⊤ text spot
+spot_alone sizes Within text spot within is = spot_to sizes false Within ⊤ (λ t. within) text spot is
 
 -- the next line of the script, and what is known of it
 module _ (sizes : Config) (script : List ℕ) (count index : ℕ) (text : List ℕ) (next : IsNext script count index text)

@@ -1,9 +1,9 @@
 -- The bad lines of a script.
-use Rattle.std.specs.Prelude.{◌≡◌, ◌⊎◌, ℕ, ◌+◌, ◌-◌, ◌<◌, ◌≤◌, List, [], ◌∷◌, All, length, slice_get, take, Some}
+use Rattle.std.specs.Prelude.{◌≡◌, ◌⊎◌, ℕ, ◌+◌, ◌-◌, ◌<◌, ◌≤◌, false, List, [], ◌∷◌, All, length, slice_get, take, Option, None, Some, ⊤}
 use Rattle.std.specs.List.{AllPairs}
 use Rattle.zone_sizes.specs.declared.config.Config.{Config}
 use Rattle.script_lines.specs.Script.{IsGoodLine, ended_lines, has_go, longest_script, texts_of}
-use Rattle.script_lint.specs.Lines.{IsSpot}
+use Rattle.script_lint.specs.Lines.{IsGoodHere, IsSpot}
 use Rattle.script_lint.specs.declared.finding.Finding.{Finding}
 
 -- the n-th line, with its line feed, is within the bytes that a script may have
@@ -35,3 +35,13 @@ pub record IsLinted (sizes : Config) (script : List ℕ) (findings : List Findin
   pub all : (n : ℕ) → 1 ≤ n → n ≤ length (texts_of script) → (longest_script < length script → n ≤ ended_lines (take longest_script script) + 1)
       → n ≤ count
   pub are : AreFindings sizes script count findings
+
+-- the text of a line goes wrong by itself, here and for this reason
+pub record IsFoundInText (sizes : Config) (text : List ℕ) (found : Finding) : Type 0 where
+  pub is_text : found.text.now ≡ text
+  pub spot : IsSpot sizes false ⊤ text found.spot
+
+-- the text of a line is good by itself, or goes wrong as the finding says
+abbrev pub IsTextLinted : Config → (text : List ℕ) → Option Finding → Type 0
+IsTextLinted sizes text None = IsGoodHere sizes false ⊤ text
+IsTextLinted sizes text (Some found) = IsFoundInText sizes text found

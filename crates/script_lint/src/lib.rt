@@ -14,5 +14,5 @@ pub mod shape;
 mod start;
 mod text;
 
-pub use script::lint_script;
-pub use text::{write_findings, write_sizes};
+pub use script::{lint_script, lint_text};
+pub use text::{write_cause, write_findings, write_sizes};

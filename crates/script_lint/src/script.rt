@@ -2,7 +2,7 @@
 
 ghost use Rattle.std.specs.Prelude.{◌≤◌, IfOk, IfSome, OnOk, length};
 ghost use Rattle.script_lines.specs.Verb.{IsNames};
-ghost use Rattle.script_lint.specs.Findings.{IsLinted};
+ghost use Rattle.script_lint.specs.Findings.{IsLinted, IsTextLinted};
 ghost use Rattle.script_lint.specs.Script.{AddsSpot};
 ghost use Rattle.script_lint.specs.Shapes.{HasZone};
 
@@ -27,6 +27,30 @@ pub fn lint_script<'a>(
 {
     let names = command_names(alloc)?;
     lint_lines(alloc, &names, input, sizes)
+}
+
+/// Why the text of a line is bad by itself: a `go` or a script that is too long is no cause then. None if it is good.
+/// The finding has the number 1. The call fails only if memory runs out.
+pub fn lint_text<'a>(
+    alloc: Global,
+    names: &Names,
+    text: &'a [u8],
+    sizes: &Config,
+) -> Result<Option<Finding<'a>>, AllocError>
+    requires names { IsNames names.now }
+    requires zone { HasZone sizes.now }
+    ensures { IfOk result (λ found. IsTextLinted sizes.now text.entry.now found) }
+{
+    let Some(spot) = lint_line(names, text, false, true, sizes) else {
+        return Ok(None);
+    };
+    let near = near_of(alloc, text, &spot)?;
+    Ok(Some(Finding {
+        line: 1,
+        text,
+        spot,
+        near,
+    }))
 }
 
 // The bad lines, by the table of the commands' names.

@@ -85,8 +85,12 @@ fn write_finding(
     text.push_str("\n")
 }
 
-// Why the line is bad.
-fn write_cause(finding: &Finding<'_>, sizes: &Config, text: &mut String) -> Result<(), AllocError>
+/// Adds why the line is bad, without a line feed. It fails only if memory runs out.
+pub fn write_cause(
+    finding: &Finding<'_>,
+    sizes: &Config,
+    text: &mut String,
+) -> Result<(), AllocError>
     requires { IsInside finding.now }
     ensures { IfOk result (λ _. string_bytes text.new
         ≡ string_bytes text.old ++ cause_text sizes.now finding.now finding.now.spot.cause) }

@@ -1,10 +1,12 @@
--- Lines that were served one after the other, so far. Serves `replay`, `replay_lines`, and `serve_own` of `script_threads`.
+-- Lines that were served one after the other, so far. Serves `replay`, `replay_lines`, `serve_own` of `script_threads`, and
+-- `serve` of `line_server`.
 use Rattle.std.proofs.Common.{◌≡◌, ℕ, ◌+◌, ◌<◌, ◌≤◌, List, [], ◌∷◌, ◌++◌, length, take, get_or, append_assoc, append-nil, ap, refl, sym, ◌∙◌, subst}
 use Rattle.std.proofs.lemmas.List.{take_more, take_all}
 use Rattle.script_lines.specs.declared.line.Line.{Line}
 use Rattle.script_replay.specs.Lines.{InOrder}
 
-in_order_more : {S : Type 0} (serves : Line → S → S → List ℕ → Type 0) (s m e : S) (lines : List Line) (line : Line) (text more : List ℕ)
+-- another line behind them
+pub in_order_more : {S : Type 0} (serves : Line → S → S → List ℕ → Type 0) (s m e : S) (lines : List Line) (line : Line) (text more : List ℕ)
     → InOrder serves lines s m text → serves line m e more → InOrder serves (lines ++ line ∷ []) s e (text ++ more)
 in_order_more serves s m e [] line text more all one = record {
   first = more;

@@ -29,7 +29,8 @@ work_in_range frames (Alloc path zero) named = tt
 work_in_range frames (Alloc path (suc order)) named = tt
 work_in_range frames command named = named
 
-line_there : (sizes : Config) (n : ℕ) (line : Line) (text : List ℕ) → IsLineText sizes n line text → LineIsThere sizes.frames sizes.cpus line
+-- the same of a line
+pub line_there : (sizes : Config) (n : ℕ) (line : Line) (text : List ℕ) → IsLineText sizes n line text → LineIsThere sizes.frames sizes.cpus line
 line_there sizes n Go text is = tt
 line_there sizes n (At number processor command) text is =
     record { low = is.1.low; high = is.1.high; names = named_in_range sizes command is.1.rest is.1.command_text }

@@ -4,5 +4,6 @@ pub mod Lines
 pub mod Numbers
 pub mod Ranges
 pub mod Terms
+pub mod Typed
 pub mod Visits
 pub mod Works

@@ -9,6 +9,9 @@
 mod command_answers;
 mod form;
 mod locked_calls;
+mod said;
+mod typed_answers;
+mod typed_calls;
 mod unlocked_calls;
 mod value_replay;
 mod visit_answers;
@@ -17,7 +20,9 @@ mod watched_steps;
 mod work;
 
 pub use form::Form;
-pub use value_replay::{Stopped, replay, replay_checked};
+pub use said::Said;
+pub use typed_calls::serve_typed;
+pub use value_replay::{Stopped, replay, replay_checked, serve_line};
 pub use visit_answers::{Visitor, visit_line, visit_numbered_line};
 pub use visit_replay::{replay_lines, visit_command};
 pub use work::Work;

@@ -144,8 +144,10 @@ fn serve_numbered<N: BootName>(
     write_numbered(alloc, number_of(line), plain.as_str(), answers)
 }
 
-// Serves a line and adds its answer.
-fn serve_line<N: BootName>(
+/// Serves a line for the CPU that it names, and appends its answer; each line of the answer ends with a line feed.
+/// `AllocError` is returned if memory runs out for the answer. The line was then served, and what was appended of its
+/// answer says nothing.
+pub fn serve_line<N: BootName>(
     locked: &mut Locked<N>,
     tables: &Tables<N>,
     cpus: &mut [Cpu<N>],
@@ -206,7 +208,7 @@ fn serve_part<N: BootName>(
 }
 
 // Shows what always holds behind the lock. It does nothing.
-fn see_invariants<N: BootName>(locked: &Locked<N>)
+pub(crate) fn see_invariants<N: BootName>(locked: &Locked<N>)
     ensures { HoldsInvariants N.frames N.stocks locked.now }
 {
     locked.see_quiet();

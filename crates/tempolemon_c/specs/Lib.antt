@@ -1,3 +1,8 @@
+pub mod Asking
+pub mod Behind
 pub mod Buffers
+pub mod Calls
+pub mod Handles
 pub mod Replays
 pub mod Statuses
+pub mod Words

@@ -12,10 +12,19 @@ ghost use Rattle.tempolemon_c.specs.Replays.{IsAnswered, config_of};
 ghost use Rattle.tempolemon_c.specs.Statuses.{IsReplayStatus, bad_config, bad_line, done, small_buffer};
 
 mod buffers;
+mod calling;
 mod fault;
+mod frames;
+mod groups;
+mod handle;
+mod hosting;
+mod living;
 mod replaying;
+mod report;
 mod sizes;
 mod status;
+mod told;
+mod words;
 
 use crate::buffers::put_answers;
 use crate::fault::ReplayFault;

@@ -15,3 +15,21 @@ pub const BAD_LINE: u8 = 102;
 
 /// The buffer is shorter than the answers.
 pub const SMALL_BUFFER: u8 = 103;
+
+/// The handle has no boot.
+pub const NOT_LIVE: u8 = 104;
+
+/// The handle has a boot already.
+pub const IS_LIVE: u8 = 105;
+
+/// The zone has no CPU of this number.
+pub const BAD_CPU: u8 = 106;
+
+/// The zone has no frame of this number.
+pub const BAD_FRAME: u8 = 107;
+
+/// No group has this number.
+pub const BAD_GROUP: u8 = 108;
+
+/// The limit of a group has no room.
+pub const OVER_LIMIT: u8 = 15;

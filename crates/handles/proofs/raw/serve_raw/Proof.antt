@@ -50,7 +50,8 @@ use Rattle.handles.proofs.Moves.{word, ptr_typed, word_typed, both, and_tt, part
 use Rattle.handles.specs.Owned.{brand, marker, live_owns}
 use Rattle.handles.specs.Serving.{IsAsked, IsFit, IsNamed, Serves, frames_of, stocks_of}
 use Rattle.handles.specs.Known.{KnownLive}
-use Rattle.handles.specs.declared.requests.Request.TheVariants.{Start, Command, Keep, Recall, End}
+use Rattle.handles.specs.declared.calls.Call.TheVariants as call
+use Rattle.handles.specs.declared.requests.Request.TheVariants.{Start, Command, Call, Keep, Recall, End}
 use Rattle.cpu_part.specs.declared.boot_name.BootName.{Ghosts}
 use Rattle.handles.specs.contracts.raw.Raw as Raw
 use Rattle.handles.specs.contracts.hold.Hold as Hold
@@ -82,6 +83,7 @@ args = bounded (a_type ∷ []) (brand, tt) (dcons none dnil)
 named : (f : KnownTable) (s : Words) (q : Request.the_row.Denot) → IsNamed (frames_of f q) (stocks_of s q) q
 named f s (Start alloc boot sizes) = (refl, refl)
 named f s (Command alloc text is_explained) = tt
+named f s (Call processor call) = tt
 named f s (Keep text) = tt
 named f s (Recall alloc) = tt
 named f s (End alloc) = tt
@@ -92,6 +94,7 @@ same : (a : Global) (p : Ptr) (f : KnownTable) (s : Words) (o : Option KnownLive
 same a p f s None q fit = refl
 same a p f s (Some live) (Start alloc boot sizes) fit = absurd fit
 same a p f s (Some live) (Command alloc text is_explained) fit = refl
+same a p f s (Some live) (Call processor call) fit = refl
 same a p f s (Some live) (Keep text) fit = refl
 same a p f s (Some live) (Recall alloc) fit = refl
 same a p f s (Some live) (End alloc) fit = refl
@@ -106,6 +109,13 @@ Asked = plain (λ _. Request.the_row)
 asked_blank : (x : Request.the_row.Denot) (f : Last (Request.the_row.exit yes) x) → T (blank (left (Request.the_row.exit yes) x f))
 asked_blank (Start alloc boot sizes) f = tt
 asked_blank (Command alloc text is_explained) f = tt
+asked_blank (Call processor (call.Mkdir path)) f = tt
+asked_blank (Call processor (call.Rmdir path)) f = tt
+asked_blank (Call processor (call.Write path file value)) f = tt
+asked_blank (Call processor (call.Read path file)) f = tt
+asked_blank (Call processor (call.Alloc group order)) f = tt
+asked_blank (Call processor (call.AtFrame frame what)) f = tt
+asked_blank (Call processor call.Settle) f = tt
 asked_blank (Keep text) f = tt
 asked_blank (Recall alloc) f = tt
 asked_blank (End alloc) f = tt
@@ -119,10 +129,10 @@ module _ {M : Type 1} {𝓤 : Ura M} (𝓛 : Logic 𝓤) (at_mem : Memory → SP
   abbrev held : Clauses 𝓤 F.ended
   held = F.clauses 𝓛 at_mem run
 
-  abbrev Call : Ghosts brand.Denot → Contract 𝓤
-  Call g = triple_of 𝓛 (S.signature brand g none) (S.spec brand g none 𝓛 at_mem run)
+  abbrev Served : Ghosts brand.Denot → Contract 𝓤
+  Served g = triple_of 𝓛 (S.signature brand g none) (S.spec brand g none 𝓛 at_mem run)
 
-  walk : ((g : Ghosts brand.Denot) → Triple 𝓤 (𝓣.C (serve_sym.name args)) (Call g)) → (z : (walk_of 𝓛 F.ended stayed held).Ghost)
+  walk : ((g : Ghosts brand.Denot) → Triple 𝓤 (𝓣.C (serve_sym.name args)) (Served g)) → (z : (walk_of 𝓛 F.ended stayed held).Ghost)
       → ent 𝓤 ((walk_of 𝓛 F.ended stayed held).pre z) (WpFn 𝓤 H 𝓣.C 𝓣.Λ code.function (z.0.4.0 ++ (z.0.4.1.0 ++ [])) ((walk_of 𝓛 F.ended stayed held).post z))
   walk kn z =
       let Post = (walk_of 𝓛 F.ended stayed held).post z in
@@ -152,9 +162,9 @@ module _ {M : Type 1} {𝓤 : Ura M} (𝓛 : Logic 𝓤) (at_mem : Memory → SP
       nothing ! $ move ! (3 ∷ 0 ∷ []) $ fjoin ! $ move ! (1 ∷ 0 ∷ []) $ fjoin ! $ nothing ! $ move ! (2 ∷ 0 ∷ []) $ join ! $ join ! $
       use0 𝓛 (raw (fact 𝓤 (IsAsked g.frames g.stocks d.live q))) (fact_i 𝓤 (IsAsked g.frames g.stocks d.live q) (emp 𝓤) (fit, named d.frames d.stocks q)) $
       use0 𝓛 (raw (fact 𝓤 ((α ∷ []) ⊑ brand.lives))) (fact_i 𝓤 ((α ∷ []) ⊑ brand.lives) (emp 𝓤) (⊑_static (α ∷ []))) $ join ! $ move ! (1 ∷ 0 ∷ []) $ join ! $
-      let y : (Call g).Ghost = (((α ∷ [], tt), (full_share, tt), tt, (from, (q, tt)), (word p hv ∷ [], (qv ∷ [], tt))), tt) in
-      use1 𝓛 (raw ((Call g).pre y)) (id⊢ 𝓤 _) $
-      calls_at ! (fm_of 𝓤 H 𝓛.laws 𝓣) (Call g) (kn g) y (and_then ! (get ! refl) (and_then ! (get ! refl) (no_more !))) (λ u.
+      let y : (Served g).Ghost = (((α ∷ [], tt), (full_share, tt), tt, (from, (q, tt)), (word p hv ∷ [], (qv ∷ [], tt))), tt) in
+      use1 𝓛 (raw ((Served g).pre y)) (id⊢ 𝓤 _) $
+      calls_at ! (fm_of 𝓤 H 𝓛.laws 𝓣) (Served g) (kn g) y (and_then ! (get ! refl) (and_then ! (get ! refl) (no_more !))) (λ u.
       use1 𝓛 (later (some (λ (r : HoldR.Denot × Answer.the_row.Denot). ((‵ (flft (α ∷ []) full_share) ⊛ ‵ ftrue) ⊛ ‵ ((Tuple (HoldR ∷ Answer.the_row ∷ [])).own_val r (u ∷ []))) ⊛
       some (λ ended. ‵ (lasts (S.ended brand g none) (α ∷ [], tt) (from, (q, tt)) ended) ⊛ raw (fact 𝓤 (Serves g.frames g.stocks d.live q r.0.live r.1)))))) (id⊢ 𝓤 _) $
       await ! tt $ pick ! (λ r. split ! $ move ! (1 ∷ []) $ pick ! (λ ended. split ! $ drop ! $ heard ! (Serves g.frames g.stocks d.live q r.0.live r.1) (λ did. split ! $ drop ! $

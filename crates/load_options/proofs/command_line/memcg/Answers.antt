@@ -6,16 +6,15 @@ use Rattle.load_options.proofs.command_line.memcg.Goals as goal
 
 pub returns : goal.returns
 returns c =
-    let alone : App =
-    record { top = record (new_shape (codes "memcg")) { no_binary_name = true; subcommand_required = true; has_version = true }; subs = [] } in
-    let none : app_of c.subcommand_required.result ≡ alone = search rules in
     let replay = c.in_ok-subcommand.ensures.shape c.in_ok-replay_command.ensures.local
-    ∙ ap₂ with_subcommand none c.in_ok-replay_command.ensures.shape in
+    ∙ ap₂ with_subcommand c.in_ok-bare_command.ensures.app c.in_ok-replay_command.ensures.shape in
     let run = c.in_ok-subcommand-3.ensures.shape c.in_ok-subcommand-2.ensures.local
     ∙ ap₂ with_subcommand replay c.in_ok-subcommand-2.ensures.shape in
     let check = c.in_ok-subcommand-4.ensures.shape c.check_command.ensures.local
     ∙ ap₂ with_subcommand run c.check_command.ensures.shape in
+    let lint = c.in_ok-subcommand-5.ensures.shape c.in_ok-sized.ensures.local
+    ∙ ap₂ with_subcommand check c.in_ok-sized.ensures.shape in
     record {
-      app = IfOk-weaker c.subcommand-5.result _ _ (λ command added.
-          added.shape c.in_ok-sized.ensures.local ∙ ap₂ with_subcommand check c.in_ok-sized.ensures.shape) c.subcommand-5.ensures;
+      app = IfOk-weaker c.subcommand-6.result _ _ (λ command added.
+          added.shape c.in_ok-serve_command.ensures.local ∙ ap₂ with_subcommand lint c.in_ok-serve_command.ensures.shape) c.subcommand-6.ensures;
     }

@@ -1,0 +1,100 @@
+//! What a host asks of a live boot by a call, and what it is told. Neither has a reference in it.
+
+use control_files::text::ArrayText;
+use script_lines::line::Command;
+use script_replay::Said;
+
+/// What is done at a frame.
+#[derive(Clone, Copy, Debug, PartialEq, Eq)]
+pub enum FrameCall {
+    /// The unit that it heads is released.
+    Release,
+    /// It is pinned.
+    Get,
+    /// A pin of it is put.
+    Put,
+    /// The use of the unit that it heads is noted.
+    Touch,
+    /// The unit that it heads is noted as dirty.
+    Dirty,
+    /// The unit that it heads is noted as clean.
+    Clean,
+    /// Its place is told.
+    Owner,
+}
+
+/// A command, as a call names it.
+#[derive(Drop)]
+pub enum Call {
+    /// Makes the group of this path.
+    Mkdir {
+        path: Vec<u8>,
+    },
+    /// Removes the group of this path.
+    Rmdir {
+        path: Vec<u8>,
+    },
+    /// Writes a value to a file of the group of this path.
+    Write {
+        path: Vec<u8>,
+        file: Vec<u8>,
+        value: Vec<u8>,
+    },
+    /// Reads the text of a file of the group of this path.
+    Read {
+        path: Vec<u8>,
+        file: Vec<u8>,
+    },
+    /// Takes a block of 2^order frames, charged to the group of this number.
+    Alloc {
+        group: u32,
+        order: u32,
+    },
+    /// Does this at the frame of this number.
+    AtFrame {
+        frame: u32,
+        what: FrameCall,
+    },
+    /// Settles the CPU.
+    Settle,
+}
+
+/// What a call is told.
+#[derive(Clone, Copy, Debug, PartialEq, Eq)]
+pub enum Told {
+    /// It was served with this answer, which isn't a text.
+    Said(Said),
+    /// The text of the file.
+    Text(ArrayText),
+    /// The zone has no such CPU, and nothing was done.
+    NoCpu,
+    /// The zone has no such frame, and nothing was done.
+    NoFrame,
+    /// No group has such a number, and nothing was done.
+    NoGroup,
+}
+
+impl FrameCall {
+    ghost use Rattle.std.specs.Prelude.{◌≡◌, ◌<◌, ℕ};
+    ghost use Rattle.script_replay.specs.Ranges.{NamesInRange};
+    ghost use Rattle.script_replay.specs.Typed.{IsShort};
+    ghost use Rattle.script_replay.specs.Works.{work_of};
+    ghost use Rattle.handles.specs.Calls.{frame_command};
+
+    /// The script's command that does this.
+    pub fn command(self, frame: u32) -> Command<'static>
+        ensures value { result ≡ frame_command self frame }
+        ensures in_zone { (frames : ℕ) → frame < frames → NamesInRange frames result }
+        ensures short { IsShort (work_of result) }
+    {
+        match self {
+            FrameCall::Release => Command::Release { frame },
+            FrameCall::Get => Command::Get { frame },
+            FrameCall::Put => Command::Put { frame },
+            FrameCall::Touch => Command::Touch { frame },
+            FrameCall::Dirty => Command::Dirty { frame },
+            FrameCall::Clean => Command::Clean { frame },
+            FrameCall::Owner => Command::Owner { frame },
+        }
+    }
+}

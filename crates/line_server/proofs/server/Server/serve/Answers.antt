@@ -1,0 +1,64 @@
+-- Serves the contract of `serve`: each line is one turn more, up to the end or to a fault.
+use Rattle.std.proofs.Common.{◌∙◌, refl, subst}
+use Rattle.line_server.specs.declared.fault.ServeFault.TheVariants.{Input}
+use Rattle.line_server.specs.Known.{terms_of}
+use Rattle.line_server.specs.Sessions.{EndsTurn, FailsTurn}
+use Rattle.line_server.proofs.Sessions.{at_first, one_more, session_ended, session_failed}
+use Rattle.line_server.proofs.server.Server.serve.Goals as goal
+
+pub returns-then-not-goes_on-clause-served : goal.returns-then-not-goes_on-clause-served
+returns-then-not-goes_on-clause-served g c =
+    let frames = g.N.BootName.frames in
+    let stocks = g.N.BootName.stocks in
+    let first = c.args.self.now in
+    let left = g.I.Read.remaining c.loop.input in
+    let after = g.I.Read.remaining c.serve_line.new.input in
+    let middle = g.O.Write.contents c.loop.output in
+    let now = g.O.Write.contents c.serve_line.new.output in
+    let end = at_first frames stocks first c.loop.self
+    (λ on sizes. EndsTurn on sizes left after c.loop.self.state c.serve_line.new.self.state middle now c.in-Ok.goes_on)
+    c.loop.invariant.1 c.in-Ok.ensures.served in
+    session_ended (terms_of frames stocks first) first.sizes _ left _ c.loop.self.state _ middle c.serve_line.new.self.state now c.loop.invariant.0
+    (subst (EndsTurn (terms_of frames stocks first) first.sizes left after c.loop.self.state c.serve_line.new.self.state middle now)
+    c.if-not-goes_on.true end)
+
+pub returns-in-Err-clause-failed : goal.returns-in-Err-clause-failed
+returns-in-Err-clause-failed g c =
+    let frames = g.N.BootName.frames in
+    let stocks = g.N.BootName.stocks in
+    let first = c.args.self.now in
+    let middle = g.O.Write.contents c.loop.output in
+    let now = g.O.Write.contents c.serve_line.new.output in
+    let fails = at_first frames stocks first c.loop.self
+    (λ on sizes. FailsTurn on sizes c.loop.self.state c.serve_line.new.self.state middle now c.in-Err.fault)
+    c.loop.invariant.1 c.in-Err.ensures.failed in
+    session_failed (terms_of frames stocks first) first.sizes _ (g.I.Read.remaining c.loop.input) _ c.loop.self.state _ middle
+    c.serve_line.new.self.state now c.in-Err.fault c.loop.invariant.0 fails
+
+pub loop-preserved : goal.loop-preserved
+loop-preserved g c =
+    let frames = g.N.BootName.frames in
+    let stocks = g.N.BootName.stocks in
+    let first = c.args.self.now in
+    let left = g.I.Read.remaining c.loop.input in
+    let after = g.I.Read.remaining c.serve_line.new.input in
+    let middle = g.O.Write.contents c.loop.output in
+    let now = g.O.Write.contents c.serve_line.new.output in
+    let turn = at_first frames stocks first c.loop.self
+    (λ on sizes. EndsTurn on sizes left after c.loop.self.state c.serve_line.new.self.state middle now c.in-Ok.goes_on)
+    c.loop.invariant.1 c.in-Ok.ensures.served in
+    let one = subst (EndsTurn (terms_of frames stocks first) first.sizes left after c.loop.self.state c.serve_line.new.self.state middle now)
+    c.if-not-goes_on.false turn in (
+      one_more (terms_of frames stocks first) first.sizes _ left _ c.loop.self.state _ middle after c.serve_line.new.self.state now
+          c.loop.invariant.0 one,
+      record {
+        sizes = c.in-Ok.ensures.terms.sizes ∙ c.loop.invariant.1.sizes;
+        is_explained = c.in-Ok.ensures.terms.is_explained ∙ c.loop.invariant.1.is_explained;
+      },
+    )
+
+pub returns-clause-failed : goal.returns-clause-failed
+returns-clause-failed g c =
+    let first = c.args.self.now in
+    session_failed (terms_of g.N.BootName.frames g.N.BootName.stocks first) first.sizes _ (g.I.Read.remaining c.loop.input) _ c.loop.self.state _
+    (g.O.Write.contents c.loop.output) c.loop.self.state (g.O.Write.contents c.loop.output) Input c.loop.invariant.0 (refl, refl)

@@ -1,0 +1,45 @@
+//! The lines of a session.
+
+ghost use Rattle.std.specs.Prelude.{◌≡◌, IfErr, IfOk};
+ghost use Rattle.line_server.specs.Faults.{IsReadFault};
+ghost use Rattle.line_server.specs.Lines.{Hears, is_quit};
+
+use crate::fault::ServeFault;
+use line_streams::{Found, read_line};
+use std::alloc::Global;
+use std::io::Read;
+
+/// A line that was read.
+#[derive(Drop)]
+pub enum Heard {
+    /// A line with this text.
+    Text(Vec<u8>),
+    /// A line that is too long.
+    TooLong,
+}
+
+/// Reads the next line. None if the session ends with it: the line is `quit`, or the input has ended.
+pub fn hear<I: Read>(alloc: Global, input: &mut I) -> Result<Option<Heard>, ServeFault>
+    ensures heard { IfOk result (Hears (I.remaining input.old) (I.remaining input.new)) }
+    ensures fault { IfErr result IsReadFault }
+{
+    let mut line = Vec::new(alloc);
+    match read_line(input, &mut line)? {
+        Found::End => Ok(None),
+        Found::TooLong => Ok(Some(Heard::TooLong)),
+        Found::Line => {
+            if is_quit(&line) {
+                Ok(None)
+            } else {
+                Ok(Some(Heard::Text(line)))
+            }
+        }
+    }
+}
+
+// Whether a line ends the session.
+fn is_quit(text: &[u8]) -> bool
+    ensures { result ≡ is_quit text.now }
+{
+    text == b"quit".as_slice()
+}

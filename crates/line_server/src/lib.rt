@@ -1,0 +1,11 @@
+//! A session with a boot: each line is answered before the next one is read. An answer is what `replay` writes for the
+//! line, with an empty line behind it. A bad line is told why it is bad, and changes nothing.
+#![tactic(auto)]
+
+pub mod fault;
+mod hearing;
+mod refusing;
+pub mod server;
+
+pub use fault::ServeFault;
+pub use server::Server;

@@ -1,0 +1,228 @@
+-- What a session promises, from how it ended. Serves `drive_serve`, `serve_on_boot`.
+use Rattle.std.proofs.Common.{◌≡◌, ◌∙◌, ℕ, Bool, List, [], Option, Result, Ok, Err, IfErr, OnOk, arith, inl, inr, refl, subst, sym}
+use Rattle.std.specs.Io.KnownBytes.{Appends}
+use Rattle.frame_word.specs.Seats.{KnownTable}
+use Rattle.stock_word.specs.Stock.{Words}
+use Rattle.cpu_part.specs.Cpus.{KnownCpu}
+use Rattle.zone_sizes.specs.declared.config.Config.{Config}
+use Rattle.mem_machine.specs.Machines.{IsFirst}
+use Rattle.mem_history.proofs.Told.{a_boot_tells}
+use Rattle.mem_system.specs.Boots.{IsSizedAs, first_cpus}
+use Rattle.mem_system.specs.Locked.{KnownLocked}
+use Rattle.script_replay.specs.Lines.{SystemState, system_state}
+use Rattle.script_replay.specs.Terms.{Terms, terms}
+use Rattle.line_server.specs.Known.{KnownServer, terms_of}
+use Rattle.line_server.specs.Sessions.{FailsSession, ServesSession}
+use Rattle.line_server.specs.declared.fault.ServeFault.{ServeFault}
+use Rattle.line_server.specs.declared.fault.ServeFault.TheVariants as serve
+use Rattle.load_options.specs.declared.fault.LineFault.TheVariants as words
+use Rattle.load_options.specs.declared.task.Options.{Options}
+use Rattle.load_run.specs.declared.fault.ProgramFault.{ProgramFault}
+use Rattle.load_run.specs.declared.fault.ProgramFault.TheVariants as kinds
+use Rattle.load_run.specs.declared.boot_end.Ended.{Ended}
+use Rattle.load_run.specs.Starting.{StandsAtFirst}
+use Rattle.load_run.specs.Causes.{written}
+use Rattle.load_run.specs.Ending.{EndsHeld, end_text}
+use Rattle.load_run.specs.Fault.{fault_text, status_of}
+use Rattle.load_run.specs.Sessions.{BeginsReport, DrivesSession, EndsSession, IsSameFault, IsWorkFault, LeavesSession, ServesInput, StopsSession}
+use Rattle.load_run.specs.Writing.{AppendsBeginning}
+use Rattle.load_run.proofs.Starting.{boot_shown, parts_tied}
+
+-- a fault at work has status 1
+work_status : (fault : ProgramFault) → IsWorkFault fault → status_of fault ≡ 1
+work_status kinds.Input is = refl
+work_status kinds.Output is = refl
+work_status (kinds.NoMemory error) is = refl
+work_status (kinds.Words (words.NoMemory error)) is = refl
+work_status (kinds.Words (words.BadWords text)) is = absurd is
+work_status (kinds.Script f) is = absurd is
+work_status (kinds.BadLogLine n) is = absurd is
+work_status kinds.BadConfig is = absurd is
+work_status (kinds.IllegalStep n) is = absurd is
+work_status kinds.IllegalEnd is = absurd is
+
+-- a fault of a session is one at work
+pub same_at_work : (why : ServeFault) (fault : ProgramFault) → IsSameFault why fault → IsWorkFault fault
+same_at_work serve.Input kinds.Input is = tt
+same_at_work serve.Output kinds.Output is = tt
+same_at_work serve.NoMemory (kinds.NoMemory error) is = tt
+same_at_work serve.Input (kinds.NoMemory error) is = absurd is
+same_at_work serve.Input (kinds.Words f) is = absurd is
+same_at_work serve.Output (kinds.NoMemory error) is = absurd is
+same_at_work serve.Output (kinds.Words f) is = absurd is
+same_at_work serve.NoMemory (kinds.Words f) is = absurd is
+same_at_work serve.Input kinds.Output is = absurd is
+same_at_work serve.Output kinds.Input is = absurd is
+same_at_work serve.NoMemory kinds.Input is = absurd is
+same_at_work serve.NoMemory kinds.Output is = absurd is
+same_at_work why (kinds.Script f) is = absurd (none why is)
+  where
+    none : (why : ServeFault) → IsSameFault why (kinds.Script f) → ⊥
+    none serve.Input is = is
+    none serve.Output is = is
+    none serve.NoMemory is = is
+same_at_work why (kinds.BadLogLine n) is = absurd (none why is)
+  where
+    none : (why : ServeFault) → IsSameFault why (kinds.BadLogLine n) → ⊥
+    none serve.Input is = is
+    none serve.Output is = is
+    none serve.NoMemory is = is
+same_at_work why kinds.BadConfig is = absurd (none why is)
+  where
+    none : (why : ServeFault) → IsSameFault why kinds.BadConfig → ⊥
+    none serve.Input is = is
+    none serve.Output is = is
+    none serve.NoMemory is = is
+same_at_work why (kinds.IllegalStep n) is = absurd (none why is)
+  where
+    none : (why : ServeFault) → IsSameFault why (kinds.IllegalStep n) → ⊥
+    none serve.Input is = is
+    none serve.Output is = is
+    none serve.NoMemory is = is
+same_at_work why kinds.IllegalEnd is = absurd (none why is)
+  where
+    none : (why : ServeFault) → IsSameFault why kinds.IllegalEnd → ⊥
+    none serve.Input is = is
+    none serve.Output is = is
+    none serve.NoMemory is = is
+
+-- ---- the status
+
+-- the session ended
+pub drives_served : (options : Options) (is_explained : Bool) (input before after faults : Option (List ℕ))
+    → ServesInput options is_explained input before after
+    → DrivesSession options is_explained input (written before faults) (written after faults) 0
+drives_served options is_explained input before after faults serves = record {
+  status_at_most = omega arith;
+  silent = λ zero. refl;
+  served = λ zero. serves;
+  fails = λ one. absurd (omega (arith, one));
+  quiet = λ two. absurd (omega (arith, two));
+  refused = λ two. absurd (omega (arith, two));
+}
+
+-- it failed at its work
+pub drives_failed : (options : Options) (is_explained : Bool) (input before after faults faults_after : Option (List ℕ)) (fault : ProgramFault)
+    (status : ℕ) → LeavesSession options is_explained input before after fault → status ≡ status_of fault
+    → AppendsBeginning faults faults_after (fault_text fault)
+    → DrivesSession options is_explained input (written before faults) (written after faults_after) status
+drives_failed options is_explained input before after faults faults_after fault status left ended told =
+    let one : status ≡ 1 = ended ∙ work_status fault left.at_work in
+    record {
+      status_at_most = omega (arith, one);
+      silent = λ zero. absurd (omega (arith, one, zero));
+      served = λ zero. absurd (omega (arith, one, zero));
+      fails = λ same. record { fault = fault; left = left; told = told };
+      quiet = λ two. absurd (omega (arith, one, two));
+      refused = λ two. absurd (omega (arith, one, two));
+    }
+
+-- the sizes are refused
+drives_refused : (options : Options) (is_explained : Bool) (input before after faults faults_after : Option (List ℕ)) (status : ℕ)
+    → StopsSession options is_explained input before after kinds.BadConfig → status ≡ 2 → AppendsBeginning faults faults_after (fault_text kinds.BadConfig)
+    → DrivesSession options is_explained input (written before faults) (written after faults_after) status
+drives_refused options is_explained input before after faults faults_after status stops two told = record {
+  status_at_most = omega (arith, two);
+  silent = λ zero. absurd (omega (arith, two, zero));
+  served = λ zero. absurd (omega (arith, two, zero));
+  fails = λ one. absurd (omega (arith, two, one));
+  quiet = λ same. stops.0;
+  refused = λ same. record { refused = stops.1; told = told };
+}
+
+-- it stopped, for any fault
+pub drives_stopped : (options : Options) (is_explained : Bool) (input before after faults faults_after : Option (List ℕ)) (fault : ProgramFault)
+    (status : ℕ) → StopsSession options is_explained input before after fault → status ≡ status_of fault
+    → AppendsBeginning faults faults_after (fault_text fault)
+    → DrivesSession options is_explained input (written before faults) (written after faults_after) status
+drives_stopped options is_explained input before after faults faults_after kinds.BadConfig status stops ended told =
+    drives_refused options is_explained input before after faults faults_after status stops ended told
+drives_stopped options is_explained input before after faults faults_after fault status stops ended told =
+    drives_failed options is_explained input before after faults faults_after fault status stops ended told
+
+-- a fault at work stops a session
+pub stops_at_work : {T : Type 0} (options : Options) (is_explained : Bool) (input before after : Option (List ℕ)) (r : Result T ProgramFault)
+    → IfErr r (LeavesSession options is_explained input before after) → IfErr r (StopsSession options is_explained input before after)
+stops_at_work options is_explained input before after (Ok x) left = tt
+stops_at_work options is_explained input before after (Err kinds.BadConfig) left = absurd left.at_work
+stops_at_work options is_explained input before after (Err fault) left = left
+
+-- ---- on a boot
+
+-- what holds on the terms of a server holds on what it was made of
+pub as_made : (t : KnownTable) (w : Words) (server : KnownServer) (sizes : Config) (is_explained : Bool) (state : SystemState)
+    (P : Terms → Config → SystemState → Type 0) → server.sizes ≡ sizes → server.is_explained ≡ is_explained → server.state ≡ state
+    → P (terms_of t w server) server.sizes server.state → P (terms t w is_explained) sizes state
+as_made t w server sizes is_explained state P same explained stands is =
+    subst (λ (s : SystemState). P (terms t w is_explained) sizes s) stands
+    (subst (λ (c : Config). P (terms t w is_explained) c server.state) same
+    (subst (λ (b : Bool). P (terms t w b) server.sizes server.state) explained is))
+
+-- a boot as it is at first
+module _ (booted : Config) (options : Options) (is_explained : Bool) (t : KnownTable) (w : Words) (locked : KnownLocked) (cpus : List KnownCpu)
+    (same : booted ≡ options.sizes) (sized : IsSizedAs booted t w) (machine : IsFirst t w locked.machine) (sizes : locked.sizes ≡ booted)
+    (first : cpus ≡ first_cpus t w 1 booted.cpus) where
+  stands : StandsAtFirst options.sizes t w (system_state locked cpus)
+  stands = subst (λ (c : Config). StandsAtFirst c t w (system_state locked cpus)) same
+      (record { sized = sized; machine = machine; sizes_are = sizes; cpus = first })
+
+  -- it served a session, and ended
+  pub session_ends : (input before middle : Option (List ℕ)) (end : SystemState) (ended : Ended)
+      → ServesSession (terms t w is_explained) options.sizes input (system_state locked cpus) end before middle → EndsHeld t w end ended
+      → EndsSession options is_explained input before middle (end_text options.is_audited ended)
+  session_ends input before middle end ended session ends = record {
+    frames = t;
+    stocks = w;
+    start = system_state locked cpus;
+    end = end;
+    first = stands;
+    session = session;
+    history = session.holds.replays.history [] (boot_shown booted t w locked.machine cpus sized machine first)
+        (parts_tied booted t w locked.machine cpus sized machine first);
+    told = a_boot_tells t w locked.machine machine;
+    ends = record { ended = ended; ends = ends; text_is = refl };
+  }
+
+  -- or failed
+  pub session_fails : (input before after : Option (List ℕ)) (end : SystemState) (why : ServeFault) (fault : ProgramFault)
+      → FailsSession (terms t w is_explained) options.sizes input (system_state locked cpus) end before after why → IsSameFault why fault
+      → LeavesSession options is_explained input before after fault
+  session_fails input before after end why fault fails is = record {
+    at_work = same_at_work why fault is;
+    left = inr (inl (record {
+      frames = t;
+      stocks = w;
+      start = system_state locked cpus;
+      end = end;
+      first = stands;
+      why = why;
+      same = is;
+      fails = fails;
+    }));
+  }
+
+-- ---- the end
+
+-- the report was written
+pub report_written : {T : Type 0} (options : Options) (is_explained : Bool) (input before middle after : Option (List ℕ)) (ending : List ℕ)
+    (r : Result T ProgramFault) → EndsSession options is_explained input before middle ending → OnOk r (Appends middle after ending)
+    → OnOk r (ServesInput options is_explained input before after)
+report_written options is_explained input before middle after ending (Ok x) ends is =
+    record { middle = middle; ending = ending; ends = ends; written = is }
+report_written options is_explained input before middle after ending (Err fault) ends is = tt
+
+-- or not whole
+pub report_begun : {T : Type 0} (options : Options) (is_explained : Bool) (input before middle after : Option (List ℕ)) (ending : List ℕ)
+    (r : Result T ProgramFault) → EndsSession options is_explained input before middle ending → IfErr r (BeginsReport middle after ending)
+    → IfErr r (LeavesSession options is_explained input before after)
+report_begun options is_explained input before middle after ending (Ok x) ends is = tt
+report_begun options is_explained input before middle after ending (Err fault) ends is = record {
+  at_work = is.at_work;
+  left = inr (inr (record { middle = middle; ending = ending; ends = ends; begun = is.begun }));
+}
+
+-- the output took a beginning of the report
+pub report_unwritten : {T : Type 0} (r : Result T ProgramFault) (before after : Option (List ℕ)) (report : List ℕ) → IfErr r (λ fault. fault ≡ kinds.Output)
+    → AppendsBeginning before after report → IfErr r (BeginsReport before after report)
+report_unwritten (Ok x) before after report is begun = tt
+report_unwritten (Err fault) before after report is begun = record { at_work = subst IsWorkFault (sym is) tt; begun = begun }

@@ -1,0 +1,130 @@
+-- What a session promises, by the status that it ends with.
+use Rattle.std.specs.Prelude.{◌≡◌, ◌⊎◌, ℕ, ◌≤◌, Bool, List, [], Option, Some, ⊤}
+use Rattle.std.specs.Io.KnownBytes.{Appends}
+use Rattle.frame_word.specs.Seats.{KnownTable}
+use Rattle.stock_word.specs.Stock.{Words}
+use Rattle.zone_sizes.specs.Config.{IsValidConfig}
+use Rattle.mem_machine.specs.Telling.{TellsRun}
+use Rattle.script_replay.specs.History.{TellsHistory, past}
+use Rattle.script_replay.specs.Lines.{SystemState}
+use Rattle.script_replay.specs.Terms.{terms}
+use Rattle.line_server.specs.declared.fault.ServeFault.{ServeFault}
+use Rattle.line_server.specs.declared.fault.ServeFault.TheVariants as serve
+use Rattle.line_server.specs.Sessions.{FailsSession, ServesSession, answers_of, lines_of}
+use Rattle.load_options.specs.declared.fault.LineFault.TheVariants as words
+use Rattle.load_options.specs.declared.task.Options.{Options}
+use Rattle.load_run.specs.declared.fault.ProgramFault.{ProgramFault}
+use Rattle.load_run.specs.declared.fault.ProgramFault.TheVariants as kinds
+use Rattle.load_run.specs.Starting.{StandsAtFirst}
+use Rattle.load_run.specs.Causes.{Written}
+use Rattle.load_run.specs.Ending.{TellsEnd}
+use Rattle.load_run.specs.Fault.{fault_text}
+use Rattle.load_run.specs.Writing.{AppendsBeginning}
+
+-- A new boot served a session on an input, and ended. `middle` is what the output holds after the session, and `ending`
+-- the report of the end, if the options ask for one. All steps of the lines that were served are one run from the boot
+-- on. Its history says of each line that the promise is kept after it, if the run is legal. The ledger of the boot is
+-- that of a run without steps.
+pub record EndsSession (options : Options) (is_explained : Bool) (input before middle : Option (List ℕ))
+    (ending : List ℕ) : Type 0 where
+  pub frames : KnownTable
+  pub stocks : Words
+  pub start : SystemState
+  pub end : SystemState
+  pub first : StandsAtFirst options.sizes frames stocks start
+  pub session : ServesSession (terms frames stocks is_explained) options.sizes input start end before middle
+  pub history : TellsHistory (terms frames stocks is_explained) (lines_of session.turns) (past [] start) end
+      (answers_of session.turns)
+  pub told : TellsRun frames [] start.locked.machine.ledger
+  pub ends : TellsEnd frames stocks options.is_audited end ending
+
+-- a session ended, and all of the report was written behind its answers
+pub record ServesInput (options : Options) (is_explained : Bool) (input before after : Option (List ℕ)) : Type 0 where
+  pub middle : Option (List ℕ)
+  pub ending : List ℕ
+  pub ends : EndsSession options is_explained input before middle ending
+  pub written : Appends middle after ending
+
+-- a session ended, and a beginning of the report was written behind its answers
+pub record BeginsEnding (options : Options) (is_explained : Bool) (input before after : Option (List ℕ)) : Type 0 where
+  pub middle : Option (List ℕ)
+  pub ending : List ℕ
+  pub ends : EndsSession options is_explained input before middle ending
+  pub begun : AppendsBeginning middle after ending
+
+-- the same fault of the program
+abbrev pub IsSameFault : ServeFault → ProgramFault → Type 0
+IsSameFault serve.Input kinds.Input = ⊤
+IsSameFault serve.Output kinds.Output = ⊤
+IsSameFault serve.NoMemory (kinds.NoMemory error) = ⊤
+IsSameFault why fault = ⊥
+
+-- a session on a new boot failed with this fault
+pub record FailsOnBoot (options : Options) (is_explained : Bool) (input before after : Option (List ℕ))
+    (fault : ProgramFault) : Type 0 where
+  pub frames : KnownTable
+  pub stocks : Words
+  pub start : SystemState
+  pub end : SystemState
+  pub first : StandsAtFirst options.sizes frames stocks start
+  pub why : ServeFault
+  pub same : IsSameFault why fault
+  pub fails : FailsSession (terms frames stocks is_explained) options.sizes input start end before after why
+
+-- a fault at work
+abbrev pub IsWorkFault : ProgramFault → Type 0
+IsWorkFault kinds.Input = ⊤
+IsWorkFault kinds.Output = ⊤
+IsWorkFault (kinds.NoMemory error) = ⊤
+IsWorkFault (kinds.Words (words.NoMemory error)) = ⊤
+IsWorkFault fault = ⊥
+
+-- a report wasn't written, or a beginning of it was
+pub record BeginsReport (before after : Option (List ℕ)) (report : List ℕ) (fault : ProgramFault) : Type 0 where
+  pub at_work : IsWorkFault fault
+  pub begun : AppendsBeginning before after report
+
+-- What a fault at work leaves: nothing is written, and no line was read; or the session failed; or it ended, and the
+-- report of the end wasn't written whole.
+pub record LeavesSession (options : Options) (is_explained : Bool) (input before after : Option (List ℕ))
+    (fault : ProgramFault) : Type 0 where
+  pub at_work : IsWorkFault fault
+  pub left : (after ≡ before) ⊎ (FailsOnBoot options is_explained input before after fault
+      ⊎ BeginsEnding options is_explained input before after)
+
+-- Why there is no session, or no more of it: a boot refuses the sizes, and nothing is written; or a fault at work.
+abbrev pub StopsSession : (options : Options) (is_explained : Bool) (input before after : Option (List ℕ))
+    → ProgramFault → Type 0
+StopsSession options is_explained input before after kinds.BadConfig = (after ≡ before) × ¬ IsValidConfig options.sizes
+StopsSession options is_explained input before after fault =
+    LeavesSession options is_explained input before after fault
+
+-- a session failed at its work; the fault writer got why, as far as it took it
+pub record FailsToServe (options : Options) (is_explained : Bool) (input : Option (List ℕ)) (before after : Written)
+    : Type 0 where
+  pub fault : ProgramFault
+  pub left : LeavesSession options is_explained input before.output after.output fault
+  pub told : AppendsBeginning before.faults after.faults (fault_text fault)
+
+-- a boot refuses the sizes, and that was told, as far as the writer took it
+pub record RefusesSizes (options : Options) (before after : Option (List ℕ)) : Type 0 where
+  pub refused : ¬ IsValidConfig options.sizes
+  pub told : AppendsBeginning before after (fault_text kinds.BadConfig)
+
+-- A session on an input ended with at most 2. With 0 it ended by `quit` or at the end of the input, and no fault is
+-- reported. With 1 it failed at its work. With 2 the sizes are refused, and nothing is written to the output.
+pub record DrivesSession (options : Options) (is_explained : Bool) (input : Option (List ℕ)) (before after : Written)
+    (status : ℕ) : Type 0 where
+  pub status_at_most : status ≤ 2
+  pub silent : status ≡ 0 → after.faults ≡ before.faults
+  pub served : status ≡ 0 → ServesInput options is_explained input before.output after.output
+  pub fails : status ≡ 1 → FailsToServe options is_explained input before after
+  pub quiet : status ≡ 2 → after.output ≡ before.output
+  pub refused : status ≡ 2 → RefusesSizes options before.faults after.faults
+
+-- a session was held for the options that are asked for
+pub record SessionAsked (is_explained : Bool) (asked : Option Options) (input : Option (List ℕ)) (before after : Written)
+    (status : ℕ) : Type 0 where
+  pub options : Options
+  pub is_asked : asked ≡ Some options
+  pub drives : DrivesSession options is_explained input before after status

@@ -1,0 +1,141 @@
+-- What a command says as a value. Serves `typed_answers` and `typed_calls`.
+use Rattle.std.proofs.Common.{◌≡◌, ◌-◌, ◌&&◌, ℕ, Bool, true, false, Some, List, [], ◌∷◌, append-nil, arith, get_or, refl, subst, sym}
+use Rattle.std.specs.Prelude.{Option, Result, length, slice_set}
+use Rattle.std.specs.List.{slice_get}
+use Rattle.std.proofs.lemmas.Option.{slice_get_read}
+use Rattle.frame_word.specs.declared.answers.Get.{Get as GetAnswer}
+use Rattle.frame_word.specs.declared.answers.Put.{Put as PutAnswer}
+use Rattle.frame_word.specs.Seats.{KnownTable}
+use Rattle.group_tree.specs.declared.fault.Fault.{Fault}
+use Rattle.stock_word.specs.declared.view.Stock.TheVariants as stock_is
+use Rattle.cpu_part.specs.Cpus.{KnownCpu, IsTied}
+use Rattle.step_rules.specs.After.{Run}
+use Rattle.mem_system.specs.declared.command.Reply.{Reply}
+use Rattle.mem_system.specs.Locked.{KnownLocked}
+use Rattle.mem_system.specs.Visits.{LockedState, Transition, locked_state, transition}
+use Rattle.reply_texts.specs.Answer.{Answer, Served}
+use Rattle.reply_texts.specs.Answers.{answer_text}
+use Rattle.script_lines.specs.declared.line.Command.{Command}
+use Rattle.script_lines.specs.declared.line.Line.TheVariants.{At}
+use Rattle.script_replay.specs.declared.work.Work.{Work}
+use Rattle.script_replay.specs.declared.work.Work.TheVariants.{Visit, Frame, Fast, Release, Get, Put, Settle, Blocks, Show}
+use Rattle.script_replay.specs.Answers.{AnswersWork, CanNotList, GetsNoneFast, GetsPin, OnlyWatched, PutsPin, ReleasesUnderLock}
+use Rattle.script_replay.specs.Answers.{ServesUnderLock, WritesAnswer, WritesWork, get_steps, kills_text, pin_answer, put_steps}
+use Rattle.script_replay.specs.Answers.{unpin_answer}
+use Rattle.script_replay.specs.History.{HoldsInvariants, ServesAndKeeps}
+use Rattle.script_replay.specs.Lines.{SystemState, system_state}
+use Rattle.script_replay.specs.Ranges.{IsThere}
+use Rattle.script_replay.specs.Terms.{BootTables, Terms, boot_tables, terms}
+use Rattle.script_replay.specs.Typed.{SaysCommand, SaysWork}
+use Rattle.script_replay.specs.Works.{work_of}
+use Rattle.script_replay.proofs.Going.{all_replayed, tied_still}
+
+-- ---- what is said without the lock
+
+module _ (table : KnownTable) (f n : ℕ) (l m : KnownLocked) (c d : KnownCpu) (is : n ≡ c.number) (said : Answer) where
+  pub got : (r : Result GetAnswer Fault) → GetsPin f c d (pin_answer r) → OnlyWatched (get_steps n f (pin_answer r)) l m
+      → pin_answer r ≡ said → SaysWork table (Get f) (locked_state l c) (locked_state m d) said
+  got r pins watched says =
+      subst (SaysWork table (Get f) (locked_state l c) (locked_state m d)) says (record {
+        steps = get_steps c.number f (pin_answer r);
+        may_kill = false;
+        answered = (
+          pins,
+          record {
+            locked = subst (λ (k : ℕ). OnlyWatched (get_steps k f (pin_answer r)) l m) is watched;
+            steps_are = refl;
+          },
+        );
+      })
+
+  pub put : (r : Option PutAnswer) → PutsPin f c d (unpin_answer r) → OnlyWatched (put_steps n f (unpin_answer r)) l m
+      → unpin_answer r ≡ said → SaysWork table (Put f) (locked_state l c) (locked_state m d) said
+  put r pins watched says =
+      subst (SaysWork table (Put f) (locked_state l c) (locked_state m d)) says (record {
+        steps = put_steps c.number f (unpin_answer r);
+        may_kill = false;
+        answered = (
+          pins,
+          record {
+            locked = subst (λ (k : ℕ). OnlyWatched (put_steps k f (unpin_answer r)) l m) is watched;
+            steps_are = refl;
+          },
+        );
+      })
+
+-- ---- the text of what is said
+
+module _ (way : Transition LockedState) (said : Answer) where
+  as_answer : (work : Work) (may_kill : Bool) → AnswersWork work way said may_kill → WritesAnswer false work way (answer_text said)
+  as_answer work true so = record { said = said; may_kill = true; answered = so; text_is = sym (append-nil (answer_text said)) }
+  as_answer work false so = record { said = said; may_kill = false; answered = so; text_is = sym (append-nil (answer_text said)) }
+
+  pub as_text : (work : Work) (may_kill : Bool) → AnswersWork work way said may_kill → WritesWork false work way (answer_text said)
+  as_text (Visit command) may_kill so = as_answer (Visit command) may_kill so
+  as_text (Frame path) may_kill so = as_answer (Frame path) may_kill so
+  as_text (Fast group) may_kill so = as_answer (Fast group) may_kill so
+  as_text (Release frame) may_kill so = as_answer (Release frame) may_kill so
+  as_text (Get frame) may_kill so = as_answer (Get frame) may_kill so
+  as_text (Put frame) may_kill so = as_answer (Put frame) may_kill so
+  as_text Settle may_kill so = as_answer Settle may_kill so
+  as_text Blocks may_kill so = absurd so
+  as_text Show may_kill so = absurd so
+
+-- ---- a command at its part
+
+module _ (tables : BootTables) (l m : KnownLocked) (cpus : List KnownCpu) (processor : ℕ) (command : Command) (c d : KnownCpu) (said : Answer)
+    (there : IsThere tables.frames.frames (length cpus) processor command) (is_part : slice_get cpus (processor - 1) ≡ Some c)
+    (says : SaysWork tables.frames (work_of command) (locked_state l c) (locked_state m d) said) (holds : HoldsInvariants tables.frames tables.stocks m)
+    (tied : IsTied tables.frames tables.stocks d) (none : d.stock_seat.view.last ≡ stock_is.NoGroup → d.fresh ≡ []) where
+  abbrev on : Terms
+  on = terms tables.frames tables.stocks false
+
+  abbrev before : SystemState
+  before = system_state l cpus
+
+  abbrev after : SystemState
+  after = system_state m (slice_set cpus (processor - 1) d)
+
+  one_line : (number : ℕ) → ServesAndKeeps on (At number processor command) before after (answer_text said)
+  one_line number = record {
+    there = there;
+    serves = record {
+      steps = says.steps;
+      tells = record {
+        plain = answer_text said;
+        so = record {
+          part = c;
+          left = d;
+          is_part = is_part;
+          done = as_text (transition tables.frames (locked_state l c) says.steps (locked_state m d)) said (work_of command) says.may_kill says.answered;
+          cpus = refl;
+        };
+        text_is = refl;
+      };
+    };
+    keeps = record {
+      holds = holds;
+      tied = λ all. tied_still tables.frames tables.stocks cpus (processor - 1) c d is_part tied none all;
+    };
+  }
+
+  pub command_said : SaysCommand tables processor command before after said
+  command_said = record {
+    says = record { part = c; left = d; is_part = is_part; done = says; cpus = refl };
+    replays = λ number. all_replayed on (At number processor command ∷ []) before after (answer_text said) (record {
+      first = answer_text said;
+      rest = [];
+      between = after;
+      serves_first = one_line number;
+      serves_rest = (refl, refl);
+      text_is = sym (append-nil (answer_text said));
+    });
+  }
+
+-- the part of a CPU that is there
+pub part_of : (cpus : List KnownCpu) (frames processor : ℕ) (command : Command) (c : KnownCpu) → IsThere frames (length cpus) processor command
+    → c ≡ get_or cpus (processor - 1) c → slice_get cpus (processor - 1) ≡ Some c
+part_of cpus frames processor command c there read =
+    let low = there.low in
+    let high = there.high in
+    slice_get_read cpus (length cpus) (processor - 1) c refl (omega arith) read

@@ -1,0 +1,58 @@
+-- What a command of a CPU does whose answer is a value, and not a text.
+use Rattle.std.specs.Prelude.{◌≡◌, ℕ, Bool, false, [], ◌∷◌}
+use Rattle.frame_word.specs.Seats.{KnownTable}
+use Rattle.group_charge.specs.Charges.{Ledger}
+use Rattle.cpu_part.specs.Cpus.{KnownCpu}
+use Rattle.step_rules.specs.After.{Run}
+use Rattle.mem_system.specs.Outcomes.{HasItsGroups, reply_of}
+use Rattle.mem_system.specs.Visits.{LockedState, locked_state, transition}
+use Rattle.reply_texts.specs.Answer.{Answer}
+use Rattle.reply_texts.specs.Answer as answer
+use Rattle.reply_texts.specs.Answers.{answer_text}
+use Rattle.script_lines.specs.declared.line.Command.{Command}
+use Rattle.script_lines.specs.declared.line.Command.TheVariants.{Blocks, Show}
+use Rattle.script_lines.specs.declared.line.Line.TheVariants.{At}
+use Rattle.script_replay.specs.declared.said.Said.{Said}
+use Rattle.script_replay.specs.declared.said.Said.TheVariants as said
+use Rattle.script_replay.specs.declared.work.Work.{Work}
+use Rattle.script_replay.specs.declared.work.Work.TheVariants as work
+use Rattle.script_replay.specs.Answers.{AnswersWork}
+use Rattle.script_replay.specs.History.{Replays}
+use Rattle.script_replay.specs.Lines.{AtPart, SystemState}
+use Rattle.script_replay.specs.Terms.{BootTables, terms}
+use Rattle.script_replay.specs.Works.{work_of}
+
+-- the answer that is said, with the texts that the ledger after the command gives it
+abbrev pub answer_of : Ledger → Said → Answer
+answer_of ledger (said.Served outcome) = answer.Served (reply_of ledger outcome)
+answer_of ledger said.Settled = answer.Settled
+answer_of ledger (said.Fast fast) = answer.Fast fast
+answer_of ledger (said.Got got) = answer.Got got
+answer_of ledger (said.Put put) = answer.Put put
+answer_of ledger said.Listed = answer.Listed
+
+-- a group whose path or file is said exists
+abbrev pub SaysItsGroups : Ledger → Said → Type 0
+SaysItsGroups ledger (said.Served outcome) = HasItsGroups ledger outcome
+SaysItsGroups ledger other = Unit {0}
+
+-- the answer isn't a text of any length
+abbrev pub IsShort : Work → Type 0
+IsShort work.Blocks = ⊥
+IsShort work.Show = ⊥
+IsShort other = Unit {0}
+
+-- the command was served by some steps, and this is its answer
+pub record SaysWork (table : KnownTable) (work : Work) (before after : LockedState) (said : Answer) : Type 0 where
+  pub steps : Run
+  pub may_kill : Bool
+  pub answered : AnswersWork work (transition table before steps after) said may_kill
+
+-- The command of the CPU of this number was served with this answer. A script of the command alone, whatever the number
+-- of its line, is replayed from the state before to the state after, and its answer is the text of this one.
+pub record SaysCommand (tables : BootTables) (processor : ℕ) (command : Command) (before after : SystemState)
+    (said : Answer) : Type 0 where
+  pub says : AtPart processor (λ part left. SaysWork tables.frames (work_of command)
+      (locked_state before.locked part) (locked_state after.locked left) said) before.cpus after.cpus
+  pub replays : (number : ℕ) → Replays (terms tables.frames tables.stocks false) (At number processor command ∷ [])
+      before after (answer_text said)

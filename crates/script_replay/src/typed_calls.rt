@@ -1,0 +1,65 @@
+//! Serving one command for the CPU of a number, by value of what lies behind the lock, with its answer as a value.
+
+ghost use Rattle.std.specs.Prelude.{◌≡◌, [], length};
+ghost use Rattle.stock_word.specs.declared.view.Stock.TheVariants.{NoGroup};
+ghost use Rattle.cpu_part.specs.Cpus.{IsTied};
+ghost use Rattle.mem_system.specs.Visits.{locked_state};
+ghost use Rattle.script_replay.specs.History.{HoldsInvariants};
+ghost use Rattle.script_replay.specs.Lines.{system_state};
+ghost use Rattle.script_replay.specs.Ranges.{IsThere, NamesInRange};
+ghost use Rattle.script_replay.specs.Terms.{boot_tables};
+ghost use Rattle.script_replay.specs.Typed.{IsShort, SaysCommand, SaysItsGroups, SaysWork, answer_of};
+ghost use Rattle.script_replay.specs.Works.{work_of};
+
+use crate::said::Said;
+use crate::typed_answers::say_work;
+use crate::value_replay::see_invariants;
+use crate::work::work_of;
+use cpu_part::{BootName, Cpu, Tables};
+use mem_system::Locked;
+use script_lines::line::Command;
+
+/// Serves a command for the CPU of this number, from 1, as `replay` does, and returns its answer as a value. All that
+/// the command names is there, and it isn't `show` or `blocks`. No memory is taken.
+pub fn serve_typed<N: BootName>(
+    locked: &mut Locked<N>,
+    tables: &Tables<N>,
+    cpus: &mut [Cpu<N>],
+    processor: u32,
+    command: &Command<'_>,
+) -> Said
+    requires there { IsThere N.frames.frames (length cpus.old) processor command.now }
+    requires short { IsShort (work_of command.now) }
+    ensures said { SaysCommand (boot_tables N.frames N.stocks) processor command.now
+        (system_state locked.old cpus.old) (system_state locked.new cpus.new)
+        (answer_of locked.new.machine.ledger result) }
+    ensures groups { SaysItsGroups locked.new.machine.ledger result }
+{
+    let at = (processor - 1) as usize;
+    say_part(locked, tables, &mut cpus[at], command)
+}
+
+// Serves a command at this part.
+#[tactic(auto, using(crate::proofs::InRange::work_in_range))]
+fn say_part<N: BootName>(
+    locked: &mut Locked<N>,
+    tables: &Tables<N>,
+    cpu: &mut Cpu<N>,
+    command: &Command<'_>,
+) -> Said
+    requires in_range { NamesInRange N.frames.frames command.now }
+    requires short { IsShort (work_of command.now) }
+    ensures said { SaysWork N.frames (work_of command.now) (locked_state locked.old cpu.old)
+        (locked_state locked.new cpu.new) (answer_of locked.new.machine.ledger result) }
+    ensures groups { SaysItsGroups locked.new.machine.ledger result }
+    ensures invariants { HoldsInvariants N.frames N.stocks locked.new }
+    ensures tied { IsTied N.frames N.stocks cpu.new }
+    ensures none_fresh { cpu.new.stock_seat.view.last ≡ NoGroup → cpu.new.fresh ≡ [] }
+{
+    let work = work_of(command);
+    let said = say_work(locked, tables, cpu, &work);
+    let _number = cpu.number(); // Called for its contract: `tied`.
+    let _last = cpu.last_stock(); // Called for its contract: `none_fresh`.
+    see_invariants(locked);
+    said
+}

@@ -1,0 +1,66 @@
+-- Calls that were not served. Serves `serve_into`.
+use Rattle.std.proofs.Common.{◌≡◌, ◌∙◌, ℕ, Some, None, List, ap, arith, inr, refl, subst, sym}
+use Rattle.std.specs.Prelude.{Option}
+use Rattle.std.proofs.lemmas.Option.{none-some}
+use Rattle.std.specs.Global.{Global}
+use Rattle.handles.specs.declared.calls.Call.{Call}
+use Rattle.handles.specs.Calls.{IsCpu, NamesNoFrame, RefusesCall}
+use Rattle.handles.specs.Commands.{with_kept}
+use Rattle.handles.specs.Known.{KnownLive}
+use Rattle.tempolemon_c.specs.Calls.{CallsInto, RefusesHost}
+use Rattle.tempolemon_c.specs.Handles.{LiveBoot, OnBoot, live_boot}
+use Rattle.tempolemon_c.specs.Statuses.{bad_cpu, bad_frame, not_live}
+use Rattle.tempolemon_c.specs.Words.{nothing_told}
+
+module _ (processor : ℕ) (asked : Call) (buffer : List ℕ) where
+  -- there is no boot
+  pub none_called : (before : Option LiveBoot) → before ≡ None → CallsInto processor asked before before not_live nothing_told buffer buffer
+  none_called before none = record {
+    statuses = inr (2, omega arith, refl);
+    none_live = (λ e. none, λ e. refl);
+    served = λ low. absurd (omega (arith, low));
+    no_cpu = λ e. absurd (omega (arith, e));
+    no_frame = λ e. absurd (omega (arith, e));
+    no_group = λ e. absurd (omega (arith, e));
+    stays = λ high. refl;
+    no_word = λ high. refl;
+    buffer_stays = λ high. refl;
+  }
+
+  -- nothing is done, and there is a boot
+  still : (is_missing : KnownLive → Type 0) (before after : Option LiveBoot) → RefusesHost is_missing before after → after ≡ before
+  still is_missing before after refuses =
+      refuses.is ∙ (ap (λ (live : KnownLive). Some (live_boot refuses.frames refuses.stocks live)) refuses.done.stays ∙ sym refuses.was)
+
+  there : (is_missing : KnownLive → Type 0) (before after : Option LiveBoot) → RefusesHost is_missing before after → before ≡ None → ⊥
+  there is_missing before after refuses none = none-some _ (sym none ∙ refuses.was)
+
+  -- there is no such CPU
+  pub no_cpu_called : (before after : Option LiveBoot) → RefusesHost (λ from. ¬ IsCpu from.sizes.cpus processor) before after
+      → CallsInto processor asked before after bad_cpu nothing_told buffer buffer
+  no_cpu_called before after refuses = record {
+    statuses = inr (3, omega arith, refl);
+    none_live = (λ e. absurd (omega (arith, e)), λ none. absurd (there (λ from. ¬ IsCpu from.sizes.cpus processor) before after refuses none));
+    served = λ low. absurd (omega (arith, low));
+    no_cpu = λ e. refuses;
+    no_frame = λ e. absurd (omega (arith, e));
+    no_group = λ e. absurd (omega (arith, e));
+    stays = λ high. still (λ from. ¬ IsCpu from.sizes.cpus processor) before after refuses;
+    no_word = λ high. refl;
+    buffer_stays = λ high. refl;
+  }
+
+  -- there is no such frame
+  pub no_frame_called : (before after : Option LiveBoot) → RefusesHost (λ from. NamesNoFrame from.sizes.frames asked) before after
+      → CallsInto processor asked before after bad_frame nothing_told buffer buffer
+  no_frame_called before after refuses = record {
+    statuses = inr (4, omega arith, refl);
+    none_live = (λ e. absurd (omega (arith, e)), λ none. absurd (there (λ from. NamesNoFrame from.sizes.frames asked) before after refuses none));
+    served = λ low. absurd (omega (arith, low));
+    no_cpu = λ e. absurd (omega (arith, e));
+    no_frame = λ e. refuses;
+    no_group = λ e. absurd (omega (arith, e));
+    stays = λ high. still (λ from. NamesNoFrame from.sizes.frames asked) before after refuses;
+    no_word = λ high. refl;
+    buffer_stays = λ high. refl;
+  }

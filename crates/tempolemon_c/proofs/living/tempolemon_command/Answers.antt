@@ -1,0 +1,22 @@
+-- Serves the contract of `tempolemon_command`: each status is at its place in the list, and the answers are kept.
+use Rattle.std.proofs.Common.{refl, arith, rules}
+use Rattle.tempolemon_c.specs.Behind.{behind}
+use Rattle.tempolemon_c.proofs.living.tempolemon_command.Goals as goal
+
+pub returns-else-put_answers-clause-statuses : goal.returns-else-put_answers-clause-statuses
+returns-else-put_answers-clause-statuses c = (3, omega arith, refl)
+
+pub returns-else-put_answers-clause-too_small : goal.returns-else-put_answers-clause-too_small
+returns-else-put_answers-clause-too_small c = λ e. record {
+  text = c.in-Text.told.items;
+  is = record {
+    between = behind c.ask.new.self;
+    commands = search rules;
+    keeps = search rules;
+  };
+  needed_is = search rules;
+  exceeds = search rules;
+}
+
+pub returns-in-BadLine-clause-statuses : goal.returns-in-BadLine-clause-statuses
+returns-in-BadLine-clause-statuses c = (2, omega arith, refl)

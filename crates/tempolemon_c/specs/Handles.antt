@@ -1,0 +1,98 @@
+-- What contracts see of a host's handle, and what the calls do to the boot behind it.
+use Rattle.std.specs.Prelude.{◌≡◌, ℕ, Bool, List, Option, None, Some}
+use Rattle.frame_word.specs.Seats.{KnownTable}
+use Rattle.stock_word.specs.Stock.{Words}
+use Rattle.zone_sizes.specs.declared.config.Config.{Config}
+use Rattle.zone_sizes.specs.Config.{IsValidConfig}
+use Rattle.load_run.specs.Answers.{StandsAtFirst}
+use Rattle.load_run.specs.Ending.{EndsHeld}
+use Rattle.load_run.specs.declared.boot_end.Ended.{Ended}
+use Rattle.handles.specs.Known.{KnownLive}
+use Rattle.handles.specs.Commands.{AnswersScript, RefusesScript, RunsOut, TakesKept, with_kept}
+use Rattle.tempolemon_c.specs.declared.report.Report.{Report}
+
+-- a boot behind a handle: its tables, and what stands between the calls
+pub record LiveBoot : Type 0 where
+  pub frames : KnownTable
+  pub stocks : Words
+  pub live : KnownLive
+
+-- the boot with these tables
+abbrev pub live_boot : KnownTable → Words → KnownLive → LiveBoot
+live_boot frames stocks live = record { frames = frames; stocks = stocks; live = live }
+
+-- the boot behind a handle, if there is one; tables without a boot don't matter
+abbrev pub boot_of : KnownTable → Words → Option KnownLive → Option LiveBoot
+boot_of frames stocks None = None
+boot_of frames stocks (Some live) = Some (live_boot frames stocks live)
+
+-- a new boot of these sizes stands behind the handle, and no answer is kept
+pub record BootsNew (sizes : Config) (after : Option LiveBoot) : Type 0 where
+  pub boot : LiveBoot
+  pub is : after ≡ Some boot
+  pub valid : IsValidConfig sizes
+  pub first : StandsAtFirst sizes boot.frames boot.stocks boot.live.state
+  pub sizes_are : boot.live.sizes ≡ sizes
+
+-- a boot stands behind the handle before and after a call, and under its tables `does` leads from one to the other
+pub record OnBoot (does : KnownTable → Words → (from to : KnownLive) → Type 0) (before after : Option LiveBoot)
+    : Type 0 where
+  pub frames : KnownTable
+  pub stocks : Words
+  pub from : KnownLive
+  pub to : KnownLive
+  pub was : before ≡ Some (live_boot frames stocks from)
+  pub is : after ≡ Some (live_boot frames stocks to)
+  pub done : does frames stocks from to
+
+-- the lines were replayed with these answers
+abbrev pub Commands : (text : List ℕ) (is_explained : Bool) (before after : Option LiveBoot) (answers : List ℕ) → Type 0
+Commands text is_explained before after answers =
+    OnBoot (λ frames stocks from to. AnswersScript frames stocks text is_explained answers from to) before after
+
+-- the lines were replayed with these answers, which the boot keeps now
+pub record CommandsAndKeeps (text : List ℕ) (is_explained : Bool) (before after : Option LiveBoot)
+    (answers : List ℕ) : Type 0 where
+  pub between : Option LiveBoot
+  pub commands : Commands text is_explained before between answers
+  pub keeps : OnBoot (λ frames stocks from to. to ≡ with_kept from answers) between after
+
+-- this is the first bad line of the text, and nothing is done
+abbrev pub RefusesCommand : (text : List ℕ) (number : ℕ) (before after : Option LiveBoot) → Type 0
+RefusesCommand text number before after =
+    OnBoot (λ frames stocks from to. RefusesScript text number from to) before after
+
+-- memory ran out before the first line, or for the answer of a line that was served
+abbrev pub CommandRunsOut : (text : List ℕ) (is_explained : Bool) (before after : Option LiveBoot) → Type 0
+CommandRunsOut text is_explained before after =
+    OnBoot (λ frames stocks from to. RunsOut frames stocks text is_explained from to) before after
+
+-- the answer that was kept was taken, and none is kept
+abbrev pub TakesAnswer : (before after : Option LiveBoot) (answer : List ℕ) → Type 0
+TakesAnswer before after answer = OnBoot (λ frames stocks from to. TakesKept from to answer) before after
+
+-- this answer is kept
+abbrev pub KeepsAnswer : (boot : Option LiveBoot) (answer : List ℕ) → Type 0
+KeepsAnswer boot answer = OnBoot (λ frames stocks from to. from.kept ≡ answer) boot boot
+
+-- what a host reads of the end of a boot, as the boot told it
+abbrev pub ended_of : Report → Ended
+ended_of report = record {
+  held = report.held;
+  audit = record {
+    frames = report.frames;
+    free = report.free;
+    charged = report.charged;
+    last_puts = report.last_puts;
+    freezes = report.freezes;
+    drops = report.drops;
+    returns = report.returns;
+  };
+}
+
+-- the boot ended with this report, and none is left
+pub record EndsBoot (before after : Option LiveBoot) (report : Report) : Type 0 where
+  pub boot : LiveBoot
+  pub was : before ≡ Some boot
+  pub none_left : after ≡ None
+  pub ends : EndsHeld boot.frames boot.stocks boot.live.state (ended_of report)

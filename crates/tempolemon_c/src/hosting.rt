@@ -1,0 +1,80 @@
+//! What is done with the boot behind a handle.
+
+ghost use Rattle.std.specs.Prelude.{◌≡◌, ◌↔◌, IsSome, IsTrue, MatchBool, None, Some};
+ghost use Rattle.zone_sizes.specs.Config.{IsValidConfig};
+ghost use Rattle.handles.specs.Calls.{Calls};
+ghost use Rattle.tempolemon_c.specs.Behind.{behind};
+ghost use Rattle.tempolemon_c.specs.Asking.{IsAsk, ServesBoot};
+ghost use Rattle.tempolemon_c.specs.Handles.{BootsNew, EndsBoot, OnBoot};
+
+use crate::handle::Handle;
+use crate::report::Report;
+use handles::calls::{Call, Told};
+use handles::raw::{Raw, serve_raw};
+use handles::requests::{Answer, Request};
+use mem_system::Boot;
+use std::alloc::Global;
+use zone_sizes::config::Config;
+
+impl Handle {
+    /// Whether a boot stands behind it.
+    pub fn is_live(&self) -> bool
+        ensures { IsTrue result ↔ IsSome (behind self.now) }
+    {
+        self.is_live
+    }
+
+    /// Starts this boot, which has these sizes, behind a handle that has none. Returns false if memory ran out: nothing
+    /// is left then.
+    pub(crate) fn start(&mut self, alloc: Global, boot: Boot, sizes: Config) -> bool
+        requires none { behind self.old ≡ None }
+        requires sizes { boot.sizes ≡ sizes }
+        requires valid { IsValidConfig sizes }
+        ensures { MatchBool result (BootsNew sizes (behind self.new)) (behind self.new ≡ None) }
+    {
+        let raw = std::mem::replace(&mut self.raw, Raw::none(alloc));
+        let (raw, answer) = serve_raw(raw, Request::Start { alloc, boot, sizes });
+        self.raw = raw;
+        self.is_live = matches!(answer, Answer::Done);
+        self.is_live
+    }
+
+    /// Serves a request that neither starts nor ends a boot.
+    pub(crate) fn ask(&mut self, alloc: Global, request: Request) -> Answer
+        requires live { IsSome (behind self.old) }
+        requires ask { IsAsk request }
+        ensures { ServesBoot request (behind self.old) (behind self.new) result }
+    {
+        let raw = std::mem::replace(&mut self.raw, Raw::none(alloc));
+        let (raw, answer) = serve_raw(raw, request);
+        self.raw = raw;
+        answer
+    }
+
+    /// Serves a call of the CPU of this number.
+    pub(crate) fn call(&mut self, alloc: Global, processor: u32, call: Call) -> Told
+        requires live { IsSome (behind self.old) }
+        ensures { OnBoot (λ frames stocks from to. Calls frames stocks processor call from to result)
+            (behind self.old) (behind self.new) }
+    {
+        match self.ask(alloc, Request::Call { processor, call }) {
+            Answer::Told(told) => told,
+            _ => unreachable!(),
+        }
+    }
+
+    /// Ends the boot.
+    pub(crate) fn finish(&mut self, alloc: Global) -> Report
+        requires live { IsSome (behind self.old) }
+        ensures { EndsBoot (behind self.old) (behind self.new) result }
+    {
+        let raw = std::mem::replace(&mut self.raw, Raw::none(alloc));
+        let (raw, answer) = serve_raw(raw, Request::End { alloc });
+        self.raw = raw;
+        self.is_live = false;
+        match answer {
+            Answer::Ended(ended) => Report::of(ended),
+            _ => unreachable!(),
+        }
+    }
+}

@@ -1,0 +1,161 @@
+//! The calls that start a boot, give it lines of a script, and end it.
+
+ghost use Rattle.std.specs.Prelude.{◌≡◌, ◌≢◌, ◌↔◌, None};
+ghost use Rattle.zone_sizes.specs.Config.{IsValidConfig};
+ghost use Rattle.tempolemon_c.specs.Behind.{behind};
+ghost use Rattle.tempolemon_c.specs.Buffers.{ExceedsBuffer, FillsBuffer};
+ghost use Rattle.tempolemon_c.specs.Handles.{BootsNew, CommandRunsOut, Commands, CommandsAndKeeps, EndsBoot};
+ghost use Rattle.tempolemon_c.specs.Handles.{KeepsAnswer, RefusesCommand, TakesAnswer};
+ghost use Rattle.tempolemon_c.specs.Replays.{config_of};
+ghost use Rattle.tempolemon_c.specs.Statuses.{IsAnswerStatus, IsBootStatus, IsCommandStatus, IsEndStatus};
+ghost use Rattle.tempolemon_c.specs.Statuses.{bad_config, bad_line, done, is_live, no_memory, not_live, small_buffer};
+
+use crate::buffers::put_answers;
+use crate::handle::Handle;
+use crate::report::Report;
+use crate::sizes::Sizes;
+use crate::status::{BAD_CONFIG, BAD_LINE, DONE, IS_LIVE, NO_MEMORY, NOT_LIVE, SMALL_BUFFER};
+use handles::requests::{Answer, Request};
+use mem_system::{BootFault, boot};
+use std::alloc::Global;
+
+/// Boots a zone of these sizes behind a handle that has none. Unless the status is 0, nothing of the boot stays.
+#[unsafe(no_mangle)]
+pub extern "C" fn tempolemon_boot(alloc: Global, sizes: &Sizes, handle: &mut Handle) -> u8
+    ensures statuses { IsBootStatus result }
+    ensures refused_live { (result ≡ is_live) ↔ (behind handle.old ≢ None) }
+    ensures bad_sizes { result ≡ bad_config → ¬ IsValidConfig (config_of sizes.now) }
+    ensures booted { result ≡ done → BootsNew (config_of sizes.now) (behind handle.new) }
+    ensures stays { result ≢ done → behind handle.new ≡ behind handle.old }
+{
+    if handle.is_live() {
+        return IS_LIVE;
+    }
+    let sizes = sizes.config();
+    match boot(alloc, sizes) {
+        Ok(boot) => {
+            if handle.start(alloc, boot, sizes) {
+                DONE
+            } else {
+                NO_MEMORY
+            }
+        }
+        Err(BootFault::BadConfig) => BAD_CONFIG,
+        Err(BootFault::NoMemory) => NO_MEMORY,
+    }
+}
+
+/// Ends the boot, and tells what it counted. Pins that are still held are put first.
+#[unsafe(no_mangle)]
+pub extern "C" fn tempolemon_end(alloc: Global, handle: &mut Handle, report: &mut Report) -> u8
+    ensures statuses { IsEndStatus result }
+    ensures none_live { (result ≡ not_live) ↔ (behind handle.old ≡ None) }
+    ensures ended { result ≡ done → EndsBoot (behind handle.old) (behind handle.new) report.new }
+    ensures none_left { behind handle.new ≡ None }
+    ensures report_stays { result ≢ done → report.new ≡ report.old }
+{
+    if !handle.is_live() {
+        return NOT_LIVE;
+    }
+    *report = handle.finish(alloc);
+    DONE
+}
+
+/// Serves lines of a script, in order, and writes the answers that the program's `replay` gives them. A bad line is
+/// found before the first line is served.
+///
+/// How long an answer is shows only once its line was served, and then it can't be undone. So if the buffer is too
+/// small for the answers, the boot keeps them, and `written` is the length that they need: `tempolemon_answer` fetches
+/// them. They take the place of answers that were kept before.
+#[unsafe(no_mangle)]
+pub extern "C" fn tempolemon_command(
+    alloc: Global,
+    handle: &mut Handle,
+    is_explained: bool,
+    script: &[u8],
+    answers: &mut [u8],
+    written: &mut usize,
+    first_bad: &mut usize,
+) -> u8
+    ensures statuses { IsCommandStatus result }
+    ensures none_live { (result ≡ not_live) ↔ (behind handle.old ≡ None) }
+    ensures answered { result ≡ done → FillsBuffer
+        (Commands script.now is_explained (behind handle.old) (behind handle.new)) answers.old answers.new written.new }
+    ensures too_small { result ≡ small_buffer → ExceedsBuffer
+        (CommandsAndKeeps script.now is_explained (behind handle.old) (behind handle.new)) answers.old written.new }
+    ensures first_bad_line { result ≡ bad_line
+        → RefusesCommand script.now first_bad.new (behind handle.old) (behind handle.new) }
+    ensures ran_out { result ≡ no_memory
+        → CommandRunsOut script.now is_explained (behind handle.old) (behind handle.new) }
+    ensures stays { result ≡ not_live → behind handle.new ≡ behind handle.old }
+    ensures buffer_stays { result ≢ done → answers.new ≡ answers.old }
+    ensures no_length { result ≢ done → result ≢ small_buffer → written.new ≡ 0 }
+    ensures no_bad_line { result ≢ bad_line → first_bad.new ≡ 0 }
+{
+    *written = 0;
+    *first_bad = 0;
+    if !handle.is_live() {
+        return NOT_LIVE;
+    }
+    let Ok(text) = Vec::from_slice(alloc, script) else {
+        return NO_MEMORY;
+    };
+    match handle.ask(
+        alloc,
+        Request::Command {
+            alloc,
+            text,
+            is_explained,
+        },
+    ) {
+        Answer::Text(told) => {
+            *written = told.len();
+            if put_answers(&told, answers) {
+                return DONE;
+            }
+            let _kept = handle.ask(alloc, Request::Keep { text: told });
+            SMALL_BUFFER
+        }
+        Answer::BadLine(number) => {
+            *first_bad = number;
+            BAD_LINE
+        }
+        Answer::NoMemory => NO_MEMORY,
+        _ => unreachable!(),
+    }
+}
+
+/// Fetches the answers that the boot keeps, because a buffer was too small for them. If this buffer is too small as
+/// well, the boot keeps them still. If it keeps none, it gives an empty text.
+#[unsafe(no_mangle)]
+pub extern "C" fn tempolemon_answer(
+    alloc: Global,
+    handle: &mut Handle,
+    answers: &mut [u8],
+    written: &mut usize,
+) -> u8
+    ensures statuses { IsAnswerStatus result }
+    ensures none_live { (result ≡ not_live) ↔ (behind handle.old ≡ None) }
+    ensures fetched { result ≡ done → FillsBuffer
+        (TakesAnswer (behind handle.old) (behind handle.new)) answers.old answers.new written.new }
+    ensures too_small { result ≡ small_buffer
+        → ExceedsBuffer (KeepsAnswer (behind handle.old)) answers.old written.new }
+    ensures stays { result ≢ done → behind handle.new ≡ behind handle.old }
+    ensures buffer_stays { result ≢ done → answers.new ≡ answers.old }
+{
+    *written = 0;
+    if !handle.is_live() {
+        return NOT_LIVE;
+    }
+    match handle.ask(alloc, Request::Recall { alloc }) {
+        Answer::Text(told) => {
+            *written = told.len();
+            if put_answers(&told, answers) {
+                return DONE;
+            }
+            let _still = handle.ask(alloc, Request::Keep { text: told });
+            SMALL_BUFFER
+        }
+        _ => unreachable!(),
+    }
+}
