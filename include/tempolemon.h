@@ -74,9 +74,9 @@ typedef struct {
 
 /* Boots a zone, replays a script on it, and ends the boot. The answers are those of `memcg replay`, byte for byte.
  *
- * The script has at most 1,048,576 bytes: the lines of docs/MANUAL.md. is_explained asks for why groups were killed,
- * behind the answer of each line that killed some; is_audited asks for the report of the end, behind all answers.
- * answers is a buffer of `room` bytes. The text in it doesn't end with a null byte. script and answers may be empty, and
+ * The script has at most 1,048,576 bytes: the lines of docs/MANUAL.md. is_explained asks for what was drained,
+ * reclaimed and killed, behind the answer of each line that did so; is_audited asks for the report of the end, behind
+ * all answers. answers is a buffer of `room` bytes. The text in it doesn't end with a null byte. script and answers may be empty, and
  * point to anything then except null.
  *
  *   DONE          the answers are the first *written bytes of the buffer; the rest of it is unchanged
@@ -172,7 +172,8 @@ uint8_t tempolemon_answer(tempolemon_handle *handle, uint8_t *answers, size_t ro
  *   BAD_CPU    the zone has no such CPU; this is tested second
  *   BAD_FRAME  the zone has no such frame (of calls that name one)
  *   BAD_GROUP  no group has such a number (tempolemon_alloc)
- *   NO_MEMORY  memory ran out for a copy of a text (of calls that have a path)
+ *
+ * None of them takes memory.
  */
 
 /* Makes the group of this path: GROUP with its number, the least free one. */

@@ -41,6 +41,15 @@ static void alloc_settle_and_release(void) {
     ask(tempolemon_release(&host, 1, taken, &told), "release");
 }
 
+static void write_limit(void) {
+    ask(tempolemon_write(&host, 1, BYTES("/a"), BYTES("memory.max"), BYTES("max"), &told), "write");
+}
+
+static void read_usage(void) {
+    uint8_t text[160];
+    ask(tempolemon_read(&host, 1, BYTES("/a"), BYTES("memory.current"), text, sizeof text, &told), "read");
+}
+
 static void command(void) {
     uint8_t answers[64];
     size_t written, first_bad;
@@ -71,6 +80,8 @@ int main(void) {
     measure("a get and a put", get_and_put);
     measure("an alloc and a release, without the lock", alloc_and_release);
     measure("an alloc, a settle and a release", alloc_settle_and_release);
+    measure("a write of a limit", write_limit);
+    measure("a read of the usage", read_usage);
     measure("a command of one line", command);
     ask(tempolemon_end(&host, &report), "end");
     return EXIT_SUCCESS;

@@ -190,9 +190,3 @@ fn take_and_give_often(
 fn take_and_give_agree_with_the_areas_of_a_thousand_frames(rt: HostRuntime) {
     take_and_give_often(&rt, &mut [true; 1_000], 1_000, 10_000);
 }
-
-#[test]
-fn take_and_give_agree_with_the_areas_of_many_frames(rt: HostRuntime) {
-    let mut free = vec![in rt.alloc(); true; 65_536].expect(&rt, "memory");
-    take_and_give_often(&rt, free.as_mut_slice(), 65_536, 1_000);
-}

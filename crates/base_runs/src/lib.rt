@@ -1,5 +1,5 @@
-//! Tests of the lowest crates: the free areas and unit lists of the zone, and groups with their charges and files.
-//! This crate has nothing but tests.
+//! Tests of the lowest crates: the free areas and unit lists of the zone, and groups with their charges and files. A
+//! run of the core on plain lists. This crate has nothing but tests.
 #![tactic(auto)]
 
 #[cfg(test)]
@@ -16,6 +16,8 @@ mod files;
 mod levels;
 #[cfg(test)]
 mod lists;
+#[cfg(test)]
+mod plain_core;
 #[cfg(test)]
 mod tree;
 #[cfg(test)]

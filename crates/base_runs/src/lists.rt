@@ -1,7 +1,7 @@
 //! The inactive and the active list: the lines that the README of `lru_lists` shows.
 
 ghost use Rattle.std.specs.Prelude.{◌≡◌, ◌<◌, length};
-ghost use Rattle.lru_lists.specs.Lists.{StandsIn};
+ghost use Rattle.lru_lists.specs.Lists.{AreLinked};
 
 use crate::walks::zone_tells;
 use lru_lists::laws;
@@ -17,23 +17,23 @@ fn a_second_touch_moves_a_unit(rt: HostRuntime) {
     lru.add(&mut links, 3);
     touches_unit_3(&rt, &mut lru, &mut links, Touched::Marked);
     touches_unit_3(&rt, &mut lru, &mut links, Touched::Active);
-    zone_tells(&rt, lru.is_on(&links, 3) == Some(LruList::Active));
+    zone_tells(&rt, lru.list_of(&links, 3) == Some(LruList::Active));
     lru.age(&mut links);
-    zone_tells(&rt, lru.is_on(&links, 3) == Some(LruList::Inactive));
+    zone_tells(&rt, lru.list_of(&links, 3) == Some(LruList::Inactive));
 }
 
 // Touches unit 3, which must be on a list. The touch must give this answer.
 fn touches_unit_3(rt: &impl Abort, lru: &mut Lru, links: &mut Links, answer: Touched)
-    requires { (3 < length links.old) × StandsIn links.old lru.old }
-    ensures stands { StandsIn links.new lru.new }
+    requires { (3 < length links.old) × AreLinked links.old lru.old }
+    ensures linked { AreLinked links.new lru.new }
     ensures frames { length links.new ≡ length links.old }
 {
-    assert!(rt; lru.is_on(links, 3).is_some());
+    assert!(rt; lru.list_of(links, 3).is_some());
     zone_tells(rt, lru.touch(links, 3) == answer);
 }
 
 #[test]
 fn the_laws_can_be_called() {
-    laws::others_stand();
+    laws::others_stay_linked();
     laws::one_of_all_changes();
 }

@@ -62,7 +62,7 @@ const TEXTS: &str = "\
 6 NoGroup: the group is not there
 7 HasChildren: the group has children
 8 Busy: the group still has pages
-9 PinsFull: the processor holds too many references
+9 PinsFull: the CPU holds too many references
 10 NoFile: the group has no such file
 11 ReadOnly: the file cannot be written
 12 BadLimit: the text is no limit
@@ -74,7 +74,7 @@ const TEXTS: &str = "\
 18 Killed: the group was killed
 19 BadOrder: the order is above 10
 20 NotKept: the frame is not the head of a kept unit
-21 NotPinned: the processor holds no reference on the frame
+21 NotPinned: the CPU holds no reference on the frame
 22 WriteOnly: the file cannot be read
 ";
 

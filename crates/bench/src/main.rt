@@ -4,7 +4,6 @@
 #![tactic(auto)]
 
 mod costs;
-mod pins;
 mod prepaid;
 mod references;
 mod system;
@@ -45,7 +44,7 @@ fn tell_named<R: Threads + Wait + Print + Clock + Alloc<A = Global> + Sync>(
     for word in words {
         match table_named(word.as_str()) {
             Some(table) => tell_table(rt, table, Pace::Timed { unit })?,
-            None => println!(rt; "{word}: no table; there are references, prepaid and system")?,
+            None => println!(rt; "{word}: no table; there are prepaid and system")?,
         }
     }
     Ok(())

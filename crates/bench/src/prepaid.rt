@@ -1,7 +1,7 @@
 //! Prepaid pages: a pair of `consume` and `credit` on a stock's word, and rounds of `alloc_fast` and `drop_fresh`.
 //! The rounds are those of CPUs, each in its own thread, with or without visits between them.
 ghost use Rattle.std.specs.Prelude.{◌≡◌, ◌<◌};
-ghost use Rattle.stock_word.specs.Stock.{IsProcessor};
+ghost use Rattle.stock_word.specs.Stock.{IsCpuStock};
 
 use crate::costs::{Pace, Row, Subject, tell_rows};
 use crate::system::{alloc, settle};
@@ -22,7 +22,7 @@ struct Payer {
     words: StockWords,
     seat: StockSeat,
     ghost seated: { seat.table ≡ words.table },
-    ghost processor: { IsProcessor words seat.view },
+    ghost cpu: { IsCpuStock words seat.view },
 }
 
 impl Payer {
@@ -155,7 +155,7 @@ fn tell_sides<N: BootName + Send + Sync, R: Threads + Wait + Print + Clock + Syn
     rounds: Rounds,
 ) -> Result<()> {
     for threads in [1, 2, 4] {
-        let part = cpus.get_mut(..threads).context("too few processors")?;
+        let part = cpus.get_mut(..threads).context("too few CPUs")?;
         tell_rounds(rt, pace, system, part, group, rounds)?;
         println!(rt; "  threads: {threads}")?;
     }

@@ -1,21 +1,19 @@
 //! What is measured on a system: commands that take the zone lock, and what its CPUs do without it.
-ghost use Rattle.std.specs.Prelude.{◌≡◌, ◌<◌, length, IfOk};
+ghost use Rattle.std.specs.Prelude.{◌≡◌, length};
 ghost use Rattle.mem_system.specs.Commands.{IsOfZone};
 
 use crate::costs::{Pace, Row, Subject, tell_rows};
-use crate::pins::tell_references;
 use crate::prepaid::tell_threads;
 use crate::tables::Table;
 use anyhow::{Context, Result, bail};
 use cpu_part::{BootName, Cpu};
-use frame_word::Frame;
 use group_tree::group::GroupId;
 use mem_system::{Boot, Cmd, Held, NoGate, Reply, System, boot};
 use std::alloc::Global;
 use std::marker::Brand;
 use std::sync::Wait;
 use std::thread::Threads;
-use std::time::{Clock, Duration, Instant};
+use std::time::Clock;
 use zone_sizes::config::Config;
 
 // The sizes of the system on which calls are measured.
@@ -25,15 +23,6 @@ const SIZES: Config = Config {
     batch: 4,
     high: 8,
     stock: 4,
-};
-
-// The sizes of the boot that is timed. Batch, high and stock are the greatest that are allowed.
-const BIG: Config = Config {
-    frames: 65_536,
-    cpus: 16,
-    batch: 64,
-    high: 256,
-    stock: 64,
 };
 
 // The path of the group of depth 1.
@@ -118,15 +107,12 @@ fn make_all<N: BootName, R: Wait>(rt: &R, system: &System<N>, cpu: &mut Cpu<N>) 
 }
 
 /// Allocates one frame for the group of depth 1.
-pub fn alloc<N: BootName, R: Wait>(rt: &R, system: &System<N>, cpu: &mut Cpu<N>) -> Result<Frame>
-    ensures { IfOk result (λ f. f < N.frames.frames) }
-{
+pub fn alloc<N: BootName, R: Wait>(rt: &R, system: &System<N>, cpu: &mut Cpu<N>) -> Result<()> {
     let path = SHALLOW;
-    let number = match visit(rt, system, cpu, &Cmd::Alloc { path, order: 0 }) {
-        Reply::Frame(number) => number,
+    match visit(rt, system, cpu, &Cmd::Alloc { path, order: 0 }) {
+        Reply::Frame(_) => Ok(()),
         _ => bail!("a frame was not allocated"),
-    };
-    system.tables().frames.frame(number).context("no frame")
+    }
 }
 
 // Allocates one frame for the group of the path and releases it.
@@ -265,12 +251,11 @@ fn tell_on<N: BootName + Send + Sync, R: Threads + Wait + Print + Clock + Sync>(
     system: &System<N>,
     cpus: &mut [Cpu<N>],
 ) -> Result<()> {
-    let cpu = cpus.first_mut().context("no processor")?;
+    let cpu = cpus.first_mut().context("no CPU")?;
     let group = make_all(rt, system, cpu)?;
     match table {
-        Table::References => tell_references(rt, pace, system, cpu),
         Table::Prepaid => tell_threads(rt, pace, system, cpus, group),
-        _ => tell_visits(rt, pace, system, cpu),
+        Table::System => tell_visits(rt, pace, system, cpu),
     }
 }
 
@@ -321,37 +306,4 @@ pub fn tell_system<R: Threads + Wait + Print + Clock + Alloc<A = Global> + Sync>
         Ok(boot) => live::<Brand, R>(rt, pace, table, boot),
         Err(_) => bail!("no boot"),
     }
-}
-
-// Starts the boot, and returns the time since then. The system is then shut down, which isn't timed.
-fn start<N: BootName, R: Wait + Clock + Alloc<A = Global>>(
-    rt: &R,
-    boot: Boot,
-    since: Instant,
-) -> Result<Duration>
-    requires { (boot.frames ≡ N.frames) × (boot.stocks ≡ N.stocks) }
-{
-    let (system, cpus) = boot.start::<N>(rt.alloc())?;
-    let time = since.elapsed(rt);
-    end(rt, system, cpus);
-    Ok(time?)
-}
-
-// The time of a boot and its start.
-fn time_boot<R: Wait + Clock + Alloc<A = Global>>(rt: &R) -> Result<Duration> {
-    let since = Instant::now(rt)?;
-    match boot(rt.alloc(), BIG) {
-        Ok(boot) => start::<Brand, R>(rt, boot, since),
-        Err(_) => bail!("no boot"),
-    }
-}
-
-/// Measures a boot and its start.
-pub fn tell_boots<R: Wait + Print + Clock + Alloc<A = Global>>(rt: &R, pace: Pace) -> Result<()> {
-    let name = "boot of 65,536 frames and 16 processors, and its start";
-    let mut row = Row::new(name, 0, 1, 1);
-    for _ in 0..pace.choose(10, 1) {
-        row.note(time_boot(rt)?);
-    }
-    row.tell(rt, pace)
 }

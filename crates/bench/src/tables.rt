@@ -2,7 +2,7 @@
 
 use crate::costs::Pace;
 use crate::prepaid::tell_words;
-use crate::system::{tell_boots, tell_system};
+use crate::system::tell_system;
 use anyhow::Result;
 use std::alloc::Global;
 use std::sync::Wait;
@@ -12,8 +12,6 @@ use std::time::Clock;
 /// A table of rows.
 #[derive(Clone, Copy)]
 pub enum Table {
-    /// References of one CPU.
-    References,
     /// Prepaid pages, and what they pay for without the lock.
     Prepaid,
     /// Commands that take the lock.
@@ -21,11 +19,7 @@ pub enum Table {
 }
 
 /// The tables with their names.
-pub const TABLES: [(&str, Table); 3] = [
-    ("references", Table::References),
-    ("prepaid", Table::Prepaid),
-    ("system", Table::System),
-];
+pub const TABLES: [(&str, Table); 2] = [("prepaid", Table::Prepaid), ("system", Table::System)];
 
 /// The table of this name.
 pub fn table_named(name: &str) -> Option<Table> {
@@ -44,14 +38,10 @@ pub fn tell_table<R: Threads + Wait + Print + Clock + Alloc<A = Global> + Sync>(
     pace: Pace,
 ) -> Result<()> {
     match table {
-        Table::References => tell_system(rt, pace, table),
         Table::Prepaid => {
             tell_words(rt, pace)?;
             tell_system(rt, pace, table)
         }
-        Table::System => {
-            tell_system(rt, pace, table)?;
-            tell_boots(rt, pace)
-        }
+        Table::System => tell_system(rt, pace, table),
     }
 }

@@ -1,6 +1,7 @@
 //! A set of numbers as words of bits.
 
-ghost use Rattle.std.specs.Prelude.{◌≡◌, ◌+◌, ◌*◌, ◌/◌, ◌≤◌, ◌<◌, ◌↔◌, IsTrue, IfOk, MatchOption, false, not, length, replicate, slice_index_or, slice_set};
+ghost use Rattle.std.specs.Prelude.{◌≡◌, ◌+◌, ◌*◌, ◌/◌, ◌≤◌, ◌<◌, ◌↔◌, IsTrue, IfOk, MatchOption, false, not, length};
+ghost use Rattle.std.specs.Prelude.{replicate, slice_index_or, slice_set};
 ghost use Rattle.bit_levels.specs.Sets.{IsIn, HasNoneIn, HasSomeIn, IsLastIn};
 
 use crate::word;
@@ -81,7 +82,8 @@ impl Bits {
     /// The last of the 64 numbers of this word that is in the set.
     pub fn last_in_word(&self, word: usize) -> Option<usize>
         requires { word ≤ length self.now / 64 }
-        ensures { MatchOption result (HasNoneIn self.now (word * 64) (word * 64 + 64)) (IsLastIn self.now (word * 64) (word * 64 + 64)) }
+        ensures { MatchOption result (HasNoneIn self.now (word * 64) (word * 64 + 64))
+            (IsLastIn self.now (word * 64) (word * 64 + 64)) }
     {
         let place = word::highest(self.words[word])?;
         Some(word * 64 + place as usize)
@@ -90,7 +92,8 @@ impl Bits {
     /// The last number below this one, and of its word, that is in the set.
     pub fn last_in_word_below(&self, number: usize) -> Option<usize>
         requires { number ≤ length self.now }
-        ensures { MatchOption result (HasNoneIn self.now (number / 64 * 64) number) (IsLastIn self.now (number / 64 * 64) number) }
+        ensures { MatchOption result (HasNoneIn self.now (number / 64 * 64) number)
+            (IsLastIn self.now (number / 64 * 64) number) }
     {
         let word = number / 64;
         let place = word::highest(word::below(self.words[word], (number % 64) as u32))?;

@@ -35,7 +35,8 @@ pub fn below(word: u64, place: u32) -> u64
 
 /// The highest place with a 1. None exactly if the word is 0.
 pub fn highest(word: u64) -> Option<u32>
-    ensures { MatchOption result (word ≡ 0) (λ place. (place < 64) × (bit_at word place ≡ 1) × ((i : ℕ) → place < i → bit_at word i ≡ 0)) }
+    ensures { MatchOption result (word ≡ 0)
+        (λ place. (place < 64) × (bit_at word place ≡ 1) × ((i : ℕ) → place < i → bit_at word i ≡ 0)) }
 {
     if word == 0 { None } else { Some(word.ilog2()) }
 }

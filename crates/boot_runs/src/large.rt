@@ -1,7 +1,7 @@
 //! A machine of the greatest size, 1,048,576 frames and 64 CPUs. The last CPU is lent frames and returns them.
 ghost use Rattle.std.specs.Prelude.{◌≡◌, ◌≤◌};
 ghost use Rattle.frame_word.specs.Seats.{IsShut, first_zone_view, first_cpu_view};
-ghost use Rattle.stock_word.specs.Stock.{first_zone_stock, first_processor};
+ghost use Rattle.stock_word.specs.Stock.{first_zone_stock, first_cpu_stock};
 
 use crate::life::holds;
 use crate::seats::{CpuSeats, close_cpu, new_cpu};
@@ -25,7 +25,7 @@ struct LargeParts<const F: u32> {
     ghost zone_is: { (zone.table ≡ frames.table) × (zone.view ≡ first_zone_view F) },
     ghost machine_is: { (machine.table ≡ stocks.table) × (machine.view ≡ first_zone_stock) },
     ghost last_is: { (last.frames.table ≡ frames.table) × (last.frames.view ≡ first_cpu_view 64) },
-    ghost last_pays: { (last.stock.table ≡ stocks.table) × (last.stock.view ≡ first_processor 64) },
+    ghost last_pays: { (last.stock.table ≡ stocks.table) × (last.stock.view ≡ first_cpu_stock 64) },
 }
 
 // The parts of a new boot.

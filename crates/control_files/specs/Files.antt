@@ -10,7 +10,8 @@ use Rattle.group_charge.specs.Charges.{Ledger, current_of, peak_of, events_of, e
 use Rattle.control_files.specs.Flag.{flag_word}
 use Rattle.control_files.specs.Limit.{page_bytes}
 use Rattle.control_files.specs.declared.file.File.{File}
-use Rattle.control_files.specs.declared.file.File.TheVariants.{Current, Max, Peak, Events, EventsLocal, OomGroup, Reclaim}
+use Rattle.control_files.specs.declared.file.File.TheVariants.{Current, Max, Peak, Events, EventsLocal, OomGroup}
+use Rattle.control_files.specs.declared.file.File.TheVariants.{Reclaim}
 
 -- the bytes of a file's name, and whether it can be read and written
 pub record Row : Type 0 where
@@ -59,7 +60,8 @@ count_line key count = key ++ (codes " " ++ (decimal count ++ codes "\n"))
 
 -- A line for each key. First `low` and `high`, which never happen here and stay 0, then the keys that are counted.
 unfoldable pub events_text : EventCounts → List ℕ
-events_text counts = codes "low 0\nhigh 0\n" ++ flat_map (λ key. count_line (key_name key) (count_of counts key)) all_keys
+events_text counts = codes "low 0\nhigh 0\n"
+    ++ flat_map (λ key. count_line (key_name key) (count_of counts key)) all_keys
 
 -- the text of a file of a group, or why it can't be read
 abbrev pub file_text : Ledger → ℕ → File → Result (List ℕ) Fault

@@ -5,7 +5,8 @@ ghost use Rattle.std.specs.Char.{is_ascii_digit, to_ascii_uppercase};
 ghost use Rattle.std.specs.List.{position};
 ghost use Rattle.std.specs.Str.Parse.{AllDigits, digits_value};
 ghost use Rattle.control_files.specs.Files.{limit_text};
-ghost use Rattle.control_files.specs.Limit.{factor_of, IsSuffix, pages_of, IsLimitText, ReadsAmount, ReadsAs, IsTooGreat, IsNoAmountText, IsNoLimitText};
+ghost use Rattle.control_files.specs.Limit.{factor_of, IsSuffix, pages_of, IsLimitText, ReadsAmount, ReadsAs};
+ghost use Rattle.control_files.specs.Limit.{IsTooGreat, IsNoAmountText, IsNoLimitText};
 ghost use Rattle.control_files.specs.Reading.{IsAmountReading, SplitsDigits};
 
 use crate::text::{ArrayText, PAGE_BYTES, pages_text, text_of};

@@ -1,4 +1,3 @@
--- Of the reading core, on which the program doesn't run.
 -- Sums and tests over the first numbers, one more.
 use Rattle.std.proofs.Common.{◌≡◌, ℕ, ◌+◌, ◌<◌, Bool, true, false, List, suc, refl, sym, ◌∙◌, ap, arith}
 use Rattle.group_tree.specs.declared.group.Group.{Group}

@@ -1,4 +1,3 @@
--- Of the reading core, on which the program doesn't run.
 -- What bounds the numbers, and that every allowed step keeps it.
 use Rattle.std.proofs.Common.{◌≡◌, ℕ, ◌+◌, ◌-◌, ◌^◌, ◌<◌, ◌≤◌, ◌==◌, Bool, true, false, Option, Some, None, length, refl, sym, ◌∙◌, ap, subst}
 use Rattle.std.proofs.Common.{arith, inl, inr, cond, zero, suc}
@@ -24,7 +23,7 @@ use Rattle.step_rules.proofs.PhaseLemmas.{free_is, listed_is, in_hand, WasCollec
 use Rattle.step_rules.proofs.Sound.{IsSound}
 use Rattle.step_rules.proofs.Few.{HaveFewPins, pins_made}
 use Rattle.step_rules.proofs.Placed.{zone_kept}
-use Rattle.core_rows.specs.Rooms.{IsFew, pages_asked}
+use Rattle.core_rows.specs.Rooms.{IsBelowBounds, pages_asked}
 
 hand_not_live : (x : Phase) → is_head_in_hand x ≡ true → is_live x ≡ false
 hand_not_live x e = elim (in_hand x e) [
@@ -33,7 +32,7 @@ hand_not_live x e = elim (in_hand x e) [
   | WasEnded u is ↦ ap is_live is
 ]
 
--- only a processor holds the lock
+-- only a CPU holds the lock
 abbrev pub HolderIsThere : ℕ → Hold → Type 0
 HolderIsThere cpus Unheld = Unit {0}
 HolderIsThere cpus (HeldBy p) = p ≤ cpus
@@ -125,7 +124,7 @@ holder_there cpus p (Visiting q) there e = absurd (false≢true e)
 
 -- rows of the zone's size whose state is sound and bounded are ready for a step
 pub few_from : (n : ℕ) (s : State) → n ≤ 2 ^ 96 → ((p : ℕ) → s.zone.cpus < p → (s.parts p).book ≡ 0)
-    → ((g : ℕ) → 64 ≤ g → s.pending g ≡ 0) → IsSound s → IsBounded n s → IsFew s
+    → ((g : ℕ) → 64 ≤ g → s.pending g ≡ 0) → IsSound s → IsBounded n s → IsBelowBounds s
 few_from n s small beyond absent sound bounded = record {
   references = bounded.references;
   booked = sound.booked;

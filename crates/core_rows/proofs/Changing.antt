@@ -1,4 +1,3 @@
--- Of the reading core, on which the program doesn't run.
 -- A list with one value changed shows the function with that value changed.
 use Rattle.std.proofs.Common.{◌≡◌, ℕ, ◌<◌, Some, List, length, get_or, set, sym, ◌∙◌, ap, subst, arith, inl, inr}
 use Rattle.std.specs.List.{slice_get}
@@ -7,7 +6,7 @@ use Rattle.std.proofs.lemmas.List.{get_or-set_same, get_or-set_other, length-set
 use Rattle.std.proofs.lemmas.Option.{slice_get_past, slice_get-get_or}
 use Rattle.step_rules.specs.State.{Part, with_at}
 use Rattle.step_rules.proofs.Basics.{at_each, at_through}
-use Rattle.core_rows.specs.declared.seat.Seat.{Seat}
+use Rattle.core_rows.specs.declared.seat.SeatRow.{SeatRow}
 use Rattle.core_rows.specs.Shown.{part_in, part_of, reference_of}
 use Rattle.std.specs.Prelude.{All, vec_len}
 use Rattle.std.proofs.lemmas.List.Elements.{All-set}
@@ -38,12 +37,12 @@ pub got_set : {X : Type 0} (xs : List X) (k : ℕ) (x : X) → k < length xs →
 got_set xs k x below =
     λ i. λ m. at_each (slice_get xs) k (Some x) (λ n y. slice_get (set xs k x) n ≡ y) (get_set_same xs k x below) (λ n ne. get_set_other xs k n x ne) m i
 
-pub parts_set : (xs : List Seat) (k : ℕ) (s : Seat) → k < length xs
+pub parts_set : (xs : List SeatRow) (k : ℕ) (s : SeatRow) → k < length xs
     → (λ (p : ℕ). part_of (slice_get (set xs k s) p)) ≡ with_at (λ p. part_of (slice_get xs p)) k (part_in s)
 parts_set xs k s below = (λ i. λ p. part_of (got_set xs k s below i p)) ∙ at_through part_of (slice_get xs) k (Some s)
 
 -- one seat changes, and keeps its references
-references_kept : (xs : List Seat) (k : ℕ) (old s : Seat) → k < length xs → slice_get xs k ≡ Some old → s.references ≡ old.references →
+references_kept : (xs : List SeatRow) (k : ℕ) (old s : SeatRow) → k < length xs → slice_get xs k ≡ Some old → s.references ≡ old.references →
     ◌≡◌ {A = ℕ → ℕ → ℕ} (λ m f. reference_of (slice_get (set xs k s) m) f) (λ m f. reference_of (slice_get xs m) f)
 references_kept xs k old s below is same = λ i. λ m f. at_seat m f i
   where
@@ -56,7 +55,7 @@ references_kept xs k old s below is same = λ i. λ m f. at_seat m f i
         ]
 
 -- the state after one seat changed its part
-pub part_changes : (r : Rows) (k : ℕ) (old s : Seat) (F : Part → Part) → k < length r.seats.items
+pub part_changes : (r : Rows) (k : ℕ) (old s : SeatRow) (F : Part → Part) → k < length r.seats.items
     → old ≡ get_or r.seats.items k old → part_in s ≡ F (part_in old) → s.references ≡ old.references →
     ◌≡◌ {A = State} (record (state_in r) {
       references = λ m f. reference_of (slice_get (set r.seats.items k s) m) f;
@@ -71,7 +70,7 @@ part_changes r k old s F below read part same =
     let value : part_in s ≡ F ((state_in r).parts k) = part ∙ ap (λ o. F (part_of o)) (sym is) in
     (λ i. record (state_in r) { references = refs i; parts = parts i }) ∙ ap (with_part (state_in r) k) value
 
-pub rooms_kept : (frames : ℕ) (xs : List Seat) (k : ℕ) (old s : Seat) → k < length xs → old ≡ get_or xs k old
+pub rooms_kept : (frames : ℕ) (xs : List SeatRow) (k : ℕ) (old s : SeatRow) → k < length xs → old ≡ get_or xs k old
     → KeepsRoom old s → All (HasRoom frames) xs → All (HasRoom frames) (set xs k s)
 rooms_kept frames xs k old s below read kept all =
     let was : HasRoom frames old = subst (HasRoom frames) (sym read) (all k old below) in

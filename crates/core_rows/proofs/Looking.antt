@@ -1,4 +1,3 @@
--- Of the reading core, on which the program doesn't run.
 -- What a list shows at a number, within it and past its end.
 use Rattle.std.proofs.Common.{◌≡◌, ℕ, ◌<◌, ◌≤◌, Some, List, zero, suc, [], ◌∷◌, length, get_or, refl, sym, ◌∙◌, ap, arith}
 use Rattle.std.specs.List.{slice_get}

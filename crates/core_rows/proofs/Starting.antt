@@ -1,4 +1,3 @@
--- Of the reading core, on which the program doesn't run.
 -- Rows on which no step was made show the state at boot (for `Rows::new`).
 use Rattle.std.proofs.Common.{◌≡◌, ℕ, Option, Some, None, List, get_or, replicate, refl, ◌∙◌, ap, subst, arith, inl, inr}
 use Rattle.std.specs.Prelude.{All}
@@ -7,7 +6,7 @@ use Rattle.std.proofs.lemmas.Bool.{cases_lt}
 use Rattle.std.proofs.lemmas.List.{get_or-replicate, length-replicate}
 use Rattle.std.proofs.lemmas.Option.{slice_get_within, get_or_from_slice_get}
 use Rattle.step_rules.specs.State.{no_part}
-use Rattle.core_rows.specs.declared.seat.Seat.{Seat}
+use Rattle.core_rows.specs.declared.seat.SeatRow.{SeatRow}
 use Rattle.core_rows.specs.Shown.{part_of, reference_of}
 use Rattle.core_rows.specs.Rooms.{IsNewSeat}
 use Rattle.core_rows.proofs.Looking.{past_default}
@@ -19,18 +18,18 @@ replicate_all n x k =
       | inr past ↦ let len = length-replicate n x in past_default (replicate n x) k x (omega arith)
     ]
 
-found : (o : Option Seat) (xs : List Seat) (k : ℕ) → slice_get xs k ≡ o → (P : Option Seat → Type 0) → P None
-    → ((s : Seat) → slice_get xs k ≡ Some s → P (Some s)) → P o
+found : (o : Option SeatRow) (xs : List SeatRow) (k : ℕ) → slice_get xs k ≡ o → (P : Option SeatRow → Type 0) → P None
+    → ((s : SeatRow) → slice_get xs k ≡ Some s → P (Some s)) → P o
 found None xs k e P none some = none
 found (Some s) xs k e P none some = some s e
 
-new_at : (frames : ℕ) (xs : List Seat) (k : ℕ) (s : Seat) → All (IsNewSeat frames) xs → slice_get xs k ≡ Some s → IsNewSeat frames s
+new_at : (frames : ℕ) (xs : List SeatRow) (k : ℕ) (s : SeatRow) → All (IsNewSeat frames) xs → slice_get xs k ≡ Some s → IsNewSeat frames s
 new_at frames xs k s all e = subst (IsNewSeat frames) (get_or_from_slice_get xs k s s e) (all k s (slice_get_within xs k s e))
 
-pub new_part : (frames : ℕ) (xs : List Seat) (k : ℕ) → All (IsNewSeat frames) xs → part_of (slice_get xs k) ≡ no_part
+pub new_part : (frames : ℕ) (xs : List SeatRow) (k : ℕ) → All (IsNewSeat frames) xs → part_of (slice_get xs k) ≡ no_part
 new_part frames xs k all = found (slice_get xs k) xs k refl (λ o. part_of o ≡ no_part) refl (λ s e. (new_at frames xs k s all e).part)
 
-pub new_reference : (frames : ℕ) (xs : List Seat) (k f : ℕ) → All (IsNewSeat frames) xs → reference_of (slice_get xs k) f ≡ 0
+pub new_reference : (frames : ℕ) (xs : List SeatRow) (k f : ℕ) → All (IsNewSeat frames) xs → reference_of (slice_get xs k) f ≡ 0
 new_reference frames xs k f all =
     found (slice_get xs k) xs k refl (λ o. reference_of o f ≡ 0) refl
     (λ s e. ap (λ l. get_or l f 0) (new_at frames xs k s all e).references ∙ replicate_all frames 0 f)

@@ -1,6 +1,6 @@
--- Part of the reading core, on which the program doesn't run. What must hold of rows before a step: they are of the
--- zone's size, and no number is near its bound.
-use Rattle.std.specs.Prelude.{◌≡◌, ◌+◌, ◌^◌, ◌<◌, ◌≤◌, ℕ, true, false, List, All, replicate, length, vec_len, vec_capacity}
+-- What must hold of rows before a step: they are of the zone's size, and no number is near its bound.
+use Rattle.std.specs.Prelude.{◌≡◌, ◌+◌, ◌^◌, ◌<◌, ◌≤◌, ℕ, true, false, List, All, replicate, length, vec_len}
+use Rattle.std.specs.Prelude.{vec_capacity}
 use Rattle.group_tree.specs.Bounds.{most_groups}
 use Rattle.zone_sizes.specs.Config.{most_cpus, most_frames}
 use Rattle.step_rules.specs.Phases.{Kind, has_as, is_live}
@@ -13,14 +13,14 @@ use Rattle.step_rules.specs.declared.step.Answer.TheVariants.{Placed}
 use Rattle.step_rules.specs.declared.step.Answer.{Answer}
 use Rattle.step_rules.specs.Legal.{IsAnswer, IsCounted}
 use Rattle.step_rules.specs.After.{after}
-use Rattle.core_rows.specs.declared.seat.Seat.{Seat}
+use Rattle.core_rows.specs.declared.seat.SeatRow.{SeatRow}
 use Rattle.core_rows.specs.declared.rows.Rows.{Rows}
 use Rattle.step_rules.specs.State.{no_part}
 use Rattle.core_rows.specs.Shown.{state_in, part_in}
 
--- a seat has a number of references for each frame, and room on its list for all frames; the rules let it have no more than
--- 32 fresh frames and 256 back frames
-pub record HasRoom (frames : ℕ) (s : Seat) : Type 0 where
+-- a seat has a number of references for each frame, and room on its list for all frames; the rules let it have no more
+-- than 32 fresh frames and 256 back frames
+pub record HasRoom (frames : ℕ) (s : SeatRow) : Type 0 where
   pub references : vec_len s.references ≡ frames
   pub list : frames ≤ vec_capacity s.list
   pub fresh : 32 ≤ vec_capacity s.fresh
@@ -41,16 +41,18 @@ pub record FitsZone (r : Rows) : Type 0 where
 -- pages of the stock, the fresh frames, and the pages unreported and reported. Books and pending pages are at most
 -- 2^96. A frame that isn't of a kind has room on the list of that kind. The front of a list is a frame of the zone. A
 -- CPU has at most 256 pins and back frames. Only a CPU visits.
-pub record IsFew (s : State) : Type 0 where
+pub record IsBelowBounds (s : State) : Type 0 where
   pub references : (seat f : ℕ) → s.references seat f ≤ 255
-  pub booked : (p : ℕ) → (s.parts p).book ≡ (s.parts p).stock.pages + length (s.parts p).fresh + (s.parts p).unreported + (s.parts p).reported
-  pub books : (p : ℕ) → (s.parts p).book ≤ 2 ^ 96
+  pub booked : (cpu : ℕ) → (s.parts cpu).book
+      ≡ (s.parts cpu).stock.pages + length (s.parts cpu).fresh + (s.parts cpu).unreported + (s.parts cpu).reported
+  pub books : (cpu : ℕ) → (s.parts cpu).book ≤ 2 ^ 96
   pub pending : (g : ℕ) → s.pending g ≤ 2 ^ 96
-  pub room : (p : ℕ) (kind : Kind) (f : ℕ) → f < s.zone.frames → has_as kind p (s.phases f) ≡ false → length (frames_of (s.parts p) kind) < s.zone.frames
+  pub room : (cpu : ℕ) (kind : Kind) (f : ℕ) → f < s.zone.frames → has_as kind cpu (s.phases f) ≡ false
+      → length (frames_of (s.parts cpu) kind) < s.zone.frames
   pub live : (seat f : ℕ) → 1 ≤ s.references seat f → is_live (s.phases f) ≡ true
-  pub front : (p : ℕ) → 1 ≤ length (s.parts p).list → front_of (s.parts p).list < s.zone.frames
-  pub pins : (p : ℕ) → is_cpu s.zone p ≡ true → pins_of s p + length (s.parts p).back ≤ 256
-  pub visitor : (p : ℕ) → visits p s.hold ≡ true → p ≤ s.zone.cpus
+  pub front : (cpu : ℕ) → 1 ≤ length (s.parts cpu).list → front_of (s.parts cpu).list < s.zone.frames
+  pub pins : (cpu : ℕ) → is_cpu s.zone cpu ≡ true → pins_of s cpu + length (s.parts cpu).back ≤ 256
+  pub visitor : (cpu : ℕ) → visits cpu s.hold ≡ true → cpu ≤ s.zone.cpus
 
 -- a step that may be made gets this answer, and leaves these rows
 pub record Makes (old : Rows) (seat : ℕ) (action : Action) (answer : Answer) (new : Rows) : Type 0 where
@@ -65,14 +67,14 @@ pub record Leaves (old : Rows) (seat : ℕ) (action : Action) (answer : Answer) 
   pub fits : FitsZone new
 
 -- a seat keeps its references and its room
-pub record KeepsRoom (old new : Seat) : Type 0 where
+pub record KeepsRoom (old new : SeatRow) : Type 0 where
   pub references : new.references ≡ old.references
   pub list : vec_capacity new.list ≡ vec_capacity old.list
   pub fresh : vec_capacity new.fresh ≡ vec_capacity old.fresh
   pub back : vec_capacity new.back ≡ vec_capacity old.back
 
 -- a seat keeps the room of its lists
-pub record HasRooms (old new : Seat) : Type 0 where
+pub record KeepsCapacity (old new : SeatRow) : Type 0 where
   pub list : vec_capacity new.list ≡ vec_capacity old.list
   pub fresh : vec_capacity new.fresh ≡ vec_capacity old.fresh
   pub back : vec_capacity new.back ≡ vec_capacity old.back
@@ -82,7 +84,8 @@ abbrev pub PlacesFront : List Block → Action → Answer → Type 0
 PlacesFront areas (PlaceBlock g k) (Placed b) = IsFrontOfSmallest areas k b
 PlacesFront areas action answer = Unit {0}
 
--- only a block that is to be placed is looked up in the areas, which then are the maximal blocks of the free frames (Knuth)
+-- only a block that is to be placed is looked up in the areas, which then are the maximal blocks of the free frames
+-- (Knuth)
 abbrev pub AreasFor : State → Action → List Block → Type 0
 AreasFor s (PlaceBlock g k) areas = AreMaximalBlocks (free_in s.zone s.phases) areas
 AreasFor s action areas = Unit {0}
@@ -90,10 +93,10 @@ AreasFor s action areas = Unit {0}
 -- the pages that a step asks for: to be granted, or filled into a stock
 abbrev pub pages_asked : Action → ℕ
 pages_asked (Grant g n) = n
-pages_asked (Fill p g n) = n
+pages_asked (Fill cpu g n) = n
 pages_asked action = 0
 
 -- a seat that has nothing, and no reference on any frame
-pub record IsNewSeat (frames : ℕ) (s : Seat) : Type 0 where
+pub record IsNewSeat (frames : ℕ) (s : SeatRow) : Type 0 where
   pub part : part_in s ≡ no_part
   pub references : s.references.items ≡ replicate frames 0

@@ -1,14 +1,13 @@
--- Part of the reading core, on which the program doesn't run. The state of the rules that rows of lists and numbers
--- show.
+-- The state of the rules that rows of lists and numbers show.
 use Rattle.std.specs.Prelude.{ℕ, Option, Some, None, false}
 use Rattle.std.specs.List.{slice_get, slice_index_or}
 use Rattle.step_rules.specs.declared.phase.Phase.TheVariants.{InZone}
 use Rattle.step_rules.specs.State.{Part, State, no_part}
-use Rattle.core_rows.specs.declared.seat.Seat.{Seat}
+use Rattle.core_rows.specs.declared.seat.SeatRow.{SeatRow}
 use Rattle.core_rows.specs.declared.rows.Rows.{Rows}
 
 -- a seat's part: its lists, its stock and its book
-abbrev pub part_in : Seat → Part
+abbrev pub part_in : SeatRow → Part
 part_in s = record {
   list = s.list.items;
   fresh = s.fresh.items;
@@ -20,12 +19,12 @@ part_in s = record {
 }
 
 -- the part of a seat; if there is no seat, an empty one
-abbrev pub part_of : Option Seat → Part
+abbrev pub part_of : Option SeatRow → Part
 part_of None = no_part
 part_of (Some s) = part_in s
 
 -- the references of a seat on a frame; 0 if there is no seat
-abbrev pub reference_of : Option Seat → ℕ → ℕ
+abbrev pub reference_of : Option SeatRow → ℕ → ℕ
 reference_of None f = 0
 reference_of (Some s) f = slice_index_or s.references.items f 0
 
@@ -38,6 +37,6 @@ state_in r = record {
   killed = λ g. slice_index_or r.killed.items g false;
   phases = λ f. slice_index_or r.phases.items f InZone;
   references = λ seat f. reference_of (slice_get r.seats.items seat) f;
-  parts = λ p. part_of (slice_get r.seats.items p);
+  parts = λ cpu. part_of (slice_get r.seats.items cpu);
   pending = λ g. slice_index_or r.pending.items g 0;
 }

@@ -1,5 +1,4 @@
-//! Part of the reading core, on which the program doesn't run. Rows on which no step was made, and which frames are
-//! free.
+//! Rows on which no step was made, which show the state at boot, and which frames are free.
 
 ghost use Rattle.std.specs.Prelude.{◌≡◌, ◌≤◌, ◌+◌, IfOk, All, vec_capacity, vec_len, replicate, false};
 ghost use Rattle.group_tree.specs.Bounds.{most_groups};
@@ -11,22 +10,22 @@ ghost use Rattle.core_rows.specs.Rooms.{FitsZone, HasRoom, IsNewSeat};
 
 use crate::phases::is_free;
 use crate::rows::Rows;
-use crate::seat::{Seat, new_seat};
+use crate::seat::{SeatRow, new_seat};
 use group_tree::group::MAX_GROUPS;
 use group_tree::tree::Tree;
 use std::alloc::{AllocError, Global};
 use step_rules::phase::{Hold, Phase};
 
 /// Seats that have nothing, the zone's own and one for each CPU.
-fn new_seats(alloc: Global, frames: u32, cpus: u32) -> Result<Vec<Seat>, AllocError>
+fn new_seats(alloc: Global, frames: u32, cpus: u32) -> Result<Vec<SeatRow>, AllocError>
     requires { cpus ≤ most_cpus }
     ensures number { IfOk result (λ seats. vec_len seats ≡ cpus + 1) }
     ensures rooms { IfOk result (λ seats. All (HasRoom frames) seats.items) }
     ensures none { IfOk result (λ seats. All (IsNewSeat frames) seats.items) }
 {
     let mut seats = Vec::with_capacity(alloc, cpus as usize + 1)?;
-    for number in 0..cpus + 1 {
-        let _ = number;
+    for cpu in 0..cpus + 1 {
+        let _ = cpu;
         let seat = new_seat(alloc, frames)?;
         seats.push_reserved(seat);
     }

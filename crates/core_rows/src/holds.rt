@@ -1,4 +1,4 @@
-//! Part of the reading core, on which the program doesn't run. Tests on who holds the lock.
+//! Tests on who holds the lock, exactly as the rules have them.
 
 ghost use Rattle.std.specs.Prelude.{◌≡◌};
 ghost use Rattle.step_rules.specs.State.{is_unheld, is_held_by, visits, may_zone_act};

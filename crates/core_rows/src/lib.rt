@@ -1,5 +1,5 @@
-//! Part of the reading core, on which the program doesn't run. The rows of the memory controller's core: plain lists
-//! and numbers, and each change of one thing in them.
+//! The rows of `mem_core`, the core that is written to be read: plain lists and numbers, and each change of one thing
+//! in them.
 #![tactic(auto)]
 
 pub mod boot;

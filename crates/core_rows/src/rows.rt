@@ -1,16 +1,17 @@
-//! Part of the reading core, on which the program doesn't run. The rows of the core: what is behind the zone's lock.
+//! What is behind the zone's lock, as rows. A call that reads returns what the state of the rules has, and one that
+//! writes changes nothing but what its name says.
 
 ghost use Rattle.std.specs.Prelude.{◌≡◌, ◌+◌, ◌-◌, ◌<◌, ◌≤◌, ◌^◌, Some, None, MatchOption, IfOk, length, vec_len};
 ghost use Rattle.std.specs.List.{slice_get};
 ghost use Rattle.step_rules.specs.State.{at_boot, front_of, with_at, is_cpu, is_frame};
-ghost use Rattle.step_rules.specs.After.{with_listed, taken_off, paid, credited, with_back, with_report, absorbed, filled, drained};
-ghost use Rattle.step_rules.specs.After.{with_phase, with_part, with_references, with_pending};
+ghost use Rattle.step_rules.specs.After.{with_listed, taken_off, paid, credited, with_back, with_report, absorbed};
+ghost use Rattle.step_rules.specs.After.{filled, drained, with_phase, with_part, with_references, with_pending};
 ghost use Rattle.core_rows.specs.Shown.{state_in};
 ghost use Rattle.core_rows.specs.Rooms.{FitsZone};
 
 use crate::seat::{
-    Seat, absorb_pages, credit_frame, drain_pages, drop_frame, fill_stock, keep_back, list_frame,
-    pay_front, report_pages, set_count,
+    SeatRow, absorb_pages, credit, drain_stock, fill_stock, keep_back, list_frame, pay_front,
+    report_pages, set_count, unlist_frame,
 };
 use group_tree::group::GroupId;
 use group_tree::tree::Tree;
@@ -32,7 +33,7 @@ pub struct Rows {
     /// The phase of each frame.
     pub phases: Vec<Phase>,
     /// What is kept of each seat; the zone's own is the first.
-    pub seats: Vec<Seat>,
+    pub seats: Vec<SeatRow>,
     /// For each group number the pages that are pending.
     pub pending: Vec<u128>,
 }
@@ -88,8 +89,9 @@ impl Rows {
 
     /// What is kept of a seat, if it exists.
     #[tactic(auto, using(crate::proofs::Looking::got, std::proofs::lemmas::Option::slice_get_past))]
-    pub fn seat(&self, seat: u32) -> Option<&Seat>
-        ensures { MatchOption result (slice_get self.now.seats.items seat ≡ None) (λ s. slice_get self.now.seats.items seat ≡ Some s.now) }
+    pub fn seat(&self, seat: u32) -> Option<&SeatRow>
+        ensures { MatchOption result (slice_get self.now.seats.items seat ≡ None)
+            (λ s. slice_get self.now.seats.items seat ≡ Some s.now) }
     {
         if (seat as usize) < self.seats.len() {
             Some(&self.seats[seat as usize])
@@ -276,7 +278,8 @@ impl Rows {
     /// Sets whether a group is killed.
     pub fn set_killed(&mut self, group: GroupId, is_killed: bool)
         requires fits { FitsZone self.old }
-        ensures state { state_in self.new ≡ record (state_in self.old) { killed = with_at (state_in self.old).killed group is_killed } }
+        ensures state { state_in self.new
+            ≡ record (state_in self.old) { killed = with_at (state_in self.old).killed group is_killed } }
         ensures fits { FitsZone self.new }
     {
         self.killed[group.number() as usize] = is_killed;
@@ -294,25 +297,27 @@ impl Rows {
     }
 
     /// Puts a frame at the end of a CPU's list.
-    pub fn put_on_list(&mut self, cpu: u32, frame: u32)
+    pub fn list_frame(&mut self, cpu: u32, frame: u32)
         requires fits { FitsZone self.old }
         requires cpu { cpu ≤ self.old.cpus }
         requires room { length ((state_in self.old).parts cpu).list < self.old.frames }
-        ensures state { state_in self.new ≡ with_part (state_in self.old) cpu (with_listed ((state_in self.old).parts cpu) frame) }
+        ensures state { state_in self.new
+            ≡ with_part (state_in self.old) cpu (with_listed ((state_in self.old).parts cpu) frame) }
         ensures fits { FitsZone self.new }
     {
         list_frame(&mut self.seats[cpu as usize], frame);
     }
 
     /// Removes a frame from all of a CPU's lists; if it was fresh, one more page is unreported.
-    pub fn take_from_lists(&mut self, cpu: u32, frame: u32, was_fresh: bool)
+    pub fn unlist_frame(&mut self, cpu: u32, frame: u32, was_fresh: bool)
         requires fits { FitsZone self.old }
         requires cpu { cpu ≤ self.old.cpus }
         requires few { ((state_in self.old).parts cpu).unreported < 2 ^ 100 }
-        ensures state { state_in self.new ≡ with_part (state_in self.old) cpu (taken_off ((state_in self.old).parts cpu) frame was_fresh) }
+        ensures state { state_in self.new
+            ≡ with_part (state_in self.old) cpu (taken_off ((state_in self.old).parts cpu) frame was_fresh) }
         ensures fits { FitsZone self.new }
     {
-        drop_frame(&mut self.seats[cpu as usize], frame, was_fresh);
+        unlist_frame(&mut self.seats[cpu as usize], frame, was_fresh);
     }
 
     /// Makes the front of a CPU's list fresh, paid with one page of its stock.
@@ -329,72 +334,78 @@ impl Rows {
     }
 
     /// Moves a fresh frame to the end of a CPU's list, and its page into the stock.
-    pub fn take_credit(&mut self, cpu: u32, frame: u32)
+    pub fn credit(&mut self, cpu: u32, frame: u32)
         requires fits { FitsZone self.old }
         requires cpu { cpu ≤ self.old.cpus }
         requires room { length ((state_in self.old).parts cpu).list < self.old.frames }
         requires few { ((state_in self.old).parts cpu).stock.pages < 2 ^ 100 }
-        ensures state { state_in self.new ≡ with_part (state_in self.old) cpu (credited ((state_in self.old).parts cpu) frame) }
+        ensures state { state_in self.new
+            ≡ with_part (state_in self.old) cpu (credited ((state_in self.old).parts cpu) frame) }
         ensures fits { FitsZone self.new }
     {
-        credit_frame(&mut self.seats[cpu as usize], frame);
+        credit(&mut self.seats[cpu as usize], frame);
     }
 
     /// Puts a frame at the end of a CPU's back frames.
-    pub fn put_back(&mut self, cpu: u32, frame: u32)
+    pub fn keep_back(&mut self, cpu: u32, frame: u32)
         requires fits { FitsZone self.old }
         requires cpu { cpu ≤ self.old.cpus }
         requires room { length ((state_in self.old).parts cpu).back < 256 }
-        ensures state { state_in self.new ≡ with_part (state_in self.old) cpu (with_back ((state_in self.old).parts cpu) frame) }
+        ensures state { state_in self.new
+            ≡ with_part (state_in self.old) cpu (with_back ((state_in self.old).parts cpu) frame) }
         ensures fits { FitsZone self.new }
     {
         keep_back(&mut self.seats[cpu as usize], frame);
     }
 
     /// Reports this many of a CPU's unreported pages.
-    pub fn note_report(&mut self, cpu: u32, pages: u32)
+    pub fn report_pages(&mut self, cpu: u32, pages: u32)
         requires fits { FitsZone self.old }
         requires cpu { cpu ≤ self.old.cpus }
         requires enough { pages ≤ ((state_in self.old).parts cpu).unreported }
         requires few { ((state_in self.old).parts cpu).reported < 2 ^ 100 }
-        ensures state { state_in self.new ≡ with_part (state_in self.old) cpu (with_report ((state_in self.old).parts cpu) pages) }
+        ensures state { state_in self.new
+            ≡ with_part (state_in self.old) cpu (with_report ((state_in self.old).parts cpu) pages) }
         ensures fits { FitsZone self.new }
     {
         report_pages(&mut self.seats[cpu as usize], pages);
     }
 
     /// Takes the pages that a CPU reported off its book, and returns how many they are.
-    pub fn take_report(&mut self, cpu: u32) -> u128
+    pub fn absorb_pages(&mut self, cpu: u32) -> u128
         requires fits { FitsZone self.old }
         requires cpu { cpu ≤ self.old.cpus }
         requires booked { ((state_in self.old).parts cpu).reported ≤ ((state_in self.old).parts cpu).book }
         ensures pages { result ≡ ((state_in self.old).parts cpu).reported }
-        ensures state { let part = (state_in self.old).parts cpu in state_in self.new ≡ with_part (state_in self.old) cpu (absorbed part part.reported) }
+        ensures state { let part = (state_in self.old).parts cpu in state_in self.new
+            ≡ with_part (state_in self.old) cpu (absorbed part part.reported) }
         ensures fits { FitsZone self.new }
     {
         absorb_pages(&mut self.seats[cpu as usize])
     }
 
     /// Fills this many pages into a CPU's stock, for a group.
-    pub fn put_in_stock(&mut self, cpu: u32, group: GroupId, pages: u32)
+    pub fn fill_stock(&mut self, cpu: u32, group: GroupId, pages: u32)
         requires fits { FitsZone self.old }
         requires cpu { cpu ≤ self.old.cpus }
         requires few { ((state_in self.old).parts cpu).book < 2 ^ 100 }
-        ensures state { state_in self.new ≡ with_part (state_in self.old) cpu (filled ((state_in self.old).parts cpu) group pages) }
+        ensures state { state_in self.new
+            ≡ with_part (state_in self.old) cpu (filled ((state_in self.old).parts cpu) group pages) }
         ensures fits { FitsZone self.new }
     {
         fill_stock(&mut self.seats[cpu as usize], group, pages);
     }
 
     /// Drains all pages from a CPU's stock, and returns how many they are.
-    pub fn empty_stock(&mut self, cpu: u32) -> u128
+    pub fn drain_stock(&mut self, cpu: u32) -> u128
         requires fits { FitsZone self.old }
         requires cpu { cpu ≤ self.old.cpus }
         requires booked { ((state_in self.old).parts cpu).stock.pages ≤ ((state_in self.old).parts cpu).book }
         ensures pages { result ≡ ((state_in self.old).parts cpu).stock.pages }
-        ensures state { let part = (state_in self.old).parts cpu in state_in self.new ≡ with_part (state_in self.old) cpu (drained part part.stock.pages) }
+        ensures state { let part = (state_in self.old).parts cpu in state_in self.new
+            ≡ with_part (state_in self.old) cpu (drained part part.stock.pages) }
         ensures fits { FitsZone self.new }
     {
-        drain_pages(&mut self.seats[cpu as usize])
+        drain_stock(&mut self.seats[cpu as usize])
     }
 }

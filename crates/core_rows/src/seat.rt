@@ -1,10 +1,12 @@
-//! Part of the reading core, on which the program doesn't run. What is kept of one seat.
+//! What is kept of one seat. Each change leaves the part that the rules give, and the room of the lists as it was.
 
-ghost use Rattle.std.specs.Prelude.{◌≡◌, ◌+◌, ◌-◌, ◌<◌, ◌≤◌, ◌^◌, IfOk, vec_len, vec_capacity, length, replicate, slice_set};
+ghost use Rattle.std.specs.Prelude.{◌≡◌, ◌+◌, ◌-◌, ◌<◌, ◌≤◌, ◌^◌, IfOk, vec_len, vec_capacity, length, replicate};
+ghost use Rattle.std.specs.Prelude.{slice_set};
 ghost use Rattle.step_rules.specs.State.{no_part, without};
-ghost use Rattle.step_rules.specs.After.{with_listed, taken_off, paid, credited, with_back, with_report, absorbed, filled, drained};
+ghost use Rattle.step_rules.specs.After.{with_listed, taken_off, paid, credited, with_back, with_report, absorbed};
+ghost use Rattle.step_rules.specs.After.{filled, drained};
 ghost use Rattle.core_rows.specs.Shown.{part_in};
-ghost use Rattle.core_rows.specs.Rooms.{HasRoom, HasRooms, KeepsRoom};
+ghost use Rattle.core_rows.specs.Rooms.{HasRoom, KeepsCapacity, KeepsRoom};
 
 use group_tree::group::GroupId;
 use std::alloc::{AllocError, Global};
@@ -17,7 +19,7 @@ const MOST_BACK: usize = 256;
 
 /// What is kept of one seat: the zone's own, or a CPU's.
 #[derive(Drop)]
-pub struct Seat {
+pub struct SeatRow {
     /// References, for each frame.
     pub references: Vec<u32>,
     /// The frames on the CPU's list, the front first.
@@ -49,18 +51,18 @@ fn take_out(frames: &mut Vec<u32>, frame: u32)
 }
 
 /// Sets the references of the seat on a frame.
-pub(crate) fn set_count(seat: &mut Seat, frame: u32, count: u32)
+pub(crate) fn set_count(seat: &mut SeatRow, frame: u32, count: u32)
     requires there { frame < vec_len seat.old.references }
     ensures part { part_in seat.new ≡ part_in seat.old }
     ensures references { seat.new.references.items ≡ slice_set seat.old.references.items frame count }
     ensures size { vec_len seat.new.references ≡ vec_len seat.old.references }
-    ensures rooms { HasRooms seat.old seat.new }
+    ensures rooms { KeepsCapacity seat.old seat.new }
 {
     seat.references[frame as usize] = count;
 }
 
 /// Puts a frame at the end of the list.
-pub(crate) fn list_frame(seat: &mut Seat, frame: u32)
+pub(crate) fn list_frame(seat: &mut SeatRow, frame: u32)
     requires room { length seat.old.list.items < vec_capacity seat.old.list }
     ensures part { part_in seat.new ≡ with_listed (part_in seat.old) frame }
     ensures kept { KeepsRoom seat.old seat.new }
@@ -69,7 +71,7 @@ pub(crate) fn list_frame(seat: &mut Seat, frame: u32)
 }
 
 /// Removes a frame from the list, the fresh and the back frames; if it was fresh, one more page is unreported.
-pub(crate) fn drop_frame(seat: &mut Seat, frame: u32, was_fresh: bool)
+pub(crate) fn unlist_frame(seat: &mut SeatRow, frame: u32, was_fresh: bool)
     requires few { seat.old.unreported < 2 ^ 100 }
     ensures part { part_in seat.new ≡ taken_off (part_in seat.old) frame was_fresh }
     ensures kept { KeepsRoom seat.old seat.new }
@@ -83,7 +85,7 @@ pub(crate) fn drop_frame(seat: &mut Seat, frame: u32, was_fresh: bool)
 }
 
 /// Makes the front of the list fresh, paid with one page of the stock.
-pub(crate) fn pay_front(seat: &mut Seat)
+pub(crate) fn pay_front(seat: &mut SeatRow)
     requires some { 1 ≤ length seat.old.list.items }
     requires page { 1 ≤ seat.old.pages }
     requires room { length seat.old.fresh.items < vec_capacity seat.old.fresh }
@@ -97,7 +99,7 @@ pub(crate) fn pay_front(seat: &mut Seat)
 }
 
 /// Moves a fresh frame to the end of the list, and its page into the stock.
-pub(crate) fn credit_frame(seat: &mut Seat, frame: u32)
+pub(crate) fn credit(seat: &mut SeatRow, frame: u32)
     requires room { length seat.old.list.items < vec_capacity seat.old.list }
     requires few { seat.old.pages < 2 ^ 100 }
     ensures part { part_in seat.new ≡ credited (part_in seat.old) frame }
@@ -109,7 +111,7 @@ pub(crate) fn credit_frame(seat: &mut Seat, frame: u32)
 }
 
 /// Puts a frame at the end of the back frames.
-pub(crate) fn keep_back(seat: &mut Seat, frame: u32)
+pub(crate) fn keep_back(seat: &mut SeatRow, frame: u32)
     requires room { length seat.old.back.items < vec_capacity seat.old.back }
     ensures part { part_in seat.new ≡ with_back (part_in seat.old) frame }
     ensures kept { KeepsRoom seat.old seat.new }
@@ -118,7 +120,7 @@ pub(crate) fn keep_back(seat: &mut Seat, frame: u32)
 }
 
 /// Reports this many of the unreported pages.
-pub(crate) fn report_pages(seat: &mut Seat, pages: u32)
+pub(crate) fn report_pages(seat: &mut SeatRow, pages: u32)
     requires enough { pages ≤ seat.old.unreported }
     requires few { seat.old.reported < 2 ^ 100 }
     ensures part { part_in seat.new ≡ with_report (part_in seat.old) pages }
@@ -129,7 +131,7 @@ pub(crate) fn report_pages(seat: &mut Seat, pages: u32)
 }
 
 /// Takes the reported pages off the book, and returns how many they are.
-pub(crate) fn absorb_pages(seat: &mut Seat) -> u128
+pub(crate) fn absorb_pages(seat: &mut SeatRow) -> u128
     requires booked { seat.old.reported ≤ seat.old.book }
     ensures pages { result ≡ seat.old.reported }
     ensures part { part_in seat.new ≡ absorbed (part_in seat.old) seat.old.reported }
@@ -142,7 +144,7 @@ pub(crate) fn absorb_pages(seat: &mut Seat) -> u128
 }
 
 /// Fills this many pages into the stock, for this group.
-pub(crate) fn fill_stock(seat: &mut Seat, group: GroupId, pages: u32)
+pub(crate) fn fill_stock(seat: &mut SeatRow, group: GroupId, pages: u32)
     requires few { seat.old.book < 2 ^ 100 }
     ensures part { part_in seat.new ≡ filled (part_in seat.old) group pages }
     ensures kept { KeepsRoom seat.old seat.new }
@@ -154,7 +156,7 @@ pub(crate) fn fill_stock(seat: &mut Seat, group: GroupId, pages: u32)
 }
 
 /// Drains all pages from the stock, and returns how many they are.
-pub(crate) fn drain_pages(seat: &mut Seat) -> u128
+pub(crate) fn drain_stock(seat: &mut SeatRow) -> u128
     requires booked { seat.old.pages ≤ seat.old.book }
     ensures pages { result ≡ seat.old.pages }
     ensures part { part_in seat.new ≡ drained (part_in seat.old) seat.old.pages }
@@ -168,7 +170,7 @@ pub(crate) fn drain_pages(seat: &mut Seat) -> u128
 }
 
 /// A seat that has nothing, with room on its list for this many frames.
-pub(crate) fn new_seat(alloc: Global, frames: u32) -> Result<Seat, AllocError>
+pub(crate) fn new_seat(alloc: Global, frames: u32) -> Result<SeatRow, AllocError>
     ensures part { IfOk result (λ s. part_in s ≡ no_part) }
     ensures none { IfOk result (λ s. s.references.items ≡ replicate frames 0) }
     ensures room { IfOk result (HasRoom frames) }
@@ -178,7 +180,7 @@ pub(crate) fn new_seat(alloc: Global, frames: u32) -> Result<Seat, AllocError>
     let list = Vec::with_capacity(alloc, n)?;
     let fresh = Vec::with_capacity(alloc, MOST_FRESH)?;
     let back = Vec::with_capacity(alloc, MOST_BACK)?;
-    Ok(Seat {
+    Ok(SeatRow {
         references,
         list,
         fresh,

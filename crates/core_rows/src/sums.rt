@@ -1,14 +1,14 @@
-//! Part of the reading core, on which the program doesn't run. Sums and tests over all frames, seats and groups.
+//! Sums and tests over all frames, seats and groups, counted anew at each call and exact.
 
 ghost use Rattle.std.specs.Prelude.{◌≡◌, ◌+◌, ◌*◌, ◌^◌, ◌<◌, ◌≤◌, length, IfNone, IfSome, IsTrue, true, if◌then◌else◌};
 ghost use Rattle.group_tree.specs.Groups.{has_group, in_subtree};
 ghost use Rattle.step_rules.specs.State.{live_references, pins_of};
 ghost use Rattle.step_rules.specs.Usage.{is_below, frames_kept, stock_below, pages_prepaid, pages_pending, usage_of};
 ghost use Rattle.group_tree.specs.Room.{has_room, PathHasRoom, IsLowestOver};
-ghost use Rattle.step_rules.specs.Legal.{is_of_group, rests, nothing_passes, no_frame_passes, is_settled};
+ghost use Rattle.step_rules.specs.Legal.{is_of_group, rests, nothing_passes, no_frame_passes, no_page_pends};
 ghost use Rattle.core_rows.specs.Shown.{state_in};
 ghost use Rattle.zone_sizes.specs.Config.{most_frames};
-ghost use Rattle.core_rows.specs.Rooms.{FitsZone, IsFew};
+ghost use Rattle.core_rows.specs.Rooms.{FitsZone, IsBelowBounds};
 
 use crate::phases::{is_passing, keeper_of, passes_back, passes_out};
 use crate::rows::Rows;
@@ -29,7 +29,7 @@ impl Rows {
     #[tactic(auto, using(crate::proofs::Adding::sum_start, crate::proofs::Adding::sum_next))]
     pub fn live_references(&self, frame: u32) -> u32
         requires fits { FitsZone self.now }
-        requires few { IsFew (state_in self.now) }
+        requires bounded { IsBelowBounds (state_in self.now) }
         ensures { result ≡ live_references (state_in self.now) frame }
     {
         let mut sum = 0u32;
@@ -43,7 +43,7 @@ impl Rows {
     #[tactic(auto, using(crate::proofs::Adding::sum_start, crate::proofs::Adding::sum_next))]
     pub fn pins(&self, seat: u32) -> u32
         requires fits { FitsZone self.now }
-        requires few { IsFew (state_in self.now) }
+        requires bounded { IsBelowBounds (state_in self.now) }
         ensures pins { result ≡ pins_of (state_in self.now) seat }
         ensures bound { result ≤ 255 * most_frames }
     {
@@ -89,9 +89,9 @@ impl Rows {
 
     /// No page of any group is pending.
     #[tactic(auto, using(crate::proofs::Adding::all_is, crate::proofs::Adding::all_not))]
-    pub fn is_settled(&self) -> bool
+    pub fn no_page_pends(&self) -> bool
         requires fits { FitsZone self.now }
-        ensures { result ≡ is_settled (state_in self.now) }
+        ensures { result ≡ no_page_pends (state_in self.now) }
     {
         for g in 0..64usize {
             if self.pending[g] != 0 {
@@ -140,7 +140,7 @@ impl Rows {
 
     // The pages of a CPU's stock, if the stock is of a group of the subtree.
     fn stock_below(&self, group: GroupId, cpu: u32) -> u128
-        requires few { IsFew (state_in self.now) }
+        requires bounded { IsBelowBounds (state_in self.now) }
         ensures pages { result ≡ stock_below self.now.tree group ((state_in self.now).parts cpu) }
         ensures few { result ≤ 2 ^ 96 }
     {
@@ -155,7 +155,7 @@ impl Rows {
     #[tactic(auto, using(crate::proofs::Adding::sum_start, crate::proofs::Adding::sum_next))]
     fn pages_prepaid(&self, group: GroupId) -> u128
         requires fits { FitsZone self.now }
-        requires few { IsFew (state_in self.now) }
+        requires bounded { IsBelowBounds (state_in self.now) }
         ensures pages { result ≡ pages_prepaid self.now.tree (state_in self.now).parts self.now.cpus group }
         ensures few { result ≤ 65 * 2 ^ 96 }
     {
@@ -169,8 +169,9 @@ impl Rows {
     // The pages pending for one group, if it is in the subtree.
     fn pending_below(&self, group: GroupId, number: u32) -> u128
         requires number { number < 64 }
-        requires few { IsFew (state_in self.now) }
-        ensures pages { result ≡ (if in_subtree self.now.tree group number then (state_in self.now).pending number else 0) }
+        requires bounded { IsBelowBounds (state_in self.now) }
+        ensures pages { result ≡ (if in_subtree self.now.tree group number then (state_in self.now).pending
+            number else 0) }
         ensures few { result ≤ 2 ^ 96 }
     {
         match GroupId::of(number) {
@@ -188,7 +189,7 @@ impl Rows {
     // The pages pending for the subtree's groups.
     #[tactic(auto, using(crate::proofs::Adding::sum_start, crate::proofs::Adding::sum_next))]
     fn pages_pending(&self, group: GroupId) -> u128
-        requires few { IsFew (state_in self.now) }
+        requires bounded { IsBelowBounds (state_in self.now) }
         ensures pages { result ≡ pages_pending self.now.tree (state_in self.now).pending group }
         ensures few { result ≤ 64 * 2 ^ 96 }
     {
@@ -202,7 +203,7 @@ impl Rows {
     /// The usage of a group, in pages: the frames that its subtree keeps, the pages prepaid for it and those pending.
     pub fn usage(&self, group: GroupId) -> u128
         requires fits { FitsZone self.now }
-        requires few { IsFew (state_in self.now) }
+        requires bounded { IsBelowBounds (state_in self.now) }
         ensures usage { result ≡ usage_of (state_in self.now) group }
         ensures few { result < 2 ^ 104 }
     {
@@ -212,7 +213,7 @@ impl Rows {
     // Whether the usage with this many more pages is at most the group's own limit.
     fn has_room(&self, group: GroupId, pages: u32) -> bool
         requires fits { FitsZone self.now }
-        requires few { IsFew (state_in self.now) }
+        requires bounded { IsBelowBounds (state_in self.now) }
         requires there { IsTrue (has_group self.now.tree group) }
         ensures { result ≡ has_room self.now.tree (usage_of (state_in self.now)) group pages }
     {
@@ -225,7 +226,7 @@ impl Rows {
     /// The lowest group, from this one up to the root, whose limit has no room for the pages.
     pub fn lowest_over(&self, group: GroupId, pages: u32) -> Option<GroupId>
         requires fits { FitsZone self.now }
-        requires few { IsFew (state_in self.now) }
+        requires bounded { IsBelowBounds (state_in self.now) }
         requires there { IsTrue (has_group self.now.tree group) }
         ensures none { IfNone result (PathHasRoom self.now.tree (usage_of (state_in self.now)) group pages) }
         ensures some { IfSome result (IsLowestOver self.now.tree (usage_of (state_in self.now)) group pages) }

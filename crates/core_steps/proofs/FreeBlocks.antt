@@ -1,4 +1,3 @@
--- Of the reading core, on which the program doesn't run.
 -- Free blocks of an order, found by the maximal free blocks (for `free_block`), or frame by frame (for `is_all_free`).
 use Rattle.std.proofs.Common.{◌≡◌, ℕ, ◌+◌, ◌-◌, ◌%◌, ◌^◌, ◌<◌, ◌≤◌, Bool, true, false, List, sym, ◌∙◌, ap, subst, arith}
 use Rattle.std.proofs.Math.Pow.{pow_mono, mod-mod-pow}

@@ -1,4 +1,3 @@
--- Of the reading core, on which the program doesn't run.
 -- Phases of which a range was set (for `Rows::set_unit` and `Rows::free_unit`).
 use Rattle.std.proofs.Common.{◌≡◌, ℕ, ◌+◌, ◌-◌, ◌^◌, ◌<◌, ◌≤◌, ◌==◌, Bool, true, false, List, ◌++◌, length, take, drop, replicate, get_or}
 use Rattle.std.proofs.Common.{set, refl, sym, ◌∙◌, ap, arith, inl, inr, ◌⊎◌, cond}

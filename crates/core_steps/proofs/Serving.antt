@@ -1,4 +1,3 @@
--- Of the reading core, on which the program doesn't run.
 -- What a legal step finds: room on a list, pages in a book (for the actions in hand_over, references and stocks).
 use Rattle.std.proofs.Common.{◌≡◌, ℕ, ◌+◌, ◌-◌, ◌^◌, ◌<◌, ◌≤◌, ◌||◌, ◌==◌, true, false, length, sym, ap, arith, inl, inr, cond, eq-eqb}
 use Rattle.std.specs.Prelude.{nat_le}
@@ -15,7 +14,7 @@ use Rattle.step_rules.specs.Legal.{is_legal}
 use Rattle.step_rules.proofs.LegalTests.{consume_tests}
 use Rattle.step_rules.proofs.Sums.{sum_part}
 use Rattle.step_rules.proofs.PhaseLemmas.{out_is, fresh_is}
-use Rattle.core_rows.specs.Rooms.{IsFew}
+use Rattle.core_rows.specs.Rooms.{IsBelowBounds}
 
 pub out_unlisted : (p : ℕ) (x : Phase) → passes_out p x ≡ true → has_as ListFrame p x ≡ false
 out_unlisted p x e = ap (has_as ListFrame p) (out_is p x e)
@@ -23,20 +22,20 @@ out_unlisted p x e = ap (has_as ListFrame p) (out_is p x e)
 pub fresh_unlisted : (p : ℕ) (x : Phase) → has_as FreshFrame p x ≡ true → has_as ListFrame p x ≡ false
 fresh_unlisted p x e = ap (has_as ListFrame p) (fresh_is p x e).1
 
-pub take_in_room : (s : State) (p f : ℕ) → IsFew s → is_legal s p (TakeIn f) ≡ true → length (s.parts p).list < s.zone.frames
+pub take_in_room : (s : State) (p f : ℕ) → IsBelowBounds s → is_legal s p (TakeIn f) ≡ true → length (s.parts p).list < s.zone.frames
 take_in_room s p f few legal =
     let frame : is_frame s.zone f ≡ true = grind (arith, legal) in
     let out : passes_out p (s.phases f) ≡ true = grind (arith, legal) in
     few.room p ListFrame f (ltb-true f s.zone.frames frame) (out_unlisted p (s.phases f) out)
 
-pub credit_room : (s : State) (p f : ℕ) → IsFew s → is_legal s p (Credit f) ≡ true → length (s.parts p).list < s.zone.frames
+pub credit_room : (s : State) (p f : ℕ) → IsBelowBounds s → is_legal s p (Credit f) ≡ true → length (s.parts p).list < s.zone.frames
 credit_room s p f few legal =
     let frame : is_frame s.zone f ≡ true = grind (arith, legal) in
     let fresh : has_as FreshFrame p (s.phases f) ≡ true = grind (arith, legal) in
     few.room p ListFrame f (ltb-true f s.zone.frames frame) (fresh_unlisted p (s.phases f) fresh)
 
--- a processor that puts a frame has it for a pin
-pub put_room : (s : State) (p f : ℕ) → IsFew s → (p ≡ 0 → ⊥) → is_legal s p (Put f) ≡ true → length (s.parts p).back < 256
+-- a CPU that puts a frame has it for a pin
+pub put_room : (s : State) (p f : ℕ) → IsBelowBounds s → (p ≡ 0 → ⊥) → is_legal s p (Put f) ≡ true → length (s.parts p).back < 256
 put_room s p f few ne legal =
     let seat : (is_cpu s.zone p || may_zone_act s.hold p) ≡ true = grind (arith, legal) in
     let frame : is_frame s.zone f ≡ true = grind (arith, legal) in
@@ -63,16 +62,16 @@ put_counts s p f legal =
     let part = sum_part (s.zone.cpus + 1) (λ seat. s.references seat f) p below in
     omega arith
 
-pub pages_few : (s : State) (p : ℕ) → IsFew s → (s.parts p).stock.pages < 2 ^ 100
+pub pages_few : (s : State) (p : ℕ) → IsBelowBounds s → (s.parts p).stock.pages < 2 ^ 100
 pages_few s p few = let a = few.booked p in let b = few.books p in omega arith
 
-pub unreported_few : (s : State) (p : ℕ) → IsFew s → (s.parts p).unreported < 2 ^ 100
+pub unreported_few : (s : State) (p : ℕ) → IsBelowBounds s → (s.parts p).unreported < 2 ^ 100
 unreported_few s p few = let a = few.booked p in let b = few.books p in omega arith
 
-pub book_few : (s : State) (p : ℕ) → IsFew s → (s.parts p).book < 2 ^ 100
+pub book_few : (s : State) (p : ℕ) → IsBelowBounds s → (s.parts p).book < 2 ^ 100
 book_few s p few = let b = few.books p in omega arith
 
--- a processor's last put: the frame joins its back frames
+-- a CPU's last put: the frame joins its back frames
 pub after_last_cpu : (s : State) (p f : ℕ) → (p ≡ 0 → ⊥) →
     with_part (with_phase (with_references s p f (s.references p f - 1)) f (at_stage (BackAt p) (s.phases f))) p (with_back (s.parts p) f) ≡ after_last s p f
 after_last_cpu s p f ne =
@@ -94,7 +93,7 @@ after_last_zone s p f e =
       parts = cond (sym zone i) s.parts (with_at s.parts p (with_back (s.parts p) f));
     }
 
--- a processor that pays has room for one more fresh frame
+-- a CPU that pays has room for one more fresh frame
 pub consume_room : (s : State) (p g : ℕ) → is_legal s p (Consume g) ≡ true → length (s.parts p).fresh < 32
 consume_room s p g legal = ltb-true (length (s.parts p).fresh) 32 (consume_tests s p g legal).2
 

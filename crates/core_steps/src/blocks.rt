@@ -1,6 +1,8 @@
-//! Part of the reading core, on which the program doesn't run. Blocks that are placed, and units that are returned.
+//! Blocks that are placed on free frames, and units whose frames are freed. What is left is the state that the rules
+//! give.
 
-ghost use Rattle.std.specs.Prelude.{◌≡◌, ◌+◌, ◌<◌, ◌≤◌, ◌^◌, ◌++◌, true, IfNone, IfSome, take, drop, replicate, vec_len};
+ghost use Rattle.std.specs.Prelude.{◌≡◌, ◌+◌, ◌<◌, ◌≤◌, ◌^◌, ◌++◌, true, IfNone, IfSome, take, drop, replicate};
+ghost use Rattle.std.specs.Prelude.{vec_len};
 ghost use Rattle.zone_blocks.specs.declared.block.Block.{Block};
 ghost use Rattle.zone_blocks.specs.Areas.{IsFreeBlock, IsFrontOfSmallest, AreMaximalBlocks};
 ghost use Rattle.step_rules.specs.State.{free_in};
@@ -9,7 +11,7 @@ ghost use Rattle.step_rules.specs.After.{after, with_block, without_unit};
 ghost use Rattle.step_rules.specs.declared.step.Action.{Action};
 ghost use Rattle.step_rules.specs.declared.step.Answer.{Answer};
 ghost use Rattle.core_rows.specs.Shown.{state_in};
-ghost use Rattle.core_rows.specs.Rooms.{FitsZone, IsFew, Makes, PlacesFront};
+ghost use Rattle.core_rows.specs.Rooms.{FitsZone, IsBelowBounds, Makes, PlacesFront};
 
 use core_rows::phases::unit_size;
 use core_rows::rows::Rows;
@@ -33,7 +35,8 @@ fn set_range(phases: &mut Vec<Phase>, at: usize, n: usize, phase: Phase)
 fn set_unit(rows: &mut Rows, group: GroupId, block: &Block)
     requires fits { FitsZone rows.old }
     requires inside { block.now.at + 2 ^ block.now.order ≤ rows.old.frames }
-    ensures state { state_in rows.new ≡ record (state_in rows.old) { phases = with_block (state_in rows.old).phases group block.now } }
+    ensures state { state_in rows.new
+        ≡ record (state_in rows.old) { phases = with_block (state_in rows.old).phases group block.now } }
     ensures fits { FitsZone rows.new }
 {
     let at = block.at as usize;
@@ -57,7 +60,8 @@ fn set_unit(rows: &mut Rows, group: GroupId, block: &Block)
 fn free_unit(rows: &mut Rows, frame: u32)
     requires fits { FitsZone rows.old }
     requires there { frame < rows.old.frames }
-    ensures state { state_in rows.new ≡ record (state_in rows.old) { phases = without_unit (state_in rows.old).phases frame } }
+    ensures state { state_in rows.new
+        ≡ record (state_in rows.old) { phases = without_unit (state_in rows.old).phases frame } }
     ensures fits { FitsZone rows.new }
 {
     let left = rows.frames - frame;
@@ -70,18 +74,17 @@ fn free_unit(rows: &mut Rows, frame: u32)
 pub(crate) fn place_block(
     rows: &mut Rows,
     areas: &FreeAreas,
-    seat: u32,
+    _seat: u32,
     group: GroupId,
     order: Order,
 ) -> Answer
     requires fits { FitsZone rows.old }
-    requires few { IsFew (state_in rows.old) }
-    requires legal { is_legal (state_in rows.old) seat (Action.PlaceBlock group order) ≡ true }
+    requires bounded { IsBelowBounds (state_in rows.old) }
+    requires legal { is_legal (state_in rows.old) _seat (Action.PlaceBlock group order) ≡ true }
     requires areas { AreMaximalBlocks (free_in (state_in rows.old).zone (state_in rows.old).phases) areas.now.blocks }
-    ensures made { Makes rows.old seat (Action.PlaceBlock group order) result rows.new }
+    ensures made { Makes rows.old _seat (Action.PlaceBlock group order) result rows.new }
     ensures front { PlacesFront areas.now.blocks (Action.PlaceBlock group order) result }
 {
-    let _ = seat;
     match free_block(rows, areas, order) {
         None => Answer::NoFreeBlock,
         Some(block) => {
@@ -94,7 +97,8 @@ pub(crate) fn place_block(
 /// The free block of the order that is placed next: the front of the smallest sufficient free block.
 fn free_block(rows: &Rows, areas: &FreeAreas, order: Order) -> Option<Block>
     requires areas { AreMaximalBlocks (free_in (state_in rows.now).zone (state_in rows.now).phases) areas.now.blocks }
-    ensures none { IfNone result ((b : Block) → b.order ≡ order → ¬ IsFreeBlock (free_in (state_in rows.now).zone (state_in rows.now).phases) b) }
+    ensures none { IfNone result ((b : Block) → b.order ≡ order
+        → ¬ IsFreeBlock (free_in (state_in rows.now).zone (state_in rows.now).phases) b) }
     ensures some { IfSome result (IsFreeBlock (free_in (state_in rows.now).zone (state_in rows.now).phases)) }
     ensures order { IfSome result (λ b. b.order ≡ order) }
     ensures smallest { IfSome result (IsFrontOfSmallest areas.now.blocks order) }
@@ -108,7 +112,8 @@ pub(crate) fn charge_block(rows: &mut Rows, group: GroupId, block: &Block)
     requires fits { FitsZone rows.old }
     requires free { IsFreeBlock (free_in (state_in rows.old).zone (state_in rows.old).phases) block.now }
     requires enough { 2 ^ block.now.order ≤ (state_in rows.old).pending group }
-    ensures state { state_in rows.new ≡ after (state_in rows.old) 0 (Action.PlaceBlock group block.now.order) (Answer.Placed block.now) }
+    ensures state { state_in rows.new
+        ≡ after (state_in rows.old) 0 (Action.PlaceBlock group block.now.order) (Answer.Placed block.now) }
     ensures fits { FitsZone rows.new }
 {
     let left = rows.pending(group) - u128::from(block.order.frames());
@@ -117,13 +122,12 @@ pub(crate) fn charge_block(rows: &mut Rows, group: GroupId, block: &Block)
 }
 
 /// Returns the frames of a unit.
-pub(crate) fn return_unit(rows: &mut Rows, seat: u32, frame: u32) -> Answer
+pub(crate) fn return_unit(rows: &mut Rows, _seat: u32, frame: u32) -> Answer
     requires fits { FitsZone rows.old }
-    requires few { IsFew (state_in rows.old) }
-    requires legal { is_legal (state_in rows.old) seat (Action.Return frame) ≡ true }
-    ensures made { Makes rows.old seat (Action.Return frame) result rows.new }
+    requires bounded { IsBelowBounds (state_in rows.old) }
+    requires legal { is_legal (state_in rows.old) _seat (Action.Return frame) ≡ true }
+    ensures made { Makes rows.old _seat (Action.Return frame) result rows.new }
 {
-    let _ = seat;
     free_unit(rows, frame);
     Answer::Done
 }

@@ -1,4 +1,3 @@
-//! Of the reading core, on which the program doesn't run.
 //! Blocks that somebody else says were placed: any free block may be.
 
 ghost use Rattle.std.specs.Prelude.{◌≡◌, ◌↔◌, ℕ, IsTrue, true, false};
@@ -9,7 +8,7 @@ ghost use Rattle.step_rules.specs.Legal.{Allows};
 ghost use Rattle.step_rules.specs.After.{after};
 ghost use Rattle.step_rules.specs.declared.step.Answer.TheVariants.{Placed};
 ghost use Rattle.core_rows.specs.Shown.{state_in};
-ghost use Rattle.core_rows.specs.Rooms.{FitsZone, IsFew};
+ghost use Rattle.core_rows.specs.Rooms.{FitsZone, IsBelowBounds};
 
 use crate::blocks::charge_block;
 use crate::legal::is_legal;
@@ -22,7 +21,8 @@ use zone_blocks::block::Block;
 fn is_all_free(rows: &Rows, block: &Block) -> bool
     requires fits { FitsZone rows.now }
     requires inside { IsBlock rows.now.frames block.now }
-    ensures { IsTrue result ↔ ((f : ℕ) → Covers block.now f → IsFree (free_in (state_in rows.now).zone (state_in rows.now).phases) f) }
+    ensures { IsTrue result ↔ ((f : ℕ) → Covers block.now f
+        → IsFree (free_in (state_in rows.now).zone (state_in rows.now).phases) f) }
 {
     for frame in block.at..block.at + block.order.frames() {
         if !is_free(rows.phase(frame)) {
@@ -43,9 +43,10 @@ fn is_free_block(rows: &Rows, block: &Block) -> bool
 /// Places a block as claimed, if the rules allow it; else nothing changes.
 pub fn place_at(rows: &mut Rows, step: &Step, block: &Block) -> bool
     requires fits { FitsZone rows.old }
-    requires few { IsFew (state_in rows.old) }
+    requires bounded { IsBelowBounds (state_in rows.old) }
     ensures allowed { IsTrue result ↔ Allows (state_in rows.old) step.now.seat step.now.action (Placed block.now) }
-    ensures state { result ≡ true → state_in rows.new ≡ after (state_in rows.old) step.now.seat step.now.action (Placed block.now) }
+    ensures state { result ≡ true → state_in rows.new
+        ≡ after (state_in rows.old) step.now.seat step.now.action (Placed block.now) }
     ensures unchanged { result ≡ false → rows.new ≡ rows.old }
     ensures fits { FitsZone rows.new }
 {

@@ -1,10 +1,10 @@
-//! Part of the reading core, on which the program doesn't run. Frames that are handed over between the zone and a CPU.
+//! Frames that are handed over between the zone and a CPU. Each is in the phase, and on the list, that the rules give.
 
 ghost use Rattle.std.specs.Prelude.{◌≡◌, ◌≢◌, ◌+◌, ◌-◌, ◌<◌, ◌≤◌, ◌^◌, true, false, Some, length};
 ghost use Rattle.step_rules.specs.Legal.{is_legal};
 ghost use Rattle.step_rules.specs.declared.step.Action.{Action};
 ghost use Rattle.core_rows.specs.Shown.{state_in};
-ghost use Rattle.core_rows.specs.Rooms.{FitsZone, IsFew, Makes};
+ghost use Rattle.core_rows.specs.Rooms.{FitsZone, IsBelowBounds, Makes};
 
 use core_rows::phases::{collected, is_fresh_at, passed_back};
 use core_rows::rows::Rows;
@@ -12,13 +12,12 @@ use step_rules::phase::{Phase, Way};
 use step_rules::step::Answer;
 
 /// The zone passes a free frame to the CPU.
-pub(crate) fn pass_out(rows: &mut Rows, seat: u32, frame: u32, cpu: u32) -> Answer
+pub(crate) fn pass_out(rows: &mut Rows, _seat: u32, frame: u32, cpu: u32) -> Answer
     requires fits { FitsZone rows.old }
-    requires few { IsFew (state_in rows.old) }
-    requires legal { is_legal (state_in rows.old) seat (Action.PassOut frame cpu) ≡ true }
-    ensures made { Makes rows.old seat (Action.PassOut frame cpu) result rows.new }
+    requires bounded { IsBelowBounds (state_in rows.old) }
+    requires legal { is_legal (state_in rows.old) _seat (Action.PassOut frame cpu) ≡ true }
+    ensures made { Makes rows.old _seat (Action.PassOut frame cpu) result rows.new }
 {
-    let _ = seat;
     rows.set_phase(
         frame,
         Phase::Lent {
@@ -32,7 +31,7 @@ pub(crate) fn pass_out(rows: &mut Rows, seat: u32, frame: u32, cpu: u32) -> Answ
 /// The CPU takes the frame to the end of its list.
 pub(crate) fn take_in(rows: &mut Rows, seat: u32, frame: u32) -> Answer
     requires fits { FitsZone rows.old }
-    requires few { IsFew (state_in rows.old) }
+    requires bounded { IsBelowBounds (state_in rows.old) }
     requires legal { is_legal (state_in rows.old) seat (Action.TakeIn frame) ≡ true }
     ensures made { Makes rows.old seat (Action.TakeIn frame) result rows.new }
 {
@@ -43,33 +42,31 @@ pub(crate) fn take_in(rows: &mut Rows, seat: u32, frame: u32) -> Answer
             way: Way::OnList,
         },
     );
-    rows.put_on_list(seat, frame);
+    rows.list_frame(seat, frame);
     Answer::Done
 }
 
 /// The CPU passes a frame back.
 pub(crate) fn pass_back(rows: &mut Rows, seat: u32, frame: u32) -> Answer
     requires fits { FitsZone rows.old }
-    requires few { IsFew (state_in rows.old) }
+    requires bounded { IsBelowBounds (state_in rows.old) }
     requires legal { is_legal (state_in rows.old) seat (Action.PassBack frame) ≡ true }
     ensures made { Makes rows.old seat (Action.PassBack frame) result rows.new }
 {
     let was_fresh = is_fresh_at(rows.phase(frame), seat);
     let phase = passed_back(rows.phase(frame));
     rows.set_phase(frame, phase);
-    rows.take_from_lists(seat, frame, was_fresh);
+    rows.unlist_frame(seat, frame, was_fresh);
     Answer::Done
 }
 
 /// The zone takes a frame that was passed back.
-pub(crate) fn collect(rows: &mut Rows, seat: u32, frame: u32, cpu: u32) -> Answer
+pub(crate) fn collect(rows: &mut Rows, _seat: u32, frame: u32, _cpu: u32) -> Answer
     requires fits { FitsZone rows.old }
-    requires few { IsFew (state_in rows.old) }
-    requires legal { is_legal (state_in rows.old) seat (Action.Collect frame cpu) ≡ true }
-    ensures made { Makes rows.old seat (Action.Collect frame cpu) result rows.new }
+    requires bounded { IsBelowBounds (state_in rows.old) }
+    requires legal { is_legal (state_in rows.old) _seat (Action.Collect frame _cpu) ≡ true }
+    ensures made { Makes rows.old _seat (Action.Collect frame _cpu) result rows.new }
 {
-    let _ = seat;
-    let _ = cpu;
     let phase = collected(rows.phase(frame));
     rows.set_phase(frame, phase);
     Answer::Done

@@ -1,13 +1,14 @@
-//! Part of the reading core, on which the program doesn't run. Which steps may be made: `may_ACTION` for each line of
-//! the table. What several lines share is below them, from `has_group` on.
+//! Which steps may be made, exactly by the table of the rules: `may_ACTION` for each of its lines. What several lines
+//! share is below them, from `may_change_group` on.
 
-ghost use Rattle.std.specs.Prelude.{◌≡◌};
+ghost use Rattle.std.specs.Prelude.{◌≡◌, ◌==◌, ◌&&◌, not};
+ghost use Rattle.step_rules.specs.State.{may_zone_act};
 ghost use Rattle.group_tree.specs.Groups.{has_group};
 ghost use Rattle.step_rules.specs.Phases.{may_return};
 ghost use Rattle.step_rules.specs.Legal.{is_legal, may_fill, may_pass_back, is_removable};
 ghost use Rattle.step_rules.specs.declared.step.Action.{Action};
 ghost use Rattle.core_rows.specs.Shown.{state_in};
-ghost use Rattle.core_rows.specs.Rooms.{FitsZone, IsFew};
+ghost use Rattle.core_rows.specs.Rooms.{FitsZone, IsBelowBounds};
 
 use core_rows::holds::{is_held_by, is_unheld, may_zone_act, visits};
 use core_rows::phases::{
@@ -32,7 +33,10 @@ fn may_unlock(rows: &Rows, seat: u32) -> bool
     requires fits { FitsZone rows.now }
     ensures { result ≡ is_legal (state_in rows.now) seat Action.Unlock }
 {
-    rows.is_cpu(seat) && is_held_by(rows.hold, seat) && rows.is_settled() && rows.no_frame_passes()
+    rows.is_cpu(seat)
+        && is_held_by(rows.hold, seat)
+        && rows.no_page_pends()
+        && rows.no_frame_passes()
 }
 
 fn may_open_visit(rows: &Rows, seat: u32, cpu: u32) -> bool
@@ -53,7 +57,7 @@ fn may_shut_visit(rows: &Rows, seat: u32, cpu: u32) -> bool
 
 fn may_get(rows: &Rows, seat: u32, frame: u32) -> bool
     requires fits { FitsZone rows.now }
-    requires few { IsFew (state_in rows.now) }
+    requires bounded { IsBelowBounds (state_in rows.now) }
     ensures { result ≡ is_legal (state_in rows.now) seat (Action.Get frame) }
 {
     rows.is_cpu(seat)
@@ -213,20 +217,19 @@ fn may_note_oom(rows: &Rows, seat: u32, group: GroupId) -> bool
 fn may_note_group_kill(rows: &Rows, seat: u32, group: GroupId) -> bool
     ensures { result ≡ is_legal (state_in rows.now) seat (Action.NoteGroupKill group) }
 {
-    may_set_flag(rows, seat, group, true)
+    may_change_group(rows, seat, group)
 }
 
-fn may_set_max(rows: &Rows, seat: u32, group: GroupId, limit: Option<u32>) -> bool
-    ensures { result ≡ is_legal (state_in rows.now) seat (Action.SetMax group limit) }
+fn may_set_max(rows: &Rows, seat: u32, group: GroupId, _limit: Option<u32>) -> bool
+    ensures { result ≡ is_legal (state_in rows.now) seat (Action.SetMax group _limit) }
 {
-    may_zone_act(rows.hold, seat) && has_group(rows, group) && group.number() != 0
+    may_change_group(rows, seat, group)
 }
 
-fn may_set_flag(rows: &Rows, seat: u32, group: GroupId, oom_group: bool) -> bool
-    ensures { result ≡ is_legal (state_in rows.now) seat (Action.SetFlag group oom_group) }
+fn may_set_flag(rows: &Rows, seat: u32, group: GroupId, _oom_group: bool) -> bool
+    ensures { result ≡ is_legal (state_in rows.now) seat (Action.SetFlag group _oom_group) }
 {
-    let _ = oom_group;
-    may_set_max(rows, seat, group, None)
+    may_change_group(rows, seat, group)
 }
 
 fn may_make(rows: &Rows, seat: u32, path: &PathText) -> bool
@@ -237,7 +240,7 @@ fn may_make(rows: &Rows, seat: u32, path: &PathText) -> bool
 
 fn may_remove(rows: &Rows, seat: u32, group: GroupId) -> bool
     requires fits { FitsZone rows.now }
-    requires few { IsFew (state_in rows.now) }
+    requires bounded { IsBelowBounds (state_in rows.now) }
     ensures { result ≡ is_legal (state_in rows.now) seat (Action.Remove group) }
 {
     may_zone_act(rows.hold, seat) && is_removable(rows, group)
@@ -247,6 +250,14 @@ fn may_kill(rows: &Rows, seat: u32, group: GroupId) -> bool
     ensures { result ≡ is_legal (state_in rows.now) seat (Action.Kill group) }
 {
     may_zone_act(rows.hold, seat) && has_group(rows, group) && !rows.is_killed(group)
+}
+
+// The zone may act on a group that exists and isn't the root: such a group has a limit and a flag.
+fn may_change_group(rows: &Rows, seat: u32, group: GroupId) -> bool
+    ensures { result
+        ≡ (may_zone_act rows.now.hold seat && has_group rows.now.tree group && not (group == 0)) }
+{
+    may_zone_act(rows.hold, seat) && has_group(rows, group) && group.number() != 0
 }
 
 // The group exists.
@@ -287,7 +298,7 @@ fn may_come_back(rows: &Rows, frame: u32) -> bool
 // The group exists, isn't the root, has no child, and its usage is 0.
 fn is_removable(rows: &Rows, group: GroupId) -> bool
     requires fits { FitsZone rows.now }
-    requires few { IsFew (state_in rows.now) }
+    requires bounded { IsBelowBounds (state_in rows.now) }
     ensures { result ≡ is_removable (state_in rows.now) group }
 {
     rows.tree.contains(group)
@@ -299,7 +310,7 @@ fn is_removable(rows: &Rows, group: GroupId) -> bool
 /// Whether a step may be made.
 pub fn is_legal(rows: &Rows, step: &Step) -> bool
     requires fits { FitsZone rows.now }
-    requires few { IsFew (state_in rows.now) }
+    requires bounded { IsBelowBounds (state_in rows.now) }
     ensures { result ≡ is_legal (state_in rows.now) step.now.seat step.now.action }
 {
     let seat = step.seat;

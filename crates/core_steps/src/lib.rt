@@ -1,5 +1,5 @@
-//! Part of the reading core, on which the program doesn't run. The 31 actions of the rules over the rows of the core:
-//! which may be made, what each is answered, and what it changes.
+//! The 31 actions of the rules over the rows of the core: which may be made, what each is answered, and what it
+//! changes.
 #![tactic(auto)]
 
 pub mod blocks;
@@ -7,7 +7,7 @@ pub mod claims;
 pub mod groups;
 pub mod hand_over;
 pub mod legal;
+pub mod lock;
 pub mod references;
 pub mod serve;
 pub mod stocks;
-pub mod zone;

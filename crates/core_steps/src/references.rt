@@ -1,10 +1,10 @@
-//! Part of the reading core, on which the program doesn't run. References on frames.
+//! References on frames: each step changes those of one seat on one frame, as the rules say.
 
 ghost use Rattle.std.specs.Prelude.{◌≡◌, ◌≢◌, ◌+◌, ◌-◌, ◌<◌, ◌≤◌, ◌^◌, true, false, Some, length};
 ghost use Rattle.step_rules.specs.Legal.{is_legal};
 ghost use Rattle.step_rules.specs.declared.step.Action.{Action};
 ghost use Rattle.core_rows.specs.Shown.{state_in};
-ghost use Rattle.core_rows.specs.Rooms.{FitsZone, IsFew, Makes};
+ghost use Rattle.core_rows.specs.Rooms.{FitsZone, IsBelowBounds, Makes};
 ghost use Rattle.step_rules.specs.State.{live_references};
 
 use core_rows::phases::at_stage;
@@ -15,7 +15,7 @@ use step_rules::step::Answer;
 /// A CPU asks for one more reference.
 pub(crate) fn get(rows: &mut Rows, seat: u32, frame: u32) -> Answer
     requires fits { FitsZone rows.old }
-    requires few { IsFew (state_in rows.old) }
+    requires bounded { IsBelowBounds (state_in rows.old) }
     requires legal { is_legal (state_in rows.old) seat (Action.Get frame) ≡ true }
     ensures made { Makes rows.old seat (Action.Get frame) result rows.new }
 {
@@ -35,7 +35,7 @@ pub(crate) fn get(rows: &mut Rows, seat: u32, frame: u32) -> Answer
 /// A seat gives up one of its references.
 pub(crate) fn put(rows: &mut Rows, seat: u32, frame: u32) -> Answer
     requires fits { FitsZone rows.old }
-    requires few { IsFew (state_in rows.old) }
+    requires bounded { IsBelowBounds (state_in rows.old) }
     requires legal { is_legal (state_in rows.old) seat (Action.Put frame) ≡ true }
     ensures made { Makes rows.old seat (Action.Put frame) result rows.new }
 {
@@ -53,15 +53,14 @@ pub(crate) fn put(rows: &mut Rows, seat: u32, frame: u32) -> Answer
 }
 
 /// The zone gives up the last reference.
-pub(crate) fn put_last(rows: &mut Rows, seat: u32, frame: u32) -> Answer
+pub(crate) fn put_last(rows: &mut Rows, _seat: u32, frame: u32) -> Answer
     requires fits { FitsZone rows.old }
-    requires few { IsFew (state_in rows.old) }
-    requires legal { is_legal (state_in rows.old) seat (Action.Put frame) ≡ true }
+    requires bounded { IsBelowBounds (state_in rows.old) }
+    requires legal { is_legal (state_in rows.old) _seat (Action.Put frame) ≡ true }
     requires last { live_references (state_in rows.old) frame ≡ 1 }
-    requires zone { seat ≡ 0 }
-    ensures made { Makes rows.old seat (Action.Put frame) result rows.new }
+    requires zone { _seat ≡ 0 }
+    ensures made { Makes rows.old _seat (Action.Put frame) result rows.new }
 {
-    let _ = seat;
     let count = rows.references(0, frame) - 1;
     let phase = at_stage(Stage::Ended, rows.phase(frame));
     rows.set_references(0, frame, count);
@@ -72,7 +71,7 @@ pub(crate) fn put_last(rows: &mut Rows, seat: u32, frame: u32) -> Answer
 /// A CPU gives up the last reference, and has the frame as a back frame.
 pub(crate) fn put_last_at(rows: &mut Rows, seat: u32, frame: u32) -> Answer
     requires fits { FitsZone rows.old }
-    requires few { IsFew (state_in rows.old) }
+    requires bounded { IsBelowBounds (state_in rows.old) }
     requires legal { is_legal (state_in rows.old) seat (Action.Put frame) ≡ true }
     requires last { live_references (state_in rows.old) frame ≡ 1 }
     requires cpu { seat ≢ 0 }
@@ -82,18 +81,17 @@ pub(crate) fn put_last_at(rows: &mut Rows, seat: u32, frame: u32) -> Answer
     let phase = at_stage(Stage::BackAt(seat), rows.phase(frame));
     rows.set_references(seat, frame, count);
     rows.set_phase(frame, phase);
-    rows.put_back(seat, frame);
+    rows.keep_back(seat, frame);
     Answer::Last
 }
 
 /// The zone removes all references on a frame, if they are exactly this many.
-pub(crate) fn freeze(rows: &mut Rows, seat: u32, frame: u32, count: u32) -> Answer
+pub(crate) fn freeze(rows: &mut Rows, _seat: u32, frame: u32, count: u32) -> Answer
     requires fits { FitsZone rows.old }
-    requires few { IsFew (state_in rows.old) }
-    requires legal { is_legal (state_in rows.old) seat (Action.Freeze frame count) ≡ true }
-    ensures made { Makes rows.old seat (Action.Freeze frame count) result rows.new }
+    requires bounded { IsBelowBounds (state_in rows.old) }
+    requires legal { is_legal (state_in rows.old) _seat (Action.Freeze frame count) ≡ true }
+    ensures made { Makes rows.old _seat (Action.Freeze frame count) result rows.new }
 {
-    let _ = seat;
     if rows.live_references(frame) != count {
         return Answer::Missed;
     }
@@ -105,13 +103,12 @@ pub(crate) fn freeze(rows: &mut Rows, seat: u32, frame: u32, count: u32) -> Answ
 }
 
 /// The zone puts references on the head of a unit.
-pub(crate) fn unfreeze(rows: &mut Rows, seat: u32, frame: u32, count: u32) -> Answer
+pub(crate) fn unfreeze(rows: &mut Rows, _seat: u32, frame: u32, count: u32) -> Answer
     requires fits { FitsZone rows.old }
-    requires few { IsFew (state_in rows.old) }
-    requires legal { is_legal (state_in rows.old) seat (Action.Unfreeze frame count) ≡ true }
-    ensures made { Makes rows.old seat (Action.Unfreeze frame count) result rows.new }
+    requires bounded { IsBelowBounds (state_in rows.old) }
+    requires legal { is_legal (state_in rows.old) _seat (Action.Unfreeze frame count) ≡ true }
+    ensures made { Makes rows.old _seat (Action.Unfreeze frame count) result rows.new }
 {
-    let _ = seat;
     let more = rows.references(0, frame) + count;
     let phase = at_stage(Stage::Live, rows.phase(frame));
     rows.set_references(0, frame, more);
@@ -120,13 +117,11 @@ pub(crate) fn unfreeze(rows: &mut Rows, seat: u32, frame: u32, count: u32) -> An
 }
 
 /// The zone keeps the head of a unit; here that changes nothing.
-pub(crate) fn publish(rows: &mut Rows, seat: u32, frame: u32) -> Answer
+pub(crate) fn publish(rows: &mut Rows, _seat: u32, _frame: u32) -> Answer
     requires fits { FitsZone rows.old }
-    requires few { IsFew (state_in rows.old) }
-    requires legal { is_legal (state_in rows.old) seat (Action.Publish frame) ≡ true }
-    ensures made { Makes rows.old seat (Action.Publish frame) result rows.new }
+    requires bounded { IsBelowBounds (state_in rows.old) }
+    requires legal { is_legal (state_in rows.old) _seat (Action.Publish _frame) ≡ true }
+    ensures made { Makes rows.old _seat (Action.Publish _frame) result rows.new }
 {
-    let _ = seat;
-    let _ = frame;
     Answer::Done
 }

@@ -1,11 +1,11 @@
-//! Part of the reading core, on which the program doesn't run. Every step, made if it is legal.
+//! Every step, made if it is legal: its answer is one that the rules allow, and an illegal step changes nothing.
 
 ghost use Rattle.std.specs.Prelude.{◌≡◌, ◌<◌, ◌^◌, true};
 ghost use Rattle.step_rules.specs.declared.step.Answer.TheVariants.{Illegal};
 ghost use Rattle.step_rules.specs.Legal.{is_legal, Allows};
 ghost use Rattle.step_rules.specs.After.{after};
 ghost use Rattle.core_rows.specs.Shown.{state_in};
-ghost use Rattle.core_rows.specs.Rooms.{AreasFor, FitsZone, IsFew, Makes, PlacesFront, pages_asked};
+ghost use Rattle.core_rows.specs.Rooms.{AreasFor, FitsZone, IsBelowBounds, Makes, PlacesFront, pages_asked};
 
 use crate::blocks::{place_block, return_unit};
 use crate::groups::{
@@ -13,18 +13,18 @@ use crate::groups::{
 };
 use crate::hand_over::{collect, pass_back, pass_out, take_in};
 use crate::legal::is_legal;
+use crate::lock::{lock, open_visit, shut_visit, unlock};
 use crate::references::{freeze, get, publish, put, unfreeze};
 use crate::stocks::{absorb, consume, credit, drain_stock, fill, report};
-use crate::zone::{lock, open_visit, shut_visit, unlock};
 use core_rows::rows::Rows;
 use step_rules::step::{Action, Answer, Step};
 use zone_blocks::areas::FreeAreas;
 
-/// Makes one step, if it is legal, and answers it. A step that isn't legal is answered Illegal and changes nothing. Only a
-/// block that is to be placed is looked up in the areas.
+/// Makes one step, if it is legal, and answers it. A step that isn't legal is answered Illegal and changes nothing.
+/// Only a block that is to be placed is looked up in the areas.
 pub fn serve(rows: &mut Rows, areas: &FreeAreas, step: &Step) -> Answer
     requires fits { FitsZone rows.old }
-    requires few { IsFew (state_in rows.old) }
+    requires bounded { IsBelowBounds (state_in rows.old) }
     requires areas { AreasFor (state_in rows.old) step.now.action areas.now.blocks }
     ensures allowed { Allows (state_in rows.old) step.now.seat step.now.action result }
     ensures state { state_in rows.new ≡ after (state_in rows.old) step.now.seat step.now.action result }
@@ -41,7 +41,7 @@ pub fn serve(rows: &mut Rows, areas: &FreeAreas, step: &Step) -> Answer
 /// Makes a step that is legal.
 fn make_step(rows: &mut Rows, areas: &FreeAreas, step: &Step) -> Answer
     requires fits { FitsZone rows.old }
-    requires few { IsFew (state_in rows.old) }
+    requires bounded { IsBelowBounds (state_in rows.old) }
     requires areas { AreasFor (state_in rows.old) step.now.action areas.now.blocks }
     requires legal { is_legal (state_in rows.old) step.now.seat step.now.action ≡ true }
     ensures made { Makes rows.old step.now.seat step.now.action result rows.new }

@@ -1,11 +1,11 @@
-//! Part of the reading core, on which the program doesn't run. Prepaid pages.
+//! Prepaid pages: each leaves a stock for a unit, or becomes pending again, as the rules say.
 
 ghost use Rattle.std.specs.Prelude.{◌≡◌, ◌≢◌, ◌+◌, ◌-◌, ◌<◌, ◌≤◌, ◌^◌, true, false, ℕ, Some, length};
 ghost use Rattle.step_rules.specs.After.{with_more};
 ghost use Rattle.step_rules.specs.Legal.{is_legal};
 ghost use Rattle.step_rules.specs.declared.step.Action.{Action};
 ghost use Rattle.core_rows.specs.Shown.{state_in};
-ghost use Rattle.core_rows.specs.Rooms.{FitsZone, IsFew, Makes};
+ghost use Rattle.core_rows.specs.Rooms.{FitsZone, IsBelowBounds, Makes};
 
 use core_rows::rows::Rows;
 use core_rows::sums::is_of_group;
@@ -24,7 +24,7 @@ fn least_order() -> Order
 /// A CPU pays for the front of its list from its stock, for a group.
 pub(crate) fn consume(rows: &mut Rows, seat: u32, group: GroupId) -> Answer
     requires fits { FitsZone rows.old }
-    requires few { IsFew (state_in rows.old) }
+    requires bounded { IsBelowBounds (state_in rows.old) }
     requires legal { is_legal (state_in rows.old) seat (Action.Consume group) ≡ true }
     ensures made { Makes rows.old seat (Action.Consume group) result rows.new }
 {
@@ -43,7 +43,7 @@ pub(crate) fn consume(rows: &mut Rows, seat: u32, group: GroupId) -> Answer
 /// The stock has a page, and pays.
 pub(crate) fn take_front(rows: &mut Rows, seat: u32, group: GroupId) -> Answer
     requires fits { FitsZone rows.old }
-    requires few { IsFew (state_in rows.old) }
+    requires bounded { IsBelowBounds (state_in rows.old) }
     requires legal { is_legal (state_in rows.old) seat (Action.Consume group) ≡ true }
     requires of { ((state_in rows.old).parts seat).stock.group ≡ Some group }
     requires undrained { ((state_in rows.old).parts seat).stock.is_drained ≡ false }
@@ -69,7 +69,7 @@ pub(crate) fn take_front(rows: &mut Rows, seat: u32, group: GroupId) -> Answer
 /// A CPU puts a fresh frame back on its list, and the page into its stock.
 pub(crate) fn credit(rows: &mut Rows, seat: u32, frame: u32) -> Answer
     requires fits { FitsZone rows.old }
-    requires few { IsFew (state_in rows.old) }
+    requires bounded { IsBelowBounds (state_in rows.old) }
     requires legal { is_legal (state_in rows.old) seat (Action.Credit frame) ≡ true }
     ensures made { Makes rows.old seat (Action.Credit frame) result rows.new }
 {
@@ -83,57 +83,54 @@ pub(crate) fn credit(rows: &mut Rows, seat: u32, frame: u32) -> Answer
             way: Way::OnList,
         },
     );
-    rows.take_credit(seat, frame);
+    rows.credit(seat, frame);
     Answer::Back
 }
 
 /// The visited CPU reports pages.
 pub(crate) fn report(rows: &mut Rows, seat: u32, pages: u32) -> Answer
     requires fits { FitsZone rows.old }
-    requires few { IsFew (state_in rows.old) }
+    requires bounded { IsBelowBounds (state_in rows.old) }
     requires legal { is_legal (state_in rows.old) seat (Action.Report pages) ≡ true }
     ensures made { Makes rows.old seat (Action.Report pages) result rows.new }
 {
-    rows.note_report(seat, pages);
+    rows.report_pages(seat, pages);
     Answer::Done
 }
 
 /// The zone takes what the visited CPU reported off the CPU's book.
-pub(crate) fn absorb(rows: &mut Rows, seat: u32, cpu: u32) -> Answer
+pub(crate) fn absorb(rows: &mut Rows, _seat: u32, cpu: u32) -> Answer
     requires fits { FitsZone rows.old }
-    requires few { IsFew (state_in rows.old) }
-    requires legal { is_legal (state_in rows.old) seat (Action.Absorb cpu) ≡ true }
-    ensures made { Makes rows.old seat (Action.Absorb cpu) result rows.new }
+    requires bounded { IsBelowBounds (state_in rows.old) }
+    requires legal { is_legal (state_in rows.old) _seat (Action.Absorb cpu) ≡ true }
+    ensures made { Makes rows.old _seat (Action.Absorb cpu) result rows.new }
 {
-    let _ = seat;
-    let pages = rows.take_report(cpu);
+    let pages = rows.absorb_pages(cpu);
     Answer::Pages(pages)
 }
 
 /// The zone fills the visited CPU's stock with pending pages.
-pub(crate) fn fill(rows: &mut Rows, seat: u32, cpu: u32, group: GroupId, pages: u32) -> Answer
+pub(crate) fn fill(rows: &mut Rows, _seat: u32, cpu: u32, group: GroupId, pages: u32) -> Answer
     requires fits { FitsZone rows.old }
-    requires few { IsFew (state_in rows.old) }
-    requires legal { is_legal (state_in rows.old) seat (Action.Fill cpu group pages) ≡ true }
-    ensures made { Makes rows.old seat (Action.Fill cpu group pages) result rows.new }
+    requires bounded { IsBelowBounds (state_in rows.old) }
+    requires legal { is_legal (state_in rows.old) _seat (Action.Fill cpu group pages) ≡ true }
+    ensures made { Makes rows.old _seat (Action.Fill cpu group pages) result rows.new }
 {
-    let _ = seat;
     let left = rows.pending(group) - u128::from(pages);
     rows.set_pending(group, left);
-    rows.put_in_stock(cpu, group, pages);
+    rows.fill_stock(cpu, group, pages);
     Answer::Done
 }
 
 /// The zone drains all pages from a CPU's stock; they are pending then.
-pub(crate) fn drain_stock(rows: &mut Rows, seat: u32, cpu: u32) -> Answer
+pub(crate) fn drain_stock(rows: &mut Rows, _seat: u32, cpu: u32) -> Answer
     requires fits { FitsZone rows.old }
-    requires few { IsFew (state_in rows.old) }
-    requires legal { is_legal (state_in rows.old) seat (Action.DrainStock cpu) ≡ true }
-    ensures made { Makes rows.old seat (Action.DrainStock cpu) result rows.new }
+    requires bounded { IsBelowBounds (state_in rows.old) }
+    requires legal { is_legal (state_in rows.old) _seat (Action.DrainStock cpu) ≡ true }
+    ensures made { Makes rows.old _seat (Action.DrainStock cpu) result rows.new }
 {
-    let _ = seat;
     let of = rows.stock_group(cpu);
-    let pages = rows.empty_stock(cpu);
+    let pages = rows.drain_stock(cpu);
     add_pending(rows, of, pages);
     Answer::Pages(pages)
 }
@@ -143,7 +140,8 @@ fn add_pending(rows: &mut Rows, of: Option<GroupId>, pages: u128)
     requires fits { FitsZone rows.old }
     requires few { (g : ℕ) → (state_in rows.old).pending g ≤ 2 ^ 96 }
     requires room { pages ≤ 2 ^ 96 }
-    ensures state { state_in rows.new ≡ record (state_in rows.old) { pending = with_more (state_in rows.old).pending of pages } }
+    ensures state { state_in rows.new
+        ≡ record (state_in rows.old) { pending = with_more (state_in rows.old).pending of pages } }
     ensures fits { FitsZone rows.new }
 {
     match of {

@@ -4,7 +4,7 @@ use Rattle.std.specs.Prelude.{min, remove}
 use Rattle.frame_word.specs.declared.answers.Get.{Get}
 use Rattle.frame_word.specs.declared.answers.Get.TheVariants.{Held, Zero, Raced, Full}
 use Rattle.frame_word.specs.Seats.{KnownSeat, GetAnswers}
-use Rattle.stock_word.specs.Stock.{Seated}
+use Rattle.stock_word.specs.Stock.{KnownStockSeat}
 use Rattle.stock_word.specs.declared.words.Consume.TheVariants.{Took}
 use Rattle.stock_word.specs.declared.words.Credit.TheVariants.{Back}
 use Rattle.stock_word.specs.Calls.{Consumed, Credited}
@@ -22,7 +22,7 @@ not_held f (Raced found) c seat not told = (seat, told, refl)
 not_held f Full c seat not told = (seat, told, refl)
 
 module _ (c now : KnownCpu) (same : c ≡ now) where
-  pub got : (g f : ℕ) (rest fresh : List ℕ) (stock : Seated) → length c.fresh < 32 → c.list ≡ f ∷ rest → fresh ≡ c.fresh ++ f ∷ []
+  pub got : (g f : ℕ) (rest fresh : List ℕ) (stock : KnownStockSeat) → length c.fresh < 32 → c.list ≡ f ∷ rest → fresh ≡ c.fresh ++ f ∷ []
       → stock.table ≡ c.stock_seat.table → Consumed g Took c.stock_seat.view stock.view
       → FastAnswers g (Got f) now (record c { list = rest; fresh = fresh; stock_seat = stock })
   got g f rest fresh stock short front end table took = subst (λ (k : KnownCpu). FastAnswers g (Got f) k (record c {
@@ -33,7 +33,7 @@ module _ (c now : KnownCpu) (same : c ≡ now) where
   })) same
       (short, rest, front, stock.view, took, (λ i. record c { list = rest; fresh = end i; stock_seat = record { table = table i; view = stock.view } }))
 
-  pub dropped : (f i drops : ℕ) (list fresh : List ℕ) (stock : Seated) → i < length c.fresh → get_or c.fresh i 0 ≡ f → list ≡ c.list ++ f ∷ []
+  pub dropped : (f i drops : ℕ) (list fresh : List ℕ) (stock : KnownStockSeat) → i < length c.fresh → get_or c.fresh i 0 ≡ f → list ≡ c.list ++ f ∷ []
       → fresh ≡ remove c.fresh i
       → stock.table ≡ c.stock_seat.table → Credited Back c.stock_seat.view stock.view → drops ≡ min (c.drops + 1) (2 ^ 64 - 1)
       → DropAnswers f Listed now (record c { list = list; fresh = fresh; stock_seat = stock; drops = drops })

@@ -7,13 +7,13 @@ use Rattle.frame_word.specs.Seats.{KnownTable, KnownSeat, number_of, Passes, Not
 use Rattle.frame_word.proofs.Notes.{put_here, note_here, note_else}
 
 module _ (t : KnownTable) (zone cpu : KnownSeat) (p : ℕ) (named : number_of cpu ≡ p) (f : ℕ) (still : NothingPasses t zone cpu) where
-  -- a frame that the processor handed passes for it
+  -- a frame that the CPU handed passes for it
   pub handed_passes : (after : KnownSeat) → after ≡ seat_with cpu f gave_back → f < t.frames → Passes zone after f
   handed_passes after is inside = subst (λ (s : KnownSeat). Passes zone s f) (sym is)
       (let k = note_here cpu.view f gave_back in let a = ap (λ (n : FrameNote). n.passed_back) k in let b = ap (λ (n : FrameNote). n.taken_in) k in
       let e = still f inside in omega (arith, a, b, e))
 
-  -- a frame that the zone passed out to the processor passes for it
+  -- a frame that the zone passed out to the CPU passes for it
   pub passed_out_passes : (after : KnownSeat) → after ≡ seat_with zone f (passed_out_to p) → f < t.frames → Passes after cpu f
   passed_out_passes after is inside = subst (λ (s : KnownSeat). Passes s cpu f) (sym (is ∙ ap (λ (q : ℕ). seat_with zone f (passed_out_to q)) (sym named)))
       (let q = number_of cpu in let z = note_of zone.view f in let k = note_here zone.view f (passed_out_to q) in

@@ -1,4 +1,4 @@
--- What always holds of a processor's part still holds after each change of its lists and its seats.
+-- What always holds of a CPU's part still holds after each change of its lists and its seats.
 use Rattle.std.proofs.Common.{◌≡◌, ◌≢◌, ◌⊎◌, ℕ, ◌+◌, ◌<◌, List, [], ◌∷◌, ◌++◌, length, sym, refl, ap, ◌∙◌, subst, inl, inr, arith, length-append}
 use Rattle.std.specs.Prelude.{IsPermutation}
 use Rattle.std.proofs.lemmas.List.Sorted.{length_permutation}
@@ -8,7 +8,7 @@ use Rattle.frame_word.specs.declared.answers.Get.TheVariants.{Held, Zero, Raced,
 use Rattle.frame_word.specs.declared.answers.Put.TheVariants.{Left}
 use Rattle.frame_word.specs.Views.{note_of, in_hands, looked, held, raced, let_go, let_go_last, took_in, gave_back}
 use Rattle.frame_word.specs.Seats.{KnownTable, KnownSeat, seat_with, GetAnswers, PutAnswers}
-use Rattle.stock_word.specs.Stock.{Words, Seated}
+use Rattle.stock_word.specs.Stock.{KnownStockTable, KnownStockSeat}
 use Rattle.stock_word.specs.Kinds.{after_report}
 use Rattle.stock_word.specs.Calls.{with_view}
 use Rattle.cpu_part.specs.Cpus.{KnownCpu, AreItsSeats, IsTied, times}
@@ -25,8 +25,8 @@ length_front f xs rest is = let e = ap length is in omega (arith, e)
 pub length_parted : (f : ℕ) (xs ys : List ℕ) → IsPermutation xs (f ∷ ys) → length xs ≡ length ys + 1
 length_parted f xs ys parts = let e = length_permutation xs (f ∷ ys) parts in omega (arith, e)
 
-module _ (t : KnownTable) (w : Words) (c : KnownCpu) (tied : IsTied t w c) (f : ℕ) where
-  -- the seats stay this processor's, whatever is noted of a frame and counted of fresh pages
+module _ (t : KnownTable) (w : KnownStockTable) (c : KnownCpu) (tied : IsTied t w c) (f : ℕ) where
+  -- the seats stay this CPU's, whatever is noted of a frame and counted of fresh pages
   pub seats_with : (change : FrameNote → FrameNote) → AreItsSeats t w c.number (seat_with c.frame_seat f change) c.stock_seat
   seats_with change = let s = tied.seats in record {
     frame_table = s.frame_table;
@@ -117,10 +117,10 @@ module _ (t : KnownTable) (w : Words) (c : KnownCpu) (tied : IsTied t w c) (f : 
             record { list_bound = b.list_bound; fresh_bound = b.fresh_bound; pin_bound = omega (arith, e, p); pages_are = b.pages_are };
       })
 
-  pub tied_fresh_handed : (seat : KnownSeat) (stock : Seated) (rest : List ℕ) → seat ≡ seat_with c.frame_seat f gave_back
+  pub tied_fresh_handed : (seat : KnownSeat) (stock : KnownStockSeat) (rest : List ℕ) → seat ≡ seat_with c.frame_seat f gave_back
       → stock ≡ with_view c.stock_seat (after_report c.stock_seat.view 1) → c.fresh ≡ f ∷ rest
       → IsTied t w (record c { fresh = rest; frame_seat = seat; stock_seat = stock })
-  tied_fresh_handed seat stock rest is paid front = subst (λ (s : KnownSeat × Seated). IsTied t w (record c {
+  tied_fresh_handed seat stock rest is paid front = subst (λ (s : KnownSeat × KnownStockSeat). IsTied t w (record c {
     fresh = rest;
     frame_seat = s.0;
     stock_seat =

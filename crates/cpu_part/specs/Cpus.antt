@@ -5,7 +5,7 @@ use Rattle.frame_word.specs.declared.view.FrameNote.{FrameNote}
 use Rattle.frame_word.specs.declared.view.FrameView.{FrameView}
 use Rattle.frame_word.specs.Views.{note_of}
 use Rattle.frame_word.specs.Seats.{KnownTable, KnownSeat, number_of}
-use Rattle.stock_word.specs.Stock.{Words, Seated}
+use Rattle.stock_word.specs.Stock.{KnownStockTable, KnownStockSeat}
 
 -- the table of no boot: it has no frame and no CPU
 abbrev pub no_table : TableId
@@ -20,7 +20,7 @@ pub record KnownCpu : Type 0 where
   pub back : List ℕ
   pub pins : List ℕ
   pub frame_seat : KnownSeat
-  pub stock_seat : Seated
+  pub stock_seat : KnownStockSeat
   pub drops : ℕ
 
 -- how often x is in the list
@@ -38,17 +38,19 @@ pub record IsNoted (frames f borrowed own references : ℕ) (note : FrameNote) :
 
 -- the CPU has borrowed the listed and the fresh frames, it owns the back frames, and each pin is a reference
 abbrev pub AreNoted : ℕ → List ℕ → List ℕ → List ℕ → List ℕ → FrameView → Type 0
-AreNoted frames list fresh back pins view = (f : ℕ) → IsNoted frames f (times f list + times f fresh) (times f back) (times f pins) (note_of view f)
+AreNoted frames list fresh back pins view = (f : ℕ)
+    → IsNoted frames f (times f list + times f fresh) (times f back) (times f pins) (note_of view f)
 
 -- both seats are this CPU's, at these tables
-pub record AreItsSeats (t : KnownTable) (w : Words) (number : ℕ) (seat : KnownSeat) (stock : Seated) : Type 0 where
+pub record AreItsSeats (t : KnownTable) (w : KnownStockTable) (cpu : ℕ) (seat : KnownSeat)
+    (stock : KnownStockSeat) : Type 0 where
   pub frame_table : seat.table ≡ t.table
-  pub frame_number : number_of seat ≡ number
+  pub frame_number : number_of seat ≡ cpu
   pub stock_table : stock.table ≡ w.table
-  pub stock_number : stock.view.number ≡ number
-  pub some_number : 1 ≤ number
-  pub frame_cpus : number ≤ t.cpus
-  pub stock_cpus : number ≤ w.cpus
+  pub stock_number : stock.view.number ≡ cpu
+  pub some_number : 1 ≤ cpu
+  pub frame_cpus : cpu ≤ t.cpus
+  pub stock_cpus : cpu ≤ w.cpus
 
 -- how many listed and fresh frames a CPU has at most, together
 abbrev pub most_listed : ℕ
@@ -70,7 +72,7 @@ pub record AreWithin (list fresh back pins pages : ℕ) : Type 0 where
   pub pages_are : pages ≡ fresh
 
 -- what always holds: the lists and pins agree with what the two seats know
-pub record IsTied (t : KnownTable) (w : Words) (c : KnownCpu) : Type 0 where
+pub record IsTied (t : KnownTable) (w : KnownStockTable) (c : KnownCpu) : Type 0 where
   pub seats : AreItsSeats t w c.number c.frame_seat c.stock_seat
   pub noted : AreNoted t.frames c.list c.fresh c.back c.pins c.frame_seat.view
   pub within : AreWithin (length c.list) (length c.fresh) (length c.back) (length c.pins) c.stock_seat.view.fresh
@@ -83,8 +85,17 @@ pub record HasRoom (list fresh back pins : ℕ) : Type 0 where
   pub pin_room : most_pins ≤ pins
 
 -- the part of a CPU that did nothing yet
-abbrev pub first_cpu : KnownSeat → Seated → KnownCpu
-first_cpu seat stock = record { number = number_of seat; list = []; fresh = []; back = []; pins = []; frame_seat = seat; stock_seat = stock; drops = 0 }
+abbrev pub first_cpu : KnownSeat → KnownStockSeat → KnownCpu
+first_cpu seat stock = record {
+  number = number_of seat;
+  list = [];
+  fresh = [];
+  back = [];
+  pins = [];
+  frame_seat = seat;
+  stock_seat = stock;
+  drops = 0;
+}
 
 -- there is no frame on the lists and no pin
 abbrev pub IsIdle : KnownCpu → Type 0

@@ -8,11 +8,11 @@ use stock_word::StockWords;
 /// The name of a boot. Only contracts see what it names: the boot's two tables.
 pub trait BootName {
     ghost use Rattle.frame_word.specs.Seats.{KnownTable};
-    ghost use Rattle.stock_word.specs.Stock.{Words};
+    ghost use Rattle.stock_word.specs.Stock.{KnownStockTable};
 
     ghost frames: { KnownTable };
 
-    ghost stocks: { Words };
+    ghost stocks: { KnownStockTable };
 }
 
 impl BootName for Brand {

@@ -1,5 +1,6 @@
 //! Frames that move between a CPU's lists.
-ghost use Rattle.std.specs.Prelude.{◌≡◌, ◌+◌, ◌<◌, ◌≤◌, ℕ, [], ◌∷◌, ◌++◌, length, remove, slice_index, IsPermutation, vec_len, vec_capacity};
+ghost use Rattle.std.specs.Prelude.{◌≡◌, ◌+◌, ◌<◌, ◌≤◌, ℕ, [], ◌∷◌, ◌++◌, length, remove, slice_index, IsPermutation};
+ghost use Rattle.std.specs.Prelude.{vec_len, vec_capacity};
 ghost use Rattle.std.specs.VecDeque.{deque_len, deque_capacity};
 ghost use Rattle.cpu_part.specs.Cpus.{times};
 
@@ -13,7 +14,8 @@ pub(crate) fn freshen(list: &mut VecDeque<Frame>, fresh: &mut Vec<Frame>) -> Fra
     requires room { vec_len fresh.old < vec_capacity fresh.old }
     ensures front { list.old.items ≡ result ∷ list.new.items }
     ensures fresh { fresh.new.items ≡ fresh.old.items ++ result ∷ [] }
-    ensures rooms { (deque_capacity list.new ≡ deque_capacity list.old) × (vec_capacity fresh.new ≡ vec_capacity fresh.old) }
+    ensures rooms { (deque_capacity list.new ≡ deque_capacity list.old)
+        × (vec_capacity fresh.new ≡ vec_capacity fresh.old) }
 {
     let Some(frame) = list.pop_front() else {
         unreachable!()
@@ -27,8 +29,10 @@ pub(crate) fn relist(list: &mut VecDeque<Frame>, fresh: &mut Vec<Frame>, frame: 
     requires fresh { 1 ≤ times frame fresh.old.items }
     requires room { deque_len list.old < deque_capacity list.old }
     ensures list { list.new.items ≡ list.old.items ++ frame ∷ [] }
-    ensures fresh { (i : ℕ) × (i < length fresh.old.items) × (slice_index fresh.old.items i ≡ frame) × (fresh.new.items ≡ remove fresh.old.items i) }
-    ensures rooms { (deque_capacity list.new ≡ deque_capacity list.old) × (vec_capacity fresh.new ≡ vec_capacity fresh.old) }
+    ensures fresh { (i : ℕ) × (i < length fresh.old.items) × (slice_index fresh.old.items i ≡ frame)
+        × (fresh.new.items ≡ remove fresh.old.items i) }
+    ensures rooms { (deque_capacity list.new ≡ deque_capacity list.old)
+        × (vec_capacity fresh.new ≡ vec_capacity fresh.old) }
 {
     let Some(place) = place_of(fresh.as_slice(), frame) else {
         unreachable!()

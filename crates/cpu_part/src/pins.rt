@@ -18,8 +18,10 @@ impl<N: BootName> Cpu<N> {
     pub fn get(&mut self, tables: &Tables<N>, frame: Frame) -> Result<Get, Fault>
         requires { frame < N.frames.frames }
         ensures answer { MatchResult result
-            (λ answer. (length self.old.back + length self.old.pins < most_pins) × PinAnswers frame answer self.old self.new)
-            (λ fault. (fault ≡ PinsFull) × (length self.old.back + length self.old.pins ≡ most_pins) × (self.new ≡ self.old)) }
+            (λ answer. (length self.old.back + length self.old.pins < most_pins)
+            × PinAnswers frame answer self.old self.new)
+            (λ fault. (fault ≡ PinsFull) × (length self.old.back + length self.old.pins ≡ most_pins)
+            × (self.new ≡ self.old)) }
         ensures never_zero { 1 ≤ times frame self.old.pins → result ≢ Ok Zero }
         ensures in_no_hand { IfOk result (λ answer. answer ≢ Zero → IsInNoHand self.old.frame_seat frame) }
     {

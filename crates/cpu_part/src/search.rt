@@ -9,7 +9,8 @@ const BLOCK: usize = 16;
 
 /// A place of the frame, searched for from the end: first at the end itself.
 pub(crate) fn place_of(frames: &[Frame], frame: Frame) -> Option<usize>
-    ensures { MatchOption result (times frame frames.now ≡ 0) (λ i. (i < length frames.now) × (slice_index frames.now i ≡ frame)) }
+    ensures { MatchOption result (times frame frames.now ≡ 0)
+        (λ i. (i < length frames.now) × (slice_index frames.now i ≡ frame)) }
 {
     let count = frames.len();
     if count > 0 && frames[count - 1] == frame {
@@ -20,7 +21,8 @@ pub(crate) fn place_of(frames: &[Frame], frame: Frame) -> Option<usize>
 
 // A place of the frame; many frames are skipped at once.
 fn seek(frames: &[Frame], frame: Frame) -> Option<usize>
-    ensures { MatchOption result (times frame frames.now ≡ 0) (λ i. (i < length frames.now) × (slice_index frames.now i ≡ frame)) }
+    ensures { MatchOption result (times frame frames.now ≡ 0)
+        (λ i. (i < length frames.now) × (slice_index frames.now i ≡ frame)) }
 {
     let mut end = skip_blocks_without(frames, frame);
     while end > 0 {

@@ -1,4 +1,4 @@
-//! What a CPU prepays and pays inside a visit, together with the machine's seat at the stocks.
+//! What a CPU prepays and pays inside a visit, together with the zone's seat at the stocks.
 ghost use Rattle.std.specs.Prelude.{◌≡◌, ◌+◌, ◌-◌, ◌<◌, ◌≤◌, ◌⊎◌, [], Some, false, length};
 ghost use Rattle.stock_word.specs.Stock.{IsZoneStock, account_of, stocked, pages_of, group_of, is_held, drained_of};
 ghost use Rattle.stock_word.specs.Kinds.{filling, after_fill, with_steps};
@@ -15,52 +15,63 @@ use stock_word::{Stock, StockSeat};
 impl<N: BootName> Cpu<N> {
     /// Fills the CPU's stock with `pages` pages (1 to 65,535) of group `group` (0 to 63). The stock was never filled,
     /// or was drained after its last fill. There is no fresh frame, and no reported page that isn't absorbed.
-    pub fn fill(&mut self, tables: &Tables<N>, machine: &mut StockSeat, group: u32, pages: u32)
-        requires machine { (machine.old.table ≡ N.stocks.table) × IsZoneStock machine.old.view }
+    pub fn fill(&mut self, tables: &Tables<N>, zone_stock: &mut StockSeat, group: u32, pages: u32)
+        requires zone_stock { (zone_stock.old.table ≡ N.stocks.table) × IsZoneStock zone_stock.old.view }
         requires group { group < 64 }
         requires pages { (0 < pages) × (pages < 65536) }
-        requires drained { (account_of machine.old.view self.old.number).filled ≡ false }
-        requires settled { (self.old.fresh ≡ []) × ((account_of machine.old.view self.old.number).unabsorbed ≡ 0) }
-        ensures nothing_booked { (account_of machine.old.view self.old.number).book ≡ 0 }
-        ensures machine { machine.new ≡ with_view machine.old (filling machine.old.view self.old.number group pages) }
-        ensures cpu { self.new ≡ record self.old { stock_seat = with_view self.old.stock_seat (after_fill self.old.stock_seat.view group pages) } }
+        requires drained { (account_of zone_stock.old.view self.old.number).filled ≡ false }
+        requires settled { (self.old.fresh ≡ []) × ((account_of zone_stock.old.view self.old.number).unabsorbed ≡ 0) }
+        ensures nothing_booked { (account_of zone_stock.old.view self.old.number).book ≡ 0 }
+        ensures zone_stock { zone_stock.new
+            ≡ with_view zone_stock.old (filling zone_stock.old.view self.old.number group pages) }
+        ensures cpu { self.new ≡ record self.old {
+          stock_seat = with_view self.old.stock_seat
+              (after_fill self.old.stock_seat.view group pages);
+        } }
     {
         tables
             .stocks
-            .fill(machine, &mut self.stock_seat, group, pages);
+            .fill(zone_stock, &mut self.stock_seat, group, pages);
     }
 
-    /// The CPU's stock, by its word and so by the book. This is one look, which counts at the machine's seat and
+    /// The CPU's stock, by its word and so by the book. This is one look, which counts at the zone's seat and
     /// changes nothing else. The book is the pages in the stock, the fresh ones and the reported ones.
-    pub fn look(&mut self, tables: &Tables<N>, machine: &mut StockSeat) -> Stock
-        requires machine { (machine.old.table ≡ N.stocks.table) × IsZoneStock machine.old.view }
-        ensures balanced { (account_of machine.old.view self.old.number).book
-            ≡ pages_of result + self.old.stock_seat.view.fresh + (account_of machine.old.view self.old.number).unabsorbed }
-        ensures bounded { (account_of machine.old.view self.old.number).book < 65536 }
-        ensures group { group_of result ≡ (account_of machine.old.view self.old.number).group }
-        ensures held { is_held result ≡ (account_of machine.old.view self.old.number).filled }
+    pub fn look(&mut self, tables: &Tables<N>, zone_stock: &mut StockSeat) -> Stock
+        requires zone_stock { (zone_stock.old.table ≡ N.stocks.table) × IsZoneStock zone_stock.old.view }
+        ensures balanced { (account_of zone_stock.old.view self.old.number).book
+            ≡ pages_of result + self.old.stock_seat.view.fresh
+            + (account_of zone_stock.old.view self.old.number).unabsorbed }
+        ensures bounded { (account_of zone_stock.old.view self.old.number).book < 65536 }
+        ensures group { group_of result ≡ (account_of zone_stock.old.view self.old.number).group }
+        ensures held { is_held result ≡ (account_of zone_stock.old.view self.old.number).filled }
         ensures last { (result ≡ self.old.stock_seat.view.last) ⊎ (result ≡ drained_of self.old.stock_seat.view.last) }
-        ensures machine { machine.new ≡ with_view machine.old (with_steps 1 machine.old.view) }
+        ensures zone_stock { zone_stock.new ≡ with_view zone_stock.old (with_steps 1 zone_stock.old.view) }
         ensures cpu { self.new ≡ self.old }
     {
-        tables.stocks.look(machine, &mut self.stock_seat)
+        tables.stocks.look(zone_stock, &mut self.stock_seat)
     }
 
     /// Takes the front of the list for group `group` and pays for it, always. By the book the CPU's stock, which is of
     /// that group, has a page that is neither fresh nor reported.
-    pub fn take_front(&mut self, tables: &Tables<N>, machine: &mut StockSeat, group: u32) -> Frame
-        requires machine { (machine.old.table ≡ N.stocks.table) × IsZoneStock machine.old.view }
-        requires group { (account_of machine.old.view self.old.number).group ≡ Some group }
-        requires page { 0 < stocked machine.old.view self.old.stock_seat.view }
+    pub fn take_front(
+        &mut self,
+        tables: &Tables<N>,
+        zone_stock: &mut StockSeat,
+        group: u32,
+    ) -> Frame
+        requires zone_stock { (zone_stock.old.table ≡ N.stocks.table) × IsZoneStock zone_stock.old.view }
+        requires group { (account_of zone_stock.old.view self.old.number).group ≡ Some group }
+        requires page { 0 < stocked zone_stock.old.view self.old.stock_seat.view }
         requires front { 1 ≤ length self.old.list }
         requires room { length self.old.fresh < most_fresh }
-        ensures machine { machine.new ≡ machine.old }
-        ensures cpu { TakesFront group (stocked machine.old.view self.old.stock_seat.view - 1) result self.old self.new }
+        ensures zone_stock { zone_stock.new ≡ zone_stock.old }
+        ensures cpu { TakesFront group (stocked zone_stock.old.view self.old.stock_seat.view - 1) result self.old
+            self.new }
         ensures frame { result < N.frames.frames }
     {
         tables
             .stocks
-            .consume_held(machine, &mut self.stock_seat, group);
+            .consume_held(zone_stock, &mut self.stock_seat, group);
         freshen(&mut self.list, &mut self.fresh)
     }
 }

@@ -1,9 +1,9 @@
 //! The hand-over of frames between a CPU and the zone, inside a visit and together with the zone's seat.
 ghost use Rattle.std.specs.Prelude.{◌≡◌, ◌+◌, ◌<◌, ◌≤◌, ◌⊎◌, [], ◌∷◌, ◌++◌, length, IfSome, MatchOption};
 ghost use Rattle.frame_word.specs.Views.{took_in, collected_from};
-ghost use Rattle.frame_word.specs.Seats.{HandsAreApart, HasNothingOf, IsLent, IsLentToNone};
-ghost use Rattle.frame_word.specs.Seats.{IsInNoHand, IsOpen, IsShut, IsZoneSeat, LentIsBorrowed, NothingPasses, Passes, seat_with, seat_with_visit};
-ghost use Rattle.stock_word.specs.Stock.{IsZoneStock, IsProcessor, account_for, account_of, group_of};
+ghost use Rattle.frame_word.specs.Seats.{HandsAreApart, HasNothingOf, IsLent, IsLentToNone, IsInNoHand, IsOpen, IsShut};
+ghost use Rattle.frame_word.specs.Seats.{IsZoneSeat, LentIsBorrowed, NothingPasses, Passes, seat_with, seat_with_visit};
+ghost use Rattle.stock_word.specs.Stock.{IsZoneStock, IsCpuStock, account_for, account_of, group_of};
 ghost use Rattle.stock_word.specs.Kinds.{noting, after_report};
 ghost use Rattle.stock_word.specs.Calls.{with_view};
 ghost use Rattle.cpu_part.specs.Calls.{HandsFront, HandsFresh, HandsBack};
@@ -51,7 +51,10 @@ impl<N: BootName> Cpu<N> {
         requires passes { Passes zone.old self.old.frame_seat frame }
         requires lent { IsLent zone.old frame self.old.number }
         requires room { length self.old.list + length self.old.fresh < most_listed }
-        ensures cpu { self.new ≡ record self.old { list = self.old.list ++ frame ∷ []; frame_seat = seat_with self.old.frame_seat frame took_in } }
+        ensures cpu { self.new ≡ record self.old {
+          list = self.old.list ++ frame ∷ [];
+          frame_seat = seat_with self.old.frame_seat frame took_in;
+        } }
         ensures zone { zone.new ≡ zone.old }
         ensures nothing { HasNothingOf zone.old frame × HasNothingOf self.old.frame_seat frame }
     {
@@ -63,7 +66,8 @@ impl<N: BootName> Cpu<N> {
     pub fn hand_front(&mut self, tables: &Tables<N>, zone: &mut FrameSeat) -> Option<Frame>
         requires zone { IsZoneSeat N.frames zone.old }
         requires open { IsOpen zone.old self.old.number }
-        ensures answer { MatchOption result ((self.old.list ≡ []) × (self.new ≡ self.old)) (λ f. HandsFront f self.old self.new) }
+        ensures answer { MatchOption result ((self.old.list ≡ []) × (self.new ≡ self.old))
+            (λ f. HandsFront f self.old self.new) }
         ensures frame { IfSome result (λ f. f < N.frames.frames) }
         ensures zone { zone.new ≡ zone.old }
         ensures borrowed { IfSome result (λ f. HasNothingOf zone.old f × IsLent zone.old f self.old.number) }
@@ -79,20 +83,23 @@ impl<N: BootName> Cpu<N> {
         &mut self,
         tables: &Tables<N>,
         zone: &mut FrameSeat,
-        machine: &mut StockSeat,
+        zone_stock: &mut StockSeat,
     ) -> Option<Frame>
         requires zone { IsZoneSeat N.frames zone.old }
-        requires machine { (machine.old.table ≡ N.stocks.table) × IsZoneStock machine.old.view }
+        requires zone_stock { (zone_stock.old.table ≡ N.stocks.table) × IsZoneStock zone_stock.old.view }
         requires open { IsOpen zone.old self.old.number }
-        ensures answer { MatchOption result ((self.old.fresh ≡ []) × (self.new ≡ self.old)) (λ f. HandsFresh f self.old self.new) }
+        ensures answer { MatchOption result ((self.old.fresh ≡ []) × (self.new ≡ self.old))
+            (λ f. HandsFresh f self.old self.new) }
         ensures frame { IfSome result (λ f. f < N.frames.frames) }
         ensures zone { zone.new ≡ zone.old }
         ensures borrowed { IfSome result (λ f. HasNothingOf zone.old f × IsLent zone.old f self.old.number) }
-        ensures machine { MatchOption result (machine.new ≡ machine.old)
-            (λ f. machine.new ≡ with_view machine.old (noting machine.old.view self.old.number 1)) }
-        ensures booked { IfSome result (λ f. self.old.stock_seat.view.fresh + (account_of machine.old.view self.old.number).unabsorbed
-            ≤ (account_of machine.old.view self.old.number).book) }
-        ensures group { IfSome result (λ f. group_of self.old.stock_seat.view.last ≡ (account_of machine.old.view self.old.number).group) }
+        ensures zone_stock { MatchOption result (zone_stock.new ≡ zone_stock.old)
+            (λ f. zone_stock.new ≡ with_view zone_stock.old (noting zone_stock.old.view self.old.number 1)) }
+        ensures booked { IfSome result (λ f. self.old.stock_seat.view.fresh
+            + (account_of zone_stock.old.view self.old.number).unabsorbed
+            ≤ (account_of zone_stock.old.view self.old.number).book) }
+        ensures group { IfSome result (λ f. group_of self.old.stock_seat.view.last
+            ≡ (account_of zone_stock.old.view self.old.number).group) }
     {
         if self.fresh.is_empty() {
             return None;
@@ -101,7 +108,7 @@ impl<N: BootName> Cpu<N> {
         tables.frames.pass_back(zone, &mut self.frame_seat, frame);
         report_passed(
             &tables.stocks,
-            machine,
+            zone_stock,
             &mut self.stock_seat,
             &self.frame_seat,
             frame,
@@ -113,7 +120,8 @@ impl<N: BootName> Cpu<N> {
     pub fn hand_back(&mut self, tables: &Tables<N>, zone: &mut FrameSeat) -> Option<Frame>
         requires zone { IsZoneSeat N.frames zone.old }
         requires open { IsOpen zone.old self.old.number }
-        ensures answer { MatchOption result ((self.old.back ≡ []) × (self.new ≡ self.old)) (λ f. HandsBack f self.old self.new) }
+        ensures answer { MatchOption result ((self.old.back ≡ []) × (self.new ≡ self.old))
+            (λ f. HandsBack f self.old self.new) }
         ensures frame { IfSome result (λ f. f < N.frames.frames) }
         ensures zone { zone.new ≡ zone.old }
         ensures own { IfSome result (λ f. HasNothingOf zone.old f × IsLentToNone zone.old f) }
@@ -141,20 +149,22 @@ impl<N: BootName> Cpu<N> {
 // steps come in this order. The conditions on the seat and the frame say so; nothing else reads them.
 fn report_passed(
     stocks: &StockWords,
-    machine: &mut StockSeat,
+    zone_stock: &mut StockSeat,
     stock: &mut StockSeat,
     _seat: &FrameSeat,
     _frame: Frame,
 )
     requires passed { IsInNoHand _seat.now _frame }
-    requires tables { (machine.old.table ≡ stocks.now.table) × (stock.old.table ≡ stocks.now.table) }
-    requires machine { IsZoneStock machine.old.view }
-    requires processor { IsProcessor stocks.now stock.old.view }
+    requires tables { (zone_stock.old.table ≡ stocks.now.table) × (stock.old.table ≡ stocks.now.table) }
+    requires zone_stock { IsZoneStock zone_stock.old.view }
+    requires cpu { IsCpuStock stocks.now stock.old.view }
     requires fresh { 1 ≤ stock.old.view.fresh }
-    ensures booked { stock.old.view.fresh + (account_for machine.old.view stock.old.view).unabsorbed ≤ (account_for machine.old.view stock.old.view).book }
-    ensures group { group_of stock.old.view.last ≡ (account_for machine.old.view stock.old.view).group }
-    ensures machine { machine.new ≡ with_view machine.old (noting machine.old.view stock.old.view.number 1) }
-    ensures processor { stock.new ≡ with_view stock.old (after_report stock.old.view 1) }
+    ensures booked { stock.old.view.fresh + (account_for zone_stock.old.view stock.old.view).unabsorbed
+        ≤ (account_for zone_stock.old.view stock.old.view).book }
+    ensures group { group_of stock.old.view.last ≡ (account_for zone_stock.old.view stock.old.view).group }
+    ensures zone_stock { zone_stock.new
+        ≡ with_view zone_stock.old (noting zone_stock.old.view stock.old.view.number 1) }
+    ensures cpu { stock.new ≡ with_view stock.old (after_report stock.old.view 1) }
 {
-    stocks.report(machine, stock, 1);
+    stocks.report(zone_stock, stock, 1);
 }

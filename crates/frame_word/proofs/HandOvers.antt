@@ -1,5 +1,5 @@
 -- The kinds that hand a frame over, and the visits: serves `pass_out`, `take_in`, `pass_back`, `collect`, `open_visit` and `shut_visit`.
--- The seat is the zone's, alone or joined with a processor's.
+-- The seat is the zone's, alone or joined with a CPU's.
 use Rattle.std.proofs.Common.{◌≡◌, ◌≢◌, ◌⊎◌, ℕ, ◌+◌, ◌<◌, ◌≤◌, List, [], ◌∷◌, length, get_or, set, sym, refl, ap, ◌∙◌, subst, inl, inr, arith}
 use Rattle.std.proofs.Common.{length-set, get_or-set_other, get_or-set_same}
 use mathlib.Core.Option.{some}
@@ -20,7 +20,7 @@ use Rattle.frame_word.proofs.Cases.{case_handed, case_passing}
 use Rattle.frame_word.specs.Laws.{IsViewOf}
 use Rattle.frame_word.proofs.Consequences.{one_hand, two_totals, own_not_lent}
 
--- what the processor p borrows is in hands
+-- what the CPU p borrows is in hands
 borrowed_handed : (f p : ℕ) (u : FrameView) → borrowed_in f p u ≤ hands_in f u
 borrowed_handed f p u = dite (ℕ_discrete u.number p)
     (λ e. let is = only_here p u (note_of u f).borrowed e in omega arith)
@@ -47,7 +47,7 @@ module _ (frames cpus : ℕ) (seats : List (List FrameView)) (id : ℕ) (views :
   hands_part : in_hands note ≤ hands
   hands_part = total_view (hands_in f) seats id views i v at within
 
-  -- the step, where the references stay, the hands come to h, and each processor's part of the rule is given
+  -- the step, where the references stay, the hands come to h, and each CPU's part of the rule is given
   hand_step : (change : FrameNote → FrameNote) (word : ℕ) → (change note).references ≡ note.references
       → ((p : ℕ) → 1 ≤ p → p ≤ cpus → word ≡ mark p → get_or words (visit_index frames p) 0 ≡ 1)
       → ((h : ℕ) → h + in_hands note ≡ hands + in_hands (change note) → OneCase cpus word refs h)
@@ -66,7 +66,7 @@ module _ (frames cpus : ℕ) (seats : List (List FrameView)) (id : ℕ) (views :
         lent_to_one = most;
       }
 
-  -- what the swap does to a processor's sums
+  -- what the swap does to a CPU's sums
   module _ (change : FrameNote → FrameNote) (p : ℕ) where
     abbrev w : FrameView
     w = changed v f change
@@ -105,7 +105,7 @@ module _ (frames cpus : ℕ) (seats : List (List FrameView)) (id : ℕ) (views :
   borrowed_before : (p : ℕ) → total_over (borrowed_in f p) seats ≤ hands
   borrowed_before p = total_below (borrowed_in f p) (hands_in f) seats (borrowed_handed f p)
 
-  -- pass_out: to the processor q, whose visit is open
+  -- pass_out: to the CPU q, whose visit is open
   pub passed_out_rule : (q : ℕ) → v.number ≡ 0 → 1 ≤ q → q ≤ cpus → get_or v.opened q 0 ≡ 1 → note.own ≡ 1
       → ReferenceRule frames cpus (set words f (mark q)) (swapped seats id views i v at within (changed v f (passed_out_to q)))
   passed_out_rule q zone low high open_now own =
@@ -140,7 +140,7 @@ module _ (frames cpus : ℕ) (seats : List (List FrameView)) (id : ℕ) (views :
       (λ u x. only_else 0 u (note_of u f).lent x) in
       let n1 = only_here 0 v q zone in omega arith)
 
--- The zone's view z and a processor's view v, which stand side by side in one seat.
+-- The zone's view z and a CPU's view v, which stand side by side in one seat.
 module _ (frames cpus : ℕ) (seats : List (List FrameView)) (id : ℕ) (z v : FrameView) (at : get_elem? seats id ≡ some (z ∷ v ∷ [])) (zone : z.number ≡ 0)
     (low : 1 ≤ v.number) (high : v.number ≤ cpus)
     (words : List ℕ) (rule : ReferenceRule frames cpus words seats) where
@@ -150,7 +150,7 @@ module _ (frames cpus : ℕ) (seats : List (List FrameView)) (id : ℕ) (z v : F
   abbrev pair : List FrameView
   pair = z ∷ v ∷ []
 
-  -- what counts the zone's seat, or the processor's, alone
+  -- what counts the zone's seat, or the CPU's, alone
   of_zone : (g : FrameView → ℕ) → total_over (λ u. only 0 u (g u)) seats ≡ g z
   of_zone g = alone seats id pair 0 z at refl 0 (rule.one_view 0 (omega arith)) zone (λ u. only 0 u (g u)) (λ u n. only_else 0 u (g u) n)
       ∙ only_here 0 z (g z) zone
@@ -203,12 +203,12 @@ module _ (frames cpus : ℕ) (seats : List (List FrameView)) (id : ℕ) (z v : F
     now : OneCase cpus word_now refs_now hands_now
     now = (rule.each_frame f inside).one_case
 
-    -- a frame that passes for the processor has its mark
+    -- a frame that passes for the CPU has its mark
     passing_mark : begun z v f ≡ ended z v f + 1 → word_now ≡ mark q
     passing_mark passes = let o = ((rule.each_frame f inside).each_cpu q low high).passing in let b = begun_here f in let e = ended_here f in
         dite (ℕ_discrete word_now (mark q)) (λ is. is) (λ not. let m = marked_else q word_now not in absurd (omega arith))
 
-    -- take_in: the frame passes for the processor and is lent to it
+    -- take_in: the frame passes for the CPU and is lent to it
     pub took_in_rule : begun z v f ≡ ended z v f + 1 → (note_of z f).lent ≡ q
         → ReferenceRule frames cpus (set words f 0) (swapped seats id pair 1 v at refl (changed v f took_in))
     took_in_rule passes is_lent =
@@ -245,7 +245,7 @@ module _ (frames cpus : ℕ) (seats : List (List FrameView)) (id : ℕ) (z v : F
         (let n = number_swap frames cpus seats id pair 1 v at refl words f inside rule took_in 0 in
         let most = (rule.each_frame f inside).lent_to_one in omega arith)
 
-    -- pass_back: out of the processor's hand, while its visit is open
+    -- pass_back: out of the CPU's hand, while its visit is open
     pub gave_back_rule : get_or z.opened q 0 ≡ 1 → in_hands (note_of v f) ≡ 1
         → ReferenceRule frames cpus (set words f (mark q)) (swapped seats id pair 1 v at refl (changed v f gave_back))
     gave_back_rule open_now hand =
@@ -329,13 +329,13 @@ module _ (frames cpus : ℕ) (seats : List (List FrameView)) (id : ℕ) (z v : F
     cpu_refs : (note_of v f).references ≤ refs_now
     cpu_refs = total_view (references_in f) seats id pair 1 v at refl
 
-    -- where the frame passes for the processor, neither seat has anything of it
+    -- where the frame passes for the CPU, neither seat has anything of it
     pub both_have_none : begun z v f ≡ ended z v f + 1 → HasNone z f × HasNone v f
     both_have_none passes = let was = passing_mark passes in let a = zone_refs in let b = cpu_refs in let both = hands_both f in
         let c = case_passing cpus word_now refs_now hands_now (omega arith) now in let c2 = c.2 in let c3 = c.3 in
         ((omega arith, omega arith), (omega arith, omega arith))
 
-    -- and it is lent to no one, or to the processor
+    -- and it is lent to no one, or to the CPU
     pub lent_near : begun z v f ≡ ended z v f + 1 → ((note_of z f).lent ≡ 0) ⊎ ((note_of z f).lent ≡ q)
     lent_near passes = let was = passing_mark passes in let l : ℕ = (note_of z f).lent in
         let c = case_passing cpus word_now refs_now hands_now (omega arith) now in let c3 = c.3 in
@@ -346,7 +346,7 @@ module _ (frames cpus : ℕ) (seats : List (List FrameView)) (id : ℕ) (z v : F
         let few = borrowed_before frames cpus seats id pair 0 z at refl words f inside rule l in
         absurd (omega arith)))
 
-    -- where the processor has the frame in a hand, neither seat has a reference, and the zone hasn't it in its own
+    -- where the CPU has the frame in a hand, neither seat has a reference, and the zone hasn't it in its own
     pub handed_over : in_hands (note_of v f) ≡ 1 → HasNone z f × ((note_of v f).references ≡ 0)
     handed_over hand = let a = zone_refs in let b = cpu_refs in let both = hands_both f in
         let part = hands_part frames cpus seats id pair 1 v at refl words f inside rule in
@@ -357,12 +357,12 @@ module _ (frames cpus : ℕ) (seats : List (List FrameView)) (id : ℕ) (z v : F
     pub own_lent_to_none : (note_of v f).own ≡ 1 → (note_of z f).lent ≡ 0
     own_lent_to_none own = own_not_lent frames cpus words seats rule f inside v z of_second of_first zone own
 
-    -- what the processor has borrowed is lent to it
+    -- what the CPU has borrowed is lent to it
     pub borrowed_from_zone : (note_of v f).borrowed ≡ 1 → (note_of z f).lent ≡ q
     borrowed_from_zone is = let l = lent_here f q in let d = borrowed_here f in let o1 = ((rule.each_frame f inside).each_cpu q low high).borrowed_is_lent in
         dite (ℕ_discrete (note_of z f).lent q) (λ e. e) (λ ne. let x = lent_no (note_of z f) q ne in absurd (omega arith))
 
-    -- while the visit is shut, or nothing passes, no word is the processor's mark: the two seats are settled
+    -- while the visit is shut, or nothing passes, no word is the CPU's mark: the two seats are settled
     pub settled_where : word_now ≢ mark q → IsSettledAt z v f
     settled_where not = let o = (rule.each_frame f inside).each_cpu q low high in let o0 = o.passing in let o2 = o.lent_is_near in
         let m = marked_else q word_now not in let b = begun_here f in let e = ended_here f in let l = lent_here f q in let d = borrowed_here f in
@@ -380,7 +380,7 @@ module _ (frames cpus : ℕ) (seats : List (List FrameView)) (id : ℕ) (z v : F
   no_mark_where f inside same is = let o = ((rule.each_frame f inside).each_cpu q low high).passing in let m = marked_here q (get_or words f 0) is in
       let b = begun_here f in let e = ended_here f in absurd (omega arith)
 
-  -- open_visit and shut_visit: where the visit is shut, no word is the processor's mark
+  -- open_visit and shut_visit: where the visit is shut, no word is the CPU's mark
   pub visit_rule : (state : ℕ) → state ≤ 1 → (state ≡ 0 → (f : ℕ) → f < frames → get_or words f 0 ≢ mark q)
       → ReferenceRule frames cpus (set words (visit_index frames q) state) (swapped seats id pair 0 z at refl (with_visit z q state))
   visit_rule state small none =

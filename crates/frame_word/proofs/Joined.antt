@@ -1,4 +1,4 @@
--- The steps of the zone's seat, alone or joined with a processor's, as `atomic_table` asks for them: serves `pass_out`, `take_in`,
+-- The steps of the zone's seat, alone or joined with a CPU's, as `atomic_table` asks for them: serves `pass_out`, `take_in`,
 -- `pass_back`, `collect`, `open_visit` and `shut_visit`.
 use Rattle.std.proofs.Common.{◌≡◌, ◌≢◌, ℕ, ◌+◌, ◌-◌, ◌<◌, ◌≤◌, List, [], ◌∷◌, get_or, set, sym, refl, ◌∙◌, subst, arith}
 use mathlib.Core.Option.{none}
@@ -16,7 +16,7 @@ module _ {S : Type 0} (frames cpus slots id : ℕ) (me : Me S (List FrameView)) 
   abbrev Stores : (Step S → Me S (List FrameView) → ℕ → Me S (List FrameView) → Type 0) → Me S (List FrameView) → ℕ → ℕ → Type 0
   Stores told m f word = Allows (rule_of {S = S} frames cpus) slots id m f (λ _. word) (λ _. told (step slots f word 0 none) m word)
 
-  -- out of the zone's hand, to the processor q
+  -- out of the zone's hand, to the CPU q
   pub passes_out_as : (v : FrameView) → me ≡ (v ∷ [], []) → (f q : ℕ) → f < frames → v.number ≡ 0 → 1 ≤ q → q ≤ cpus → get_or v.opened q 0 ≡ 1
       → (note_of v f).own ≡ 1 → (word : ℕ) → word ≡ 256 + q → Stores (by_one passes_out) me f word
   passes_out_as v alone f q inside zone low high open_now own word is =

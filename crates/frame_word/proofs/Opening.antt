@@ -22,7 +22,7 @@ only_none k v = both (eqb v.number k)
     both true = refl
     both false = refl
 
--- the processors' views have nothing of g, where the view of one that did nothing has not
+-- the CPUs' views have nothing of g, where the view of one that did nothing has not
 none_of : (g : FrameView → ℕ) → ((p : ℕ) → g (first_cpu_view p) ≡ 0) → (p n : ℕ) → sum_over g (cpu_views p n) ≡ 0
 none_of g empty p zero = refl
 none_of g empty p (suc n) = omega (arith, empty p, none_of g empty (p + 1) n)
@@ -56,7 +56,7 @@ module _ (frames cpus : ℕ) where
   abbrev zone : FrameView
   zone = first_zone_view frames
 
-  -- a total is the zone's part, where the processors' views have none
+  -- a total is the zone's part, where the CPUs' views have none
   total_first : (g : FrameView → ℕ) → ((p : ℕ) → g (first_cpu_view p) ≡ 0) → total_over g seats ≡ g zone
   total_first g empty = omega (arith, none_of g empty 1 cpus)
 
@@ -100,7 +100,7 @@ module _ (frames cpus : ℕ) where
         };
   }
 
--- the views that are left after i processors were dealt
+-- the views that are left after i CPUs were dealt
 pub views_next : (i n : ℕ) → i < n → cpu_views (i + 1) (n - i) ≡ first_cpu_view (i + 1) ∷ cpu_views ((i + 1) + 1) (n - (i + 1))
 views_next i n lt = ap (cpu_views (i + 1)) (let e : n - i ≡ suc (n - (i + 1)) = omega arith in e)
 

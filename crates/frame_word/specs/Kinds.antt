@@ -5,9 +5,10 @@
 use Rattle.std.specs.Prelude.{◌≡◌, ◌≢◌, ◌⊎◌, ℕ, ◌+◌, ◌-◌, ◌<◌, ◌≤◌, List, [], ◌∷◌}
 use Rattle.atomic_table.specs.Table.{State, Step, Me, Final, Seen}
 use Rattle.frame_word.specs.declared.view.FrameView.{FrameView}
-use Rattle.frame_word.specs.Views.{note_of, changed, with_visit, in_hands, looked, held, raced, let_go, let_go_last, frozen, missed, unfrozen}
-use Rattle.frame_word.specs.Views.{passed_out_to, took_in, gave_back, collected_from, HasNone, IsSettledAt}
-use Rattle.frame_word.specs.ReferenceRule.{most_references, no_mark, ReferenceRule}
+use Rattle.frame_word.specs.Views.{note_of, changed, with_visit, in_hands, looked, held, raced, let_go, let_go_last}
+use Rattle.frame_word.specs.Views.{frozen, missed, unfrozen, passed_out_to, took_in, gave_back, collected_from, HasNone}
+use Rattle.frame_word.specs.Views.{IsSettledAt}
+use Rattle.frame_word.specs.ReferenceRule.{most_references, mark_base, ReferenceRule}
 use Rattle.frame_word.specs.Seats.{first_zone_view, first_cpu_view, cpu_views}
 
 -- the views of all seats: at first one seat has them all, and the others are split off
@@ -38,13 +39,15 @@ second_of views = first_of (but_first views)
 -- The load of a get. The word is at most 255 or a mark. If the seat has references, it is at most 255 and at least
 -- their number; if the frame is in the seat's hand, it is 0.
 abbrev pub looks : FrameView → ℕ → ℕ → ℕ → FrameView → Type 0
-looks v f asked word w = (w ≡ changed v f (looked word)) × ((word ≤ most_references) ⊎ (no_mark < word))
-    × (1 ≤ (note_of v f).references → ((note_of v f).references ≤ word) × (word ≤ most_references)) × (1 ≤ in_hands (note_of v f) → word ≡ 0)
+looks v f asked word w = (w ≡ changed v f (looked word)) × ((word ≤ most_references) ⊎ (mark_base < word))
+    × (1 ≤ (note_of v f).references → ((note_of v f).references ≤ word) × (word ≤ most_references))
+    × (1 ≤ in_hands (note_of v f) → word ≡ 0)
 
 -- The exchange of a get, from the word that its load saw, as the view says, to one more. The seat has one more
 -- reference; or the exchange found another word, and that is a race.
 abbrev pub adds : FrameView → ℕ → ℕ → ℕ → FrameView → Type 0
-adds v f asked found w = (found ≡ (note_of v f).seen → w ≡ changed v f held) × (found ≢ (note_of v f).seen → w ≡ changed v f (raced found))
+adds v f asked found w = (found ≡ (note_of v f).seen → w ≡ changed v f held)
+    × (found ≢ (note_of v f).seen → w ≡ changed v f (raced found))
 
 -- A put: one reference less. After the last one the seat owns the frame. The frame was in no hand of the seat before.
 abbrev pub puts : FrameView → ℕ → ℕ → ℕ → FrameView → Type 0
@@ -54,19 +57,22 @@ puts v f asked found w = ((note_of v f).references ≤ found) × (found ≤ most
 -- A freeze of n. If the word is n, all n references are the seat's and are dropped, and the seat owns the frame. Else
 -- it is a miss, which found another word. The frame was in no hand of the seat.
 abbrev pub freezes : FrameView → ℕ → ℕ → ℕ → FrameView → Type 0
-freezes v f n found w = (in_hands (note_of v f) ≡ 0) × (found ≡ n → (w ≡ changed v f (frozen n)) × ((note_of v f).references ≡ n))
+freezes v f n found w = (in_hands (note_of v f) ≡ 0)
+    × (found ≡ n → (w ≡ changed v f (frozen n)) × ((note_of v f).references ≡ n))
     × (found ≢ n → w ≡ changed v f (missed found))
 
 -- An unfreeze: the frame leaves the seat's hand and gets n references of the seat. It had none. If the seat is the
 -- zone's, the frame was lent to no CPU.
 abbrev pub unfreezes : FrameView → ℕ → ℕ → ℕ → FrameView → Type 0
-unfreezes v f n stored w = (w ≡ changed v f (unfrozen n)) × ((note_of v f).references ≡ 0) × (in_hands (note_of v f) ≡ 1)
+unfreezes v f n stored w = (w ≡ changed v f (unfrozen n)) × ((note_of v f).references ≡ 0)
+    × (in_hands (note_of v f) ≡ 1)
     × (v.number ≡ 0 → (note_of v f).lent ≡ 0)
 
 -- A pass by the zone's seat: the frame leaves its hand and is lent to the CPU whose mark is stored. It was lent to no
 -- CPU before, and the seat had no reference on it.
 abbrev pub passes_out : FrameView → ℕ → ℕ → ℕ → FrameView → Type 0
-passes_out v f mark stored w = (w ≡ changed v f (passed_out_to (mark - no_mark))) × ((note_of v f).references ≡ 0) × (in_hands (note_of v f) ≡ 1)
+passes_out v f mark stored w = (w ≡ changed v f (passed_out_to (mark - mark_base))) × ((note_of v f).references ≡ 0)
+    × (in_hands (note_of v f) ≡ 1)
     × ((note_of v f).lent ≡ 0)
 
 -- ---- the kinds of the zone's seat, joined with a CPU's: of the two views before, the frame or the word, the number
@@ -90,7 +96,8 @@ collects z v f stored z' v' = (z' ≡ changed z f (collected_from v.number)) × 
 -- open_visit stores 1 and shut_visit 0, and the zone's seat notes it. At either, the CPU is settled with the zone at
 -- each frame. The CPU's visit word is the one at `word`, after those of the frames.
 abbrev pub visits : FrameView → FrameView → ℕ → ℕ → FrameView → FrameView → Type 0
-visits z v word state z' v' = (z' ≡ with_visit z v.number state) × (v' ≡ v) × ((f : ℕ) → f + (v.number - 1) < word → IsSettledAt z v f)
+visits z v word state z' v' = (z' ≡ with_visit z v.number state) × (v' ≡ v)
+    × ((f : ℕ) → f + (v.number - 1) < word → IsSettledAt z v f)
 
 module _ {S : Type 0} where
   -- the reference rule of a table's state, over its words and all views
@@ -102,9 +109,12 @@ module _ {S : Type 0} where
   EndsWith frames cpus id views words slots = Final (Seen (rule_of frames cpus) id views) words slots
 
   -- a step of this kind by a seat that has only its own view
-  abbrev pub by_one : (FrameView → ℕ → ℕ → ℕ → FrameView → Type 0) → Step S → Me S (List FrameView) → ℕ → Me S (List FrameView) → Type 0
+  abbrev pub by_one : (FrameView → ℕ → ℕ → ℕ → FrameView → Type 0) → Step S → Me S (List FrameView) → ℕ
+      → Me S (List FrameView) → Type 0
   by_one kind st m found m' = (w : FrameView) × (m' ≡ (w ∷ [], [])) × kind (first_of m.0) st.word st.first found w
 
   -- a step of this kind by the zone's seat joined with a CPU's
-  abbrev pub by_two : (FrameView → FrameView → ℕ → ℕ → FrameView → FrameView → Type 0) → Step S → Me S (List FrameView) → ℕ → Me S (List FrameView) → Type 0
-  by_two kind st m found m' = (z : FrameView) × (v : FrameView) × (m' ≡ (z ∷ v ∷ [], [])) × kind (first_of m.0) (second_of m.0) st.word st.first z v
+  abbrev pub by_two : (FrameView → FrameView → ℕ → ℕ → FrameView → FrameView → Type 0) → Step S → Me S (List FrameView)
+      → ℕ → Me S (List FrameView) → Type 0
+  by_two kind st m found m' = (z : FrameView) × (v : FrameView) × (m' ≡ (z ∷ v ∷ [], []))
+      × kind (first_of m.0) (second_of m.0) st.word st.first z v

@@ -9,22 +9,27 @@ use Rattle.frame_word.specs.ReferenceRule.{most_references, references_in, Refer
 
 -- the view is one of those of the seats
 abbrev pub IsViewOf : List (List FrameView) → FrameView → Type 0
-IsViewOf seats v = (id : ℕ) × (i : ℕ) × (views : List FrameView) × (get_elem? seats id ≡ some views) × (get_elem? views i ≡ some v)
+IsViewOf seats v = (id : ℕ) × (i : ℕ) × (views : List FrameView) × (get_elem? seats id ≡ some views)
+    × (get_elem? views i ≡ some v)
 
 -- two seats that have the frame in a hand are the same seat
 abbrev pub NoFrameInTwoHands : Type 0
-NoFrameInTwoHands = (frames cpus : ℕ) (words : List ℕ) (seats : List (List FrameView)) → ReferenceRule frames cpus words seats
+NoFrameInTwoHands = (frames cpus : ℕ) (words : List ℕ) (seats : List (List FrameView))
+    → ReferenceRule frames cpus words seats
     → (f : ℕ) → f < frames → (v u : FrameView) → IsViewOf seats v → IsViewOf seats u
     → 1 ≤ in_hands (note_of v f) → 1 ≤ in_hands (note_of u f) → v.number ≡ u.number
 
 -- a frame that a seat owns is lent to no CPU
 abbrev pub OwnHandIsNotLent : Type 0
-OwnHandIsNotLent = (frames cpus : ℕ) (words : List ℕ) (seats : List (List FrameView)) → ReferenceRule frames cpus words seats
-    → (f : ℕ) → f < frames → (v zone : FrameView) → IsViewOf seats v → IsViewOf seats zone → zone.number ≡ 0 → (note_of v f).own ≡ 1
+OwnHandIsNotLent = (frames cpus : ℕ) (words : List ℕ) (seats : List (List FrameView))
+    → ReferenceRule frames cpus words seats
+    → (f : ℕ) → f < frames → (v zone : FrameView) → IsViewOf seats v → IsViewOf seats zone → zone.number ≡ 0
+    → (note_of v f).own ≡ 1
     → (note_of zone f).lent ≡ 0
 
 -- a word of at most 255 is the number of all seats' references, and with a mark there are none
 abbrev pub WordsCountReferences : Type 0
-WordsCountReferences = (frames cpus : ℕ) (words : List ℕ) (seats : List (List FrameView)) → ReferenceRule frames cpus words seats → (f : ℕ) → f < frames
+WordsCountReferences = (frames cpus : ℕ) (words : List ℕ) (seats : List (List FrameView))
+    → ReferenceRule frames cpus words seats → (f : ℕ) → f < frames
     → (slice_index words f ≤ most_references → total_over (references_in f) seats ≡ slice_index words f)
     × (most_references < slice_index words f → total_over (references_in f) seats ≡ 0)

@@ -1,5 +1,6 @@
 -- What contracts see of the tables and the seats, the conditions of the calls, and what the calls answer.
-use Rattle.std.specs.Prelude.{◌≡◌, ◌≢◌, ◌⊎◌, ℕ, zero, suc, ◌+◌, ◌<◌, ◌≤◌, List, [], ◌∷◌, replicate, slice_index, Bool, true, false}
+use Rattle.std.specs.Prelude.{◌≡◌, ◌≢◌, ◌⊎◌, ℕ, zero, suc, ◌+◌, ◌<◌, ◌≤◌, List, [], ◌∷◌, replicate, slice_index, Bool}
+use Rattle.std.specs.Prelude.{true, false}
 use Rattle.atomic_table.specs.Seated.{TableId}
 use Rattle.frame_word.specs.declared.view.FrameNote.{FrameNote}
 use Rattle.frame_word.specs.declared.view.FrameView.{FrameView}
@@ -7,9 +8,9 @@ use Rattle.frame_word.specs.declared.answers.Get.{Get}
 use Rattle.frame_word.specs.declared.answers.Get.TheVariants.{Held, Zero, Raced, Full}
 use Rattle.frame_word.specs.declared.answers.Put.{Put}
 use Rattle.frame_word.specs.declared.answers.Put.TheVariants.{Left, Last}
-use Rattle.frame_word.specs.Views.{blank, note_of, changed, with_visit, in_hands, begun, ended, looked, held, raced, let_go, let_go_last, frozen}
-use Rattle.frame_word.specs.Views.{missed, HasNone}
-use Rattle.frame_word.specs.ReferenceRule.{most_references, no_mark}
+use Rattle.frame_word.specs.Views.{blank, note_of, changed, with_visit, in_hands, begun, ended, looked, held, raced}
+use Rattle.frame_word.specs.Views.{let_go, let_go_last, frozen, missed, HasNone}
+use Rattle.frame_word.specs.ReferenceRule.{most_references, mark_base}
 
 -- which table it is, and how many frames and CPUs it has
 pub record KnownTable : Type 0 where
@@ -60,21 +61,21 @@ IsInNoHand s f = in_hands (note_of s.view f) ≡ 0
 abbrev pub HasNothingOf : KnownSeat → ℕ → Type 0
 HasNothingOf s f = HasNone s.view f
 
--- the frame is lent to CPU p, as the zone's seat knows
+-- the frame is lent to the CPU, as the zone's seat knows
 abbrev pub IsLent : KnownSeat → ℕ → ℕ → Type 0
-IsLent zone f p = (note_of zone.view f).lent ≡ p
+IsLent zone f cpu = (note_of zone.view f).lent ≡ cpu
 
 -- the frame is lent to no CPU, as the zone's seat knows
 abbrev pub IsLentToNone : KnownSeat → ℕ → Type 0
 IsLentToNone zone f = (note_of zone.view f).lent ≡ 0
 
--- the visit of CPU p is open, as the zone's seat knows
+-- the visit of the CPU is open, as the zone's seat knows
 abbrev pub IsOpen : KnownSeat → ℕ → Type 0
-IsOpen zone p = slice_index zone.view.opened p ≡ 1
+IsOpen zone cpu = slice_index zone.view.opened cpu ≡ 1
 
--- the visit of CPU p is shut, as the zone's seat knows
+-- the visit of the CPU is shut, as the zone's seat knows
 abbrev pub IsShut : KnownSeat → ℕ → Type 0
-IsShut zone p = slice_index zone.view.opened p ≡ 0
+IsShut zone cpu = slice_index zone.view.opened cpu ≡ 0
 
 -- the frame is in transit to or from the CPU: one hand-over has begun and not ended
 abbrev pub Passes : KnownSeat → KnownSeat → ℕ → Type 0
@@ -108,17 +109,19 @@ IsCpuSeat t s = (s.table ≡ t.table) × (1 ≤ number_of s) × (number_of s ≤
 abbrev pub seat_with : KnownSeat → ℕ → (FrameNote → FrameNote) → KnownSeat
 seat_with s f change = record { table = s.table; view = changed s.view f change }
 
--- the zone's seat with the visit of p open (1) or shut (0)
+-- the zone's seat with the CPU's visit open (1) or shut (0)
 abbrev pub seat_with_visit : KnownSeat → ℕ → ℕ → KnownSeat
-seat_with_visit s p state = record { table = s.table; view = with_visit s.view p state }
+seat_with_visit s cpu state = record { table = s.table; view = with_visit s.view cpu state }
 
 -- What a get answers, by the word that its one load saw, and the seat after it. Held: the word rose by one. Zero: the
 -- load saw 0 or a mark. Raced: the exchange found another word than the load saw, and the note has both. Full: the load
 -- saw 255.
 abbrev pub GetAnswers : KnownSeat → ℕ → Get → KnownSeat → Type 0
-GetAnswers s f Held t = (seen : ℕ) × (1 ≤ seen) × (seen < most_references) × (t ≡ seat_with s f (λ k. held (looked seen k)))
-GetAnswers s f Zero t = (seen : ℕ) × ((seen ≡ 0) ⊎ (no_mark < seen)) × (t ≡ seat_with s f (looked seen))
-GetAnswers s f (Raced found) t = (seen : ℕ) × (1 ≤ seen) × (seen < most_references) × (found ≢ seen) × (t ≡ seat_with s f (λ k. raced found (looked seen k)))
+GetAnswers s f Held t = (seen : ℕ) × (1 ≤ seen) × (seen < most_references)
+    × (t ≡ seat_with s f (λ k. held (looked seen k)))
+GetAnswers s f Zero t = (seen : ℕ) × ((seen ≡ 0) ⊎ (mark_base < seen)) × (t ≡ seat_with s f (looked seen))
+GetAnswers s f (Raced found) t = (seen : ℕ) × (1 ≤ seen) × (seen < most_references) × (found ≢ seen)
+    × (t ≡ seat_with s f (λ k. raced found (looked seen k)))
 GetAnswers s f Full t = t ≡ seat_with s f (looked most_references)
 
 -- What a put answers, and the seat after it. Left: n references are left, those of the seat among them. Last: the seat
@@ -135,26 +138,31 @@ FreezeAnswers s f n false t = (word : ℕ) × (word ≢ n) × (t ≡ seat_with s
 
 -- the view of the zone's seat at first: it owns every frame
 abbrev pub first_zone_view : ℕ → FrameView
-first_zone_view frames = record { number = 0; notes = replicate frames (record blank { own = 1 }); opened = []; turns = 0 }
+first_zone_view frames = record {
+  number = 0;
+  notes = replicate frames (record blank { own = 1 });
+  opened = [];
+  turns = 0;
+}
 
 -- the view of a CPU's seat at first: it did nothing yet
 abbrev pub first_cpu_view : ℕ → FrameView
-first_cpu_view p = record { number = p; notes = []; opened = []; turns = 0 }
+first_cpu_view cpu = record { number = cpu; notes = []; opened = []; turns = 0 }
 
--- the first views of n CPUs, from p on
+-- the first views of n CPUs, from this number on
 abbrev pub cpu_views : ℕ → ℕ → List FrameView
-cpu_views p zero = []
-cpu_views p (suc n) = first_cpu_view p ∷ cpu_views (p + 1) n
+cpu_views cpu zero = []
+cpu_views cpu (suc n) = first_cpu_view cpu ∷ cpu_views (cpu + 1) n
 
--- the first seats of n CPUs, from p on
+-- the first seats of n CPUs, from this number on
 abbrev pub first_cpu_seats : TableId → ℕ → ℕ → List KnownSeat
-first_cpu_seats id p zero = []
-first_cpu_seats id p (suc n) = record { table = id; view = first_cpu_view p } ∷ first_cpu_seats id (p + 1) n
+first_cpu_seats id cpu zero = []
+first_cpu_seats id cpu (suc n) = record { table = id; view = first_cpu_view cpu } ∷ first_cpu_seats id (cpu + 1) n
 
--- these are seats at the table, numbered from p on
+-- these are seats at the table, with the numbers from this one on
 abbrev pub AreCpuSeats : KnownTable → ℕ → List KnownSeat → Type 0
-AreCpuSeats t p [] = Unit {0}
-AreCpuSeats t p (s ∷ rest) = (s.table ≡ t.table) × (number_of s ≡ p) × AreCpuSeats t (p + 1) rest
+AreCpuSeats t cpu [] = Unit {0}
+AreCpuSeats t cpu (s ∷ rest) = (s.table ≡ t.table) × (number_of s ≡ cpu) × AreCpuSeats t (cpu + 1) rest
 
 -- these are seats at the table
 abbrev pub AreSeatsAt : TableId → List KnownSeat → Type 0

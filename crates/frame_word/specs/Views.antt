@@ -39,9 +39,9 @@ note_of v f = slice_index_or v.notes f blank
 abbrev pub changed : FrameView → ℕ → (FrameNote → FrameNote) → FrameView
 changed v f change = record v { notes = put_at blank v.notes f (change (note_of v f)) }
 
--- the zone's view with the visit of p open (1) or shut (0)
+-- the zone's view with the CPU's visit open (1) or shut (0)
 abbrev pub with_visit : FrameView → ℕ → ℕ → FrameView
-with_visit v p state = record v { opened = put_at 0 v.opened p state; turns = v.turns + 1 }
+with_visit v cpu state = record v { opened = put_at 0 v.opened cpu state; turns = v.turns + 1 }
 
 -- in how many of the seat's hands the frame is: 0 or 1
 abbrev pub in_hands : FrameNote → ℕ
@@ -67,12 +67,13 @@ pub record IsSettledAt (zone cpu : FrameView) (f : ℕ) : Type 0 where
   pub lent_is_borrowed : (note_of zone f).lent ≡ cpu.number → (note_of cpu f).borrowed ≡ 1
   pub borrowed_is_lent : (note_of cpu f).borrowed ≡ 1 → (note_of zone f).lent ≡ cpu.number
   pub one_hand : in_hands (note_of zone f) + in_hands (note_of cpu f) ≤ 1
-  pub no_reference : 1 ≤ in_hands (note_of zone f) + in_hands (note_of cpu f) → (note_of zone f).references + (note_of cpu f).references ≡ 0
+  pub no_reference : 1 ≤ in_hands (note_of zone f) + in_hands (note_of cpu f)
+      → (note_of zone f).references + (note_of cpu f).references ≡ 0
   pub own_is_not_lent : 1 ≤ (note_of zone f).own + (note_of cpu f).own → (note_of zone f).lent ≡ 0
 
--- 1 if the frame is lent to p, else 0
+-- 1 if the frame is lent to the CPU, else 0
 abbrev pub lent_count : FrameNote → ℕ → ℕ
-lent_count k p = cond (k.lent == p) 1 0
+lent_count k cpu = cond (k.lent == cpu) 1 0
 
 -- ---- the changes of a note, each that of one atomic step
 -- the load of a get, which saw this word
@@ -107,9 +108,14 @@ missed word k = record k { steps = k.steps + 1; misses = k.misses + 1; missed_wo
 abbrev pub unfrozen : ℕ → FrameNote → FrameNote
 unfrozen n k = record k { steps = k.steps + 1; references = k.references + n; own = 0 }
 
--- pass_out: the zone owns the frame no more, it is lent to p, and a hand-over began
+-- pass_out: the zone owns the frame no more, it is lent to the CPU, and a hand-over began
 abbrev pub passed_out_to : ℕ → FrameNote → FrameNote
-passed_out_to p k = record k { steps = k.steps + 1; own = 0; lent = p; passed_out = put_at 0 k.passed_out p (slice_index k.passed_out p + 1) }
+passed_out_to cpu k = record k {
+  steps = k.steps + 1;
+  own = 0;
+  lent = cpu;
+  passed_out = put_at 0 k.passed_out cpu (slice_index k.passed_out cpu + 1);
+}
 
 -- take_in: the CPU borrows the frame, and the hand-over ended
 abbrev pub took_in : FrameNote → FrameNote
@@ -121,4 +127,9 @@ gave_back k = record k { steps = k.steps + 1; own = 0; borrowed = 0; passed_back
 
 -- collect: the zone owns the frame, which is lent to no CPU, and the hand-over ended
 abbrev pub collected_from : ℕ → FrameNote → FrameNote
-collected_from p k = record k { steps = k.steps + 1; own = 1; lent = 0; collected = put_at 0 k.collected p (slice_index k.collected p + 1) }
+collected_from cpu k = record k {
+  steps = k.steps + 1;
+  own = 1;
+  lent = 0;
+  collected = put_at 0 k.collected cpu (slice_index k.collected cpu + 1);
+}

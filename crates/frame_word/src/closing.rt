@@ -27,7 +27,8 @@ impl Model for FinalWords {
 
     ghost view = { λ w. record { words = slots_items w.closed.words; frames = w.frames; cpus = w.cpus } };
 
-    ghost invariant = { λ w. IsFull w.closed.words × (slots_len w.closed.words ≡ w.frames + w.cpus) × (slots_len w.closed.slots ≡ 0) };
+    ghost invariant = { λ w. IsFull w.closed.words × (slots_len w.closed.words ≡ w.frames + w.cpus)
+        × (slots_len w.closed.slots ≡ 0) };
 }
 
 impl Drop for FinalWords {
@@ -89,7 +90,8 @@ impl FrameWords {
 
 // Joins all seats into one.
 fn gather(board: &Board, all: &mut RawSeat, seats: Vec<FrameSeat>)
-    requires table { (all.old.seat.table_id ≡ board.now.table.shared.table_id) × (0 < board.now.table.shared.table_id.words) }
+    requires table { (all.old.seat.table_id ≡ board.now.table.shared.table_id)
+        × (0 < board.now.table.shared.table_id.words) }
     requires seats { AreSeatsAt board.now.table.shared.table_id seats.items }
     ensures table { all.new.seat.table_id ≡ all.old.seat.table_id }
     ensures views { all.new.seat.me ≡ (all.old.seat.me.0 ++ map view_of seats.items, all.old.seat.me.1) }

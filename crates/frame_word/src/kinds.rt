@@ -9,10 +9,12 @@ ghost use Rattle.std.specs.Prelude.{◌≡◌, ◌⊎◌, ◌<◌, ◌≤◌, �
 ghost use Rattle.std.specs.Mem.Slots.{slots_items, slots_len, IsFull};
 ghost use Rattle.frame_word.specs.ReferenceRule.{most_references, visit_index, ReferenceRule};
 ghost use Rattle.frame_word.specs.Views.{note_of, unfrozen, passed_out_to, took_in, gave_back, collected_from};
-ghost use Rattle.frame_word.specs.Kinds.{first_views, first_alone, but_first, rule_of, EndsWith, by_one, by_two, looks, adds, puts, freezes};
-ghost use Rattle.frame_word.specs.Kinds.{unfreezes, passes_out, takes_in, passes_back, collects, visits};
-ghost use Rattle.frame_word.specs.Seats.{number_of, holds, IsInOwnHand, IsInHand, IsBorrowed, HasNothingOf, IsLent, IsLentToNone, IsOpen, IsShut};
-ghost use Rattle.frame_word.specs.Seats.{Passes, NothingPasses, LentIsBorrowed, HandsAreApart, IsZoneSeat, IsCpuSeat, seat_with, seat_with_visit};
+ghost use Rattle.frame_word.specs.Kinds.{first_views, first_alone, but_first, rule_of, EndsWith, by_one, by_two, looks};
+ghost use Rattle.frame_word.specs.Kinds.{adds, puts, freezes, unfreezes, passes_out, takes_in, passes_back, collects};
+ghost use Rattle.frame_word.specs.Kinds.{visits};
+ghost use Rattle.frame_word.specs.Seats.{number_of, holds, IsInOwnHand, IsInHand, IsBorrowed, HasNothingOf, IsLent};
+ghost use Rattle.frame_word.specs.Seats.{IsLentToNone, IsOpen, IsShut, Passes, NothingPasses, LentIsBorrowed};
+ghost use Rattle.frame_word.specs.Seats.{HandsAreApart, IsZoneSeat, IsCpuSeat, seat_with, seat_with_visit};
 
 use crate::frame::Frame;
 use crate::pairs::{join, part};
@@ -25,8 +27,8 @@ use std::alloc::{AllocError, Global};
 /// The most references that a frame can have.
 pub const MOST_REFERENCES: u64 = 255;
 
-/// Passing marks are above it: that of CPU p is this number plus p.
-pub const NO_MARK: u64 = 256;
+/// Passing marks are above it: that of a CPU is this number plus the CPU's.
+pub const MARK_BASE: u64 = 256;
 
 /// How many frames and CPUs a table has. It is fixed when the table is made.
 #[derive(Clone, Copy)]
@@ -141,10 +143,13 @@ impl Board {
         words: &[u64],
         sizes: &Sizes,
     ) -> Result<(Board, RawSeat), AllocError>
-        requires { ReferenceRule sizes.now.frames sizes.now.cpus words.now (first_views sizes.now.frames sizes.now.cpus ∷ []) }
-        ensures counts { IfOk result (λ t. (t.0.table.shared.table_id.words ≡ length words.now) × (t.0.table.shared.table_id.slots ≡ 0)) }
+        requires { ReferenceRule sizes.now.frames sizes.now.cpus words.now
+            (first_views sizes.now.frames sizes.now.cpus ∷ []) }
+        ensures counts { IfOk result (λ t. (t.0.table.shared.table_id.words ≡ length words.now)
+            × (t.0.table.shared.table_id.slots ≡ 0)) }
         ensures key { IfOk result (λ t. t.0.table.shared.key ≡ sizes.now) }
-        ensures place { IfOk result (λ t. (t.1.seat.table_id ≡ t.0.table.shared.table_id) × (t.1.seat.me ≡ (first_views sizes.now.frames sizes.now.cpus, []))) }
+        ensures place { IfOk result (λ t. (t.1.seat.table_id ≡ t.0.table.shared.table_id)
+            × (t.1.seat.me ≡ (first_views sizes.now.frames sizes.now.cpus, []))) }
     {
         let (table, seat) = Table::of_words(alloc, words, sizes)?;
         Ok((Board { table }, RawSeat { seat }))
@@ -152,9 +157,12 @@ impl Board {
 
     /// The place keeps its first view. The new place gets the others.
     pub(crate) fn cut(&self, place: &mut RawSeat) -> RawSeat
-        requires { (place.old.seat.table_id ≡ self.now.table.shared.table_id) × (0 < self.now.table.shared.table_id.words) }
-        ensures table { (place.new.seat.table_id ≡ place.old.seat.table_id) × (result.seat.table_id ≡ place.old.seat.table_id) }
-        ensures views { (place.new.seat.me ≡ (first_alone place.old.seat.me.0, place.old.seat.me.1)) × (result.seat.me ≡ (but_first place.old.seat.me.0, [])) }
+        requires { (place.old.seat.table_id ≡ self.now.table.shared.table_id)
+            × (0 < self.now.table.shared.table_id.words) }
+        ensures table { (place.new.seat.table_id ≡ place.old.seat.table_id)
+            × (result.seat.table_id ≡ place.old.seat.table_id) }
+        ensures views { (place.new.seat.me ≡ (first_alone place.old.seat.me.0, place.old.seat.me.1))
+            × (result.seat.me ≡ (but_first place.old.seat.me.0, [])) }
     {
         RawSeat {
             seat: self.table.shared.split_seat::<Cut>(&mut place.seat),
@@ -163,7 +171,8 @@ impl Board {
 
     /// The other place's views follow the place's own.
     pub(crate) fn pair(&self, place: &mut RawSeat, other: RawSeat)
-        requires table { (place.old.seat.table_id ≡ self.now.table.shared.table_id) × (0 < self.now.table.shared.table_id.words) }
+        requires table { (place.old.seat.table_id ≡ self.now.table.shared.table_id)
+            × (0 < self.now.table.shared.table_id.words) }
         requires other { (other.seat.table_id ≡ self.now.table.shared.table_id) × (other.seat.me.1 ≡ []) }
         ensures table { place.new.seat.table_id ≡ place.old.seat.table_id }
         ensures views { place.new.seat.me ≡ (place.old.seat.me.0 ++ other.seat.me.0, place.old.seat.me.1) }
@@ -175,10 +184,12 @@ impl Board {
     /// Ends the table. The rule holds of its words, and the place is one of its seats.
     pub(crate) fn end(self, place: RawSeat) -> Closed<(), Global>
         requires { place.seat.table_id ≡ self.table.shared.table_id }
-        ensures counts { (slots_len result.words ≡ self.table.shared.table_id.words) × (slots_len result.slots ≡ self.table.shared.table_id.slots) }
+        ensures counts { (slots_len result.words ≡ self.table.shared.table_id.words)
+            × (slots_len result.slots ≡ self.table.shared.table_id.slots) }
         ensures full { IsFull result.words }
         ensures rule { let key = self.table.shared.key in
-            EndsWith key.frames key.cpus place.seat.id place.seat.me.0 (slots_items result.words) (slots_items result.slots) }
+            EndsWith key.frames key.cpus place.seat.id place.seat.me.0 (slots_items result.words)
+            (slots_items result.slots) }
     {
         let Board { table } = self;
         let RawSeat { seat } = place;
@@ -271,7 +282,7 @@ impl FrameWords {
         ensures not_lent { IsLentToNone zone.old frame }
     {
         let shared = &self.board.table.shared;
-        let mark = NO_MARK + u64::from(cpu);
+        let mark = MARK_BASE + u64::from(cpu);
         shared.store::<PassOut>(&mut zone.place.seat, frame.word(), mark);
     }
 
@@ -312,7 +323,7 @@ impl FrameWords {
     {
         let shared = &self.board.table.shared;
         let word = frame.word();
-        let mark = NO_MARK + u64::from(cpu.number);
+        let mark = MARK_BASE + u64::from(cpu.number);
         join(&self.board, &mut zone.place, &mut cpu.place);
         shared.store::<PassBack>(&mut zone.place.seat, word, mark);
         part(&self.board, &mut zone.place, &mut cpu.place);

@@ -2,7 +2,7 @@
 //! get and put.
 //!
 //! Word f is frame f's. It is 0 while no seat has a reference and exactly one seat's hand has the frame. It is 1 to 255
-//! for that many references, and 256 + p while the frame is in transit to or from CPU p. One visit word for each CPU
+//! for that many references, and 256 + cpu while it is in transit to or from CPU `cpu`. One visit word for each CPU
 //! follows the frames' words: 1 while its visit is open, else 0.
 //!
 //! The rule between any two atomic steps is one line in `src/kinds.rt`: `holds` of `TableRule` for `Counting`. Of
@@ -24,6 +24,6 @@ mod words;
 pub use answers::{Get, Put};
 pub use closing::FinalWords;
 pub use frame::Frame;
-pub use kinds::{MOST_REFERENCES, NO_MARK};
+pub use kinds::{MARK_BASE, MOST_REFERENCES};
 pub use seat::FrameSeat;
 pub use words::FrameWords;

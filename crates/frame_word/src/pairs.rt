@@ -7,11 +7,13 @@ use std::mem;
 
 /// The first place takes in the second's view, and an empty place is left in the second meanwhile.
 pub(crate) fn join(board: &Board, zone: &mut RawSeat, cpu: &mut RawSeat)
-    requires table { (zone.old.seat.table_id ≡ board.now.table.shared.table_id) × (cpu.old.seat.table_id ≡ board.now.table.shared.table_id)
+    requires table { (zone.old.seat.table_id ≡ board.now.table.shared.table_id)
+        × (cpu.old.seat.table_id ≡ board.now.table.shared.table_id)
         × (0 < board.now.table.shared.table_id.words) }
     requires zone { zone.old.seat.me ≡ (first_alone zone.old.seat.me.0, []) }
     requires cpu { cpu.old.seat.me.1 ≡ [] }
-    ensures table { (zone.new.seat.table_id ≡ zone.old.seat.table_id) × (cpu.new.seat.table_id ≡ cpu.old.seat.table_id) }
+    ensures table { (zone.new.seat.table_id ≡ zone.old.seat.table_id)
+        × (cpu.new.seat.table_id ≡ cpu.old.seat.table_id) }
     ensures views { zone.new.seat.me ≡ (zone.old.seat.me.0 ++ cpu.old.seat.me.0, []) }
 {
     let spare = board.cut(zone);
@@ -21,9 +23,11 @@ pub(crate) fn join(board: &Board, zone: &mut RawSeat, cpu: &mut RawSeat)
 
 /// The second place gets its view back.
 pub(crate) fn part(board: &Board, zone: &mut RawSeat, cpu: &mut RawSeat)
-    requires table { (zone.old.seat.table_id ≡ board.now.table.shared.table_id) × (0 < board.now.table.shared.table_id.words) }
+    requires table { (zone.old.seat.table_id ≡ board.now.table.shared.table_id)
+        × (0 < board.now.table.shared.table_id.words) }
     requires zone { zone.old.seat.me.1 ≡ [] }
-    ensures table { (zone.new.seat.table_id ≡ zone.old.seat.table_id) × (cpu.new.seat.table_id ≡ zone.old.seat.table_id) }
+    ensures table { (zone.new.seat.table_id ≡ zone.old.seat.table_id)
+        × (cpu.new.seat.table_id ≡ zone.old.seat.table_id) }
     ensures zone { zone.new.seat.me ≡ (first_alone zone.old.seat.me.0, []) }
     ensures cpu { cpu.new.seat.me ≡ (but_first zone.old.seat.me.0, []) }
 {

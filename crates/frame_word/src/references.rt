@@ -1,8 +1,10 @@
-//! References: `get`, `put`, `freeze`, made of the kinds of step. `get` is a load and at most one exchange, the others
-//! are one step each.
+//! References: `get`, `put`, `freeze`, `references`, made of the kinds of step. `get` is a load and at most one
+//! exchange, the others are one step each.
 ghost use Rattle.std.specs.Prelude.{◌≡◌, ◌≢◌, ◌+◌, ◌<◌, ◌≤◌};
 ghost use Rattle.frame_word.specs.declared.answers.Get.TheVariants.{Held, Zero};
-ghost use Rattle.frame_word.specs.Seats.{holds, IsInNoHand, GetAnswers, PutAnswers, FreezeAnswers};
+ghost use Rattle.frame_word.specs.ReferenceRule.{most_references};
+ghost use Rattle.frame_word.specs.Views.{looked};
+ghost use Rattle.frame_word.specs.Seats.{holds, seat_with, IsInNoHand, GetAnswers, PutAnswers, FreezeAnswers};
 
 use crate::answers::{Get, Put};
 use crate::frame::Frame;
@@ -64,5 +66,18 @@ impl FrameWords {
         ensures in_no_hand { IsInNoHand seat.old frame }
     {
         self.freeze_at(seat, frame, count) == count
+    }
+
+    /// The number of references on the frame, those of the seat among them, by one load. It is the number at the moment
+    /// of that load; other seats may get and put before and after it. The seat has a reference on the frame.
+    pub fn references(&self, seat: &mut FrameSeat, frame: Frame) -> u64
+        requires table { seat.old.table ≡ self.now.table }
+        requires frame { frame < self.now.frames }
+        requires held { 1 ≤ holds seat.old frame }
+        ensures own { holds seat.old frame ≤ result }
+        ensures most { result ≤ most_references }
+        ensures seat { seat.new ≡ seat_with seat.old frame (looked result) }
+    {
+        self.look(seat, frame)
     }
 }

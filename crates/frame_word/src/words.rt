@@ -26,7 +26,8 @@ impl Model for FrameWords {
 
     ghost view = { λ t. record { table = t.board.table.shared.table_id; frames = t.frames; cpus = t.cpus } };
 
-    ghost invariant = { λ t. IsLaidOut t.board.table.shared.table_id t.board.table.shared.key.frames t.board.table.shared.key.cpus t.frames t.cpus };
+    ghost invariant = { λ t. IsLaidOut t.board.table.shared.table_id t.board.table.shared.key.frames
+        t.board.table.shared.key.cpus t.frames t.cpus };
 }
 
 impl FrameWords {
@@ -92,7 +93,8 @@ fn deal(
     mut rest: RawSeat,
     cpus: u32,
 ) -> Result<Vec<FrameSeat>, AllocError>
-    requires table { (rest.seat.table_id ≡ board.now.table.shared.table_id) × (0 < board.now.table.shared.table_id.words) }
+    requires table { (rest.seat.table_id ≡ board.now.table.shared.table_id)
+        × (0 < board.now.table.shared.table_id.words) }
     requires views { rest.seat.me ≡ (cpu_views 1 cpus, []) }
     ensures { IfOk result (λ v. v.items ≡ first_cpu_seats board.now.table.shared.table_id 1 cpus) }
 {

@@ -1,12 +1,14 @@
 -- The charges of a tree of groups: for each group its own pages, its peak and its event counts.
-use Rattle.std.specs.Prelude.{All, ◌≡◌, ℕ, ◌+◌, ◌-◌, ◌^◌, ◌<◌, ◌≤◌, ◌==◌, Bool, not, Option, List, [], ◌∷◌, ◌++◌, map, filter, sum_by, if◌then◌else◌}
+use Rattle.std.specs.Prelude.{All, ◌≡◌, ℕ, ◌+◌, ◌-◌, ◌^◌, ◌<◌, ◌≤◌, ◌==◌, Bool, not, Option, List, [], ◌∷◌, ◌++◌, map}
+use Rattle.std.specs.Prelude.{filter, sum_by, if◌then◌else◌}
 use Rattle.std.specs.List.{find}
 use Rattle.std.specs.Option.{option_map_or}
 use Rattle.group_tree.specs.declared.group.Group.{Group}
 use Rattle.group_tree.specs.declared.event.EventKey.TheVariants.{Max, Oom, OomKill, OomGroupKill}
 use Rattle.group_tree.specs.declared.event.EventKey.{EventKey}
 use Rattle.group_tree.specs.Events.{EventCounts, no_events, with_one_more}
-use Rattle.group_tree.specs.Groups.{initial_groups, in_subtree, with_group, without_group, with_limit, with_oom_group, AreGroups}
+use Rattle.group_tree.specs.Groups.{initial_groups, in_subtree, with_group, without_group, with_limit, with_oom_group}
+use Rattle.group_tree.specs.Groups.{AreGroups}
 use Rattle.group_tree.specs.Room.{at_group, on_path, peak_after}
 -- an account has a group's number, its own pages, its peak and its event counts
 pub use Rattle.group_charge.specs.declared.account.Account.{Account}
@@ -119,7 +121,10 @@ with_new_group l n path = record { groups = with_group l.groups n path; accounts
 
 -- the ledger without the group and its account: the counts of its ancestors stay
 abbrev pub with_group_removed : Ledger → ℕ → Ledger
-with_group_removed l g = record { groups = without_group l.groups g; accounts = filter (λ a. not (a.group == g)) l.accounts }
+with_group_removed l g = record {
+  groups = without_group l.groups g;
+  accounts = filter (λ a. not (a.group == g)) l.accounts;
+}
 
 -- the ledger with this limit of the group
 abbrev pub with_group_limit : Ledger → ℕ → Option ℕ → Ledger

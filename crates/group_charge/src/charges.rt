@@ -1,15 +1,18 @@
 //! The charges of a tree of groups.
 
-ghost use Rattle.std.specs.Prelude.{◌≡◌, ◌≢◌, ℕ, ◌↔◌, ◌+◌, ◌^◌, ◌<◌, ◌≤◌, false, IfErr, IfOk, IsOk, IsTrue, MatchOption, OnErr, OnOk, Some};
+ghost use Rattle.std.specs.Prelude.{◌≡◌, ◌≢◌, ℕ, ◌↔◌, ◌+◌, ◌^◌, ◌<◌, ◌≤◌, false, IfErr, IfOk, IsOk, IsTrue};
+ghost use Rattle.std.specs.Prelude.{MatchOption, OnErr, OnOk, Some};
 ghost use Rattle.std.specs.Option.{option_copied};
 ghost use Rattle.std.specs.Result.{result_err};
 ghost use Rattle.group_tree.specs.Groups.{IsLeastFreeNumber, has_child, has_group, is_oom_group, limit_of, make_fault};
 ghost use Rattle.group_tree.specs.Room.{IsLowestOver, PathHasRoom};
-ghost use Rattle.group_charge.specs.Charges.{AreCharges, CountsEvent, CountsGroupKill, CountsKill, CountsMax, CountsOom, PagesRise, PeaksRise};
-ghost use Rattle.group_charge.specs.Charges.{SameEvents, SamePages, SamePeaks, SameUsage, UsageRises, account_at};
-ghost use Rattle.group_charge.specs.Charges.{current_of, empty_account, events_local_of, events_of, initial_ledger, pages_of, peak_of, total_pages};
-ghost use Rattle.group_charge.specs.Charges.{with_charge, with_group_kill_noted, with_group_limit, with_group_removed, with_kill_noted, with_max_noted};
-ghost use Rattle.group_charge.specs.Charges.{with_new_group, with_noted, with_oom_flag, with_oom_noted, with_uncharge};
+ghost use Rattle.group_charge.specs.Charges.{AreCharges, CountsEvent, CountsGroupKill, CountsKill, CountsMax};
+ghost use Rattle.group_charge.specs.Charges.{CountsOom, PagesRise, PeaksRise, SameEvents, SamePages, SamePeaks};
+ghost use Rattle.group_charge.specs.Charges.{SameUsage, UsageRises, account_at, current_of, empty_account};
+ghost use Rattle.group_charge.specs.Charges.{events_local_of, events_of, initial_ledger, pages_of, peak_of};
+ghost use Rattle.group_charge.specs.Charges.{total_pages, with_charge, with_group_kill_noted, with_group_limit};
+ghost use Rattle.group_charge.specs.Charges.{with_group_removed, with_kill_noted, with_max_noted, with_new_group};
+ghost use Rattle.group_charge.specs.Charges.{with_noted, with_oom_flag, with_oom_noted, with_uncharge};
 
 use crate::account::Account;
 use crate::walks;

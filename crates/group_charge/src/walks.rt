@@ -5,7 +5,8 @@ ghost use Rattle.group_tree.specs.Ancestors.{is_passed};
 ghost use Rattle.group_tree.specs.Bounds.{most_groups};
 ghost use Rattle.group_tree.specs.Groups.{AreGroups, has_group, in_subtree};
 ghost use Rattle.group_tree.specs.Room.{IsLowestOver, PathHasRoom, fits_limit};
-ghost use Rattle.group_charge.specs.Kept.{AccountsOnPath, UsagesPassed, account_by, usage_by, with_event, with_local_event, with_usage_peak};
+ghost use Rattle.group_charge.specs.Kept.{AccountsOnPath, UsagesPassed, account_by, usage_by, with_event};
+ghost use Rattle.group_charge.specs.Kept.{with_local_event, with_usage_peak};
 
 use crate::account::Account;
 use group_tree::event::EventKey;
@@ -29,7 +30,8 @@ pub fn add_until_over(tree: &Tree, usages: &mut [u32], g: GroupId, n: u32) -> Op
     requires there { IsTrue (has_group tree.now g) }
     requires size { length usages.old ≡ most_groups }
     requires fits { (m : ℕ) → usage_by usages.old m + n < 2 ^ 32 }
-    ensures room { MatchOption result (PathHasRoom tree.now (usage_by usages.old) g n) (IsLowestOver tree.now (usage_by usages.old) g n) }
+    ensures room { MatchOption result (PathHasRoom tree.now (usage_by usages.old) g n)
+        (IsLowestOver tree.now (usage_by usages.old) g n) }
     ensures added { UsagesPassed tree.now g result (λ pages. pages + n) usages.old usages.new }
     ensures size { length usages.new ≡ most_groups }
 {

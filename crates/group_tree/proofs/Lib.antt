@@ -2,7 +2,7 @@ pub mod AncestorLemmas
 pub mod CallerLemmas
 pub mod EventLemmas
 pub mod GroupLemmas
-pub mod LinkLemmas
+pub mod SlotLemmas
 pub mod PathLemmas
 pub mod TextLemmas
 pub mod Walks

@@ -3,7 +3,7 @@ pub mod Bounds
 pub mod Events
 pub mod Faults
 pub mod Groups
-pub mod Links
+pub mod Slots
 pub mod Path
 pub mod Room
 pub mod Text

@@ -1,5 +1,6 @@
 -- The paths of groups: `/` is the root, and a group below it has a name after each slash.
-use Rattle.std.specs.Prelude.{ℕ, ◌==◌, ◌&&◌, ◌||◌, Bool, not, nat_eq, nat_le, nat_lt, IsTrue, List, [], ◌∷◌, length, drop, if◌then◌else◌, codes}
+use Rattle.std.specs.Prelude.{ℕ, ◌==◌, ◌&&◌, ◌||◌, Bool, not, nat_eq, nat_le, nat_lt, IsTrue, List, [], ◌∷◌, length}
+use Rattle.std.specs.Prelude.{drop, if◌then◌else◌, codes}
 use Rattle.std.specs.List.{slice_split, list_all, before_last, starts_with}
 use Rattle.std.specs.Str.{bytes_eq}
 use Rattle.group_tree.specs.Bounds.{longest_name, longest_path}
@@ -43,11 +44,13 @@ is_dots name = bytes_eq name (codes ".") || bytes_eq name (codes "..")
 
 -- a name has 1 to `longest_name` such bytes, and is neither `.` nor `..`
 unfoldable pub is_name : List ℕ → Bool
-is_name name = nat_le 1 (length name) && nat_le (length name) longest_name && list_all is_name_byte name && not (is_dots name)
+is_name name = nat_le 1 (length name) && nat_le (length name) longest_name && list_all is_name_byte name
+    && not (is_dots name)
 
 -- a path has at most `longest_path` bytes, begins with a slash, and has only names between its slashes
 unfoldable pub is_well_formed : List ℕ → Bool
-is_well_formed path = nat_le (length path) longest_path && starts_with nat_eq path root_path && list_all is_name (names_of path)
+is_well_formed path = nat_le (length path) longest_path && starts_with nat_eq path root_path
+    && list_all is_name (names_of path)
 
 -- the path is well-formed, as a statement
 abbrev pub IsWellFormed : List ℕ → Type 0

@@ -1,6 +1,7 @@
 -- What a charge checks and changes on the path from a group up to the root, for any usage: room under the limits
 -- (memory.max of cgroup-v2.rst), peaks (memory.peak) and event counts (memory.events).
-use Rattle.std.specs.Prelude.{◌≡◌, ℕ, ◌+◌, ◌-◌, ◌^◌, ◌==◌, max, min, nat_le, Bool, true, false, IsTrue, Option, Some, None, List, if◌then◌else◌}
+use Rattle.std.specs.Prelude.{◌≡◌, ℕ, ◌+◌, ◌-◌, ◌^◌, ◌==◌, max, min, nat_le, Bool, true, false, IsTrue, Option, Some}
+use Rattle.std.specs.Prelude.{None, List, if◌then◌else◌}
 use Rattle.group_tree.specs.declared.group.Group.{Group}
 use Rattle.group_tree.specs.Groups.{in_subtree, limit_of}
 
@@ -22,7 +23,8 @@ PathHasRoom groups usage g n = (m : ℕ) → IsTrue (in_subtree groups m g) → 
 pub record IsLowestOver (groups : List Group) (usage : ℕ → ℕ) (g n m : ℕ) : Type 0 where
   pub on_path : IsTrue (in_subtree groups m g)
   pub over : has_room groups usage m n ≡ false
-  pub lowest : (k : ℕ) → IsTrue (in_subtree groups k g) → has_room groups usage k n ≡ false → IsTrue (in_subtree groups k m)
+  pub lowest : (k : ℕ) → IsTrue (in_subtree groups k g) → has_room groups usage k n ≡ false
+      → IsTrue (in_subtree groups k m)
 
 -- ---- changes along the path
 -- the new value of group m, if f changes the values of g and of each of its ancestors, and no other

@@ -22,7 +22,8 @@ padded-bytes bytes len h =
 
 -- the text alone determines the fields
 pub padded-view : (bytes : List ℕ) (len : ℕ) → IsPadded bytes len →
-    ◌≡◌ {A = Inside} (record { bytes = padded (take len bytes); len = length (take len bytes) }) (record { bytes = bytes; len = len })
+    ◌≡◌ {A = Inside} (record { bytes = padded (take len bytes); len = length (take len bytes) })
+    (record { bytes = bytes; len = len })
 padded-view bytes len h =
     let size : length (take len bytes) ≡ len = length-take-le len bytes (omega (arith, h.size, h.fits)) in
     let same : padded (take len bytes) ≡ bytes = padded-bytes bytes len h in

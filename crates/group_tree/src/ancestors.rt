@@ -51,7 +51,7 @@ impl Tree {
         ensures value { result ≡ ancestors_of self.now g }
         ensures path { IsPathUp self.now g result }
     {
-        let _ = self.groups();
+        let _groups = self.groups(); // Called for its contract.
         Ancestors {
             tree: self,
             next: Some(g),

@@ -34,7 +34,7 @@ pub enum Fault {
     #[error("the group still has pages")]
     Busy,
     /// The CPU holds as many references as it may.
-    #[error("the processor holds too many references")]
+    #[error("the CPU holds too many references")]
     PinsFull,
     /// The group has no file of that name. The root has no files at all.
     #[error("the group has no such file")]
@@ -73,7 +73,7 @@ pub enum Fault {
     #[error("the frame is not the head of a kept unit")]
     NotKept,
     /// The CPU holds no reference on the frame.
-    #[error("the processor holds no reference on the frame")]
+    #[error("the CPU holds no reference on the frame")]
     NotPinned,
     /// The file cannot be read.
     #[error("the file cannot be read")]

@@ -3,6 +3,9 @@
 //!
 //! A group has a path, written as in cgroup-v2.rst, and a number below 64. Contracts see the tree as the list of its
 //! groups, in the order in which they were made.
+//!
+//! A line that ends in 'Called for its contract' or 'Borrowed for the invariant' changes nothing. A proof knows the
+//! invariant of a type only from such a call or borrow.
 #![tactic(auto)]
 
 pub mod ancestors;

@@ -2,8 +2,8 @@
 
 ghost use Rattle.std.specs.Prelude.{◌≡◌, IsTrue, nat_eq};
 ghost use Rattle.std.specs.List.{count_by, list_all, slice_split, starts_with};
-ghost use Rattle.group_tree.specs.Path.{IsWellFormed, depth_of, is_dots, is_name, is_name_byte, is_root, is_slash, is_well_formed, names_of, parent_path};
-ghost use Rattle.group_tree.specs.Path.{root_path};
+ghost use Rattle.group_tree.specs.Path.{IsWellFormed, depth_of, is_dots, is_name, is_name_byte, is_root, is_slash};
+ghost use Rattle.group_tree.specs.Path.{is_well_formed, names_of, parent_path, root_path};
 
 use crate::path::{MAX_NAME, MAX_PATH};
 

@@ -1,15 +1,17 @@
 //! The tree of groups.
 
-ghost use Rattle.std.specs.Prelude.{◌≡◌, ◌≢◌, ℕ, ◌↔◌, ◌<◌, ◌==◌, ◌&&◌, false, not, length, IfOk, IsNone, IsTrue, OnErr, Some};
+ghost use Rattle.std.specs.Prelude.{◌≡◌, ◌≢◌, ℕ, ◌↔◌, ◌<◌, ◌==◌, ◌&&◌, false, not, length, IfOk, IsNone, IsTrue, OnErr};
+ghost use Rattle.std.specs.Prelude.{Some};
 ghost use Rattle.std.specs.Option.{option_copied};
 ghost use Rattle.std.specs.Result.{result_err};
 ghost use Rattle.group_tree.specs.Ancestors.{depth_at};
 ghost use Rattle.group_tree.specs.Bounds.{most_groups};
-ghost use Rattle.group_tree.specs.Links.{no_link};
+ghost use Rattle.group_tree.specs.Slots.{free_slot};
 ghost use Rattle.group_tree.specs.Path.{IsWellFormed};
-ghost use Rattle.group_tree.specs.Groups.{AreGroups, IsLeastFreeNumber, flagged, group_at, has_child, has_group, in_subtree, initial_groups};
-ghost use Rattle.group_tree.specs.Groups.{is_oom_group, limit_of, limited, make_fault, number_at, parent_of, path_of, the_root, with_group};
-ghost use Rattle.group_tree.specs.Groups.{with_limit, with_oom_group, without_group};
+ghost use Rattle.group_tree.specs.Groups.{AreGroups, IsLeastFreeNumber, flagged, group_at, has_child, has_group};
+ghost use Rattle.group_tree.specs.Groups.{in_subtree, initial_groups, is_oom_group, limit_of, limited, make_fault};
+ghost use Rattle.group_tree.specs.Groups.{number_at, parent_of, path_of, the_root, with_group, with_limit};
+ghost use Rattle.group_tree.specs.Groups.{with_oom_group, without_group};
 
 use crate::fault::Fault;
 use crate::group::{Group, GroupId, MAX_GROUPS};
@@ -24,12 +26,12 @@ use std::marker::Model;
 pub struct Tree {
     rows: Vec<Group>,
     // By number: whether a group has it, and what a walk to the root needs of that group.
-    links: [Link; MAX_GROUPS],
+    slots: [Slot; MAX_GROUPS],
 }
 
 // What the tree keeps of a group by its number, beside its row.
 #[derive(Clone, Copy, Debug, PartialEq, Eq)]
-struct Link {
+struct Slot {
     // Whether a group has the number.
     is_there: bool,
     // The group's parent. The root has its own number here.
@@ -44,13 +46,14 @@ impl Model for Tree {
     ghost use Rattle.std.specs.Prelude.{◌≤◌, List, vec_capacity};
     ghost use Rattle.group_tree.specs.Groups.{AreGroups, Group};
     ghost use Rattle.group_tree.specs.Bounds.{most_groups};
-    ghost use Rattle.group_tree.specs.Links.{AreLinks};
+    ghost use Rattle.group_tree.specs.Slots.{AreSlots};
 
     ghost Value = { List Group };
 
     ghost view = { λ t. t.rows.items };
 
-    ghost invariant = { λ t. AreGroups t.rows.items × (most_groups ≤ vec_capacity t.rows) × AreLinks t.rows.items t.links };
+    ghost invariant = { λ t. AreGroups t.rows.items × (most_groups ≤ vec_capacity t.rows)
+        × AreSlots t.rows.items t.slots };
 }
 
 impl Tree {
@@ -60,9 +63,9 @@ impl Tree {
     {
         let mut rows = Vec::with_capacity(alloc, MAX_GROUPS)?;
         rows.push(root_group()).unwrap();
-        let mut links = [no_link(); MAX_GROUPS];
-        links[0].is_there = true;
-        Ok(Tree { rows, links })
+        let mut slots = [free_slot(); MAX_GROUPS];
+        slots[0].is_there = true;
+        Ok(Tree { rows, slots })
     }
 
     /// The groups, in the order in which they were made; the root is the first.
@@ -84,9 +87,9 @@ impl Tree {
     pub fn contains(&self, g: GroupId) -> bool
         ensures { result ≡ has_group self.now g }
     {
-        let _ = &self.rows;
-        let link = self.links[g.number() as usize];
-        link.is_there
+        let _rows = &self.rows; // Borrowed for the invariant.
+        let slot = self.slots[g.number() as usize];
+        slot.is_there
     }
 
     /// The group with this path, or None if no group has it.
@@ -108,7 +111,7 @@ impl Tree {
         ensures value { path_of self.now g ≡ Some result.now }
         ensures formed { IsWellFormed result.now }
     {
-        let _ = &self.rows;
+        let _rows = &self.rows; // Borrowed for the invariant.
         &self.row(g).unwrap().path
     }
 
@@ -118,9 +121,9 @@ impl Tree {
         requires { IsTrue (has_group self.now g) }
         ensures { result ≡ limit_of self.now g }
     {
-        let _ = &self.rows;
-        let link = self.links[g.number() as usize];
-        link.limit
+        let _rows = &self.rows; // Borrowed for the invariant.
+        let slot = self.slots[g.number() as usize];
+        slot.limit
     }
 
     /// Whether an existing group is killed as a whole (memory.oom.group); the root never is.
@@ -129,7 +132,7 @@ impl Tree {
         requires { IsTrue (has_group self.now g) }
         ensures { result ≡ is_oom_group self.now g }
     {
-        let _ = &self.rows;
+        let _rows = &self.rows; // Borrowed for the invariant.
         self.row(g).unwrap().oom_group
     }
 
@@ -143,9 +146,9 @@ impl Tree {
         if g.number() == 0 {
             return None;
         }
-        let _ = &self.rows;
-        let link = self.links[g.number() as usize];
-        Some(link.parent)
+        let _rows = &self.rows; // Borrowed for the invariant.
+        let slot = self.slots[g.number() as usize];
+        Some(slot.parent)
     }
 
     /// How many names the path of an existing group has: 0 exactly for the root, and at most 8.
@@ -153,9 +156,9 @@ impl Tree {
         requires { IsTrue (has_group self.now g) }
         ensures { result ≡ depth_at self.now g }
     {
-        let _ = &self.rows;
-        let link = self.links[g.number() as usize];
-        link.depth
+        let _rows = &self.rows; // Borrowed for the invariant.
+        let slot = self.slots[g.number() as usize];
+        slot.depth
     }
 
     /// Whether the second of two existing groups is the first or lies below it.
@@ -164,7 +167,7 @@ impl Tree {
         requires below { IsTrue (has_group self.now h) }
         ensures { result ≡ in_subtree self.now g h }
     {
-        let _ = self.groups();
+        let _groups = self.groups(); // Called for its contract.
         self.ancestors(h).any(|above| above == g)
     }
 
@@ -254,7 +257,7 @@ impl Tree {
             oom_group: false,
         };
         self.rows.push(row).unwrap();
-        self.links[number.number() as usize] = Link {
+        self.slots[number.number() as usize] = Slot {
             is_there: true,
             parent,
             depth,
@@ -269,7 +272,7 @@ impl Tree {
         ensures { self.new ≡ with_limit self.old g limit }
     {
         set_limit(self.rows.as_mut_slice(), g, limit);
-        self.links[g.number() as usize].limit = limit;
+        self.slots[g.number() as usize].limit = limit;
     }
 
     /// Sets whether an existing group other than the root is killed as a whole.
@@ -290,7 +293,7 @@ impl Tree {
     {
         let number = g.number();
         self.rows.retain(|row| row.number.number() != number);
-        self.links[number as usize] = no_link();
+        self.slots[number as usize] = free_slot();
     }
 }
 
@@ -306,10 +309,10 @@ fn root_group() -> Group
     }
 }
 
-fn no_link() -> Link
-    ensures { result ≡ no_link }
+fn free_slot() -> Slot
+    ensures { result ≡ free_slot }
 {
-    Link {
+    Slot {
         is_there: false,
         parent: GroupId::root(),
         depth: 0,

@@ -1,21 +1,21 @@
 -- What a call means, and what it does to a live boot.
 use Rattle.std.specs.Prelude.{◌≡◌, ◌⊎◌, ℕ, ◌<◌, ◌≤◌, List, Some, false}
 use Rattle.frame_word.specs.Seats.{KnownTable}
-use Rattle.stock_word.specs.Stock.{Words}
+use Rattle.stock_word.specs.Stock.{KnownStockTable}
 use Rattle.group_tree.specs.Bounds.{most_groups}
 use Rattle.group_tree.specs.declared.group.Group.{Group}
 use Rattle.group_tree.specs.Groups.{has_group, path_of}
 use Rattle.group_charge.specs.Charges.{Ledger}
+use Rattle.control_files.specs.declared.file.File.{File}
+use Rattle.mem_system.specs.declared.command.Reply.{Reply}
 use Rattle.mem_system.specs.declared.command.Reply.TheVariants as reply
-use Rattle.mem_system.specs.declared.outcome.Outcome.{Outcome}
 use Rattle.mem_system.specs.declared.outcome.Outcome.TheVariants as outcome
-use Rattle.reply_texts.specs.Answer.{Answer, Served}
+use Rattle.mem_system.specs.Outcomes.{HasItsGroups, reply_of}
+use Rattle.reply_texts.specs.Answer.{Answer}
 use Rattle.script_lines.specs.declared.line.Command.{Command}
 use Rattle.script_lines.specs.declared.line.Command.TheVariants as cmd
-use Rattle.script_replay.specs.declared.said.Said.{Said}
-use Rattle.script_replay.specs.declared.said.Said.TheVariants as said
 use Rattle.script_replay.specs.Terms.{boot_tables}
-use Rattle.script_replay.specs.Typed.{SaysCommand, answer_of}
+use Rattle.script_replay.specs.Typed.{SaysCommand, SaysItsGroups, answer_of}
 use Rattle.handles.specs.Known.{KnownLive}
 use Rattle.handles.specs.Commands.{SameButState}
 use Rattle.handles.specs.declared.calls.FrameCall.{FrameCall}
@@ -24,6 +24,8 @@ use Rattle.handles.specs.declared.calls.Call.{Call}
 use Rattle.handles.specs.declared.calls.Call.TheVariants as call
 use Rattle.handles.specs.declared.calls.Told.{Told}
 use Rattle.handles.specs.declared.calls.Told.TheVariants as told
+use Rattle.handles.specs.declared.calls.Shown.{Shown}
+use Rattle.handles.specs.declared.calls.Shown.TheVariants as shown
 
 -- the script's command that does this at a frame
 abbrev pub frame_command : FrameCall → ℕ → Command
@@ -38,11 +40,11 @@ frame_command at.Owner frame = cmd.Owner frame
 -- The call means this command of a script, if these are the groups. A group that a call names by its number is named by
 -- its path in a script
 abbrev pub Means : List Group → Call → Command → Type 0
-Means groups (call.Mkdir path) (cmd.Mkdir named) = named.now ≡ path.items
-Means groups (call.Rmdir path) (cmd.Rmdir named) = named.now ≡ path.items
+Means groups (call.Mkdir path) (cmd.Mkdir named) = named.now ≡ path.now
+Means groups (call.Rmdir path) (cmd.Rmdir named) = named.now ≡ path.now
 Means groups (call.Write path file value) (cmd.Write named in_file text) =
-    (named.now ≡ path.items) × ((in_file.now ≡ file.items) × (text.now ≡ value.items))
-Means groups (call.Read path file) (cmd.Read named in_file) = (named.now ≡ path.items) × (in_file.now ≡ file.items)
+    (named.now ≡ path.now) × ((in_file.now ≡ file.now) × (text.now ≡ value.now))
+Means groups (call.Read path file) (cmd.Read named in_file) = (named.now ≡ path.now) × (in_file.now ≡ file.now)
 Means groups (call.Alloc group order) (cmd.Alloc named as_order) =
     (path_of groups group ≡ Some named.now) × (as_order ≡ order)
 Means groups (call.AtFrame frame what) command = command ≡ frame_command what frame
@@ -50,9 +52,9 @@ Means groups call.Settle cmd.Settle = Unit {0}
 Means groups other command = ⊥
 
 -- there is a CPU of this number
-pub record IsCpu (cpus processor : ℕ) : Type 0 where
-  pub low : 1 ≤ processor
-  pub high : processor ≤ cpus
+pub record IsCpu (cpus cpu : ℕ) : Type 0 where
+  pub low : 1 ≤ cpu
+  pub high : cpu ≤ cpus
 
 -- the frame that the call names isn't in the zone
 abbrev pub NamesNoFrame : (frames : ℕ) → Call → Type 0
@@ -68,41 +70,31 @@ abbrev pub NamesNoGroup : List Group → Call → Type 0
 NamesNoGroup groups (call.Alloc group order) = HasNoGroup groups group
 NamesNoGroup groups other = ⊥
 
--- the outcome isn't a text
-abbrev pub IsPlainOutcome : Outcome → Type 0
-IsPlainOutcome (outcome.Text group file) = ⊥
-IsPlainOutcome other = Unit {0}
-
--- the answer isn't a text
-abbrev pub IsPlain : Said → Type 0
-IsPlain (said.Served outcome) = IsPlainOutcome outcome
-IsPlain other = Unit {0}
-
--- this is told of the answer, with the texts that the ledger gives it
+-- what is told is this answer, with the texts that the ledger after the command gives it
 abbrev pub IsTold : Ledger → Answer → Told → Type 0
-IsTold ledger answer (told.Said said) = IsPlain said × (answer ≡ answer_of ledger said)
-IsTold ledger answer (told.Text text) = answer ≡ Served (reply.Text text)
+IsTold ledger answer (told.Said said) = SaysItsGroups ledger said × (answer ≡ answer_of ledger said)
 IsTold ledger answer other = ⊥
 
 -- the command was served with this answer, and nothing else changed
-pub record ServesCommand (frames : KnownTable) (stocks : Words) (processor : ℕ) (command : Command)
+pub record ServesCommand (frames : KnownTable) (stock_table : KnownStockTable) (cpu : ℕ) (command : Command)
     (from to : KnownLive) (answer : Answer) : Type 0 where
-  pub says : SaysCommand (boot_tables frames stocks) processor command from.state to.state answer
+  pub says : SaysCommand (boot_tables frames stock_table) cpu command from.state to.state answer
   pub rest : SameButState from to
 
 -- the command was served, and this is told of its answer
-pub record TellsCommand (frames : KnownTable) (stocks : Words) (processor : ℕ) (command : Command)
+pub record TellsCommand (frames : KnownTable) (stock_table : KnownStockTable) (cpu : ℕ) (command : Command)
     (from to : KnownLive) (said : Told) : Type 0 where
   pub answer : Answer
-  pub serves : ServesCommand frames stocks processor command from to answer
+  pub serves : ServesCommand frames stock_table cpu command from to answer
   pub is_told : IsTold to.state.locked.machine.ledger answer said
 
 -- the call was served as the command of a script that it means, and this is told of the answer
-pub record ServesCall (frames : KnownTable) (stocks : Words) (processor : ℕ) (asked : Call) (from to : KnownLive)
+pub record ServesCall (frames : KnownTable) (stock_table : KnownStockTable) (cpu : ℕ) (asked : Call)
+    (from to : KnownLive)
     (said : Told) : Type 0 where
   pub command : Command
   pub means : Means from.state.locked.machine.ledger.groups asked command
-  pub tells : TellsCommand frames stocks processor command from to said
+  pub tells : TellsCommand frames stock_table cpu command from to said
 
 -- the call names what isn't there, and nothing is done
 pub record RefusesCall (is_missing : Type 0) (from to : KnownLive) : Type 0 where
@@ -110,12 +102,24 @@ pub record RefusesCall (is_missing : Type 0) (from to : KnownLive) : Type 0 wher
   pub stays : to ≡ from
 
 -- what a call of a CPU does, and what it is told; the CPU is looked for first
-abbrev pub Calls : KnownTable → Words → (processor : ℕ) → Call → (from to : KnownLive) → Told → Type 0
-Calls frames stocks processor asked from to (told.Said said) =
-    ServesCall frames stocks processor asked from to (told.Said said)
-Calls frames stocks processor asked from to (told.Text text) =
-    ServesCall frames stocks processor asked from to (told.Text text)
-Calls frames stocks processor asked from to told.NoCpu = RefusesCall (¬ IsCpu from.sizes.cpus processor) from to
-Calls frames stocks processor asked from to told.NoFrame = RefusesCall (NamesNoFrame from.sizes.frames asked) from to
-Calls frames stocks processor asked from to told.NoGroup =
+abbrev pub Calls : KnownTable → KnownStockTable → (cpu : ℕ) → Call → (from to : KnownLive) → Told → Type 0
+Calls frames stock_table cpu asked from to (told.Said said) =
+    ServesCall frames stock_table cpu asked from to (told.Said said)
+Calls frames stock_table cpu asked from to told.NoCpu = RefusesCall (¬ IsCpu from.sizes.cpus cpu) from to
+Calls frames stock_table cpu asked from to told.NoFrame = RefusesCall (NamesNoFrame from.sizes.frames asked) from to
+Calls frames stock_table cpu asked from to told.NoGroup =
     RefusesCall (NamesNoGroup from.state.locked.machine.ledger.groups asked) from to
+
+-- the group exists, and isn't the root, which has no files
+abbrev pub HasFile : (group : ℕ) → File → KnownLive → Type 0
+HasFile group file live = HasItsGroups live.state.locked.machine.ledger (outcome.Text group file)
+
+-- what a file shows, as the reply to a read of it
+abbrev pub shown_reply : Shown → Reply
+shown_reply (shown.Text text) = reply.Text text
+shown_reply (shown.Refused fault) = reply.Refused fault
+
+-- this is the reply to a read of the file, and nothing is done
+pub record ShowsFile (group : ℕ) (file : File) (from to : KnownLive) (shown : Shown) : Type 0 where
+  pub reply_is : shown_reply shown ≡ reply_of from.state.locked.machine.ledger (outcome.Text group file)
+  pub stays : to ≡ from

@@ -1,7 +1,7 @@
 -- What a live boot does when it is given a script.
 use Rattle.std.specs.Prelude.{◌≡◌, ◌⊎◌, ℕ, Bool, List, []}
 use Rattle.frame_word.specs.Seats.{KnownTable}
-use Rattle.stock_word.specs.Stock.{Words}
+use Rattle.stock_word.specs.Stock.{KnownStockTable}
 use Rattle.zone_sizes.specs.declared.config.Config.{Config}
 use Rattle.script_lines.specs.declared.line.Line.{Line}
 use Rattle.script_lines.specs.declared.fault.ScriptFault.{ScriptFault}
@@ -47,9 +47,9 @@ pub record TakesKept (before after : KnownLive) (text : List ℕ) : Type 0 where
   pub after_is : after ≡ with_kept before []
 
 -- the text is a script, and its lines are replayed
-pub record AnswersScript (frames : KnownTable) (stocks : Words) (text : List ℕ) (is_explained : Bool)
+pub record AnswersScript (frames : KnownTable) (stock_table : KnownStockTable) (text : List ℕ) (is_explained : Bool)
     (answers : List ℕ) (from to : KnownLive) : Type 0 where
-  pub replays : ReplaysText (terms frames stocks is_explained) from.sizes text from.state to.state answers
+  pub replays : ReplaysText (terms frames stock_table is_explained) from.sizes text from.state to.state answers
   pub rest : SameButState from to
 
 -- the first bad line of the text is this, and nothing is done
@@ -58,14 +58,14 @@ pub record RefusesScript (text : List ℕ) (number : ℕ) (from to : KnownLive) 
   pub stays : to ≡ from
 
 -- memory ran out before the first line, or for the answer of a line that was served
-pub record RunsOut (frames : KnownTable) (stocks : Words) (text : List ℕ) (is_explained : Bool)
+pub record RunsOut (frames : KnownTable) (stock_table : KnownStockTable) (text : List ℕ) (is_explained : Bool)
     (from to : KnownLive) : Type 0 where
   pub served : (to.state ≡ from.state)
-      ⊎ StopsText (terms frames stocks is_explained) from.sizes text from.state to.state
+      ⊎ StopsText (terms frames stock_table is_explained) from.sizes text from.state to.state
   pub rest : SameButState from to
 
 -- why a script has no answers, and what was done
-abbrev pub FailsScript : (frames : KnownTable) (stocks : Words) (text : List ℕ) (is_explained : Bool)
+abbrev pub FailsScript : (frames : KnownTable) (stock_table : KnownStockTable) (text : List ℕ) (is_explained : Bool)
     (from to : KnownLive) → ScriptFault → Type 0
-FailsScript frames stocks text is_explained from to (BadLine number) = RefusesScript text number from to
-FailsScript frames stocks text is_explained from to NoMemory = RunsOut frames stocks text is_explained from to
+FailsScript frames stock_table text is_explained from to (BadLine number) = RefusesScript text number from to
+FailsScript frames stock_table text is_explained from to NoMemory = RunsOut frames stock_table text is_explained from to

@@ -14,7 +14,7 @@ use Rattle.core.specs.contracts.marker.Brand as Brand
 use Rattle.std_heap.specs.contracts.GlobalAllocator.TheImpl.{ghosts}
 use Rattle.frame_word.specs.Seats.{KnownTable}
 use Rattle.frame_word.specs.contracts.words.FrameWords as FrameWords
-use Rattle.stock_word.specs.Stock.{Words}
+use Rattle.stock_word.specs.Stock.{KnownStockTable}
 use Rattle.stock_word.specs.contracts.kinds.StockWords as StockWords
 use Rattle.handles.specs.Known.{KnownLive}
 use Rattle.handles.specs.contracts.live.Live as Live
@@ -25,7 +25,7 @@ abbrev pub frames_coded : Coded KnownTable
 frames_coded = FrameWords.the_row.coded
 
 -- how a table of the stocks' words is stored
-abbrev pub stocks_coded : Coded Words
+abbrev pub stocks_coded : Coded KnownStockTable
 stocks_coded = StockWords.the_row.coded
 
 -- the type that a call passes for a name
@@ -37,15 +37,15 @@ abbrev pub marker : RattleType
 marker = param 0 brand
 
 -- the parts of a boot of these tables, under a name
-abbrev pub live_row : RattleType → KnownTable → Words → RattleType
-live_row name frames stocks = Live.the_row name (record { frames = frames; stocks = stocks })
+abbrev pub live_row : RattleType → KnownTable → KnownStockTable → RattleType
+live_row name frames stock_table = Live.the_row name (record { frames = frames; stocks = stock_table })
 
 -- how the parts of a boot are stored, if there are any
 abbrev pub known_coded : Coded (Option KnownLive)
 known_coded = coded_option (Known.the_code Brand.the_row.Denot Brand.the_row.coded)
 
 -- a pointer to the parts of a boot owns them as a box does; a pointer to nothing owns nothing
-abbrev pub live_owns : RattleType → KnownTable → Words → Global → Ptr → Option KnownLive → Fml
-live_owns name frames stocks alloc ptr None = ftrue
-live_owns name frames stocks alloc ptr (Some live) =
-    box_owns (ghosts.dealloc_token alloc) (live_row name frames stocks) ptr live
+abbrev pub live_owns : RattleType → KnownTable → KnownStockTable → Global → Ptr → Option KnownLive → Fml
+live_owns name frames stock_table alloc ptr None = ftrue
+live_owns name frames stock_table alloc ptr (Some live) =
+    box_owns (ghosts.dealloc_token alloc) (live_row name frames stock_table) ptr live

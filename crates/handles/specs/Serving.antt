@@ -1,16 +1,15 @@
 -- What each request does to a live boot.
 use Rattle.std.specs.Prelude.{◌≡◌, [], Option, None, Some}
 use Rattle.frame_word.specs.Seats.{KnownTable}
-use Rattle.stock_word.specs.Stock.{Words}
+use Rattle.stock_word.specs.Stock.{KnownStockTable}
 use Rattle.zone_sizes.specs.declared.config.Config.{Config}
 use Rattle.load_run.specs.Answers.{StandsAtFirst}
 use Rattle.load_run.specs.Ending.{EndsHeld}
 use Rattle.load_run.specs.declared.boot_end.Ended.{Ended}
 use Rattle.handles.specs.Known.{KnownLive}
-use Rattle.handles.specs.Calls.{Calls}
 use Rattle.handles.specs.Commands.{AnswersScript, RefusesScript, RunsOut, TakesKept, with_kept}
 use Rattle.handles.specs.declared.requests.Request.{Request}
-use Rattle.handles.specs.declared.requests.Request.TheVariants.{Start, Command, Call, Keep, Recall, End}
+use Rattle.handles.specs.declared.requests.Request.TheVariants.{Start, Command, Keep, Recall, End}
 use Rattle.handles.specs.declared.requests.Answer.{Answer}
 use Rattle.handles.specs.declared.requests.Answer.TheVariants as said
 
@@ -18,47 +17,42 @@ use Rattle.handles.specs.declared.requests.Answer.TheVariants as said
 abbrev pub frames_of : KnownTable → Request → KnownTable
 frames_of frames (Start alloc boot sizes) = boot.frames
 frames_of frames (Command alloc text is_explained) = frames
-frames_of frames (Call processor call) = frames
 frames_of frames (Keep text) = frames
 frames_of frames (Recall alloc) = frames
 frames_of frames (End alloc) = frames
 
 -- the stocks' table after a request
-abbrev pub stocks_of : Words → Request → Words
-stocks_of stocks (Start alloc boot sizes) = boot.stocks
-stocks_of stocks (Command alloc text is_explained) = stocks
-stocks_of stocks (Call processor call) = stocks
-stocks_of stocks (Keep text) = stocks
-stocks_of stocks (Recall alloc) = stocks
-stocks_of stocks (End alloc) = stocks
+abbrev pub stocks_of : KnownStockTable → Request → KnownStockTable
+stocks_of stock_table (Start alloc boot sizes) = boot.stocks
+stocks_of stock_table (Command alloc text is_explained) = stock_table
+stocks_of stock_table (Keep text) = stock_table
+stocks_of stock_table (Recall alloc) = stock_table
+stocks_of stock_table (End alloc) = stock_table
 
 -- what may be asked: a start if there is no boot, and the boot has the sizes that are named; all else if there is one
 abbrev pub IsFit : Option KnownLive → Request → Type 0
 IsFit None (Start alloc boot sizes) = boot.sizes ≡ sizes
 IsFit None (Command alloc text is_explained) = ⊥
-IsFit None (Call processor call) = ⊥
 IsFit None (Keep text) = ⊥
 IsFit None (Recall alloc) = ⊥
 IsFit None (End alloc) = ⊥
 IsFit (Some live) (Start alloc boot sizes) = ⊥
 IsFit (Some live) (Command alloc text is_explained) = Unit {0}
-IsFit (Some live) (Call processor call) = Unit {0}
 IsFit (Some live) (Keep text) = Unit {0}
 IsFit (Some live) (Recall alloc) = Unit {0}
 IsFit (Some live) (End alloc) = Unit {0}
 
 -- a boot that is started has these tables
-abbrev pub IsNamed : KnownTable → Words → Request → Type 0
-IsNamed frames stocks (Start alloc boot sizes) = (boot.frames ≡ frames) × (boot.stocks ≡ stocks)
-IsNamed frames stocks (Command alloc text is_explained) = Unit {0}
-IsNamed frames stocks (Call processor call) = Unit {0}
-IsNamed frames stocks (Keep text) = Unit {0}
-IsNamed frames stocks (Recall alloc) = Unit {0}
-IsNamed frames stocks (End alloc) = Unit {0}
+abbrev pub IsNamed : KnownTable → KnownStockTable → Request → Type 0
+IsNamed frames stock_table (Start alloc boot sizes) = (boot.frames ≡ frames) × (boot.stocks ≡ stock_table)
+IsNamed frames stock_table (Command alloc text is_explained) = Unit {0}
+IsNamed frames stock_table (Keep text) = Unit {0}
+IsNamed frames stock_table (Recall alloc) = Unit {0}
+IsNamed frames stock_table (End alloc) = Unit {0}
 
 -- what may be asked under the name of these tables
-abbrev pub IsAsked : KnownTable → Words → Option KnownLive → Request → Type 0
-IsAsked frames stocks live request = IsFit live request × IsNamed frames stocks request
+abbrev pub IsAsked : KnownTable → KnownStockTable → Option KnownLive → Request → Type 0
+IsAsked frames stock_table live request = IsFit live request × IsNamed frames stock_table request
 
 -- there is a boot before and after, and `does` leads from one to the other
 pub record OnLive (does : (from to : KnownLive) → Type 0) (before after : Option KnownLive) : Type 0 where
@@ -68,44 +62,54 @@ pub record OnLive (does : (from to : KnownLive) → Type 0) (before after : Opti
   pub is : after ≡ Some to
   pub done : does from to
 
+-- there is a boot before and after, `does` leads from one to the other, and the tables stay
+pub record OnRaw (does : (from to : KnownLive) → Type 0) (old_frames : KnownTable) (old_stock_table : KnownStockTable)
+    (before : Option KnownLive) (frames : KnownTable) (stock_table : KnownStockTable) (after : Option KnownLive) :
+    Type 0 where
+  pub frames_are : frames ≡ old_frames
+  pub stocks_are : stock_table ≡ old_stock_table
+  pub on_live : OnLive does before after
+
 -- a boot of these sizes stands as at first, and no answer is kept
-pub record Starts (frames : KnownTable) (stocks : Words) (sizes : Config) (after : Option KnownLive) : Type 0 where
+pub record Starts (frames : KnownTable) (stock_table : KnownStockTable) (sizes : Config)
+    (after : Option KnownLive) : Type 0 where
   pub live : KnownLive
   pub is : after ≡ Some live
-  pub first : StandsAtFirst sizes frames stocks live.state
+  pub first : StandsAtFirst sizes frames stock_table live.state
   pub sizes_are : live.sizes ≡ sizes
   pub none_kept : live.kept ≡ []
 
 -- the boot ended, with this report
-pub record Ends (frames : KnownTable) (stocks : Words) (before after : Option KnownLive) (ended : Ended) : Type 0 where
+pub record Ends (frames : KnownTable) (stock_table : KnownStockTable) (before after : Option KnownLive)
+    (ended : Ended) : Type 0 where
   pub from : KnownLive
   pub was : before ≡ Some from
   pub is : after ≡ None
-  pub ends : EndsHeld frames stocks from.state ended
+  pub ends : EndsHeld frames stock_table from.state ended
 
 -- What a request does under the name of these tables, and what is answered
-abbrev pub Serves : KnownTable → Words → (before : Option KnownLive) (request : Request) (after : Option KnownLive)
+abbrev pub Serves : KnownTable → KnownStockTable
+    → (before : Option KnownLive) (request : Request) (after : Option KnownLive)
     (answer : Answer) → Type 0
-Serves frames stocks before (Start alloc boot sizes) after said.Done = Starts frames stocks sizes after
-Serves frames stocks before (Start alloc boot sizes) after said.NoMemory = after ≡ None
-Serves frames stocks before (Command alloc text is_explained) after (said.Text answers) =
-    OnLive (AnswersScript frames stocks text.items is_explained answers.items) before after
-Serves frames stocks before (Command alloc text is_explained) after (said.BadLine number) =
+Serves frames stock_table before (Start alloc boot sizes) after said.Done = Starts frames stock_table sizes after
+Serves frames stock_table before (Start alloc boot sizes) after said.NoMemory = after ≡ None
+Serves frames stock_table before (Command alloc text is_explained) after (said.Text answers) =
+    OnLive (AnswersScript frames stock_table text.items is_explained answers.items) before after
+Serves frames stock_table before (Command alloc text is_explained) after (said.BadLine number) =
     OnLive (RefusesScript text.items number) before after
-Serves frames stocks before (Command alloc text is_explained) after said.NoMemory =
-    OnLive (RunsOut frames stocks text.items is_explained) before after
-Serves frames stocks before (Call processor call) after (said.Told told) =
-    OnLive (λ from to. Calls frames stocks processor call from to told) before after
-Serves frames stocks before (Keep text) after said.Done =
+Serves frames stock_table before (Command alloc text is_explained) after said.NoMemory =
+    OnLive (RunsOut frames stock_table text.items is_explained) before after
+Serves frames stock_table before (Keep text) after said.Done =
     OnLive (λ from to. to ≡ with_kept from text.items) before after
-Serves frames stocks before (Recall alloc) after (said.Text text) =
+Serves frames stock_table before (Recall alloc) after (said.Text text) =
     OnLive (λ from to. TakesKept from to text.items) before after
-Serves frames stocks before (End alloc) after (said.Ended ended) = Ends frames stocks before after ended
-Serves frames stocks before request after answer = ⊥
+Serves frames stock_table before (End alloc) after (said.Ended ended) = Ends frames stock_table before after ended
+Serves frames stock_table before request after answer = ⊥
 
 -- what a request does, with the tables before and after it
-pub record ServesRaw (old_frames : KnownTable) (old_stocks : Words) (before : Option KnownLive) (request : Request)
-    (frames : KnownTable) (stocks : Words) (after : Option KnownLive) (answer : Answer) : Type 0 where
+pub record ServesRaw (old_frames : KnownTable) (old_stock_table : KnownStockTable) (before : Option KnownLive)
+    (request : Request)
+    (frames : KnownTable) (stock_table : KnownStockTable) (after : Option KnownLive) (answer : Answer) : Type 0 where
   pub frames_are : frames ≡ frames_of old_frames request
-  pub stocks_are : stocks ≡ stocks_of old_stocks request
-  pub serves : Serves frames stocks before request after answer
+  pub stocks_are : stock_table ≡ stocks_of old_stock_table request
+  pub serves : Serves frames stock_table before request after answer

@@ -1,6 +1,7 @@
-//! What a host asks of a live boot by a call, and what it is told. Neither has a reference in it.
+//! What a host asks of a live boot by a call, and what it is told. A call borrows its texts, and what is told has none.
 
 use control_files::text::ArrayText;
+use group_tree::fault::Fault;
 use script_lines::line::Command;
 use script_replay::Said;
 
@@ -24,26 +25,26 @@ pub enum FrameCall {
 }
 
 /// A command, as a call names it.
-#[derive(Drop)]
-pub enum Call {
+#[derive(Clone, Copy, Debug, PartialEq, Eq)]
+pub enum Call<'a> {
     /// Makes the group of this path.
     Mkdir {
-        path: Vec<u8>,
+        path: &'a [u8],
     },
     /// Removes the group of this path.
     Rmdir {
-        path: Vec<u8>,
+        path: &'a [u8],
     },
     /// Writes a value to a file of the group of this path.
     Write {
-        path: Vec<u8>,
-        file: Vec<u8>,
-        value: Vec<u8>,
+        path: &'a [u8],
+        file: &'a [u8],
+        value: &'a [u8],
     },
     /// Reads the text of a file of the group of this path.
     Read {
-        path: Vec<u8>,
-        file: Vec<u8>,
+        path: &'a [u8],
+        file: &'a [u8],
     },
     /// Takes a block of 2^order frames, charged to the group of this number.
     Alloc {
@@ -60,18 +61,25 @@ pub enum Call {
 }
 
 /// What a call is told.
-#[derive(Clone, Copy, Debug, PartialEq, Eq)]
+#[derive(Clone, Copy, PartialEq, Eq)]
 pub enum Told {
-    /// It was served with this answer, which isn't a text.
+    /// It was served with this answer.
     Said(Said),
-    /// The text of the file.
-    Text(ArrayText),
     /// The zone has no such CPU, and nothing was done.
     NoCpu,
     /// The zone has no such frame, and nothing was done.
     NoFrame,
     /// No group has such a number, and nothing was done.
     NoGroup,
+}
+
+/// What a file of a group shows.
+#[derive(Clone, Copy, Debug, PartialEq, Eq)]
+pub enum Shown {
+    /// Its text.
+    Text(ArrayText),
+    /// It can't be read, for this reason.
+    Refused(Fault),
 }
 
 impl FrameCall {

@@ -1,32 +1,33 @@
 //! The parts of a boot between calls.
 
-ghost use Rattle.std.specs.Prelude.{◌≡◌, [], IfErr, IfNone, IfOk, IfSome, Some, length};
-ghost use Rattle.group_tree.specs.Groups.{path_of};
+ghost use Rattle.std.specs.Prelude.{◌≡◌, [], IfErr, IfNone, IfOk, IfSome, IsTrue, length};
+ghost use Rattle.group_tree.specs.Groups.{has_group};
+ghost use Rattle.mem_system.specs.declared.outcome.Outcome.TheVariants.{Text};
 ghost use Rattle.mem_system.specs.Boots.{IsSizedAs};
+ghost use Rattle.mem_system.specs.Outcomes.{HasItsGroups, reply_of};
 ghost use Rattle.script_replay.specs.Lines.{system_state};
 ghost use Rattle.script_replay.specs.Ranges.{IsThere};
 ghost use Rattle.script_replay.specs.Terms.{terms};
-ghost use Rattle.script_replay.specs.Typed.{IsShort, SaysItsGroups, answer_of};
+ghost use Rattle.script_replay.specs.Typed.{IsShort};
 ghost use Rattle.script_replay.specs.Works.{work_of};
 ghost use Rattle.load_run.specs.Answers.{StandsAtFirst};
 ghost use Rattle.load_run.specs.Ending.{EndsHeld};
-ghost use Rattle.handles.specs.Calls.{Calls, HasNoGroup, IsCpu, IsTold, TellsCommand};
+ghost use Rattle.handles.specs.Calls.{Calls, HasNoGroup, IsCpu, TellsCommand, shown_reply};
 ghost use Rattle.handles.specs.declared.calls.Call.TheVariants.{Alloc, AtFrame};
 ghost use Rattle.handles.specs.Commands.{AnswersScript, FailsScript, FailsText, ReplaysText, TakesKept};
 ghost use Rattle.handles.specs.Commands.{with_kept};
 
-use crate::calls::{Call, FrameCall, Told};
-use control_files::file::file_text;
+use crate::calls::{Call, FrameCall, Shown, Told};
+use control_files::file::{File, file_text};
 use cpu_part::{BootName, Cpu, Tables};
 use group_charge::charges::Charges;
 use group_tree::group::GroupId;
-use group_tree::path::PathText;
 use load_run::boot_end::{Ended, end_boot};
-use mem_system::{Boot, Locked, Outcome};
+use mem_system::{Boot, Locked};
 use script_lines::fault::ScriptFault;
 use script_lines::line::Command;
 use script_lines::script::parse_script;
-use script_replay::{Form, Said, replay, serve_typed};
+use script_replay::{Form, replay, serve_typed};
 use std::alloc::{AllocError, Global};
 use std::marker::Model;
 use zone_sizes::config::Config;
@@ -104,62 +105,67 @@ impl<N: BootName> Live<N> {
 
     /// Serves a call of the CPU of this number, and returns what it is told. If the call names what isn't there,
     /// nothing is done. No memory is taken.
-    pub fn call(&mut self, processor: u32, call: &Call) -> Told
-        ensures { Calls N.frames N.stocks processor call.now self.old self.new result }
+    pub fn call(&mut self, cpu: u32, call: &Call<'_>) -> Told
+        ensures { Calls N.frames N.stocks cpu call.now self.old self.new result }
     {
-        if processor == 0 || processor as usize > self.cpus.len() {
+        if cpu == 0 || cpu as usize > self.cpus.len() {
             return Told::NoCpu;
         }
-        match call {
-            Call::Mkdir { path } => self.serve(processor, &Command::Mkdir { path }),
-            Call::Rmdir { path } => self.serve(processor, &Command::Rmdir { path }),
+        match *call {
+            Call::Mkdir { path } => self.serve(cpu, &Command::Mkdir { path }),
+            Call::Rmdir { path } => self.serve(cpu, &Command::Rmdir { path }),
             Call::Write { path, file, value } => {
-                self.serve(processor, &Command::Write { path, file, value })
+                self.serve(cpu, &Command::Write { path, file, value })
             }
-            Call::Read { path, file } => self.serve(processor, &Command::Read { path, file }),
-            Call::Alloc { group, order } => self.allocate(processor, *group, *order),
-            Call::AtFrame { frame, what } => self.serve_at(processor, *frame, *what),
-            Call::Settle => self.serve(processor, &Command::Settle),
+            Call::Read { path, file } => self.serve(cpu, &Command::Read { path, file }),
+            Call::Alloc { group, order } => self.allocate(cpu, group, order),
+            Call::AtFrame { frame, what } => self.serve_at(cpu, frame, what),
+            Call::Settle => self.serve(cpu, &Command::Settle),
         }
     }
 
     // Serves a command of a CPU that is there, as is all that the command names.
-    fn serve(&mut self, processor: u32, command: &Command<'_>) -> Told
-        requires there { IsThere N.frames.frames (length self.old.state.cpus) processor command.now }
+    fn serve(&mut self, cpu: u32, command: &Command<'_>) -> Told
+        requires there { IsThere N.frames.frames (length self.old.state.cpus) cpu command.now }
         requires short { IsShort (work_of command.now) }
-        ensures { TellsCommand N.frames N.stocks processor command.now self.old self.new result }
+        ensures { TellsCommand N.frames N.stocks cpu command.now self.old self.new result }
     {
-        let said = serve_typed(
-            &mut self.locked,
-            &self.tables,
-            &mut self.cpus,
-            processor,
-            command,
-        );
-        tell(self.locked.charges(), &said)
+        Told::Said(serve_typed(&mut self.locked, &self.tables, &mut self.cpus, cpu, command))
     }
 
     // Serves a call that names a frame, of a CPU that is there.
-    fn serve_at(&mut self, processor: u32, frame: u32, what: FrameCall) -> Told
-        requires there { IsCpu (length self.old.state.cpus) processor }
-        ensures { Calls N.frames N.stocks processor (AtFrame frame what) self.old self.new result }
+    fn serve_at(&mut self, cpu: u32, frame: u32, what: FrameCall) -> Told
+        requires there { IsCpu (length self.old.state.cpus) cpu }
+        ensures { Calls N.frames N.stocks cpu (AtFrame frame what) self.old self.new result }
     {
         if frame >= self.sizes.frames {
             return Told::NoFrame;
         }
-        self.serve(processor, &what.command(frame))
+        self.serve(cpu, &what.command(frame))
     }
 
     // Takes a block for the group of this number, at a CPU that is there.
-    fn allocate(&mut self, processor: u32, group: u32, order: u32) -> Told
-        requires there { IsCpu (length self.old.state.cpus) processor }
-        ensures { Calls N.frames N.stocks processor (Alloc group order) self.old self.new result }
+    fn allocate(&mut self, cpu: u32, group: u32, order: u32) -> Told
+        requires there { IsCpu (length self.old.state.cpus) cpu }
+        ensures { Calls N.frames N.stocks cpu (Alloc group order) self.old self.new result }
     {
-        let Some(path) = path_of(self.locked.charges(), group) else {
+        let Some(group) = find_group(self.locked.charges(), group) else {
             return Told::NoGroup;
         };
+        let path = *self.locked.charges().tree().path_of(group);
         let path = path.as_bytes();
-        self.serve(processor, &Command::Alloc { path, order })
+        self.serve(cpu, &Command::Alloc { path, order })
+    }
+
+    /// What a file of a group shows. The group exists, and isn't the root, which has no files.
+    pub fn show(&self, group: GroupId, file: File) -> Shown
+        requires there { HasItsGroups self.now.state.locked.machine.ledger (Text group file) }
+        ensures { shown_reply result ≡ reply_of self.now.state.locked.machine.ledger (Text group file) }
+    {
+        match file_text(self.locked.charges(), group, file) {
+            Ok(text) => Shown::Text(text),
+            Err(fault) => Shown::Refused(fault),
+        }
     }
 
     /// Keeps this text in place of the one that was kept.
@@ -197,32 +203,18 @@ impl<N: BootName> Drop for Live<N> {
     }
 }
 
-// The path of the group of this number; None if there is none.
-fn path_of(charges: &Charges, group: u32) -> Option<PathText>
-    ensures there { IfSome result (λ path. path_of charges.now.groups group ≡ Some path) }
-    ensures none { IfNone result (HasNoGroup charges.now.groups group) }
+// The group of this number; None if there is none.
+fn find_group(charges: &Charges, number: u32) -> Option<GroupId>
+    ensures found { IfSome result (λ group. (group ≡ number) × IsTrue (has_group charges.now.groups group)) }
+    ensures none { IfNone result (HasNoGroup charges.now.groups number) }
 {
-    let Some(group) = GroupId::of(group) else {
+    let Some(group) = GroupId::of(number) else {
         return None;
     };
     if !charges.tree().contains(group) {
         return None;
     }
-    Some(*charges.tree().path_of(group))
-}
-
-// What is told of an answer, with the texts that the charges give it.
-fn tell(charges: &Charges, said: &Said) -> Told
-    requires { SaysItsGroups charges.now said.now }
-    ensures { IsTold charges.now (answer_of charges.now said.now) result }
-{
-    match *said {
-        Said::Served(Outcome::Text(group, file)) => match file_text(charges, group, file) {
-            Ok(text) => Told::Text(text),
-            Err(fault) => Told::Said(Said::Served(Outcome::Refused(fault))),
-        },
-        _ => Told::Said(*said),
-    }
+    Some(group)
 }
 
 // Serves the lines of a script on the parts of a boot of these sizes.

@@ -1,16 +1,20 @@
 //! A pointer to the parts of a boot, or to nothing, without a name.
 
-ghost use Rattle.std.specs.Prelude.{◌≡◌, None, Option};
+ghost use Rattle.std.specs.Prelude.{◌≡◌, IsSome, IsSomeAnd, None, Option};
 ghost use Rattle.frame_word.specs.Seats.{KnownTable};
-ghost use Rattle.stock_word.specs.Stock.{Words};
+ghost use Rattle.stock_word.specs.Stock.{KnownStockTable};
+ghost use Rattle.handles.specs.Calls.{Calls, HasFile, ShowsFile};
 ghost use Rattle.handles.specs.Known.{KnownLive};
 ghost use Rattle.handles.specs.Owned.{frames_coded, known_coded, live_owns, marker, stocks_coded};
-ghost use Rattle.handles.specs.Serving.{IsFit, ServesRaw};
+ghost use Rattle.handles.specs.Serving.{IsFit, OnRaw, ServesRaw};
 
+use crate::calls::{Call, Shown, Told};
 use crate::hold::Hold;
 use crate::live::Live;
 use crate::requests::{Answer, Request};
-use crate::serving::serve;
+use crate::serving::{serve, serve_call, show_file};
+use control_files::file::File;
+use group_tree::group::GroupId;
 use std::alloc::Global;
 use std::marker::{Brand, Model};
 
@@ -22,7 +26,7 @@ pub struct Raw {
     ptr: *mut u8,
     alloc: Global,
     pub ghost frames: { KnownTable } by { frames_coded },
-    pub ghost stocks: { Words } by { stocks_coded },
+    pub ghost stocks: { KnownStockTable } by { stocks_coded },
     pub ghost live: { Option KnownLive } by { known_coded },
 }
 
@@ -63,5 +67,56 @@ pub fn serve_raw(raw: Raw, request: Request) -> (Raw, Answer)
             alloc,
         },
         answer,
+    )
+}
+
+/// Serves a call of the CPU of this number, as `serve_call` does, under the name that it picks for the tables. Only a
+/// pointer to the call crosses, and no memory is taken.
+pub fn call_raw(raw: Raw, cpu: u32, call: &Call<'_>) -> (Raw, Told)
+    requires some { IsSome raw.live }
+    ensures serves { OnRaw (λ from to. Calls raw.frames raw.stocks cpu call.now from to result.1)
+        raw.frames raw.stocks raw.live result.0.frames result.0.stocks result.0.live }
+{
+    let Raw { ptr, alloc } = raw;
+    let (hold, told) = serve_call::<Brand>(
+        Hold {
+            ptr: ptr as *mut Live<Brand>,
+            alloc,
+        },
+        cpu,
+        call,
+    );
+    let Hold { ptr, alloc } = hold;
+    (
+        Raw {
+            ptr: ptr as *mut u8,
+            alloc,
+        },
+        told,
+    )
+}
+
+/// Returns what a file of a group shows, as `show_file` does, under the name that it picks for the tables.
+pub fn show_raw(raw: Raw, group: GroupId, file: File) -> (Raw, Shown)
+    requires there { IsSomeAnd raw.live (HasFile group file) }
+    ensures shows { OnRaw (λ from to. ShowsFile group file from to result.1)
+        raw.frames raw.stocks raw.live result.0.frames result.0.stocks result.0.live }
+{
+    let Raw { ptr, alloc } = raw;
+    let (hold, shown) = show_file::<Brand>(
+        Hold {
+            ptr: ptr as *mut Live<Brand>,
+            alloc,
+        },
+        group,
+        file,
+    );
+    let Hold { ptr, alloc } = hold;
+    (
+        Raw {
+            ptr: ptr as *mut u8,
+            alloc,
+        },
+        shown,
     )
 }

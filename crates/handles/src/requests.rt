@@ -1,6 +1,5 @@
-//! What a live boot can be asked, and what it answers. Neither has a reference in it, so both cross by value.
+//! What a live boot can be asked besides calls, and what it answers. Both cross by value.
 
-use crate::calls::{Call, Told};
 use load_run::boot_end::Ended;
 use mem_system::Boot;
 use std::alloc::Global;
@@ -20,11 +19,6 @@ pub enum Request {
         alloc: Global,
         text: Vec<u8>,
         is_explained: bool,
-    },
-    /// Serve a call of the CPU of this number.
-    Call {
-        processor: u32,
-        call: Call,
     },
     /// Keep an answer that a buffer has no room for.
     Keep {
@@ -47,8 +41,6 @@ pub enum Answer {
     Done,
     /// The answers of a script's lines, or the answer that was kept.
     Text(Vec<u8>),
-    /// What a call is told.
-    Told(Told),
     /// The number, from 1, of the first line that isn't in the grammar.
     BadLine(usize),
     /// Memory ran out.

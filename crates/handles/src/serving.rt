@@ -1,15 +1,18 @@
 //! Serving requests under the name of a boot's tables.
 
-ghost use Rattle.std.specs.Prelude.{◌≡◌, IsSome, None};
-ghost use Rattle.handles.specs.Serving.{IsAsked, Serves};
-ghost use Rattle.handles.specs.declared.requests.Request.TheVariants.{Call, Command, End, Keep, Recall, Start};
+ghost use Rattle.std.specs.Prelude.{◌≡◌, IsSome, IsSomeAnd, None};
+ghost use Rattle.handles.specs.Calls.{Calls, HasFile, ShowsFile};
+ghost use Rattle.handles.specs.Serving.{IsAsked, OnLive, Serves};
+ghost use Rattle.handles.specs.declared.requests.Request.TheVariants.{Command, End, Keep, Recall, Start};
 
-use crate::calls;
+use crate::calls::{Call, Shown, Told};
 use crate::hold::Hold;
 use crate::live::Live;
 use crate::loose::Loose;
 use crate::requests::{Answer, Request};
+use control_files::file::File;
 use cpu_part::BootName;
+use group_tree::group::GroupId;
 use mem_system::Boot;
 use script_lines::fault::ScriptFault;
 use std::alloc::Global;
@@ -27,11 +30,30 @@ pub fn serve<N: BootName>(hold: Hold<N>, request: Request) -> (Hold<N>, Answer)
             text,
             is_explained,
         } => command(hold, alloc, text, is_explained),
-        Request::Call { processor, call } => serve_call(hold, processor, call),
         Request::Keep { text } => keep(hold, text),
         Request::Recall { alloc } => recall(hold, alloc),
         Request::End { alloc } => finish(hold, alloc),
     }
+}
+
+/// Serves a call of the CPU of this number, on the parts of a boot.
+pub fn serve_call<N: BootName>(hold: Hold<N>, cpu: u32, call: &Call<'_>) -> (Hold<N>, Told)
+    requires some { IsSome hold.live }
+    ensures serves { OnLive (λ from to. Calls N.frames N.stocks cpu call.now from to result.1) hold.live result.0.live }
+{
+    let mut live = hold.into_loose().into_box();
+    let told = live.call(cpu, call);
+    (Hold::of(Loose::of(live)), told)
+}
+
+/// Returns what a file of a group shows, on the parts of a boot that has the group. The root has no files.
+pub fn show_file<N: BootName>(hold: Hold<N>, group: GroupId, file: File) -> (Hold<N>, Shown)
+    requires there { IsSomeAnd hold.live (HasFile group file) }
+    ensures shows { OnLive (λ from to. ShowsFile group file from to result.1) hold.live result.0.live }
+{
+    let live = hold.into_loose().into_box();
+    let shown = live.show(group, file);
+    (Hold::of(Loose::of(live)), shown)
 }
 
 // Starts a boot.
@@ -69,16 +91,6 @@ fn command<N: BootName>(
         Err(ScriptFault::BadLine(number)) => (hold, Answer::BadLine(number)),
         Err(ScriptFault::NoMemory) => (hold, Answer::NoMemory),
     }
-}
-
-// Serves a call of the CPU of this number.
-fn serve_call<N: BootName>(hold: Hold<N>, processor: u32, call: calls::Call) -> (Hold<N>, Answer)
-    requires some { IsSome hold.live }
-    ensures serves { Serves N.frames N.stocks hold.live (Call processor call) result.0.live result.1 }
-{
-    let mut live = hold.into_loose().into_box();
-    let told = live.call(processor, &call);
-    (Hold::of(Loose::of(live)), Answer::Told(told))
 }
 
 // Keeps an answer.

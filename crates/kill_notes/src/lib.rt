@@ -1,5 +1,6 @@
-//! What is noted of a visit in which a limit had no room: what was tried, and who was killed.
+//! What is noted of a visit: what had no room, what was tried, which units were reclaimed, and who was killed.
 #![tactic(auto)]
 
 pub mod note;
 pub mod notes;
+mod runs;

@@ -3,7 +3,7 @@
 use group_tree::group::GroupId;
 
 /// A group that may be killed, and how many frames are charged to it.
-#[derive(Clone, Copy, Debug, PartialEq, Eq)]
+#[derive(Clone, Copy, PartialEq, Eq)]
 pub struct Candidate {
     pub group: GroupId,
     /// How many frames are charged to the group itself: not those of groups below it, and not those that are fresh at a
@@ -11,9 +11,10 @@ pub struct Candidate {
     pub frames: u64,
 }
 
-/// What is noted while a limit without room is enforced. The kinds of note follow what Linux's killer writes to the
-/// kernel's log. Sizes are in pages of 4,096 bytes.
-#[derive(Clone, Copy, Debug, PartialEq, Eq)]
+/// What is noted while pages are reclaimed: for a limit without room, if no frame or block is free, or because they
+/// were asked for. The kinds of note follow what Linux's killer writes to the kernel's log. Sizes are in pages of 4,096
+/// bytes.
+#[derive(Clone, Copy, PartialEq, Eq)]
 pub enum Note {
     /// The limit of the group, `max` pages, had no room: `usage` pages were charged in its subtree, and `need` more
     /// were asked for. `need` is 0 if the limit was written.
@@ -23,10 +24,26 @@ pub enum Note {
         usage: u32,
         need: u32,
     },
+    /// No block of 2^`order` frames was free: rounds of reclaim from all groups follow.
+    Zone {
+        order: u32,
+    },
+    /// `pages` pages were asked for: rounds of reclaim from the group's subtree follow (memory.reclaim).
+    Asked {
+        group: GroupId,
+        pages: u64,
+    },
     /// The stock of this CPU, 1 to 64, was drained. It had this many pages, which are no longer charged to their group.
     Stock {
         cpu: u32,
         pages: u32,
+    },
+    /// Units of the group were reclaimed, one right after the other: their frames are all from `first` to `last`. No
+    /// other unit that was freed right before or after them is of the group and adjoins them.
+    Reclaimed {
+        group: GroupId,
+        first: u64,
+        last: u64,
     },
     /// A round of reclaim ended; the first for a limit is number 1. It freed `returned` units, of `pages` pages in all,
     /// and tried `missed` more. Then `usage` pages are charged in the subtree.

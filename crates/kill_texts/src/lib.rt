@@ -1,4 +1,5 @@
-//! What is written of the kills of a command: what was tried before each, and who was killed.
+//! What is written of the reclaim and the kills of a command: what was tried, which units were reclaimed, and who was
+//! killed.
 #![tactic(auto)]
 
 mod explanation;

@@ -4,6 +4,7 @@ ghost use Rattle.std.specs.Prelude.{◌≡◌, ◌++◌, IfOk};
 ghost use Rattle.std.specs.Fmt.{decimal};
 ghost use Rattle.std.specs.String.{string_bytes};
 ghost use Rattle.kill_texts.specs.Lines.{bytes_text, candidate_text, ending_text, group_text, next_text, others_text};
+ghost use Rattle.kill_texts.specs.Lines.{run_text};
 
 use control_files::text::PAGE_BYTES;
 use group_tree::group::GroupId;
@@ -28,21 +29,24 @@ pub(crate) fn push_bytes(word: &str, pages: u64, text: &mut String) -> Result<()
     push_count(word, u128::from(pages) * u128::from(PAGE_BYTES), text)
 }
 
-// Adds a word and the path of a group, or its number if the tree doesn't have it.
+// Adds a word and the path of a group, which is `gone` if the tree doesn't have the group any more.
 #[tactic(auto, unfolding(crate::specs::Lines::group_text, group_tree::specs::Groups::has_group, group_tree::specs::Groups::path_of))]
 pub(crate) fn push_group(
     word: &str,
     tree: &Tree,
+    gone: &[u8],
     group: GroupId,
     text: &mut String,
 ) -> Result<(), AllocError>
-    ensures { IfOk result (λ _. string_bytes text.new ≡ string_bytes text.old ++ (word.now ++ group_text tree.now group)) }
+    ensures { IfOk result (λ _. string_bytes text.new
+        ≡ string_bytes text.old ++ (word.now ++ group_text tree.now gone.now group)) }
 {
-    if !tree.contains(group) {
-        return push_count(word, u128::from(group.number()), text);
-    }
     text.push_str(word)?;
-    push_characters(text, tree.path_of(group).as_bytes())
+    if tree.contains(group) {
+        push_characters(text, tree.path_of(group).as_bytes())
+    } else {
+        push_characters(text, gone)
+    }
 }
 
 // Adds a word, the path of a group that may be killed, and its frames.
@@ -50,13 +54,14 @@ pub(crate) fn push_group(
 pub(crate) fn push_candidate(
     word: &str,
     tree: &Tree,
+    gone: &[u8],
     candidate: Candidate,
     text: &mut String,
 ) -> Result<(), AllocError>
     ensures { IfOk result (λ _. string_bytes text.new
-        ≡ string_bytes text.old ++ (word.now ++ candidate_text tree.now candidate)) }
+        ≡ string_bytes text.old ++ (word.now ++ candidate_text tree.now gone.now candidate)) }
 {
-    push_group(word, tree, candidate.group, text)?;
+    push_group(word, tree, gone, candidate.group, text)?;
     push_count(" frames ", u128::from(candidate.frames), text)
 }
 
@@ -64,30 +69,34 @@ pub(crate) fn push_candidate(
 #[tactic(auto, unfolding(crate::specs::Lines::others_text))]
 pub(crate) fn push_others(
     tree: &Tree,
+    gone: &[u8],
     candidates: u32,
     next: Candidate,
     text: &mut String,
 ) -> Result<(), AllocError>
-    ensures { IfOk result (λ _. string_bytes text.new ≡ string_bytes text.old ++ others_text tree.now candidates next) }
+    ensures { IfOk result (λ _. string_bytes text.new
+        ≡ string_bytes text.old ++ others_text tree.now gone.now candidates next) }
 {
     write!(text, " of {candidates} candidates")?;
-    push_next(tree, candidates, next, text)
+    push_next(tree, gone, candidates, next, text)
 }
 
 // Adds the next candidate, if there is more than one.
 #[tactic(auto, unfolding(crate::specs::Lines::next_text))]
 fn push_next(
     tree: &Tree,
+    gone: &[u8],
     candidates: u32,
     next: Candidate,
     text: &mut String,
 ) -> Result<(), AllocError>
-    ensures { IfOk result (λ _. string_bytes text.new ≡ string_bytes text.old ++ next_text tree.now candidates next) }
+    ensures { IfOk result (λ _. string_bytes text.new
+        ≡ string_bytes text.old ++ next_text tree.now gone.now candidates next) }
 {
     if candidates <= 1 {
         return Ok(());
     }
-    push_candidate(", next ", tree, next, text)
+    push_candidate(", next ", tree, gone, next, text)
 }
 
 // Adds the end of a line: the bytes of this many pages, and of the usage under the limit.
@@ -98,4 +107,21 @@ pub(crate) fn push_ending(pages: u64, usage: u32, text: &mut String) -> Result<(
     push_bytes(" bytes ", pages, text)?;
     push_bytes(" usage ", u64::from(usage), text)?;
     text.push_str("\n")
+}
+
+// Adds a word and the frames from the first to the last, or the one frame.
+#[tactic(auto, unfolding(crate::specs::Lines::run_text))]
+pub(crate) fn push_run(
+    word: &str,
+    first: u64,
+    last: u64,
+    text: &mut String,
+) -> Result<(), AllocError>
+    ensures { IfOk result (λ _. string_bytes text.new ≡ string_bytes text.old ++ (word.now ++ run_text first last)) }
+{
+    push_count(word, u128::from(first), text)?;
+    if first == last {
+        return Ok(());
+    }
+    push_count("-", u128::from(last), text)
 }

@@ -7,7 +7,7 @@ use Rattle.std.specs.Io.Buffered.{reader_buffer, reader_capacity, reader_inner, 
 use Rattle.std.specs.Io.KnownBytes.{prepend_known}
 use Rattle.std.specs.declared.io.buffered.BufReader.{BufReader}
 use Rattle.frame_word.specs.Seats.{KnownTable}
-use Rattle.stock_word.specs.Stock.{Words}
+use Rattle.stock_word.specs.Stock.{KnownStockTable}
 use Rattle.zone_sizes.specs.declared.config.Config.{Config}
 use Rattle.script_lines.specs.declared.line.Line.{Line}
 use Rattle.script_replay.specs.Lines.{SystemState}
@@ -108,7 +108,7 @@ pub none_yet : (on : Terms) (sizes : Config) (input : Option (List ℕ)) (before
 none_yet on sizes input before output = record { turns = []; reads = refl; answers = refl; written = Appends-nil output }
 
 -- what holds on the terms of now holds on those of the beginning
-pub at_first : (frames : KnownTable) (stocks : Words) (s t : KnownServer) (P : Terms → Config → Type 0) → KeepsTerms s t
+pub at_first : (frames : KnownTable) (stocks : KnownStockTable) (s t : KnownServer) (P : Terms → Config → Type 0) → KeepsTerms s t
     → P (terms_of frames stocks t) t.sizes → P (terms_of frames stocks s) s.sizes
 at_first frames stocks s t P keeps is =
     subst (λ (b : Bool). P (terms frames stocks b) s.sizes) keeps.is_explained (subst (P (terms_of frames stocks t)) keeps.sizes is)

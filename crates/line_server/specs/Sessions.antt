@@ -93,9 +93,10 @@ pub record BeginsTurn (on : Terms) (sizes : Config) (before after : SystemState)
   pub answers : AnswersTurn on sizes turn before after
   pub begun : AppendsBeginning output now (turn_text turn)
 
--- What a fault leaves. If the input failed, nothing was done. If memory ran out, a line may have been served, and nothing
--- was written for it. If the output failed, it got a beginning of the answer.
-abbrev pub FailsTurn : Terms → Config → (before after : SystemState) → (output now : Option (List ℕ)) → ServeFault → Type 0
+-- What a fault leaves. If the input failed, nothing was done. If memory ran out, a line may have been served, and
+-- nothing was written for it. If the output failed, it got a beginning of the answer.
+abbrev pub FailsTurn : Terms → Config → (before after : SystemState) → (output now : Option (List ℕ)) → ServeFault
+    → Type 0
 FailsTurn on sizes before after output now Input = (after ≡ before) × (now ≡ output)
 FailsTurn on sizes before after output now Output = BeginsTurn on sizes before after output now
 FailsTurn on sizes before after output now NoMemory = ServesAtMost on before after × (now ≡ output)

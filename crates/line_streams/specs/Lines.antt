@@ -25,7 +25,8 @@ abbrev pub TakesByte : (before after : Option (List ℕ)) → Option ℕ → Typ
 TakesByte before after None = Consumes before after [] × IsAtEnd before
 TakesByte before after (Some byte) = Consumes before after (byte ∷ [])
 
--- a line of `old` ends before what is read: nothing of its text follows, and it is kept; or more follows, and nothing is kept
+-- a line of `old` ends before what is read: nothing of its text follows, and it is kept; or more follows, and nothing
+-- is kept
 abbrev pub EndsLine : (before after : Option (List ℕ)) → Found → (old new : List ℕ) → Type 0
 EndsLine before after Line old new =
     (new ≡ old) × IfSome before (λ bytes. first_text bytes ≡ []) × DropsThrough before after 10

@@ -6,8 +6,9 @@ ghost use Rattle.clap.specs.declared.builder.command.Command.TheViews.{out-Comma
 ghost use Rattle.clap.specs.declared.builder.value_parser.ValueParser.TheVariants.{Signed};
 ghost use Rattle.load_options.specs.Fault.{IsNoMemory};
 ghost use Rattle.load_options.specs.Sizes.{HasSizesInRange};
-ghost use Rattle.load_options.specs.Words.{TellsOptions, asks_version, bare_program, check_shape, command_shape, flag_rule};
-ghost use Rattle.load_options.specs.Words.{options_of, program, replay_shape, serve_shape, size_rule, sized_shape};
+ghost use Rattle.load_options.specs.Words.{TellsOptions, asks_version, bare_program, check_shape, command_shape};
+ghost use Rattle.load_options.specs.Words.{flag_rule, options_of, program, replay_shape, serve_shape, size_rule};
+ghost use Rattle.load_options.specs.Words.{sized_shape};
 
 use crate::fault::LineFault;
 use crate::task::{
@@ -55,7 +56,7 @@ const NUMBERED_HELP: &str = "Begins each line of an answer with the number of it
 
 const STRICT_HELP: &str = "Ends with status 3 if some answer is a refusal";
 
-const EXPLAIN_HELP: &str = "Explains after an answer why groups were killed for it";
+const EXPLAIN_HELP: &str = "Explains after an answer what was drained, reclaimed and killed for it";
 
 const CHECKED_HELP: &str =
     "Checks each step against the rules, and reports how many steps there were";
@@ -84,9 +85,9 @@ pub fn words<R: Env + AllocGlobal>(rt: &R) -> Result<Vec<String>, LineFault> {
 
 /// Parses the words after the program's name. They are `replay`, `run`, `lint` or `serve`, then any of `--frames`,
 /// `--cpus`, `--batch`, `--high` and `--stock`. After `replay` and `run` there may also be `--audit`, `--numbered` and
-/// `--strict`, and after `replay` `--explain` and `--check`, or `--steps` without any of these five. After `serve` there
-/// may be `--audit` and `--explain`. Each stands at most once. Or the words are `check` alone, or `--version` or `-V`
-/// alone. Anything else is a fault of the words, even a request for help.
+/// `--strict`, and after `replay` `--explain` and `--check`, or `--steps` without any of these five. After `serve`
+/// there may be `--audit` and `--explain`. Each stands at most once. Or the words are `check` alone, or `--version` or
+/// `-V` alone. Anything else is a fault of the words, even a request for help.
 ///
 /// A size is a whole number in its own range: 1 to 1,048,576 frames, 1 to 64 CPUs, batch 1 to 64, high 1 to 256,
 /// stock 1 to 64. `Config::is_valid` requires more: high is at least batch. The defaults are 16, 2, 4, 8 and 4.

@@ -25,7 +25,7 @@ pub(crate) const MOST_STOCK: u32 = 64;
 pub enum Task {
     /// The lines run one after another.
     Replay {
-        /// Whether each kill is explained after the answer of its command.
+        /// Whether what a command drained, reclaimed and killed is explained after its answer.
         is_explained: bool,
         /// Whether each step is checked against the rules.
         is_checked: bool,
@@ -40,7 +40,7 @@ pub enum Task {
     Lint,
     /// Each line is answered before the next one is read.
     Serve {
-        /// Whether each kill is explained after the answer of its command.
+        /// Whether what a command drained, reclaimed and killed is explained after its answer.
         is_explained: bool,
     },
     /// The input isn't read, and the program's version is written.

@@ -7,7 +7,7 @@ use Rattle.std.specs.Io.KnownBytes.{Appends}
 use Rattle.std.specs.Prelude.{is_some}
 use Rattle.std.specs.Result.{result_ok}
 use Rattle.frame_word.specs.Seats.{KnownTable}
-use Rattle.stock_word.specs.Stock.{Words}
+use Rattle.stock_word.specs.Stock.{KnownStockTable}
 use Rattle.mem_system.specs.Boots.{IsSizedAs, first_cpus}
 use Rattle.zone_sizes.specs.declared.config.Config.{Config}
 use Rattle.zone_sizes.specs.Config.{IsValidConfig}
@@ -68,14 +68,14 @@ joined (Err e) P Q R follows p q = tt
 pub at_ok : {V E : Type 0} (r : Result V E) (v : V) (P : V → Type 0) → r ≡ Ok v → IfOk r P → P v
 at_ok {V = V} {E = E} r v P is holds = subst (λ (x : Result V E). IfOk x P) is holds
 
--- so many processors have so many parts
-pub first_long : (t : KnownTable) (w : Words) (p n : ℕ) → length (first_cpus t w p n) ≡ n
+-- so many CPUs have so many parts
+pub first_long : (t : KnownTable) (w : KnownStockTable) (p n : ℕ) → length (first_cpus t w p n) ≡ n
 first_long t w p zero = refl
 first_long t w p (suc n) = ap (λ (k : ℕ). suc k) (first_long t w (p + 1) n)
 
 -- the tables under their names have the sizes
-pub sized_as : (sizes : Config) (f t : KnownTable) (s w : Words) → IsSizedAs sizes f s → (f ≡ t) × (s ≡ w) → IsSizedAs sizes t w
-sized_as sizes f t s w sized names = subst (λ (b : KnownTable × Words). IsSizedAs sizes b.0 b.1) (λ i. (names.0 i, names.1 i)) sized
+pub sized_as : (sizes : Config) (f t : KnownTable) (s w : KnownStockTable) → IsSizedAs sizes f s → (f ≡ t) × (s ≡ w) → IsSizedAs sizes t w
+sized_as sizes f t s w sized names = subst (λ (b : KnownTable × KnownStockTable). IsSizedAs sizes b.0 b.1) (λ i. (names.0 i, names.1 i)) sized
 
 -- what the lines of a script name is there, in a boot of the script's sizes
 pub script_of_boot : (sizes booted : Config) (bytes : List ℕ) (parsed lines : List Line) → booted ≡ sizes → lines ≡ parsed

@@ -2,7 +2,7 @@
 use Rattle.std.proofs.Common.{◌≡◌, ℕ, Bool, false, List, [], ◌++◌, All, take, drop, refl, sym, subst}
 use Rattle.std.proofs.lemmas.List.Elements.{All-take, All-drop}
 use Rattle.frame_word.specs.Seats.{KnownTable}
-use Rattle.stock_word.specs.Stock.{Words}
+use Rattle.stock_word.specs.Stock.{KnownStockTable}
 use Rattle.zone_sizes.specs.declared.config.Config.{Config}
 use Rattle.mem_system.specs.Boots.{IsSizedAs}
 use Rattle.script_lines.specs.declared.line.Line.{Line}
@@ -23,22 +23,22 @@ there : (frames cpus known parts : ℕ) (lines : List Line) → frames ≡ known
 there frames cpus known parts lines f p all = subst (λ (b : ℕ × ℕ). All (LineIsThere b.0 b.1) lines) (λ i. (f i, p i)) all
 
 -- so do the first of them
-pub early_there : (sizes : Config) (t : KnownTable) (w : Words) (n parts : ℕ) (lines early : List Line) → IsSizedAs sizes t w
+pub early_there : (sizes : Config) (t : KnownTable) (w : KnownStockTable) (n parts : ℕ) (lines early : List Line) → IsSizedAs sizes t w
     → parts ≡ sizes.cpus → early ≡ take n lines → All (LineIsThere sizes.frames sizes.cpus) lines → All (LineIsThere t.frames parts) early
 early_there sizes t w n parts lines early sized count is all =
     subst (λ (l : List Line). All (LineIsThere t.frames parts) l) (sym is)
     (All-take (LineIsThere t.frames parts) n lines (there sizes.frames sizes.cpus t.frames parts lines (sym sized.frames) (sym count) all))
 
 -- and the others
-pub later_there : (sizes : Config) (t : KnownTable) (w : Words) (n : ℕ) (lines later : List Line) → IsSizedAs sizes t w
+pub later_there : (sizes : Config) (t : KnownTable) (w : KnownStockTable) (n : ℕ) (lines later : List Line) → IsSizedAs sizes t w
     → later ≡ drop n lines → All (LineIsThere sizes.frames sizes.cpus) lines → All (LineIsThere t.frames t.cpus) later
 later_there sizes t w n lines later sized is all =
     subst (λ (l : List Line). All (LineIsThere t.frames t.cpus) l) (sym is)
     (All-drop (LineIsThere t.frames t.cpus) n lines (there sizes.frames sizes.cpus t.frames t.cpus lines (sym sized.frames) (sym sized.cpus) all))
 
--- the early lines were served from the boot on, the later ones told by processor, and the boot ended: these are the
+-- the early lines were served from the boot on, the later ones told by CPU, and the boot ended: these are the
 -- answers
-pub are_answers : (sizes : Config) (is_numbered is_audited : Bool) (t : KnownTable) (w : Words) (lines first_lines other_lines : List Line)
+pub are_answers : (sizes : Config) (is_numbered is_audited : Bool) (t : KnownTable) (w : KnownStockTable) (lines first_lines other_lines : List Line)
     (start at_go : SystemState) (early later text : List ℕ) (told : Ended) → StandsAtFirst sizes t w start
     → first_lines ≡ take (lines_before_go lines) lines → other_lines ≡ drop (lines_before_go lines) lines
     → ServesAll (numbered_terms t w false is_numbered) first_lines start at_go early → TellsHistory (numbered_terms t w false is_numbered) first_lines (past [] start) at_go early

@@ -4,7 +4,7 @@ use Rattle.std.proofs.Common.{append_assoc, append-nil, length-append}
 use Rattle.std.specs.Prelude.{OnOk, codes}
 use Rattle.std.proofs.Math.Seq.{drop-append_seam}
 use Rattle.frame_word.specs.Seats.{KnownTable}
-use Rattle.stock_word.specs.Stock.{Words}
+use Rattle.stock_word.specs.Stock.{KnownStockTable}
 use Rattle.step_rules.specs.After.{Run}
 use Rattle.step_watch.specs.Watched.{KnownWatch, Watches, has_whole_log, log_text, steps_text}
 use Rattle.mem_system.specs.Ends.{KnownSpent}
@@ -87,7 +87,7 @@ logs_more on texts lines i default s m e old mid new inside so_far one = record 
 
 -- ---- the end
 
-pub end_logged : (t : KnownTable) (w : Words) (texts : List (List ℕ)) (lines : List Line) (s e : SystemState) (held : ℕ) (spent : KnownSpent) (seen : ℕ)
+pub end_logged : (t : KnownTable) (w : KnownStockTable) (texts : List (List ℕ)) (lines : List Line) (s e : SystemState) (held : ℕ) (spent : KnownSpent) (seen : ℕ)
     (old mid new : List ℕ) → LeavesNothing t w e held spent → seen ≡ length (log_text e.locked.machine.watch) → has_whole_log spent.machine.watch ≡ true
     → new ≡ mid ++ (codes "# end\n" ++ drop seen (log_text spent.machine.watch)) → GrowsBy (LogsAll (terms t w false) texts lines s e) old mid
     → GrowsBy (LogsAllAndEnd t w texts lines s) old new

@@ -2,7 +2,7 @@
 use Rattle.std.proofs.Common.{◌≡◌, ℕ, ◌<◌, List, [], ◌∷◌, ◌++◌, length, refl, sym, ap, subst, arith}
 use Rattle.std.proofs.lemmas.List.Sums.{sum_by-append}
 use Rattle.frame_word.specs.Seats.{KnownTable}
-use Rattle.stock_word.specs.Stock.{Words}
+use Rattle.stock_word.specs.Stock.{KnownStockTable}
 use Rattle.frame_word.specs.declared.answers.Put.{Put}
 use Rattle.frame_word.specs.declared.answers.Put.TheVariants.{Left, Last}
 use Rattle.cpu_part.specs.Cpus.{KnownCpu}
@@ -100,7 +100,7 @@ puts_watched m (c ∷ cpus) n (d ∷ left) puts =
 
 -- ---- nothing is left
 
-pub leaves_nothing : (t : KnownTable) (w : Words) (before : SystemState) (held : ℕ) (spent : KnownSpent) (locked : KnownLocked) (cpus : List KnownCpu)
+pub leaves_nothing : (t : KnownTable) (w : KnownStockTable) (before : SystemState) (held : ℕ) (spent : KnownSpent) (locked : KnownLocked) (cpus : List KnownCpu)
     → held ≡ pins_of before.cpus → ForEachCpu PutsAllPins before.locked.machine before.cpus locked.machine cpus → locked.sizes ≡ before.locked.sizes
     → (held ≡ 0 → system_state locked cpus ≡ before) → MakesLastVisits t w locked cpus spent → LeavesNothing t w before held spent
 leaves_nothing t w before held spent locked cpus held_are puts sizes free visits =
@@ -120,7 +120,7 @@ leaves_nothing t w before held spent locked cpus held_are puts sizes free visits
     }
 
 -- no pin was held
-pub leaves_free : (t : KnownTable) (w : Words) (before : SystemState) (spent : KnownSpent) → MakesLastVisits t w before.locked before.cpus spent
+pub leaves_free : (t : KnownTable) (w : KnownStockTable) (before : SystemState) (spent : KnownSpent) → MakesLastVisits t w before.locked before.cpus spent
     → LeavesNothing t w before 0 spent
 leaves_free t w before spent visits =
     leaves_nothing t w before 0 spent before.locked before.cpus (sym visits.no_pin) (none_put before.locked.machine before.cpus visits.no_pin) refl

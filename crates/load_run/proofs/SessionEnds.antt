@@ -2,7 +2,7 @@
 use Rattle.std.proofs.Common.{◌≡◌, ◌∙◌, ℕ, Bool, List, [], Option, Result, Ok, Err, IfErr, OnOk, arith, inl, inr, refl, subst, sym}
 use Rattle.std.specs.Io.KnownBytes.{Appends}
 use Rattle.frame_word.specs.Seats.{KnownTable}
-use Rattle.stock_word.specs.Stock.{Words}
+use Rattle.stock_word.specs.Stock.{KnownStockTable}
 use Rattle.cpu_part.specs.Cpus.{KnownCpu}
 use Rattle.zone_sizes.specs.declared.config.Config.{Config}
 use Rattle.mem_machine.specs.Machines.{IsFirst}
@@ -150,7 +150,7 @@ stops_at_work options is_explained input before after (Err fault) left = left
 -- ---- on a boot
 
 -- what holds on the terms of a server holds on what it was made of
-pub as_made : (t : KnownTable) (w : Words) (server : KnownServer) (sizes : Config) (is_explained : Bool) (state : SystemState)
+pub as_made : (t : KnownTable) (w : KnownStockTable) (server : KnownServer) (sizes : Config) (is_explained : Bool) (state : SystemState)
     (P : Terms → Config → SystemState → Type 0) → server.sizes ≡ sizes → server.is_explained ≡ is_explained → server.state ≡ state
     → P (terms_of t w server) server.sizes server.state → P (terms t w is_explained) sizes state
 as_made t w server sizes is_explained state P same explained stands is =
@@ -159,7 +159,7 @@ as_made t w server sizes is_explained state P same explained stands is =
     (subst (λ (b : Bool). P (terms t w b) server.sizes server.state) explained is))
 
 -- a boot as it is at first
-module _ (booted : Config) (options : Options) (is_explained : Bool) (t : KnownTable) (w : Words) (locked : KnownLocked) (cpus : List KnownCpu)
+module _ (booted : Config) (options : Options) (is_explained : Bool) (t : KnownTable) (w : KnownStockTable) (locked : KnownLocked) (cpus : List KnownCpu)
     (same : booted ≡ options.sizes) (sized : IsSizedAs booted t w) (machine : IsFirst t w locked.machine) (sizes : locked.sizes ≡ booted)
     (first : cpus ≡ first_cpus t w 1 booted.cpus) where
   stands : StandsAtFirst options.sizes t w (system_state locked cpus)

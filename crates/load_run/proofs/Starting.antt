@@ -4,7 +4,7 @@ use Rattle.std.proofs.Common.{◌≡◌, ℕ, ◌+◌, ◌≤◌, Some, List, []
 use Rattle.std.specs.List.{slice_get}
 use Rattle.std.proofs.lemmas.Option.{slice_get_within}
 use Rattle.frame_word.specs.Seats.{KnownTable}
-use Rattle.stock_word.specs.Stock.{Words}
+use Rattle.stock_word.specs.Stock.{KnownStockTable}
 use Rattle.cpu_part.specs.Cpus.{KnownCpu, IsTied}
 use Rattle.zone_sizes.specs.declared.config.Config.{Config}
 use Rattle.step_rules.specs.State.{Zone}
@@ -18,7 +18,7 @@ use Rattle.mem_history.proofs.Booting.{a_boot_is_shown}
 use Rattle.mem_system.specs.Boots.{IsSizedAs, part_at_first, first_cpus}
 use Rattle.load_run.proofs.Answering.{first_long}
 
-first_at : (t : KnownTable) (w : Words) (p n k : ℕ) (c : KnownCpu) → slice_get (first_cpus t w p n) k ≡ Some c → c ≡ part_at_first t w (p + k)
+first_at : (t : KnownTable) (w : KnownStockTable) (p n k : ℕ) (c : KnownCpu) → slice_get (first_cpus t w p n) k ≡ Some c → c ≡ part_at_first t w (p + k)
 first_at t w p zero k c at = absurd (let none = slice_get_within (first_cpus t w p 0) k c at in omega arith)
 first_at t w p (suc n) zero c at = same (part_at_first t w p) c at ∙ ap (part_at_first t w) (omega arith)
   where
@@ -26,7 +26,7 @@ first_at t w p (suc n) zero c at = same (part_at_first t w p) c at ∙ ap (part_
     same a b e = cc
 first_at t w p (suc n) (suc k) c at = first_at t w (p + 1) n k c at ∙ ap (part_at_first t w) (omega arith)
 
-first_tied : (t : KnownTable) (w : Words) (p : ℕ) → 1 ≤ p → p ≤ t.cpus → p ≤ w.cpus → IsTied t w (part_at_first t w p)
+first_tied : (t : KnownTable) (w : KnownStockTable) (p : ℕ) → 1 ≤ p → p ≤ t.cpus → p ≤ w.cpus → IsTied t w (part_at_first t w p)
 first_tied t w p low high payer = record {
   seats = record {
     frame_table = refl;
@@ -41,7 +41,7 @@ first_tied t w p low high payer = record {
   within = record { list_bound = omega arith; fresh_bound = omega arith; pin_bound = omega arith; pages_are = refl };
 }
 
-module _ (sizes : Config) (t : KnownTable) (w : Words) (m : KnownMachine) (cpus : List KnownCpu) (sized : IsSizedAs sizes t w) (first : IsFirst t w m)
+module _ (sizes : Config) (t : KnownTable) (w : KnownStockTable) (m : KnownMachine) (cpus : List KnownCpu) (sized : IsSizedAs sizes t w) (first : IsFirst t w m)
     (are : cpus ≡ first_cpus t w 1 sizes.cpus) where
   each_first : (k : ℕ) (c : KnownCpu) → slice_get cpus k ≡ Some c → c ≡ part_at_first t w (suc k)
   each_first k c at =
@@ -66,7 +66,7 @@ module _ (sizes : Config) (t : KnownTable) (w : Words) (m : KnownMachine) (cpus 
       })
 
 -- the machine of a new boot is that of one with any watch
-pub watched_first : (t : KnownTable) (w : Words) (m : KnownMachine) (watch : KnownWatch) → IsFirst t w m → IsFirst t w (record m { watch = watch })
+pub watched_first : (t : KnownTable) (w : KnownStockTable) (m : KnownMachine) (watch : KnownWatch) → IsFirst t w m → IsFirst t w (record m { watch = watch })
 watched_first t w m watch first = record {
   frame_states = first.frame_states;
   ledger = first.ledger;
@@ -79,7 +79,7 @@ watched_first t w m watch first = record {
 }
 
 -- a new watch of a boot's sizes is one of its tables
-pub new_watch : (booted sizes : Config) (t : KnownTable) (w : Words) → IsSizedAs booted t w → booted ≡ sizes → (watch : KnownWatch)
+pub new_watch : (booted sizes : Config) (t : KnownTable) (w : KnownStockTable) → IsSizedAs booted t w → booted ≡ sizes → (watch : KnownWatch)
     → IsNewWatch (core.zone_of sizes) watch → IsNewWatch (zone_of t) watch
 new_watch booted sizes t w sized same watch new =
     let frames : sizes.frames ≡ t.frames = ap (λ (s : Config). s.frames) (sym same) ∙ sym sized.frames in

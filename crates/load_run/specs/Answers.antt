@@ -3,7 +3,7 @@ use Rattle.std.specs.Prelude.{◌≡◌, ℕ, ◌+◌, Bool, false, true, ⊤, O
 use Rattle.std.specs.Prelude.{codes, decimal, drop, length, take}
 use Rattle.std.specs.Io.KnownBytes.{Appends}
 use Rattle.frame_word.specs.Seats.{KnownTable}
-use Rattle.stock_word.specs.Stock.{Words}
+use Rattle.stock_word.specs.Stock.{KnownStockTable}
 use Rattle.zone_sizes.specs.declared.config.Config.{Config}
 use Rattle.zone_sizes.specs.Config.{IsValidConfig}
 use Rattle.step_rules.specs.After.{Run as StepRun, IsLegalRun}
@@ -32,14 +32,14 @@ use Rattle.load_run.specs.Refusals.{answered_status}
 abbrev pub bytes_read : List ℕ → List ℕ
 bytes_read input = take (longest_script + 1) input
 
--- What a boot with these sizes answers to the lines, one after the other, with why groups were killed or without, and
--- then reports of its end. All steps of the lines together are one run from the boot on. Its history says of each line
+-- What a boot with these sizes answers to the lines, one after the other, with explanations or without, and then
+-- reports of its end. All steps of the lines together are one run from the boot on. Its history says of each line
 -- that the promise is kept after it, if the run is legal. The ledger of the boot is that of a run without steps, so
 -- after each line each group's peak and event counts are those of the run so far.
 pub record AreReplayAnswers (sizes : Config) (form : Form) (is_audited : Bool) (lines : List Line) (text : List ℕ)
     : Type 0 where
   pub frames : KnownTable
-  pub stocks : Words
+  pub stocks : KnownStockTable
   pub start : SystemState
   pub end : SystemState
   pub answers : List ℕ
@@ -62,7 +62,7 @@ checked_text steps = codes "checked " ++ (decimal steps ++ codes " steps\n")
 pub record AreCheckedAnswers (sizes : Config) (form : Form) (is_audited : Bool) (lines : List Line) (text : List ℕ)
     : Type 0 where
   pub frames : KnownTable
-  pub stocks : Words
+  pub stocks : KnownStockTable
   pub start : SystemState
   pub end : SystemState
   pub run : StepRun
@@ -79,8 +79,8 @@ pub record AreCheckedAnswers (sizes : Config) (form : Form) (is_audited : Bool) 
   pub text_is : text ≡ answers ++ (ending ++ checked_text (length whole))
 
 -- no visit is open behind the lock, and there are as many parts as CPUs
-pub record StandsQuiet (frames : KnownTable) (stocks : Words) (now : SystemState) : Type 0 where
-  pub quiet : IsQuiet frames stocks now.locked
+pub record StandsQuiet (frames : KnownTable) (stock_table : KnownStockTable) (now : SystemState) : Type 0 where
+  pub quiet : IsQuiet frames stock_table now.locked
   pub count : length now.cpus ≡ frames.cpus
 
 -- What a boot with these sizes answers to the lines by threads. Those before `go` are served one after the other from
@@ -91,7 +91,7 @@ pub record StandsQuiet (frames : KnownTable) (stocks : Words) (now : SystemState
 pub record AreThreadAnswers (sizes : Config) (is_numbered is_audited : Bool) (lines : List Line) (text : List ℕ)
     : Type 0 where
   pub frames : KnownTable
-  pub stocks : Words
+  pub stocks : KnownStockTable
   pub start : SystemState
   pub at_go : SystemState
   pub end : SystemState
@@ -99,7 +99,8 @@ pub record AreThreadAnswers (sizes : Config) (is_numbered is_audited : Bool) (li
   pub later : List ℕ
   pub ending : List ℕ
   pub first : StandsAtFirst sizes frames stocks start
-  pub served : ServesAll (numbered_terms frames stocks false is_numbered) (take (lines_before_go lines) lines) start at_go
+  pub served : ServesAll (numbered_terms frames stocks false is_numbered) (take (lines_before_go lines) lines) start
+      at_go
       early
   pub history : TellsHistory (numbered_terms frames stocks false is_numbered) (take (lines_before_go lines) lines)
       (past [] start) at_go early
@@ -119,8 +120,8 @@ IsOnScript Lint = ⊥
 IsOnScript (Serve is_explained) = ⊥
 IsOnScript Version = ⊥
 
--- what a boot with these sizes answers to the lines of the script for this task, with numbers or without, and reports of
--- its end if it is audited, or the steps as a log; the other tasks have no such answers
+-- what a boot with these sizes answers to the lines of the script for this task, with numbers or without, and reports
+-- of its end if it is audited, or the steps as a log; the other tasks have no such answers
 abbrev pub AreAnswers : Task → (sizes : Config) (is_audited is_numbered : Bool) (script : List ℕ) (lines : List Line)
     (text : List ℕ) → Type 0
 AreAnswers (Replay is_explained false) sizes is_audited is_numbered script lines text =

@@ -42,9 +42,9 @@ pub record HasAnswers (asked : Option Options) (input : List ℕ) : Type 0 where
   pub answered : IsAnswered asked text input
 
 -- Which fault has which cause, if the input should be a script. The words are judged first, then the script, then the
--- sizes. So any fault but one of the words needs words that ask for options, and the sizes are refused only if the input
--- is a script. A step is called not legal only if the options ask for a check. No clause names a further cause for that,
--- for memory that ran out, or for an input that failed.
+-- sizes. So any fault but one of the words needs words that ask for options, and the sizes are refused only if the
+-- input is a script. A step is called not legal only if the options ask for a check. No clause names a further cause
+-- for that, for memory that ran out, or for an input that failed.
 abbrev pub HasCause : Option Options → ProgramFault → (input : List ℕ) → Type 0
 HasCause asked (Words fault) input = TellsOptions asked (Err fault)
 HasCause asked (Script (script.BadLine number)) input = IsBadAt asked number input

@@ -40,7 +40,7 @@ pub record ReportsBadLine (before after : Option (List ℕ)) (text : List ℕ) :
   pub told : AppendsBeginning before after (fault_text (BadLogLine line))
 
 -- the output got a beginning of the line that says what the text is
-pub record BeginsReport (before after : Option (List ℕ)) (text : List ℕ) : Type 0 where
+pub record BeginsVerdict (before after : Option (List ℕ)) (text : List ℕ) : Type 0 where
   pub end : LogEnd
   pub is : IsEnd text end
   pub begun : AppendsBeginning before after (end_text end)
@@ -50,7 +50,7 @@ pub record BeginsReport (before after : Option (List ℕ)) (text : List ℕ) : T
 abbrev pub LeavesReport : ProgramFault → (before after : Option (List ℕ)) (text : List ℕ) → Type 0
 LeavesReport (Words (words.NoMemory error)) before after text = after ≡ before
 LeavesReport Input before after text = after ≡ before
-LeavesReport Output before after text = BeginsReport before after text
+LeavesReport Output before after text = BeginsVerdict before after text
 LeavesReport (NoMemory error) before after text = after ≡ before
 LeavesReport fault before after text = ⊥
 
@@ -61,8 +61,8 @@ pub record FailsToCheck (before after : Written) (text : List ℕ) : Type 0 wher
   pub told : AppendsBeginning before.faults after.faults (fault_text fault)
 
 -- A log was checked, and the program ended with 0, 1 or 2. With 0 the log is a legal run, and no fault is reported;
--- with 1 it is none, or the check failed; with 2 it is no log, and nothing is written to the output. What the log is, is
--- said if the input's bytes are known
+-- with 1 it is none, or the check failed; with 2 it is no log, and nothing is written to the output. What the log is,
+-- is said if the input's bytes are known
 pub record Checks (input : Option (List ℕ)) (before after : Written) (status : ℕ) : Type 0 where
   pub status_at_most : status ≤ 2
   pub silent : status ≡ 0 → after.faults ≡ before.faults

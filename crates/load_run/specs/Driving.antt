@@ -12,8 +12,8 @@ use Rattle.load_run.specs.Lints.{Lints}
 use Rattle.load_run.specs.Sessions.{SessionAsked}
 use Rattle.load_run.specs.Versions.{TellsVersion}
 
--- What the options that are asked for, if any, and an input lead to: answers or a fault. If the input's bytes are known,
--- these are the answers to them, or the fault has its cause.
+-- What the options that are asked for, if any, and an input lead to: answers or a fault. If the input's bytes are
+-- known, these are the answers to them, or the fault has its cause.
 pub record AnswersTo {Z : Type 0} (asked : Option Options) (input : Option (List ℕ))
     (result : Result (Vec ℕ Z) ProgramFault) : Type 0 where
   pub is_asked : OnOk result (IsSome asked)
@@ -48,7 +48,8 @@ pub record LintsAsked (asked : Option Options) (input : Option (List ℕ)) (befo
 -- the program ran for this task, which is asked for
 abbrev pub DrivesTask : Task → (asked : Option Options) (input : Option (List ℕ)) (before after : Written) (status : ℕ)
     → Type 0
-DrivesTask (Replay is_explained is_checked) asked input before after status = DrivesScript asked input before after status
+DrivesTask (Replay is_explained is_checked) asked input before after status = DrivesScript asked input before after
+    status
 DrivesTask Steps asked input before after status = DrivesScript asked input before after status
 DrivesTask Run asked input before after status = DrivesScript asked input before after status
 DrivesTask Check asked input before after status = Checks input before after status

@@ -3,7 +3,7 @@ use Rattle.std.specs.Prelude.{◌≡◌, ℕ, Bool, true, false, List, [], ◌�
 use Rattle.std.specs.Fmt.{decimal}
 use Rattle.frame_word.specs.declared.answers.Put.{Put}
 use Rattle.frame_word.specs.Seats.{KnownTable}
-use Rattle.stock_word.specs.Stock.{Words}
+use Rattle.stock_word.specs.Stock.{KnownStockTable}
 use Rattle.cpu_part.specs.Cpus.{KnownCpu}
 use Rattle.cpu_part.specs.Calls.{UnpinAnswers}
 use Rattle.step_rules.specs.declared.step.Action.TheVariants as step
@@ -60,9 +60,9 @@ steps_of_all_puts before (cpu ∷ cpus) after (cpu_left ∷ left) puts =
     steps_of_puts puts.first.frames (visit_state before cpu) (visit_state puts.between cpu_left) puts.first.puts
     ++ steps_of_all_puts puts.between cpus after left puts.rest
 
--- Nothing is left at any CPU, after so many pins were held. Every pin is put, one CPU after the other, and then the last
--- visits are made. These are all steps, in order, and the machine's watch took them.
-pub record LeavesNothing (table : KnownTable) (stock_table : Words) (before : SystemState) (held : ℕ)
+-- Nothing is left at any CPU, after so many pins were held. Every pin is put, one CPU after the other, and then the
+-- last visits are made. These are all steps, in order, and the machine's watch took them.
+pub record LeavesNothing (table : KnownTable) (stock_table : KnownStockTable) (before : SystemState) (held : ℕ)
     (spent : KnownSpent) : Type 0 where
   pub held_are : held ≡ pins_of before.cpus
   pub locked : KnownLocked
@@ -78,27 +78,30 @@ pub record LeavesNothing (table : KnownTable) (stock_table : Words) (before : Sy
 
 -- The boot ended, and says how many pins were held. Every pin was put, the last visits were made, and then the tables
 -- were closed.
-pub record EndsHeld (table : KnownTable) (stock_table : Words) (before : SystemState) (ended : Ended) : Type 0 where
+pub record EndsHeld (table : KnownTable) (stock_table : KnownStockTable) (before : SystemState)
+    (ended : Ended) : Type 0 where
   pub spent : KnownSpent
   pub leaves : LeavesNothing table stock_table before ended.held spent
   pub closes : Closes table stock_table spent ended.audit
 
 -- this is so of some state, and the boot ended from that state
-pub record EndsAfter (table : KnownTable) (stock_table : Words) (is_so : SystemState → Type 0)
+pub record EndsAfter (table : KnownTable) (stock_table : KnownStockTable) (is_so : SystemState → Type 0)
     (ended : Ended) : Type 0 where
   pub before : SystemState
   pub so : is_so before
   pub ends : EndsHeld table stock_table before ended
 
 -- a boot ended from this state, and this is what the machine's watch saw of all steps
-pub record EndsSeen (table : KnownTable) (stock_table : Words) (before : SystemState) (ended : Ended) (seen : Seen)
+pub record EndsSeen (table : KnownTable) (stock_table : KnownStockTable) (before : SystemState) (ended : Ended)
+    (seen : Seen)
     : Type 0 where
   pub ends : EndsHeld table stock_table before ended
   pub is_legal : seen.is_legal ≡ has_legal_steps ends.spent.machine.watch
   pub steps : seen.steps ≡ steps_seen ends.spent.machine.watch
 
 -- this is so of some state, and the boot ended from that state; this is what the watch saw
-pub record EndsSeenAfter (table : KnownTable) (stock_table : Words) (is_so : SystemState → Type 0) (ended : Ended)
+pub record EndsSeenAfter (table : KnownTable) (stock_table : KnownStockTable) (is_so : SystemState → Type 0)
+    (ended : Ended)
     (seen : Seen) : Type 0 where
   pub before : SystemState
   pub so : is_so before
@@ -130,7 +133,7 @@ end_text true ended = held_text ended.held ++ audit_text ended.audit
 end_text false ended = []
 
 -- a boot ended from this state, and the text is what is written about that
-pub record TellsEnd (table : KnownTable) (stock_table : Words) (is_audited : Bool) (before : SystemState)
+pub record TellsEnd (table : KnownTable) (stock_table : KnownStockTable) (is_audited : Bool) (before : SystemState)
     (text : List ℕ) : Type 0 where
   pub ended : Ended
   pub ends : EndsHeld table stock_table before ended

@@ -1,7 +1,8 @@
 -- What the steps of a script are as a log: the zone's sizes, and before the steps of each line a comment that names it.
-use Rattle.std.specs.Prelude.{◌≡◌, ℕ, ◌-◌, ◌==◌, ◌&&◌, nat_le, if◌then◌else◌, false, List, [], ◌∷◌, ◌++◌, codes, decimal, get_or, map, take}
+use Rattle.std.specs.Prelude.{◌≡◌, ℕ, ◌-◌, ◌==◌, ◌&&◌, nat_le, if◌then◌else◌, false, List, [], ◌∷◌, ◌++◌, codes}
+use Rattle.std.specs.Prelude.{decimal, get_or, map, take}
 use Rattle.frame_word.specs.Seats.{KnownTable}
-use Rattle.stock_word.specs.Stock.{Words}
+use Rattle.stock_word.specs.Stock.{KnownStockTable}
 use Rattle.zone_sizes.specs.declared.config.Config.{Config}
 use Rattle.step_watch.specs.Watched.{steps_text}
 use Rattle.log_lines.specs.Line.{longest_line, zone_text}
@@ -33,7 +34,7 @@ text_at texts number = if number == 0 then [] else get_or texts (number - 1) []
 -- the comment before the steps of a line; `go` makes no step, and has none
 abbrev pub line_comment : List (List ℕ) → Line → List ℕ
 line_comment texts Go = []
-line_comment texts (At number processor command) = comment_text number (text_at texts number) ++ 10 ∷ []
+line_comment texts (At number cpu command) = comment_text number (text_at texts number) ++ 10 ∷ []
 
 -- a line is served, and its log is its comment and the steps by which it is served
 pub record LogsLine (terms : Terms) (texts : List (List ℕ)) (line : Line) (before after : SystemState) (log : List ℕ)
@@ -53,14 +54,16 @@ pub record GrowsBy (is_log : List ℕ → Type 0) (before after : List ℕ) : Ty
   pub added : after ≡ before ++ text
 
 -- the log of the end: a comment, and the steps that leave nothing at any CPU
-pub record LogsEnd (table : KnownTable) (stock_table : Words) (before : SystemState) (log : List ℕ) : Type 0 where
+pub record LogsEnd (table : KnownTable) (stock_table : KnownStockTable) (before : SystemState)
+    (log : List ℕ) : Type 0 where
   pub held : ℕ
   pub spent : KnownSpent
   pub leaves : LeavesNothing table stock_table before held spent
   pub log_is : log ≡ codes "# end\n" ++ steps_text leaves.steps
 
 -- the log of lines that are served one after the other, and then of the end
-pub record LogsAllAndEnd (table : KnownTable) (stock_table : Words) (texts : List (List ℕ)) (lines : List Line)
+pub record LogsAllAndEnd (table : KnownTable) (stock_table : KnownStockTable) (texts : List (List ℕ))
+    (lines : List Line)
     (before : SystemState) (log : List ℕ) : Type 0 where
   pub end : SystemState
   pub served_log : List ℕ
@@ -73,7 +76,7 @@ pub record LogsAllAndEnd (table : KnownTable) (stock_table : Words) (texts : Lis
 -- steps by which it is served, one line after the other from the boot on, and then those of the end.
 pub record AreLoggedSteps (sizes : Config) (script : List ℕ) (lines : List Line) (text : List ℕ) : Type 0 where
   pub frames : KnownTable
-  pub stocks : Words
+  pub stocks : KnownStockTable
   pub start : SystemState
   pub first : StandsAtFirst sizes frames stocks start
   pub log : List ℕ

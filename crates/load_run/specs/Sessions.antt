@@ -2,7 +2,7 @@
 use Rattle.std.specs.Prelude.{◌≡◌, ◌⊎◌, ℕ, ◌≤◌, Bool, List, [], Option, Some, ⊤}
 use Rattle.std.specs.Io.KnownBytes.{Appends}
 use Rattle.frame_word.specs.Seats.{KnownTable}
-use Rattle.stock_word.specs.Stock.{Words}
+use Rattle.stock_word.specs.Stock.{KnownStockTable}
 use Rattle.zone_sizes.specs.Config.{IsValidConfig}
 use Rattle.mem_machine.specs.Telling.{TellsRun}
 use Rattle.script_replay.specs.History.{TellsHistory, past}
@@ -28,7 +28,7 @@ use Rattle.load_run.specs.Writing.{AppendsBeginning}
 pub record EndsSession (options : Options) (is_explained : Bool) (input before middle : Option (List ℕ))
     (ending : List ℕ) : Type 0 where
   pub frames : KnownTable
-  pub stocks : Words
+  pub stocks : KnownStockTable
   pub start : SystemState
   pub end : SystemState
   pub first : StandsAtFirst options.sizes frames stocks start
@@ -63,7 +63,7 @@ IsSameFault why fault = ⊥
 pub record FailsOnBoot (options : Options) (is_explained : Bool) (input before after : Option (List ℕ))
     (fault : ProgramFault) : Type 0 where
   pub frames : KnownTable
-  pub stocks : Words
+  pub stocks : KnownStockTable
   pub start : SystemState
   pub end : SystemState
   pub first : StandsAtFirst options.sizes frames stocks start
@@ -123,7 +123,8 @@ pub record DrivesSession (options : Options) (is_explained : Bool) (input : Opti
   pub refused : status ≡ 2 → RefusesSizes options before.faults after.faults
 
 -- a session was held for the options that are asked for
-pub record SessionAsked (is_explained : Bool) (asked : Option Options) (input : Option (List ℕ)) (before after : Written)
+pub record SessionAsked (is_explained : Bool) (asked : Option Options) (input : Option (List ℕ))
+    (before after : Written)
     (status : ℕ) : Type 0 where
   pub options : Options
   pub is_asked : asked ≡ Some options

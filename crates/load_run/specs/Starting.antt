@@ -1,14 +1,15 @@
 -- What stands after a boot.
 use Rattle.std.specs.Prelude.{◌≡◌}
 use Rattle.frame_word.specs.Seats.{KnownTable}
-use Rattle.stock_word.specs.Stock.{Words}
+use Rattle.stock_word.specs.Stock.{KnownStockTable}
 use Rattle.zone_sizes.specs.declared.config.Config.{Config}
 use Rattle.mem_machine.specs.Machines.{IsFirst}
 use Rattle.mem_system.specs.Boots.{IsSizedAs, first_cpus}
 use Rattle.script_replay.specs.Lines.{SystemState}
 
 -- the state after a boot with these sizes, under these tables: a new machine, and CPUs that did nothing yet
-pub record StandsAtFirst (sizes : Config) (table : KnownTable) (stock_table : Words) (first : SystemState) : Type 0 where
+pub record StandsAtFirst (sizes : Config) (table : KnownTable) (stock_table : KnownStockTable)
+    (first : SystemState) : Type 0 where
   pub sized : IsSizedAs sizes table stock_table
   pub machine : IsFirst table stock_table first.locked.machine
   pub sizes_are : first.locked.sizes ≡ sizes

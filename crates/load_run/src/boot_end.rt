@@ -39,13 +39,13 @@ fn put_pin<N: BootName>(locked: &mut Locked<N>, tables: &Tables<N>, cpu: &mut Cp
     ensures puts { PutsPin frame (visit_state locked.old.machine cpu.old) (visit_state locked.new.machine cpu.new) }
     ensures sizes { locked.new.sizes ≡ locked.old.sizes }
 {
-    let number = cpu.number();
+    let cpu_number = cpu.number();
     let answer = match cpu.put(tables, frame) {
         Put::Left(left) => Answer::Left(left as u32),
         Put::Last => Answer::Last,
     };
     let frame = frame.number();
-    locked.take_step(number, Action::Put { frame }, answer);
+    locked.take_step(cpu_number, Action::Put { frame }, answer);
 }
 
 // Puts every pin of the CPU.

@@ -47,8 +47,9 @@ impl From<Stopped> for Unanswered {
 }
 
 /// Replays the lines as `replay_on_boot` does, with a check of each step that they and the end make. What they are
-/// answered is followed by the report of the end, if that is asked for, and by the number of all steps. The replay stops
-/// after the first line with a step that isn't legal, or if memory runs out: a boot that began has ended then too.
+/// answered is followed by the report of the end, if that is asked for, and by the number of all steps. The replay
+/// stops after the first line with a step that isn't legal, or if memory runs out: a boot that began has ended then
+/// too.
 pub fn check_on_boot<N: BootName>(
     alloc: Global,
     boot: Boot,
@@ -89,7 +90,8 @@ fn check_and_end_boot<N: BootName>(
     requires lines { All (LineIsThere N.frames.frames N.frames.cpus) lines.now }
     requires legal { has_legal_steps locked.machine.watch ≡ true }
     ensures ends { EndsSeenAfter N.frames N.stocks
-        (λ left. ReplaysCheckedOrStops (form_terms N.frames N.stocks form) lines.now (system_state locked cpus.items) left
+        (λ left. ReplaysCheckedOrStops (form_terms N.frames N.stocks form) lines.now (system_state locked cpus.items)
+        left
         result.0) result.1 result.2 }
 {
     let answers = replay_checked(alloc, &mut locked, &tables, &mut cpus, lines, form);

@@ -18,8 +18,8 @@ use std::io::{Read, Write};
 ///
 /// The log is read up to where it is known what it is. If it is legal, the output gets the number of its steps, and the
 /// status is 0. If a step isn't legal, the output gets its line, its number and the answer that was due, and the status
-/// is 1. A bad line is a fault of status 2. If the input can't be read, the output can't be written, or memory runs out,
-/// that is a fault of status 1.
+/// is 1. A bad line is a fault of status 2. If the input can't be read, the output can't be written, or memory runs
+/// out, that is a fault of status 1.
 #[tactic(auto, using(crate::proofs::Verdicts::end_of, crate::proofs::Verdicts::checks_fault))]
 pub fn drive_check<I: Read, O: Write, F: Write>(
     alloc: Global,

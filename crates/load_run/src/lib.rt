@@ -1,8 +1,8 @@
 //! The program `memcg` without its process: from the words of the command line and the bytes of a script to answers, or
 //! from the bytes of a log to what it is. With status 0 the output got all that a new boot answers to the script, or
-//! that the log is legal. Else the output got that the log isn't legal; or a beginning of either if it failed itself, or
-//! nothing, and the fault writer got the cause, as far as it takes it. Over streams of unknown bytes the status alone is
-//! promised.
+//! that the log is legal. Else the output got that the log isn't legal; or a beginning of either if it failed itself,
+//! or nothing, and the fault writer got the cause, as far as it takes it. Over streams of unknown bytes the status
+//! alone is promised.
 #![tactic(auto)]
 
 pub mod boot_end;

@@ -30,8 +30,8 @@ struct Report {
 }
 
 /// Lints the script that the input holds, and returns the status to end with: 0 if nothing is found. If something is,
-/// the output gets it, and the status is 1. If the input can't be read, the output can't be written, or memory runs out,
-/// that is a fault of status 1.
+/// the output gets it, and the status is 1. If the input can't be read, the output can't be written, or memory runs
+/// out, that is a fault of status 1.
 pub fn drive_lint<I: Read, O: Write, F: Write>(
     alloc: Global,
     sizes: &Config,

@@ -1,5 +1,5 @@
-//! The program over any reader and two writers: what a new boot answers to the script, or what the log is, is written to
-//! the output, or a fault is reported, and the status says which.
+//! The program over any reader and two writers: what a new boot answers to the script, or what the log is, is written
+//! to the output, or a fault is reported, and the status says which.
 
 ghost use Rattle.std.specs.Prelude.{◌≡◌, All, IfErr, IfOk, OnOk, Some, map, true};
 ghost use Rattle.std.specs.Io.KnownBytes.{Appends};
@@ -50,9 +50,9 @@ use std::thread::Threads;
 /// checked, then a boot answers the lines, as the task says, and ends. The answers are gathered first and then written
 /// whole; if the output fails, a beginning of them may have been written, and after any other fault nothing. A fault is
 /// reported in one line, those of the words in clap's text. The status is 0, or with `--strict` 3 if some answer is a
-/// refusal; 2 after a fault of the words, a bad line or
-/// a bad configuration; 1 if the script can't be read, the answers can't be written, memory runs out, a thread can't be
-/// started, or a step of a replay with `--check` isn't legal. `drive_check` says how a log is checked.
+/// refusal; 2 after a fault of the words, a bad line or a bad configuration; 1 if the script can't be read, the answers
+/// can't be written, memory runs out, a thread can't be started, or a step of a replay with `--check` isn't legal.
+/// `drive_check` says how a log is checked.
 pub fn drive<R: Threads + Wait + Sync, S: AsStr, I: Read, O: Write, F: Write>(
     rt: &R,
     alloc: Global,
@@ -177,7 +177,8 @@ fn answers_of<R: Threads + Wait + Sync>(
     requires task { IsOnScript options.now.task }
     requires lines { All (LineIsThere options.now.sizes.frames options.now.sizes.cpus) lines.now }
     ensures answers { IfOk result (λ text.
-        AreAnswers options.now.task options.now.sizes options.now.is_audited options.now.is_numbered script.now lines.now
+        AreAnswers options.now.task options.now.sizes options.now.is_audited options.now.is_numbered script.now
+        lines.now
         text.items) }
     ensures valid { OnOk result (IsValidConfig options.now.sizes) }
     ensures fault { IfErr result (IsBootFault options.now.task options.now.sizes) }
@@ -205,7 +206,8 @@ fn answers_on_boot<N: BootName + Send + Sync, R: Threads + Wait + Sync>(
     requires valid { IsValidConfig options.now.sizes }
     requires lines { All (LineIsThere boot.sizes.frames boot.sizes.cpus) lines.now }
     ensures answers { IfOk result (λ text.
-        AreAnswers options.now.task boot.sizes options.now.is_audited options.now.is_numbered script.now lines.now text.items) }
+        AreAnswers options.now.task boot.sizes options.now.is_audited options.now.is_numbered script.now lines.now
+        text.items) }
     ensures fault { IfErr result (IsFailedTask options.now.task) }
 {
     match options.task {

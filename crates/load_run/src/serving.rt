@@ -24,9 +24,9 @@ use std::alloc::{AllocError, Global};
 use std::io::{Read, Write};
 use std::marker::Brand;
 
-/// Boots with the sizes of the options, answers the lines that the input holds, and returns the status to end with: 0 at
-/// `quit` or at the end of the input; 2 if the sizes are refused, before any line is read; 1 if the input can't be read,
-/// an answer can't be written, or memory runs out.
+/// Boots with the sizes of the options, answers the lines that the input holds, and returns the status to end with: 0
+/// at `quit` or at the end of the input; 2 if the sizes are refused, before any line is read; 1 if the input can't be
+/// read, an answer can't be written, or memory runs out.
 pub fn drive_serve<I: Read, O: Write, F: Write>(
     alloc: Global,
     options: &Options,
@@ -121,8 +121,10 @@ fn write_report<O: Write>(
     is_audited: bool,
     output: &mut O,
 ) -> Result<(), ProgramFault>
-    ensures written { OnOk result (Appends (O.contents output.old) (O.contents output.new) (end_text is_audited ended)) }
-    ensures begun { IfErr result (BeginsReport (O.contents output.old) (O.contents output.new) (end_text is_audited ended)) }
+    ensures written { OnOk result (Appends (O.contents output.old) (O.contents output.new)
+        (end_text is_audited ended)) }
+    ensures begun { IfErr result (BeginsReport (O.contents output.old) (O.contents output.new)
+        (end_text is_audited ended)) }
 {
     match tell_end(alloc, Vec::new(alloc), ended, is_audited) {
         Ok(text) => write_answers(&text, output),

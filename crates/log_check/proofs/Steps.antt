@@ -11,7 +11,7 @@ use Rattle.step_rules.specs.State.{State, at_boot}
 use Rattle.step_rules.specs.Legal.{Allows}
 use Rattle.step_rules.specs.After.{IsLegalRun, after, state_of}
 use Rattle.step_rules.proofs.Runs.{legal_more, one_more, state_more}
-use Rattle.mem_core.specs.Shown.{CoreState, state_in}
+use Rattle.mem_core.specs.Shown.{CoreState, state_shown}
 use Rattle.mem_core.specs.Checked.{IsFirstIllegal, Leads}
 use Rattle.log_lines.specs.declared.line.LogLine.{LogLine}
 use Rattle.log_lines.specs.declared.line.LogLine.TheVariants as kinds
@@ -46,7 +46,7 @@ no_steps_legal : (frames cpus : ℕ) → IsLegalRun (record { frames = frames; c
 no_steps_legal frames cpus k = tt
 
 pub takes_zone : (lines : List LogLine) (frames cpus : ℕ) (s : CoreState) → HasChecked None lines
-    → state_in s ≡ at_boot (record { frames = frames; cpus = cpus }) → s.steps ≡ 0 → HasChecked (Some s) (lines ++ kinds.Zone frames cpus ∷ [])
+    → state_shown s ≡ at_boot (record { frames = frames; cpus = cpus }) → s.steps ≡ 0 → HasChecked (Some s) (lines ++ kinds.Zone frames cpus ∷ [])
 takes_zone lines frames cpus s none state steps = record {
   log = record { frames = frames; cpus = cpus; run = [] };
   order = filter_append lines (kinds.Zone frames cpus ∷ []) ∙ ap (λ (ls : List LogLine). ls ++ kinds.Zone frames cpus ∷ []) none;
@@ -113,7 +113,7 @@ get_last [] x = refl
 get_last (y ∷ ys) x = get_last ys x
 
 pub takes_step : (lines : List LogLine) (step : Step) (answer : Answer) (s t : CoreState) → HasChecked (Some s) lines
-    → Leads (state_in s) step answer (state_in t) → t.steps ≡ s.steps + 1 → HasChecked (Some t) (lines ++ kinds.Step step answer ∷ [])
+    → Leads (state_shown s) step answer (state_shown t) → t.steps ≡ s.steps + 1 → HasChecked (Some t) (lines ++ kinds.Step step answer ∷ [])
 takes_step lines step answer s t checked leads one =
     let log = checked.log in
     let here : Allows (state_of (zone_in log) log.run) step.seat step.action answer =
@@ -127,7 +127,7 @@ takes_step lines step answer s t checked leads one =
     }
 
 pub ends_illegally : (lines : List LogLine) (step : Step) (answer expected : Answer) (s t : CoreState) (steps : ℕ) → HasChecked (Some s) lines
-    → ¬ Allows (state_in s) step.seat step.action answer → Leads (state_in s) step expected (state_in t) → steps ≡ s.steps + 1
+    → ¬ Allows (state_shown s) step.seat step.action answer → Leads (state_shown s) step expected (state_shown t) → steps ≡ s.steps + 1
     → EndsIllegally (lines ++ kinds.Step step answer ∷ []) steps expected
 ends_illegally lines step answer expected s t steps checked denied leads one =
     let log = checked.log in

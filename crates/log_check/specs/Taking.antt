@@ -1,9 +1,10 @@
 -- How far a log is read and checked.
-use Rattle.std.specs.Prelude.{◌≡◌, ◌≢◌, ℕ, ◌+◌, ◌-◌, ◌^◌, ◌<◌, ◌≤◌, List, [], ◌∷◌, ◌++◌, Option, Some, None, All, filter, length, ⊤}
+use Rattle.std.specs.Prelude.{◌≡◌, ◌≢◌, ℕ, ◌+◌, ◌-◌, ◌^◌, ◌<◌, ◌≤◌, List, [], ◌∷◌, ◌++◌, Option, Some, None, All}
+use Rattle.std.specs.Prelude.{filter, length, ⊤}
 use Rattle.std.specs.List.{AllZip}
 use Rattle.step_rules.specs.declared.step.Answer.{Answer}
 use Rattle.step_rules.specs.After.{IsLegalRun, state_of}
-use Rattle.mem_core.specs.Shown.{CoreState, state_in}
+use Rattle.mem_core.specs.Shown.{CoreState, state_shown}
 use Rattle.mem_core.specs.Checked.{IsFirstIllegal}
 use Rattle.log_lines.specs.declared.line.LogLine.{LogLine}
 use Rattle.log_lines.specs.declared.line.LogLine.TheVariants as kinds
@@ -27,7 +28,7 @@ pub record LeadsTo (lines : List LogLine) (s : CoreState) : Type 0 where
   pub log : WholeLog
   pub order : SayInOrder lines log
   pub legal : IsLegalRun (zone_in log) log.run
-  pub state : state_in s ≡ state_of (zone_in log) log.run
+  pub state : state_shown s ≡ state_of (zone_in log) log.run
   pub count : s.steps ≡ length log.run
 
 -- the checker has taken the steps of these lines; without a checker, all of them are empty or comments

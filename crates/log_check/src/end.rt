@@ -4,7 +4,7 @@ use step_rules::step::Answer;
 use thiserror::Error;
 
 /// What a check says of the text of a log. Lines and steps are counted from 1.
-#[derive(Clone, Copy, Debug, PartialEq, Eq)]
+#[derive(Clone, Copy, PartialEq, Eq)]
 pub enum LogEnd {
     /// The log is a legal run.
     Legal {

@@ -20,7 +20,8 @@ const PIECE: usize = 4_096;
 /// an allocation failed here.
 pub fn check_log<I: Read>(alloc: Global, input: &mut I) -> Result<LogEnd, LogFault>
     ensures end { IfOk result (λ end. IfSome (I.remaining input.old) (λ text. IsEnd text end)) }
-    ensures exact { IfOk result (λ end. IfSome (I.remaining input.old) (λ text. IsTrue (says_legal end) ↔ IsLegalLog text)) }
+    ensures exact { IfOk result (λ end. IfSome (I.remaining input.old)
+        (λ text. IsTrue (says_legal end) ↔ IsLegalLog text)) }
 {
     let mut log = LogReader::new(alloc);
     let mut piece = [0; PIECE];

@@ -1,5 +1,6 @@
 -- The text of a whole log.
-use Rattle.std.specs.Prelude.{◌≡◌, ◌≢◌, ◌⊎◌, ℕ, ◌+◌, Bool, true, false, List, [], ◌∷◌, ◌++◌, All, filter, flat_map, length, map}
+use Rattle.std.specs.Prelude.{◌≡◌, ◌≢◌, ◌⊎◌, ℕ, ◌+◌, Bool, true, false, List, [], ◌∷◌, ◌++◌, All, filter, flat_map}
+use Rattle.std.specs.Prelude.{length, map}
 use Rattle.std.specs.List.{AllByRecursion, AllZip}
 use Rattle.step_rules.specs.declared.step.Step.{Step}
 use Rattle.step_rules.specs.declared.step.Answer.{Answer}
@@ -21,7 +22,8 @@ pub record WholeLog : Type 0 where
 
 -- the lines are the zone's sizes, then the steps, with empty lines and comments anywhere
 abbrev pub SayInOrder : List LogLine → WholeLog → Type 0
-SayInOrder lines log = filter says_something lines ≡ kinds.Zone log.frames log.cpus ∷ map (λ e. kinds.Step e.0 e.1) log.run
+SayInOrder lines log = filter says_something lines
+    ≡ kinds.Zone log.frames log.cpus ∷ map (λ e. kinds.Step e.0 e.1) log.run
 
 -- the lines of a text, each of which ends with a line feed
 pub record AreLinesOf (text : List ℕ) (lines : List (List ℕ)) : Type 0 where
@@ -44,7 +46,8 @@ MayBegin lines = (filter says_something lines ≡ []) ⊎ ((log : WholeLog) × S
 -- Otherwise the next line has no line feed, is the text of no line, or may not come here.
 pub record EndsBadly (lines : List LogLine) (rest : List ℕ) : Type 0 where
   pub no_sizes : rest ≡ [] → filter says_something lines ≡ []
-  pub no_line : (next more : List ℕ) (line : LogLine) → All (λ b. b ≢ 10) next → rest ≡ next ++ 10 ∷ more → IsLineText next line
+  pub no_line : (next more : List ℕ) (line : LogLine) → All (λ b. b ≢ 10) next → rest ≡ next ++ 10 ∷ more
+      → IsLineText next line
       → ¬ MayBegin (lines ++ line ∷ [])
 
 -- a log may begin with the lines before the n-th, counted from 1, but not with the n-th added

@@ -5,7 +5,8 @@ use Rattle.step_rules.specs.declared.step.Action.{Action}
 use Rattle.step_rules.specs.declared.step.Action.TheVariants as action
 use Rattle.step_rules.specs.declared.step.Answer.TheVariants as answer
 use Rattle.log_lines.specs.declared.name.OfNumber.{OfNumber}
-use Rattle.log_lines.specs.declared.name.OfNumber.TheVariants.{Open, Shut, Get, Put, TakeIn, PassBack, Credit, Report, Absorb, Drain, Publish, Return}
+use Rattle.log_lines.specs.declared.name.OfNumber.TheVariants.{Open, Shut, Get, Put, TakeIn, PassBack, Credit, Report}
+use Rattle.log_lines.specs.declared.name.OfNumber.TheVariants.{Absorb, Drain, Publish, Return}
 use Rattle.log_lines.specs.declared.name.OfNumbers.{OfNumbers}
 use Rattle.log_lines.specs.declared.name.OfNumbers.TheVariants.{Freeze, Unfreeze, PassOut, Collect}
 use Rattle.log_lines.specs.declared.name.OfGroup.{OfGroup}
@@ -13,7 +14,8 @@ use Rattle.log_lines.specs.declared.name.OfGroup.TheVariants.{Consume, NoteMax, 
 use Rattle.log_lines.specs.declared.name.OfPages.{OfPages}
 use Rattle.log_lines.specs.declared.name.OfPages.TheVariants.{Grant, Ungrant}
 use Rattle.log_lines.specs.declared.name.ActionName.{ActionName}
-use Rattle.log_lines.specs.declared.name.ActionName.TheVariants.{Lock, Unlock, Number, Numbers, Group, Pages, Fill, Place, Limit, Flag, Make}
+use Rattle.log_lines.specs.declared.name.ActionName.TheVariants.{Lock, Unlock, Number, Numbers, Group, Pages, Fill}
+use Rattle.log_lines.specs.declared.name.ActionName.TheVariants.{Place, Limit, Flag, Make}
 use Rattle.log_lines.specs.declared.name.AnswerName.{AnswerName}
 use Rattle.log_lines.specs.declared.name.AnswerName.TheVariants as reply
 
@@ -30,18 +32,23 @@ action_names =
     ∷ (codes "consume", Group Consume) ∷ (codes "note-max", Group NoteMax) ∷ (codes "note-oom", Group NoteOom)
     ∷ (codes "group-kill", Group GroupKill) ∷ (codes "remove", Group Remove) ∷ (codes "kill", Group Kill)
     ∷ (codes "grant", Pages Grant) ∷ (codes "ungrant", Pages Ungrant)
-    ∷ (codes "fill", Fill) ∷ (codes "place", Place) ∷ (codes "limit", Limit) ∷ (codes "flag", Flag) ∷ (codes "make", Make) ∷ []
+    ∷ (codes "fill", Fill) ∷ (codes "place", Place) ∷ (codes "limit", Limit) ∷ (codes "flag", Flag)
+    ∷ (codes "make", Make) ∷ []
 
 -- the names of the answers
 abbrev pub answer_names : List (List ℕ × AnswerName)
 answer_names =
-    (codes "illegal", reply.Alone answer.Illegal) ∷ (codes "done", reply.Alone answer.Done) ∷ (codes "held", reply.Alone answer.Held)
-    ∷ (codes "zero", reply.Alone answer.Zero) ∷ (codes "full", reply.Alone answer.Full) ∷ (codes "last", reply.Alone answer.Last)
-    ∷ (codes "missed", reply.Alone answer.Missed) ∷ (codes "took", reply.Alone answer.Took) ∷ (codes "empty", reply.Alone answer.Empty)
+    (codes "illegal", reply.Alone answer.Illegal) ∷ (codes "done", reply.Alone answer.Done)
+    ∷ (codes "held", reply.Alone answer.Held)
+    ∷ (codes "zero", reply.Alone answer.Zero) ∷ (codes "full", reply.Alone answer.Full)
+    ∷ (codes "last", reply.Alone answer.Last)
+    ∷ (codes "missed", reply.Alone answer.Missed) ∷ (codes "took", reply.Alone answer.Took)
+    ∷ (codes "empty", reply.Alone answer.Empty)
     ∷ (codes "other-group", reply.Alone answer.OtherGroup) ∷ (codes "drained", reply.Alone answer.Drained)
     ∷ (codes "back", reply.Alone answer.Back) ∷ (codes "granted", reply.Alone answer.Granted)
     ∷ (codes "no-block", reply.Alone answer.NoFreeBlock)
-    ∷ (codes "left", reply.Left) ∷ (codes "pages", reply.Pages) ∷ (codes "over", reply.Over) ∷ (codes "placed", reply.Placed)
+    ∷ (codes "left", reply.Left) ∷ (codes "pages", reply.Pages) ∷ (codes "over", reply.Over)
+    ∷ (codes "placed", reply.Placed)
     ∷ (codes "number", reply.Number) ∷ []
 
 -- the action of this name

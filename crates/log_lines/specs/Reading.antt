@@ -1,6 +1,6 @@
 -- How a line is parsed: functions on the list of its words.
-use Rattle.std.specs.Prelude.{◌≡◌, ℕ, ◌^◌, ◌&&◌, ◌==◌, nat_le, nat_lt, Bool, true, false, List, [], ◌∷◌, Option, Some, None, bytes_eq, codes, decimal, length}
-use Rattle.std.specs.Prelude.{if◌then◌else◌}
+use Rattle.std.specs.Prelude.{◌≡◌, ℕ, ◌^◌, ◌&&◌, ◌==◌, nat_le, nat_lt, Bool, true, false, List, [], ◌∷◌, Option, Some}
+use Rattle.std.specs.Prelude.{None, bytes_eq, codes, decimal, length, if◌then◌else◌}
 use Rattle.std.specs.Borrow.{Bor}
 use Rattle.std.specs.List.{slice_split}
 use Rattle.std.specs.Str.Parse.{digits_value}
@@ -14,10 +14,12 @@ use Rattle.step_rules.specs.declared.step.Answer.TheVariants as answer
 use Rattle.log_lines.specs.declared.line.LogLine.{LogLine}
 use Rattle.log_lines.specs.declared.line.LogLine.TheVariants as kinds
 use Rattle.log_lines.specs.declared.name.ActionName.{ActionName}
-use Rattle.log_lines.specs.declared.name.ActionName.TheVariants.{Lock, Unlock, Number, Numbers, Group, Pages, Fill, Place, Limit, Flag, Make}
+use Rattle.log_lines.specs.declared.name.ActionName.TheVariants.{Lock, Unlock, Number, Numbers, Group, Pages, Fill}
+use Rattle.log_lines.specs.declared.name.ActionName.TheVariants.{Place, Limit, Flag, Make}
 use Rattle.log_lines.specs.declared.name.AnswerName.{AnswerName}
 use Rattle.log_lines.specs.declared.name.AnswerName.TheVariants as reply
-use Rattle.log_lines.specs.Names.{action_named, action_of_group, action_of_number, action_of_numbers, action_of_pages, answer_named}
+use Rattle.log_lines.specs.Names.{action_named, action_of_group, action_of_number, action_of_numbers, action_of_pages}
+use Rattle.log_lines.specs.Names.{answer_named}
 use Rattle.log_lines.specs.Words.{is_path}
 use Rattle.log_lines.specs.Line.{is_skipped, longest_line}
 
@@ -56,7 +58,8 @@ only_if test x = if test then Some x else None
 
 -- the number below 2 ^ 64 whose text the word is
 abbrev pub number_of : List ℕ → Option ℕ
-number_of word = only_if (bytes_eq (decimal (digits_value 10 word)) word && nat_lt (digits_value 10 word) (2 ^ 64)) (digits_value 10 word)
+number_of word = only_if (bytes_eq (decimal (digits_value 10 word)) word && nat_lt (digits_value 10 word) (2 ^ 64))
+    (digits_value 10 word)
 
 -- the number below 2 ^ 32 whose text the word is
 abbrev pub u32_of : List ℕ → Option ℕ
@@ -109,10 +112,13 @@ unfoldable pub arguments_at : ActionName → Reads Action
 arguments_at Lock words = Some (action.Lock, words)
 arguments_at Unlock words = Some (action.Unlock, words)
 arguments_at (Number name) words = number_at words >>= λ n. Some (action_of_number name n.0, n.1)
-arguments_at (Numbers name) words = number_at words >>= λ m. number_at m.1 >>= λ n. Some (action_of_numbers name m.0 n.0, n.1)
+arguments_at (Numbers name) words = number_at words >>= λ m. number_at m.1 >>= λ n.
+    Some (action_of_numbers name m.0 n.0, n.1)
 arguments_at (Group name) words = group_at words >>= λ g. Some (action_of_group name g.0, g.1)
-arguments_at (Pages name) words = group_at words >>= λ g. number_at g.1 >>= λ n. Some (action_of_pages name g.0 n.0, n.1)
-arguments_at Fill words = number_at words >>= λ p. group_at p.1 >>= λ g. number_at g.1 >>= λ n. Some (action.Fill p.0 g.0 n.0, n.1)
+arguments_at (Pages name) words = group_at words >>= λ g. number_at g.1 >>= λ n.
+    Some (action_of_pages name g.0 n.0, n.1)
+arguments_at Fill words = number_at words >>= λ p. group_at p.1 >>= λ g. number_at g.1 >>= λ n.
+    Some (action.Fill p.0 g.0 n.0, n.1)
 arguments_at Place words = group_at words >>= λ g. order_at g.1 >>= λ k. Some (action.PlaceBlock g.0 k.0, k.1)
 arguments_at Limit words = group_at words >>= λ g. limit_at g.1 >>= λ n. Some (action.SetMax g.0 n.0, n.1)
 arguments_at Flag words = group_at words >>= λ g. flag_at g.1 >>= λ f. Some (action.SetFlag g.0 f.0, f.1)
@@ -131,7 +137,8 @@ results_at (reply.Alone reached) words = Some (reached, words)
 results_at reply.Left words = number_at words >>= λ n. Some (answer.Left n.0, n.1)
 results_at reply.Pages words = wide_at words >>= λ n. Some (answer.Pages n.0, n.1)
 results_at reply.Over words = group_at words >>= λ g. Some (answer.Over g.0, g.1)
-results_at reply.Placed words = number_at words >>= λ f. order_at f.1 >>= λ k. Some (answer.Placed (record { at = f.0; order = k.0 }), k.1)
+results_at reply.Placed words = number_at words >>= λ f. order_at f.1 >>= λ k.
+    Some (answer.Placed (record { at = f.0; order = k.0 }), k.1)
 results_at reply.Number words = group_at words >>= λ g. Some (answer.Number g.0, g.1)
 
 -- an answer

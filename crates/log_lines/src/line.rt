@@ -3,7 +3,7 @@
 use step_rules::step::{Answer, Step};
 
 /// One line of a log.
-#[derive(Clone, Copy, Debug, PartialEq, Eq)]
+#[derive(Clone, Copy)]
 pub enum LogLine {
     /// An empty line, or a comment.
     Skipped,

@@ -2,7 +2,8 @@
 
 ghost use Rattle.std.specs.Prelude.{◌≡◌, bytes_eq, map};
 ghost use Rattle.std.specs.Map.{lookup};
-ghost use Rattle.log_lines.specs.Names.{action_named, action_of_group, action_of_number, action_of_numbers, action_of_pages, answer_named};
+ghost use Rattle.log_lines.specs.Names.{action_named, action_of_group, action_of_number, action_of_numbers};
+ghost use Rattle.log_lines.specs.Names.{action_of_pages, answer_named};
 
 use group_tree::group::GroupId;
 use step_rules::step::{Action, Answer};

@@ -4,7 +4,8 @@ ghost use Rattle.std.specs.Prelude.{◌≡◌, ℕ, List, MatchOption};
 ghost use Rattle.log_lines.specs.declared.line.LogLine.{LogLine};
 ghost use Rattle.log_lines.specs.Line.{IsLineText, is_skipped};
 ghost use Rattle.log_lines.specs.Log.{IsFirstBadLine, IsLog, WholeLog};
-ghost use Rattle.log_lines.specs.Reading.{Gives, action_at, answer_at, arguments_at, entry_of, line_of, results_at, zone_of};
+ghost use Rattle.log_lines.specs.Reading.{Gives, action_at, answer_at, arguments_at, entry_of, line_of, results_at};
+ghost use Rattle.log_lines.specs.Reading.{zone_of};
 
 use crate::line::LogLine;
 use crate::name::{ActionName, AnswerName, action_named, answer_named};

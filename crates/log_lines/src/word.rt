@@ -3,8 +3,8 @@
 ghost use Rattle.std.specs.Prelude.{◌≡◌, ◌==◌, ℕ, ◌^◌, ◌<◌, Some, decimal};
 ghost use Rattle.std.specs.List.{list_all, position};
 ghost use Rattle.log_lines.specs.Words.{is_graphic, is_path};
-ghost use Rattle.log_lines.specs.Reading.{Gives, first_of, flag_at, flag_of, group_at, is_end, limit_at, limit_of, number_at, number_of, order_at, path_at, u32_of, wide_at};
-ghost use Rattle.log_lines.specs.Reading.{words_of};
+ghost use Rattle.log_lines.specs.Reading.{Gives, first_of, flag_at, flag_of, group_at, is_end, limit_at, limit_of};
+ghost use Rattle.log_lines.specs.Reading.{number_at, number_of, order_at, path_at, u32_of, wide_at, words_of};
 
 use group_tree::group::GroupId;
 use group_tree::path::{MAX_PATH, PathText};

@@ -3,3 +3,4 @@ mod Lists
 mod Packing
 mod Pairs
 mod Records
+mod Walking

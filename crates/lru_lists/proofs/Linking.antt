@@ -8,7 +8,7 @@ use Rattle.std.proofs.lemmas.Map.Steps.{length-le_from_distinct_below}
 use Rattle.lru_lists.specs.declared.record.Link.{Link}
 use Rattle.lru_lists.specs.declared.record.Home.{Home}
 use Rattle.lru_lists.specs.declared.queue.Queue.{Queue}
-use Rattle.lru_lists.specs.Queue.{link_at, nowhere, is_among, AreApart, oldest_of, newest_of, after, before_from, before, without, IsLinked}
+use Rattle.lru_lists.specs.Queue.{link_at, nowhere, is_among, AreApart, oldest_of, newest_of, unit_after, before_from, unit_before, without, IsLinked}
 use Rattle.lru_lists.specs.Queue.{units_from, units_of, end_or, pushed_queue, queue_without}
 use Rattle.lru_lists.proofs.Lists.{among_without, gone_without, apart_without, length_without, before_none, before_among, oldest_gone, oldest_stays}
 use Rattle.lru_lists.proofs.Lists.{newest_gone, newest_stays, after_gone, after_stays, before_gone, before_stays, among_push, apart_push, oldest_push}
@@ -17,7 +17,7 @@ use Rattle.lru_lists.proofs.Lists.{before_push_last, other_than_first}
 
 -- ---- the list that is linked is the one that is walked
 
-pub walked : (links : List Link) (ys : List ℕ) → AreApart ys → ((f : ℕ) → is_among ys f ≡ true → (link_at links f).newer ≡ after ys f)
+pub walked : (links : List Link) (ys : List ℕ) → AreApart ys → ((f : ℕ) → is_among ys f ≡ true → (link_at links f).newer ≡ unit_after ys f)
     → units_from links (oldest_of ys) (length ys) ≡ ys
 walked links [] apart h = refl
 walked links (y ∷ ys) apart h =
@@ -26,7 +26,7 @@ walked links (y ∷ ys) apart h =
     rw e (ap (λ (zs : List ℕ). y ∷ zs) (walked links ys apart.1 (λ f i.
     let u : (y == f) ≡ false = ne_eqb y f (other_than_first y ys f apart.0 i) in
     let j : is_among (y ∷ ys) f ≡ true = rw u i in
-    let k : (link_at links f).newer ≡ after (y ∷ ys) f = h f j in
+    let k : (link_at links f).newer ≡ unit_after (y ∷ ys) f = h f j in
     k ∙ rw u refl)))
 
 pub units_are : (links : List Link) (home : Home) (queue : Queue) (units : List ℕ) → IsLinked links home queue units → units_of links queue ≡ units
@@ -101,11 +101,11 @@ pub oldest_pushed : (o : Option ℕ) (xs : List ℕ) (unit : ℕ) → o ≡ newe
 oldest_pushed None xs unit e = let k : xs ≡ [] = newest_none xs (sym e) in rw k refl
 oldest_pushed (Some t) xs unit e = sym (oldest_push xs unit t (sym e))
 
-pub before_pushed : (xs : List ℕ) (unit : ℕ) → is_among xs unit ≡ false → before (xs ++ unit ∷ []) unit ≡ newest_of xs
+pub before_pushed : (xs : List ℕ) (unit : ℕ) → is_among xs unit ≡ false → unit_before (xs ++ unit ∷ []) unit ≡ newest_of xs
 before_pushed [] unit out = refl
 before_pushed (x ∷ xs) unit out = before_push_last x xs unit ((or_parts (x == unit) (is_among xs unit) out).1)
 
-pub before_pushed_other : (xs : List ℕ) (unit g : ℕ) → g ≢ unit → is_among xs g ≡ true → before (xs ++ unit ∷ []) g ≡ before xs g
+pub before_pushed_other : (xs : List ℕ) (unit g : ℕ) → g ≢ unit → is_among xs g ≡ true → unit_before (xs ++ unit ∷ []) g ≡ unit_before xs g
 before_pushed_other [] unit g ne i = absurd (false≢true i)
 before_pushed_other (x ∷ xs) unit g ne i = before_push_other x xs unit g ne
 
@@ -170,8 +170,8 @@ pub record Unlinked (before after : List Link) (home : Home) (q r : Queue) (unit
   pub newers : (g : ℕ) → g ≢ unit → older ≢ Some g → (link_at after g).newer ≡ (link_at before g).newer
   pub queue : r ≡ queue_without q older newer
 
-pub oldest_out : (xs : List ℕ) (unit : ℕ) (o : Option ℕ) → AreApart xs → is_among xs unit ≡ true → o ≡ before xs unit
-    → end_or o (oldest_of xs) (after xs unit) ≡ oldest_of (without unit xs)
+pub oldest_out : (xs : List ℕ) (unit : ℕ) (o : Option ℕ) → AreApart xs → is_among xs unit ≡ true → o ≡ unit_before xs unit
+    → end_or o (oldest_of xs) (unit_after xs unit) ≡ oldest_of (without unit xs)
 oldest_out xs unit None apart i e = sym (oldest_gone xs unit apart i (sym e))
 oldest_out xs unit (Some p) apart i e = sym (oldest_stays xs unit p apart (sym e))
 
@@ -180,13 +180,13 @@ pub newest_out_first : (x : ℕ) (xs : List ℕ) (n : Option ℕ) → n ≡ olde
 newest_out_first x [] n e = rw e refl
 newest_out_first x (y ∷ ys) n e = rw e refl
 
-pub newest_out_later : (x : ℕ) (xs : List ℕ) (unit : ℕ) (n : Option ℕ) → AreApart (x ∷ xs) → is_among xs unit ≡ true → n ≡ after xs unit
+pub newest_out_later : (x : ℕ) (xs : List ℕ) (unit : ℕ) (n : Option ℕ) → AreApart (x ∷ xs) → is_among xs unit ≡ true → n ≡ unit_after xs unit
     → end_or n (newest_of (x ∷ xs)) (before_from x xs unit) ≡ newest_of (x ∷ without unit xs)
 newest_out_later x xs unit None apart i e = sym (newest_gone x xs unit apart i (sym e))
 newest_out_later x xs unit (Some t) apart i e = sym (newest_stays x xs unit t apart (sym e))
 
-pub newest_out : (xs : List ℕ) (unit : ℕ) (n : Option ℕ) → AreApart xs → is_among xs unit ≡ true → n ≡ after xs unit
-    → end_or n (newest_of xs) (before xs unit) ≡ newest_of (without unit xs)
+pub newest_out : (xs : List ℕ) (unit : ℕ) (n : Option ℕ) → AreApart xs → is_among xs unit ≡ true → n ≡ unit_after xs unit
+    → end_or n (newest_of xs) (unit_before xs unit) ≡ newest_of (without unit xs)
 newest_out [] unit n apart i e = absurd (false≢true i)
 newest_out (x ∷ xs) unit n apart i e = elim (cases_eq x unit) [
   | inl q ↦
@@ -198,7 +198,7 @@ newest_out (x ∷ xs) unit n apart i e = elim (cases_eq x unit) [
   | inr d ↦
       let t : (x == unit) ≡ false = ne_eqb x unit d in
       let j : is_among xs unit ≡ true = rw t at i in
-      let k : n ≡ after xs unit = e ∙ rw t refl in
+      let k : n ≡ unit_after xs unit = e ∙ rw t refl in
       rw t (newest_out_later x xs unit n apart j k)
 ]
 
@@ -208,28 +208,28 @@ stays_other xs unit f apart h e =
     both_ways (is_among (without unit xs) unit) (gone_without unit xs apart) (subst (λ (v : ℕ). is_among (without unit xs) v ≡ true) e h)
 
 -- the oldest unit has none before it
-pub first_has_none : (xs : List ℕ) (n : ℕ) → AreApart xs → oldest_of xs ≡ Some n → before xs n ≡ None
+pub first_has_none : (xs : List ℕ) (n : ℕ) → AreApart xs → oldest_of xs ≡ Some n → unit_before xs n ≡ None
 first_has_none [] n apart h = refl
 first_has_none (x ∷ xs) n apart h =
     let e : x ≡ n = cc in
     before_none x xs n (subst (λ (v : ℕ). is_among xs v ≡ false) e apart.0)
 
 -- without the first unit, whoever isn't the second has its previous as before
-pub without_first : (x : ℕ) (xs : List ℕ) (g : ℕ) → oldest_of xs ≢ Some g → before xs g ≡ before_from x xs g
+pub without_first : (x : ℕ) (xs : List ℕ) (g : ℕ) → oldest_of xs ≢ Some g → unit_before xs g ≡ before_from x xs g
 without_first x [] g na = refl
 without_first x (y ∷ ys) g na =
     let u : (y == g) ≡ false = ne_eqb y g (λ q. na (ap Some q)) in
     rw u refl
 
 -- the neighbours of another unit once this one is out, for whole lists
-pub after_out_before : (xs : List ℕ) (unit p : ℕ) → AreApart xs → before xs unit ≡ Some p → after (without unit xs) p ≡ after xs unit
+pub after_out_before : (xs : List ℕ) (unit p : ℕ) → AreApart xs → unit_before xs unit ≡ Some p → unit_after (without unit xs) p ≡ unit_after xs unit
 after_out_before [] unit p apart b = cc
 after_out_before (x ∷ xs) unit p apart b =
     let i = before_among x xs unit p b in
     let t : (x == unit) ≡ false = ne_eqb x unit (other_than_first x xs unit apart.0 (i.1)) in
     rw t (after_gone x xs unit p apart b)
 
-pub before_out_after : (xs : List ℕ) (unit n : ℕ) → AreApart xs → after xs unit ≡ Some n → before (without unit xs) n ≡ before xs unit
+pub before_out_after : (xs : List ℕ) (unit n : ℕ) → AreApart xs → unit_after xs unit ≡ Some n → unit_before (without unit xs) n ≡ unit_before xs unit
 before_out_after [] unit n apart a = cc
 before_out_after (x ∷ xs) unit n apart a = elim (cases_eq x unit) [
   | inl q ↦
@@ -240,11 +240,11 @@ before_out_after (x ∷ xs) unit n apart a = elim (cases_eq x unit) [
       rw (t, b) (first_has_none xs n apart.1 k)
   | inr d ↦
       let t : (x == unit) ≡ false = ne_eqb x unit d in
-      let k : after xs unit ≡ Some n = rw t at a in
+      let k : unit_after xs unit ≡ Some n = rw t at a in
       rw t (before_gone x xs unit n apart k)
 ]
 
-pub before_out_other : (xs : List ℕ) (unit g : ℕ) → AreApart xs → g ≢ unit → after xs unit ≢ Some g → before (without unit xs) g ≡ before xs g
+pub before_out_other : (xs : List ℕ) (unit g : ℕ) → AreApart xs → g ≢ unit → unit_after xs unit ≢ Some g → unit_before (without unit xs) g ≡ unit_before xs g
 before_out_other [] unit g apart ne na = refl
 before_out_other (x ∷ xs) unit g apart ne na = elim (cases_eq x unit) [
   | inl q ↦
@@ -256,7 +256,7 @@ before_out_other (x ∷ xs) unit g apart ne na = elim (cases_eq x unit) [
 ]
 
 pub links_unlinked : (old new : List Link) (home : Home) (q r : Queue) (unit : ℕ) (o n : Option ℕ) (xs : List ℕ) → IsLinked old home q xs
-    → is_among xs unit ≡ true → o ≡ before xs unit → n ≡ after xs unit → Unlinked old new home q r unit o n
+    → is_among xs unit ≡ true → o ≡ unit_before xs unit → n ≡ unit_after xs unit → Unlinked old new home q r unit o n
     → IsLinked new home r (without unit xs)
 links_unlinked old new home q r unit o n xs l i eo en p = record {
   apart = apart_without unit xs l.apart;

@@ -12,10 +12,10 @@ use Rattle.lru_lists.specs.declared.record.LruList.{LruList}
 use Rattle.lru_lists.specs.declared.record.LruList.TheVariants.{Inactive, Active}
 use Rattle.lru_lists.specs.declared.lru.Lru.{Lru}
 use Rattle.lru_lists.specs.declared.queue.Queue.{Queue}
-use Rattle.lru_lists.specs.Queue.{oldest_of, after, link_at, nowhere, is_among, AreApart, without, IsLinked, units_of, StaysElsewhere, SameUse}
+use Rattle.lru_lists.specs.Queue.{oldest_of, unit_after, link_at, nowhere, is_among, AreApart, without, IsLinked, units_of, StaysElsewhere, SameUse}
 use Rattle.lru_lists.specs.Queue.{newest_link, unlinked}
-use Rattle.lru_lists.specs.Lists.{active_of, inactive_of, is_marked_by_touch, first_entry, entry_after, KeepsUnits, OthersStand}
-use Rattle.lru_lists.specs.Lists.{OneOfAllChanges, changed_at, home_of, queue_of, with_queue, StandsIn, MovesOnly, entries_of, marked, entry_of}
+use Rattle.lru_lists.specs.Lists.{active_of, inactive_of, is_marked_by_touch, first_entry, entry_after, KeepsUnits, OthersStayLinked}
+use Rattle.lru_lists.specs.Lists.{OneOfAllChanges, changed_at, home_of, queue_of, with_queue, AreLinked, MovesOnly, entries_of, marked, entry_of}
 use Rattle.lru_lists.specs.Lists.{entries_without, place_of, list_of, owner_of, ChangesOwn, IsOnNone, SameOwners}
 use Rattle.lru_lists.proofs.Lists.{other_than_first}
 use Rattle.lru_lists.proofs.Linking.{units_are}
@@ -98,7 +98,7 @@ not_here home owner list h e =
     let k : Some list ≡ None = sym (place_here owner list) ∙ sym (ap (λ (o : Option Home). place_of o owner) e) ∙ h in
     cc
 
--- ---- a push and a pull on one of an owner's lists
+-- ---- a push and an unlink on one of an owner's lists
 
 pub queue_same : (lru : Lru) (list : LruList) (q : Queue) → queue_of (with_queue lru list q) list ≡ q
 queue_same lru Inactive q = refl
@@ -123,8 +123,8 @@ cases_list Active Active = inl refl
 pub homes_differ : (lru : Lru) (list m : LruList) → m ≢ list → home_of lru list ≢ home_of lru m
 homes_differ lru list m ne e = ne (sym (ap (λ (h : Home). h.list) e))
 
--- the list that didn't change, after a push or a pull on the other
-pub other_linked : (before after : List Link) (lru : Lru) (list m : LruList) (unit : ℕ) → StandsIn before lru → m ≢ list
+-- the list that didn't change, after a push or an unlink on the other
+pub other_linked : (before after : List Link) (lru : Lru) (list m : LruList) (unit : ℕ) → AreLinked before lru → m ≢ list
     → StaysElsewhere before after (home_of lru list) unit → SameUse before after unit
     → (link_at before unit).home ≢ Some (home_of lru m) → (link_at after unit).home ≢ Some (home_of lru m)
     → IsLinked after (home_of lru m) (queue_of lru m) (units_of before (queue_of lru m))
@@ -132,7 +132,7 @@ other_linked before after lru list m unit stands ne stays used b a =
     elsewhere_linked before after (home_of lru list) (home_of lru m) (queue_of lru m) (units_of before (queue_of lru m)) unit (stands m) stays used
     (homes_differ lru list m ne) b a
 
-pub other_entries : (before after : List Link) (lru : Lru) (list m : LruList) (unit : ℕ) → StandsIn before lru → m ≢ list
+pub other_entries : (before after : List Link) (lru : Lru) (list m : LruList) (unit : ℕ) → AreLinked before lru → m ≢ list
     → StaysElsewhere before after (home_of lru list) unit → SameUse before after unit
     → (link_at before unit).home ≢ Some (home_of lru m) → (link_at after unit).home ≢ Some (home_of lru m)
     → entries_of after lru m ≡ entries_of before lru m
@@ -145,12 +145,12 @@ other_entries before after lru list m unit stands ne stays used b a =
     (λ (k : Link). let e : Entry = record { number = f; is_marked = k.is_marked; is_dirty = k.is_dirty } in e) (same f i))
 
 -- both lists stay linked after a change of one of them
-pub stands_after : (before after : List Link) (lru : Lru) (list : LruList) (q : Queue) (unit : ℕ) → StandsIn before lru
+pub stands_after : (before after : List Link) (lru : Lru) (list : LruList) (q : Queue) (unit : ℕ) → AreLinked before lru
     → IsLinked after (home_of lru list) q (units_of after q)
     → StaysElsewhere before after (home_of lru list) unit → SameUse before after unit
     → ((m : LruList) → m ≢ list → (link_at before unit).home ≢ Some (home_of lru m)) →
     ((m : LruList) → m ≢ list → (link_at after unit).home ≢ Some (home_of lru m))
-    → StandsIn after (with_queue lru list q)
+    → AreLinked after (with_queue lru list q)
 stands_after before after lru list q unit stands linked stays used b a m = elim (cases_list m list) [
   | inl e ↦ rw (e, home_same lru list list q, queue_same lru list q) linked
   | inr ne ↦
@@ -174,7 +174,7 @@ pub among_other : (links : List Link) (home : Home) (q : Queue) (xs : List ℕ) 
     → is_among xs f ≡ true → f ≢ unit
 among_other links home q xs unit f l away i e = away (subst (λ (v : ℕ). (link_at links v).home ≡ Some home) e (l.homes f i))
 
-pub pushed_entries : (before after : List Link) (lru : Lru) (list : LruList) (q : Queue) (unit : ℕ) (older : Option ℕ) → StandsIn before lru
+pub pushed_entries : (before after : List Link) (lru : Lru) (list : LruList) (q : Queue) (unit : ℕ) (older : Option ℕ) → AreLinked before lru
     → IsOnNone before unit
     → units_of after q ≡ units_of before (queue_of lru list) ++ unit ∷ []
     → link_at after unit ≡ newest_link (home_of lru list) older (link_at before unit).is_dirty → SameUse before after unit
@@ -189,10 +189,10 @@ pushed_entries before after lru list q unit older stands away units at used =
     ap (λ (k : Link). let e : Entry = record { number = unit; is_marked = k.is_marked; is_dirty = k.is_dirty } in e) at in
     rw (queue_same lru list q, units, map-append (entry_of after) xs (unit ∷ []), old, new) refl
 
-pub pulled_entries : (before after : List Link) (lru : Lru) (list : LruList) (q : Queue) (unit : ℕ) → StandsIn before lru
+pub unlinked_entries : (before after : List Link) (lru : Lru) (list : LruList) (q : Queue) (unit : ℕ) → AreLinked before lru
     → units_of after q ≡ without unit (units_of before (queue_of lru list)) → SameUse before after unit
     → entries_of after (with_queue lru list q) list ≡ entries_without unit (entries_of before lru list)
-pulled_entries before after lru list q unit stands units used =
+unlinked_entries before after lru list q unit stands units used =
     rw (queue_same lru list q, units)
     (entries_out before after unit (units_of before (queue_of lru list)) ((stands list).apart) (entries_kept before after unit used))
 
@@ -202,7 +202,7 @@ entries_of_other links lru list m q ne = rw (queue_other lru list m q ne) refl
 
 -- ---- a frame on no list whose record is reset
 
-pub forgotten_linked : (links : List Link) (lru : Lru) (unit : ℕ) → StandsIn links lru → IsOnNone links unit → unit < length links
+pub forgotten_linked : (links : List Link) (lru : Lru) (unit : ℕ) → AreLinked links lru → IsOnNone links unit → unit < length links
     → (m : LruList) → IsLinked (slice_set links unit nowhere) (home_of lru m) (queue_of lru m) (units_of links (queue_of lru m))
 forgotten_linked links lru unit stands away lt m =
     let out : (link_at links unit).home ≢ Some (home_of lru m) = λ e. let k : None ≡ Some (home_of lru m) = sym away ∙ e in cc in
@@ -217,13 +217,13 @@ forgotten_linked links lru unit stands away lt m =
       | inr n ↦ (stands m).at_home f (sym (ap (λ (v : Link). v.home) (set_other links unit f nowhere n)) ∙ h)
     ])
 
-pub forgotten_stands : (links : List Link) (lru : Lru) (unit : ℕ) → StandsIn links lru → IsOnNone links unit → unit < length links
-    → StandsIn (slice_set links unit nowhere) lru
+pub forgotten_stands : (links : List Link) (lru : Lru) (unit : ℕ) → AreLinked links lru → IsOnNone links unit → unit < length links
+    → AreLinked (slice_set links unit nowhere) lru
 forgotten_stands links lru unit stands away lt m =
     let l = forgotten_linked links lru unit stands away lt m in
     rw (units_are (slice_set links unit nowhere) (home_of lru m) (queue_of lru m) (units_of links (queue_of lru m)) l) l
 
-pub forgotten_entries : (links : List Link) (lru : Lru) (unit : ℕ) → StandsIn links lru → IsOnNone links unit → unit < length links
+pub forgotten_entries : (links : List Link) (lru : Lru) (unit : ℕ) → AreLinked links lru → IsOnNone links unit → unit < length links
     → (m : LruList) → entries_of (slice_set links unit nowhere) lru m ≡ entries_of links lru m
 forgotten_entries links lru unit stands away lt m =
     let l = forgotten_linked links lru unit stands away lt m in
@@ -298,17 +298,17 @@ own_after_push before after lru list unit m away h =
     let k : list_of after lru.owner unit ≡ Some list = list_at_home after lru list unit h in
     changed_own before after lru.owner unit m (λ b a. let j : Some list ≡ None = sym k ∙ a in cc) (λ b. away) (λ a. let j : Some list ≡ None = sym k ∙ a in cc)
 
--- ---- a whole push and a whole pull
+-- ---- a whole push and a whole unlink
 
 -- what a push on one of the lists leaves
 pub record AfterPush (before after : List Link) (lru : Lru) (list : LruList) (q : Queue) (unit : ℕ) : Type 0 where
-  pub stands : StandsIn after (with_queue lru list q)
+  pub stands : AreLinked after (with_queue lru list q)
   pub entries : entries_of after (with_queue lru list q) list ≡ entries_of before lru list ++ marked false (entry_of before unit) ∷ []
   pub other : (m : LruList) → m ≢ list → entries_of after (with_queue lru list q) m ≡ entries_of before lru m
   pub moves : MovesOnly before after lru.owner unit
 
 pub after_push_is : (before after : List Link) (lru : Lru) (list : LruList) (q : Queue) (unit : ℕ) (home : Home) (old : Queue) (older : Option ℕ)
-    → StandsIn before lru
+    → AreLinked before lru
     → IsOnNone before unit → home ≡ home_of lru list → old ≡ queue_of lru list → units_of after q ≡ units_of before old ++ unit ∷ []
     → IsLinked after home q (units_of after q) → link_at after unit ≡ newest_link home older (link_at before unit).is_dirty
     → StaysElsewhere before after home unit → SameUse before after unit → AfterPush before after lru list q unit
@@ -332,19 +332,19 @@ after_push_is before after lru list q unit home old older stands away h o units0
       moves = moves_only before after lru list unit stays' used;
     }
 
--- what a pull from one of the lists leaves
-pub record AfterPull (before after : List Link) (lru : Lru) (list : LruList) (q : Queue) (unit : ℕ) : Type 0 where
-  pub stands : StandsIn after (with_queue lru list q)
+-- what an unlink from one of the lists leaves
+pub record AfterUnlink (before after : List Link) (lru : Lru) (list : LruList) (q : Queue) (unit : ℕ) : Type 0 where
+  pub stands : AreLinked after (with_queue lru list q)
   pub entries : entries_of after (with_queue lru list q) list ≡ entries_without unit (entries_of before lru list)
   pub other : (m : LruList) → m ≢ list → entries_of after (with_queue lru list q) m ≡ entries_of before lru m
   pub moves : MovesOnly before after lru.owner unit
 
-pub after_pull_is : (before after : List Link) (lru : Lru) (list : LruList) (q : Queue) (unit : ℕ) (home : Home) (old : Queue) → StandsIn before lru
+pub after_unlink_is : (before after : List Link) (lru : Lru) (list : LruList) (q : Queue) (unit : ℕ) (home : Home) (old : Queue) → AreLinked before lru
     → (link_at before unit).home ≡ Some (home_of lru list) → home ≡ home_of lru list → old ≡ queue_of lru list
     → units_of after q ≡ without unit (units_of before old)
     → IsLinked after home q (units_of after q) → link_at after unit ≡ unlinked (link_at before unit)
-    → StaysElsewhere before after home unit → SameUse before after unit → AfterPull before after lru list q unit
-after_pull_is before after lru list q unit home old stands there h o units0 linked at stays used =
+    → StaysElsewhere before after home unit → SameUse before after unit → AfterUnlink before after lru list q unit
+after_unlink_is before after lru list q unit home old stands there h o units0 linked at stays used =
     let units : units_of after q ≡ without unit (units_of before (queue_of lru list)) =
     subst (λ (v : Queue). units_of after q ≡ without unit (units_of before v)) o units0 in
     let linked' : IsLinked after (home_of lru list) q (units_of after q) = subst (λ (v : Home). IsLinked after v q (units_of after q)) h linked in
@@ -356,7 +356,7 @@ after_pull_is before after lru list q unit home old stands there h o units0 link
     λ m ne e. let k : None ≡ Some (home_of lru m) = sym (ap (λ (v : Link). v.home) at) ∙ e in cc in
     record {
       stands = stands_after before after lru list q unit stands linked' stays' used b a;
-      entries = pulled_entries before after lru list q unit stands units used;
+      entries = unlinked_entries before after lru list q unit stands units used;
       other = λ m ne. entries_of_other after lru list m q ne ∙ other_entries before after lru list m unit stands ne stays' used (b m ne) (a m ne);
       moves = moves_only before after lru list unit stays' used;
     }
@@ -372,7 +372,7 @@ entries_lack links unit (x ∷ xs) out =
     rw (p.0, r) refl
 
 -- a list of the owner that the unit isn't on
-pub other_lacks : (links : List Link) (lru : Lru) (m : LruList) (unit : ℕ) → StandsIn links lru → (link_at links unit).home ≢ Some (home_of lru m)
+pub other_lacks : (links : List Link) (lru : Lru) (m : LruList) (unit : ℕ) → AreLinked links lru → (link_at links unit).home ≢ Some (home_of lru m)
     → entries_without unit (entries_of links lru m) ≡ entries_of links lru m
 other_lacks links lru m unit stands away =
     let xs : List ℕ = units_of links (queue_of lru m) in
@@ -396,8 +396,8 @@ remarked_linked links home q xs unit k l same = record {
   newer = λ f i. part_set (λ (v : Link). v.newer) links unit f k (same.2) ∙ l.newer f i;
 }
 
-pub remarked_stands : (links : List Link) (lru : Lru) (unit : ℕ) (k : Link) → StandsIn links lru → SameNeighbours k (link_at links unit)
-    → StandsIn (slice_set links unit k) lru
+pub remarked_stands : (links : List Link) (lru : Lru) (unit : ℕ) (k : Link) → AreLinked links lru → SameNeighbours k (link_at links unit)
+    → AreLinked (slice_set links unit k) lru
 remarked_stands links lru unit k stands same m =
     let l = remarked_linked links (home_of lru m) (queue_of lru m) (units_of links (queue_of lru m)) unit k (stands m) same in
     rw (units_are (slice_set links unit k) (home_of lru m) (queue_of lru m) (units_of links (queue_of lru m)) l) l
@@ -422,7 +422,7 @@ remarked_map links unit k change (x ∷ xs) lt e =
           rw t (cc)
     ]
 
-pub remarked_entries : (links : List Link) (lru : Lru) (unit : ℕ) (k : Link) (change : Entry → Entry) → StandsIn links lru
+pub remarked_entries : (links : List Link) (lru : Lru) (unit : ℕ) (k : Link) (change : Entry → Entry) → AreLinked links lru
     → SameNeighbours k (link_at links unit)
     → unit < length links → (let e : Entry = record { number = unit; is_marked = k.is_marked; is_dirty = k.is_dirty } in e) ≡ change (entry_of links unit)
     → (m : LruList) → entries_of (slice_set links unit k) lru m ≡ changed_at unit change (entries_of links lru m)
@@ -476,15 +476,15 @@ others_home before after owner other m f c ne h =
     ]
 
 pub others_linked : (before after : List Link) (owner : ℕ) (other : Lru) (m : LruList) → ChangesOwn before after owner → other.owner ≢ owner
-    → StandsIn before other
+    → AreLinked before other
     → IsLinked after (home_of other m) (queue_of other m) (units_of before (queue_of other m))
 others_linked before after owner other m c ne stands =
     same_links before after (home_of other m) (queue_of other m) (units_of before (queue_of other m)) (stands m)
     (λ f i. others_same before after owner other m f c ne ((stands m).homes f i))
     (λ f h. (stands m).at_home f (others_home before after owner other m f c ne h))
 
-pub others_stand : OthersStand
-others_stand before after owner other c ne stands = (
+pub others_stay_linked : OthersStayLinked
+others_stay_linked before after owner other c ne stands = (
   (λ m. let l = others_linked before after owner other m c ne stands in
       rw (units_are after (home_of other m) (queue_of other m) (units_of before (queue_of other m)) l) l),
   (λ m. let xs : List ℕ = units_of before (queue_of other m) in
@@ -506,16 +506,16 @@ one_of_all_changes before after lists new all lt stands c k any lk = elim (cases
       get_or-set_other lists new.owner k new any n in
       let old = all k any (rw (← length-set lists new.owner new) lk) in
       let ne : (slice_index_or lists k any).owner ≢ new.owner = λ q. n (sym (old.0) ∙ q) in
-      rw got (old.0, (others_stand before after new.owner (slice_index_or lists k any) c ne (old.1)).0)
+      rw got (old.0, (others_stay_linked before after new.owner (slice_index_or lists k any) c ne (old.1)).0)
 ]
 
--- a pull takes the unit out of each list: of the other it changes nothing
-pub pulled_each : (before after : List Link) (lru new : Lru) (list : LruList) (unit : ℕ) → StandsIn before lru
+-- an unlink removes the unit from each list: of the other it changes nothing
+pub unlinked_each : (before after : List Link) (lru new : Lru) (list : LruList) (unit : ℕ) → AreLinked before lru
     → (link_at before unit).home ≡ Some (home_of lru list)
     → entries_of after new list ≡ entries_without unit (entries_of before lru list)
     → ((m : LruList) → m ≢ list → entries_of after new m ≡ entries_of before lru m)
     → (m : LruList) → entries_of after new m ≡ entries_without unit (entries_of before lru m)
-pulled_each before after lru new list unit stands there own other m = elim (cases_list m list) [
+unlinked_each before after lru new list unit stands there own other m = elim (cases_list m list) [
   | inl e ↦ rw e own
   | inr ne ↦
       let away : (link_at before unit).home ≢ Some (home_of lru m) =
@@ -530,7 +530,7 @@ pub entry_unlinked : (before after : List Link) (unit : ℕ) → link_at after u
 entry_unlinked before after unit e = ap (λ (k : Link). let w : Entry = record { number = unit; is_marked = false; is_dirty = k.is_dirty } in w) e
 
 -- the list that a unit isn't on has nothing to change
-pub other_unchanged : (links : List Link) (lru : Lru) (list m : LruList) (unit : ℕ) (change : Entry → Entry) → StandsIn links lru
+pub other_unchanged : (links : List Link) (lru : Lru) (list m : LruList) (unit : ℕ) (change : Entry → Entry) → AreLinked links lru
     → (link_at links unit).home ≡ Some (home_of lru list) → m ≢ list → changed_at unit change (entries_of links lru m) ≡ entries_of links lru m
 other_unchanged links lru list m unit change stands there ne =
     let xs : List ℕ = units_of links (queue_of lru m) in
@@ -544,7 +544,7 @@ pub oldest_read : (links : List Link) (xs : List ℕ) → option_map (entry_of l
 oldest_read links [] = refl
 oldest_read links (x ∷ xs) = refl
 
-pub after_read : (links : List Link) (unit : ℕ) (xs : List ℕ) → option_map (entry_of links) (after xs unit) ≡ entry_after unit (map (entry_of links) xs)
+pub after_read : (links : List Link) (unit : ℕ) (xs : List ℕ) → option_map (entry_of links) (unit_after xs unit) ≡ entry_after unit (map (entry_of links) xs)
 after_read links unit [] = refl
 after_read links unit (x ∷ xs) = elim (cases_Bool (x == unit)) [
   | inl t ↦ rw t (oldest_read links xs)
@@ -590,7 +590,7 @@ some_list (Some list) h = (list, refl)
 
 -- ---- as many as there are, one by one
 
-pub len_is : (links : List Link) (lru : Lru) → StandsIn links lru → (m : LruList) → (queue_of lru m).length ≡ length (entries_of links lru m)
+pub len_is : (links : List Link) (lru : Lru) → AreLinked links lru → (m : LruList) → (queue_of lru m).length ≡ length (entries_of links lru m)
 len_is links lru stands m = (stands m).count ∙ sym (length-map (units_of links (queue_of lru m)) (entry_of links))
 
 pub take_step : (k : ℕ) (xs : List Entry) → take k xs ++ take 1 (drop k xs) ≡ take (suc k) xs
@@ -613,23 +613,23 @@ ages_step before mid after old cur new k ik one ak =
 -- ---- a unit removed, and its record reset
 
 -- what taking the unit out and forgetting it leaves
-pub record AfterTakeOff (before after : List Link) (lru new : Lru) (unit : ℕ) : Type 0 where
-  pub stands : StandsIn after new
+pub record AfterUnlinkAndClear (before after : List Link) (lru new : Lru) (unit : ℕ) : Type 0 where
+  pub stands : AreLinked after new
   pub entries : (m : LruList) → entries_of after new m ≡ entries_without unit (entries_of before lru m)
 
-pub after_take_off : (before mid : List Link) (lru new : Lru) (list : LruList) (unit : ℕ) → StandsIn before lru
-    → list_of before lru.owner unit ≡ Some list → StandsIn mid new
+pub after_unlink_and_clear : (before mid : List Link) (lru new : Lru) (list : LruList) (unit : ℕ) → AreLinked before lru
+    → list_of before lru.owner unit ≡ Some list → AreLinked mid new
     → entries_of mid new list ≡ entries_without unit (entries_of before lru list)
     → ((m : LruList) → m ≢ list → entries_of mid new m ≡ entries_of before lru m)
     → link_at mid unit ≡ unlinked (link_at before unit) → unit < length mid
-    → AfterTakeOff before (slice_set mid unit nowhere) lru new unit
-after_take_off before mid lru new list unit stands on mid_stands entries other gone lt =
+    → AfterUnlinkAndClear before (slice_set mid unit nowhere) lru new unit
+after_unlink_and_clear before mid lru new list unit stands on mid_stands entries other gone lt =
     let away : IsOnNone mid unit = ap (λ (k : Link). k.home) gone in
     let there = home_of_list (link_at before unit).home lru list on in
     record {
       stands = forgotten_stands mid new unit mid_stands away lt;
       entries = λ m. forgotten_entries mid new unit mid_stands away lt m
-          ∙ pulled_each before mid lru new list unit stands there entries other m;
+          ∙ unlinked_each before mid lru new list unit stands there entries other m;
     }
 
 -- ---- the owners of the frames' lists, and the frames' dirt

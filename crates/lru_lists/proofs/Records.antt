@@ -1,5 +1,5 @@
 -- What the writes of a push and of an unlink leave in each record.
--- They serve the contracts of `queue::push_newest` and `queue::unlink`.
+-- They serve the contracts of `queue::push_newest` and `queue::unlink_keeping_flags`.
 use Rattle.std.proofs.Common.{◌≡◌, ◌≢◌, ℕ, ◌<◌, Bool, true, false, Option, Some, None, IfSome, List, [], ◌∷◌, ◌++◌, length, slice_set, sym, ◌∙◌, ap}
 use Rattle.std.proofs.Common.{inl, inr, arith, refl, get_or-set_same, get_or-set_other}
 use Rattle.std.proofs.lemmas.Bool.{cases_eq, cases_lt, false_from_ne_true}
@@ -7,7 +7,7 @@ use Rattle.std.proofs.lemmas.List.{length-set, set_past}
 use Rattle.lru_lists.specs.declared.record.Link.{Link}
 use Rattle.lru_lists.specs.declared.record.Home.{Home}
 use Rattle.lru_lists.specs.declared.queue.Queue.{Queue}
-use Rattle.lru_lists.specs.Queue.{link_at, nowhere, is_among, after, before, without, IsLinked, units_of, newest_link, unlinked, with_newer}
+use Rattle.lru_lists.specs.Queue.{link_at, nowhere, is_among, unit_after, unit_before, without, IsLinked, units_of, newest_link, unlinked, with_newer}
 use Rattle.lru_lists.specs.Queue.{with_older, pushed_queue, queue_without, StaysElsewhere, SameUse}
 use Rattle.lru_lists.proofs.Lists.{after_among, before_among, newest_among}
 use Rattle.lru_lists.proofs.Linking.{Pushed, Unlinked, within, units_are, links_pushed, links_unlinked, few}
@@ -127,21 +127,21 @@ abbrev pub after_unlink : List Link → ℕ → Option ℕ → Option ℕ → Li
 after_unlink links unit o n k = slice_set (with_older (with_newer links o n) n o) unit (unlinked k)
 
 -- a neighbour is a frame on the list
-pub older_within : (links : List Link) (home : Home) (q : Queue) (xs : List ℕ) (unit t : ℕ) → IsLinked links home q xs → before xs unit ≡ Some t
+pub older_within : (links : List Link) (home : Home) (q : Queue) (xs : List ℕ) (unit t : ℕ) → IsLinked links home q xs → unit_before xs unit ≡ Some t
     → (is_among xs t ≡ true) × (t < length links)
 older_within links home q [] unit t l e = cc
 older_within links home q (x ∷ xs) unit t l e =
     let i = (before_among x xs unit t e).0 in
     (i, within links home q (x ∷ xs) t l i)
 
-pub newer_within : (links : List Link) (home : Home) (q : Queue) (xs : List ℕ) (unit t : ℕ) → IsLinked links home q xs → after xs unit ≡ Some t
+pub newer_within : (links : List Link) (home : Home) (q : Queue) (xs : List ℕ) (unit t : ℕ) → IsLinked links home q xs → unit_after xs unit ≡ Some t
     → (is_among xs t ≡ true) × (t < length links)
 newer_within links home q xs unit t l e =
     let i : is_among xs t ≡ true = after_among xs unit t e in
     (i, within links home q xs t l i)
 
 pub unlinks : (links : List Link) (home : Home) (q : Queue) (xs : List ℕ) (unit : ℕ) (o n : Option ℕ) (k : Link) → IsLinked links home q xs
-    → unit < length links → o ≡ before xs unit → n ≡ after xs unit
+    → unit < length links → o ≡ unit_before xs unit → n ≡ unit_after xs unit
     → Unlinked links (after_unlink links unit o n k) home q (queue_without q o n) unit o n
 unlinks links home q xs unit o n k l lt eo en =
     let one : List Link = with_newer links o n in
@@ -165,7 +165,7 @@ unlinks links home q xs unit o n k l lt eo en =
     }
 
 pub unlink_others : (links : List Link) (home : Home) (q : Queue) (xs : List ℕ) (unit : ℕ) (o n : Option ℕ) (k : Link) → IsLinked links home q xs
-    → o ≡ before xs unit → n ≡ after xs unit → StaysElsewhere links (after_unlink links unit o n k) home unit
+    → o ≡ unit_before xs unit → n ≡ unit_after xs unit → StaysElsewhere links (after_unlink links unit o n k) home unit
 unlink_others links home q xs unit o n k l eo en g ne away =
     set_other (with_older (with_newer links o n) n o) unit g _ ne
     ∙ older_other (with_newer links o n) n o g (λ h. away (l.homes g ((newer_within links home q xs unit g l (sym en ∙ h)).0)))

@@ -1,6 +1,6 @@
 -- The two lists of an owner, as a contract sees them.
-use Rattle.std.specs.Prelude.{◌≡◌, ◌≢◌, ℕ, ◌+◌, ◌-◌, ◌<◌, ◌≤◌, ◌==◌}
-use Rattle.std.specs.Prelude.{Bool, true, false, Option, Some, None, List, [], ◌∷◌, ◌++◌, length, map, take, drop, slice_index_or, slice_set, if◌then◌else◌}
+use Rattle.std.specs.Prelude.{◌≡◌, ◌≢◌, ℕ, ◌+◌, ◌-◌, ◌<◌, ◌≤◌, ◌==◌, Bool, true, false, Option, Some, None, List, []}
+use Rattle.std.specs.Prelude.{◌∷◌, ◌++◌, length, map, take, drop, slice_index_or, slice_set, if◌then◌else◌}
 use Rattle.lru_lists.specs.declared.record.Link.{Link}
 use Rattle.lru_lists.specs.declared.record.Home.{Home}
 use Rattle.lru_lists.specs.declared.record.Entry.{Entry}
@@ -38,8 +38,9 @@ abbrev pub active_of : List Link → Lru → List Entry
 active_of links lru = entries_of links lru Active
 
 -- both lists are linked through these records
-abbrev pub StandsIn : List Link → Lru → Type 0
-StandsIn links lru = (list : LruList) → IsLinked links (home_of lru list) (queue_of lru list) (units_of links (queue_of lru list))
+abbrev pub AreLinked : List Link → Lru → Type 0
+AreLinked links lru = (list : LruList)
+    → IsLinked links (home_of lru list) (queue_of lru list) (units_of links (queue_of lru list))
 
 -- the owner's lists, one of them with these ends and this length
 abbrev pub with_queue : Lru → LruList → Queue → Lru
@@ -115,7 +116,8 @@ is_marked_by_touch list mark = false
 abbrev pub Touches : List Link → Lru → ℕ → Touched → List Link → Lru → Type 0
 Touches before old f touched.Marked after new =
     (list_of before old.owner f ≡ Some Inactive) × ((link_at before f).is_marked ≡ false)
-    × (inactive_of after new ≡ changed_at f (marked true) (inactive_of before old)) × (active_of after new ≡ active_of before old)
+    × (inactive_of after new ≡ changed_at f (marked true) (inactive_of before old))
+    × (active_of after new ≡ active_of before old)
 Touches before old f touched.Active after new =
     (list_of before old.owner f ≡ Some Inactive → (link_at before f).is_marked ≡ true)
     × (inactive_of after new ≡ entries_without f (inactive_of before old))
@@ -141,22 +143,26 @@ entry_after f (e ∷ es) = if e.number == f then first_entry es else entry_after
 -- the active list no longer than the inactive one.
 pub record Ages (before : List Link) (old : Lru) (after : List Link) (new : Lru) : Type 0 where
   pub moved : ℕ
-  pub inactive : inactive_of after new ≡ inactive_of before old ++ map (marked false) (take moved (active_of before old))
+  pub inactive : inactive_of after new
+      ≡ inactive_of before old ++ map (marked false) (take moved (active_of before old))
   pub active : active_of after new ≡ drop moved (active_of before old)
   pub enough : length (active_of after new) ≤ length (inactive_of after new)
   pub fewest : (k : ℕ) → k < moved → length (inactive_of before old) + k < length (active_of before old) - k
 
 -- the lists of every other owner stay linked, with the same units, marks and dirt
-abbrev pub OthersStand : Type 0
-OthersStand = (before after : List Link) (owner : ℕ) (other : Lru) → ChangesOwn before after owner → other.owner ≢ owner → StandsIn before other
-    → StandsIn after other × ((list : LruList) → entries_of after other list ≡ entries_of before other list)
+abbrev pub OthersStayLinked : Type 0
+OthersStayLinked = (before after : List Link) (owner : ℕ) (other : Lru) → ChangesOwn before after owner
+    → other.owner ≢ owner
+    → AreLinked before other
+    → AreLinked after other × ((list : LruList) → entries_of after other list ≡ entries_of before other list)
 
 -- the lists of several owners, numbered from 0 in this order, are all linked through these records
-abbrev pub AllStand : List Link → List Lru → Type 0
-AllStand links lists = (k : ℕ) (any : Lru) → k < length lists
-    → ((slice_index_or lists k any).owner ≡ k) × StandsIn links (slice_index_or lists k any)
+abbrev pub AllLinked : List Link → List Lru → Type 0
+AllLinked links lists = (k : ℕ) (any : Lru) → k < length lists
+    → ((slice_index_or lists k any).owner ≡ k) × AreLinked links (slice_index_or lists k any)
 
 -- if the lists of several owners are linked and those of one owner change, then all of them are linked afterwards
 abbrev pub OneOfAllChanges : Type 0
-OneOfAllChanges = (before after : List Link) (lists : List Lru) (new : Lru) → AllStand before lists → new.owner < length lists
-    → StandsIn after new → ChangesOwn before after new.owner → AllStand after (slice_set lists new.owner new)
+OneOfAllChanges = (before after : List Link) (lists : List Lru) (new : Lru) → AllLinked before lists
+    → new.owner < length lists
+    → AreLinked after new → ChangesOwn before after new.owner → AllLinked after (slice_set lists new.owner new)

@@ -9,8 +9,8 @@ use Rattle.lru_lists.specs.declared.packed.OnList.TheVariants as on_list
 use Rattle.lru_lists.specs.declared.packed.Packed.{Packed}
 
 -- the neighbour for which a number is stored: the greatest number of 32 bits is stored for none
-abbrev pub number_of : ℕ → Option ℕ
-number_of n = if n == 4294967295 then None else Some n
+abbrev pub neighbour_of : ℕ → Option ℕ
+neighbour_of n = if n == 4294967295 then None else Some n
 
 -- a neighbour for which a number can be stored, or none
 abbrev pub IsNumber : Option ℕ → Type 0
@@ -31,8 +31,8 @@ home_of_list (Some list) owner = Some (record { owner = owner; list = list })
 abbrev pub link_of : Packed → Link
 link_of p = record {
   home = home_of_list (list_on p.list) p.owner;
-  older = number_of p.older;
-  newer = number_of p.newer;
+  older = neighbour_of p.older;
+  newer = neighbour_of p.newer;
   is_marked = p.is_marked;
   is_dirty = p.is_dirty;
 }

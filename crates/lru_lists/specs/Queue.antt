@@ -1,6 +1,6 @@
 -- One list, linked through the records of its units.
-use Rattle.std.specs.Prelude.{◌≡◌, ℕ, zero, suc, ◌+◌, ◌-◌, ◌==◌, ◌||◌, ◌≢◌}
-use Rattle.std.specs.Prelude.{Bool, true, false, Option, Some, None, List, [], ◌∷◌, length, slice_index_or, slice_set, if◌then◌else◌}
+use Rattle.std.specs.Prelude.{◌≡◌, ℕ, zero, suc, ◌+◌, ◌-◌, ◌==◌, ◌||◌, ◌≢◌, Bool, true, false, Option, Some, None, List}
+use Rattle.std.specs.Prelude.{[], ◌∷◌, length, slice_index_or, slice_set, if◌then◌else◌}
 use Rattle.lru_lists.specs.declared.record.Link.{Link}
 use Rattle.lru_lists.specs.declared.record.Home.{Home}
 use Rattle.lru_lists.specs.declared.queue.Queue.{Queue}
@@ -39,9 +39,9 @@ newest_of (x ∷ []) = Some x
 newest_of (x ∷ y ∷ ys) = newest_of (y ∷ ys)
 
 -- the unit just after f in the list
-abbrev pub after : List ℕ → ℕ → Option ℕ
-after [] f = None
-after (x ∷ xs) f = if x == f then oldest_of xs else after xs f
+abbrev pub unit_after : List ℕ → ℕ → Option ℕ
+unit_after [] f = None
+unit_after (x ∷ xs) f = if x == f then oldest_of xs else unit_after xs f
 
 -- the unit just before f in the list whose first unit is x
 abbrev pub before_from : ℕ → List ℕ → ℕ → Option ℕ
@@ -49,9 +49,9 @@ before_from x [] f = None
 before_from x (y ∷ ys) f = if y == f then Some x else before_from y ys f
 
 -- the unit just before f in the list
-abbrev pub before : List ℕ → ℕ → Option ℕ
-before [] f = None
-before (x ∷ xs) f = before_from x xs f
+abbrev pub unit_before : List ℕ → ℕ → Option ℕ
+unit_before [] f = None
+unit_before (x ∷ xs) f = before_from x xs f
 
 -- the list without f
 abbrev pub without : ℕ → List ℕ → List ℕ
@@ -68,8 +68,8 @@ pub record IsLinked (links : List Link) (home : Home) (queue : Queue) (units : L
   pub oldest : queue.oldest ≡ oldest_of units
   pub newest : queue.newest ≡ newest_of units
   pub count : queue.length ≡ length units
-  pub older : (f : ℕ) → is_among units f ≡ true → (link_at links f).older ≡ before units f
-  pub newer : (f : ℕ) → is_among units f ≡ true → (link_at links f).newer ≡ after units f
+  pub older : (f : ℕ) → is_among units f ≡ true → (link_at links f).older ≡ unit_before units f
+  pub newer : (f : ℕ) → is_among units f ≡ true → (link_at links f).newer ≡ unit_after units f
 
 -- up to n units, from this one on towards the newer
 abbrev pub units_from : List Link → Option ℕ → ℕ → List ℕ
@@ -83,11 +83,13 @@ units_of links queue = units_from links queue.oldest queue.length
 
 -- the record of a unit that was just appended to the list behind this one
 abbrev pub newest_link : Home → Option ℕ → Bool → Link
-newest_link home older is_dirty = record { home = Some home; older = older; newer = None; is_marked = false; is_dirty = is_dirty }
+newest_link home older is_dirty =
+    record { home = Some home; older = older; newer = None; is_marked = false; is_dirty = is_dirty }
 
 -- the record of every unit other than f that isn't on the list stays
 abbrev pub StaysElsewhere : List Link → List Link → Home → ℕ → Type 0
-StaysElsewhere before after home f = (g : ℕ) → g ≢ f → (link_at before g).home ≢ Some home → link_at after g ≡ link_at before g
+StaysElsewhere before after home f = (g : ℕ) → g ≢ f → (link_at before g).home ≢ Some home
+    → link_at after g ≡ link_at before g
 
 -- every unit other than f stays on its list, marked and dirty as it was; the number of records stays
 pub record SameUse (before after : List Link) (f : ℕ) : Type 0 where
@@ -117,8 +119,16 @@ end_or (Some _) there other = there
 
 -- the ends and the length after one more unit joined at the newest end
 abbrev pub pushed_queue : Queue → ℕ → Queue
-pushed_queue q unit = record { oldest = end_or q.newest q.oldest (Some unit); newest = Some unit; length = q.length + 1 }
+pushed_queue q unit = record {
+  oldest = end_or q.newest q.oldest (Some unit);
+  newest = Some unit;
+  length = q.length + 1;
+}
 
 -- the ends and the length after the unit between these two was removed
 abbrev pub queue_without : Queue → Option ℕ → Option ℕ → Queue
-queue_without q older newer = record { oldest = end_or older q.oldest newer; newest = end_or newer q.newest older; length = q.length - 1 }
+queue_without q older newer = record {
+  oldest = end_or older q.oldest newer;
+  newest = end_or newer q.newest older;
+  length = q.length - 1;
+}

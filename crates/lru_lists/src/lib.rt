@@ -8,3 +8,4 @@ pub mod lru;
 mod packed;
 mod queue;
 pub mod record;
+pub mod walk;

@@ -1,8 +1,8 @@
 //! The records of all frames, through which the lists of all owners are linked.
 
 ghost use Rattle.std.specs.Prelude.{◌≡◌, ◌<◌, ◌++◌, [], ◌∷◌, None, Some, IfOk, IfSome, length, slice_set};
-ghost use Rattle.lru_lists.specs.Queue.{link_at, units_of, without, AreNowhere, IsLinked, StaysElsewhere, SameUse, newest_link, unlinked, nowhere};
-ghost use Rattle.lru_lists.specs.Queue.{with_newer, with_older};
+ghost use Rattle.lru_lists.specs.Queue.{link_at, units_of, without, AreNowhere, IsLinked, StaysElsewhere, SameUse};
+ghost use Rattle.lru_lists.specs.Queue.{newest_link, unlinked, nowhere, with_newer, with_older};
 ghost use Rattle.lru_lists.specs.Packed.{IsNumber};
 
 use crate::packed::{Packed, number};
@@ -12,7 +12,7 @@ use std::alloc::{AllocError, Global};
 use std::marker::Model;
 
 /// One record for each frame of a zone. A contract sees them as a list.
-#[derive(Debug, Drop)]
+#[derive(Drop)]
 pub struct Links {
     records: Vec<Packed>,
 }
@@ -67,13 +67,12 @@ impl Links {
         ensures others { StaysElsewhere self.old self.new home unit }
         ensures used { SameUse self.old self.new unit }
     {
-        // This borrow brings in the invariant: there are fewer than 2^32 records.
-        let _ = &self.records;
+        let _records = &self.records; // Borrowed for the invariant: there are fewer than 2^32 records.
         queue::push_newest(self, queue, home, unit);
     }
 
-    // Removes a unit from the list that holds it.
-    pub(crate) fn unlink(&mut self, queue: &mut Queue, home: Home, unit: u32)
+    // Removes a unit from the list that holds it. It stays marked and dirty as it was.
+    pub(crate) fn unlink_keeping_flags(&mut self, queue: &mut Queue, home: Home, unit: u32)
         requires linked { IsLinked self.old home queue.old (units_of self.old queue.old) }
         requires unit { (link_at self.old unit).home ≡ Some home }
         ensures units { units_of self.new queue.new ≡ without unit (units_of self.old queue.old) }
@@ -82,13 +81,12 @@ impl Links {
         ensures others { StaysElsewhere self.old self.new home unit }
         ensures used { SameUse self.old self.new unit }
     {
-        // This borrow brings in the invariant: there are fewer than 2^32 records.
-        let _ = &self.records;
-        queue::unlink(self, queue, home, unit);
+        let _records = &self.records; // Borrowed for the invariant: there are fewer than 2^32 records.
+        queue::unlink_keeping_flags(self, queue, home, unit);
     }
 
     // Resets the record of a frame to that of a frame on no list.
-    pub(crate) fn forget(&mut self, frame: u32)
+    pub(crate) fn clear(&mut self, frame: u32)
         requires { frame < length self.old }
         ensures { self.new ≡ slice_set self.old frame nowhere }
     {

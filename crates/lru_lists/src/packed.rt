@@ -1,7 +1,7 @@
 //! The record of one frame as it is stored: in 12 bytes, less than half of what a `Link` takes.
 
 ghost use Rattle.std.specs.Prelude.{◌≡◌, ◌<◌, IfSome, Some};
-ghost use Rattle.lru_lists.specs.Packed.{number_of, link_of, list_on, IsNumber};
+ghost use Rattle.lru_lists.specs.Packed.{neighbour_of, link_of, list_on, IsNumber};
 
 use crate::record::{Home, Link, LruList};
 
@@ -9,7 +9,7 @@ use crate::record::{Home, Link, LruList};
 pub const NO_FRAME: u32 = u32::MAX;
 
 /// Which of its owner's lists holds a unit. It takes one byte; an `Option<LruList>` would take two.
-#[derive(Clone, Copy, Debug, PartialEq, Eq)]
+#[derive(Clone, Copy, PartialEq, Eq)]
 pub enum OnList {
     /// Neither list.
     Neither,
@@ -20,7 +20,7 @@ pub enum OnList {
 }
 
 /// The record of one frame, packed.
-#[derive(Clone, Copy, Debug, PartialEq, Eq)]
+#[derive(Clone, Copy, PartialEq, Eq)]
 pub struct Packed {
     /// The unit just before it on the list, or `NO_FRAME`.
     pub older: u32,
@@ -65,7 +65,7 @@ impl OnList {
 #[inline]
 pub fn number(unit: Option<u32>) -> u32
     requires { IsNumber unit }
-    ensures { number_of result ≡ unit }
+    ensures { neighbour_of result ≡ unit }
 {
     unit.unwrap_or(NO_FRAME)
 }
@@ -73,7 +73,7 @@ pub fn number(unit: Option<u32>) -> u32
 /// The neighbour for which a number is stored.
 #[inline]
 pub fn unit(number: u32) -> Option<u32>
-    ensures { result ≡ number_of number }
+    ensures { result ≡ neighbour_of number }
 {
     if number == NO_FRAME {
         None

@@ -1,14 +1,14 @@
 //! One list: its ends and its length. Its units are linked through their records.
 
 ghost use Rattle.std.specs.Prelude.{◌≡◌, ◌<◌, ◌-◌, ◌^◌, ◌++◌, [], ◌∷◌, None, Some, IfSome, length};
-ghost use Rattle.lru_lists.specs.Queue.{link_at, units_of, without, IsLinked, StaysElsewhere, SameUse, newest_link, unlinked};
-ghost use Rattle.lru_lists.specs.Queue.{pushed_queue, queue_without};
+ghost use Rattle.lru_lists.specs.Queue.{link_at, units_of, without, IsLinked, StaysElsewhere, SameUse, newest_link};
+ghost use Rattle.lru_lists.specs.Queue.{unlinked, pushed_queue, queue_without};
 
 use crate::links::Links;
 use crate::record::{Home, Link};
 
 /// The ends and the length of one list.
-#[derive(Clone, Copy, Debug, PartialEq, Eq)]
+#[derive(Clone, Copy, PartialEq, Eq)]
 pub struct Queue {
     /// The oldest unit, or None if the list is empty.
     pub oldest: Option<u32>,
@@ -90,8 +90,8 @@ pub(crate) fn push_newest(links: &mut Links, queue: &mut Queue, home: Home, unit
     *queue = queue.pushed(unit);
 }
 
-// Removes a unit from the list that holds it.
-pub(crate) fn unlink(links: &mut Links, queue: &mut Queue, home: Home, unit: u32)
+// Removes a unit from the list that holds it. It stays marked and dirty as it was.
+pub(crate) fn unlink_keeping_flags(links: &mut Links, queue: &mut Queue, home: Home, unit: u32)
     requires frames { length links.old < 2 ^ 32 }
     requires linked { IsLinked links.old home queue.old (units_of links.old queue.old) }
     requires unit { (link_at links.old unit).home ≡ Some home }

@@ -1,7 +1,7 @@
 //! The record of one frame: the list that holds it, and its two neighbours on that list.
 
 /// One of a group's two lists.
-#[derive(Clone, Copy, Debug, PartialEq, Eq)]
+#[derive(Clone, Copy, PartialEq, Eq)]
 pub enum LruList {
     /// Units that reclaim tries first.
     Inactive,
@@ -10,7 +10,7 @@ pub enum LruList {
 }
 
 /// The list that holds a unit: its owner, and which of the owner's two.
-#[derive(Clone, Copy, Debug, PartialEq, Eq)]
+#[derive(Clone, Copy, PartialEq, Eq)]
 pub struct Home {
     /// The number of the owner of both lists, such as a group's.
     pub owner: u8,
@@ -19,7 +19,7 @@ pub struct Home {
 }
 
 /// The record of one frame.
-#[derive(Clone, Copy, Debug, PartialEq, Eq)]
+#[derive(Clone, Copy, PartialEq, Eq)]
 pub struct Link {
     /// The list that holds the unit, or None.
     pub home: Option<Home>,
@@ -34,7 +34,7 @@ pub struct Link {
 }
 
 /// A unit on a list.
-#[derive(Clone, Copy, Debug, PartialEq, Eq)]
+#[derive(Clone, Copy, PartialEq, Eq)]
 pub struct Entry {
     /// The number of the unit: that of its first frame.
     pub number: u32,

@@ -1,3 +1,5 @@
 pub mod Codes
 pub mod Keepers
 pub mod Runs
+pub mod UnitLines
+pub mod Owners

@@ -1,5 +1,6 @@
 -- The text of the places of the frames.
-use Rattle.std.specs.Prelude.{◌≡◌, ℕ, List, [], ◌∷◌, ◌++◌, codes, ◌+◌, ◌-◌, ◌<◌, ◌==◌, Bool, true, false, if◌then◌else◌, All, length, take}
+use Rattle.std.specs.Prelude.{◌≡◌, ℕ, List, [], ◌∷◌, ◌++◌, codes, ◌+◌, ◌-◌, ◌<◌, ◌==◌, Bool, true, false, if◌then◌else◌}
+use Rattle.std.specs.Prelude.{All, length, take}
 use Rattle.std.specs.List.{prefix_len}
 use Rattle.std.specs.Option.{option_map_or}
 use Rattle.std.specs.Fmt.{decimal}
@@ -41,7 +42,7 @@ pub record IsFirstElsewhere (place : Place) (frame_states : List FrameState) (at
 abbrev pub KeeperIsThere : List Group → Place → Type 0
 KeeperIsThere groups (Charged group) = has_group groups group ≡ true
 KeeperIsThere groups Free = Unit {0}
-KeeperIsThere groups (Lent processor) = Unit {0}
+KeeperIsThere groups (Lent cpu) = Unit {0}
 
 -- the group that is charged for a frame with this record, if any, exists
 abbrev pub FrameStateIsThere : List Group → FrameState → Type 0
@@ -50,7 +51,7 @@ FrameStateIsThere groups frame_state = KeeperIsThere groups (place_of frame_stat
 -- the place of a frame: in the free areas, lent to this CPU, or charged to the group of this path
 abbrev pub place_text : List Group → Place → List ℕ
 place_text groups Free = codes "free"
-place_text groups (Lent processor) = codes "cpu " ++ decimal processor
+place_text groups (Lent cpu) = codes "cpu " ++ decimal cpu
 place_text groups (Charged group) = option_map_or characters (path_of groups group) []
 
 -- the frames from the first to the last

@@ -1,11 +1,16 @@
-//! The texts that show the machine: the places of the frames, what each group uses, and the free blocks.
+//! The texts that show the machine: the places of the frames, what each group uses, the free blocks, the kept units of
+//! a group, and a CPU's stock.
 #![tactic(auto)]
 
 mod blocks;
 mod characters;
 mod places;
 mod show;
+mod stock;
+mod units;
 
 pub use blocks::write_blocks;
 pub use characters::push_characters;
 pub use show::write_show;
+pub use stock::write_stock;
+pub use units::write_units;

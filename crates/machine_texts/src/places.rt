@@ -4,8 +4,8 @@ ghost use Rattle.std.specs.Prelude.{◌≡◌, ◌++◌, All, IfOk, MatchOption}
 ghost use Rattle.std.specs.String.{string_bytes};
 ghost use Rattle.mem_machine.specs.declared.frame_state.Place.TheVariants as place;
 ghost use Rattle.mem_machine.specs.FrameStates.{place_of};
-ghost use Rattle.machine_texts.specs.Places.{KeeperIsThere, FrameStateIsThere, frames_text, is_same_place, place_text, places_text, run_text};
-ghost use Rattle.machine_texts.specs.Places.{IsAt, IsFirstElsewhere, run_length};
+ghost use Rattle.machine_texts.specs.Places.{KeeperIsThere, FrameStateIsThere, frames_text, is_same_place, place_text};
+ghost use Rattle.machine_texts.specs.Places.{places_text, run_text, IsAt, IsFirstElsewhere, run_length};
 
 use crate::characters::push_characters;
 use group_tree::group::GroupId;
@@ -20,7 +20,8 @@ pub(crate) fn write_places(
     text: &mut String,
 ) -> Result<(), AllocError>
     requires { All (FrameStateIsThere tree.now) frame_states.now }
-    ensures { IfOk result (λ _. string_bytes text.new ≡ string_bytes text.old ++ places_text tree.now frame_states.now) }
+    ensures { IfOk result (λ _. string_bytes text.new
+        ≡ string_bytes text.old ++ places_text tree.now frame_states.now) }
 {
     let mut first = 0;
     while first < frame_states.len() {
@@ -41,7 +42,8 @@ fn run_length(frame_states: &[FrameState], place: &Place) -> usize
 
 // The first frame that isn't at this place. Each arm has a loop of its own, which looks at one kind of record only.
 fn first_elsewhere(frame_states: &[FrameState], place: &Place) -> Option<usize>
-    ensures { MatchOption result (All (IsAt place.now) frame_states.now) (λ at. IsFirstElsewhere place.now frame_states.now at) }
+    ensures { MatchOption result (All (IsAt place.now) frame_states.now)
+        (λ at. IsFirstElsewhere place.now frame_states.now at) }
 {
     match *place {
         Place::Free => frame_states

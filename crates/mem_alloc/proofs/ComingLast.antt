@@ -23,7 +23,7 @@ kills_come_last MayAsk t start cpu steps before rest made g none is kills =
       last = record {
         now = after.now;
         leads = after.leads;
-        words = may.words;
+        stock_table = may.stock_table;
         consistent = may.consistent;
         charges = may.charges;
         limited = may.limited;
@@ -55,27 +55,27 @@ alive_or_not (Some r) m = by_mark (is_killed m.killed r) refl
     by_mark false is = inl is
 
 pub kills_end_in_time : KillsEndInTime
-kills_end_in_time requester g pages way kills = by_room (has_room_at way.before.ledger g pages) refl
+kills_end_in_time requester g pages call kills = by_room (has_room_at call.before.ledger g pages) refl
   where
     Ended : Type 0
-    Ended = (has_room_at way.after.ledger g pages ≡ true) ⊎ ((¬ IsAlive requester way.after) ⊎ IsVictim way.after g None)
+    Ended = (has_room_at call.after.ledger g pages ≡ true) ⊎ ((¬ IsAlive requester call.after) ⊎ IsVictim call.after g None)
 
-    at_end : KillsUntilRoom requester g pages way → (room : Bool) → has_room_at way.after.ledger g pages ≡ room → Ended
+    at_end : KillsUntilRoom requester g pages call → (room : Bool) → has_room_at call.after.ledger g pages ≡ room → Ended
     at_end until true is = inl is
-    at_end until false is = elim (alive_or_not requester way.after) [
+    at_end until false is = elim (alive_or_not requester call.after) [
       | inl alive ↦ inr (inr (until.ended (record { over = is; alive = alive })))
       | inr dead ↦ inr (inl dead)
     ]
 
-    by_room : (room : Bool) → has_room_at way.before.ledger g pages ≡ room → Ended
+    by_room : (room : Bool) → has_room_at call.before.ledger g pages ≡ room → Ended
     by_room true is = inl (ap (λ (m : KnownMachine). has_room_at m.ledger g pages) (kills.room is).machine ∙ is)
-    by_room false is = at_end (kills.over is) (has_room_at way.after.ledger g pages) refl
+    by_room false is = at_end (kills.over is) (has_room_at call.after.ledger g pages) refl
 
 pub refills_are_whole : RefillsAreWhole
-refills_are_whole batch way refill =
-    let part = lent_part refill.frames way.before.machine way.after.machine way.before.cpu way.after.cpu refill.lends in
-    let long : length way.after.cpu.list ≡ length way.before.cpu.list + length refill.frames =
-    ap length part.list ∙ length-append way.before.cpu.list refill.frames in
+refills_are_whole batch call refill =
+    let part = lent_part refill.frames call.before.machine call.after.machine call.before.cpu call.after.cpu refill.lends in
+    let long : length call.after.cpu.list ≡ length call.before.cpu.list + length refill.frames =
+    ap length part.list ∙ length-append call.before.cpu.list refill.frames in
     let most = refill.at_most in
     elim (cases_lt (length refill.frames) batch) [
       | inl fewer ↦ inr (refill.fewer fewer)

@@ -14,7 +14,8 @@ use Rattle.cpu_part.specs.Cpus.{KnownCpu}
 use Rattle.zone_sizes.specs.declared.config.Config.{Config}
 use Rattle.zone_sizes.specs.Config.{IsValidConfig}
 use Rattle.step_rules.specs.After.{Run}
-use Rattle.mem_machine.specs.Machines.{KnownMachine, Visits, is_killed, with_watch}
+use Rattle.kill_notes.specs.declared.note.Note.TheVariants.{Zone}
+use Rattle.mem_machine.specs.Machines.{KnownMachine, Visits, is_killed, with_note, with_watch}
 use Rattle.mem_machine.specs.Local.{VisitState, visit_state, MakesAs}
 use Rattle.mem_machine.specs.Lending.{LendsMany, Refills}
 use Rattle.mem_machine.specs.Paying.{HoldsPage, PaysForFront}
@@ -31,7 +32,7 @@ use Rattle.mem_alloc.specs.Frames.{AllocatesFrame, FillsList, HasNoFreeFrame, Le
 use Rattle.mem_alloc.proofs.Making.{answer_is}
 use Rattle.mem_alloc.proofs.Lowering.{Lowers, lowers_none, lowers_both, drain_lowers, looked_lowers, lowered_visit, watched_lowers}
 use Rattle.mem_alloc.proofs.Killing.{relieves_lower}
-use Rattle.mem_alloc.proofs.Rounding.{Spares, FailureSpares, InTheEnd, spares_same, fails_spare, in_the_end}
+use Rattle.mem_alloc.proofs.Rounding.{Spares, FailureSpares, InTheEnd, spares_same, noted_fails_spare, noted_in_the_end}
 use Rattle.mem_machine.proofs.Followed.{makes_both, makes_stay}
 
 -- ---- what is kept
@@ -363,7 +364,7 @@ module _ (t : KnownTable) (sizes : Config) (m k x n : KnownMachine) (c e y : Kno
       → BySteps t (FillsList sizes (Err NoFrames)) (visit_state m c) (visit_state n y)
   no_frame pages q rounds named drains steps =
       let there = from_first (λ u v. BySteps t (RefillsInRounds sizes.batch false) (visit_state u v) (visit_state x y)) rounds in
-      let cpu : y ≡ c = (fails_spare t 1 LendsNoFrame (no_frame_spares t) 16 m x c y there.steps there.does).cpu in
+      let cpu : y ≡ c = (noted_fails_spare t 1 LendsNoFrame (no_frame_spares t) 0 m x c y there.steps there.does).cpu in
       let last = drained_own t pages q x x n y y refl refl named drains steps in
       let number = ap (λ (h : KnownCpu). h.number) cpu in record {
         steps = there.steps ++ last.steps;
@@ -376,7 +377,7 @@ module _ (t : KnownTable) (sizes : Config) (m k x n : KnownMachine) (c e y : Kno
               earlier = there.steps;
               later = last.steps;
               first = there.does;
-              second = record { is = none_after t 16 m x c y there.steps first.does.is there.does; does = last.does };
+              second = record { is = none_after t 16 (with_note m (Zone 0)) x c y there.steps first.does.is there.does; does = last.does };
               steps_are = refl;
             };
           };
@@ -402,7 +403,7 @@ no_frame_keeps t sizes RequesterKilled m n c d steps h = absurd h
 no_frame_keeps t sizes NoFrames m n c d steps h =
     let all = h.does.does in
     let x = all.between in
-    let rounds = fails_spare t 1 LendsNoFrame (no_frame_spares t) 16 m x.machine c x.cpu all.earlier all.first in
+    let rounds = noted_fails_spare t 1 LendsNoFrame (no_frame_spares t) 0 m x.machine c x.cpu all.earlier all.first in
     keeps_both m x.machine n c x.cpu d (lowers_keep t m x.machine c x.cpu rounds.lowers rounds.cpu)
     (own_drain_keeps t x.machine n x.cpu d all.later all.second.does)
 
@@ -422,7 +423,7 @@ spared_page t g m n c d s page =
 module _ (t : KnownTable) (sizes : Config) (m n : KnownMachine) (c d : KnownCpu) (steps : Run)
     (h : Where HasNoFreeFrame (RefillsInRounds sizes.batch true) (transition t (visit_state m c) steps (visit_state n d))) where
   abbrev last : InTheEnd t 1 LendsNoFrame (no_frame_spares t) (LendsBatch sizes.batch) m c (visit_state n d)
-  last = in_the_end t 1 LendsNoFrame (no_frame_spares t) (LendsBatch sizes.batch) 16 m c (visit_state n d) steps h.does
+  last = noted_in_the_end t 1 LendsNoFrame (no_frame_spares t) 0 (LendsBatch sizes.batch) m c (visit_state n d) steps h.does
 
   pub reclaimed_page : (g : ℕ) → HoldsPage (visit_state m c) g → HoldsPage (visit_state n d) g
   reclaimed_page g page =
@@ -465,7 +466,7 @@ refilled_part : (t : KnownTable) (sizes : Config) (m n : KnownMachine) (c d : Kn
     → RefillsList sizes.batch (transition t (visit_state m c) steps (visit_state n d)) → FilledPart sizes m c n d
 refilled_part t sizes m n c d steps valid empty (inl h) = batch_part t sizes m n c d steps valid empty h
 refilled_part t sizes m n c d steps valid empty (inr h) =
-    let e = in_the_end t 1 LendsNoFrame (no_frame_spares t) (LendsBatch sizes.batch) 16 m c (visit_state n d) steps h.does in
+    let e = noted_in_the_end t 1 LendsNoFrame (no_frame_spares t) 0 (LendsBatch sizes.batch) m c (visit_state n d) steps h.does in
     let cpu = e.spares.cpu in
     let b = batch_part t sizes e.before n e.cpu d e.trying valid (ap (λ (y : KnownCpu). y.list) cpu ∙ empty) e.succeeds in
     record {

@@ -13,7 +13,7 @@ use Rattle.group_charge.specs.Charges.{AreCharges, current_of, usage_of, with_ev
 use Rattle.group_charge.proofs.CallerLemmas.{sum-map_same}
 use Rattle.group_charge.proofs.KeptLemmas.{number_below}
 use Rattle.group_charge.proofs.SumLemmas.{share}
-use Rattle.stock_word.specs.Stock.{Words}
+use Rattle.stock_word.specs.Stock.{KnownStockTable}
 use Rattle.step_rules.specs.State.{sum_to}
 use Rattle.step_rules.specs.After.{Run}
 use Rattle.kill_notes.specs.declared.note.Note.TheVariants as notes
@@ -27,8 +27,8 @@ use Rattle.mem_reclaim.specs.Victim.{IsVictim}
 use Rattle.mem_reclaim.proofs.Choosing.{chosen_there}
 use Rattle.mem_reclaim.proofs.Dying.{victims_die}
 use Rattle.mem_alloc.specs.Stepping.{ByStepsOfAny, MachineStays, transition}
-use Rattle.mem_alloc.specs.Kills.{IsWanting, KillsEach, KillsFor, KillsOne, has_room_at, with_oom_noted_at}
-use Rattle.mem_alloc.specs.Room.{KillsForFew, RelievesLimit}
+use Rattle.mem_alloc.specs.Kills.{IsWanting, KillsVictims, KillsForRoom, KillsOneVictim, has_room_at, with_oom_noted_at}
+use Rattle.mem_alloc.specs.Room.{KillsForFewPages, RelievesLimit}
 use Rattle.mem_alloc.proofs.Lowering.{Lowers, lowers_none, lowers_both, same_visit, clears_lower, keeps_lower, sum_less}
 use Rattle.mem_machine.proofs.Followed.{makes_both, makes_none}
 use Rattle.step_watch.specs.Watched.{KnownWatch}
@@ -59,7 +59,7 @@ one_lowers t groups m n marked stocks keeps = record {
 }
 
 pub each_lowers : (r : Option ℕ) (t : KnownTable) (g pages : ℕ) (victims : List Killed) (m n : KnownMachine) (steps : Run)
-    → KillsEach r g pages victims (transition t m steps n) → Lowers t m n
+    → KillsVictims r g pages victims (transition t m steps n) → Lowers t m n
 each_lowers r t g pages [] m n steps h = subst (λ (x : KnownMachine). Lowers t m x) (sym h.machine) (lowers_none t m)
 each_lowers r t g pages (killed ∷ later) m n steps h =
     lowers_both t m h.between n (one_lowers t (kill_set m killed) m h.between h.first.marked h.first.stocks h.first.keeps)
@@ -84,7 +84,7 @@ oom_lowers t m g w = record {
 stays_lower : (t : KnownTable) (m n : KnownMachine) (steps : Run) → MachineStays (transition t m steps n) → Lowers t m n
 stays_lower t m n steps h = subst (λ (x : KnownMachine). Lowers t m x) (sym h.machine) (lowers_none t m)
 
-pub kills_lower : (r : Option ℕ) (t : KnownTable) (g pages : ℕ) (m n : KnownMachine) (steps : Run) → KillsFor r g pages (transition t m steps n) → Lowers t m n
+pub kills_lower : (r : Option ℕ) (t : KnownTable) (g pages : ℕ) (m n : KnownMachine) (steps : Run) → KillsForRoom r g pages (transition t m steps n) → Lowers t m n
 kills_lower r t g pages m n steps k = elim (cases_Bool (has_room_at m.ledger g pages)) [
   | inl room ↦ stays_lower t m n steps (k.room room)
   | inr over ↦
@@ -93,7 +93,7 @@ kills_lower r t g pages m n steps k = elim (cases_Bool (has_room_at m.ledger g p
       lowers_both t m x n (oom_lowers t m g h.seen) (each_lowers r t g pages h.victims x n h.killing h.kills)
 ]
 
-pub few_lower : (t : KnownTable) (r g pages : ℕ) (m n : KnownMachine) (steps : Run) → KillsForFew r g pages (transition t m steps n) → Lowers t m n
+pub few_lower : (t : KnownTable) (r g pages : ℕ) (m n : KnownMachine) (steps : Run) → KillsForFewPages r g pages (transition t m steps n) → Lowers t m n
 few_lower t r g pages m n steps k = elim (cases_lt 8 pages) [
   | inl many ↦ stays_lower t m n steps (k.many many)
   | inr few ↦ kills_lower (Some r) t g pages m n steps (k.few few)
@@ -145,7 +145,7 @@ all_marked (x ∷ groups) marks v (suc k) inside low is =
     let long = length-set marks x true in
     all_marked groups (slice_set marks x true) v k (omega (arith, inside, long)) (omega (arith, low)) is
 
-pub fewer_alive : (t : KnownTable) (w : Words) (m n : KnownMachine) (g : ℕ) (killed : Killed) → IsConsistent t w m → AreCharges m.ledger
+pub fewer_alive : (t : KnownTable) (w : KnownStockTable) (m n : KnownMachine) (g : ℕ) (killed : Killed) → IsConsistent t w m → AreCharges m.ledger
     → IsVictim m g (Some killed.victim) → IsHead m.ledger.groups g killed → n.killed ≡ with_all_killed m.killed (kill_set m killed)
     → count_alive n < count_alive m
 fewer_alive t w m n g killed whole charges most head marked =
@@ -164,13 +164,13 @@ fewer_alive t w m n g killed whole charges most head marked =
 
 -- kills, and one more
 kills_more : (r : Option ℕ) (t : KnownTable) (g pages : ℕ) (killed : Killed) (victims : List Killed) (m x n : KnownMachine) (first last : Run)
-    → KillsEach r g pages victims (transition t m first x) → KillsOne r g pages killed (transition t x last n)
-    → KillsEach r g pages (victims ++ killed ∷ []) (transition t m (first ++ last) n)
+    → KillsVictims r g pages victims (transition t m first x) → KillsOneVictim r g pages killed (transition t x last n)
+    → KillsVictims r g pages (victims ++ killed ∷ []) (transition t m (first ++ last) n)
 kills_more r t g pages killed [] m x n first last each one = record {
   between = n;
   earlier = last;
   later = [];
-  first = subst (λ (y : KnownMachine). KillsOne r g pages killed (transition t y last n)) each.machine one;
+  first = subst (λ (y : KnownMachine). KillsOneVictim r g pages killed (transition t y last n)) each.machine one;
   second = record { machine = refl; steps_are = refl };
   steps_are = ap (λ (k : Run). k ++ last) each.steps_are ∙ sym (append-nil last);
 }
@@ -190,7 +190,7 @@ pub record KillsSoFar (r : Option ℕ) (t : KnownTable) (g pages : ℕ) (m n : K
   pub notes : MakesForAny t m (note_oom_steps g) (with_watch (with_oom_noted_at m g) seen)
   pub victims : List Killed
   pub killing : Run
-  pub kills : KillsEach r g pages victims (transition t (with_watch (with_oom_noted_at m g) seen) killing n)
+  pub kills : KillsVictims r g pages victims (transition t (with_watch (with_oom_noted_at m g) seen) killing n)
   pub runs : MakesForAny t (with_watch (with_oom_noted_at m g) seen) killing n
 
 -- the note, after the event
@@ -209,7 +209,7 @@ so_far_nobody r t g pages m x n event noting noted =
       runs = λ c. makes_none t c.number (visit_state (with_watch (with_oom_noted_at m g) x.watch) c);
     })
 
-pub so_far_killed : (r : Option ℕ) (t : KnownTable) (w : Words) (g pages : ℕ) (killed : Killed) (m x n : KnownMachine) → KillsSoFar r t g pages m x
+pub so_far_killed : (r : Option ℕ) (t : KnownTable) (w : KnownStockTable) (g pages : ℕ) (killed : Killed) (m x n : KnownMachine) → KillsSoFar r t g pages m x
     → IsWanting r g pages x → IsConsistent t w x → AreCharges x.ledger → IsVictim x g (Some killed.victim) → IsKilledBy t g killed x n
     → n.killed ≡ with_all_killed x.killed (kill_set x killed) → OnlyDrains x n → OnlyLetsGo t x n → KillsSoFar r t g pages m n
 so_far_killed r t w g pages killed m x n so_far wanting whole charges chosen kills marked stocks keeps = record {
@@ -220,7 +220,7 @@ so_far_killed r t w g pages killed m x n so_far wanting whole charges chosen kil
   kills = kills_more r t g pages killed so_far.victims (with_watch (with_oom_noted_at m g) so_far.seen) x n so_far.killing kills.steps so_far.kills (record {
     wanting = wanting;
     chosen = chosen;
-    words = w;
+    stock_table = w;
     consistent = whole;
     charges = charges;
     kills = kills;
@@ -241,7 +241,7 @@ so_far_there r t g pages m n so_far there =
 
 -- the kills are over
 pub kills_end : (r : Option ℕ) (t : KnownTable) (g pages : ℕ) (m n : KnownMachine) → has_room_at m.ledger g pages ≡ false
-    → KillsSoFar r t g pages m n → (IsWanting r g pages n → IsVictim n g None) → ByStepsOfAny t (KillsFor r g pages) m n
+    → KillsSoFar r t g pages m n → (IsWanting r g pages n → IsVictim n g None) → ByStepsOfAny t (KillsForRoom r g pages) m n
 kills_end r t g pages m n over so_far ended = record {
   steps = note_oom_steps g ++ so_far.killing;
   does = record {
@@ -262,11 +262,11 @@ kills_end r t g pages m n over so_far ended = record {
 
 -- ---- kills for a few pages alone
 
-pub few_kills : (t : KnownTable) (r g pages : ℕ) (m n : KnownMachine) → pages ≤ 8 → ByStepsOfAny t (KillsFor (Some r) g pages) m n
-    → ByStepsOfAny t (KillsForFew r g pages) m n
+pub few_kills : (t : KnownTable) (r g pages : ℕ) (m n : KnownMachine) → pages ≤ 8 → ByStepsOfAny t (KillsForRoom (Some r) g pages) m n
+    → ByStepsOfAny t (KillsForFewPages r g pages) m n
 few_kills t r g pages m n few kills = record { steps = kills.steps; does = record { few = λ _. kills.does; many = λ many. absurd (omega (arith, few, many)) }; makes = kills.makes }
 
-pub many_rest : (t : KnownTable) (r g pages : ℕ) (m : KnownMachine) → 8 < pages → ByStepsOfAny t (KillsForFew r g pages) m m
+pub many_rest : (t : KnownTable) (r g pages : ℕ) (m : KnownMachine) → 8 < pages → ByStepsOfAny t (KillsForFewPages r g pages) m m
 many_rest t r g pages m many = record {
   steps = [];
   does = record { few = λ few. absurd (omega (arith, few, many)); many = λ _. record { machine = refl; steps_are = refl } };
@@ -276,7 +276,7 @@ many_rest t r g pages m many = record {
 -- ---- no kill at all
 
 pub enough_room : (r : Option ℕ) (t : KnownTable) (g pages : ℕ) (m : KnownMachine) → has_room_at m.ledger g pages ≡ true
-    → ByStepsOfAny t (KillsFor r g pages) m m
+    → ByStepsOfAny t (KillsForRoom r g pages) m m
 enough_room r t g pages m room = record {
   steps = [];
   does = record { room = λ _. record { machine = refl; steps_are = refl }; over = λ over. absurd (false≢true (sym over ∙ room)) };

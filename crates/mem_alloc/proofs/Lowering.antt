@@ -14,7 +14,7 @@ use Rattle.group_charge.proofs.CallerLemmas.{sum-map_same}
 use Rattle.group_charge.proofs.SumLemmas.{share}
 use Rattle.stock_word.specs.declared.view.Account.{Account}
 use Rattle.stock_word.specs.declared.view.StockView.{StockView}
-use Rattle.stock_word.specs.Stock.{Seated, account_of}
+use Rattle.stock_word.specs.Stock.{KnownStockSeat, account_of}
 use Rattle.stock_word.specs.Kinds.{draining, with_steps}
 use Rattle.stock_word.specs.Calls.{with_view, after_look}
 use Rattle.cpu_part.specs.Cpus.{KnownCpu}
@@ -169,7 +169,7 @@ keeps_lower t m n keeps = record {
   opened = keeps.opened;
   visit = keeps.visit;
   falls = keeps.usage;
-  emptied = λ p is. ap (λ (s : Seated). (account_of s.view p).filled) keeps.stock_seat ∙ is;
+  emptied = λ p is. ap (λ (s : KnownStockSeat). (account_of s.view p).filled) keeps.stock_seat ∙ is;
 }
 
 -- ---- what stays

@@ -17,7 +17,7 @@ use Rattle.mem_alloc.specs.Stepping.{BySteps, ByStepsOfAny, Transition, transiti
 use Rattle.mem_reclaim.specs.Wanted.{progress}
 use Rattle.mem_reclaim.proofs.Keeping.{keeps_none}
 use Rattle.mem_reclaim.proofs.Moving.{moves_rest}
-use Rattle.mem_alloc.specs.Room.{AfterRoom, ClearsBelow, HasMadeRoom, IsRefusedAt, IsRefusedFor, KillsForFew, MakesRoom, ReclaimsBefore, ReclaimsFor, RelievesLimit, TellsRoom}
+use Rattle.mem_alloc.specs.Room.{AfterRoom, ClearsBelow, HasMadeRoom, IsRefusedAt, IsRefusedFor, KillsForFewPages, MakesRoom, ReclaimsBefore, ReclaimsFor, RelievesLimit, TellsRoom}
 use Rattle.mem_alloc.specs.Room.{with_limit_noted, with_max_noted_at}
 use Rattle.mem_alloc.specs.declared.faults.AllocFault.{AllocFault}
 use Rattle.mem_alloc.specs.Charging.{ChargesOne, FillsStock}
@@ -53,7 +53,7 @@ clears_by t g pages back m y x n told noted noting_y drains drained =
 
 -- and then the rounds, and the kills
 pub relieves_by : (t : KnownTable) (r g pages : ℕ) (m x y n : KnownMachine) → ByStepsOfAny t (ClearsBelow g pages) m x → ByStepsOfAny t (ReclaimsFor g pages) x y
-    → ByStepsOfAny t (KillsForFew r g pages) y n → ByStepsOfAny t (RelievesLimit r g pages) m n
+    → ByStepsOfAny t (KillsForFewPages r g pages) y n → ByStepsOfAny t (RelievesLimit r g pages) m n
 relieves_by t r g pages m x y n first next last = record {
   steps = first.steps ++ (next.steps ++ last.steps);
   does = record {
@@ -73,7 +73,7 @@ pub no_rounds : (t : KnownTable) (g pages : ℕ) (m : KnownMachine) → limit_of
 no_rounds t g pages m none = record {
   steps = [];
   does = record {
-    given = 0;
+    freed = 0;
     reclaims = subst (λ (o : Option ℕ). ReclaimsBefore o g pages (progress 0 m [] m)) (sym none) (record { no_page = refl; machine = refl; no_step = refl });
     missed = λ over. absurd (false≢true (sym over ∙ ap (λ (o : Option ℕ). fits_limit o (current_of m.ledger g + pages)) none));
     keeps = keeps_none t m;

@@ -1,12 +1,13 @@
 -- The misses that are noted are those among the steps. Serves the calls that name a command's steps.
-use Rattle.std.proofs.Common.{◌≡◌, ℕ, zero, suc, ◌^◌, Bool, true, false, Option, Some, List, [], ◌∷◌, ◌++◌, refl, sym, ap, ◌∙◌, subst, inl, inr, arith}
+use Rattle.std.proofs.Common.{◌≡◌, ℕ, zero, suc, ◌-◌, ◌^◌, Bool, true, false, Option, Some, List, [], ◌∷◌, ◌++◌, refl, sym, ap, ◌∙◌, subst, inl, inr, arith}
 use Rattle.std.specs.Prelude.{Result, Ok, Err}
 use Rattle.std.proofs.lemmas.Bool.{cases_Bool, cases_lt}
 use Rattle.frame_word.specs.Seats.{KnownTable, KnownSeat, misses_of}
 use Rattle.frame_word.specs.Views.{collected_from, passed_out_to, unfrozen}
 use Rattle.zone_sizes.specs.declared.config.Config.{Config}
 use Rattle.step_rules.specs.After.{Run}
-use Rattle.mem_machine.specs.Machines.{KnownMachine, with_watch}
+use Rattle.kill_notes.specs.declared.note.Note.TheVariants.{Zone}
+use Rattle.mem_machine.specs.Machines.{KnownMachine, with_note, with_watch}
 use Rattle.mem_machine.specs.Local.{VisitState, visit_state}
 use Rattle.mem_machine.specs.Blocks.{taken_steps, unplaced_steps}
 use Rattle.mem_machine.specs.Lending.{LendsMany, TakesManyBack}
@@ -18,12 +19,12 @@ use Rattle.mem_reclaim.proofs.LettingGo.{AreQuiet, misses_put, quiet_both, quiet
 use Rattle.mem_alloc.specs.declared.faults.AllocFault.{AllocFault}
 use Rattle.mem_alloc.specs.declared.faults.AllocFault.TheVariants.{Over, NoFrames, RequesterKilled}
 use Rattle.mem_alloc.specs.Stepping.{CountsMisses, Transition, InTurn, OfMachineAlone, Stays, Where, transition, of_machine}
-use Rattle.mem_alloc.specs.Kills.{KillsEach, KillsFor, KillsOne, has_room_at, with_oom_noted_at}
-use Rattle.mem_alloc.specs.Room.{AfterRoom, ClearsBelow, IsRefusedAt, IsRefusedFor, IsRefusedAtSome, KillsForFew, MakesRoom, RelievesLimit, with_max_noted_at}
+use Rattle.mem_alloc.specs.Kills.{KillsVictims, KillsForRoom, KillsOneVictim, has_room_at, with_oom_noted_at}
+use Rattle.mem_alloc.specs.Room.{AfterRoom, ClearsBelow, IsRefusedAt, IsRefusedFor, IsRefusedAtSome, KillsForFewPages, MakesRoom, RelievesLimit, with_max_noted_at}
 use Rattle.mem_alloc.specs.Charging.{ChargesAfterDrain, ChargesFrame, ChargesOne, DrainsStock, FillsStock, AfterBatchRefused, PaysForFrame}
-use Rattle.mem_alloc.specs.Rounds.{FailsInRounds, GivesInRound, MakesRound, SucceedsInRounds}
-use Rattle.mem_alloc.specs.Frames.{AllocatesFrame, FillsList, HasNoFreeFrame, LendsBatch, LendsNoFrame, RefillsInRounds}
-use Rattle.mem_alloc.specs.Blocks.{AllocatesBlock, ChargesBlock, FindsNoBlock, RetriesBlock, TakesAfterDrain, TakesFreeBlock, TakesInRounds, TakesOrReclaims}
+use Rattle.mem_alloc.specs.Rounds.{AfterZoneNote, FailsInRounds, FreesInRound, MakesRound, SucceedsInRounds}
+use Rattle.mem_alloc.specs.Frames.{AllocatesFrame, FillsList, HasNoFreeFrame, LendsBatch, LendsNoFrame, MakesRefillRounds, RefillsInRounds}
+use Rattle.mem_alloc.specs.Blocks.{AllocatesBlock, ChargesBlock, FindsNoBlock, MakesTakeRounds, RetriesBlock, TakesAfterDrain, TakesFreeBlock, TakesInRounds, TakesOrReclaims}
 use Rattle.mem_alloc.proofs.NoRash.{all_same}
 use Rattle.step_watch.specs.Watched.{KnownWatch}
 
@@ -71,7 +72,7 @@ pub counts_drains : (t : KnownTable) (g k : ℕ) (m n : KnownMachine) (drains : 
 counts_drains t g k m n drains all = counts_same t m n (drain_stocks_steps drains) (quiet_drains drains) (all_same g k m n drains all).frame_seat
 
 counts_one : (r : Option ℕ) (t : KnownTable) (g pages : ℕ) (killed : Killed) (m n : KnownMachine) (steps : Run)
-    → KillsOne r g pages killed (transition t m steps n) → CountsMisses (transition t m steps n)
+    → KillsOneVictim r g pages killed (transition t m steps n) → CountsMisses (transition t m steps n)
 counts_one r t g pages killed m n steps h =
     counts_as t m n steps h.kills.steps h.steps_are (λ f.
     let p = h.kills.these.no_miss f in
@@ -79,13 +80,13 @@ counts_one r t g pages killed m n steps h =
     omega (arith, p, q))
 
 counts_each : (r : Option ℕ) (t : KnownTable) (g pages : ℕ) (victims : List Killed) (m n : KnownMachine) (steps : Run)
-    → KillsEach r g pages victims (transition t m steps n) → CountsMisses (transition t m steps n)
+    → KillsVictims r g pages victims (transition t m steps n) → CountsMisses (transition t m steps n)
 counts_each r t g pages [] m n steps h = counts_rest t m n steps h.machine h.steps_are
 counts_each r t g pages (killed ∷ later) m n steps h =
     counts_as t m n steps (h.earlier ++ h.later) h.steps_are (counts_both t m h.between n h.earlier h.later
     (counts_one r t g pages killed m h.between h.earlier h.first) (counts_each r t g pages later h.between n h.later h.second))
 
-pub counts_kills : (r : Option ℕ) (t : KnownTable) (g pages : ℕ) (m n : KnownMachine) (steps : Run) → KillsFor r g pages (transition t m steps n)
+pub counts_kills : (r : Option ℕ) (t : KnownTable) (g pages : ℕ) (m n : KnownMachine) (steps : Run) → KillsForRoom r g pages (transition t m steps n)
     → CountsMisses (transition t m steps n)
 counts_kills r t g pages m n steps k = elim (cases_Bool (has_room_at m.ledger g pages)) [
   | inl room ↦ counts_rest t m n steps (k.room room).machine (k.room room).steps_are
@@ -96,7 +97,7 @@ counts_kills r t g pages m n steps k = elim (cases_Bool (has_room_at m.ledger g 
       (counts_same t m x (note_oom_steps g) (record { quiet = refl; no_miss = λ f. refl }) refl) (counts_each r t g pages h.victims x n h.killing h.kills))
 ]
 
-counts_few : (t : KnownTable) (r g pages : ℕ) (m n : KnownMachine) (steps : Run) → KillsForFew r g pages (transition t m steps n) → CountsMisses (transition t m steps n)
+counts_few : (t : KnownTable) (r g pages : ℕ) (m n : KnownMachine) (steps : Run) → KillsForFewPages r g pages (transition t m steps n) → CountsMisses (transition t m steps n)
 counts_few t r g pages m n steps k = elim (cases_lt 8 pages) [
   | inl many ↦ counts_rest t m n steps (k.many many).machine (k.many many).steps_are
   | inr few ↦ counts_kills (Some r) t g pages m n steps (k.few few)
@@ -165,152 +166,157 @@ back_same (f ∷ frames) m n h g =
 
 -- the misses are counted in each such transition
 abbrev pub AllCounted : (Transition VisitState → Type 0) → Type 0
-AllCounted P = (way : Transition VisitState) → P way → CountsMisses (of_machine way)
+AllCounted P = (call : Transition VisitState) → P call → CountsMisses (of_machine call)
 
 counts_stay : AllCounted Stays
-counts_stay way h = counts_rest way.table way.before.machine way.after.machine way.steps h.machine h.steps_are
+counts_stay call h = counts_rest call.table call.before.machine call.after.machine call.steps h.machine h.steps_are
 
 counts_turns : (First Second : Transition VisitState → Type 0) → AllCounted First → AllCounted Second → AllCounted (InTurn First Second)
-counts_turns First Second one two way h =
-    counts_as way.table way.before.machine way.after.machine way.steps (h.earlier ++ h.later) h.steps_are
-    (counts_both way.table way.before.machine h.between.machine way.after.machine h.earlier h.later
-    (one (transition way.table way.before h.earlier h.between) h.first) (two (transition way.table h.between h.later way.after) h.second))
+counts_turns First Second one two call h =
+    counts_as call.table call.before.machine call.after.machine call.steps (h.earlier ++ h.later) h.steps_are
+    (counts_both call.table call.before.machine h.between.machine call.after.machine h.earlier h.later
+    (one (transition call.table call.before h.earlier h.between) h.first) (two (transition call.table h.between h.later call.after) h.second))
 
 counts_alone : (Does : Transition KnownMachine → Type 0)
     → ((t : KnownTable) (m n : KnownMachine) (steps : Run) → Does (transition t m steps n) → CountsMisses (transition t m steps n))
     → AllCounted (OfMachineAlone Does)
-counts_alone Does counts way h = counts way.table way.before.machine way.after.machine way.steps h.does
+counts_alone Does counts call h = counts call.table call.before.machine call.after.machine call.steps h.does
 
 after_room_counts : (g pages : ℕ) (Does : Transition VisitState → Type 0) → AllCounted Does → AllCounted (AfterRoom g pages Does)
-after_room_counts g pages Does counts way h =
-    let t = way.table in
-    let m = way.before.machine in
-    let n = way.after.machine in
-    counts_as t m n way.steps (h.making ++ h.later) h.steps_are (counts_both t m h.cleared n h.making h.later
+after_room_counts g pages Does counts call h =
+    let t = call.table in
+    let m = call.before.machine in
+    let n = call.after.machine in
+    counts_as t m n call.steps (h.making ++ h.later) h.steps_are (counts_both t m h.cleared n h.making h.later
     (counts_room t g pages h.refused_at m h.cleared h.making h.makes)
-    (counts (transition t (visit_state h.cleared way.before.cpu) h.later way.after) h.does))
+    (counts (transition t (visit_state h.cleared call.before.cpu) h.later call.after) h.does))
 
 refusal_counts : (g pages : ℕ) (cause : AllocFault) → AllCounted (IsRefusedFor g pages cause)
-refusal_counts g pages cause way h =
+refusal_counts g pages cause call h =
     after_room_counts g pages (OfMachineAlone (IsRefusedAtSome g pages cause))
-    (counts_alone (IsRefusedAtSome g pages cause) (λ t m n steps r. counts_refused t g pages r.0 (Err cause) m n steps r.1)) way h
+    (counts_alone (IsRefusedAtSome g pages cause) (λ t m n steps r. counts_refused t g pages r.0 (Err cause) m n steps r.1)) call h
 
 -- ---- rounds of reclaim
 
 module _ (want : ℕ) (Fails : Transition VisitState → Type 0) (failing : AllCounted Fails) where
-  round_counts : (given : ℕ) (Tries : Transition VisitState → Type 0) → AllCounted Tries → AllCounted (MakesRound want given Tries)
-  round_counts given Tries trying way h =
-      let m = way.before.machine in
-      let n = way.after.machine in
-      counts_as way.table m n way.steps (h.reclaiming ++ h.trying) h.steps_are (counts_both way.table m h.reclaimed n h.reclaiming h.trying h.moves.misses
-      (trying (transition way.table (visit_state h.reclaimed way.before.cpu) h.trying way.after) h.tries))
+  round_counts : (number freed : ℕ) (Tries : Transition VisitState → Type 0) → AllCounted Tries → AllCounted (MakesRound number want freed Tries)
+  round_counts number freed Tries trying call h =
+      let m = call.before.machine in
+      let n = call.after.machine in
+      counts_as call.table m n call.steps (h.reclaiming ++ h.trying) h.steps_are (counts_both call.table m h.reclaimed n h.reclaiming h.trying h.moves.misses
+      (trying (transition call.table (visit_state h.reclaimed call.before.cpu) h.trying call.after) h.tries))
 
-  gives_count : AllCounted (GivesInRound want Fails)
-  gives_count way h = round_counts h.given Fails failing way h.round
+  gives_count : (number : ℕ) → AllCounted (FreesInRound number want Fails)
+  gives_count number call h = round_counts number h.freed Fails failing call h.round
 
   fails_count : (rounds : ℕ) → AllCounted (FailsInRounds rounds want Fails)
-  fails_count zero way h = counts_stay way h
-  fails_count (suc more) way (inl h) = round_counts 0 Fails failing way h
-  fails_count (suc more) way (inr h) =
-      counts_turns (GivesInRound want Fails) (FailsInRounds more want Fails) gives_count (fails_count more) way h
+  fails_count zero call h = counts_stay call h
+  fails_count (suc more) call (inl h) = round_counts (16 - more) 0 Fails failing call h
+  fails_count (suc more) call (inr h) =
+      counts_turns (FreesInRound (16 - more) want Fails) (FailsInRounds more want Fails) (gives_count (16 - more)) (fails_count more) call h
 
   succeeds_count : (rounds : ℕ) (Succeeds : Transition VisitState → Type 0) → AllCounted Succeeds → AllCounted (SucceedsInRounds rounds want Succeeds Fails)
-  succeeds_count zero Succeeds succeeding way h = absurd h
-  succeeds_count (suc more) Succeeds succeeding way (inl h) = round_counts h.0 Succeeds succeeding way h.1
-  succeeds_count (suc more) Succeeds succeeding way (inr h) =
-      counts_turns (GivesInRound want Fails) (SucceedsInRounds more want Succeeds Fails) gives_count
-      (succeeds_count more Succeeds succeeding) way h
+  succeeds_count zero Succeeds succeeding call h = absurd h
+  succeeds_count (suc more) Succeeds succeeding call (inl h) = round_counts (16 - more) h.0 Succeeds succeeding call h.1
+  succeeds_count (suc more) Succeeds succeeding call (inr h) =
+      counts_turns (FreesInRound (16 - more) want Fails) (SucceedsInRounds more want Succeeds Fails) (gives_count (16 - more))
+      (succeeds_count more Succeeds succeeding) call h
+
+-- a note before them is no step
+noted_counts : (order : ℕ) (Does : Transition VisitState → Type 0) → AllCounted Does → AllCounted (AfterZoneNote order Does)
+noted_counts order Does counts call h =
+    counts (transition call.table (visit_state (with_note call.before.machine (Zone order)) call.before.cpu) call.steps call.after) h
 
 -- ---- a single frame
 
 lends_count : (batch : ℕ) → AllCounted (LendsBatch batch)
-lends_count batch way h =
-    let p = way.before.cpu.number in
-    counts_as way.table way.before.machine way.after.machine way.steps (refill_steps p h.frames) h.steps_are
-    (counts_none way.table way.before.machine way.after.machine (refill_steps p h.frames) (refill_calm p h.frames) (lent_same h.frames way.before way.after h.lends))
+lends_count batch call h =
+    let p = call.before.cpu.number in
+    counts_as call.table call.before.machine call.after.machine call.steps (refill_steps p h.frames) h.steps_are
+    (counts_none call.table call.before.machine call.after.machine (refill_steps p h.frames) (refill_calm p h.frames) (lent_same h.frames call.before call.after h.lends))
 
 lends_none_count : AllCounted LendsNoFrame
-lends_none_count way h = counts_stay way h.does
+lends_none_count call h = counts_stay call h.does
 
 drains_count : AllCounted DrainsStock
-drains_count way h =
-    counts_as way.table way.before.machine way.after.machine way.steps
-    (drain_steps way.before.cpu.number (stock_group way.before.machine way.before.cpu.number) h.drained) h.steps_are
-    (counts_drain way.table way.before.cpu.number h.drained way.before.machine way.after.machine h.drains)
+drains_count call h =
+    counts_as call.table call.before.machine call.after.machine call.steps
+    (drain_steps call.before.cpu.number (stock_group call.before.machine call.before.cpu.number) h.drained) h.steps_are
+    (counts_drain call.table call.before.cpu.number h.drained call.before.machine call.after.machine h.drains)
 
 refills_count : (batch : ℕ) (filled : Bool) → AllCounted (RefillsInRounds batch filled)
-refills_count batch true way h = succeeds_count 1 LendsNoFrame lends_none_count 16 (LendsBatch batch) (lends_count batch) way h
-refills_count batch false way h = fails_count 1 LendsNoFrame lends_none_count 16 way h
+refills_count batch true = noted_counts 0 (MakesRefillRounds batch true) (succeeds_count 1 LendsNoFrame lends_none_count 16 (LendsBatch batch) (lends_count batch))
+refills_count batch false = noted_counts 0 (MakesRefillRounds batch false) (fails_count 1 LendsNoFrame lends_none_count 16)
 
 fills_count : (sizes : Config) (answer : Result (Unit {0}) AllocFault) → AllCounted (FillsList sizes answer)
-fills_count sizes (Ok v) way (inl h) = counts_stay way h.does
-fills_count sizes (Ok v) way (inr h) = elim h.does [
-  | inl lends ↦ lends_count sizes.batch way lends
-  | inr rounds ↦ refills_count sizes.batch true way rounds.does
+fills_count sizes (Ok v) call (inl h) = counts_stay call h.does
+fills_count sizes (Ok v) call (inr h) = elim h.does [
+  | inl lends ↦ lends_count sizes.batch call lends
+  | inr rounds ↦ refills_count sizes.batch true call rounds.does
 ]
-fills_count sizes (Err NoFrames) way h =
+fills_count sizes (Err NoFrames) call h =
     counts_turns (RefillsInRounds sizes.batch false) (Where HasNoFreeFrame DrainsStock) (refills_count sizes.batch false)
-    (λ last drains. drains_count last drains.does) way h.does.does
-fills_count sizes (Err (Over over)) way h = absurd h
-fills_count sizes (Err RequesterKilled) way h = absurd h
+    (λ last drains. drains_count last drains.does) call h.does.does
+fills_count sizes (Err (Over over)) call h = absurd h
+fills_count sizes (Err RequesterKilled) call h = absurd h
 
 stock_counts : (g pages : ℕ) → AllCounted (FillsStock g pages)
-stock_counts g pages way h =
-    let last = fill_steps way.before.cpu.number g pages in
-    counts_as way.table way.before.machine way.after.machine way.steps last h.steps_are
-    (counts_same way.table way.before.machine way.after.machine last (record { quiet = refl; no_miss = λ f. refl })
+stock_counts g pages call h =
+    let last = fill_steps call.before.cpu.number g pages in
+    counts_as call.table call.before.machine call.after.machine call.steps last h.steps_are
+    (counts_same call.table call.before.machine call.after.machine last (record { quiet = refl; no_miss = λ f. refl })
     (ap (λ (x : KnownMachine). x.frame_seat) h.fills.machine))
 
 one_counts : (g : ℕ) (answer : Result (Unit {0}) AllocFault) → AllCounted (ChargesOne g answer)
-one_counts g (Ok v) way h = after_room_counts g 1 (FillsStock g 1) (stock_counts g 1) way h
-one_counts g (Err cause) way h = refusal_counts g 1 cause way h
+one_counts g (Ok v) call h = after_room_counts g 1 (FillsStock g 1) (stock_counts g 1) call h
+one_counts g (Err cause) call h = refusal_counts g 1 cause call h
 
 lacks_counts : (sizes : Config) (g : ℕ) (answer : Result (Unit {0}) AllocFault) → AllCounted (AfterBatchRefused sizes g (ChargesOne g answer))
-lacks_counts sizes g answer way h =
-    let t = way.table in
-    let m = way.before.machine in
+lacks_counts sizes g answer call h =
+    let t = call.table in
+    let m = call.before.machine in
     let first = over_steps g sizes.stock h.over in
-    counts_as t m way.after.machine way.steps (first ++ h.later) h.steps_are (counts_both t m (with_watch m h.seen) way.after.machine first h.later
+    counts_as t m call.after.machine call.steps (first ++ h.later) h.steps_are (counts_both t m (with_watch m h.seen) call.after.machine first h.later
     (over_counts t g sizes.stock h.over m h.seen)
-    (one_counts g answer (transition t (visit_state (with_watch m h.seen) way.before.cpu) h.later way.after) h.does))
+    (one_counts g answer (transition t (visit_state (with_watch m h.seen) call.before.cpu) h.later call.after) h.does))
 
 charges_count : (sizes : Config) (g : ℕ) (answer : Result (Unit {0}) AllocFault) → AllCounted (ChargesFrame sizes g answer)
-charges_count sizes g (Ok v) way (inl h) = stock_counts g sizes.stock way h
-charges_count sizes g (Ok v) way (inr h) = lacks_counts sizes g (Ok v) way h
-charges_count sizes g (Err cause) way h = lacks_counts sizes g (Err cause) way h
+charges_count sizes g (Ok v) call (inl h) = stock_counts g sizes.stock call h
+charges_count sizes g (Ok v) call (inr h) = lacks_counts sizes g (Ok v) call h
+charges_count sizes g (Err cause) call h = lacks_counts sizes g (Err cause) call h
 
 -- the same, after a look at the own stock
-abbrev looked_way : Transition VisitState → Transition VisitState
-looked_way way = transition way.table (visit_state (with_look way.before.machine) way.before.cpu) way.steps way.after
+abbrev looked_call : Transition VisitState → Transition VisitState
+looked_call call = transition call.table (visit_state (with_look call.before.machine) call.before.cpu) call.steps call.after
 
 anew_counts : (sizes : Config) (g : ℕ) (answer : Result (Unit {0}) AllocFault) → AllCounted (ChargesAfterDrain sizes g answer)
-anew_counts sizes g answer way h =
-    counts_turns DrainsStock (ChargesFrame sizes g answer) drains_count (charges_count sizes g answer) (looked_way way) h.does
+anew_counts sizes g answer call h =
+    counts_turns DrainsStock (ChargesFrame sizes g answer) drains_count (charges_count sizes g answer) (looked_call call) h.does
 
 pays_count : (sizes : Config) (g : ℕ) (answer : Result (Unit {0}) AllocFault) → AllCounted (PaysForFrame sizes g answer)
-pays_count sizes g (Ok v) way (inl h) = counts_stay (looked_way way) h.does
-pays_count sizes g (Ok v) way (inr h) = anew_counts sizes g (Ok v) way h
-pays_count sizes g (Err cause) way h = anew_counts sizes g (Err cause) way h
+pays_count sizes g (Ok v) call (inl h) = counts_stay (looked_call call) h.does
+pays_count sizes g (Ok v) call (inr h) = anew_counts sizes g (Ok v) call h
+pays_count sizes g (Err cause) call h = anew_counts sizes g (Err cause) call h
 
 pub frame_counts : (sizes : Config) (g : ℕ) (answer : Result ℕ AllocFault) → AllCounted (AllocatesFrame sizes g answer)
-frame_counts sizes g (Ok f) way all =
+frame_counts sizes g (Ok f) call all =
     let h = all.does in
-    let t = way.table in
-    let m = way.before.machine in
-    let n = way.after.machine in
+    let t = call.table in
+    let m = call.before.machine in
+    let n = call.after.machine in
     let x = h.paid.machine in
     let y = h.filled.machine in
-    let last = take_front_steps way.before.cpu.number g in
-    counts_as t m n way.steps (h.paying ++ (h.filling ++ last)) h.steps_are (counts_both t m x n h.paying (h.filling ++ last)
-    (pays_count sizes g (Ok tt) (transition t way.before h.paying h.paid) h.pays) (counts_both t x y n h.filling last
+    let last = take_front_steps call.before.cpu.number g in
+    counts_as t m n call.steps (h.paying ++ (h.filling ++ last)) h.steps_are (counts_both t m x n h.paying (h.filling ++ last)
+    (pays_count sizes g (Ok tt) (transition t call.before h.paying h.paid) h.pays) (counts_both t x y n h.filling last
     (fills_count sizes (Ok tt) (transition t h.paid h.filling h.filled) h.fills)
     (counts_same t y n last (record { quiet = refl; no_miss = λ f. refl }) (ap (λ (k : KnownMachine). k.frame_seat) h.takes.machine))))
-frame_counts sizes g (Err (Over over)) way h = pays_count sizes g (Err (Over over)) way h.does
-frame_counts sizes g (Err NoFrames) way h =
+frame_counts sizes g (Err (Over over)) call h = pays_count sizes g (Err (Over over)) call h.does
+frame_counts sizes g (Err NoFrames) call h =
     counts_turns (PaysForFrame sizes g (Ok tt)) (FillsList sizes (Err NoFrames)) (pays_count sizes g (Ok tt))
-    (fills_count sizes (Err NoFrames)) way h.does
-frame_counts sizes g (Err RequesterKilled) way (inl h) = counts_stay way h.does
-frame_counts sizes g (Err RequesterKilled) way (inr h) = pays_count sizes g (Err RequesterKilled) way h.does
+    (fills_count sizes (Err NoFrames)) call h.does
+frame_counts sizes g (Err RequesterKilled) call (inl h) = counts_stay call h.does
+frame_counts sizes g (Err RequesterKilled) call (inr h) = pays_count sizes g (Err RequesterKilled) call h.does
 
 -- ---- a block
 
@@ -319,56 +325,59 @@ taken_counts : (t : KnownTable) (g k head : ℕ) (m n : KnownMachine) → ((f : 
 taken_counts t g k head m n same = counts_none t m n (taken_steps g k head) (record { quiet = refl; no_miss = λ f. refl }) same
 
 takes_count : (g k head : ℕ) → AllCounted (TakesFreeBlock g k head)
-takes_count g k head way h =
-    let m = way.before.machine in
-    let n = way.after.machine in
-    counts_as way.table m n way.steps (taken_steps g k head) h.steps_are (taken_counts way.table g k head m n
+takes_count g k head call h =
+    let m = call.before.machine in
+    let n = call.after.machine in
+    counts_as call.table m n call.steps (taken_steps g k head) h.steps_are (taken_counts call.table g k head m n
     (λ f. ap (λ (x : KnownMachine). misses_of x.frame_seat f) h.takes.machine ∙ misses_put m.frame_seat head f (unfrozen 1) (λ x. refl)))
 
 finds_none_counts : (g k : ℕ) → AllCounted (FindsNoBlock g k)
-finds_none_counts g k way h =
-    let m = way.before.machine in
-    let n = way.after.machine in
-    counts_as way.table m n way.steps (unplaced_steps g k) h.steps_are
-    (counts_same way.table m n (unplaced_steps g k) (record { quiet = refl; no_miss = λ f. refl }) (ap (λ (x : KnownMachine). x.frame_seat) h.none.machine))
+finds_none_counts g k call h =
+    let m = call.before.machine in
+    let n = call.after.machine in
+    counts_as call.table m n call.steps (unplaced_steps g k) h.steps_are
+    (counts_same call.table m n (unplaced_steps g k) (record { quiet = refl; no_miss = λ f. refl }) (ap (λ (x : KnownMachine). x.frame_seat) h.none.machine))
+
+take_rounds_count : (g k : ℕ) (answer : Result ℕ AllocFault) → AllCounted (MakesTakeRounds g k answer)
+take_rounds_count g k (Ok head) call h =
+    succeeds_count (2 ^ k) (FindsNoBlock g k) (finds_none_counts g k) 16 (TakesFreeBlock g k head) (takes_count g k head) call h
+take_rounds_count g k (Err NoFrames) call h = fails_count (2 ^ k) (FindsNoBlock g k) (finds_none_counts g k) 16 call h
+take_rounds_count g k (Err (Over over)) call h = absurd h
+take_rounds_count g k (Err RequesterKilled) call h = absurd h
 
 rounds_count : (g k : ℕ) (answer : Result ℕ AllocFault) → AllCounted (TakesInRounds g k answer)
-rounds_count g k (Ok head) way h =
-    succeeds_count (2 ^ k) (FindsNoBlock g k) (finds_none_counts g k) 16 (TakesFreeBlock g k head) (takes_count g k head) way h
-rounds_count g k (Err NoFrames) way h = fails_count (2 ^ k) (FindsNoBlock g k) (finds_none_counts g k) 16 way h
-rounds_count g k (Err (Over over)) way h = absurd h
-rounds_count g k (Err RequesterKilled) way h = absurd h
+rounds_count g k answer = noted_counts k (MakesTakeRounds g k answer) (take_rounds_count g k answer)
 
 or_reclaims_count : (g k : ℕ) (answer : Result ℕ AllocFault) → AllCounted (TakesOrReclaims g k answer)
-or_reclaims_count g k (Ok head) way (inl h) = takes_count g k head way h
-or_reclaims_count g k (Err cause) way (inl h) = absurd h
-or_reclaims_count g k answer way (inr h) =
-    counts_turns (FindsNoBlock g k) (TakesInRounds g k answer) (finds_none_counts g k) (rounds_count g k answer) way h
+or_reclaims_count g k (Ok head) call (inl h) = takes_count g k head call h
+or_reclaims_count g k (Err cause) call (inl h) = absurd h
+or_reclaims_count g k answer call (inr h) =
+    counts_turns (FindsNoBlock g k) (TakesInRounds g k answer) (finds_none_counts g k) (rounds_count g k answer) call h
 
 drained_counts : (g k : ℕ) (answer : Result ℕ AllocFault) → AllCounted (TakesAfterDrain g k answer)
-drained_counts g k answer way h =
-    let first = drain_list_steps way.before.cpu.number way.before.cpu.list in
-    counts_as way.table way.before.machine way.after.machine way.steps (first ++ h.later) h.steps_are
-    (counts_both way.table way.before.machine h.drained way.after.machine first h.later
-    (counts_none way.table way.before.machine h.drained first (back_calm way.before.cpu.number way.before.cpu.list)
-    (back_same way.before.cpu.list way.before (visit_state h.drained way.after.cpu) h.drains))
-    (or_reclaims_count g k answer (transition way.table (visit_state h.drained way.after.cpu) h.later way.after) h.takes))
+drained_counts g k answer call h =
+    let first = drain_list_steps call.before.cpu.number call.before.cpu.list in
+    counts_as call.table call.before.machine call.after.machine call.steps (first ++ h.later) h.steps_are
+    (counts_both call.table call.before.machine h.drained call.after.machine first h.later
+    (counts_none call.table call.before.machine h.drained first (back_calm call.before.cpu.number call.before.cpu.list)
+    (back_same call.before.cpu.list call.before (visit_state h.drained call.after.cpu) h.drains))
+    (or_reclaims_count g k answer (transition call.table (visit_state h.drained call.after.cpu) h.later call.after) h.takes))
 
 charged_counts : (g k : ℕ) (answer : Result ℕ AllocFault) → AllCounted (ChargesBlock g k answer)
-charged_counts g k (Ok head) way h = after_room_counts g (2 ^ k) (TakesFreeBlock g k head) (takes_count g k head) way h
-charged_counts g k (Err (Over over)) way h = refusal_counts g (2 ^ k) (Over over) way h
-charged_counts g k (Err NoFrames) way h = after_room_counts g (2 ^ k) (FindsNoBlock g k) (finds_none_counts g k) way h
-charged_counts g k (Err RequesterKilled) way h = refusal_counts g (2 ^ k) RequesterKilled way h
+charged_counts g k (Ok head) call h = after_room_counts g (2 ^ k) (TakesFreeBlock g k head) (takes_count g k head) call h
+charged_counts g k (Err (Over over)) call h = refusal_counts g (2 ^ k) (Over over) call h
+charged_counts g k (Err NoFrames) call h = after_room_counts g (2 ^ k) (FindsNoBlock g k) (finds_none_counts g k) call h
+charged_counts g k (Err RequesterKilled) call h = refusal_counts g (2 ^ k) RequesterKilled call h
 
 retries_count : (g k : ℕ) (answer : Result ℕ AllocFault) → AllCounted (RetriesBlock g k answer)
-retries_count g k answer way h =
+retries_count g k answer call h =
     counts_turns (ChargesBlock g k (Err NoFrames)) (TakesAfterDrain g k answer) (charged_counts g k (Err NoFrames))
-    (drained_counts g k answer) way h
+    (drained_counts g k answer) call h
 
 pub block_counts : (g k : ℕ) (answer : Result ℕ AllocFault) → AllCounted (AllocatesBlock g k answer)
-block_counts g k (Ok head) way (inl h) = charged_counts g k (Ok head) way h.does
-block_counts g k (Ok head) way (inr h) = retries_count g k (Ok head) way h.does
-block_counts g k (Err (Over over)) way h = charged_counts g k (Err (Over over)) way h.does
-block_counts g k (Err NoFrames) way h = retries_count g k (Err NoFrames) way h.does
-block_counts g k (Err RequesterKilled) way (inl h) = counts_stay way h.does
-block_counts g k (Err RequesterKilled) way (inr h) = charged_counts g k (Err RequesterKilled) way h.does
+block_counts g k (Ok head) call (inl h) = charged_counts g k (Ok head) call h.does
+block_counts g k (Ok head) call (inr h) = retries_count g k (Ok head) call h.does
+block_counts g k (Err (Over over)) call h = charged_counts g k (Err (Over over)) call h.does
+block_counts g k (Err NoFrames) call h = retries_count g k (Err NoFrames) call h.does
+block_counts g k (Err RequesterKilled) call (inl h) = counts_stay call h.does
+block_counts g k (Err RequesterKilled) call (inr h) = charged_counts g k (Err RequesterKilled) call h.does

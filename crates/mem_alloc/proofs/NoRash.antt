@@ -7,7 +7,7 @@ use Rattle.std.proofs.lemmas.Bool.{cases_Bool, cases_lt, false≢true}
 use Rattle.std.proofs.lemmas.List.{append_assoc, append-nil}
 use Rattle.std.proofs.lemmas.List.Folds.{list_any-append}
 use Rattle.frame_word.specs.Seats.{KnownTable, misses_of}
-use Rattle.stock_word.specs.Stock.{Seated, account_of}
+use Rattle.stock_word.specs.Stock.{KnownStockSeat, account_of}
 use Rattle.group_tree.specs.declared.group.Group.{Group}
 use Rattle.group_tree.specs.Groups.{in_subtree, is_oom_group}
 use Rattle.lru_lists.specs.declared.record.Link.{Link}
@@ -29,14 +29,14 @@ use Rattle.mem_machine.proofs.Reaching.{run_both}
 use Rattle.mem_reclaim.specs.declared.sets.Killed.{Killed}
 use Rattle.mem_reclaim.specs.Moves.{has_kill, is_kill, killed_by, kills_in, missed_in}
 use Rattle.mem_reclaim.specs.Staying.{Keeps, MissedAll}
-use Rattle.mem_reclaim.specs.Killing.{IsKilledBy, KillsAll, KillsAs, OnlyDrains, OnlyLetsGo}
+use Rattle.mem_reclaim.specs.Killing.{IsKilledBy, KillsGroups, KillsHeadOrVictim, OnlyDrains, OnlyLetsGo}
 use Rattle.mem_reclaim.specs.Sets.{alive_below, group_kill_note, kill_set}
 use Rattle.mem_reclaim.specs.Victim.{victim_note}
 use Rattle.mem_reclaim.proofs.KillSets.{kills_both, missed_both}
 use Rattle.mem_reclaim.proofs.LettingGo.{AreQuiet, quiet_both, quiet_drains}
 use Rattle.mem_alloc.specs.Stepping.{Transition, OfMachineAlone, MachineStays, transition}
-use Rattle.mem_alloc.specs.Kills.{KillsEach, KillsFor, KillsOne, KillsUntilRoom, has_room_at, with_oom_noted_at}
-use Rattle.mem_alloc.specs.Room.{AfterRoom, ClearsBelow, IsRefusedAt, IsRefusedFor, IsRefusedAtSome, KillsForFew, MakesRoom, ReclaimsFor, RelievesLimit}
+use Rattle.mem_alloc.specs.Kills.{KillsVictims, KillsForRoom, KillsOneVictim, KillsUntilRoom, has_room_at, with_oom_noted_at}
+use Rattle.mem_alloc.specs.Room.{AfterRoom, ClearsBelow, IsRefusedAt, IsRefusedFor, IsRefusedAtSome, KillsForFewPages, MakesRoom, ReclaimsFor, RelievesLimit}
 use Rattle.mem_alloc.specs.Room.{with_max_noted_at}
 use Rattle.mem_alloc.specs.declared.faults.AllocFault.{AllocFault}
 use Rattle.mem_alloc.specs.NoRash.{IsLeftBySteps, MayKill, MayKillAfter, begins_with_kill, has_oom_note, is_oom_note}
@@ -118,7 +118,7 @@ begins_longer : (one two : Run) → begins_with_kill one ≡ true → begins_wit
 begins_longer [] two first = absurd (false≢true first)
 begins_longer (x ∷ one) two first = first
 
-subtree_first : (t : KnownTable) (g head : ℕ) (groups : List ℕ) (m : KnownMachine) (steps : Run) (n : KnownMachine) → KillsAll t g groups m steps n
+subtree_first : (t : KnownTable) (g head : ℕ) (groups : List ℕ) (m : KnownMachine) (steps : Run) (n : KnownMachine) → KillsGroups t g groups m steps n
     → KillsFirst (steps ++ note_group_kill_steps head)
 subtree_first t g head [] m steps n h = inl (ap (λ (k : Run). has_kill (k ++ note_group_kill_steps head)) h.1)
 subtree_first t g head (v ∷ groups) m steps n h =
@@ -127,7 +127,7 @@ subtree_first t g head (v ∷ groups) m steps n h =
     inr (begins_longer steps (note_group_kill_steps head) all)
 
 set_first : (flag : Bool) (t : KnownTable) (g : ℕ) (killed : Killed) (m : KnownMachine) (steps : Run) (n : KnownMachine)
-    → KillsAs flag t g killed m steps n → KillsFirst steps
+    → KillsHeadOrVictim flag t g killed m steps n → KillsFirst steps
 set_first true t g killed m steps n h =
     subst (λ (k : Run). KillsFirst k) (sym h.steps_are)
     (subtree_first t g killed.head (alive_below m killed.head) (with_note m (group_kill_note m killed.head)) h.killing h.between h.kills)
@@ -386,7 +386,7 @@ module _ (t : KnownTable) (MayAsk : List Group → ℕ → ℕ → Type 0) (s : 
       omega (arith, p, q)
 
   ready_more : (r : Option ℕ) (g pages : ℕ) (killed : Killed) (made : Run) (m : KnownMachine) (steps : Run) (n : KnownMachine) → Ready g made m
-      → (one : KillsOne r g pages killed (transition t m steps n)) → Ready g (made ++ steps) n
+      → (one : KillsOneVictim r g pages killed (transition t m steps n)) → Ready g (made ++ steps) n
   ready_more r g pages killed made m steps n ready one =
       let passes = subst (λ (k : Run). Passes t c m k n) (sym one.steps_are) (kill_passes g killed m n one.kills one.keeps) in
       record {
@@ -397,7 +397,7 @@ module _ (t : KnownTable) (MayAsk : List Group → ℕ → ℕ → Type 0) (s : 
       }
 
   may_kill : (r : Option ℕ) (g pages : ℕ) (killed : Killed) (made : Run) (m : KnownMachine) (steps : Run) (n : KnownMachine)
-      → MayAsk m.ledger.groups g pages → Ready g made m → KillsOne r g pages killed (transition t m steps n) → MayKill MayAsk (transition t s made m) killed
+      → MayAsk m.ledger.groups g pages → Ready g made m → KillsOneVictim r g pages killed (transition t m steps n) → MayKill MayAsk (transition t s made m) killed
   may_kill r g pages killed made m steps n asked ready one = record {
     limited = g;
     need = pages;
@@ -408,14 +408,14 @@ module _ (t : KnownTable) (MayAsk : List Group → ℕ → ℕ → Type 0) (s : 
     missed = ready.missed;
     chosen = one.chosen;
     head_is = one.kills.head_is;
-    words = one.words;
+    stock_table = one.stock_table;
     consistent = one.consistent;
     charges = one.charges;
     tied = ready.since.tied;
   }
 
   tame_one : (r : Option ℕ) (g pages : ℕ) (killed : Killed) (made : Run) (m : KnownMachine) (steps : Run) (n : KnownMachine)
-      → MayAsk m.ledger.groups g pages → Ready g made m → KillsOne r g pages killed (transition t m steps n) → Tame made m steps n
+      → MayAsk m.ledger.groups g pages → Ready g made m → KillsOneVictim r g pages killed (transition t m steps n) → Tame made m steps n
   tame_one r g pages killed made m steps n asked ready one =
       let may = may_kill r g pages killed made m steps n asked ready one in
       let first = set_first (is_oom_group m.ledger.groups killed.head) t g killed (with_note m (victim_note m g killed.victim one.kills.next))
@@ -427,7 +427,7 @@ module _ (t : KnownTable) (MayAsk : List Group → ℕ → ℕ → Type 0) (s : 
       })
 
   tame_each : (r : Option ℕ) (g pages : ℕ) (victims : List Killed) (made : Run) (m : KnownMachine) (steps : Run) (n : KnownMachine)
-      → MayAsk m.ledger.groups g pages → Ready g made m → KillsEach r g pages victims (transition t m steps n) → Tame made m steps n
+      → MayAsk m.ledger.groups g pages → Ready g made m → KillsVictims r g pages victims (transition t m steps n) → Tame made m steps n
   tame_each r g pages [] made m steps n asked ready each = tame_stays made m steps n each
   tame_each r g pages (killed ∷ later) made m steps n asked ready each =
       let x = each.between in
@@ -455,7 +455,7 @@ module _ (t : KnownTable) (MayAsk : List Group → ℕ → ℕ → Type 0) (s : 
 
   pub tame_kills : (r : Option ℕ) (g pages : ℕ) (made : Run) (m : KnownMachine) (steps : Run) (n : KnownMachine) → MayAsk m.ledger.groups g pages
       → Passes t c s made m → AreDrained g t.cpus m → (has_room_at m.ledger g pages ≡ false → MissedAll g s m)
-      → KillsFor r g pages (transition t m steps n) → Tame made m steps n
+      → KillsForRoom r g pages (transition t m steps n) → Tame made m steps n
   tame_kills r g pages made m steps n asked since drained missed h = elim (cases_Bool (has_room_at m.ledger g pages)) [
     | inl room ↦ tame_stays made m steps n (h.room room)
     | inr over ↦ tame_victims r g pages made m steps n asked since drained (missed over) (h.over over)
@@ -466,8 +466,8 @@ module _ (t : KnownTable) (MayAsk : List Group → ℕ → ℕ → Type 0) (s : 
   -- after reclaim each stock of the subtree is drained; if there is no room, each clean unit was tried
   pub drained_on : (g : ℕ) (m n : KnownMachine) → n.ledger.groups ≡ m.ledger.groups → n.stock_seat ≡ m.stock_seat → AreDrained g t.cpus m → AreDrained g t.cpus n
   drained_on g m n groups stock drained q low high is =
-      ap (λ (z : Seated). (account_of z.view q).filled) stock
-      ∙ drained q low high (ap (λ (z : List Group × Seated). of_subtree g z.0 (account_of z.1.view q).group) (λ i. (sym groups i, sym stock i)) ∙ is)
+      ap (λ (z : KnownStockSeat). (account_of z.view q).filled) stock
+      ∙ drained q low high (ap (λ (z : List Group × KnownStockSeat). of_subtree g z.0 (account_of z.1.view q).group) (λ i. (sym groups i, sym stock i)) ∙ is)
 
   pub missed_since : (g : ℕ) (made : Run) (m n : KnownMachine) → Passes t c s made m → MissedAll g m n → MissedAll g s n
   missed_since g made m n since missed f h inside is clean =
@@ -489,7 +489,7 @@ module _ (t : KnownTable) (MayAsk : List Group → ℕ → ℕ → Type 0) (s : 
 
   few_tame : (r g pages : ℕ) (made : Run) (m : KnownMachine) (steps : Run) (n : KnownMachine) → (pages ≤ 8 → MayAsk m.ledger.groups g pages)
       → Passes t c s made m → AreDrained g t.cpus m → (has_room_at m.ledger g pages ≡ false → MissedAll g s m)
-      → KillsForFew r g pages (transition t m steps n) → Tame made m steps n
+      → KillsForFewPages r g pages (transition t m steps n) → Tame made m steps n
   few_tame r g pages made m steps n asked since drained missed h = elim (cases_lt 8 pages) [
     | inl many ↦ tame_stays made m steps n (h.many many)
     | inr few ↦ tame_kills (Some r) g pages made m steps n (asked few) since drained missed (h.few few)
@@ -563,7 +563,7 @@ module _ (t : KnownTable) (MayAsk : List Group → ℕ → ℕ → Type 0) (s : 
 
     -- the same if what is done after that kills nobody
     pub quiet_after_room : (Does : Transition VisitState → Type 0) (made : Run) (m : KnownMachine) (steps rest : Run) (n : VisitState) (z : State) → m.ledger.groups ≡ base
-        → Passes t c s made m → IsLocalRun c.number (local_of t m c) (steps ++ rest) z → ((way : Transition VisitState) → Does way → has_kill way.steps ≡ false)
+        → Passes t c s made m → IsLocalRun c.number (local_of t m c) (steps ++ rest) z → ((call : Transition VisitState) → Does call → has_kill call.steps ≡ false)
         → AfterRoom g pages Does (transition t (visit_state m c) steps n) → RashFree t MayAsk s c made steps
     quiet_after_room Does made m steps rest n z is since whole quiet h =
         after_room_rash Does made m steps rest n z is since whole

@@ -1,5 +1,5 @@
 -- No kill of an allocation comes before everything else was tried. Serves the calls that name the steps of an Alloc.
-use Rattle.std.proofs.Common.{◌≡◌, ℕ, zero, suc, ◌≤◌, ◌^◌, Bool, true, false, List, [], ◌++◌, refl, sym, ap, ◌∙◌, subst, inl, inr, ◌||◌}
+use Rattle.std.proofs.Common.{◌≡◌, ℕ, zero, suc, ◌-◌, ◌≤◌, ◌^◌, Bool, true, false, List, [], ◌++◌, refl, sym, ap, ◌∙◌, subst, inl, inr, ◌||◌}
 use Rattle.std.specs.Prelude.{Result, Ok, Err}
 use Rattle.std.proofs.lemmas.List.{append_assoc, append-nil}
 use Rattle.std.proofs.lemmas.List.Folds.{list_any-append}
@@ -12,7 +12,8 @@ use Rattle.step_rules.specs.declared.step.Answer.{Answer}
 use Rattle.step_rules.specs.declared.step.Step.{Step}
 use Rattle.step_rules.specs.State.{State}
 use Rattle.step_rules.specs.After.{Run}
-use Rattle.mem_machine.specs.Machines.{KnownMachine, with_watch}
+use Rattle.kill_notes.specs.declared.note.Note.TheVariants.{Zone}
+use Rattle.mem_machine.specs.Machines.{KnownMachine, with_note, with_watch}
 use Rattle.mem_machine.specs.Local.{IsLocalRun, VisitState, local_of, visit_state}
 use Rattle.mem_machine.specs.Stocks.{stock_group, with_look}
 use Rattle.mem_machine.specs.Steps.{drain_list_steps, drain_steps, over_steps, take_front_steps}
@@ -22,9 +23,9 @@ use Rattle.mem_alloc.specs.declared.faults.AllocFault.{AllocFault}
 use Rattle.mem_alloc.specs.declared.faults.AllocFault.TheVariants.{Over, NoFrames, RequesterKilled}
 use Rattle.mem_alloc.specs.Stepping.{Transition, InTurn, Where, transition}
 use Rattle.mem_alloc.specs.Charging.{ChargesAfterDrain, ChargesFrame, ChargesOne, DrainsStock, FillsStock, AfterBatchRefused, PaysForFrame}
-use Rattle.mem_alloc.specs.Rounds.{FailsInRounds, GivesInRound, MakesRound, SucceedsInRounds}
-use Rattle.mem_alloc.specs.Frames.{AllocatesFrame, FillsList, HasNoFreeFrame, LendsBatch, LendsNoFrame, RefillsInRounds}
-use Rattle.mem_alloc.specs.Blocks.{AllocatesBlock, ChargesBlock, FindsNoBlock, RetriesBlock, TakesAfterDrain, TakesFreeBlock, TakesInRounds, TakesOrReclaims}
+use Rattle.mem_alloc.specs.Rounds.{AfterZoneNote, FailsInRounds, FreesInRound, MakesRound, SucceedsInRounds}
+use Rattle.mem_alloc.specs.Frames.{AllocatesFrame, FillsList, HasNoFreeFrame, LendsBatch, LendsNoFrame, MakesRefillRounds, RefillsInRounds}
+use Rattle.mem_alloc.specs.Blocks.{AllocatesBlock, ChargesBlock, FindsNoBlock, MakesTakeRounds, RetriesBlock, TakesAfterDrain, TakesFreeBlock, TakesInRounds, TakesOrReclaims}
 use Rattle.mem_alloc.specs.NoRash.{NoRashKill}
 use Rattle.mem_alloc.proofs.Missing.{back_calm, refill_calm}
 use Rattle.mem_alloc.proofs.NoRash.{Passes, RashFree, drain_same, over_runs, passes_both, passes_none, passes_same, quiet_after_room, rash_both, rash_quiet, refusal_rash, run_rest}
@@ -36,92 +37,100 @@ no_kill_both one two a b = list_any-append (λ (e : Step × Answer). is_kill e.0
 
 -- no step of such a transition is a kill
 abbrev AllQuiet : (Transition VisitState → Type 0) → Type 0
-AllQuiet P = (way : Transition VisitState) → P way → has_kill way.steps ≡ false
+AllQuiet P = (call : Transition VisitState) → P call → has_kill call.steps ≡ false
 
 turns_quiet : (First Second : Transition VisitState → Type 0) → AllQuiet First → AllQuiet Second → AllQuiet (InTurn First Second)
-turns_quiet First Second one two way h =
-    ap has_kill h.steps_are ∙ no_kill_both h.earlier h.later (one (transition way.table way.before h.earlier h.between) h.first)
-    (two (transition way.table h.between h.later way.after) h.second)
+turns_quiet First Second one two call h =
+    ap has_kill h.steps_are ∙ no_kill_both h.earlier h.later (one (transition call.table call.before h.earlier h.between) h.first)
+    (two (transition call.table h.between h.later call.after) h.second)
 
 -- ---- rounds of reclaim
 
 module _ (want : ℕ) (Fails : Transition VisitState → Type 0) (failing : AllQuiet Fails) where
-  round_quiet : (given : ℕ) (Tries : Transition VisitState → Type 0) → AllQuiet Tries → (way : Transition VisitState) → MakesRound want given Tries way
-      → has_kill way.steps ≡ false
-  round_quiet given Tries trying way h =
+  round_quiet : (number freed : ℕ) (Tries : Transition VisitState → Type 0) → AllQuiet Tries → (call : Transition VisitState)
+      → MakesRound number want freed Tries call → has_kill call.steps ≡ false
+  round_quiet number freed Tries trying call h =
       ap has_kill h.steps_are ∙ no_kill_both h.reclaiming h.trying h.moves.quiet
-      (trying (transition way.table (visit_state h.reclaimed way.before.cpu) h.trying way.after) h.tries)
+      (trying (transition call.table (visit_state h.reclaimed call.before.cpu) h.trying call.after) h.tries)
 
-  gives_quiet : AllQuiet (GivesInRound want Fails)
-  gives_quiet way h = round_quiet h.given Fails failing way h.round
+  gives_quiet : (number : ℕ) → AllQuiet (FreesInRound number want Fails)
+  gives_quiet number call h = round_quiet number h.freed Fails failing call h.round
 
   fails_quiet : (rounds : ℕ) → AllQuiet (FailsInRounds rounds want Fails)
-  fails_quiet zero way h = ap has_kill h.steps_are
-  fails_quiet (suc more) way (inl h) = round_quiet 0 Fails failing way h
-  fails_quiet (suc more) way (inr h) =
-      turns_quiet (GivesInRound want Fails) (FailsInRounds more want Fails) gives_quiet (fails_quiet more) way h
+  fails_quiet zero call h = ap has_kill h.steps_are
+  fails_quiet (suc more) call (inl h) = round_quiet (16 - more) 0 Fails failing call h
+  fails_quiet (suc more) call (inr h) =
+      turns_quiet (FreesInRound (16 - more) want Fails) (FailsInRounds more want Fails) (gives_quiet (16 - more)) (fails_quiet more) call h
 
   succeeds_quiet : (rounds : ℕ) (Succeeds : Transition VisitState → Type 0) → AllQuiet Succeeds → AllQuiet (SucceedsInRounds rounds want Succeeds Fails)
-  succeeds_quiet zero Succeeds succeeding way h = absurd h
-  succeeds_quiet (suc more) Succeeds succeeding way (inl h) = round_quiet h.0 Succeeds succeeding way h.1
-  succeeds_quiet (suc more) Succeeds succeeding way (inr h) =
-      turns_quiet (GivesInRound want Fails) (SucceedsInRounds more want Succeeds Fails) gives_quiet
-      (succeeds_quiet more Succeeds succeeding) way h
+  succeeds_quiet zero Succeeds succeeding call h = absurd h
+  succeeds_quiet (suc more) Succeeds succeeding call (inl h) = round_quiet (16 - more) h.0 Succeeds succeeding call h.1
+  succeeds_quiet (suc more) Succeeds succeeding call (inr h) =
+      turns_quiet (FreesInRound (16 - more) want Fails) (SucceedsInRounds more want Succeeds Fails) (gives_quiet (16 - more))
+      (succeeds_quiet more Succeeds succeeding) call h
+
+-- a note before them is no step
+noted_quiet : (order : ℕ) (Does : Transition VisitState → Type 0) → AllQuiet Does → AllQuiet (AfterZoneNote order Does)
+noted_quiet order Does quiet call h =
+    quiet (transition call.table (visit_state (with_note call.before.machine (Zone order)) call.before.cpu) call.steps call.after) h
 
 -- ---- a frame of the list
 
 lends_quiet : (batch : ℕ) → AllQuiet (LendsBatch batch)
-lends_quiet batch way h = ap has_kill h.steps_are ∙ (refill_calm way.before.cpu.number h.frames).quiet
+lends_quiet batch call h = ap has_kill h.steps_are ∙ (refill_calm call.before.cpu.number h.frames).quiet
 
 lends_none_quiet : AllQuiet LendsNoFrame
-lends_none_quiet way h = ap has_kill h.does.steps_are
+lends_none_quiet call h = ap has_kill h.does.steps_are
 
 drains_quiet : AllQuiet DrainsStock
-drains_quiet way h =
-    ap has_kill h.steps_are ∙ (quiet_drain way.before.cpu.number (stock_group way.before.machine way.before.cpu.number) h.drained).quiet
+drains_quiet call h =
+    ap has_kill h.steps_are ∙ (quiet_drain call.before.cpu.number (stock_group call.before.machine call.before.cpu.number) h.drained).quiet
 
 refills_quiet : (batch : ℕ) (filled : Bool) → AllQuiet (RefillsInRounds batch filled)
-refills_quiet batch true way h = succeeds_quiet 1 LendsNoFrame lends_none_quiet 16 (LendsBatch batch) (lends_quiet batch) way h
-refills_quiet batch false way h = fails_quiet 1 LendsNoFrame lends_none_quiet 16 way h
+refills_quiet batch true = noted_quiet 0 (MakesRefillRounds batch true) (succeeds_quiet 1 LendsNoFrame lends_none_quiet 16 (LendsBatch batch) (lends_quiet batch))
+refills_quiet batch false = noted_quiet 0 (MakesRefillRounds batch false) (fails_quiet 1 LendsNoFrame lends_none_quiet 16)
 
 fills_quiet : (sizes : Config) (answer : Result (Unit {0}) AllocFault) → AllQuiet (FillsList sizes answer)
-fills_quiet sizes (Ok v) way (inl h) = ap has_kill h.does.steps_are
-fills_quiet sizes (Ok v) way (inr h) = elim h.does [
-  | inl lends ↦ lends_quiet sizes.batch way lends
-  | inr rounds ↦ refills_quiet sizes.batch true way rounds.does
+fills_quiet sizes (Ok v) call (inl h) = ap has_kill h.does.steps_are
+fills_quiet sizes (Ok v) call (inr h) = elim h.does [
+  | inl lends ↦ lends_quiet sizes.batch call lends
+  | inr rounds ↦ refills_quiet sizes.batch true call rounds.does
 ]
-fills_quiet sizes (Err NoFrames) way h =
+fills_quiet sizes (Err NoFrames) call h =
     turns_quiet (RefillsInRounds sizes.batch false) (Where HasNoFreeFrame DrainsStock) (refills_quiet sizes.batch false)
-    (λ last drains. drains_quiet last drains.does) way h.does.does
-fills_quiet sizes (Err (Over over)) way h = absurd h
-fills_quiet sizes (Err RequesterKilled) way h = absurd h
+    (λ last drains. drains_quiet last drains.does) call h.does.does
+fills_quiet sizes (Err (Over over)) call h = absurd h
+fills_quiet sizes (Err RequesterKilled) call h = absurd h
 
 -- ---- a block
 
 takes_quiet : (g k head : ℕ) → AllQuiet (TakesFreeBlock g k head)
-takes_quiet g k head way h = ap has_kill h.steps_are
+takes_quiet g k head call h = ap has_kill h.steps_are
 
 finds_none_quiet : (g k : ℕ) → AllQuiet (FindsNoBlock g k)
-finds_none_quiet g k way h = ap has_kill h.steps_are
+finds_none_quiet g k call h = ap has_kill h.steps_are
+
+take_rounds_quiet : (g k : ℕ) (answer : Result ℕ AllocFault) → AllQuiet (MakesTakeRounds g k answer)
+take_rounds_quiet g k (Ok head) call h =
+    succeeds_quiet (2 ^ k) (FindsNoBlock g k) (finds_none_quiet g k) 16 (TakesFreeBlock g k head) (takes_quiet g k head) call h
+take_rounds_quiet g k (Err NoFrames) call h = fails_quiet (2 ^ k) (FindsNoBlock g k) (finds_none_quiet g k) 16 call h
+take_rounds_quiet g k (Err (Over over)) call h = absurd h
+take_rounds_quiet g k (Err RequesterKilled) call h = absurd h
 
 rounds_quiet : (g k : ℕ) (answer : Result ℕ AllocFault) → AllQuiet (TakesInRounds g k answer)
-rounds_quiet g k (Ok head) way h =
-    succeeds_quiet (2 ^ k) (FindsNoBlock g k) (finds_none_quiet g k) 16 (TakesFreeBlock g k head) (takes_quiet g k head) way h
-rounds_quiet g k (Err NoFrames) way h = fails_quiet (2 ^ k) (FindsNoBlock g k) (finds_none_quiet g k) 16 way h
-rounds_quiet g k (Err (Over over)) way h = absurd h
-rounds_quiet g k (Err RequesterKilled) way h = absurd h
+rounds_quiet g k answer = noted_quiet k (MakesTakeRounds g k answer) (take_rounds_quiet g k answer)
 
 or_reclaims_quiet : (g k : ℕ) (answer : Result ℕ AllocFault) → AllQuiet (TakesOrReclaims g k answer)
-or_reclaims_quiet g k (Ok head) way (inl h) = takes_quiet g k head way h
-or_reclaims_quiet g k (Err cause) way (inl h) = absurd h
-or_reclaims_quiet g k answer way (inr h) =
-    turns_quiet (FindsNoBlock g k) (TakesInRounds g k answer) (finds_none_quiet g k) (rounds_quiet g k answer) way h
+or_reclaims_quiet g k (Ok head) call (inl h) = takes_quiet g k head call h
+or_reclaims_quiet g k (Err cause) call (inl h) = absurd h
+or_reclaims_quiet g k answer call (inr h) =
+    turns_quiet (FindsNoBlock g k) (TakesInRounds g k answer) (finds_none_quiet g k) (rounds_quiet g k answer) call h
 
 drained_quiet : (g k : ℕ) (answer : Result ℕ AllocFault) → AllQuiet (TakesAfterDrain g k answer)
-drained_quiet g k answer way h =
-    ap has_kill h.steps_are ∙ no_kill_both (drain_list_steps way.before.cpu.number way.before.cpu.list) h.later
-    (back_calm way.before.cpu.number way.before.cpu.list).quiet
-    (or_reclaims_quiet g k answer (transition way.table (visit_state h.drained way.after.cpu) h.later way.after) h.takes)
+drained_quiet g k answer call h =
+    ap has_kill h.steps_are ∙ no_kill_both (drain_list_steps call.before.cpu.number call.before.cpu.list) h.later
+    (back_calm call.before.cpu.number call.before.cpu.list).quiet
+    (or_reclaims_quiet g k answer (transition call.table (visit_state h.drained call.after.cpu) h.later call.after) h.takes)
 
 -- ---- the whole of an allocation
 
@@ -132,7 +141,7 @@ module _ (t : KnownTable) (MayAsk : List Group → ℕ → ℕ → Type 0) (s : 
   -- ---- single frames
 
   stock_quiet : (pages : ℕ) → AllQuiet (FillsStock g pages)
-  stock_quiet pages way h = ap has_kill h.steps_are
+  stock_quiet pages call h = ap has_kill h.steps_are
 
   module _ (asks : Asks 1) where
     one_rash : (answer : Result (Unit {0}) AllocFault) (made : Run) (x : KnownMachine) (steps rest : Run) (n : VisitState) (z : State) → x.ledger.groups ≡ s.ledger.groups

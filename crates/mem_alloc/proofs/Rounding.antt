@@ -5,13 +5,16 @@ use Rattle.std.proofs.lemmas.List.{append_assoc, append-nil}
 use Rattle.frame_word.specs.Seats.{KnownTable}
 use Rattle.cpu_part.specs.Cpus.{KnownCpu}
 use Rattle.step_rules.specs.After.{Run}
-use Rattle.mem_machine.specs.Machines.{KnownMachine}
+use Rattle.kill_notes.specs.declared.note.Note.{Note}
+use Rattle.kill_notes.specs.declared.note.Note.TheVariants.{Zone}
+use Rattle.mem_machine.specs.Machines.{KnownMachine, Visits, with_note}
 use Rattle.mem_machine.specs.Local.{VisitState, visit_state, MakesAs}
-use Rattle.mem_reclaim.specs.Moves.{Leads}
-use Rattle.mem_reclaim.specs.Passes.{Reclaims}
+use Rattle.mem_reclaim.specs.Wanted.{progress}
+use Rattle.mem_reclaim.specs.Moves.{FreesBySteps}
+use Rattle.mem_reclaim.specs.Rounds.{ReclaimsRound}
 use Rattle.mem_reclaim.specs.Staying.{Keeps, MissedAll}
 use Rattle.mem_alloc.specs.Stepping.{Transition, BySteps, transition}
-use Rattle.mem_alloc.specs.Rounds.{FailsInRounds, GivesInRound, MakesRound, SucceedsInRounds}
+use Rattle.mem_alloc.specs.Rounds.{AfterZoneNote, FailsInRounds, FreesInRound, MakesRound, SucceedsInRounds}
 use Rattle.mem_alloc.proofs.Lowering.{Lowers, lowers_none, lowers_both, keeps_lower}
 use Rattle.mem_machine.proofs.Followed.{makes_both, makes_none}
 
@@ -53,9 +56,9 @@ FailureSpares t Fails =
 
 module _ (t : KnownTable) (want : ℕ) (Fails : Transition VisitState → Type 0) (failure : FailureSpares t Fails) where
   -- a round in which the try fails keeps it too
-  round_spares : (given : ℕ) (m n : KnownMachine) (c d : KnownCpu) (steps : Run)
-      → MakesRound want given Fails (transition t (visit_state m c) steps (visit_state n d)) → Spares t m c n d
-  round_spares given m n c d steps h =
+  round_spares : (number freed : ℕ) (m n : KnownMachine) (c d : KnownCpu) (steps : Run)
+      → MakesRound number want freed Fails (transition t (visit_state m c) steps (visit_state n d)) → Spares t m c n d
+  round_spares number freed m n c d steps h =
       spares_both t m h.reclaimed n c c d (spares_reclaim t m h.reclaimed c h.keeps)
       (failure h.reclaimed n c d h.trying h.tries)
 
@@ -63,10 +66,10 @@ module _ (t : KnownTable) (want : ℕ) (Fails : Transition VisitState → Type 0
   pub fails_spare : (rounds : ℕ) (m n : KnownMachine) (c d : KnownCpu) (steps : Run)
       → FailsInRounds rounds want Fails (transition t (visit_state m c) steps (visit_state n d)) → Spares t m c n d
   fails_spare zero m n c d steps h = spares_same t m n c d h.machine h.cpu
-  fails_spare (suc more) m n c d steps (inl last) = round_spares 0 m n c d steps last
+  fails_spare (suc more) m n c d steps (inl last) = round_spares (16 - more) 0 m n c d steps last
   fails_spare (suc more) m n c d steps (inr h) =
       let x = h.between in
-      spares_both t m x.machine n c x.cpu d (round_spares h.first.given m x.machine c x.cpu h.earlier h.first.round)
+      spares_both t m x.machine n c x.cpu d (round_spares (16 - more) h.first.freed m x.machine c x.cpu h.earlier h.first.round)
       (fails_spare more x.machine n x.cpu d h.later h.second)
 
   -- if the try succeeds in a round, this was kept until then
@@ -89,7 +92,7 @@ module _ (t : KnownTable) (want : ℕ) (Fails : Transition VisitState → Type 0
   }
   in_the_end Succeeds (suc more) m c n steps (inr h) =
       let x = h.between in
-      let one = round_spares h.first.given m x.machine c x.cpu h.earlier h.first.round in
+      let one = round_spares (16 - more) h.first.freed m x.machine c x.cpu h.earlier h.first.round in
       let last = in_the_end Succeeds more x.machine x.cpu n h.later h.second in
       record {
         before = last.before;
@@ -97,6 +100,61 @@ module _ (t : KnownTable) (want : ℕ) (Fails : Transition VisitState → Type 0
         trying = last.trying;
         spares = spares_both t m x.machine last.before c x.cpu last.cpu one last.spares;
         succeeds = last.succeeds;
+      }
+
+-- ---- a note before them
+
+-- what is kept from a note on is kept from before it
+pub spares_after_note : (t : KnownTable) (m n : KnownMachine) (c d : KnownCpu) (note : Note) → Spares t (with_note m note) c n d → Spares t m c n d
+spares_after_note t m n c d note s =
+    let l = s.lowers in record {
+      lowers = record {
+        groups = l.groups;
+        killed = l.killed;
+        opened = l.opened;
+        visit = λ e v. l.visit e (record { is_open = v.is_open; still = v.still; lent = v.lent });
+        falls = l.falls;
+        emptied = l.emptied;
+      };
+      killed = s.killed;
+      stock_seat = s.stock_seat;
+      cpu = s.cpu;
+    }
+
+-- a visit stays open at a note
+pub noted_visit : (t : KnownTable) (m : KnownMachine) (c : KnownCpu) (note : Note) → Visits t (visit_state m c) → Visits t (visit_state (with_note m note) c)
+noted_visit t m c note v = record { is_open = v.is_open; still = v.still; lent = v.lent }
+
+-- a note of the zone, and then what follows it
+pub zone_noted : (t : KnownTable) (order : ℕ) (Does : Transition VisitState → Type 0) (m x : KnownMachine) (c : KnownCpu) (n : VisitState)
+    → x ≡ with_note m (Zone order) → BySteps t Does (visit_state x c) n → BySteps t (AfterZoneNote order Does) (visit_state m c) n
+zone_noted t order Does m x c n noted by =
+    let here = subst (λ (y : KnownMachine). BySteps t Does (visit_state y c) n) noted by in
+    let k = here.makes in
+    record {
+      steps = here.steps;
+      does = here.does;
+      makes = record { leads = k.leads; follows = k.follows; counts = k.counts; watched = k.watched };
+    }
+
+module _ (t : KnownTable) (want : ℕ) (Fails : Transition VisitState → Type 0) (failure : FailureSpares t Fails) (order : ℕ) where
+  -- all rounds after the note keep what a failed try keeps
+  pub noted_fails_spare : (m n : KnownMachine) (c d : KnownCpu) (steps : Run)
+      → AfterZoneNote order (FailsInRounds 16 want Fails) (transition t (visit_state m c) steps (visit_state n d)) → Spares t m c n d
+  noted_fails_spare m n c d steps h =
+      spares_after_note t m n c d (Zone order) (fails_spare t want Fails failure 16 (with_note m (Zone order)) n c d steps h)
+
+  -- if the try succeeds in one of them, this was kept until then
+  pub noted_in_the_end : (Succeeds : Transition VisitState → Type 0) (m : KnownMachine) (c : KnownCpu) (n : VisitState) (steps : Run)
+      → AfterZoneNote order (SucceedsInRounds 16 want Succeeds Fails) (transition t (visit_state m c) steps n) → InTheEnd t want Fails failure Succeeds m c n
+  noted_in_the_end Succeeds m c n steps h =
+      let e = in_the_end t want Fails failure Succeeds 16 (with_note m (Zone order)) c n steps h in
+      record {
+        before = e.before;
+        cpu = e.cpu;
+        trying = e.trying;
+        spares = spares_after_note t m e.before c e.cpu (Zone order) e.spares;
+        succeeds = e.succeeds;
       }
 
 -- ---- the rounds of a loop
@@ -138,22 +196,25 @@ module _ (t : KnownTable) (want : ℕ) (Fails : Transition VisitState → Type 0
         }
 
     -- one round more
-    module _ (left : made < 16) (given : ℕ) (x : KnownMachine) (leads : Leads t given now x (Reclaims 0 want))
-        (missed : given < want → MissedAll 0 now x) (keeps : Keeps t now x) (then : KnownMachine) (e : KnownCpu) (trying : Run)
+    module _ (left : made < 16) (freed : ℕ) (x : KnownMachine) (leads : FreesBySteps t freed now x (ReclaimsRound 0 (made + 1) want))
+        (missed : freed < want → MissedAll 0 now x) (keeps : Keeps t now x) (then : KnownMachine) (e : KnownCpu) (trying : Run)
         (tries : MakesAs t d.number (visit_state x d) trying (visit_state then e)) where
       next_left : suc (16 - (made + 1)) ≡ 16 - made
       next_left = omega (arith, left)
+
+      numbered : made + 1 ≡ 16 - (16 - (made + 1))
+      numbered = omega (arith, left)
 
       abbrev first : Run
       first = leads.steps ++ trying
 
       round : (Tries : Transition VisitState → Type 0) → Tries (transition t (visit_state x d) trying (visit_state then e))
-          → MakesRound want given Tries (transition t (visit_state now d) first (visit_state then e))
+          → MakesRound (16 - (16 - (made + 1))) want freed Tries (transition t (visit_state now d) first (visit_state then e))
       round Tries does = record {
         reclaimed = x;
         reclaiming = leads.steps;
         trying = trying;
-        reclaims = leads.does;
+        reclaims = subst (λ (k : ℕ). ReclaimsRound 0 k want (progress freed now leads.steps x)) numbered leads.does;
         missed = missed;
         keeps = keeps;
         moves = leads.moves;
@@ -175,27 +236,27 @@ module _ (t : KnownTable) (want : ℕ) (Fails : Transition VisitState → Type 0
         steps = so.steps ++ first;
         does = so.succeeds k first (visit_state then e)
             (subst (λ (j : ℕ). SucceedsInRounds j want (Succeeds k) Fails (transition t (visit_state now d) first (visit_state then e))) next_left
-            (inl (given, round (Succeeds k) does)));
+            (inl (freed, round (Succeeds k) does)));
         makes = runs_on;
       }
 
       module _ (does : Fails (transition t (visit_state x d) trying (visit_state then e))) where
         -- the try failed, and no page was freed
-        pub rounds_end : given ≡ 0 → BySteps t (FailsInRounds 16 want Fails) (visit_state m c) (visit_state then e)
+        pub rounds_end : freed ≡ 0 → BySteps t (FailsInRounds 16 want Fails) (visit_state m c) (visit_state then e)
         rounds_end none =
             let last : FailsInRounds (suc (16 - (made + 1))) want Fails (transition t (visit_state now d) first (visit_state then e)) =
-            inl (subst (λ (k : ℕ). MakesRound want k Fails (transition t (visit_state now d) first (visit_state then e))) none (round Fails does)) in record {
+            inl (subst (λ (k : ℕ). MakesRound (16 - (16 - (made + 1))) want k Fails (transition t (visit_state now d) first (visit_state then e))) none (round Fails does)) in record {
               steps = so.steps ++ first;
               does = so.fails first (visit_state then e)
                   (subst (λ (j : ℕ). FailsInRounds j want Fails (transition t (visit_state now d) first (visit_state then e))) next_left last);
               makes = runs_on;
             }
 
-        gave_pages : given ≢ 0 → GivesInRound want Fails (transition t (visit_state now d) first (visit_state then e))
-        gave_pages gave = record { given = given; some = omega (arith, gave); round = round Fails does }
+        gave_pages : freed ≢ 0 → FreesInRound (16 - (16 - (made + 1))) want Fails (transition t (visit_state now d) first (visit_state then e))
+        gave_pages gave = record { freed = freed; some = omega (arith, gave); round = round Fails does }
 
         -- the try failed, and pages were freed
-        pub rounds_more : given ≢ 0 → Spares t x d then e → RoundsSoFar t want Fails Succeeds m c (made + 1) then e
+        pub rounds_more : freed ≢ 0 → Spares t x d then e → RoundsSoFar t want Fails Succeeds m c (made + 1) then e
         rounds_more gave spares = record {
           steps = so.steps ++ first;
           fails = λ rest n h.

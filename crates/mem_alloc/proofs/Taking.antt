@@ -14,7 +14,8 @@ use Rattle.cpu_part.specs.Cpus.{KnownCpu}
 use Rattle.step_rules.specs.After.{Run}
 use Rattle.mem_machine.specs.declared.blocks.TakeFault.{TakeFault}
 use Rattle.mem_machine.specs.declared.blocks.TakeFault.TheVariants as fault
-use Rattle.mem_machine.specs.Machines.{KnownMachine, is_killed, with_watch}
+use Rattle.kill_notes.specs.declared.note.Note.{Note}
+use Rattle.mem_machine.specs.Machines.{KnownMachine, is_killed, with_note, with_watch}
 use Rattle.mem_machine.specs.Local.{visit_state, MakesAs, VisitState}
 use Rattle.mem_machine.specs.Lending.{TakesManyBack}
 use Rattle.mem_machine.specs.Blocks.{TakesBlock, TakesNoBlock, RefusesBlock, block_steps, taken_steps, unplaced_steps}
@@ -28,7 +29,7 @@ use Rattle.mem_alloc.specs.Blocks.{AllocatesBlock, ChargesBlock, FindsNoBlock, M
 use Rattle.mem_alloc.specs.Blocks.{TakesAfterDrain, TakesFreeBlock, TakesInRounds, TakesOrReclaims}
 use Rattle.mem_alloc.proofs.Lowering.{same_visit, lowered_fits, usage_back, room_back}
 use Rattle.mem_alloc.proofs.Making.{RoomSoFar, so_far_does, so_far_none}
-use Rattle.mem_alloc.proofs.Rounding.{FailureSpares, fails_spare, in_the_end}
+use Rattle.mem_alloc.proofs.Rounding.{FailureSpares, noted_fails_spare, noted_in_the_end}
 use Rattle.mem_machine.proofs.Followed.{makes_both}
 
 -- ---- one try
@@ -184,6 +185,13 @@ pub none_leaves : (t : KnownTable) (g k : ℕ) (m n : KnownMachine) (c d : Known
     → HasRoomFor m (2 ^ k) → MayHaveBlock n g k
 none_leaves t g k m n c d none alive there fits = room_still t g k c m m (so_far_none t g (2 ^ k) c m alive) c refl n d none there fits
 
+-- a note leaves the room for a block
+pub noted_room : (m : KnownMachine) (note : Note) (g k : ℕ) → MayHaveBlock m g k → MayHaveBlock (with_note m note) g k
+noted_room m note g k may = record {
+  charges = let c = may.charges in record { there = c.there; alive = c.alive; fits = c.fits };
+  room = may.room;
+}
+
 -- rounds open and shut no visit
 taken_opens : (m n : KnownMachine) (g k head : ℕ) → TakesBlock g k head m n → n.frame_seat.view.opened ≡ m.frame_seat.view.opened
 taken_opens m n g k head takes = ap (λ (y : KnownMachine). y.frame_seat.view.opened) takes.machine
@@ -191,10 +199,10 @@ taken_opens m n g k head takes = ap (λ (y : KnownMachine). y.frame_seat.view.op
 rounds_open : (t : KnownTable) (g k : ℕ) (r : Result ℕ AllocFault) (m n : KnownMachine) (c d : KnownCpu) (steps : Run)
     → TakesInRounds g k r (transition t (visit_state m c) steps (visit_state n d)) → n.frame_seat.view.opened ≡ m.frame_seat.view.opened
 rounds_open t g k (Ok head) m n c d steps h =
-    let last = in_the_end t (2 ^ k) (FindsNoBlock g k) (none_spares t g k) (TakesFreeBlock g k head) 16 m c (visit_state n d) steps h in
+    let last = noted_in_the_end t (2 ^ k) (FindsNoBlock g k) (none_spares t g k) k (TakesFreeBlock g k head) m c (visit_state n d) steps h in
     taken_opens last.before n g k head last.succeeds.takes ∙ last.spares.lowers.opened
 rounds_open t g k (Err NoFrames) m n c d steps h =
-    (fails_spare t (2 ^ k) (FindsNoBlock g k) (none_spares t g k) 16 m n c d steps h).lowers.opened
+    (noted_fails_spare t (2 ^ k) (FindsNoBlock g k) (none_spares t g k) k m n c d steps h).lowers.opened
 rounds_open t g k (Err (Over over)) m n c d steps h = absurd h
 rounds_open t g k (Err RequesterKilled) m n c d steps h = absurd h
 
@@ -275,14 +283,14 @@ module _ (t : KnownTable) (g k : ℕ) (m x n : KnownMachine) (c y d : KnownCpu) 
 -- ---- the whole allocation
 
 -- after the list was drained no limit is in the way, and nobody is killed
-no_over : (g k over : ℕ) (way : Transition VisitState) → TakesAfterDrain g k (Err (Over over)) way → ⊥
-no_over g k over way h = elim h.takes [
+no_over : (g k over : ℕ) (call : Transition VisitState) → TakesAfterDrain g k (Err (Over over)) call → ⊥
+no_over g k over call h = elim h.takes [
   | inl none ↦ none
   | inr rounds ↦ rounds.second
 ]
 
-no_kill : (g k : ℕ) (way : Transition VisitState) → TakesAfterDrain g k (Err RequesterKilled) way → ⊥
-no_kill g k way h = elim h.takes [
+no_kill : (g k : ℕ) (call : Transition VisitState) → TakesAfterDrain g k (Err RequesterKilled) call → ⊥
+no_kill g k call h = elim h.takes [
   | inl none ↦ none
   | inr rounds ↦ rounds.second
 ]

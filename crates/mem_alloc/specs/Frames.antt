@@ -14,39 +14,43 @@ use Rattle.mem_alloc.specs.declared.faults.AllocFault.{AllocFault}
 use Rattle.mem_alloc.specs.declared.faults.AllocFault.TheVariants.{Over, NoFrames, RequesterKilled}
 use Rattle.mem_alloc.specs.Stepping.{Transition, InTurn, Stays, Where, transition}
 use Rattle.mem_alloc.specs.Charging.{DrainsStock, PaysForFrame}
-use Rattle.mem_alloc.specs.Rounds.{FailsInRounds, SucceedsInRounds}
+use Rattle.mem_alloc.specs.Rounds.{AfterZoneNote, FailsInRounds, SucceedsInRounds}
 
 -- no frame of the zone is free
 abbrev pub HasNoFreeFrame : VisitState → Type 0
 HasNoFreeFrame now = HasNoneFrom now.machine.blocks 0
 
 -- a batch of free frames is added to the end of the list, or all free frames if they are fewer; at least one
-pub record LendsBatch (batch : ℕ) (way : Transition VisitState) : Type 0 where
+pub record LendsBatch (batch : ℕ) (call : Transition VisitState) : Type 0 where
   pub frames : List ℕ
   pub some : 1 ≤ length frames
   pub at_most : length frames ≤ batch
-  pub fewer : length frames < batch → HasNoFreeFrame way.after
-  pub lends : LendsMany frames way.before way.after
-  pub steps_are : way.steps ≡ refill_steps way.before.cpu.number frames
+  pub fewer : length frames < batch → HasNoFreeFrame call.after
+  pub lends : LendsMany frames call.before call.after
+  pub steps_are : call.steps ≡ refill_steps call.before.cpu.number frames
 
 -- no frame is free, and nothing changed
 abbrev pub LendsNoFrame : Transition VisitState → Type 0
-LendsNoFrame way = Where HasNoFreeFrame Stays way
+LendsNoFrame call = Where HasNoFreeFrame Stays call
 
 -- rounds of reclaim, each of which wants one page and is followed by a refill: free frames are added to the list, or no
 -- round leaves a free frame
+abbrev pub MakesRefillRounds : ℕ → Bool → Transition VisitState → Type 0
+MakesRefillRounds batch true call = SucceedsInRounds max_rounds 1 (LendsBatch batch) LendsNoFrame call
+MakesRefillRounds batch false call = FailsInRounds max_rounds 1 LendsNoFrame call
+
+-- it is noted that no frame is free, and such rounds follow
 abbrev pub RefillsInRounds : ℕ → Bool → Transition VisitState → Type 0
-RefillsInRounds batch true way = SucceedsInRounds max_rounds 1 (LendsBatch batch) LendsNoFrame way
-RefillsInRounds batch false way = FailsInRounds max_rounds 1 LendsNoFrame way
+RefillsInRounds batch filled call = AfterZoneNote 0 (MakesRefillRounds batch filled) call
 
 -- free frames are added to the list: at once or, if none is free, after rounds of reclaim
 abbrev pub RefillsList : ℕ → Transition VisitState → Type 0
-RefillsList batch way = LendsBatch batch way ⊎ Where HasNoFreeFrame (RefillsInRounds batch true) way
+RefillsList batch call = LendsBatch batch call ⊎ Where HasNoFreeFrame (RefillsInRounds batch true) call
 
 -- no frame is free, not even after rounds of reclaim; then the CPU's stock is drained
 abbrev pub DrainsForNoFrame : ℕ → Transition VisitState → Type 0
-DrainsForNoFrame batch way =
-    Where HasNoFreeFrame (InTurn (RefillsInRounds batch false) (Where HasNoFreeFrame DrainsStock)) way
+DrainsForNoFrame batch call =
+    Where HasNoFreeFrame (InTurn (RefillsInRounds batch false) (Where HasNoFreeFrame DrainsStock)) call
 
 -- the CPU's list is empty
 abbrev pub HasEmptyList : VisitState → Type 0
@@ -54,36 +58,36 @@ HasEmptyList now = now.cpu.list ≡ []
 
 -- the CPU's list has a frame: it had one before, or free frames are added to it; or no frame is free
 abbrev pub FillsList : Config → Result (Unit {0}) AllocFault → Transition VisitState → Type 0
-FillsList sizes (Ok done) way =
-    Where (λ now. 1 ≤ length now.cpu.list) Stays way ⊎ Where HasEmptyList (RefillsList sizes.batch) way
-FillsList sizes (Err NoFrames) way = Where HasEmptyList (DrainsForNoFrame sizes.batch) way
-FillsList sizes (Err other) way = ⊥
+FillsList sizes (Ok done) call =
+    Where (λ now. 1 ≤ length now.cpu.list) Stays call ⊎ Where HasEmptyList (RefillsList sizes.batch) call
+FillsList sizes (Err NoFrames) call = Where HasEmptyList (DrainsForNoFrame sizes.batch) call
+FillsList sizes (Err other) call = ⊥
 
 -- The CPU's stock gets a page of the group, and its list a frame. The front of the list is paid for with that page.
-pub record GetsFrame (sizes : Config) (group frame : ℕ) (way : Transition VisitState) : Type 0 where
+pub record GetsFrame (sizes : Config) (group frame : ℕ) (call : Transition VisitState) : Type 0 where
   pub paid : VisitState
   pub filled : VisitState
   pub paying : Run
   pub filling : Run
-  pub pays : PaysForFrame sizes group (Ok tt) (transition way.table way.before paying paid)
-  pub fills : FillsList sizes (Ok tt) (transition way.table paid filling filled)
-  pub takes : PaysForFront group frame filled way.after
-  pub steps_are : way.steps ≡ paying ++ (filling ++ take_front_steps way.before.cpu.number group)
+  pub pays : PaysForFrame sizes group (Ok tt) (transition call.table call.before paying paid)
+  pub fills : FillsList sizes (Ok tt) (transition call.table paid filling filled)
+  pub takes : PaysForFront group frame filled call.after
+  pub steps_are : call.steps ≡ paying ++ (filling ++ take_front_steps call.before.cpu.number group)
 
 -- the group isn't killed, and `Does` holds
 abbrev pub ForLiving : ℕ → (Transition VisitState → Type 0) → Transition VisitState → Type 0
-ForLiving group Does way = Where (λ now. is_killed now.machine.killed group ≡ false) Does way
+ForLiving group Does call = Where (λ now. is_killed now.machine.killed group ≡ false) Does call
 
 -- the group was killed before, and nothing changed
 abbrev pub RefusesKilled : ℕ → Transition VisitState → Type 0
-RefusesKilled group way = Where (λ now. is_killed now.machine.killed group ≡ true) Stays way
+RefusesKilled group call = Where (λ now. is_killed now.machine.killed group ≡ true) Stays call
 
 -- Allocates one frame for the group, or says why not. The group may have been killed before. A charge may be refused
 -- for good. Or a page is charged, but there is no frame for it.
 abbrev pub AllocatesFrame : Config → ℕ → Result ℕ AllocFault → Transition VisitState → Type 0
-AllocatesFrame sizes group (Ok frame) way = ForLiving group (GetsFrame sizes group frame) way
-AllocatesFrame sizes group (Err (Over over)) way = ForLiving group (PaysForFrame sizes group (Err (Over over))) way
-AllocatesFrame sizes group (Err NoFrames) way =
-    ForLiving group (InTurn (PaysForFrame sizes group (Ok tt)) (FillsList sizes (Err NoFrames))) way
-AllocatesFrame sizes group (Err RequesterKilled) way =
-    RefusesKilled group way ⊎ ForLiving group (PaysForFrame sizes group (Err RequesterKilled)) way
+AllocatesFrame sizes group (Ok frame) call = ForLiving group (GetsFrame sizes group frame) call
+AllocatesFrame sizes group (Err (Over over)) call = ForLiving group (PaysForFrame sizes group (Err (Over over))) call
+AllocatesFrame sizes group (Err NoFrames) call =
+    ForLiving group (InTurn (PaysForFrame sizes group (Ok tt)) (FillsList sizes (Err NoFrames))) call
+AllocatesFrame sizes group (Err RequesterKilled) call =
+    RefusesKilled group call ⊎ ForLiving group (PaysForFrame sizes group (Err RequesterKilled)) call

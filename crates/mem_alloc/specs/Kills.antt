@@ -2,7 +2,7 @@
 use Rattle.std.specs.Prelude.{◌≡◌, ℕ, Bool, true, false, Option, Some, None, List, [], ◌∷◌, ◌++◌}
 use Rattle.group_tree.specs.Room.{has_room}
 use Rattle.group_charge.specs.Charges.{AreCharges, Ledger, current_of, with_oom_noted}
-use Rattle.stock_word.specs.Stock.{Words}
+use Rattle.stock_word.specs.Stock.{KnownStockTable}
 use Rattle.step_rules.specs.After.{Run}
 use Rattle.kill_notes.specs.declared.note.Note.TheVariants.{Oom}
 use Rattle.kill_notes.specs.Notes.{noted}
@@ -44,39 +44,40 @@ pub record IsWanting (requester : Option ℕ) (limited pages : ℕ) (machine : K
 -- One kill. The pages are still wanted, the machine is consistent, and its charges add up. The victim of the group is
 -- killed with all groups that die with it. These are marked as killed. No stock is filled or changes its group, and
 -- some kept units are released.
-pub record KillsOne (requester : Option ℕ) (limited pages : ℕ) (killed : Killed) (way : Transition KnownMachine) : Type 0 where
-  pub wanting : IsWanting requester limited pages way.before
-  pub chosen : IsVictim way.before limited (Some killed.victim)
-  pub words : Words
-  pub consistent : IsConsistent way.table words way.before
-  pub charges : AreCharges way.before.ledger
-  pub kills : IsKilledBy way.table limited killed way.before way.after
-  pub steps_are : way.steps ≡ kills.steps
-  pub marked : way.after.killed ≡ with_all_killed way.before.killed (kill_set way.before killed)
-  pub stocks : OnlyDrains way.before way.after
-  pub keeps : OnlyLetsGo way.table way.before way.after
+pub record KillsOneVictim (requester : Option ℕ) (limited pages : ℕ) (killed : Killed)
+    (call : Transition KnownMachine) : Type 0 where
+  pub wanting : IsWanting requester limited pages call.before
+  pub chosen : IsVictim call.before limited (Some killed.victim)
+  pub stock_table : KnownStockTable
+  pub consistent : IsConsistent call.table stock_table call.before
+  pub charges : AreCharges call.before.ledger
+  pub kills : IsKilledBy call.table limited killed call.before call.after
+  pub steps_are : call.steps ≡ kills.steps
+  pub marked : call.after.killed ≡ with_all_killed call.before.killed (kill_set call.before killed)
+  pub stocks : OnlyDrains call.before call.after
+  pub keeps : OnlyLetsGo call.table call.before call.after
 
 -- these victims are killed like this, one after the other
-abbrev pub KillsEach : Option ℕ → ℕ → ℕ → List Killed → Transition KnownMachine → Type 0
-KillsEach requester limited pages [] way = MachineStays way
-KillsEach requester limited pages (killed ∷ others) way =
-    InTurn (KillsOne requester limited pages killed) (KillsEach requester limited pages others) way
+abbrev pub KillsVictims : Option ℕ → ℕ → ℕ → List Killed → Transition KnownMachine → Type 0
+KillsVictims requester limited pages [] call = MachineStays call
+KillsVictims requester limited pages (killed ∷ others) call =
+    InTurn (KillsOneVictim requester limited pages killed) (KillsVictims requester limited pages others) call
 
 -- One `oom` is noted at the group, which the watch sees. Then victims of it are killed, one after the other, each with
 -- all groups that die with it. This ends when its limit has room for this many pages, when the group that asks for them
 -- is killed, or when no victim is left.
-pub record KillsUntilRoom (requester : Option ℕ) (limited pages : ℕ) (way : Transition KnownMachine) : Type 0 where
+pub record KillsUntilRoom (requester : Option ℕ) (limited pages : ℕ) (call : Transition KnownMachine) : Type 0 where
   pub victims : List Killed
   pub killing : Run
   pub seen : KnownWatch
-  pub notes : MakesForAny way.table way.before (note_oom_steps limited)
-      (with_watch (with_oom_noted_at way.before limited) seen)
-  pub kills : KillsEach requester limited pages victims
-      (transition way.table (with_watch (with_oom_noted_at way.before limited) seen) killing way.after)
-  pub ended : IsWanting requester limited pages way.after → IsVictim way.after limited None
-  pub steps_are : way.steps ≡ note_oom_steps limited ++ killing
+  pub notes : MakesForAny call.table call.before (note_oom_steps limited)
+      (with_watch (with_oom_noted_at call.before limited) seen)
+  pub kills : KillsVictims requester limited pages victims
+      (transition call.table (with_watch (with_oom_noted_at call.before limited) seen) killing call.after)
+  pub ended : IsWanting requester limited pages call.after → IsVictim call.after limited None
+  pub steps_are : call.steps ≡ note_oom_steps limited ++ killing
 
 -- if the group's limit has no room for this many pages, victims of the group are killed; else nothing is done
-pub record KillsFor (requester : Option ℕ) (limited pages : ℕ) (way : Transition KnownMachine) : Type 0 where
-  pub room : has_room_at way.before.ledger limited pages ≡ true → MachineStays way
-  pub over : has_room_at way.before.ledger limited pages ≡ false → KillsUntilRoom requester limited pages way
+pub record KillsForRoom (requester : Option ℕ) (limited pages : ℕ) (call : Transition KnownMachine) : Type 0 where
+  pub room : has_room_at call.before.ledger limited pages ≡ true → MachineStays call
+  pub over : has_room_at call.before.ledger limited pages ≡ false → KillsUntilRoom requester limited pages call

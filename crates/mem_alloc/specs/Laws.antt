@@ -1,7 +1,7 @@
 -- What holds of each charge that kills and of each refill, whichever function makes it.
 use Rattle.std.specs.Prelude.{◌≡◌, ℕ, ◌+◌, ◌≤◌, ◌⊎◌, true, false, Option, Some, None, List, ◌∷◌, ◌++◌, length}
 use Rattle.frame_word.specs.Seats.{KnownTable}
-use Rattle.stock_word.specs.Stock.{Words}
+use Rattle.stock_word.specs.Stock.{KnownStockTable}
 use Rattle.group_tree.specs.declared.group.Group.{Group}
 use Rattle.group_tree.specs.Groups.{in_subtree}
 use Rattle.group_charge.specs.Charges.{AreCharges}
@@ -20,7 +20,7 @@ use Rattle.mem_reclaim.specs.Moves.{kills_in, missed_in}
 use Rattle.mem_reclaim.specs.Sets.{IsHead, kill_set}
 use Rattle.mem_reclaim.specs.Victim.{IsVictim}
 use Rattle.mem_alloc.specs.Frames.{HasNoFreeFrame, LendsBatch}
-use Rattle.mem_alloc.specs.Kills.{IsAlive, KillsFor, has_room_at}
+use Rattle.mem_alloc.specs.Kills.{IsAlive, KillsForRoom, has_room_at}
 use Rattle.mem_alloc.specs.NoRash.{IsChargedBelow, NoRashKill, has_oom_note}
 use Rattle.mem_alloc.specs.Stepping.{Transition}
 
@@ -32,8 +32,8 @@ pub record WasLast (MayAsk : List Group → ℕ → ℕ → Type 0) (table : Kno
     (tried : Run) (killed : Killed) : Type 0 where
   pub now : KnownMachine
   pub leads : IsLocalRun cpu.number (local_of table start cpu) tried (local_of table now cpu)
-  pub words : Words
-  pub consistent : IsConsistent table words now
+  pub stock_table : KnownStockTable
+  pub consistent : IsConsistent table stock_table now
   pub charges : AreCharges now.ledger
   pub limited : ℕ
   pub need : ℕ
@@ -73,12 +73,13 @@ ChargesKillLast = (group pages : ℕ) → KillsComeLast (IsChargedBelow group pa
 -- is left
 abbrev pub KillsEndInTime : Type 0
 KillsEndInTime =
-    (requester : Option ℕ) (limited pages : ℕ) (way : Transition KnownMachine) → KillsFor requester limited pages way
-    → (has_room_at way.after.ledger limited pages ≡ true)
-    ⊎ ((¬ IsAlive requester way.after) ⊎ IsVictim way.after limited None)
+    (requester : Option ℕ) (limited pages : ℕ) (call : Transition KnownMachine)
+    → KillsForRoom requester limited pages call
+    → (has_room_at call.after.ledger limited pages ≡ true)
+    ⊎ ((¬ IsAlive requester call.after) ⊎ IsVictim call.after limited None)
 
 -- a refill adds a whole batch, or no frame is free after it
 abbrev pub RefillsAreWhole : Type 0
 RefillsAreWhole =
-    (batch : ℕ) (way : Transition VisitState) → LendsBatch batch way
-    → (length way.after.cpu.list ≡ length way.before.cpu.list + batch) ⊎ HasNoFreeFrame way.after
+    (batch : ℕ) (call : Transition VisitState) → LendsBatch batch call
+    → (length call.after.cpu.list ≡ length call.before.cpu.list + batch) ⊎ HasNoFreeFrame call.after

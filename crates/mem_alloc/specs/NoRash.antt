@@ -3,7 +3,7 @@
 use Rattle.std.specs.Prelude.{◌≡◌, ℕ, ◌≤◌, ◌==◌, ◌⊎◌, Bool, true, false, Some, List, [], ◌∷◌, ◌++◌}
 use Rattle.std.specs.List.{list_any}
 use Rattle.frame_word.specs.Seats.{KnownTable}
-use Rattle.stock_word.specs.Stock.{Words}
+use Rattle.stock_word.specs.Stock.{KnownStockTable}
 use Rattle.group_tree.specs.declared.group.Group.{Group}
 use Rattle.group_tree.specs.Groups.{in_subtree}
 use Rattle.group_charge.specs.Charges.{AreCharges}
@@ -38,12 +38,12 @@ has_oom_note group steps = list_any (λ entry. is_oom_note group entry.0.action)
 -- What these steps of a call say of the machine that they left. Each frame's misses are those from before the call and
 -- those among the steps. Each unit that is kept was kept for the same group when the call began, and is as dirty as it
 -- was then.
-pub record IsLeftBySteps (way : Transition KnownMachine) : Type 0 where
-  pub misses : CountsMisses way
-  pub owners : (frame : ℕ) → HeadsKeptUnit way.after frame
-      → owner_of (home_of way.after.links frame) ≡ owner_of (home_of way.before.links frame)
-  pub dirt : (frame : ℕ) → HeadsKeptUnit way.after frame
-      → (link_at way.after.links frame).is_dirty ≡ (link_at way.before.links frame).is_dirty
+pub record IsLeftBySteps (call : Transition KnownMachine) : Type 0 where
+  pub misses : CountsMisses call
+  pub owners : (frame : ℕ) → HeadsKeptUnit call.after frame
+      → owner_of (home_of call.after.links frame) ≡ owner_of (home_of call.before.links frame)
+  pub dirt : (frame : ℕ) → HeadsKeptUnit call.after frame
+      → (link_at call.after.links frame).is_dirty ≡ (link_at call.before.links frame).is_dirty
 
 -- For which limit and need a call that charges `pages` pages to a group may kill. The limit is that of the group or of
 -- an ancestor, the need is these pages, and they are at most `most_killed_for`.
@@ -57,20 +57,21 @@ pub record IsChargedBelow (group pages : ℕ) (groups : List Group) (limited nee
 -- drained. Since the call began, a freeze of each clean unit that the subtree still keeps missed. `killed` is the
 -- victim for this limit, with its head. The machine is consistent, its charges add up, and it is the one that the steps
 -- left.
-pub record MayKill (MayAsk : List Group → ℕ → ℕ → Type 0) (way : Transition KnownMachine) (killed : Killed) : Type 0 where
+pub record MayKill (MayAsk : List Group → ℕ → ℕ → Type 0) (call : Transition KnownMachine)
+    (killed : Killed) : Type 0 where
   pub limited : ℕ
   pub need : ℕ
-  pub asked : MayAsk way.after.ledger.groups limited need
-  pub over : has_room_at way.after.ledger limited need ≡ false
-  pub noted : has_oom_note limited way.steps ≡ true
-  pub drained : AreDrained limited way.table.cpus way.after
-  pub missed : MissedAll limited way.before way.after
-  pub chosen : IsVictim way.after limited (Some killed.victim)
-  pub head_is : IsHead way.after.ledger.groups limited killed
-  pub words : Words
-  pub consistent : IsConsistent way.table words way.after
-  pub charges : AreCharges way.after.ledger
-  pub tied : IsLeftBySteps way
+  pub asked : MayAsk call.after.ledger.groups limited need
+  pub over : has_room_at call.after.ledger limited need ≡ false
+  pub noted : has_oom_note limited call.steps ≡ true
+  pub drained : AreDrained limited call.table.cpus call.after
+  pub missed : MissedAll limited call.before call.after
+  pub chosen : IsVictim call.after limited (Some killed.victim)
+  pub head_is : IsHead call.after.ledger.groups limited killed
+  pub stock_table : KnownStockTable
+  pub consistent : IsConsistent call.table stock_table call.after
+  pub charges : AreCharges call.after.ledger
+  pub tied : IsLeftBySteps call
 
 -- the first step kills a group
 abbrev pub begins_with_kill : Run → Bool

@@ -3,16 +3,15 @@ use Rattle.std.specs.Prelude.{◌≡◌, ℕ, ◌<◌, ◌≤◌, true, false, O
 use Rattle.std.specs.Prelude.{List, [], ◌∷◌, ◌++◌}
 use Rattle.group_tree.specs.Groups.{limit_of}
 use Rattle.group_charge.specs.Charges.{Ledger, current_of, with_max_noted}
-use Rattle.kill_notes.specs.declared.note.Note.{Note}
 use Rattle.kill_notes.specs.declared.note.Note.TheVariants.{Limit}
-use Rattle.kill_notes.specs.Notes.{noted}
+use Rattle.kill_notes.specs.Notes.{KnownNotes, noted}
 use Rattle.step_rules.specs.After.{Run}
 use Rattle.mem_machine.specs.Machines.{KnownMachine, LacksRoom, is_killed, with_watch}
 use Rattle.mem_machine.specs.Local.{MakesForAny, VisitState, visit_state}
 use Rattle.mem_machine.specs.Steps.{Drain, over_steps, note_max_steps, drain_stocks_steps}
 use Rattle.mem_machine.specs.Stocks.{DrainsAllBelow, AreDrained}
-use Rattle.mem_reclaim.specs.Wanted.{GivesNothing, Reclaiming, progress}
-use Rattle.mem_reclaim.specs.Moves.{Moves}
+use Rattle.mem_reclaim.specs.Wanted.{FreesNothing, Reclaiming, progress}
+use Rattle.mem_reclaim.specs.Moves.{FreesPages}
 use Rattle.mem_reclaim.specs.Rounds.{ReclaimsRounds, max_rounds, pages_missing}
 use Rattle.mem_reclaim.specs.Staying.{Keeps, MissedAll}
 use Rattle.mem_alloc.specs.declared.faults.AllocFault.{AllocFault}
@@ -20,10 +19,10 @@ use Rattle.mem_alloc.specs.declared.faults.AllocFault.TheVariants.{Over, NoFrame
 use Rattle.mem_alloc.specs.Stepping.{Transition, InTurn, OfMachineAlone, MachineStays, transition}
 use Rattle.step_watch.specs.Watched.{KnownWatch}
 -- what is killed, and whether there is room
-pub use Rattle.mem_alloc.specs.Kills.{IsWanting, KillsFor, has_room_at, most_killed_for}
+pub use Rattle.mem_alloc.specs.Kills.{IsWanting, KillsForRoom, has_room_at, most_killed_for}
 
 -- the notes with one more, if the group has a limit: that the limit has no room for this many more pages
-abbrev pub limit_notes : Option ℕ → Ledger → ℕ → ℕ → List Note → List Note
+abbrev pub limit_notes : Option ℕ → Ledger → ℕ → ℕ → KnownNotes → KnownNotes
 limit_notes None ledger group need notes = notes
 limit_notes (Some max) ledger group need notes = noted notes (Limit group max (current_of ledger group) need)
 
@@ -42,42 +41,43 @@ with_max_noted_at machine group pages = record machine {
 
 -- It is noted that this many pages were about to take the group's usage over its limit, and the watch sees it. Then
 -- the stocks of its subtree are drained by these steps, whichever CPU holds the lock.
-pub record ClearsBelow (limited pages : ℕ) (way : Transition KnownMachine) : Type 0 where
+pub record ClearsBelow (limited pages : ℕ) (call : Transition KnownMachine) : Type 0 where
   pub drains : List Drain
   pub seen : KnownWatch
-  pub all : DrainsAllBelow limited way.table.cpus drains
-      (with_watch (with_max_noted_at way.before limited pages) seen) way.after
-  pub drained : AreDrained limited way.table.cpus way.after
-  pub steps_are : way.steps ≡ note_max_steps limited ++ drain_stocks_steps drains
-  pub runs : MakesForAny way.table way.before way.steps way.after
+  pub all : DrainsAllBelow limited call.table.cpus drains
+      (with_watch (with_max_noted_at call.before limited pages) seen) call.after
+  pub drained : AreDrained limited call.table.cpus call.after
+  pub steps_are : call.steps ≡ note_max_steps limited ++ drain_stocks_steps drains
+  pub runs : MakesForAny call.table call.before call.steps call.after
 
 -- what is reclaimed from the group's subtree for this limit: nothing if there is no limit, else as many pages as are
 -- missing, in at most `max_rounds` rounds
 abbrev pub ReclaimsBefore : Option ℕ → ℕ → ℕ → Reclaiming
-ReclaimsBefore None limited pages = GivesNothing
+ReclaimsBefore None limited pages = FreesNothing
 ReclaimsBefore (Some limit) limited pages = ReclaimsRounds limited (pages_missing limited pages limit) max_rounds
 
--- Clean units of the group's subtree are freed in rounds, `given` pages in all, until its limit has room for this many
+-- Clean units of the group's subtree are freed in rounds, `freed` pages in all, until its limit has room for this many
 -- pages. If it still has none, each clean unit that the subtree still keeps was tried and missed.
-pub record ReclaimsFor (limited pages : ℕ) (way : Transition KnownMachine) : Type 0 where
-  pub given : ℕ
-  pub reclaims : ReclaimsBefore (limit_of way.before.ledger.groups limited) limited pages
-      (progress given way.before way.steps way.after)
-  pub missed : has_room_at way.after.ledger limited pages ≡ false → MissedAll limited way.before way.after
-  pub keeps : Keeps way.table way.before way.after
-  pub moves : Moves way.table way.before given way.steps way.after
+pub record ReclaimsFor (limited pages : ℕ) (call : Transition KnownMachine) : Type 0 where
+  pub freed : ℕ
+  pub reclaims : ReclaimsBefore (limit_of call.before.ledger.groups limited) limited pages
+      (progress freed call.before call.steps call.after)
+  pub missed : has_room_at call.after.ledger limited pages ≡ false → MissedAll limited call.before call.after
+  pub keeps : Keeps call.table call.before call.after
+  pub moves : FreesPages call.table call.before freed call.steps call.after
 
 -- what is done if reclaim makes no room: victims are killed for up to `most_killed_for` pages; for more, nobody is
 -- killed
-pub record KillsForFew (requester limited pages : ℕ) (way : Transition KnownMachine) : Type 0 where
-  pub few : pages ≤ most_killed_for → KillsFor (Some requester) limited pages way
-  pub many : most_killed_for < pages → MachineStays way
+pub record KillsForFewPages (requester limited pages : ℕ) (call : Transition KnownMachine) : Type 0 where
+  pub few : pages ≤ most_killed_for → KillsForRoom (Some requester) limited pages call
+  pub many : most_killed_for < pages → MachineStays call
 
 -- The limit of the group `limited` had no room for this many pages. That is noted there as `max`, the stocks of its
 -- subtree are drained, its units are reclaimed in rounds, and then its victims are killed.
 abbrev pub RelievesLimit : ℕ → ℕ → ℕ → Transition KnownMachine → Type 0
-RelievesLimit requester limited pages way =
-    InTurn (ClearsBelow limited pages) (InTurn (ReclaimsFor limited pages) (KillsForFew requester limited pages)) way
+RelievesLimit requester limited pages call =
+    InTurn (ClearsBelow limited pages) (InTurn (ReclaimsFor limited pages) (KillsForFewPages requester limited pages))
+    call
 
 -- the limit of the group `limited` has room for this many pages, and the requester, the group that asks for them, isn't
 -- killed
@@ -97,38 +97,39 @@ TellsRoom requester limited pages (Err NoFrames) after = ⊥
 -- A charge of this many pages to the group `requester` is refused at the group `limited`, the lowest without room on
 -- its path, which the watch sees. Then that limit is relieved, and this is the answer.
 pub record IsRefusedAt (requester limited pages : ℕ) (answer : Result (Unit {0}) AllocFault)
-    (way : Transition KnownMachine) : Type 0 where
-  pub lowest : LacksRoom way.before requester pages limited
+    (call : Transition KnownMachine) : Type 0 where
+  pub lowest : LacksRoom call.before requester pages limited
   pub relieving : Run
   pub seen : KnownWatch
   pub relieves : RelievesLimit requester limited pages
-      (transition way.table (with_watch way.before seen) relieving way.after)
-  pub room : TellsRoom requester limited pages answer way.after
-  pub steps_are : way.steps ≡ over_steps requester pages limited ++ relieving
+      (transition call.table (with_watch call.before seen) relieving call.after)
+  pub room : TellsRoom requester limited pages answer call.after
+  pub steps_are : call.steps ≡ over_steps requester pages limited ++ relieving
 
 -- a charge is refused at each of these groups, one after the other, and each limit then gets room for the pages
 abbrev pub MakesRoom : ℕ → List ℕ → ℕ → Transition KnownMachine → Type 0
-MakesRoom requester [] pages way = MachineStays way
-MakesRoom requester (limited ∷ others) pages way =
-    InTurn (IsRefusedAt requester limited pages (Ok tt)) (MakesRoom requester others pages) way
+MakesRoom requester [] pages call = MachineStays call
+MakesRoom requester (limited ∷ others) pages call =
+    InTurn (IsRefusedAt requester limited pages (Ok tt)) (MakesRoom requester others pages) call
 
 -- A charge of this many pages to the requester may first be refused at the groups `refused_at`, which then get room.
 -- After that `Does` holds.
-pub record AfterRoom (requester pages : ℕ) (Does : Transition VisitState → Type 0) (way : Transition VisitState) : Type 0 where
+pub record AfterRoom (requester pages : ℕ) (Does : Transition VisitState → Type 0)
+    (call : Transition VisitState) : Type 0 where
   pub refused_at : List ℕ
   pub cleared : KnownMachine
   pub making : Run
   pub later : Run
-  pub makes : MakesRoom requester refused_at pages (transition way.table way.before.machine making cleared)
-  pub does : Does (transition way.table (visit_state cleared way.before.cpu) later way.after)
-  pub steps_are : way.steps ≡ making ++ later
+  pub makes : MakesRoom requester refused_at pages (transition call.table call.before.machine making cleared)
+  pub does : Does (transition call.table (visit_state cleared call.before.cpu) later call.after)
+  pub steps_are : call.steps ≡ making ++ later
 
 -- a charge is refused at some group; after that the group still has no room, or the requester was killed: this is the
 -- cause
 abbrev pub IsRefusedAtSome : ℕ → ℕ → AllocFault → Transition KnownMachine → Type 0
-IsRefusedAtSome requester pages cause way = (limited : ℕ) × IsRefusedAt requester limited pages (Err cause) way
+IsRefusedAtSome requester pages cause call = (limited : ℕ) × IsRefusedAt requester limited pages (Err cause) call
 
 -- a charge is refused for good, for this cause; other groups may have refused it before, and then got room
 abbrev pub IsRefusedFor : ℕ → ℕ → AllocFault → Transition VisitState → Type 0
-IsRefusedFor requester pages cause way =
-    AfterRoom requester pages (OfMachineAlone (IsRefusedAtSome requester pages cause)) way
+IsRefusedFor requester pages cause call =
+    AfterRoom requester pages (OfMachineAlone (IsRefusedAtSome requester pages cause)) call

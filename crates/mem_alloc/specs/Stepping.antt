@@ -8,7 +8,7 @@ use Rattle.mem_machine.specs.Local.{VisitState, Makes, MakesForAny}
 use Rattle.mem_reclaim.specs.Moves.{missed_in}
 
 -- The transition of a call at a table: the state before, its steps with their answers, and the state after. The state
--- is a visit state, or the machine alone. A parameter named `way` is always the transition of a call.
+-- is a visit state, or the machine alone.
 pub record Transition (Stand : Type 0) : Type 0 where
   pub table : KnownTable
   pub before : Stand
@@ -21,35 +21,36 @@ transition table before steps after = record { table = table; before = before; s
 
 -- the transition of the machine alone
 abbrev pub of_machine : Transition VisitState → Transition KnownMachine
-of_machine way = transition way.table way.before.machine way.steps way.after.machine
+of_machine call = transition call.table call.before.machine call.steps call.after.machine
 
 -- `Does` holds of the machine's transition, whatever happens to the CPU's part
 abbrev pub OfMachine : (Transition KnownMachine → Type 0) → Transition VisitState → Type 0
-OfMachine Does way = Does (of_machine way)
+OfMachine Does call = Does (of_machine call)
 
 -- `Does` holds of the machine's transition, and the CPU's part stays the same
-pub record OfMachineAlone (Does : Transition KnownMachine → Type 0) (way : Transition VisitState) : Type 0 where
-  pub does : Does (of_machine way)
-  pub cpu : way.after.cpu ≡ way.before.cpu
+pub record OfMachineAlone (Does : Transition KnownMachine → Type 0) (call : Transition VisitState) : Type 0 where
+  pub does : Does (of_machine call)
+  pub cpu : call.after.cpu ≡ call.before.cpu
 
 -- One thing is done after another. The second begins with what the first left, and the steps are those of the first
 -- followed by those of the second.
-pub record InTurn {Stand : Type 0} (First Second : Transition Stand → Type 0) (way : Transition Stand) : Type 0 where
+pub record InTurn {Stand : Type 0} (First Second : Transition Stand → Type 0) (call : Transition Stand) : Type 0 where
   pub between : Stand
   pub earlier : Run
   pub later : Run
-  pub first : First (transition way.table way.before earlier between)
-  pub second : Second (transition way.table between later way.after)
-  pub steps_are : way.steps ≡ earlier ++ later
+  pub first : First (transition call.table call.before earlier between)
+  pub second : Second (transition call.table between later call.after)
+  pub steps_are : call.steps ≡ earlier ++ later
 
 -- `Is` holds of the state before, and `Does` holds of the transition
 pub record Where {Stand : Type 0} (Is : Stand → Type 0) (Does : Transition Stand → Type 0)
-    (way : Transition Stand) : Type 0 where
-  pub is : Is way.before
-  pub does : Does way
+    (call : Transition Stand) : Type 0 where
+  pub is : Is call.before
+  pub does : Does call
 
 -- a list of local steps with their answers leads from one visit state to another, and `Does` holds of that transition
-pub record BySteps (table : KnownTable) (Does : Transition VisitState → Type 0) (before after : VisitState) : Type 0 where
+pub record BySteps (table : KnownTable) (Does : Transition VisitState → Type 0)
+    (before after : VisitState) : Type 0 where
   pub steps : Run
   pub does : Does (transition table before steps after)
   pub makes : Makes table before steps after
@@ -64,20 +65,20 @@ pub record ByStepsOfAny (table : KnownTable) (Does : Transition KnownMachine →
 
 -- the misses that the zone's seat noted for each frame rose by the freezes of it that missed among the steps
 abbrev pub CountsMisses : Transition KnownMachine → Type 0
-CountsMisses way =
+CountsMisses call =
     (frame : ℕ)
-    → misses_of way.after.frame_seat frame ≡ misses_of way.before.frame_seat frame + missed_in frame way.steps
+    → misses_of call.after.frame_seat frame ≡ misses_of call.before.frame_seat frame + missed_in frame call.steps
 
 -- nothing of the machine changed, and no step was made
-pub record MachineStays (way : Transition KnownMachine) : Type 0 where
-  pub machine : way.after ≡ way.before
-  pub steps_are : way.steps ≡ []
+pub record MachineStays (call : Transition KnownMachine) : Type 0 where
+  pub machine : call.after ≡ call.before
+  pub steps_are : call.steps ≡ []
 
 -- nothing changed, and no step was made
-pub record Stays (way : Transition VisitState) : Type 0 where
-  pub machine : way.after.machine ≡ way.before.machine
-  pub cpu : way.after.cpu ≡ way.before.cpu
-  pub steps_are : way.steps ≡ []
+pub record Stays (call : Transition VisitState) : Type 0 where
+  pub machine : call.after.machine ≡ call.before.machine
+  pub cpu : call.after.cpu ≡ call.before.cpu
+  pub steps_are : call.steps ≡ []
 
 -- the CPU has nothing to settle: none of its frames is fresh or back
 abbrev pub IsSettled : KnownCpu → Type 0

@@ -7,7 +7,7 @@ ghost use Rattle.mem_machine.specs.Paying.{IsOfSize, MayCharge};
 ghost use Rattle.mem_alloc.specs.declared.faults.AllocFault.TheVariants.{NoFrames};
 ghost use Rattle.mem_alloc.specs.Stepping.{BySteps, IsSettled};
 ghost use Rattle.mem_alloc.specs.Blocks.{AllocatesBlock, ChargesBlock, MayHaveBlock};
-ghost use Rattle.mem_alloc.specs.Blocks.{TakesAfterDrain, TakesInRounds};
+ghost use Rattle.mem_alloc.specs.Blocks.{MakesTakeRounds, TakesAfterDrain, TakesInRounds};
 ghost use Rattle.mem_machine.specs.Local.{visit_state};
 
 use crate::faults::AllocFault;
@@ -16,6 +16,7 @@ use crate::room::make_room;
 use cpu_part::{BootName, Cpu, Tables};
 use frame_word::Frame;
 use group_tree::group::GroupId;
+use kill_notes::note::Note;
 use mem_machine::{Machine, TakeFault};
 use mem_reclaim::MAX_ROUNDS;
 use zone_blocks::order::Order;
@@ -49,8 +50,38 @@ fn charge_block<N: BootName>(
     }
 }
 
-// No block is free: reclaims as many pages from all groups, in rounds, and tries to take the block after each. A round
+// Reclaims as many pages as the block has from all groups, in rounds, and tries to take the block after each. A round
 // that reclaims nothing is the last.
+fn make_take_rounds<N: BootName>(
+    machine: &mut Machine<N>,
+    tables: &Tables<N>,
+    cpu: &mut Cpu<N>,
+    group: GroupId,
+    order: Order,
+) -> Result<Frame, AllocFault>
+    requires visit { Visits N.frames (visit_state machine.old cpu.old) }
+    requires room { MayHaveBlock machine.old group order }
+    requires none_fresh { cpu.old.fresh ≡ [] }
+    requires none_back { cpu.old.back ≡ [] }
+    ensures takes { BySteps N.frames (MakesTakeRounds group order result)
+        (visit_state machine.old cpu.old) (visit_state machine.new cpu.new) }
+    ensures cpu { cpu.new ≡ cpu.old }
+    ensures visit { Visits N.frames (visit_state machine.new cpu.new) }
+{
+    let pages = order.frames();
+    for round in 0..MAX_ROUNDS {
+        let freed = reclaim_anywhere(machine, tables, round + 1, u64::from(pages));
+        match machine.take_block(tables, cpu, group, order) {
+            Ok(head) => return Ok(head),
+            Err(TakeFault::Over(_)) => unreachable!(),
+            Err(TakeFault::NoBlock) if freed == 0 => return Err(AllocFault::NoFrames),
+            Err(TakeFault::NoBlock) => {}
+        }
+    }
+    Err(AllocFault::NoFrames)
+}
+
+// No block is free: notes that, and reclaims in rounds, until the block is taken.
 fn take_in_rounds<N: BootName>(
     machine: &mut Machine<N>,
     tables: &Tables<N>,
@@ -67,17 +98,10 @@ fn take_in_rounds<N: BootName>(
     ensures cpu { cpu.new ≡ cpu.old }
     ensures visit { Visits N.frames (visit_state machine.new cpu.new) }
 {
-    let pages = order.frames();
-    for _round in 0..MAX_ROUNDS {
-        let given = reclaim_anywhere(machine, tables, u64::from(pages));
-        match machine.take_block(tables, cpu, group, order) {
-            Ok(head) => return Ok(head),
-            Err(TakeFault::Over(_)) => unreachable!(),
-            Err(TakeFault::NoBlock) if given == 0 => return Err(AllocFault::NoFrames),
-            Err(TakeFault::NoBlock) => {}
-        }
-    }
-    Err(AllocFault::NoFrames)
+    machine.note(Note::Zone {
+        order: order.exponent(),
+    });
+    make_take_rounds(machine, tables, cpu, group, order)
 }
 
 // Returns the CPU's list to the zone, and then takes the block, for which every limit has room. If still no block is
@@ -110,16 +134,14 @@ fn take_after_drain<N: BootName>(
 /// Allocates a block of this order for an existing group, in the visit of this CPU, which has been settled. 2^`order`
 /// pages are charged to the group, and the block is a kept unit of it at once, named by its head.
 ///
-/// `RequesterKilled`: the group was killed before, and nothing changed. If a limit has no room for the pages, the
-/// stocks of its subtree are drained and its clean units reclaimed in at most 16 rounds. Then, for up to 8 pages,
-/// groups of it are killed until there is room. If the group itself died like this, as a victim or with one, the error
-/// is `RequesterKilled` too. Otherwise, if there is still no room, `Over` names the group of the limit.
+/// - `RequesterKilled`: the group was killed before, and nothing changed; or it died because a limit had no room for
+///   the pages, which are at most 8.
+/// - `Over`: the limit of the group that is named has no room for the pages, after all that `make_room` does.
+/// - `NoFrames`: no block of the order or above is free, even after the CPU's list was returned to the zone, and after
+///   at most 16 rounds of reclaim from all groups. The pages are uncharged.
 ///
-/// If no block of the order or above is free, the CPU's own list is returned to the zone, and the call tries once more.
-/// If there still is none, it reclaims as many pages as the block has from the units of all groups, and tries again.
-/// There are at most 16 such rounds, and one that freed no page is the last. `NoFrames`: there is no block even then.
-/// The pages are uncharged, but the peaks and what was reclaimed stay. The zone has at most 1,048,576 frames and 64
-/// CPUs.
+/// After a refusal the peaks, notes, drains, kills and reclaimed pages stay. The zone has at most 1,048,576 frames and
+/// 64 CPUs.
 pub fn alloc_block<N: BootName>(
     machine: &mut Machine<N>,
     tables: &Tables<N>,

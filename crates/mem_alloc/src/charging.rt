@@ -108,7 +108,7 @@ pub(crate) fn pay_for_frame<N: BootName>(
     if holds_page(machine, tables, cpu, group) {
         return Ok(());
     }
-    let number = cpu.number();
-    machine.drain_stock(tables, number);
+    let cpu_number = cpu.number();
+    machine.drain_stock(tables, cpu_number);
     charge_frame(machine, tables, cpu, sizes, group)
 }

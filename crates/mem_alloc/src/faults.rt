@@ -2,13 +2,12 @@
 
 use group_tree::group::GroupId;
 
-/// Why nothing was allocated. No frame and no charge was given then.
+/// Why nothing was allocated. Then no frame was allocated, and no page was charged.
 #[derive(Clone, Copy, Debug, PartialEq, Eq)]
 pub enum AllocFault {
-    /// The limit of this group has no room for the pages, although the stocks of its subtree were drained and its clean
-    /// units reclaimed in rounds. For up to 8 pages its victims were killed too.
+    /// The limit of this group has no room for the pages, after all that `make_room` does.
     Over(GroupId),
-    /// No sufficient block is free, even after rounds of reclaim from all groups.
+    /// No frame, or no block of the order or above, is free, even after rounds of reclaim from all groups.
     NoFrames,
     /// The group that asks for the pages was killed: before, or with a victim whose limit had no room for these pages.
     RequesterKilled,

@@ -8,7 +8,7 @@ ghost use Rattle.mem_machine.specs.Machines.{KeepsVisit, Visits};
 ghost use Rattle.mem_machine.specs.Paying.{HoldsPage, IsOfSize};
 ghost use Rattle.mem_alloc.specs.Stepping.{BySteps, IsSettled};
 ghost use Rattle.mem_machine.specs.Lending.{HasListRoom};
-ghost use Rattle.mem_alloc.specs.Frames.{AllocatesFrame, FillsList, RefillsInRounds};
+ghost use Rattle.mem_alloc.specs.Frames.{AllocatesFrame, FillsList, MakesRefillRounds, RefillsInRounds};
 ghost use Rattle.mem_machine.specs.Local.{visit_state};
 
 use crate::charging::pay_for_frame;
@@ -17,12 +17,40 @@ use crate::reclaims::reclaim_anywhere;
 use cpu_part::{BootName, Cpu, Tables};
 use frame_word::Frame;
 use group_tree::group::GroupId;
+use kill_notes::note::Note;
 use mem_machine::Machine;
 use mem_reclaim::MAX_ROUNDS;
 use zone_sizes::config::Config;
 
-// No frame is free: reclaims one page from all groups, in rounds, and lends free frames to the CPU's list after each. A
-// round that reclaims nothing is the last. Returns whether frames were added to the list.
+// Reclaims one page from all groups, in rounds, and lends free frames to the CPU's list after each. A round that
+// reclaims nothing is the last. Returns whether frames were added to the list.
+fn make_refill_rounds<N: BootName>(
+    machine: &mut Machine<N>,
+    tables: &Tables<N>,
+    cpu: &mut Cpu<N>,
+    batch: u32,
+) -> bool
+    requires visit { Visits N.frames (visit_state machine.old cpu.old) }
+    requires room { HasListRoom cpu.old batch }
+    requires some { 1 ≤ batch }
+    ensures refills { BySteps N.frames (MakesRefillRounds batch result)
+        (visit_state machine.old cpu.old) (visit_state machine.new cpu.new) }
+    ensures visit { Visits N.frames (visit_state machine.new cpu.new) }
+{
+    for round in 0..MAX_ROUNDS {
+        let freed = reclaim_anywhere(machine, tables, round + 1, 1);
+        if machine.refill(tables, cpu, batch) > 0 {
+            return true;
+        }
+        if freed == 0 {
+            return false;
+        }
+    }
+    false
+}
+
+// No frame is free: notes that, and reclaims in rounds, until frames were added to the CPU's list. Returns whether any
+// were.
 fn refill_in_rounds<N: BootName>(
     machine: &mut Machine<N>,
     tables: &Tables<N>,
@@ -36,16 +64,8 @@ fn refill_in_rounds<N: BootName>(
         (visit_state machine.old cpu.old) (visit_state machine.new cpu.new) }
     ensures visit { Visits N.frames (visit_state machine.new cpu.new) }
 {
-    for _round in 0..MAX_ROUNDS {
-        let given = reclaim_anywhere(machine, tables, 1);
-        if machine.refill(tables, cpu, batch) > 0 {
-            return true;
-        }
-        if given == 0 {
-            return false;
-        }
-    }
-    false
+    machine.note(Note::Zone { order: 0 });
+    make_refill_rounds(machine, tables, cpu, batch)
 }
 
 // Makes sure that the CPU's list has a frame. If none is free, even after rounds of reclaim, the CPU's stock is
@@ -76,24 +96,22 @@ fn fill_list<N: BootName>(
     if refill_in_rounds(machine, tables, cpu, sizes.batch) {
         return Ok(());
     }
-    let number = cpu.number();
-    machine.drain_stock(tables, number);
+    let cpu_number = cpu.number();
+    machine.drain_stock(tables, cpu_number);
     Err(AllocFault::NoFrames)
 }
 
 /// Allocates one frame for an existing group, in the visit of this CPU, which has been settled. The frame is the front
 /// of the CPU's list, is paid for with a page of its stock, and is fresh then.
 ///
-/// `RequesterKilled`: the group was killed before, and nothing changed. If the stock has no page of the group, it is
-/// drained. Then it is filled with `sizes.stock` pages if every limit has room for them, else with one page. If a limit
-/// has no room for that one page, the stocks of its subtree are drained and its clean units reclaimed in at most 16
-/// rounds. Then groups of it are killed until there is room. If the group itself died like this, as a victim or with
-/// one, the error is `RequesterKilled` too. Otherwise, if there is still no room, `Over` names the group of the limit.
+/// - `RequesterKilled`: the group was killed before, and nothing changed; or it died because a limit had no room for
+///   one page.
+/// - `Over`: the limit of the group that is named has no room for one page, after all that `make_room` does.
+/// - `NoFrames`: no frame is listed or free, even after at most 16 rounds of reclaim from all groups. The stock is
+///   drained.
 ///
-/// If the list is empty, up to `sizes.batch` free frames are added to it. If none is free, a page is reclaimed from the
-/// units of all groups, and then free frames are added. There are at most 16 such rounds, and one that freed no page is
-/// the last. `NoFrames`: none is free even then, and the stock is drained again. After a refusal the peaks, the notes,
-/// the drains, the kills and what was reclaimed stay. The zone has at most 1,048,576 frames and 64 CPUs.
+/// After a refusal the peaks, notes, drains, kills and reclaimed pages stay. At most `sizes.stock` pages are added to
+/// the stock, and at most `sizes.batch` frames to the list. The zone has at most 1,048,576 frames and 64 CPUs.
 pub fn alloc_frame<N: BootName>(
     machine: &mut Machine<N>,
     tables: &Tables<N>,

@@ -2,8 +2,8 @@
 
 ghost use Rattle.std.specs.Prelude.{◌≡◌, ◌↔◌, IsTrue};
 ghost use Rattle.group_tree.specs.Groups.{has_group};
-ghost use Rattle.mem_alloc.specs.Kills.{IsWanting, KillsFor, has_room_at};
-ghost use Rattle.mem_alloc.specs.Room.{KillsForFew};
+ghost use Rattle.mem_alloc.specs.Kills.{IsWanting, KillsForRoom, has_room_at};
+ghost use Rattle.mem_alloc.specs.Room.{KillsForFewPages};
 ghost use Rattle.mem_alloc.specs.Stepping.{ByStepsOfAny};
 
 use cpu_part::{BootName, Tables};
@@ -59,7 +59,7 @@ pub fn kill_for<N: BootName>(
     pages: u32,
 )
     requires { IsTrue (has_group machine.old.ledger.groups limited) }
-    ensures { ByStepsOfAny N.frames (KillsFor requester limited pages) machine.old machine.new }
+    ensures { ByStepsOfAny N.frames (KillsForRoom requester limited pages) machine.old machine.new }
 {
     if has_room_at(machine.charges(), limited, pages) {
         return;
@@ -88,7 +88,7 @@ pub(crate) fn kill_for_few<N: BootName>(
     pages: u32,
 )
     requires { IsTrue (has_group machine.old.ledger.groups limited) }
-    ensures { ByStepsOfAny N.frames (KillsForFew requester limited pages) machine.old machine.new }
+    ensures { ByStepsOfAny N.frames (KillsForFewPages requester limited pages) machine.old machine.new }
 {
     if pages <= MOST_KILLED_FOR {
         kill_for(machine, tables, Some(requester), limited, pages);

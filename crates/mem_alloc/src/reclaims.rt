@@ -1,26 +1,27 @@
-//! Reclaim from the units of all groups, if no frame is free.
+//! Rounds of reclaim from the units of all groups, if no frame is free.
 
 ghost use Rattle.std.specs.Prelude.{◌<◌};
-ghost use Rattle.mem_reclaim.specs.Moves.{Leads};
-ghost use Rattle.mem_reclaim.specs.Passes.{Reclaims};
+ghost use Rattle.mem_reclaim.specs.Moves.{FreesBySteps};
+ghost use Rattle.mem_reclaim.specs.Rounds.{ReclaimsRound};
 ghost use Rattle.mem_reclaim.specs.Staying.{Keeps, MissedAll};
 
 use cpu_part::{BootName, Tables};
 use group_tree::group::GroupId;
 use mem_machine::Machine;
-use mem_reclaim::reclaim;
+use mem_reclaim::reclaim_round;
 
-// Reclaims `want` pages from the units of all groups, and returns how many were freed. If they are fewer, each clean
-// unit that is still kept was tried and missed.
+// Makes the round of this number, from 1, in which `want` pages are wanted from the units of all groups, and returns
+// how many were freed. The round is noted. If they are fewer, each clean unit that is still kept was tried and missed.
 pub(crate) fn reclaim_anywhere<N: BootName>(
     machine: &mut Machine<N>,
     tables: &Tables<N>,
+    number: u32,
     want: u64,
 ) -> u64
-    ensures reclaims { Leads N.frames result machine.old machine.new (Reclaims 0 want) }
+    ensures reclaims { FreesBySteps N.frames result machine.old machine.new (ReclaimsRound 0 number want) }
     ensures missed { result < want → MissedAll 0 machine.old machine.new }
     ensures keeps { Keeps N.frames machine.old machine.new }
 {
     let _tree = machine.charges().tree(); // Called for its contract.
-    reclaim(machine, tables, GroupId::root(), want).pages
+    reclaim_round(machine, tables, GroupId::root(), number, want).pages
 }

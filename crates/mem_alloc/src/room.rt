@@ -12,7 +12,7 @@ use cpu_part::{BootName, Tables};
 use group_tree::group::GroupId;
 use kill_notes::note::Note;
 use mem_machine::Machine;
-use mem_reclaim::reclaim_rounds;
+use mem_reclaim::reclaim_to_limit;
 
 // Reclaims in rounds from the subtree of the group, until its limit has room for this many pages.
 fn reclaim_for<N: BootName>(
@@ -25,7 +25,7 @@ fn reclaim_for<N: BootName>(
     ensures reclaims { ByStepsOfAny N.frames (ReclaimsFor limited pages) machine.old machine.new }
 {
     if let Some(limit) = machine.charges().max(limited) {
-        reclaim_rounds(machine, tables, limited, pages, limit);
+        reclaim_to_limit(machine, tables, limited, pages, limit);
     }
 }
 
@@ -46,12 +46,17 @@ pub fn note_limit<N: BootName>(machine: &mut Machine<N>, group: GroupId, need: u
     }
 }
 
-// Relieves the limit of `limited`, the lowest on the path of `requester` without room for this many pages. That is
-// noted (`max`), and the stocks of the subtree are drained. If there is still no room, clean units of the subtree are
-// reclaimed, in at most 16 rounds. If that makes none either, and the charge is of up to 8 pages (an order of at most
-// 3), `oom` is noted. Then victims of the subtree are killed until there is room. If no victim is left, or for more
-// pages, the charge is refused as `Over`. If the requester was killed, as a victim or with one, it is refused as
-// `RequesterKilled`, after all groups that die with that victim were killed. All that was done stays.
+// Relieves the limit of `limited`, the lowest on the path of `requester` without room for this many pages. It does
+// this in order, until there is room:
+// 1. The refusal is noted (`max`), and the stocks of the subtree are drained.
+// 2. Clean units of the subtree are reclaimed, in at most 16 rounds.
+// 3. For a charge of up to 8 pages (an order of at most 3), `oom` is noted, and victims of the subtree are killed. All
+//    groups that die with a victim are killed before the next look at the limit.
+//
+// - `RequesterKilled`: the requester was killed, as a victim or with one.
+// - `Over`: there is still no room, and no victim is left, or the charge is of more than 8 pages.
+//
+// All that was done stays.
 pub(crate) fn make_room<N: BootName>(
     machine: &mut Machine<N>,
     tables: &Tables<N>,

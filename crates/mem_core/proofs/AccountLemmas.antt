@@ -1,4 +1,3 @@
--- Of the reading core, on which the program doesn't run.
 -- The accounts of the groups that are there change one after another (for `follow`).
 use Rattle.std.proofs.Common.{◌≡◌, ◌≢◌, ℕ, ◌+◌, ◌<◌, ◌||◌, Bool, true, false, cond, eqb, List, length, take, get_or, set, refl, sym, ◌∙◌}
 use Rattle.std.proofs.Common.{ap, subst, arith, inl, inr}

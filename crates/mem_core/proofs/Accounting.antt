@@ -1,4 +1,3 @@
--- Of the reading core, on which the program doesn't run.
 -- The accounts follow a step, and with them what a run says of peaks and events (for `Core::step`).
 use Rattle.std.proofs.Common.{◌≡◌, ℕ, ◌==◌, ◌||◌, Bool, true, false, Option, Some, None, List, [], refl, sym, ◌∙◌, ap, subst, inl, inr, cond, eq-eqb}
 use Rattle.std.specs.Prelude.{◌⊎◌}

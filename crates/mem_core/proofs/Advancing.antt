@@ -1,4 +1,3 @@
--- Of the reading core, on which the program doesn't run.
 -- One more step of a core (for `Core::step`).
 use Rattle.std.proofs.Common.{◌≡◌, ℕ, ◌+◌, ◌^◌, ◌<◌, refl, sym, ◌∙◌, ap, subst, arith, inl, inr}
 use Rattle.std.proofs.Common.{length-append, List, [], ◌∷◌, ◌++◌}
@@ -22,7 +21,7 @@ use Rattle.step_rules.proofs.SoundSteps.{sound_step}
 use Rattle.step_rules.proofs.Runs.{after_illegal, allowed, state_more, legal_more}
 use Rattle.core_rows.specs.Rooms.{PlacesFront, pages_asked}
 use Rattle.core_rows.proofs.Bounding.{IsBounded, bounded_step}
-use Rattle.mem_core.specs.Shown.{CoreState, Shows, AccountsTell, state_in}
+use Rattle.mem_core.specs.Shown.{CoreState, Shows, AccountsTell, state_shown}
 use Rattle.mem_core.specs.Accounts.{Account, account_after, account_of, AccountsFollow}
 use Rattle.mem_core.proofs.Accounting.{tell_more}
 use Rattle.mem_core.specs.Promise.{PlacesFirst}
@@ -66,12 +65,12 @@ follow_illegal t action answer accounts e m there =
     sym (ap (λ (x : Answer). account_after t action x m (account_of accounts m)) e ∙ account_illegal t action m (account_of accounts m))
 
 -- a core that showed a run shows it with the step and its answer
-pub shown_more : (s t : CoreState) (run : Run) (step : Step) (answer : Answer) → Shows s run → Allows (state_in s) step.seat step.action answer →
-    t.zone ≡ s.zone → t.steps ≡ s.steps + 1 → state_in t ≡ after (state_in s) step.seat step.action answer
-    → AccountsFollow (after (state_in s) step.seat step.action answer) step.action answer s.accounts t.accounts → Shows t (run ++ (step, answer) ∷ [])
+pub shown_more : (s t : CoreState) (run : Run) (step : Step) (answer : Answer) → Shows s run → Allows (state_shown s) step.seat step.action answer →
+    t.zone ≡ s.zone → t.steps ≡ s.steps + 1 → state_shown t ≡ after (state_shown s) step.seat step.action answer
+    → AccountsFollow (after (state_shown s) step.seat step.action answer) step.action answer s.accounts t.accounts → Shows t (run ++ (step, answer) ∷ [])
 shown_more s t run step answer shows ok zone steps state follow =
     let here : Allows (state_of s.zone run) step.seat step.action answer = subst (λ (x : State). Allows x step.seat step.action answer) shows.state ok in
-    let more : state_in t ≡ state_of s.zone (run ++ (step, answer) ∷ []) = state
+    let more : state_shown t ≡ state_of s.zone (run ++ (step, answer) ∷ []) = state
     ∙ ap (λ (x : State). after x step.seat step.action answer) shows.state ∙ sym (state_more s.zone run step answer) in
     record {
       legal = subst (λ (z : Zone). IsLegalRun z (run ++ (step, answer) ∷ [])) (sym zone) (legal_more s.zone run step answer shows.legal here);

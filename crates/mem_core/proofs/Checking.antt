@@ -19,7 +19,7 @@ use Rattle.core_rows.specs.Rooms.{pages_asked}
 use Rattle.core_rows.proofs.Bounding.{IsBounded}
 use Rattle.mem_core.specs.declared.verdict.Verdict.{Verdict}
 use Rattle.mem_core.specs.declared.verdict.Verdict.TheVariants.{Legal, IllegalAt}
-use Rattle.mem_core.specs.Shown.{CoreState, state_in}
+use Rattle.mem_core.specs.Shown.{CoreState, state_shown}
 use Rattle.mem_core.specs.Checked.{Leads, IsFirstIllegal}
 use Rattle.mem_core.proofs.Advancing.{sound_after, bounded_after}
 
@@ -49,14 +49,14 @@ kept n s t step made sound homed bounded small leads = record {
 pub record Follows (zone : Zone) (s : CoreState) (log : Run) (k : ℕ) : Type 0 where
   pub steps : s.steps ≡ k
   pub legal : IsLegalRun zone (take k log)
-  pub state : state_in s ≡ state_of zone (take k log)
+  pub state : state_shown s ≡ state_of zone (take k log)
 
 -- with the next step of the log
 taken : (log : Run) (k : ℕ) (e : Step × Answer) → k < length log → e ≡ get_or log k e → take (k + 1) log ≡ one_more (take k log) e.0 e.1
 taken log k e h is = take_more log k e h ∙ ap (λ (x : Step × Answer). take k log ++ x ∷ []) (sym is)
 
 pub follows_on : (zone : Zone) (s t : CoreState) (log : Run) (k : ℕ) (e : Step × Answer) → k < length log → e ≡ get_or log k e → Follows zone s log k
-    → Leads (state_in s) e.0 e.1 (state_in t) → t.steps ≡ s.steps + 1 → Follows zone t log (k + 1)
+    → Leads (state_shown s) e.0 e.1 (state_shown t) → t.steps ≡ s.steps + 1 → Follows zone t log (k + 1)
 follows_on zone s t log k e h is so_far leads one =
     let more = taken log k e h is in
     let here : Allows (state_of zone (take k log)) e.0.seat e.0.action e.1 =
@@ -69,7 +69,7 @@ follows_on zone s t log k e h is so_far leads one =
     }
 
 pub first_illegal : (zone : Zone) (s t : CoreState) (log : Run) (k : ℕ) (e : Step × Answer) (expected : Answer) → k < length log → e ≡ get_or log k e
-    → Follows zone s log k → ¬ Allows (state_in s) e.0.seat e.0.action e.1 → Leads (state_in s) e.0 expected (state_in t)
+    → Follows zone s log k → ¬ Allows (state_shown s) e.0.seat e.0.action e.1 → Leads (state_shown s) e.0 expected (state_shown t)
     → IsFirstIllegal zone log k expected
 first_illegal zone s t log k e expected h is so_far denied leads = record {
   before = so_far.legal;

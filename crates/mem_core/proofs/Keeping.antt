@@ -1,4 +1,3 @@
--- Of the reading core, on which the program doesn't run.
 -- The promise holds of what a core shows, and of each beginning of its run (for `play` and `Core::step`).
 use Rattle.std.proofs.Common.{sym, ◌∙◌, ap, subst, refl}
 use Rattle.step_rules.specs.State.{Zone, State, is_unheld}
@@ -6,10 +5,10 @@ use Rattle.step_rules.specs.After.{Run, IsLegalRun}
 use Rattle.step_rules.specs.Promise.{IsShown}
 use Rattle.step_rules.proofs.Runs.{legal_from}
 use Rattle.step_rules.proofs.Promising.{the_promise_is_kept}
-use Rattle.mem_core.specs.Shown.{CoreState, Shows, state_in, HasMaximalAreas}
+use Rattle.mem_core.specs.Shown.{CoreState, Shows, state_shown, HasMaximalAreas}
 use Rattle.mem_core.specs.Promise.{shown_of, KeepsPromise, AlwaysKeepsPromise}
 
-shown_is_shown : (s : CoreState) → HasMaximalAreas s → IsShown (state_in s) (shown_of s)
+shown_is_shown : (s : CoreState) → HasMaximalAreas s → IsShown (state_shown s) (shown_of s)
 shown_is_shown s areas = record {
   areas = areas;
   lists = λ p. refl;

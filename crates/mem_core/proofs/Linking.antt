@@ -1,40 +1,39 @@
--- Of the reading core, on which the program doesn't run.
 -- What a core shows is what its rows show (for `Core::new`, `Core::step`, the readers and `Checker`).
 use Rattle.std.proofs.Common.{◌≡◌, ℕ, ◌^◌, ◌≤◌, List, [], ◌∷◌, zero, suc, map, refl, ap, arith}
 use Rattle.std.specs.List.{slice_get}
 use Rattle.std.proofs.lemmas.Option.{slice_get_past}
 use Rattle.zone_blocks.specs.declared.block.Block.{Block}
 use Rattle.step_rules.proofs.Sound.{IsSound}
-use Rattle.core_rows.specs.declared.seat.Seat.{Seat}
+use Rattle.core_rows.specs.declared.seat.SeatRow.{SeatRow}
 use Rattle.core_rows.specs.declared.rows.Rows.{Rows}
 use Rattle.core_rows.specs.Shown.{part_of, reference_of}
 use Rattle.core_rows.specs.Shown as rows
-use Rattle.core_rows.specs.Rooms.{FitsZone, IsFew}
+use Rattle.core_rows.specs.Rooms.{FitsZone, IsBelowBounds}
 use Rattle.core_rows.proofs.Looking.{past_default}
 use Rattle.core_rows.proofs.Bounding.{IsBounded, few_from}
-use Rattle.mem_core.specs.declared.zone.Core.TheInside.{Inside}
-use Rattle.mem_core.specs.Shown.{reference_at, part_at, state_in}
+use Rattle.mem_core.specs.declared.reading_core.Core.TheInside.{Inside}
+use Rattle.mem_core.specs.Shown.{reference_at, part_at, state_shown}
 use Rattle.mem_core.specs.Accounts.{Account}
 use Rattle.mem_core.specs.Inside.{seat_shown, rows_shown, core_state}
 
-seat_found : (xs : List Seat) (k f : ℕ)
+seat_found : (xs : List SeatRow) (k f : ℕ)
     → (reference_at (slice_get (map seat_shown xs) k) f ≡ reference_of (slice_get xs k) f) ×
     (part_at (slice_get (map seat_shown xs) k) ≡ part_of (slice_get xs k))
 seat_found [] k f = (refl, refl)
 seat_found (x ∷ xs) zero f = (refl, refl)
 seat_found (x ∷ xs) (suc k) f = seat_found xs k f
 
-pub rows_are : (r : Rows) (accounts : List Account) (areas : List Block) (steps : ℕ) → state_in (rows_shown r accounts areas steps) ≡ rows.state_in r
+pub rows_are : (r : Rows) (accounts : List Account) (areas : List Block) (steps : ℕ) → state_shown (rows_shown r accounts areas steps) ≡ rows.state_in r
 rows_are r accounts areas steps = λ i. record (rows.state_in r) {
   references = λ seat f. (seat_found r.seats.items seat f).0 i;
   parts = λ p. (seat_found r.seats.items p 0).1 i;
 }
 
-pub shown_is : (c : Inside) → state_in (core_state c) ≡ rows.state_in c.rows
+pub shown_is : (c : Inside) → state_shown (core_state c) ≡ rows.state_in c.rows
 shown_is c = rows_are c.rows c.accounts.items c.areas.blocks c.steps
 
 -- rows that are sound and bounded are ready for a step
-pub ready : (r : Rows) (n : ℕ) → n ≤ 2 ^ 96 → FitsZone r → IsSound (rows.state_in r) → IsBounded n (rows.state_in r) → IsFew (rows.state_in r)
+pub ready : (r : Rows) (n : ℕ) → n ≤ 2 ^ 96 → FitsZone r → IsSound (rows.state_in r) → IsBounded n (rows.state_in r) → IsBelowBounds (rows.state_in r)
 ready r n small fits sound bounded =
     few_from n (rows.state_in r) small
     (λ p beyond. ap (λ o. (part_of o).book) (slice_get_past r.seats.items p (omega (arith, r.seats.ok.0, fits.seats, beyond))))

@@ -1,4 +1,3 @@
--- Of the reading core, on which the program doesn't run.
 -- A run so far, and one step more (for `play`).
 use Rattle.std.proofs.Common.{◌≡◌, ℕ, ◌+◌, ◌<◌, ◌≤◌, List, [], ◌∷◌, ◌++◌, length, take, get_or, refl, sym, ◌∙◌, ap, subst, arith}
 use Rattle.std.specs.List.{zip}
@@ -8,7 +7,7 @@ use Rattle.step_rules.specs.declared.step.Answer.{Answer}
 use Rattle.step_rules.specs.State.{Zone, State}
 use Rattle.step_rules.specs.After.{Run, state_of}
 use Rattle.step_rules.specs.Laws.{pushed}
-use Rattle.mem_core.specs.Shown.{CoreState, Shows, state_in, HasMaximalAreas}
+use Rattle.mem_core.specs.Shown.{CoreState, Shows, state_shown, HasMaximalAreas}
 use Rattle.mem_core.specs.Promise.{PlacesFirst, AlwaysPlacesFirst}
 use Rattle.mem_core.proofs.Pushing.{each_step_push}
 
@@ -37,7 +36,7 @@ pub PlaysOn-start : (zone : Zone) (s : CoreState) → s.zone ≡ zone → Shows 
 PlaysOn-start zone s same shows areas = record { sizes = same; shows = shows; areas = areas; first = λ k. tt }
 
 pub PlaysOn-step : (zone : Zone) (s t : CoreState) (run : Run) (step : Step) (answer : Answer) → PlaysOn zone s run
-    → PlacesFirst (state_in s) step.action answer → t.zone ≡ s.zone → Shows t (pushed run step answer)
+    → PlacesFirst (state_shown s) step.action answer → t.zone ≡ s.zone → Shows t (pushed run step answer)
     → HasMaximalAreas t → PlaysOn zone t (pushed run step answer)
 PlaysOn-step zone s t run step answer so_far smallest same shows areas = record {
   sizes = same ∙ so_far.sizes;

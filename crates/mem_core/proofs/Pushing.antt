@@ -1,4 +1,3 @@
--- Of the reading core, on which the program doesn't run.
 -- One more pair at the end of a run (for `play`).
 use Rattle.std.proofs.Common.{◌≡◌, ℕ, ◌<◌, Some, List, [], ◌∷◌, ◌++◌, length, take, refl, arith, inl, inr, length-append, IfSome, zero, suc}
 use Rattle.std.specs.List.{slice_get}

@@ -1,5 +1,4 @@
--- Part of the reading core, on which the program doesn't run. What is counted for each group: its peak (memory.peak)
--- and its events (memory.events, memory.events.local).
+-- What is counted for each group: its peak (memory.peak) and its events (memory.events, memory.events.local).
 use Rattle.std.specs.Prelude.{◌≡◌, ◌^◌, ◌<◌, ◌==◌, ℕ, Bool, true, List, All, Option, Some, None, if◌then◌else◌}
 use Rattle.std.specs.List.{slice_index_or}
 use Rattle.group_tree.specs.declared.event.EventKey.{EventKey}
@@ -31,7 +30,8 @@ with_note test (Some note) events = if test note.1 then with_one_more note.0 eve
 -- the counts of group g after one more step: the step's event is added if its group passes the test; a group that the
 -- step makes has no event
 abbrev pub events_after : (ℕ → Bool) → ℕ → Action → Answer → EventCounts → EventCounts
-events_after test g step answer events = if makes_group g step answer then no_events else with_note test (note_of step answer) events
+events_after test g step answer events = if makes_group g step answer then no_events else with_note test
+    (note_of step answer) events
 
 -- the account of group g after one more step, which led to state t
 abbrev pub account_after : State → Action → Answer → ℕ → Account → Account
@@ -43,7 +43,8 @@ account_after t step answer g account = record {
 
 -- the account of each existing group is that after the step
 abbrev pub AccountsFollow : State → Action → Answer → List Account → List Account → Type 0
-AccountsFollow t step answer old new = (m : ℕ) → has_group t.groups m ≡ true → account_of new m ≡ account_after t step answer m (account_of old m)
+AccountsFollow t step answer old new = (m : ℕ) → has_group t.groups m ≡ true
+    → account_of new m ≡ account_after t step answer m (account_of old m)
 
 -- each peak is below 2^104
 abbrev pub HaveSmallPeaks : List Account → Type 0

@@ -1,4 +1,4 @@
--- Part of the reading core, on which the program doesn't run. What a core stores, and how a contract sees it.
+-- What a core stores, and how a contract sees it.
 use Rattle.std.specs.Prelude.{◌≡◌, ℕ, ◌*◌, ◌^◌, ◌<◌, ◌≤◌, List, map, vec_len, vec_capacity}
 use Rattle.group_tree.specs.Bounds.{most_groups}
 use Rattle.zone_blocks.specs.declared.block.Block.{Block}
@@ -6,17 +6,17 @@ use Rattle.zone_blocks.specs.Areas.{AreMaximalBlocks}
 use Rattle.step_rules.specs.State.{free_in}
 use Rattle.step_rules.proofs.Sound.{IsSound}
 use Rattle.step_rules.proofs.Homes.{IsHomed}
-use Rattle.core_rows.specs.declared.seat.Seat.{Seat}
+use Rattle.core_rows.specs.declared.seat.SeatRow.{SeatRow}
 use Rattle.core_rows.specs.declared.rows.Rows.{Rows}
 use Rattle.core_rows.specs.Shown.{state_in, part_in}
 use Rattle.core_rows.specs.Rooms.{FitsZone}
 use Rattle.core_rows.proofs.Bounding.{IsBounded}
-use Rattle.mem_core.specs.declared.zone.Core.TheInside.{Inside}
+use Rattle.mem_core.specs.declared.reading_core.Core.TheInside.{Inside}
 use Rattle.mem_core.specs.Accounts.{Account, HaveSmallPeaks}
 use Rattle.mem_core.specs.Shown.{SeatState, CoreState}
 
 -- what a contract sees of a seat: its references and its part
-abbrev pub seat_shown : Seat → SeatState
+abbrev pub seat_shown : SeatRow → SeatState
 seat_shown s = record { references = s.references.items; part = part_in s }
 
 -- the core state that these rows show, with these accounts and areas, after this many steps

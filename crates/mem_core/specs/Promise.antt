@@ -1,5 +1,4 @@
--- Part of the reading core, on which the program doesn't run. What a core guarantees over a run: the promise of
--- `step_rules`, and which free block it places.
+-- What a core guarantees over a run: the promise of `step_rules`, and which free block it places.
 use Rattle.std.specs.Prelude.{◌≡◌, ℕ, true, List, take, slice_get, IfSome}
 use Rattle.zone_blocks.specs.declared.block.Block.{Block}
 use Rattle.zone_blocks.specs.Areas.{AreMaximalBlocks, IsFrontOfSmallest}
@@ -12,17 +11,17 @@ use Rattle.step_rules.specs.State.{Zone, State, is_unheld, free_in}
 use Rattle.step_rules.specs.Usage.{usage_of}
 use Rattle.step_rules.specs.After.{Run, state_of}
 use Rattle.step_rules.specs.Promise.{Shown, IsShown, Promise}
-use Rattle.mem_core.specs.Shown.{CoreState, state_in}
+use Rattle.mem_core.specs.Shown.{CoreState, state_shown}
 
 -- what a core shows, in the terms of the promise; `current` is what its reader of that name returns
 abbrev pub shown_of : CoreState → Shown
 shown_of s = record {
   areas = s.areas;
-  lists = λ p. ((state_in s).parts p).list;
-  keeper = λ f. keeper_of ((state_in s).phases f);
+  lists = λ cpu. ((state_shown s).parts cpu).list;
+  keeper = λ f. keeper_of ((state_shown s).phases f);
   groups = s.groups;
-  stocks = λ p. ((state_in s).parts p).stock;
-  current = usage_of (state_in s);
+  stocks = λ cpu. ((state_shown s).parts cpu).stock;
+  current = usage_of (state_shown s);
 }
 
 -- if the core's lock is free, the promise holds of what the core shows
@@ -37,9 +36,11 @@ AlwaysKeepsPromise zone run = (k : ℕ) → is_unheld (state_of zone (take k run
 -- a placed block begins at the first frame of the smallest maximal free block of its order or above (Knuth: the least
 -- sufficient order is split)
 abbrev pub PlacesFirst : State → Action → Answer → Type 0
-PlacesFirst s (PlaceBlock g k) (Placed b) = (areas : List Block) → AreMaximalBlocks (free_in s.zone s.phases) areas → IsFrontOfSmallest areas k b
+PlacesFirst s (PlaceBlock g k) (Placed b) = (areas : List Block) → AreMaximalBlocks (free_in s.zone s.phases) areas
+    → IsFrontOfSmallest areas k b
 PlacesFirst s action answer = Unit {0}
 
 -- each step of the run that places a block places that one
 abbrev pub AlwaysPlacesFirst : Zone → Run → Type 0
-AlwaysPlacesFirst zone run = (k : ℕ) → IfSome (slice_get run k) (λ e. PlacesFirst (state_of zone (take k run)) e.0.action e.1)
+AlwaysPlacesFirst zone run = (k : ℕ)
+    → IfSome (slice_get run k) (λ e. PlacesFirst (state_of zone (take k run)) e.0.action e.1)

@@ -1,4 +1,4 @@
--- Part of the reading core, on which the program doesn't run. What a core shows, and the state of which runs.
+-- What a core shows, and the state of which runs.
 use Rattle.std.specs.Prelude.{◌≡◌, ℕ, Bool, true, false, Option, Some, None, List, length}
 use Rattle.std.specs.List.{slice_get, slice_index_or}
 use Rattle.zone_blocks.specs.declared.block.Block.{Block}
@@ -52,22 +52,23 @@ part_at None = no_part
 part_at (Some s) = s.part
 
 -- the state of the rules that a core represents; beyond the end of each list it has the values of a new boot
-abbrev pub state_in : CoreState → State
-state_in s = record {
+abbrev pub state_shown : CoreState → State
+state_shown s = record {
   zone = s.zone;
   hold = s.hold;
   groups = s.groups;
   killed = λ g. slice_index_or s.killed g false;
   phases = λ f. slice_index_or s.phases f InZone;
   references = λ seat f. reference_at (slice_get s.seats seat) f;
-  parts = λ p. part_at (slice_get s.seats p);
+  parts = λ cpu. part_at (slice_get s.seats cpu);
   pending = λ g. slice_index_or s.pending g 0;
 }
 
 -- for each existing group the accounts have the peak and the event counts that the run defines
 pub record AccountsTell (zone : Zone) (run : Run) (accounts : List Account) : Type 0 where
   pub peaks : (g : ℕ) → has_group (state_of zone run).groups g ≡ true → IsPeak zone run g (account_of accounts g).peak
-  pub events : (key : EventKey) (g : ℕ) → has_group (state_of zone run).groups g ≡ true → count_of (account_of accounts g).events key ≡ events_of key zone run g
+  pub events : (key : EventKey) (g : ℕ) → has_group (state_of zone run).groups g ≡ true
+      → count_of (account_of accounts g).events key ≡ events_of key zone run g
   pub events_local : (key : EventKey) (g : ℕ) → has_group (state_of zone run).groups g ≡ true
       → count_of (account_of accounts g).events_local key ≡ events_local_of key zone run g
 
@@ -75,9 +76,9 @@ pub record AccountsTell (zone : Zone) (run : Run) (accounts : List Account) : Ty
 pub record Shows (s : CoreState) (run : Run) : Type 0 where
   pub legal : IsLegalRun s.zone run
   pub steps : s.steps ≡ length run
-  pub state : state_in s ≡ state_of s.zone run
+  pub state : state_shown s ≡ state_of s.zone run
   pub accounts : AccountsTell s.zone run s.accounts
 
 -- the free areas are the maximal blocks of the free frames
 abbrev pub HasMaximalAreas : CoreState → Type 0
-HasMaximalAreas s = AreMaximalBlocks (free_in s.zone (state_in s).phases) s.areas
+HasMaximalAreas s = AreMaximalBlocks (free_in s.zone (state_shown s).phases) s.areas

@@ -1,9 +1,9 @@
-//! Part of the reading core, on which the program doesn't run: the account of one group number.
+//! The account of one group number.
 
 use group_tree::event::EventCounts;
 
 /// The account of a group: its peak and its event counts since it was made.
-#[derive(Clone, Copy, Debug, PartialEq, Eq)]
+#[derive(Clone, Copy, PartialEq, Eq)]
 pub struct Account {
     /// The greatest usage, in pages (memory.peak).
     pub peak: u128,

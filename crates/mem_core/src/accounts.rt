@@ -1,11 +1,12 @@
-//! Part of the reading core, on which the program doesn't run: how a step changes the accounts of the groups.
+//! How a step changes the accounts of the groups: to the peaks and event counts that the rules give.
 
 ghost use Rattle.std.specs.Prelude.{◌≡◌, ◌^◌, ◌<◌, ◌==◌, IfOk, vec_len, replicate};
 ghost use Rattle.step_rules.specs.Peaks.{peak_follows};
 ghost use Rattle.step_rules.specs.Events.{makes_group, note_of};
 ghost use Rattle.core_rows.specs.Shown.{state_in};
-ghost use Rattle.core_rows.specs.Rooms.{FitsZone, IsFew};
-ghost use Rattle.mem_core.specs.Accounts.{new_account, account_after, events_after, AccountsFollow, HaveSmallPeaks, granted_to};
+ghost use Rattle.core_rows.specs.Rooms.{FitsZone, IsBelowBounds};
+ghost use Rattle.mem_core.specs.Accounts.{new_account, account_after, events_after, AccountsFollow, HaveSmallPeaks};
+ghost use Rattle.mem_core.specs.Accounts.{granted_to};
 ghost use Rattle.group_tree.specs.Bounds.{most_groups};
 ghost use Rattle.group_tree.specs.Groups.{in_subtree};
 
@@ -116,7 +117,7 @@ fn granted_to(action: &Action, answer: &Answer) -> Option<GroupId>
 
 fn peak_after(rows: &Rows, action: &Action, answer: &Answer, group: GroupId, peak: u128) -> u128
     requires fits { FitsZone rows.now }
-    requires few { IsFew (state_in rows.now) }
+    requires bounded { IsBelowBounds (state_in rows.now) }
     requires small { peak < 2 ^ 104 }
     ensures peak { result ≡ peak_follows (state_in rows.now) action.now answer.now group peak }
     ensures small { result < 2 ^ 104 }
@@ -138,7 +139,7 @@ fn account_after(
     account: Account,
 ) -> Account
     requires fits { FitsZone rows.now }
-    requires few { IsFew (state_in rows.now) }
+    requires bounded { IsBelowBounds (state_in rows.now) }
     requires small { account.peak < 2 ^ 104 }
     ensures account { result ≡ account_after (state_in rows.now) action.now answer.now group account }
     ensures small { result.peak < 2 ^ 104 }
@@ -153,7 +154,7 @@ fn account_after(
 /// Updates the account of each existing group for the step that led to these rows.
 pub(crate) fn follow(rows: &Rows, action: &Action, answer: &Answer, accounts: &mut Vec<Account>)
     requires fits { FitsZone rows.now }
-    requires few { IsFew (state_in rows.now) }
+    requires bounded { IsBelowBounds (state_in rows.now) }
     requires length { vec_len accounts.old ≡ most_groups }
     requires small { HaveSmallPeaks accounts.old.items }
     ensures length { vec_len accounts.new ≡ most_groups }

@@ -6,9 +6,9 @@ ghost use Rattle.step_rules.specs.Legal.{Allows};
 ghost use Rattle.step_rules.specs.Answers.{IsPlacing};
 ghost use Rattle.step_rules.specs.declared.step.Answer.TheVariants.{Placed};
 ghost use Rattle.group_tree.specs.Groups.{AreGroups};
-ghost use Rattle.core_rows.specs.Shown as rows_shown;
-ghost use Rattle.core_rows.specs.Rooms.{FitsZone, IsFew};
-ghost use Rattle.mem_core.specs.Shown.{state_in, zone_of};
+ghost use Rattle.core_rows.specs.Shown.{state_in};
+ghost use Rattle.core_rows.specs.Rooms.{FitsZone, IsBelowBounds};
+ghost use Rattle.mem_core.specs.Shown.{state_shown, zone_of};
 ghost use Rattle.mem_core.specs.Checked.{Leads};
 ghost use Rattle.zone_sizes.specs.Config.{IsValidConfig};
 
@@ -56,10 +56,10 @@ fn is_same(one: &Answer, other: &Answer) -> bool
 // Makes a step with an answer of the core's own choice. It computes the free areas only for a placing.
 fn serve_anew(rows: &mut Rows, free: &mut Vec<bool>, areas: &mut FreeAreas, step: &Step) -> Answer
     requires fits { FitsZone rows.old }
-    requires few { IsFew (rows_shown.state_in rows.old) }
+    requires bounded { IsBelowBounds (state_in rows.old) }
     requires frames { areas.old.frames ≡ rows.old.frames }
     requires room { rows.old.frames ≤ vec_capacity free.old }
-    ensures leads { Leads (rows_shown.state_in rows.old) step.now result (rows_shown.state_in rows.new) }
+    ensures leads { Leads (state_in rows.old) step.now result (state_in rows.new) }
     ensures fits { FitsZone rows.new }
     ensures frames { areas.new.frames ≡ areas.old.frames }
     ensures room { vec_capacity free.new ≡ vec_capacity free.old }
@@ -82,12 +82,15 @@ fn take_placing(
     block: &Block,
 ) -> Result<(), Answer>
     requires fits { FitsZone rows.old }
-    requires few { IsFew (rows_shown.state_in rows.old) }
+    requires bounded { IsBelowBounds (state_in rows.old) }
     requires frames { areas.old.frames ≡ rows.old.frames }
     requires room { rows.old.frames ≤ vec_capacity free.old }
-    ensures accepted { OnOk result (Leads (rows_shown.state_in rows.old) step.now (Placed block.now) (rows_shown.state_in rows.new)) }
-    ensures refused { IfErr result (λ expected. Leads (rows_shown.state_in rows.old) step.now expected (rows_shown.state_in rows.new)) }
-    ensures denied { OnErr result (¬ Allows (rows_shown.state_in rows.old) step.now.seat step.now.action (Placed block.now)) }
+    ensures accepted { OnOk result (Leads (state_in rows.old) step.now (Placed block.now)
+        (state_in rows.new)) }
+    ensures refused { IfErr result (λ expected. Leads (state_in rows.old) step.now expected
+        (state_in rows.new)) }
+    ensures denied { OnErr result (¬ Allows (state_in rows.old) step.now.seat step.now.action
+        (Placed block.now)) }
     ensures fits { FitsZone rows.new }
     ensures frames { areas.new.frames ≡ areas.old.frames }
     ensures room { vec_capacity free.new ≡ vec_capacity free.old }
@@ -107,14 +110,16 @@ fn take_other(
     answer: &Answer,
 ) -> Result<(), Answer>
     requires fits { FitsZone rows.old }
-    requires few { IsFew (rows_shown.state_in rows.old) }
+    requires bounded { IsBelowBounds (state_in rows.old) }
     requires groups { AreGroups rows.old.tree }
     requires frames { areas.old.frames ≡ rows.old.frames }
     requires room { rows.old.frames ≤ vec_capacity free.old }
     requires other { ¬ IsPlacing answer.now }
-    ensures accepted { OnOk result (Leads (rows_shown.state_in rows.old) step.now answer.now (rows_shown.state_in rows.new)) }
-    ensures refused { IfErr result (λ expected. Leads (rows_shown.state_in rows.old) step.now expected (rows_shown.state_in rows.new)) }
-    ensures denied { OnErr result (¬ Allows (rows_shown.state_in rows.old) step.now.seat step.now.action answer.now) }
+    ensures accepted { OnOk result (Leads (state_in rows.old) step.now answer.now
+        (state_in rows.new)) }
+    ensures refused { IfErr result (λ expected. Leads (state_in rows.old) step.now expected
+        (state_in rows.new)) }
+    ensures denied { OnErr result (¬ Allows (state_in rows.old) step.now.seat step.now.action answer.now) }
     ensures fits { FitsZone rows.new }
     ensures frames { areas.new.frames ≡ areas.old.frames }
     ensures room { vec_capacity free.new ≡ vec_capacity free.old }
@@ -135,13 +140,15 @@ fn take(
     answer: &Answer,
 ) -> Result<(), Answer>
     requires fits { FitsZone rows.old }
-    requires few { IsFew (rows_shown.state_in rows.old) }
+    requires bounded { IsBelowBounds (state_in rows.old) }
     requires groups { AreGroups rows.old.tree }
     requires frames { areas.old.frames ≡ rows.old.frames }
     requires room { rows.old.frames ≤ vec_capacity free.old }
-    ensures accepted { OnOk result (Leads (rows_shown.state_in rows.old) step.now answer.now (rows_shown.state_in rows.new)) }
-    ensures refused { IfErr result (λ expected. Leads (rows_shown.state_in rows.old) step.now expected (rows_shown.state_in rows.new)) }
-    ensures denied { OnErr result (¬ Allows (rows_shown.state_in rows.old) step.now.seat step.now.action answer.now) }
+    ensures accepted { OnOk result (Leads (state_in rows.old) step.now answer.now
+        (state_in rows.new)) }
+    ensures refused { IfErr result (λ expected. Leads (state_in rows.old) step.now expected
+        (state_in rows.new)) }
+    ensures denied { OnErr result (¬ Allows (state_in rows.old) step.now.seat step.now.action answer.now) }
     ensures fits { FitsZone rows.new }
     ensures frames { areas.new.frames ≡ areas.old.frames }
     ensures room { vec_capacity free.new ≡ vec_capacity free.old }
@@ -157,7 +164,7 @@ impl Checker {
     /// that its steps need. Of the sizes only the frames and the CPUs matter.
     pub fn new(alloc: Global, config: Config) -> Result<Checker, AllocError>
         requires { IsValidConfig config }
-        ensures state { IfOk result (λ checker. state_in checker ≡ at_boot (zone_of config)) }
+        ensures state { IfOk result (λ checker. state_shown checker ≡ at_boot (zone_of config)) }
         ensures steps { IfOk result (λ checker. checker.steps ≡ 0) }
     {
         let rows = Rows::new(alloc, config.frames, config.cpus)?;
@@ -185,9 +192,10 @@ impl Checker {
     /// 2^64 - 1 steps.
     pub fn accept(&mut self, step: &Step, answer: &Answer) -> Result<(), Answer>
         requires { self.old.steps + 1 < 2 ^ 64 }
-        ensures accepted { OnOk result (Leads (state_in self.old) step.now answer.now (state_in self.new)) }
-        ensures refused { IfErr result (λ expected. Leads (state_in self.old) step.now expected (state_in self.new)) }
-        ensures denied { OnErr result (¬ Allows (state_in self.old) step.now.seat step.now.action answer.now) }
+        ensures accepted { OnOk result (Leads (state_shown self.old) step.now answer.now (state_shown self.new)) }
+        ensures refused { IfErr result (λ expected. Leads (state_shown self.old) step.now expected
+            (state_shown self.new)) }
+        ensures denied { OnErr result (¬ Allows (state_shown self.old) step.now.seat step.now.action answer.now) }
         ensures steps { self.new.steps ≡ self.old.steps + 1 }
     {
         // This borrow brings in the bound on the pages that a step can ask for.

@@ -1,4 +1,4 @@
-//! Part of the reading core, on which the program doesn't run: the free areas, computed anew from the free frames.
+//! The free areas, computed anew from the free frames.
 
 ghost use Rattle.std.specs.Prelude.{◌≡◌, ◌≤◌, vec_capacity};
 ghost use Rattle.zone_blocks.specs.Areas.{AreMaximalBlocks};

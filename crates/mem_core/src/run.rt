@@ -1,4 +1,4 @@
-//! Part of the reading core, on which the program doesn't run: whole runs, and the promise for every list of steps.
+//! Whole runs: the steps of any list get answers of a legal run, which keeps the promise.
 
 ghost use Rattle.std.specs.Prelude.{◌≡◌, ◌≤◌, IfOk, length};
 ghost use Rattle.std.specs.List.{zip};
@@ -7,7 +7,7 @@ ghost use Rattle.mem_core.specs.Shown.{Shows, zone_of, HasMaximalAreas};
 ghost use Rattle.mem_core.specs.Promise.{KeepsPromise, AlwaysKeepsPromise, AlwaysPlacesFirst};
 ghost use Rattle.zone_sizes.specs.Config.{IsValidConfig};
 
-use crate::zone::Core;
+use crate::reading_core::Core;
 use std::alloc::{AllocError, Global};
 use step_rules::step::{Answer, Step};
 use zone_sizes::config::Config;

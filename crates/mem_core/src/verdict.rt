@@ -3,7 +3,7 @@
 use step_rules::step::Answer;
 
 /// The verdict of a check on a log.
-#[derive(Clone, Copy, Debug, PartialEq, Eq)]
+#[derive(Clone, Copy, PartialEq, Eq)]
 pub enum Verdict {
     /// The log is a legal run.
     Legal,

@@ -3,7 +3,7 @@
 use Rattle.std.proofs.Common.{◌≡◌, ℕ, ◌==◌, Bool, true, false, cond, List, [], refl, sym, ◌∙◌, ap, subst, zero, suc, get_or, replicate}
 use Rattle.frame_word.specs.Views.{blank}
 use Rattle.frame_word.specs.Seats.{KnownTable, KnownSeat, holds, first_cpu_view}
-use Rattle.stock_word.specs.Stock.{Words, Seated, account_of, first_processor}
+use Rattle.stock_word.specs.Stock.{KnownStockTable, KnownStockSeat, account_of, first_cpu_stock}
 use Rattle.group_charge.specs.Charges.{Ledger}
 use Rattle.cpu_part.specs.Cpus.{KnownCpu, first_cpu}
 use Rattle.step_rules.specs.State.{at_boot, no_part}
@@ -34,12 +34,12 @@ same_either : {X : Type 0} (b : Bool) (x : X) → cond b x x ≡ x
 same_either true x = refl
 same_either false x = refl
 
-module _ (t : KnownTable) (w : Words) (m : KnownMachine) (first : IsFirst t w m) (k : ℕ) where
+module _ (t : KnownTable) (w : KnownStockTable) (m : KnownMachine) (first : IsFirst t w m) (k : ℕ) where
   abbrev p : ℕ
   p = suc k
 
   abbrev c : KnownCpu
-  c = first_cpu (record { table = t.table; view = first_cpu_view p }) (record { table = w.table; view = first_processor p })
+  c = first_cpu (record { table = t.table; view = first_cpu_view p }) (record { table = w.table; view = first_cpu_stock p })
 
   references_first : (q f : ℕ) → references_of m.frame_seat c q f ≡ 0
   references_first q f =
@@ -50,7 +50,7 @@ module _ (t : KnownTable) (w : Words) (m : KnownMachine) (first : IsFirst t w m)
   hidden_first q f = same_either _ 0
 
   part_first : (q : ℕ) → part_of m.stock_seat c q ≡ no_part
-  part_first q = same_either (q == p) (part_with [] [] [] (account_of m.stock_seat.view q)) ∙ ap (λ (s : Seated). part_with [] [] [] (account_of s.view q)) first.stock_seat
+  part_first q = same_either (q == p) (part_with [] [] [] (account_of m.stock_seat.view q)) ∙ ap (λ (s : KnownStockSeat). part_with [] [] [] (account_of s.view q)) first.stock_seat
 
   boot_seen : local_of t m c ≡ seen_by p (at_boot (zone_of t))
   boot_seen = λ i. record {

@@ -4,7 +4,7 @@ use Rattle.std.specs.List.{slice_get}
 use Rattle.std.proofs.lemmas.Bool.{cases_Bool, cases_lt}
 use Rattle.frame_word.specs.Views.{note_of}
 use Rattle.frame_word.specs.Seats.{KnownTable, LentIsBorrowed}
-use Rattle.stock_word.specs.Stock.{Words, account_of}
+use Rattle.stock_word.specs.Stock.{KnownStockTable, account_of}
 use Rattle.stock_word.specs.Stock as stocks
 use Rattle.group_charge.specs.Charges.{AreCharges, current_of}
 use Rattle.cpu_part.specs.Cpus as parts
@@ -65,7 +65,7 @@ lent_at p (phase.Tail g) e = absurd (let no : phase.Tail g ≡ phase.Lent p OnLi
 lent_at p (phase.Head u (BackAt q)) e = cc
 lent_at p (phase.Head u stage) e = cc
 
-module _ (t : KnownTable) (w : Words) (run : Run) (m : KnownMachine) (cpus : List KnownCpu) (k : ℕ) (c : KnownCpu) (shows : ShowsAll t run m cpus)
+module _ (t : KnownTable) (w : KnownStockTable) (run : Run) (m : KnownMachine) (cpus : List KnownCpu) (k : ℕ) (c : KnownCpu) (shows : ShowsAll t run m cpus)
     (is_part : slice_get cpus k ≡ Some c) (is : IsConsistent t w m) (tied : IsTiedPart t w c) where
   abbrev whole : State
   whole = state_of (zone_of t) run

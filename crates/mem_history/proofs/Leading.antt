@@ -11,7 +11,7 @@ use Rattle.frame_word.specs.Views as views
 use Rattle.frame_word.specs.Seats.{KnownTable, KnownSeat, holds, seat_with}
 use Rattle.frame_word.proofs.Notes.{note_here, note_else}
 use Rattle.stock_word.specs.declared.view.Stock.{Stock}
-use Rattle.stock_word.specs.Stock.{Words, Seated, account_of}
+use Rattle.stock_word.specs.Stock.{KnownStockTable, KnownStockSeat, account_of}
 use Rattle.stock_word.specs.Stock as stocks
 use Rattle.stock_word.specs.Calls.{with_view}
 use Rattle.cpu_part.specs.Calls.{UnpinAnswers}
@@ -119,7 +119,7 @@ module _ (t : KnownTable) (m : KnownMachine) (c d : KnownCpu) (named : d.number 
     | inr ne ↦ other_shown t m d q (λ z. ne (z ∙ named)) ∙ sym (other_shown t m c q ne) ∙ sym (at_other (part_of m.stock_seat c) p P q ne)
   ]
 
-module _ (t : KnownTable) (w : Words) (run : Run) (m : KnownMachine) (cpus : List KnownCpu) (k : ℕ) (c : KnownCpu) (is : IsPart t w run m cpus k c) where
+module _ (t : KnownTable) (w : KnownStockTable) (run : Run) (m : KnownMachine) (cpus : List KnownCpu) (k : ℕ) (c : KnownCpu) (is : IsPart t w run m cpus k c) where
   abbrev q : ℕ
   q = c.number
 
@@ -315,7 +315,7 @@ module _ (t : KnownTable) (w : Words) (run : Run) (m : KnownMachine) (cpus : Lis
   other_phase d x (Lent r) named back group fresh =
       λ i. cond (r == named i && nat_le 1 (fresh i)) (phase.Head (record { group = group i; order = 0 }) (FreshAt r)) (phase.Lent r OnList)
 
-  leads_took : (d : KnownCpu) (g f : ℕ) (rest : List ℕ) (stock : Seated) → c.list ≡ f ∷ rest → length c.fresh < 32 →
+  leads_took : (d : KnownCpu) (g f : ℕ) (rest : List ℕ) (stock : KnownStockSeat) → c.list ≡ f ∷ rest → length c.fresh < 32 →
       d ≡ record c { list = rest; fresh = c.fresh ++ f ∷ []; stock_seat = stock } →
       number_or_0 (stocks.group_of c.stock_seat.view.last) ≡ g → number_or_0 (stocks.group_of stock.view.last) ≡ g →
       IsAnswer (local_of t m c) q (Consume g) Took → LeadsAs t c.number (visit_state m c) (cpu_makes q (Consume g) Took ∷ []) (visit_state m d)
@@ -370,7 +370,7 @@ module _ (t : KnownTable) (w : Words) (run : Run) (m : KnownMachine) (cpus : Lis
         counts = refl;
       })
 
-  leads_listed : (d : KnownCpu) (f i : ℕ) (stock : Seated) (drops : ℕ) → i < length c.fresh → get_or c.fresh i 0 ≡ f →
+  leads_listed : (d : KnownCpu) (f i : ℕ) (stock : KnownStockSeat) (drops : ℕ) → i < length c.fresh → get_or c.fresh i 0 ≡ f →
       d ≡ record c { list = c.list ++ f ∷ []; fresh = remove c.fresh i; stock_seat = stock; drops = drops } →
       stocks.group_of stock.view.last ≡ stocks.group_of c.stock_seat.view.last →
       IsAnswer (local_of t m c) q (Credit f) Back → LeadsAs t c.number (visit_state m c) (cpu_makes q (Credit f) Back ∷ []) (visit_state m d)
@@ -473,7 +473,7 @@ fast_calls_lead = record {
         let here = times_same f in
         omega arith
 
-    puts : (t : KnownTable) (w : Words) (run : Run) (m : KnownMachine) (cpus : List KnownCpu) (k : ℕ) (c d : KnownCpu) → IsPart t w run m cpus k c →
+    puts : (t : KnownTable) (w : KnownStockTable) (run : Run) (m : KnownMachine) (cpus : List KnownCpu) (k : ℕ) (c d : KnownCpu) → IsPart t w run m cpus k c →
         (f : ℕ) (answer : Putted) → UnpinAnswers f answer c d → LeadsAs t c.number (visit_state m c) (cpu_makes c.number (Put f) (put_answer answer) ∷ []) (visit_state m d)
     puts t w run m cpus k c d is f (put.Left n) answers =
         leads_left t w run m cpus k c is d f n (pin_there f c d answers.0) d.pins answers.1 answers.2.2 answers.3

@@ -6,7 +6,7 @@ use Rattle.std.specs.Option.{option_map_or}
 use Rattle.std.proofs.lemmas.Bool.{cases_lt, cases_Bool, true≢false, and_from, and_left, and_right, le-leb, leb-true, cond-true, cond-false}
 use Rattle.std.proofs.lemmas.Option.{slice_get_past}
 use Rattle.frame_word.specs.Seats.{KnownTable}
-use Rattle.stock_word.specs.Stock.{Words, account_of}
+use Rattle.stock_word.specs.Stock.{KnownStockTable, account_of}
 use Rattle.group_charge.specs.Charges.{AreCharges}
 use Rattle.zone_blocks.specs.Areas.{AreMaximalBlocks}
 use Rattle.cpu_part.specs.Cpus as parts
@@ -101,7 +101,7 @@ any_head_plain (Lent r) u stage e = cc
 any_head_plain (Head unit) u stage e = cc
 any_head_plain (Tail g) u stage e = cc
 
-module _ (t : KnownTable) (w : Words) (run : Run) (m : KnownMachine) (cpus : List KnownCpu) (shows : ShowsAll t run m cpus)
+module _ (t : KnownTable) (w : KnownStockTable) (run : Run) (m : KnownMachine) (cpus : List KnownCpu) (shows : ShowsAll t run m cpus)
     (is : IsConsistent t w m) (charges : AreCharges m.ledger) (tied : AreTied t w cpus) (some : 1 ≤ t.cpus) where
   abbrev zone : Zone
   zone = zone_of t

@@ -20,7 +20,7 @@ use Rattle.step_rules.specs.declared.step.Answer.{Answer}
 use Rattle.step_rules.specs.declared.step.Answer.TheVariants.{Done}
 use Rattle.step_rules.specs.Phases.{is_passing}
 use Rattle.step_rules.specs.State.{Zone, State, is_cpu, is_held_by}
-use Rattle.step_rules.specs.Legal.{IsCounted, is_legal, is_settled, no_frame_passes}
+use Rattle.step_rules.specs.Legal.{IsCounted, is_legal, no_page_pends, no_frame_passes}
 use Rattle.step_rules.specs.After.{Run, state_of, IsLegalRun}
 use Rattle.step_rules.specs.Cover.{hide, holds_lock}
 use Rattle.step_rules.specs.Laws.{ShowsLocal, pushed}
@@ -78,7 +78,7 @@ may_unlock t m c cpu shut =
     let s = local_of t m c in
     let held : is_held_by c.number (hold_of m.frame_seat c.number) ≡ true =
     ap (is_held_by c.number) (hold_shut m.frame_seat c.number shut) ∙ eq-eqb c.number c.number refl in
-    let settled : is_settled s ≡ true = all_each 64 (λ g. s.pending g == 0) (λ g below. eq-eqb (s.pending g) 0 refl) in
+    let settled : no_page_pends s ≡ true = all_each 64 (λ g. s.pending g == 0) (λ g below. eq-eqb (s.pending g) 0 refl) in
     let still : no_frame_passes s ≡ true =
     all_each t.frames (λ f. not (is_passing (s.phases f))) (λ f below. ap not (phase_still c f (frame_state_at m.frame_states f))) in
     and_from _ _ (and_from _ _ (and_from _ _ cpu held) settled) still

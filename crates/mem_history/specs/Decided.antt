@@ -15,7 +15,8 @@ use Rattle.mem_history.specs.Whole.{ShowsAll, AreDecided, under_lock, is_fast}
 -- Suppose a run shows the whole, and continues legally with the steps of a line under the lock. Then each of these
 -- steps was answered as all parts together decide.
 abbrev pub LegalLinesAreDecided : Type 0
-LegalLinesAreDecided = (table : KnownTable) (run : Run) (cpus : List KnownCpu) (index : ℕ) (before : VisitState) (steps : Run)
+LegalLinesAreDecided = (table : KnownTable) (run : Run) (cpus : List KnownCpu) (index : ℕ) (before : VisitState)
+    (steps : Run)
     (after : VisitState) → ShowsAll table run before.machine cpus → slice_get cpus index ≡ Some before.cpu
     → Makes table before steps after → IsLegalRun (zone_of table) (run ++ under_lock before.cpu.number steps)
     → AreDecided table cpus before steps

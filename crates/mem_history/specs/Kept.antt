@@ -3,7 +3,7 @@ use Rattle.std.specs.Prelude.{◌≡◌, ℕ, ◌+◌, ◌≤◌, nat_le, zero, 
 use Rattle.std.specs.Prelude.{length, slice_get, if◌then◌else◌}
 use Rattle.std.specs.Option.{option_map_or}
 use Rattle.frame_word.specs.Seats.{KnownTable, first_cpu_view}
-use Rattle.stock_word.specs.Stock.{Words, account_of, first_processor, group_of}
+use Rattle.stock_word.specs.Stock.{KnownStockTable, account_of, first_cpu_stock, group_of}
 use Rattle.group_charge.specs.Charges.{AreCharges, current_of}
 use Rattle.cpu_part.specs.Cpus.{KnownCpu, IsTied, first_cpu, times}
 use Rattle.step_rules.specs.declared.step.Action.TheVariants.{Lock}
@@ -24,45 +24,48 @@ use Rattle.mem_history.specs.Whole.{ShowsAll}
 -- ---- a new boot
 
 -- the machine of a new boot, and the parts of its CPUs in order, none of which has made a step
-pub record IsNewBoot (table : KnownTable) (words : Words) (first : KnownMachine) (cpus : List KnownCpu) : Type 0 where
-  pub machine : IsFirst table words first
+pub record IsNewBoot (table : KnownTable) (stock_table : KnownStockTable) (first : KnownMachine)
+    (cpus : List KnownCpu) : Type 0 where
+  pub machine : IsFirst table stock_table first
   pub count : length cpus ≡ table.cpus
   pub each : (index : ℕ) (cpu : KnownCpu) → slice_get cpus index ≡ Some cpu
       → cpu ≡ first_cpu (record { table = table.table; view = first_cpu_view (suc index) })
-      (record { table = words.table; view = first_processor (suc index) })
+      (record { table = stock_table.table; view = first_cpu_stock (suc index) })
 
 -- the run without steps shows a new boot
 abbrev pub ABootIsShown : Type 0
-ABootIsShown = (table : KnownTable) (words : Words) (first : KnownMachine) (cpus : List KnownCpu)
-    → IsNewBoot table words first cpus → ShowsAll table [] first cpus
+ABootIsShown = (table : KnownTable) (stock_table : KnownStockTable) (first : KnownMachine) (cpus : List KnownCpu)
+    → IsNewBoot table stock_table first cpus → ShowsAll table [] first cpus
 
 -- after a new boot, the run of one Lock shows the machine to the CPU that takes the lock first
 abbrev pub TheFirstHolderIsShown : Type 0
-TheFirstHolderIsShown = (table : KnownTable) (words : Words) (first : KnownMachine) (cpus : List KnownCpu) (index : ℕ)
-    (cpu : KnownCpu) → IsNewBoot table words first cpus → slice_get cpus index ≡ Some cpu
+TheFirstHolderIsShown = (table : KnownTable) (stock_table : KnownStockTable) (first : KnownMachine)
+    (cpus : List KnownCpu) (index : ℕ)
+    (cpu : KnownCpu) → IsNewBoot table stock_table first cpus → slice_get cpus index ≡ Some cpu
     → Shows table (cpu_makes cpu.number Lock Done ∷ []) (visit_state first cpu)
 
 -- ---- what always holds of the parts
 
 -- What the type of each part guarantees. Its lists and pins are what its seats know. If it has never seen a stock, it
 -- has no fresh frame.
-pub record IsTiedPart (table : KnownTable) (words : Words) (cpu : KnownCpu) : Type 0 where
-  pub tied : IsTied table words cpu
+pub record IsTiedPart (table : KnownTable) (stock_table : KnownStockTable) (cpu : KnownCpu) : Type 0 where
+  pub tied : IsTied table stock_table cpu
   pub none_fresh : group_of cpu.stock_seat.view.last ≡ None → length cpu.fresh ≡ 0
 
 -- the same holds of all parts
-abbrev pub AreTied : KnownTable → Words → List KnownCpu → Type 0
-AreTied table words cpus =
-    (index : ℕ) (cpu : KnownCpu) → slice_get cpus index ≡ Some cpu → IsTiedPart table words cpu
+abbrev pub AreTied : KnownTable → KnownStockTable → List KnownCpu → Type 0
+AreTied table stock_table cpus =
+    (index : ℕ) (cpu : KnownCpu) → slice_get cpus index ≡ Some cpu → IsTiedPart table stock_table cpu
 
 -- ---- memory.current
 
 -- If a run shows the whole, then the ledger's usage of a group is the frames that the group and its descendants keep
 -- by the run, plus the pages prepaid for them.
 abbrev pub CurrentIsKept : Type 0
-CurrentIsKept = (table : KnownTable) (words : Words) (run : Run) (machine : KnownMachine) (cpus : List KnownCpu)
-    → ShowsAll table run machine cpus → IsConsistent table words machine → AreCharges machine.ledger
-    → AreTied table words cpus → 1 ≤ table.cpus → (group : ℕ)
+CurrentIsKept = (table : KnownTable) (stock_table : KnownStockTable) (run : Run) (machine : KnownMachine)
+    (cpus : List KnownCpu)
+    → ShowsAll table run machine cpus → IsConsistent table stock_table machine → AreCharges machine.ledger
+    → AreTied table stock_table cpus → 1 ≤ table.cpus → (group : ℕ)
     → current_of machine.ledger group
     ≡ frames_kept (state_of (zone_of table) run).groups (state_of (zone_of table) run).phases table.frames group
     + pages_prepaid (state_of (zone_of table) run).groups (state_of (zone_of table) run).parts table.cpus group
@@ -83,16 +86,16 @@ fresh_frames_by cpus (suc index) = option_map_or (λ cpu. cpu.fresh) (slice_get 
 -- that CPU and fresh there
 abbrev pub keeper_by : KnownMachine → List KnownCpu → ℕ → FrameState → Option ℕ
 keeper_by machine cpus frame Free = None
-keeper_by machine cpus frame (Lent processor) =
-    if nat_le 1 (times frame (fresh_frames_by cpus processor))
-    then (account_of machine.stock_seat.view processor).group else None
+keeper_by machine cpus frame (Lent cpu) =
+    if nat_le 1 (times frame (fresh_frames_by cpus cpu))
+    then (account_of machine.stock_seat.view cpu).group else None
 keeper_by machine cpus frame (Head unit) = Some unit.group
 keeper_by machine cpus frame (Tail group) = Some group
 
 -- the stock of the CPU: its account's group, with the booked pages that are neither fresh nor reported
 abbrev pub stock_by : KnownMachine → List KnownCpu → ℕ → Stock
-stock_by machine cpus processor =
-    (part_with [] (fresh_frames_by cpus processor) [] (account_of machine.stock_seat.view processor)).stock
+stock_by machine cpus cpu =
+    (part_with [] (fresh_frames_by cpus cpu) [] (account_of machine.stock_seat.view cpu)).stock
 
 -- what the machine and the parts show: memory.current is the ledger's number, which `read` prints
 abbrev pub shown_of : KnownMachine → List KnownCpu → Shown
@@ -107,6 +110,7 @@ shown_of machine cpus = record {
 
 -- if a run shows the whole, then the promise holds of what the machine and the parts show
 abbrev pub TheWholeIsPromised : Type 0
-TheWholeIsPromised = (table : KnownTable) (words : Words) (run : Run) (machine : KnownMachine) (cpus : List KnownCpu)
-    → ShowsAll table run machine cpus → IsConsistent table words machine → AreCharges machine.ledger
-    → AreTied table words cpus → 1 ≤ table.cpus → Promise (zone_of table) run (shown_of machine cpus)
+TheWholeIsPromised = (table : KnownTable) (stock_table : KnownStockTable) (run : Run) (machine : KnownMachine)
+    (cpus : List KnownCpu)
+    → ShowsAll table run machine cpus → IsConsistent table stock_table machine → AreCharges machine.ledger
+    → AreTied table stock_table cpus → 1 ≤ table.cpus → Promise (zone_of table) run (shown_of machine cpus)

@@ -4,7 +4,7 @@ use Rattle.frame_word.specs.Seats.{KnownTable}
 use Rattle.frame_word.specs.declared.answers.Get.TheVariants as get
 use Rattle.frame_word.specs.declared.answers.Put.{Put as Putted}
 use Rattle.frame_word.specs.declared.answers.Put.TheVariants as put
-use Rattle.stock_word.specs.Stock.{Words}
+use Rattle.stock_word.specs.Stock.{KnownStockTable}
 use Rattle.cpu_part.specs.declared.answers.Fast.TheVariants.{Got}
 use Rattle.cpu_part.specs.declared.answers.Dropped.TheVariants.{Listed}
 use Rattle.cpu_part.specs.Cpus.{KnownCpu, IsTied, most_pins, times}
@@ -30,31 +30,36 @@ LeadsWatched table before steps later = (watch : KnownWatch) → Watches before.
     → Makes table before steps (visit_state (record before.machine { watch = watch }) later)
 
 -- the run shows the whole, and this is its part at this index, tied to its seats
-pub record IsPart (table : KnownTable) (words : Words) (run : Run) (machine : KnownMachine) (cpus : List KnownCpu)
+pub record IsPart (table : KnownTable) (stock_table : KnownStockTable) (run : Run) (machine : KnownMachine)
+    (cpus : List KnownCpu)
     (index : ℕ) (cpu : KnownCpu) : Type 0 where
   pub shows : ShowsAll table run machine cpus
   pub is_part : slice_get cpus index ≡ Some cpu
-  pub tied : IsTied table words cpu
+  pub tied : IsTied table stock_table cpu
 
 -- If a run shows the whole, a fast call of a CPU is one step from what the machine shows that CPU. A get answered
 -- Held is a Get, and a put is a Put. A fast allocation that gets a frame is a Consume, and a drop that lists a fresh
 -- frame again is a Credit: these two if all parts together decide that answer.
 pub record FastCallsLead : Type 0 where
-  pub held : (table : KnownTable) (words : Words) (run : Run) (machine : KnownMachine) (cpus : List KnownCpu)
-      (index : ℕ) (cpu later : KnownCpu) → IsPart table words run machine cpus index cpu → (frame : ℕ)
+  pub held : (table : KnownTable) (stock_table : KnownStockTable) (run : Run) (machine : KnownMachine)
+      (cpus : List KnownCpu)
+      (index : ℕ) (cpu later : KnownCpu) → IsPart table stock_table run machine cpus index cpu → (frame : ℕ)
       → frame < table.frames → length cpu.back + length cpu.pins < most_pins → PinAnswers frame get.Held cpu later
       → LeadsWatched table (visit_state machine cpu) (cpu_makes cpu.number (Get frame) Held ∷ []) later
-  pub putted : (table : KnownTable) (words : Words) (run : Run) (machine : KnownMachine) (cpus : List KnownCpu)
-      (index : ℕ) (cpu later : KnownCpu) → IsPart table words run machine cpus index cpu → (frame : ℕ)
+  pub putted : (table : KnownTable) (stock_table : KnownStockTable) (run : Run) (machine : KnownMachine)
+      (cpus : List KnownCpu)
+      (index : ℕ) (cpu later : KnownCpu) → IsPart table stock_table run machine cpus index cpu → (frame : ℕ)
       (answer : Putted) → UnpinAnswers frame answer cpu later
       → LeadsWatched table (visit_state machine cpu) (cpu_makes cpu.number (Put frame) (put_answer answer) ∷ []) later
-  pub got : (table : KnownTable) (words : Words) (run : Run) (machine : KnownMachine) (cpus : List KnownCpu)
-      (index : ℕ) (cpu later : KnownCpu) → IsPart table words run machine cpus index cpu → (group frame : ℕ)
+  pub got : (table : KnownTable) (stock_table : KnownStockTable) (run : Run) (machine : KnownMachine)
+      (cpus : List KnownCpu)
+      (index : ℕ) (cpu later : KnownCpu) → IsPart table stock_table run machine cpus index cpu → (group frame : ℕ)
       → FastAnswers group (Got frame) cpu later
       → AreDecided table cpus (visit_state machine cpu) (cpu_makes cpu.number (Consume group) Took ∷ [])
       → LeadsWatched table (visit_state machine cpu) (cpu_makes cpu.number (Consume group) Took ∷ []) later
-  pub listed : (table : KnownTable) (words : Words) (run : Run) (machine : KnownMachine) (cpus : List KnownCpu)
-      (index : ℕ) (cpu later : KnownCpu) → IsPart table words run machine cpus index cpu → (frame : ℕ)
+  pub listed : (table : KnownTable) (stock_table : KnownStockTable) (run : Run) (machine : KnownMachine)
+      (cpus : List KnownCpu)
+      (index : ℕ) (cpu later : KnownCpu) → IsPart table stock_table run machine cpus index cpu → (frame : ℕ)
       → 1 ≤ times frame cpu.fresh → DropAnswers frame Listed cpu later
       → AreDecided table cpus (visit_state machine cpu) (cpu_makes cpu.number (Credit frame) Back ∷ [])
       → LeadsWatched table (visit_state machine cpu) (cpu_makes cpu.number (Credit frame) Back ∷ []) later

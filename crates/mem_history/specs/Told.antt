@@ -2,7 +2,7 @@
 -- memory.events.local of cgroup-v2.rst).
 use Rattle.std.specs.Prelude.{ℕ, List, [], ◌∷◌, ◌++◌}
 use Rattle.frame_word.specs.Seats.{KnownTable}
-use Rattle.stock_word.specs.Stock.{Words}
+use Rattle.stock_word.specs.Stock.{KnownStockTable}
 use Rattle.cpu_part.specs.Cpus.{KnownCpu}
 use Rattle.step_rules.specs.declared.step.Action.{Action}
 use Rattle.step_rules.specs.declared.step.Answer.{Answer}
@@ -14,7 +14,8 @@ use Rattle.mem_history.specs.Whole.{ShowsAll, ServesAt, ServesFast, under_lock}
 
 -- the peaks and counts of a new boot are those of the run without steps
 abbrev pub ABootTells : Type 0
-ABootTells = (table : KnownTable) (words : Words) (machine : KnownMachine) → IsFirst table words machine
+ABootTells = (table : KnownTable) (stock_table : KnownStockTable) (machine : KnownMachine)
+    → IsFirst table stock_table machine
     → TellsRun table [] machine.ledger
 
 -- if a run shows the whole and the ledger has its peaks and counts, then after a line under the lock the ledger has
@@ -27,7 +28,8 @@ LinesTell = (table : KnownTable) (run : Run) (cpus : List KnownCpu) (index : ℕ
 
 -- the same holds for a step that takes no lock
 abbrev pub FastLinesTell : Type 0
-FastLinesTell = (table : KnownTable) (run : Run) (cpus : List KnownCpu) (index : ℕ) (before : VisitState) (action : Action)
+FastLinesTell = (table : KnownTable) (run : Run) (cpus : List KnownCpu) (index : ℕ) (before : VisitState)
+    (action : Action)
     (answer : Answer) (after : VisitState) → ShowsAll table run before.machine cpus
     → ServesFast table cpus index before action answer after → TellsRun table run before.machine.ledger
     → TellsRun table (run ++ cpu_makes before.cpu.number action answer ∷ []) after.machine.ledger

@@ -22,7 +22,7 @@ use Rattle.mem_machine.specs.Steps.{cpu_makes}
 
 -- what the CPU would see if it took the lock now, which is free
 abbrev pub seen_by : ℕ → State → State
-seen_by processor state = hide processor (record state { hold = HeldBy processor })
+seen_by cpu state = hide cpu (record state { hold = HeldBy cpu })
 
 -- the part at this index is that of the CPU with the next number; what the machine and this part show is what the CPU
 -- would see if it took the lock
@@ -62,10 +62,10 @@ fresh_by cpus (suc index) = option_map_or (λ cpu. length cpu.fresh) (slice_get 
 -- What the CPU sees, completed from the parts of the other CPUs: with their references, and with their stocks less
 -- the pages that paid for their fresh frames.
 abbrev pub seen_together : List KnownCpu → ℕ → State → State
-seen_together cpus processor local = record local {
+seen_together cpus cpu local = record local {
   references = λ seat frame.
-      if is_own processor seat then local.references seat frame else references_by cpus seat frame;
-  parts = λ other. if other == processor then local.parts other else record (local.parts other) {
+      if is_own cpu seat then local.references seat frame else references_by cpus seat frame;
+  parts = λ other. if other == cpu then local.parts other else record (local.parts other) {
     stock = record ((local.parts other).stock) { pages = (local.parts other).stock.pages - fresh_by cpus other };
   };
 }
@@ -91,7 +91,7 @@ AreDecided table cpus before steps = (index : ℕ) → IfSome (slice_get steps i
 
 -- the CPU takes the lock, makes these steps with the zone's seat, and releases the lock
 abbrev pub under_lock : ℕ → Run → Run
-under_lock processor steps = cpu_makes processor Lock Done ∷ (steps ++ cpu_makes processor Unlock Done ∷ [])
+under_lock cpu steps = cpu_makes cpu Lock Done ∷ (steps ++ cpu_makes cpu Unlock Done ∷ [])
 
 -- the CPU whose part is at this index makes these steps under the lock, answered as all parts decide; afterwards
 -- every visit is shut
@@ -100,7 +100,7 @@ pub record ServesAt (table : KnownTable) (cpus : List KnownCpu) (index : ℕ)
   pub is_part : slice_get cpus index ≡ Some before.cpu
   pub leads : Makes table before steps after
   pub decided : AreDecided table cpus before steps
-  pub shut : (processor : ℕ) → IsShut after.machine.frame_seat processor
+  pub shut : (cpu : ℕ) → IsShut after.machine.frame_seat cpu
 
 -- if a run shows the whole, then the run that continues with the line shows the whole after the line
 abbrev pub LinesFollow : Type 0
@@ -131,7 +131,8 @@ pub record ServesFast (table : KnownTable) (cpus : List KnownCpu) (index : ℕ)
 
 -- if a run shows the whole, then the run that continues with that step shows the whole after the step
 abbrev pub FastLinesFollow : Type 0
-FastLinesFollow = (table : KnownTable) (run : Run) (cpus : List KnownCpu) (index : ℕ) (before : VisitState) (action : Action)
+FastLinesFollow = (table : KnownTable) (run : Run) (cpus : List KnownCpu) (index : ℕ) (before : VisitState)
+    (action : Action)
     (answer : Answer) (after : VisitState) → ShowsAll table run before.machine cpus
     → ServesFast table cpus index before action answer after
     → ShowsAll table (run ++ cpu_makes before.cpu.number action answer ∷ []) after.machine

@@ -7,7 +7,7 @@ use Rattle.stock_word.specs.declared.view.Account.{Account}
 use Rattle.stock_word.specs.declared.view.Stock.{Stock}
 use Rattle.stock_word.specs.declared.view.Stock.TheVariants.{NoGroup, HeldBy, DrainedOf}
 use Rattle.stock_word.specs.declared.view.StockView.{StockView}
-use Rattle.stock_word.specs.Stock.{Seated, account_of, group_of, HasWord}
+use Rattle.stock_word.specs.Stock.{KnownStockSeat, account_of, group_of, HasWord}
 use Rattle.stock_word.specs.Kinds.{noting, absorbing}
 use Rattle.stock_word.proofs.CallerLemmas.{account_of-with_account, account_of-with_account_other}
 use Rattle.step_rules.specs.State.{sum_to, with_at}
@@ -67,7 +67,7 @@ module _ (view : StockView) (p : ℕ) where
       omega (arith, read, at)
 
 -- the books of the CPU's group have one page less, and those of the other groups as many
-pub books_fall : (t : KnownTable) (stock : Seated) (p g : ℕ) → p ≤ t.cpus → (account_of stock.view p).group ≡ Some g → (account_of stock.view p).unabsorbed ≡ 0
+pub books_fall : (t : KnownTable) (stock : KnownStockSeat) (p g : ℕ) → p ≤ t.cpus → (account_of stock.view p).group ≡ Some g → (account_of stock.view p).unabsorbed ≡ 0
     → 1 ≤ (account_of stock.view p).book → (h : ℕ) → pages_booked t stock h ≡ pages_booked t (with_page_absorbed stock p) h + cond (h == g) 1 0
 books_fall t stock p g inside group noted some h =
     let a = account_of stock.view p in

@@ -10,7 +10,7 @@ use Rattle.frame_word.specs.declared.view.FrameNote.{FrameNote}
 use Rattle.frame_word.specs.Views.{note_of, collected_from}
 use Rattle.frame_word.specs.Seats.{KnownTable, KnownSeat, seat_with, HasNothingOf, IsLentToNone, Passes, NothingPasses}
 use Rattle.frame_word.proofs.Notes.{note_here, note_else}
-use Rattle.stock_word.specs.Stock.{Words}
+use Rattle.stock_word.specs.Stock.{KnownStockTable}
 use Rattle.group_charge.specs.Charges.{Ledger, with_uncharge}
 use Rattle.lru_lists.specs.declared.record.Home.{Home}
 use Rattle.cpu_part.specs.Cpus.{KnownCpu, IsTied}
@@ -47,7 +47,7 @@ pub record WasBack (t : KnownTable) (m : KnownMachine) (f : ℕ) : Type 0 where
   pub lent : IsLentToNone m.frame_seat f
 
 -- it heads a unit
-pub back_heads : (t : KnownTable) (w : Words) (m : KnownMachine) → IsConsistent t w m → (f : ℕ) → WasBack t m f
+pub back_heads : (t : KnownTable) (w : KnownStockTable) (m : KnownMachine) → IsConsistent t w m → (f : ℕ) → WasBack t m f
     → (unit : ChargedUnit) × (frame_state_at m.frame_states f ≡ Head unit)
 back_heads t w m ok f was =
     let fits = ok.frame_states f was.inside in
@@ -55,7 +55,7 @@ back_heads t w m ok f was =
     heads_one (frame_state_at m.frame_states f) (ap some_cpu (sym was.lent) ∙ fits.lent) (sym none ∙ fits.own)
 
 -- as its record is read
-pub read_head : (t : KnownTable) (w : Words) (m : KnownMachine) → IsConsistent t w m → (f i : ℕ) → WasBack t m f → i ≡ f → (x : FrameState) → x ≡ get_or m.frame_states i x
+pub read_head : (t : KnownTable) (w : KnownStockTable) (m : KnownMachine) → IsConsistent t w m → (f i : ℕ) → WasBack t m f → i ≡ f → (x : FrameState) → x ≡ get_or m.frame_states i x
     → (unit : ChargedUnit) → x ≡ Head unit → frame_state_at m.frame_states i ≡ Head unit
 read_head t w m ok f i was index x read unit is =
     let sized = ok.sizes.frame_states in
@@ -63,23 +63,23 @@ read_head t w m ok f i was index x read unit is =
     sym (read ∙ get_or_default m.frame_states i x Free (omega (arith, index, sized, inside))) ∙ is
 
 -- what its return asks for
-pub back_in_use : (t : KnownTable) (w : Words) (m : KnownMachine) → IsConsistent t w m → (before : List Bool) (i : ℕ) (unit : ChargedUnit)
+pub back_in_use : (t : KnownTable) (w : KnownStockTable) (m : KnownMachine) → IsConsistent t w m → (before : List Bool) (i : ℕ) (unit : ChargedUnit)
     → before ≡ free_of m.frame_states → frame_state_at m.frame_states i ≡ Head unit → IsInUse before (record { at = i; order = unit.order })
 back_in_use t w m ok before i unit was heads = unit_in_use before m.frame_states i unit was ok.units heads
 
-pub back_inside : (t : KnownTable) (w : Words) (m : KnownMachine) → IsConsistent t w m → (i : ℕ) (unit : ChargedUnit) → frame_state_at m.frame_states i ≡ Head unit
+pub back_inside : (t : KnownTable) (w : KnownStockTable) (m : KnownMachine) → IsConsistent t w m → (i : ℕ) (unit : ChargedUnit) → frame_state_at m.frame_states i ≡ Head unit
     → i + 2 ^ unit.order ≤ length m.frame_states
 back_inside t w m ok i unit heads = (ok.units.heads i unit heads).block.inside
 
 -- and passes once it was handed
-pub back_passes : (t : KnownTable) (w : Words) (m now : KnownMachine) → m ≡ now → (c h : KnownCpu) → IsTied t w c → Visits t (visit_state now c)
+pub back_passes : (t : KnownTable) (w : KnownStockTable) (m now : KnownMachine) → m ≡ now → (c h : KnownCpu) → IsTied t w c → Visits t (visit_state now c)
     → (f : ℕ) (seat : KnownSeat) → f < t.frames → HandsBack f c h → seat ≡ m.frame_seat → Passes seat h.frame_seat f
 back_passes t w m now same c h tied visit f seat inside hands is =
     subst (λ (s : KnownSeat). Passes s h.frame_seat f) (sym is)
     (handed_passes t m.frame_seat c.frame_seat c.number tied.seats.frame_number f (subst (λ (x : KnownMachine). NothingPasses t x.frame_seat c.frame_seat)
     (sym same) visit.still) h.frame_seat (ap (λ (x : KnownCpu). x.frame_seat) hands.2) inside)
 
-module _ (t : KnownTable) (w : Words) (m : KnownMachine) (c : KnownCpu) (tied : IsTied t w c) (ok : IsConsistent t w m) (visit : Visits t (visit_state m c))
+module _ (t : KnownTable) (w : KnownStockTable) (m : KnownMachine) (c : KnownCpu) (tied : IsTied t w c) (ok : IsConsistent t w m) (visit : Visits t (visit_state m c))
     (f : ℕ) (was : WasBack t m f) (unit : ChargedUnit) (heads : frame_state_at m.frame_states f ≡ Head unit) (rest : List ℕ) (front : c.back ≡ f ∷ rest)
     (new : List FrameState) (frees : FreesFrames f (2 ^ unit.order) m.frame_states new) (blocks : List Block) (areas : AreMaximalBlocks (free_of new) blocks)
     (counts : Counts) (counted : counts ≡ with_last_put m.counts) where
@@ -157,7 +157,7 @@ module _ (t : KnownTable) (w : Words) (m : KnownMachine) (c : KnownCpu) (tied : 
 
 -- ---- all of it, of the machine as it was seen before
 
-pub record AllReturned (t : KnownTable) (w : Words) (now : KnownMachine) (c : KnownCpu) (f : ℕ) (n : KnownMachine) (d : KnownCpu) (free : List Bool)
+pub record AllReturned (t : KnownTable) (w : KnownStockTable) (now : KnownMachine) (c : KnownCpu) (f : ℕ) (n : KnownMachine) (d : KnownCpu) (free : List Bool)
     : Type 0 where
   pub consistent : IsConsistent t w n
   pub free_is : free ≡ free_of n.frame_states
@@ -165,7 +165,7 @@ pub record AllReturned (t : KnownTable) (w : Words) (now : KnownMachine) (c : Kn
   pub visit : Visits t (visit_state n d)
   pub steps : LeadsAs t c.number (visit_state now c) (return_steps c.number f) (visit_state n d)
 
-pub return_all : (t : KnownTable) (w : Words) (m now : KnownMachine) → m ≡ now → (c h d : KnownCpu) → IsTied t w c → IsConsistent t w m → Visits t (visit_state now c)
+pub return_all : (t : KnownTable) (w : KnownStockTable) (m now : KnownMachine) → m ≡ now → (c h d : KnownCpu) → IsTied t w c → IsConsistent t w m → Visits t (visit_state now c)
     → (before free : List Bool) → before ≡ free_of m.frame_states → (f : ℕ) → WasBack t m f → HandsBack f c h → d ≡ h → (i : ℕ) → i ≡ f
     → (unit : ChargedUnit) → frame_state_at m.frame_states i ≡ Head unit
     → (seat : KnownSeat) → seat ≡ seat_with m.frame_seat f (collected_from h.number)

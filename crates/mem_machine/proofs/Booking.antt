@@ -7,7 +7,7 @@ use Rattle.std.proofs.lemmas.List.{get_or-set_same, get_or-set_other, length-set
 use Rattle.frame_word.specs.Seats.{KnownTable}
 use Rattle.stock_word.specs.declared.view.Account.{Account}
 use Rattle.stock_word.specs.declared.view.StockView.{StockView}
-use Rattle.stock_word.specs.Stock.{Words, Seated, account_of, with_account, first_zone_stock}
+use Rattle.stock_word.specs.Stock.{KnownStockTable, KnownStockSeat, account_of, with_account, first_zone_stock}
 use Rattle.stock_word.specs.Kinds.{absorbing, draining, filling, noting, with_steps}
 use Rattle.stock_word.specs.Calls.{after_look, with_view}
 use Rattle.stock_word.proofs.CallerLemmas.{account_of-with_account, account_of-with_account_other}
@@ -25,8 +25,8 @@ use Rattle.mem_machine.proofs.First.{repeated}
 
 -- ---- the books of a group, after one CPU's account changed
 
-module _ (t : KnownTable) (stock : Seated) (q : ℕ) (b : Account) (inside : q ≤ t.cpus) where
-  abbrev changed : Seated
+module _ (t : KnownTable) (stock : KnownStockSeat) (q : ℕ) (b : Account) (inside : q ≤ t.cpus) where
+  abbrev changed : KnownStockSeat
   changed = with_view stock (with_account stock.view q b)
 
   booked_at : (h p : ℕ) → booked h (account_of changed.view p) ≡ with_at (λ k. booked h (account_of stock.view k)) q (booked h b) p
@@ -49,11 +49,11 @@ module _ (t : KnownTable) (stock : Seated) (q : ℕ) (b : Account) (inside : q �
 -- ---- the counts
 
 -- it is the same seat, at the same table
-abbrev SameSeat : Seated → Seated → Type 0
+abbrev SameSeat : KnownStockSeat → KnownStockSeat → Type 0
 SameSeat stock new = (new.table ≡ stock.table) × (new.view.number ≡ stock.view.number)
 
 -- the same books
-pub counted_same : (t : KnownTable) (w : Words) (stock new : Seated) (sums : List ℕ) → AreBooked t w stock sums → SameSeat stock new
+pub counted_same : (t : KnownTable) (w : KnownStockTable) (stock new : KnownStockSeat) (sums : List ℕ) → AreBooked t w stock sums → SameSeat stock new
     → ((h : ℕ) → pages_booked t new h ≡ pages_booked t stock h) → AreBooked t w new sums
 counted_same t w stock new sums are seat same = record {
   table = seat.0 ∙ are.table;
@@ -64,7 +64,7 @@ counted_same t w stock new sums are seat same = record {
 }
 
 -- one group has other books, and its count is right
-counted_else : (t : KnownTable) (w : Words) (stock new : Seated) (sums : List ℕ) (g x : ℕ) → AreBooked t w stock sums → SameSeat stock new → g < 64
+counted_else : (t : KnownTable) (w : KnownStockTable) (stock new : KnownStockSeat) (sums : List ℕ) (g x : ℕ) → AreBooked t w stock sums → SameSeat stock new → g < 64
     → x ≡ pages_booked t new g → ((h : ℕ) → (h ≡ g → ⊥) → pages_booked t new h ≡ pages_booked t stock h)
     → AreBooked t w new (slice_set sums g x)
 counted_else t w stock new sums g x are seat inside here others = record {
@@ -80,7 +80,7 @@ counted_else t w stock new sums g x are seat inside here others = record {
 }
 
 -- one group has this many pages less
-pub counted_less : (t : KnownTable) (w : Words) (stock new : Seated) (sums : List ℕ) (g k x : ℕ) → AreBooked t w stock sums → SameSeat stock new → g < 64
+pub counted_less : (t : KnownTable) (w : KnownStockTable) (stock new : KnownStockSeat) (sums : List ℕ) (g k x : ℕ) → AreBooked t w stock sums → SameSeat stock new → g < 64
     → ((h : ℕ) → pages_booked t stock h ≡ pages_booked t new h + cond (h == g) k 0) → x + k ≡ pages_booked t stock g
     → AreBooked t w new (slice_set sums g x)
 counted_less t w stock new sums g k x are seat inside less is =
@@ -89,7 +89,7 @@ counted_less t w stock new sums g k x are seat inside less is =
     (λ h ne. let a = less h in let z : cond (h == g) k 0 ≡ 0 = cond-false (h == g) k 0 (ne_eqb h g ne) in omega (arith, a, z))
 
 -- one group has this many pages more
-pub counted_more : (t : KnownTable) (w : Words) (stock new : Seated) (sums : List ℕ) (g k x : ℕ) → AreBooked t w stock sums → SameSeat stock new → g < 64
+pub counted_more : (t : KnownTable) (w : KnownStockTable) (stock new : KnownStockSeat) (sums : List ℕ) (g k x : ℕ) → AreBooked t w stock sums → SameSeat stock new → g < 64
     → ((h : ℕ) → pages_booked t new h ≡ pages_booked t stock h + cond (h == g) k 0) → x ≡ pages_booked t stock g + k
     → AreBooked t w new (slice_set sums g x)
 counted_more t w stock new sums g k x are seat inside more is =
@@ -100,7 +100,7 @@ counted_more t w stock new sums g k x are seat inside more is =
 -- ---- drains and fills
 
 -- a drain takes its pages from the books of the stock's group
-pub drained_books : (t : KnownTable) (stock : Seated) (q g k : ℕ) → q ≤ t.cpus → (account_of stock.view q).group ≡ Some g
+pub drained_books : (t : KnownTable) (stock : KnownStockSeat) (q g k : ℕ) → q ≤ t.cpus → (account_of stock.view q).group ≡ Some g
     → k ≤ (account_of stock.view q).book → (h : ℕ)
     → pages_booked t stock h ≡ pages_booked t (with_view stock (draining stock.view q k)) h + cond (h == g) k 0
 drained_books t stock q g k inside group enough h =
@@ -110,7 +110,7 @@ drained_books t stock q g k inside group enough h =
     omega (arith, move, less)
 
 -- a stock that is of no group counts as drained of no page
-pub looked_books : (t : KnownTable) (stock : Seated) (q : ℕ) → q ≤ t.cpus → (h : ℕ)
+pub looked_books : (t : KnownTable) (stock : KnownStockSeat) (q : ℕ) → q ≤ t.cpus → (h : ℕ)
     → pages_booked t (with_view stock (draining stock.view q 0)) h ≡ pages_booked t stock h
 looked_books t stock q inside h =
     let a = account_of stock.view q in
@@ -120,7 +120,7 @@ looked_books t stock q inside h =
     omega (arith, move, same)
 
 -- a fill adds its pages to the books of its group
-pub filled_books : (t : KnownTable) (stock : Seated) (q g k : ℕ) → q ≤ t.cpus → (account_of stock.view q).book ≡ 0 → (h : ℕ)
+pub filled_books : (t : KnownTable) (stock : KnownStockSeat) (q g k : ℕ) → q ≤ t.cpus → (account_of stock.view q).book ≡ 0 → (h : ℕ)
     → pages_booked t (with_view stock (filling stock.view q g k)) h ≡ pages_booked t stock h + cond (h == g) k 0
 filled_books t stock q g k inside empty h =
     let a = account_of stock.view q in
@@ -131,7 +131,7 @@ filled_books t stock q g k inside empty h =
 -- ---- reports
 
 -- a page that is noted is in the book still
-pub noted_books : (t : KnownTable) (stock : Seated) (p n : ℕ) → p ≤ t.cpus → (h : ℕ)
+pub noted_books : (t : KnownTable) (stock : KnownStockSeat) (p n : ℕ) → p ≤ t.cpus → (h : ℕ)
     → pages_booked t (with_view stock (noting stock.view p n)) h ≡ pages_booked t stock h
 noted_books t stock p n inside h =
     let a = account_of stock.view p in
@@ -139,7 +139,7 @@ noted_books t stock p n inside h =
     omega (arith, move)
 
 -- the pages that are taken in come off the books of the stock's group
-pub absorbed_books : (t : KnownTable) (stock : Seated) (p g : ℕ) → p ≤ t.cpus → (account_of stock.view p).group ≡ Some g
+pub absorbed_books : (t : KnownTable) (stock : KnownStockSeat) (p g : ℕ) → p ≤ t.cpus → (account_of stock.view p).group ≡ Some g
     → (account_of stock.view p).unabsorbed ≤ (account_of stock.view p).book → (h : ℕ)
     → pages_booked t stock h ≡ pages_booked t (with_view stock (absorbing stock.view p)) h + cond (h == g) (account_of stock.view p).unabsorbed 0
 absorbed_books t stock p g inside group enough h =
@@ -150,7 +150,7 @@ absorbed_books t stock p g inside group enough h =
 
 -- ---- the calls
 
-pub first_counted : (t : KnownTable) (w : Words) (m : Seated) (sums : List ℕ) → w.cpus ≡ t.cpus → m.table ≡ w.table → m.view ≡ first_zone_stock → sums ≡ replicate 64 0
+pub first_counted : (t : KnownTable) (w : KnownStockTable) (m : KnownStockSeat) (sums : List ℕ) → w.cpus ≡ t.cpus → m.table ≡ w.table → m.view ≡ first_zone_stock → sums ≡ replicate 64 0
     → AreBooked t w m sums
 first_counted t w m sums cpus table first zeros = record {
   table = table;
@@ -163,23 +163,23 @@ first_counted t w m sums cpus table first zeros = record {
 }
 
 -- the seat with a view of the same number
-same_seat : (m n : Seated) (v : StockView) → v.number ≡ m.view.number → n ≡ with_view m v → SameSeat m n
-same_seat m n v number is = (ap (λ (x : Seated). x.table) is, ap (λ (x : Seated). x.view.number) is ∙ number)
+same_seat : (m n : KnownStockSeat) (v : StockView) → v.number ≡ m.view.number → n ≡ with_view m v → SameSeat m n
+same_seat m n v number is = (ap (λ (x : KnownStockSeat). x.table) is, ap (λ (x : KnownStockSeat). x.view.number) is ∙ number)
 
-module _ (t : KnownTable) (w : Words) (m : Seated) (sums : List ℕ) (are : AreBooked t w m sums) where
+module _ (t : KnownTable) (w : KnownStockTable) (m : KnownStockSeat) (sums : List ℕ) (are : AreBooked t w m sums) where
   -- a look for the group of a stock
-  pub after_group : (q : ℕ) → q ≤ t.cpus → (o : Option ℕ) (n : Seated) → n ≡ with_view m (with_steps 1 (after_look m.view q o)) → AreBooked t w n sums
+  pub after_group : (q : ℕ) → q ≤ t.cpus → (o : Option ℕ) (n : KnownStockSeat) → n ≡ with_view m (with_steps 1 (after_look m.view q o)) → AreBooked t w n sums
   after_group q inside None n is =
-      counted_same t w m n sums are (same_seat m n _ refl is) (λ h. ap (λ (x : Seated). pages_booked t x h) is ∙ looked_books t m q inside h)
-  after_group q inside (Some g) n is = counted_same t w m n sums are (same_seat m n _ refl is) (λ h. ap (λ (x : Seated). pages_booked t x h) is)
+      counted_same t w m n sums are (same_seat m n _ refl is) (λ h. ap (λ (x : KnownStockSeat). pages_booked t x h) is ∙ looked_books t m q inside h)
+  after_group q inside (Some g) n is = counted_same t w m n sums are (same_seat m n _ refl is) (λ h. ap (λ (x : KnownStockSeat). pages_booked t x h) is)
 
   -- a look that changes nothing
-  pub after_look_only : (n : Seated) → n ≡ with_view m (with_steps 1 m.view) → AreBooked t w n sums
-  after_look_only n is = counted_same t w m n sums are (same_seat m n _ refl is) (λ h. ap (λ (x : Seated). pages_booked t x h) is)
+  pub after_look_only : (n : KnownStockSeat) → n ≡ with_view m (with_steps 1 m.view) → AreBooked t w n sums
+  after_look_only n is = counted_same t w m n sums are (same_seat m n _ refl is) (λ h. ap (λ (x : KnownStockSeat). pages_booked t x h) is)
 
   -- a page is noted
-  pub after_note : (p n : ℕ) → p ≤ t.cpus → (x : Seated) → x ≡ with_view m (noting m.view p n) → AreBooked t w x sums
-  after_note p n inside x is = counted_same t w m x sums are (same_seat m x _ refl is) (λ h. ap (λ (y : Seated). pages_booked t y h) is ∙ noted_books t m p n inside h)
+  pub after_note : (p n : ℕ) → p ≤ t.cpus → (x : KnownStockSeat) → x ≡ with_view m (noting m.view p n) → AreBooked t w x sums
+  after_note p n inside x is = counted_same t w m x sums are (same_seat m x _ refl is) (λ h. ap (λ (y : KnownStockSeat). pages_booked t y h) is ∙ noted_books t m p n inside h)
 
   module _ (q g k : ℕ) (inside : q ≤ t.cpus) (fits : g < 64) (group : (account_of m.view q).group ≡ Some g) (r : ℕ)
       (read : r ≡ get_or sums g 0) where
@@ -188,17 +188,17 @@ module _ (t : KnownTable) (w : Words) (m : Seated) (sums : List ℕ) (are : AreB
     within_count enough = let a = booked_within t m q g inside group in let b = are.each g fits in omega (arith, a, b, read, enough)
 
     -- this many pages are drained, by any number of steps
-    pub after_drain : k ≤ (account_of m.view q).book → (s : ℕ) (n : Seated) → n ≡ with_view m (with_steps s (draining m.view q k))
+    pub after_drain : k ≤ (account_of m.view q).book → (s : ℕ) (n : KnownStockSeat) → n ≡ with_view m (with_steps s (draining m.view q k))
         → AreBooked t w n (slice_set sums g (r - k))
     after_drain enough s n is =
         let small = within_count enough in
         let b = are.each g fits in
         counted_less t w m n sums g k (r - k) are (same_seat m n _ refl is) fits
-        (λ h. drained_books t m q g k inside group enough h ∙ ap (λ (x : Seated). pages_booked t x h + cond (h == g) k 0) (sym is))
+        (λ h. drained_books t m q g k inside group enough h ∙ ap (λ (x : KnownStockSeat). pages_booked t x h + cond (h == g) k 0) (sym is))
         (omega (arith, small, b, read))
 
     -- what was noted is taken in
-    pub after_absorb : k ≡ (account_of m.view q).unabsorbed → k ≤ (account_of m.view q).book → (n : Seated)
+    pub after_absorb : k ≡ (account_of m.view q).unabsorbed → k ≤ (account_of m.view q).book → (n : KnownStockSeat)
         → n ≡ with_view m (with_steps 1 (absorbing m.view q)) → AreBooked t w n (slice_set sums g (r - k))
     after_absorb all enough n is =
         let small = within_count enough in
@@ -206,26 +206,26 @@ module _ (t : KnownTable) (w : Words) (m : Seated) (sums : List ℕ) (are : AreB
         let some : (account_of m.view q).unabsorbed ≤ (account_of m.view q).book = omega (arith, all, enough) in
         counted_less t w m n sums g k (r - k) are (same_seat m n _ refl is) fits
         (λ h. absorbed_books t m q g inside group some h
-        ∙ ap (λ (z : Seated × ℕ). pages_booked t z.0 h + cond (h == g) z.1 0) (λ i. (sym is i, sym all i)))
+        ∙ ap (λ (z : KnownStockSeat × ℕ). pages_booked t z.0 h + cond (h == g) z.1 0) (λ i. (sym is i, sym all i)))
         (omega (arith, small, b, read))
 
   -- an empty stock is filled
   pub after_fill : (q g k : ℕ) → q ≤ t.cpus → g < 64 → (account_of m.view q).book ≡ 0 → (r : ℕ) → r ≡ get_or sums g 0
-      → (n : Seated) → n ≡ with_view m (filling m.view q g k) → AreBooked t w n (slice_set sums g (r + k))
+      → (n : KnownStockSeat) → n ≡ with_view m (filling m.view q g k) → AreBooked t w n (slice_set sums g (r + k))
   after_fill q g k inside fits empty r read n is =
       let b = are.each g fits in
       counted_more t w m n sums g k (r + k) are (same_seat m n _ refl is) fits
-      (λ h. ap (λ (x : Seated). pages_booked t x h) is ∙ filled_books t m q g k inside empty h)
+      (λ h. ap (λ (x : KnownStockSeat). pages_booked t x h) is ∙ filled_books t m q g k inside empty h)
       (omega (arith, b, read))
 
 -- the group of the stock stays when a page is noted
-pub noted_group : (m n : Seated) (p k : ℕ) → n ≡ with_view m (noting m.view p k) → (account_of n.view p).group ≡ (account_of m.view p).group
+pub noted_group : (m n : KnownStockSeat) (p k : ℕ) → n ≡ with_view m (noting m.view p k) → (account_of n.view p).group ≡ (account_of m.view p).group
 noted_group m n p k is =
-    ap (λ (x : Seated). (account_of x.view p).group) is
+    ap (λ (x : KnownStockSeat). (account_of x.view p).group) is
     ∙ ap (λ (a : Account). a.group) (account_of-with_account m.view p (let a = account_of m.view p in record a { unabsorbed = a.unabsorbed + k }))
 
 -- the pages of a group that is there leave its books room for as many as its root has
-pub room_booked : (t : KnownTable) (w : Words) (m now : KnownMachine) → m ≡ now → IsConsistent t w m → AreCharges m.ledger → (g n : ℕ)
+pub room_booked : (t : KnownTable) (w : KnownStockTable) (m now : KnownMachine) → m ≡ now → IsConsistent t w m → AreCharges m.ledger → (g n : ℕ)
     → has_group now.ledger.groups g ≡ true → current_of now.ledger 0 + n < 2 ^ 32 → (h : ℕ) → h ≡ g → pages_booked t m.stock_seat h + n < 2 ^ 32
 room_booked t w m now same ok charges g n there fits h is =
     subst (λ (k : ℕ). pages_booked t m.stock_seat k + n < 2 ^ 32) (sym is)
@@ -237,7 +237,7 @@ room_booked t w m now same ok charges g n there fits h is =
     omega (arith, own, root, all, few))
 
 -- a group that isn't there has none
-pub frames_none : (t : KnownTable) (w : Words) (m now : KnownMachine) → m ≡ now → IsConsistent t w m → AreCharges m.ledger → (g : ℕ)
+pub frames_none : (t : KnownTable) (w : KnownStockTable) (m now : KnownMachine) → m ≡ now → IsConsistent t w m → AreCharges m.ledger → (g : ℕ)
     → has_group m.ledger.groups g ≡ false → 0 ≡ frames_charged now.frame_states g
 frames_none t w m now same ok charges g gone = elim (cases_lt 0 (pages_of m.ledger g)) [
   | inl some ↦ absurd (false≢true (sym gone ∙ charged_there m.ledger g charges some))

@@ -7,7 +7,7 @@ use Rattle.std.proofs.lemmas.List.Sums.{sum_by-append}
 use Rattle.std.proofs.Math.Seq.{take-suc}
 use Rattle.group_charge.specs.Charges.{AreCharges}
 use Rattle.frame_word.specs.Seats.{KnownTable}
-use Rattle.stock_word.specs.Stock.{Words}
+use Rattle.stock_word.specs.Stock.{KnownStockTable}
 use Rattle.step_rules.specs.State.{one_if, sum_to}
 use Rattle.step_rules.proofs.Homes.{number_low}
 use Rattle.step_rules.proofs.Sums.{sum_none, sum_only, sum_same, sum_swap}
@@ -45,7 +45,7 @@ group_low (Head unit) low = low unit.group refl
 group_low (Tail g) low = low g refl
 
 -- what is charged to the groups are all frames that are charged
-all_charged : (t : KnownTable) (w : Words) (m : KnownMachine) → IsConsistent t w m → AreCharges m.ledger
+all_charged : (t : KnownTable) (w : KnownStockTable) (m : KnownMachine) → IsConsistent t w m → AreCharges m.ledger
     → sum_to 64 (frames_charged m.frame_states) ≡ frames_in_groups m.frame_states
 all_charged t w m ok legal =
     let n : ℕ = length m.frame_states in
@@ -83,7 +83,7 @@ sum_grows (suc m) k h le = elim (cases_lt k (suc m)) [
 ]
 
 -- the first groups have no more frames than the zone
-some_charged : (t : KnownTable) (w : Words) (m : KnownMachine) → IsConsistent t w m → AreCharges m.ledger
+some_charged : (t : KnownTable) (w : KnownStockTable) (m : KnownMachine) → IsConsistent t w m → AreCharges m.ledger
     → (k : ℕ) → k ≤ 64 → sum_to k (frames_charged m.frame_states) ≤ t.frames
 some_charged t w m ok legal k le =
     let grows = sum_grows 64 k (frames_charged m.frame_states) le in
@@ -103,7 +103,7 @@ sum_next : (k : ℕ) (h : ℕ → ℕ) → sum_to (k + 1) h ≡ sum_to k h + h k
 unfolding sum_to
 sum_next k h = let e : k + 1 ≡ suc k = omega arith in rw e refl
 
-pub are_counted : (t : KnownTable) (w : Words) (m now : KnownMachine) → m ≡ now → IsConsistent t w m → AreCharges m.ledger
+pub are_counted : (t : KnownTable) (w : KnownStockTable) (m now : KnownMachine) → m ≡ now → IsConsistent t w m → AreCharges m.ledger
     → AreCounted t.frames now.frame_states
 are_counted t w m now same ok legal = subst (λ (x : KnownMachine). AreCounted t.frames x.frame_states) same (record {
   next = λ k. sum_next k (frames_charged m.frame_states);

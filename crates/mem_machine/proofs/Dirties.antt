@@ -5,13 +5,13 @@ use Rattle.std.proofs.lemmas.List.{get_or_default, set-get_or}
 use Rattle.std.proofs.lemmas.Option.{none-some}
 use Rattle.frame_word.specs.Views.{note_of}
 use Rattle.frame_word.specs.Seats.{KnownTable}
-use Rattle.stock_word.specs.Stock.{Words}
+use Rattle.stock_word.specs.Stock.{KnownStockTable}
 use Rattle.lru_lists.specs.declared.record.Link.{Link}
 use Rattle.lru_lists.specs.declared.record.Home.{Home}
 use Rattle.lru_lists.specs.declared.record.LruList.{LruList}
 use Rattle.lru_lists.specs.declared.record.LruList.TheVariants.{Inactive, Active}
 use Rattle.lru_lists.specs.declared.lru.Lru.{Lru}
-use Rattle.lru_lists.specs.Lists.{OthersStand, OneOfAllChanges, StandsIn, AllStand, ChangesOwn, list_of, place_of, entries_of, changed_at, dirtied}
+use Rattle.lru_lists.specs.Lists.{OthersStayLinked, OneOfAllChanges, AreLinked, AllLinked, ChangesOwn, list_of, place_of, entries_of, changed_at, dirtied}
 use Rattle.cpu_part.specs.Cpus.{KnownCpu}
 use Rattle.mem_machine.specs.FrameStates.{frame_state_at, head_group_of}
 use Rattle.mem_machine.specs.Machines.{KnownMachine, IsConsistent, OthersStay, home_of, lists_at, no_lists, group_lists, lists_of}
@@ -21,7 +21,7 @@ use Rattle.mem_machine.proofs.Listed.{dirtied_owners, fits_home, place_here, loo
 use Rattle.mem_machine.proofs.Followed.{makes_stay}
 
 -- a home that is there is of a group number
-pub owner_bound : (t : KnownTable) (w : Words) (m : KnownMachine) → IsConsistent t w m → (f : ℕ) (h : Home) → f < t.frames
+pub owner_bound : (t : KnownTable) (w : KnownStockTable) (m : KnownMachine) → IsConsistent t w m → (f : ℕ) (h : Home) → f < t.frames
     → home_of m.links f ≡ Some h → h.owner < 64
 owner_bound t w m ok f h inside is = (subst (λ (x : Option Home). IfSome x (λ y. (y.owner < 64) × (head_group_of
     (frame_state_at m.frame_states f) ≡ Some y.owner))) is (ok.frame_states f inside).kept).0
@@ -29,7 +29,7 @@ owner_bound t w m ok f h inside is = (subst (λ (x : Option Home). IfSome x (λ 
 pub on_list : (links : List Link) (f : ℕ) (h : Home) → home_of links f ≡ Some h → list_of links h.owner f ≢ None
 on_list links f h is none = none-some h.list (sym none ∙ ap (λ (x : Option Home). place_of x h.owner) is ∙ place_here h.owner h.list)
 
-module _ (t : KnownTable) (w : Words) (m : KnownMachine) (ok : IsConsistent t w m) (f : ℕ) (inside : f < t.frames) (h : Home)
+module _ (t : KnownTable) (w : KnownStockTable) (m : KnownMachine) (ok : IsConsistent t w m) (f : ℕ) (inside : f < t.frames) (h : Home)
     (home : home_of m.links f ≡ Some h)
     (lru : Lru) (read : lru ≡ get_or m.lists h.owner lru) where
   bound : h.owner < length m.lists
@@ -38,20 +38,20 @@ module _ (t : KnownTable) (w : Words) (m : KnownMachine) (ok : IsConsistent t w 
   pub owned : lru.owner ≡ h.owner
   owned = ap (λ (x : Lru). x.owner) read ∙ (ok.lists h.owner lru bound).0
 
-  pub stands : StandsIn m.links lru
-  stands = subst (StandsIn m.links) (sym read) (ok.lists h.owner lru bound).1
+  pub stands : AreLinked m.links lru
+  stands = subst (AreLinked m.links) (sym read) (ok.lists h.owner lru bound).1
 
   pub its_lists : lists_at m.lists h.owner ≡ lru
   its_lists = sym (read ∙ get_or_default m.lists h.owner lru no_lists bound)
 
-  module _ (links : List Link) (d : Bool) (now_stands : StandsIn links lru)
+  module _ (links : List Link) (d : Bool) (now_stands : AreLinked links lru)
       (entries : (list : LruList) → entries_of links lru list ≡ changed_at f (dirtied d) (entries_of m.links lru list))
-      (changes : ChangesOwn m.links links lru.owner) (others_stand : OthersStand) (one_of_all_changes : OneOfAllChanges) where
+      (changes : ChangesOwn m.links links lru.owner) (others_stay_linked : OthersStayLinked) (one_of_all_changes : OneOfAllChanges) where
     same_lists : slice_set m.lists h.owner lru ≡ m.lists
     same_lists = ap (slice_set m.lists h.owner) read ∙ set-get_or m.lists h.owner lru
 
-    all_stand : AllStand links m.lists
-    all_stand = subst (AllStand links) (ap (λ (k : ℕ). slice_set m.lists k lru) owned ∙ same_lists)
+    all_stand : AllLinked links m.lists
+    all_stand = subst (AllLinked links) (ap (λ (k : ℕ). slice_set m.lists k lru) owned ∙ same_lists)
         (one_of_all_changes m.links links m.lists lru ok.lists (subst (λ (k : ℕ). k < length m.lists) (sym owned) bound) now_stands changes)
 
     owners : (g : ℕ) → option_map (λ (x : Home). x.owner) (home_of links g) ≡ option_map (λ (x : Home). x.owner) (home_of m.links g)
@@ -75,13 +75,13 @@ module _ (t : KnownTable) (w : Words) (m : KnownMachine) (ok : IsConsistent t w 
     dirty_does = record {
       group = h.owner;
       list = h.list;
-      stands = home;
+      home = home;
       machine = refl;
       inactive = subst (λ (x : Lru). entries_of links x Inactive ≡ changed_at f (dirtied d) (entries_of m.links x Inactive)) (sym its_lists)
           (entries Inactive);
       active = subst (λ (x : Lru). entries_of links x Active ≡ changed_at f (dirtied d) (entries_of m.links x Active)) (sym its_lists) (entries Active);
       others = subst (λ (l : List Lru). OthersStay h.owner (lists_of m) (group_lists links l)) same_lists
-          (others_stay m.links links m.lists h.owner lru lru ok.lists ok.sizes.lists owned changes others_stand);
+          (others_stay m.links links m.lists h.owner lru lru ok.lists ok.sizes.lists owned changes others_stay_linked);
       loose = λ g none. loose_stay m.links links lru.owner g changes (owners g) none;
     }
 
@@ -91,15 +91,15 @@ has_home m now same f i is kept none =
     kept (subst (λ (x : KnownMachine × ℕ). home_of x.0.links x.1 ≡ None) (λ j. (same j, is j)) (sym none))
 
 -- all of it, of the machine as it was seen before
-pub record AllDirtied (t : KnownTable) (w : Words) (now : KnownMachine) (f : ℕ) (d : Bool) (n : KnownMachine) : Type 0 where
+pub record AllDirtied (t : KnownTable) (w : KnownStockTable) (now : KnownMachine) (f : ℕ) (d : Bool) (n : KnownMachine) : Type 0 where
   pub consistent : IsConsistent t w n
   pub dirties : Dirties f d now n
   pub steps : (c : KnownCpu) → MakesAs t c.number (visit_state now c) [] (visit_state n c)
 
-pub dirty_all : (t : KnownTable) (w : Words) (m now : KnownMachine) → m ≡ now → IsConsistent t w m → (f i : ℕ) → f < t.frames → i ≡ f → (h : Home)
-    → Some h ≡ home_of m.links i → (lru : Lru) → lru ≡ get_or m.lists h.owner lru → (links : List Link) (d : Bool) → StandsIn links lru
+pub dirty_all : (t : KnownTable) (w : KnownStockTable) (m now : KnownMachine) → m ≡ now → IsConsistent t w m → (f i : ℕ) → f < t.frames → i ≡ f → (h : Home)
+    → Some h ≡ home_of m.links i → (lru : Lru) → lru ≡ get_or m.lists h.owner lru → (links : List Link) (d : Bool) → AreLinked links lru
     → ((list : LruList) → entries_of links lru list ≡ changed_at i (dirtied d) (entries_of m.links lru list)) → ChangesOwn m.links links lru.owner
-    → OthersStand → OneOfAllChanges → AllDirtied t w now f d (record m { links = links })
+    → OthersStayLinked → OneOfAllChanges → AllDirtied t w now f d (record m { links = links })
 dirty_all t w m now same ok f i inside is h home lru read links d now_stands entries changes others all =
     let at : home_of m.links f ≡ Some h = ap (home_of m.links) (sym is) ∙ sym home in
     let told : (list : LruList) → entries_of links lru list ≡ changed_at f (dirtied d) (entries_of m.links lru list) =

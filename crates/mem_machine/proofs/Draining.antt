@@ -9,7 +9,7 @@ use Rattle.std.proofs.lemmas.Option.{none-some}
 use Rattle.frame_word.specs.Seats.{KnownTable}
 use Rattle.stock_word.specs.declared.view.Account.{Account}
 use Rattle.stock_word.specs.declared.view.StockView.{StockView}
-use Rattle.stock_word.specs.Stock.{Words, Seated, IsZoneStock, account_of}
+use Rattle.stock_word.specs.Stock.{KnownStockTable, KnownStockSeat, IsZoneStock, account_of}
 use Rattle.stock_word.specs.Kinds.{draining, with_steps}
 use Rattle.stock_word.specs.Calls.{with_view}
 use Rattle.stock_word.proofs.CallerLemmas.{account_of-with_account, account_of-with_account_other}
@@ -127,7 +127,7 @@ booked_no_group : (h : ℕ) (a : Account) → a.group ≡ None → booked h a �
 booked_no_group h a none = booked_is h a 0 (ap (count_of h) none)
 
 -- what is booked to a CPU's stock is charged to its group
-pub booked_within : (t : KnownTable) (stock : Seated) (q g : ℕ) → q ≤ t.cpus → (account_of stock.view q).group ≡ Some g
+pub booked_within : (t : KnownTable) (stock : KnownStockSeat) (q g : ℕ) → q ≤ t.cpus → (account_of stock.view q).group ≡ Some g
     → (account_of stock.view q).book ≤ pages_booked t stock g
 booked_within t stock q g inside group =
     let x : booked g (account_of stock.view q) ≡ (account_of stock.view q).book =
@@ -138,7 +138,7 @@ booked_within t stock q g inside group =
 -- ---- consistency
 
 -- other charges and another seat of the stocks
-pub stocks_consistent : (t : KnownTable) (w : Words) (m : KnownMachine) (l : Ledger) (stock : Seated)
+pub stocks_consistent : (t : KnownTable) (w : KnownStockTable) (m : KnownMachine) (l : Ledger) (stock : KnownStockSeat)
     → IsConsistent t w m → stock.table ≡ m.stock_seat.table → IsZoneStock stock.view
     → ((p : ℕ) → (account_of stock.view p).unabsorbed ≡ 0) → ((p : ℕ) → (account_of stock.view p).book < 65536)
     → ((g : ℕ) → pages_of l g ≡ frames_charged m.frame_states g + pages_booked t stock g)
@@ -156,9 +156,9 @@ stocks_consistent t w m l stock ok table machine noted bounded charged = record 
   balances = ok.balances;
 }
 
-module _ (t : KnownTable) (w : Words) (m : KnownMachine) (ok : IsConsistent t w m) (s q k : ℕ) (inside : q ≤ t.cpus) (enough : k
+module _ (t : KnownTable) (w : KnownStockTable) (m : KnownMachine) (ok : IsConsistent t w m) (s q k : ℕ) (inside : q ≤ t.cpus) (enough : k
     ≤ (account_of m.stock_seat.view q).book) where
-  abbrev pub emptied : Seated
+  abbrev pub emptied : KnownStockSeat
   emptied = with_view m.stock_seat (with_steps s (draining m.stock_seat.view q k))
 
   books_change : (h : ℕ) → pages_booked t emptied h + booked h (account_of m.stock_seat.view q)
@@ -226,7 +226,7 @@ part_drained l f b a n =
       reported = a.unabsorbed;
     }
 
-module _ (stock : Seated) (c : KnownCpu) (q n : ℕ) where
+module _ (stock : KnownStockSeat) (c : KnownCpu) (q n : ℕ) where
   abbrev pub shown : ℕ → Account → Part
   shown p a = cond (p == c.number) (part_with c.list c.fresh c.back a) (part_with [] [] [] a)
 
@@ -326,13 +326,13 @@ drain_runs t m n steps q k is some inside there c =
     })
 
 -- what a drain by this many steps leaves, of the machine as it was seen before
-pub record Drained (t : KnownTable) (w : Words) (m now : KnownMachine) (count q k : ℕ) (l : Ledger) (stock : Seated) : Type 0 where
+pub record Drained (t : KnownTable) (w : KnownStockTable) (m now : KnownMachine) (count q k : ℕ) (l : Ledger) (stock : KnownStockSeat) : Type 0 where
   pub consistent : IsConsistent t w (record m { ledger = l; stock_seat = stock })
   pub drains : DrainsBy count q k now (record m { ledger = l; stock_seat = stock })
   pub steps : (c : KnownCpu) → LeadsAs t c.number (visit_state now c) (drain_steps q (stock_group now q) k)
       (visit_state (record m { ledger = l; stock_seat = stock }) c)
 
-drained_here : (t : KnownTable) (w : Words) (m : KnownMachine) (steps q k : ℕ) → IsConsistent t w m → (1 ≤ k → AreCharges m.ledger) → 1 ≤ q → q ≤ t.cpus
+drained_here : (t : KnownTable) (w : KnownStockTable) (m : KnownMachine) (steps q k : ℕ) → IsConsistent t w m → (1 ≤ k → AreCharges m.ledger) → 1 ≤ q → q ≤ t.cpus
     → k ≤ (account_of m.stock_seat.view q).book → ((account_of m.stock_seat.view q).filled ≡ false → k ≡ 0) → (stock_group m q ≡ None → k ≡ 0)
     → Drained t w m m steps q k (uncharged m.ledger (stock_group m q) k) (with_view m.stock_seat (with_steps steps (draining m.stock_seat.view q k)))
 drained_here t w m steps q k ok facts some inside enough before none = record {
@@ -346,16 +346,16 @@ drained_here t w m steps q k ok facts some inside enough before none = record {
       (λ g of one. (drained_there t w m ok steps q k inside enough g (facts one) of one).0);
 }
 
-pub drained_all : (t : KnownTable) (w : Words) (m now : KnownMachine) (steps q k : ℕ) → m ≡ now → IsConsistent t w m
+pub drained_all : (t : KnownTable) (w : KnownStockTable) (m now : KnownMachine) (steps q k : ℕ) → m ≡ now → IsConsistent t w m
     → (1 ≤ k → AreCharges m.ledger) → 1 ≤ q → q ≤ t.cpus
     → k ≤ (account_of m.stock_seat.view q).book → ((account_of m.stock_seat.view q).filled ≡ false → k ≡ 0) → (o : Option ℕ) → stock_group now q ≡ o → (o ≡ None → k ≡ 0)
-    → (l : Ledger) (stock : Seated) → l ≡ uncharged m.ledger o k → stock ≡ with_view m.stock_seat (with_steps steps (draining m.stock_seat.view q k))
+    → (l : Ledger) (stock : KnownStockSeat) → l ≡ uncharged m.ledger o k → stock ≡ with_view m.stock_seat (with_steps steps (draining m.stock_seat.view q k))
     → Drained t w m now steps q k l stock
 drained_all t w m now steps q k same ok facts some inside enough before o of none l stock off emptied =
     let group : stock_group m q ≡ o = ap (λ (x : KnownMachine). stock_group x q) same ∙ of in
     let here = drained_here t w m steps q k ok facts some inside enough before (λ e. none (sym group ∙ e)) in
     let ledger : uncharged m.ledger (stock_group m q) k ≡ l = ap (λ (x : Option ℕ). uncharged m.ledger x k) group ∙ sym off in
-    subst (λ (x : KnownMachine × Ledger × Seated). Drained t w m x.0 steps q k x.1 x.2) (λ i. (same i, ledger i, sym emptied i)) here
+    subst (λ (x : KnownMachine × Ledger × KnownStockSeat). Drained t w m x.0 steps q k x.1 x.2) (λ i. (same i, ledger i, sym emptied i)) here
 
 pub some_not_none : (g k : ℕ) → Some g ≡ None → k ≡ 0
 some_not_none g k e = absurd (none-some g (sym e))
@@ -365,7 +365,7 @@ pub drained_none : (l : Ledger) (o : Option ℕ) (k : ℕ) → k ≡ 0 → l ≡
 drained_none l o k none = sym (ap (uncharged l o) none ∙ uncharged_none l o)
 
 -- the group of the pages, by its number
-pub drained_within : (t : KnownTable) (w : Words) (m now : KnownMachine) → m ≡ now → IsConsistent t w m → AreCharges m.ledger → (q k : ℕ) → q ≤ t.cpus
+pub drained_within : (t : KnownTable) (w : KnownStockTable) (m now : KnownMachine) → m ≡ now → IsConsistent t w m → AreCharges m.ledger → (q k : ℕ) → q ≤ t.cpus
     → k ≤ (account_of m.stock_seat.view q).book → (g : ℕ) → stock_group now q ≡ Some g → 1 ≤ k → (id : ℕ) → id ≡ g
     → (has_group m.ledger.groups id ≡ true) × (k ≤ pages_of m.ledger id)
 drained_within t w m now same ok facts q k inside enough g of some id is =
@@ -373,8 +373,8 @@ drained_within t w m now same ok facts q k inside enough g of some id is =
     (drained_there t w m ok 0 q k inside enough g facts (ap (λ (x : KnownMachine). stock_group x q) same ∙ of) some)
 
 -- a stock of no group: the look for its group drained nothing
-pub never_drained : (t : KnownTable) (w : Words) (m now : KnownMachine) → m ≡ now → IsConsistent t w m → (q : ℕ) → 1 ≤ q → q ≤ t.cpus
-    → None ≡ stock_group m q → (stock : Seated) → stock ≡ with_view m.stock_seat (with_steps 1 (draining m.stock_seat.view q 0))
+pub never_drained : (t : KnownTable) (w : KnownStockTable) (m now : KnownMachine) → m ≡ now → IsConsistent t w m → (q : ℕ) → 1 ≤ q → q ≤ t.cpus
+    → None ≡ stock_group m q → (stock : KnownStockSeat) → stock ≡ with_view m.stock_seat (with_steps 1 (draining m.stock_seat.view q 0))
     → Drained t w m now 1 q 0 m.ledger stock
 never_drained t w m now same ok q some inside none stock emptied =
     drained_all t w m now 1 q 0 same ok (λ one. absurd (omega (arith, one))) some inside (omega arith) (λ e. refl) None
@@ -387,14 +387,14 @@ drained_never m now n same q none drains = subst (λ (o : Option ℕ). DrainsBy 
     (none ∙ ap (λ (x : KnownMachine). stock_group x q) same) drains
 
 -- a look at a stock of a group, of the machine as it was seen before
-pub looked_now : (m now : KnownMachine) → m ≡ now → (stock : Seated) → stock ≡ with_view m.stock_seat (with_steps 1 m.stock_seat.view)
+pub looked_now : (m now : KnownMachine) → m ≡ now → (stock : KnownStockSeat) → stock ≡ with_view m.stock_seat (with_steps 1 m.stock_seat.view)
     → record m { stock_seat = stock } ≡ with_look now
 looked_now m now same stock is = (λ i. record m { stock_seat = is i }) ∙ ap with_look same
 
 -- the machine is consistent after it
-pub looked_consistent : (t : KnownTable) (w : Words) (m : KnownMachine) → IsConsistent t w m → (stock : Seated)
+pub looked_consistent : (t : KnownTable) (w : KnownStockTable) (m : KnownMachine) → IsConsistent t w m → (stock : KnownStockSeat)
     → stock ≡ with_view m.stock_seat (with_steps 1 m.stock_seat.view) → IsConsistent t w (record m { stock_seat = stock })
-looked_consistent t w m ok stock is = subst (λ (x : Seated). IsConsistent t w (record m { stock_seat = x })) (sym is)
+looked_consistent t w m ok stock is = subst (λ (x : KnownStockSeat). IsConsistent t w (record m { stock_seat = x })) (sym is)
     (stocks_consistent t w m m.ledger (with_look m).stock_seat ok refl ok.seats.stocks ok.absorbed ok.bounded ok.charged)
 
 -- the pages come off after a look that found the group, and the steps of both count
@@ -418,7 +418,7 @@ after_look m n q k g of drains = record {
         three ∙ ap (λ (o : Option ℕ). m.stock_seat.view.steps + steps_to_drain o) (sym of)
 
 -- of the machine as it was seen before the look
-module _ (m now : KnownMachine) (same : m ≡ now) (stock : Seated) (is : stock ≡ with_view m.stock_seat (with_steps 1 m.stock_seat.view)) (q k g : ℕ)
+module _ (m now : KnownMachine) (same : m ≡ now) (stock : KnownStockSeat) (is : stock ≡ with_view m.stock_seat (with_steps 1 m.stock_seat.view)) (q k g : ℕ)
     (of : Some g ≡ stock_group m q) (n : KnownMachine) where
   pub drained_looked : DrainsBy 2 q k (record m { stock_seat = stock }) n → Drains q k now n
   drained_looked drains = after_look now n q k g (sym (of ∙ ap (λ (x : KnownMachine). stock_group x q) same))

@@ -10,16 +10,15 @@ use Rattle.std.proofs.lemmas.Bool.{cases_eq, false_from_ne_true, false≢true}
 use Rattle.frame_word.specs.Seats.{KnownTable}
 use Rattle.stock_word.specs.declared.view.Account.{Account}
 use Rattle.stock_word.specs.declared.view.StockView.{StockView}
-use Rattle.stock_word.specs.Stock.{Seated, account_of}
+use Rattle.stock_word.specs.Stock.{KnownStockSeat, account_of}
 use Rattle.stock_word.specs.Calls.{with_view, after_look}
 use Rattle.stock_word.specs.Kinds.{draining, with_steps}
 use Rattle.group_tree.specs.declared.group.Group.{Group}
 use Rattle.group_tree.specs.Groups.{has_group, in_subtree}
 use Rattle.group_tree.proofs.CallerLemmas.{in_subtree-below}
 use Rattle.cpu_part.specs.Cpus.{KnownCpu}
-use Rattle.kill_notes.specs.declared.note.Note.{Note}
 use Rattle.kill_notes.specs.declared.note.Note.TheVariants.{Stock}
-use Rattle.kill_notes.specs.Notes.{noted as added}
+use Rattle.kill_notes.specs.Notes.{KnownNotes, noted as added}
 use Rattle.mem_machine.specs.Machines.{KnownMachine}
 use Rattle.step_rules.specs.State.{Part}
 use Rattle.step_rules.specs.After.{Run}
@@ -121,7 +120,7 @@ module _ (t : KnownTable) (m : KnownMachine) (q : ℕ) (none : stock_group m q �
       (λ i. record (local_of t m c) { parts = λ p. sym (shown_same p) i }) refl refl refl
 
 -- the stock of a group that the test chooses, of the machine as it was seen before the look
-pub looked_own : (t : KnownTable) (m now : KnownMachine) → m ≡ now → (stock : Seated) → stock ≡ with_view m.stock_seat (with_steps 1 m.stock_seat.view)
+pub looked_own : (t : KnownTable) (m now : KnownMachine) → m ≡ now → (stock : KnownStockSeat) → stock ≡ with_view m.stock_seat (with_steps 1 m.stock_seat.view)
     → (test : List Group → Option ℕ → Bool)
     → (q h pages : ℕ) (n : KnownMachine) → Some h ≡ stock_group m q → test m.ledger.groups (Some h) ≡ true → DrainsNoted 2 q pages (record m { stock_seat = stock }) n
     → ((c : KnownCpu) → MakesAs t c.number (visit_state (record m { stock_seat = stock }) c) (drain_steps q (stock_group (record m { stock_seat = stock }) q) pages)
@@ -131,7 +130,7 @@ looked_own t m now same stock is test q h pages n of chosen noted steps =
     drained_one t test q pages now n
     (ap (test now.ledger.groups) (sym its) ∙ ap (λ (x : KnownMachine). test x.ledger.groups (Some h)) (sym same) ∙ chosen)
     (record {
-      drains = subst (λ (l : List Note). DrainsBy (steps_to_drain (stock_group now q)) q pages now (record n { notes = l }))
+      drains = subst (λ (l : KnownNotes). DrainsBy (steps_to_drain (stock_group now q)) q pages now (record n { notes = l }))
           (ap (λ (x : KnownMachine). x.notes) same)
           (drained_looked m now same stock is q pages h of (record n { notes = m.notes }) noted.drains);
       noted = noted.noted ∙ ap (λ (x : KnownMachine). added x.notes (Stock q pages)) same;
@@ -140,7 +139,7 @@ looked_own t m now same stock is test q h pages n of chosen noted steps =
 
 -- the stock of another group
 pub looked_other : (t : KnownTable) (m now : KnownMachine) → m ≡ now → (test : List Group → Option ℕ → Bool) (q h : ℕ) → Some h ≡ stock_group m q
-    → test m.ledger.groups (Some h) ≡ false → (stock : Seated) → stock ≡ with_view m.stock_seat (with_steps 1 m.stock_seat.view)
+    → test m.ledger.groups (Some h) ≡ false → (stock : KnownStockSeat) → stock ≡ with_view m.stock_seat (with_steps 1 m.stock_seat.view)
     → DrainsBySteps t (DrainsIf test q) 0 now (record m { stock_seat = stock })
 looked_other t m now same test q h of other stock is =
     let none : with_look m ≡ record m { stock_seat = with_view m.stock_seat (with_steps 1 (after_look m.stock_seat.view q (stock_group m q))) } =
@@ -150,7 +149,7 @@ looked_other t m now same test q h of other stock is =
 
 -- the stock of no group
 pub looked_never : (t : KnownTable) (m now : KnownMachine) → m ≡ now → (test : List Group → Option ℕ → Bool) (q : ℕ) → None ≡ stock_group m q
-    → test m.ledger.groups None ≡ false → (stock : Seated) → stock ≡ with_view m.stock_seat (with_steps 1 (draining m.stock_seat.view q 0))
+    → test m.ledger.groups None ≡ false → (stock : KnownStockSeat) → stock ≡ with_view m.stock_seat (with_steps 1 (draining m.stock_seat.view q 0))
     → DrainsBySteps t (DrainsIf test q) 0 now (record m { stock_seat = stock })
 looked_never t m now same test q of none_chosen stock is =
     let n : KnownMachine = record m { stock_seat = with_view m.stock_seat (with_steps 1 (draining m.stock_seat.view q 0)) } in

@@ -8,13 +8,13 @@ use Rattle.zone_blocks.specs.Areas.{AreMaximalBlocks}
 use Rattle.frame_word.specs.declared.view.FrameNote.{FrameNote}
 use Rattle.frame_word.specs.Views.{note_of, frozen, missed}
 use Rattle.frame_word.specs.Seats.{KnownTable, KnownSeat, seat_with, holds, FreezeAnswers}
-use Rattle.stock_word.specs.Stock.{Words}
+use Rattle.stock_word.specs.Stock.{KnownStockTable}
 use Rattle.zone_buddy.specs.Zone.{GivesFrames}
 use Rattle.group_charge.specs.Charges.{Ledger, UsageRises, with_uncharge}
 use Rattle.lru_lists.specs.declared.record.Link.{Link}
 use Rattle.lru_lists.specs.declared.record.Home.{Home}
 use Rattle.lru_lists.specs.declared.lru.Lru.{Lru}
-use Rattle.lru_lists.specs.Lists.{AllStand}
+use Rattle.lru_lists.specs.Lists.{AllLinked}
 use Rattle.cpu_part.specs.Cpus.{KnownCpu}
 use Rattle.step_rules.specs.declared.phase.ChargedUnit.{ChargedUnit}
 use Rattle.step_rules.specs.declared.step.Action.TheVariants.{Freeze}
@@ -31,11 +31,13 @@ use Rattle.mem_machine.specs.Counts.{with_freeze, with_miss}
 use Rattle.mem_machine.specs.Counting.{with_one_frozen}
 use Rattle.mem_machine.specs.Lists.{LeavesList}
 use Rattle.mem_machine.specs.Evicting.{MissesUnit, EvictsUnit, evict_steps}
+use Rattle.kill_notes.specs.Notes.{KnownNotes, unit_noted}
 use Rattle.mem_machine.proofs.Balances.{balanced_freeze}
 use Rattle.mem_machine.proofs.Reaching.{zone_step}
 use Rattle.mem_machine.proofs.Holds.{zone_may_act}
 use Rattle.mem_machine.proofs.Releases.{TakesInHand, note_keeps, visit_stays, held_once, back_all}
 use Rattle.mem_machine.proofs.Followed.{follows_same, LeadsForAny}
+use Rattle.mem_machine.proofs.Watched.{consistent_noted, visits_noted}
 
 frozen_in_hand : TakesInHand (frozen 1)
 frozen_in_hand = record { own = λ k. refl; lent = λ k. refl; references = λ k. refl; passed_out = λ k. refl; collected = λ k. refl }
@@ -46,7 +48,7 @@ may_freeze t m f inside held c =
     and_from _ _ (and_from _ _ (and_from _ _ (zone_may_act m.frame_seat c.number) (lt-ltb f t.frames inside)) refl) (le-leb 1 (holds m.frame_seat f) (omega (arith, held)))
 
 -- the zone has a reference on a kept unit
-pub kept_held : (t : KnownTable) (w : Words) (m now : KnownMachine) → m ≡ now → IsConsistent t w m → (f : ℕ) → f < t.frames → home_of now.links f ≢ None
+pub kept_held : (t : KnownTable) (w : KnownStockTable) (m now : KnownMachine) → m ≡ now → IsConsistent t w m → (f : ℕ) → f < t.frames → home_of now.links f ≢ None
     → holds m.frame_seat f ≡ 1
 kept_held t w m now same ok f inside kept = held_once t w m ok f inside (subst (λ (x : KnownMachine). home_of x.links f ≢ None) (sym same) kept)
 
@@ -57,13 +59,13 @@ references_stay : (seat : KnownSeat) (c : KnownCpu) (f word q x : ℕ) → refer
 references_stay seat c f word q x =
     ap (λ (n : ℕ). cond (q == 0) n (cond (q == c.number) (holds c.frame_seat x) 0)) (sym (note_keeps seat f (missed word) (λ k. k.references) (λ k. refl) x))
 
-pub record AllMissed (t : KnownTable) (w : Words) (now : KnownMachine) (f : ℕ) (n : KnownMachine) : Type 0 where
+pub record AllMissed (t : KnownTable) (w : KnownStockTable) (now : KnownMachine) (f : ℕ) (n : KnownMachine) : Type 0 where
   pub consistent : IsConsistent t w n
   pub misses : MissesUnit f now n
   pub visit : (c : KnownCpu) → Visits t (visit_state now c) → Visits t (visit_state n c)
   pub steps : LeadsForAny t now (evict_steps f None) n
 
-missed_fits : (t : KnownTable) (w : Words) (m : KnownMachine) → IsConsistent t w m → (f word g : ℕ) → g < t.frames
+missed_fits : (t : KnownTable) (w : KnownStockTable) (m : KnownMachine) → IsConsistent t w m → (f word g : ℕ) → g < t.frames
     → FitsFrameState t.cpus (note_of (seat_with m.frame_seat f (missed word)).view g) (home_of m.links g) (frame_state_at m.frame_states g)
 missed_fits t w m ok f word g within =
     let old = ok.frame_states g within in
@@ -76,7 +78,7 @@ missed_fits t w m ok f word g within =
       kept = old.kept;
     }
 
-pub missed_all : (t : KnownTable) (w : Words) (m now : KnownMachine) → m ≡ now → IsConsistent t w m → (f : ℕ) → f < t.frames → home_of now.links f ≢ None
+pub missed_all : (t : KnownTable) (w : KnownStockTable) (m now : KnownMachine) → m ≡ now → IsConsistent t w m → (f : ℕ) → f < t.frames → home_of now.links f ≢ None
     → (seat : KnownSeat) → FreezeAnswers m.frame_seat f 1 false seat → (counts : Counts) → counts ≡ with_miss m.counts
     → AllMissed t w now f (record m { frame_seat = seat; counts = counts })
 missed_all t w m now same ok f inside kept seat answered counts counted =
@@ -118,24 +120,25 @@ some_same : (a b : ℕ) → Some a ≡ Some b → a ≡ b
 some_same a b e = cc
 
 -- the unit's group is that of its list
-same_group : (t : KnownTable) (w : Words) (m : KnownMachine) → IsConsistent t w m → (f : ℕ) → f < t.frames → (unit : ChargedUnit)
+same_group : (t : KnownTable) (w : KnownStockTable) (m : KnownMachine) → IsConsistent t w m → (f : ℕ) → f < t.frames → (unit : ChargedUnit)
     → frame_state_at m.frame_states f ≡ Head unit → (h : Home) → home_of m.links f ≡ Some h → unit.group ≡ h.owner
 same_group t w m ok f inside unit heads h home =
     let kept = subst (λ (x : Option Home). IfSome x (λ y. (y.owner < 64) × (head_group_of (frame_state_at m.frame_states f) ≡ Some y.owner))) home (ok.frame_states f inside).kept in
     some_same unit.group h.owner (sym (ap head_group_of heads) ∙ kept.1)
 
-pub record AllEvicted (t : KnownTable) (w : Words) (now : KnownMachine) (f pages : ℕ) (free : List Bool) (n : KnownMachine) : Type 0 where
+pub record AllEvicted (t : KnownTable) (w : KnownStockTable) (now : KnownMachine) (f pages : ℕ) (free : List Bool) (n : KnownMachine) : Type 0 where
   pub consistent : IsConsistent t w n
   pub free_is : free ≡ free_of n.frame_states
   pub evicts : EvictsUnit f pages now n
   pub visit : (c : KnownCpu) → Visits t (visit_state now c) → Visits t (visit_state n c)
   pub steps : LeadsForAny t now (evict_steps f (Some pages)) n
 
-pub evicted_all : (t : KnownTable) (w : Words) (m now : KnownMachine) → m ≡ now → IsConsistent t w m → (f i : ℕ)
+pub evicted_all : (t : KnownTable) (w : KnownStockTable) (m now : KnownMachine) → m ≡ now → IsConsistent t w m → (f i : ℕ)
     → f < t.frames → i ≡ f → home_of now.links f ≢ None → (links : List Link) (lists : List Lru) → LeavesList i (lists_of m) (group_lists links lists)
-    → AllStand links lists → length links ≡ length m.links → length lists ≡ 64 → (seat : KnownSeat) → FreezeAnswers m.frame_seat f 1 true seat
+    → AllLinked links lists → length links ≡ length m.links → length lists ≡ 64 → (seat : KnownSeat) → FreezeAnswers m.frame_seat f 1 true seat
     → (unit : ChargedUnit) → frame_state_at m.frame_states i ≡ Head unit
     → (before free : List Bool) (blocks : List Block) (frame_states : List FrameState) (ledger : Ledger) (counts : Counts) (pages : ℕ)
+    (notes : KnownNotes) → notes ≡ unit_noted m.notes unit.group i pages
     → before ≡ free_of m.frame_states → FreesFrames i (2 ^ unit.order) m.frame_states frame_states → GivesFrames before (record { at = i; order = unit.order }) free
     → AreMaximalBlocks free blocks → ledger ≡ with_uncharge m.ledger unit.group (2 ^ unit.order)
     → UsageRises ledger m.ledger unit.group (2 ^ unit.order) → counts ≡ with_freeze m.counts → pages ≡ 2 ^ unit.order
@@ -147,9 +150,10 @@ pub evicted_all : (t : KnownTable) (w : Words) (m now : KnownMachine) → m ≡ 
       lists = lists;
       frame_seat = seat;
       counts = counts;
+      notes = notes;
     })
 evicted_all t w m now same ok f i inside is kept_now links lists left_list stand linked listed seat answered unit head before free blocks frame_states
-    ledger counts pages was frees_i gives_i areas_free uncharged usage counted size =
+    ledger counts pages notes noted was frees_i gives_i areas_free uncharged usage counted size =
     let n : KnownMachine = record m {
       blocks = blocks;
       frame_states = frame_states;
@@ -166,9 +170,9 @@ evicted_all t w m now same ok f i inside is kept_now links lists left_list stand
     let here : frame_state_at m.frame_states f ≡ Head unit = subst (λ (x : ℕ). frame_state_at m.frame_states x ≡ Head unit) is head in
     let list : LeavesList f (lists_of now) (group_lists links lists) = back.list in
     let home : home_of m.links f ≡ Some (record { owner = list.group; list = list.list }) =
-    ap (λ (x : KnownMachine). home_of x.links f) same ∙ list.stands in
+    ap (λ (x : KnownMachine). home_of x.links f) same ∙ list.home in
     record {
-      consistent = back.consistent;
+      consistent = consistent_noted t w n notes back.consistent;
       free_is = back.free_is;
       evicts = record {
         unit = unit;
@@ -187,9 +191,10 @@ evicted_all t w m now same ok f i inside is kept_now links lists left_list stand
           lists = lists;
           frame_seat = (answered.1 ∙ ap (λ (x : KnownMachine). seat_with x.frame_seat f (frozen 1)) same) j;
           counts = (counted ∙ ap (λ (x : KnownMachine). with_freeze x.counts) same) j;
+          notes = (noted ∙ (λ l. unit_noted (same l).notes unit.group (is l) (size l))) j;
           watch = m.watch;
         };
       };
-      visit = back.visit;
-      steps = back.runs;
+      visit = λ c visit. visits_noted t n c notes (back.visit c visit);
+      steps = λ c. let made = back.runs c in record { leads = made.leads; follows = made.follows; counts = made.counts };
     }

@@ -7,12 +7,13 @@ use Rattle.zone_blocks.specs.Areas.{AreMaximalBlocks}
 use Rattle.frame_word.specs.declared.view.FrameNote.{FrameNote}
 use Rattle.frame_word.specs.Views.{note_of, blank}
 use Rattle.frame_word.specs.Seats.{KnownTable, KnownSeat, number_of, first_zone_view}
-use Rattle.stock_word.specs.Stock.{Words, Seated, account_of, first_zone_stock}
+use Rattle.stock_word.specs.Stock.{KnownStockTable, KnownStockSeat, account_of, first_zone_stock}
 use Rattle.group_charge.specs.Charges.{Ledger, initial_ledger, pages_of, account_at}
+use Rattle.kill_notes.specs.Notes.{no_notes}
 use Rattle.lru_lists.specs.declared.record.Link.{Link}
 use Rattle.lru_lists.specs.declared.record.Home.{Home}
 use Rattle.lru_lists.specs.declared.lru.Lru.{Lru}
-use Rattle.lru_lists.specs.Lists.{AllStand, StandsIn, HasNoUnits, place_of}
+use Rattle.lru_lists.specs.Lists.{AllLinked, AreLinked, HasNoUnits, place_of}
 use Rattle.lru_lists.specs.Queue.{AreNowhere}
 use Rattle.step_rules.specs.declared.phase.ChargedUnit.{ChargedUnit}
 use Rattle.step_rules.proofs.Sums.{sum_none}
@@ -31,7 +32,7 @@ empty_none lists none = record {
 }
 
 pub empty_pushed : (lists more : List Lru) (n : ℕ) (new : Lru) → AreEmpty lists n → new.owner ≡ n
-    → ((links : List Link) → HasNoUnits links n → StandsIn links new) → more ≡ lists ++ new ∷ [] → AreEmpty more (n + 1)
+    → ((links : List Link) → HasNoUnits links n → AreLinked links new) → more ≡ lists ++ new ∷ [] → AreEmpty more (n + 1)
 empty_pushed lists more n new empty owner stands is = subst (λ (l : List Lru). AreEmpty l (n + 1)) (sym is)
     (let count = empty.count in let longer = length_push lists new in record {
       count = omega (arith, count, longer);
@@ -47,14 +48,14 @@ empty_pushed lists more n new empty owner stands is = subst (λ (l : List Lru). 
       stand = λ k any inside links away. elim (cases_lt k n) [
         | inl below ↦
             let same : get_or (lists ++ new ∷ []) k any ≡ get_or lists k any = get_or_append_left lists (new ∷ []) any k (omega arith) in
-            subst (StandsIn links) (sym same) (empty.stand k any (omega arith) links away)
+            subst (AreLinked links) (sym same) (empty.stand k any (omega arith) links away)
         | inr past ↦
             let same : get_or (lists ++ new ∷ []) k any ≡ new = get_or_push lists new any k (omega arith) in
-            subst (StandsIn links) (sym same) (stands links (λ f. ap (λ (l : Link). place_of l.home n) (away f)))
+            subst (AreLinked links) (sym same) (stands links (λ f. ap (λ (l : Link). place_of l.home n) (away f)))
       ];
     })
 
-pub empty_stand : (lists : List Lru) (n : ℕ) → AreEmpty lists n → (links : List Link) → AreNowhere links → AllStand links lists
+pub empty_stand : (lists : List Lru) (n : ℕ) → AreEmpty lists n → (links : List Link) → AreNowhere links → AllLinked links lists
 empty_stand lists n empty links away = λ k any inside. (empty.owned k any inside, empty.stand k any inside links away)
 
 pub free_all : (n : ℕ) → free_of (replicate n Free) ≡ replicate n true
@@ -90,7 +91,7 @@ no_pages g = elim (cases_eq 0 g) [
   | inr ne ↦ let none : (0 == g) ≡ false = ne_eqb 0 g ne in rw none refl
 ]
 
-module _ (t : KnownTable) (w : Words) (m : KnownMachine) (first : IsFirst t w m) where
+module _ (t : KnownTable) (w : KnownStockTable) (m : KnownMachine) (first : IsFirst t w m) where
   all_free : (f : ℕ) → frame_state_at m.frame_states f ≡ Free
   all_free f = ap (λ (l : List FrameState). get_or l f Free) first.frame_states ∙ repeated t.frames f Free
 
@@ -117,13 +118,13 @@ module _ (t : KnownTable) (w : Words) (m : KnownMachine) (first : IsFirst t w m)
       let frames : frames_charged m.frame_states g ≡ 0 =
       sum_none (length m.frame_states) (λ f. count_of g (frame_state_group (frame_state_at m.frame_states f))) (λ f inside. ap (λ (x : FrameState). count_of g (frame_state_group x)) (all_free f)) in
       let books : pages_booked t m.stock_seat g ≡ 0 =
-      sum_none (t.cpus + 1) (λ p. booked g (account_of m.stock_seat.view p)) (λ p inside. ap (λ (x : Seated). booked g (account_of x.view p)) first.stock_seat) in
+      sum_none (t.cpus + 1) (λ p. booked g (account_of m.stock_seat.view p)) (λ p inside. ap (λ (x : KnownStockSeat). booked g (account_of x.view p)) first.stock_seat) in
       omega (arith, pages, frames, books)
 
   balances_first : BalancesCounts m.counts
   balances_first = subst BalancesCounts (sym first.counts) refl
 
-  pub consistent_first : AreMaximalBlocks (free_of m.frame_states) m.blocks → length m.links ≡ t.frames → length m.lists ≡ 64 → AllStand m.links m.lists
+  pub consistent_first : AreMaximalBlocks (free_of m.frame_states) m.blocks → length m.links ≡ t.frames → length m.lists ≡ 64 → AllLinked m.links m.lists
       → w.cpus ≡ t.cpus → IsConsistent t w m
   consistent_first areas links lists stand cpus = record {
     sizes = record {
@@ -135,21 +136,21 @@ module _ (t : KnownTable) (w : Words) (m : KnownMachine) (first : IsFirst t w m)
     };
     seats = record {
       frames = (ap (λ (s : KnownSeat). s.table) first.frame_seat, ap (λ (s : KnownSeat). number_of s) first.frame_seat);
-      table = ap (λ (s : Seated). s.table) first.stock_seat;
-      stocks = ap (λ (s : Seated). s.view.number) first.stock_seat;
+      table = ap (λ (s : KnownStockSeat). s.table) first.stock_seat;
+      stocks = ap (λ (s : KnownStockSeat). s.view.number) first.stock_seat;
     };
     areas = areas;
     frame_states = frame_states_first;
     units = units_first;
     lists = stand;
-    absorbed = λ p. ap (λ (s : Seated). (account_of s.view p).unabsorbed) first.stock_seat;
-    bounded = λ p. let none = ap (λ (s : Seated). (account_of s.view p).book) first.stock_seat in omega (arith, none);
+    absorbed = λ p. ap (λ (s : KnownStockSeat). (account_of s.view p).unabsorbed) first.stock_seat;
+    bounded = λ p. let none = ap (λ (s : KnownStockSeat). (account_of s.view p).book) first.stock_seat in omega (arith, none);
     charged = charged_first;
     balances = balances_first;
   }
 
 -- what the parts of the first machine are made of
-pub starts : (t : KnownTable) (w : Words) (m : KnownMachine) (free : List Bool) (frames : ℕ) → IsFirst t w m → frames ≡ t.frames → length m.links ≡ frames
+pub starts : (t : KnownTable) (w : KnownStockTable) (m : KnownMachine) (free : List Bool) (frames : ℕ) → IsFirst t w m → frames ≡ t.frames → length m.links ≡ frames
     → AreEmpty m.lists 64 → free ≡ replicate frames true → AreMaximalBlocks free m.blocks → w.cpus ≡ t.cpus → IsConsistent t w m × (free ≡ free_of m.frame_states)
 starts t w m free frames first sized links empty all areas cpus =
     let same : free ≡ free_of m.frame_states = all ∙ ap (λ (n : ℕ). replicate n true) sized ∙ sym (ap free_of first.frame_states ∙ free_all t.frames) in (
@@ -158,10 +159,10 @@ starts t w m free frames first sized links empty all areas cpus =
       same,
     )
 
-pub first_is : (t : KnownTable) (w : Words) (m : KnownMachine) (frames : ℕ) → frames ≡ t.frames → m.frame_states ≡ replicate frames Free
+pub first_is : (t : KnownTable) (w : KnownStockTable) (m : KnownMachine) (frames : ℕ) → frames ≡ t.frames → m.frame_states ≡ replicate frames Free
     → m.ledger ≡ initial_ledger → AreNowhere m.links → m.frame_seat ≡ record { table = t.table; view = first_zone_view t.frames }
     → m.stock_seat ≡ record { table = w.table; view = first_zone_stock } → m.killed ≡ replicate 64 false → m.counts ≡ no_counts
-    → m.notes ≡ [] → IsFirst t w m
+    → m.notes ≡ no_notes → IsFirst t w m
 first_is t w m frames sized frame_states ledger nowhere seat stock killed counts notes = record {
   frame_states = frame_states ∙ ap (λ (n : ℕ). replicate n Free) sized;
   ledger = ledger;

@@ -14,12 +14,12 @@ use Rattle.zone_blocks.specs.Areas.{AreMaximalBlocks}
 use Rattle.zone_buddy.specs.Zone.{GivesFrames, IsInUse}
 use Rattle.frame_word.specs.Views.{note_of}
 use Rattle.frame_word.specs.Seats.{KnownTable, KnownSeat, IsZoneSeat}
-use Rattle.stock_word.specs.Stock.{Words}
+use Rattle.stock_word.specs.Stock.{KnownStockTable}
 use Rattle.group_charge.specs.Charges.{pages_of, with_uncharge}
 use Rattle.group_charge.proofs.CallerLemmas.{uncharge_pages}
 use Rattle.lru_lists.specs.declared.record.Link.{Link}
 use Rattle.lru_lists.specs.declared.lru.Lru.{Lru}
-use Rattle.lru_lists.specs.Lists.{AllStand}
+use Rattle.lru_lists.specs.Lists.{AllLinked}
 use Rattle.step_rules.specs.declared.phase.ChargedUnit.{ChargedUnit}
 use Rattle.step_rules.specs.State.{sum_to, one_if}
 use Rattle.step_rules.specs.After.{is_within}
@@ -271,7 +271,7 @@ module _ (frame_states new : List FrameState) (f : ℕ) (unit : ChargedUnit) (he
 
 -- the zone has the unit's head in its hand, and the unit is on no list: its frames and its pages were freed, and the
 -- machine is consistent
-module _ (t : KnownTable) (w : Words) (m : KnownMachine) (ok : IsConsistent t w m) (f : ℕ) (unit : ChargedUnit) (heads : frame_state_at m.frame_states f ≡ Head unit) where
+module _ (t : KnownTable) (w : KnownStockTable) (m : KnownMachine) (ok : IsConsistent t w m) (f : ℕ) (unit : ChargedUnit) (heads : frame_state_at m.frame_states f ≡ Head unit) where
   -- the pages of the unit are charged to its group
   pub unit_charged : 2 ^ unit.order ≤ pages_of m.ledger unit.group
   unit_charged =
@@ -299,7 +299,7 @@ module _ (t : KnownTable) (w : Words) (m : KnownMachine) (ok : IsConsistent t w 
 
   pub unit_freed_consistent : (frame_states : List FrameState) (blocks : List Block) (links : List Link) (lists : List Lru) (seat : KnownSeat) (counts : Counts)
       → FreesFrames f (2 ^ unit.order) m.frame_states frame_states → AreMaximalBlocks (free_of frame_states) blocks → IsZoneSeat t seat
-      → length links ≡ t.frames → length lists ≡ 64 → AllStand links lists
+      → length links ≡ t.frames → length lists ≡ 64 → AllLinked links lists
       → ((x : ℕ) → x < t.frames → (x ≡ f → ⊥) → FitsFrameState t.cpus (note_of seat.view x) (home_of links x) (frame_state_at m.frame_states x))
       → FitsFrameState t.cpus (note_of seat.view f) (home_of links f) Free → BalancesCounts counts
       → IsConsistent t w (record m {

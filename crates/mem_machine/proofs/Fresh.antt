@@ -11,7 +11,7 @@ use Rattle.frame_word.specs.declared.view.FrameNote.{FrameNote}
 use Rattle.frame_word.specs.Views.{note_of, collected_from, unfrozen}
 use Rattle.frame_word.specs.Seats.{KnownTable, KnownSeat, seat_with, HasNothingOf, IsLent, IsInOwnHand}
 use Rattle.frame_word.proofs.Notes.{note_here, changed_twice}
-use Rattle.stock_word.specs.Stock.{Words, Seated, account_of, group_of}
+use Rattle.stock_word.specs.Stock.{KnownStockTable, KnownStockSeat, account_of, group_of}
 use Rattle.group_charge.specs.Charges.{Ledger, pages_of, with_uncharge}
 use Rattle.group_charge.proofs.CallerLemmas.{uncharge_pages, uncharge_peaks, uncharge_events}
 use Rattle.lru_lists.specs.declared.record.Link.{Link}
@@ -102,7 +102,7 @@ frees_one frame_states new f k zero_is inside frees =
           ∙ sym (get_or-set_other frame_states f g Free Free ne)
     ])
 
-module _ (t : KnownTable) (w : Words) (m : KnownMachine) (c : KnownCpu) (tied : IsTied t w c) (ok : IsConsistent t w m) (visit : Visits t (visit_state m c))
+module _ (t : KnownTable) (w : KnownStockTable) (m : KnownMachine) (c : KnownCpu) (tied : IsTied t w c) (ok : IsConsistent t w m) (visit : Visits t (visit_state m c))
     (f g : ℕ) (was : WasFresh t m c f g) (rest : List ℕ) (front : c.fresh ≡ f ∷ rest) where
   within : f < length m.frame_states
   within = let s = ok.sizes.frame_states in let a = was.inside in omega (arith, s, a)
@@ -272,7 +272,7 @@ module _ (t : KnownTable) (w : Words) (m : KnownMachine) (c : KnownCpu) (tied : 
 
 -- ---- all of it, of the machine as it was seen before
 
-pub record AllKept (t : KnownTable) (w : Words) (now : KnownMachine) (c : KnownCpu) (g f : ℕ) (n : KnownMachine) (d : KnownCpu) (free : List Bool)
+pub record AllKept (t : KnownTable) (w : KnownStockTable) (now : KnownMachine) (c : KnownCpu) (g f : ℕ) (n : KnownMachine) (d : KnownCpu) (free : List Bool)
     : Type 0 where
   pub consistent : IsConsistent t w n
   pub free_is : free ≡ free_of n.frame_states
@@ -280,10 +280,10 @@ pub record AllKept (t : KnownTable) (w : Words) (now : KnownMachine) (c : KnownC
   pub visit : Visits t (visit_state n d)
   pub steps : LeadsAs t c.number (visit_state now c) (keep_steps c.number f) (visit_state n d)
 
-pub keep_all : (t : KnownTable) (w : Words) (m now : KnownMachine) → m ≡ now → (c h : KnownCpu) → IsTied t w c → IsConsistent t w m → Visits t (visit_state now c)
+pub keep_all : (t : KnownTable) (w : KnownStockTable) (m now : KnownMachine) → m ≡ now → (c h : KnownCpu) → IsTied t w c → IsConsistent t w m → Visits t (visit_state now c)
     → (free : List Bool) → free ≡ free_of m.frame_states → (f g : ℕ) → WasFresh t m c f g → HandsFresh f c h → (i k : ℕ) → i ≡ f → k ≡ 0
     → (mid seat : KnownSeat) → mid ≡ seat_with m.frame_seat f (collected_from c.number) → seat ≡ seat_with mid f (unfrozen 1)
-    → (stock : Seated) → stock ≡ with_page_absorbed m.stock_seat c.number
+    → (stock : KnownStockSeat) → stock ≡ with_page_absorbed m.stock_seat c.number
     → (links : List Link) (lists : List Lru) → AllJoin m.links m.lists g i links lists
     → AllKept t w now c g f (record m {
       frame_states = slice_set m.frame_states i (Head (record { group = g; order = k }));
@@ -326,7 +326,7 @@ keep_all t w m now same c h tied ok visit_now free free_is f g was hands i k ind
       sym hands.2 j,
     )) one
 
-pub record AllDropped (t : KnownTable) (w : Words) (now : KnownMachine) (c : KnownCpu) (g f : ℕ) (n : KnownMachine) (d : KnownCpu) (free : List Bool)
+pub record AllDropped (t : KnownTable) (w : KnownStockTable) (now : KnownMachine) (c : KnownCpu) (g f : ℕ) (n : KnownMachine) (d : KnownCpu) (free : List Bool)
     : Type 0 where
   pub consistent : IsConsistent t w n
   pub free_is : free ≡ free_of n.frame_states
@@ -334,11 +334,11 @@ pub record AllDropped (t : KnownTable) (w : Words) (now : KnownMachine) (c : Kno
   pub visit : Visits t (visit_state n d)
   pub steps : LeadsAs t c.number (visit_state now c) (drop_steps c.number f) (visit_state n d)
 
-pub drop_all : (t : KnownTable) (w : Words) (m now : KnownMachine) → m ≡ now → (c h : KnownCpu) → IsTied t w c → IsConsistent t w m → Visits t (visit_state now c)
+pub drop_all : (t : KnownTable) (w : KnownStockTable) (m now : KnownMachine) → m ≡ now → (c h : KnownCpu) → IsTied t w c → IsConsistent t w m → Visits t (visit_state now c)
     → (before free : List Bool) → before ≡ free_of m.frame_states → (f g : ℕ) → WasFresh t m c f g → is_killed now.killed g ≡ true → HandsFresh f c h
     → (i k : ℕ) → i ≡ f → k ≡ 0
     → (seat : KnownSeat) → seat ≡ seat_with m.frame_seat f (collected_from c.number)
-    → (stock : Seated) → stock ≡ with_page_absorbed m.stock_seat c.number
+    → (stock : KnownStockSeat) → stock ≡ with_page_absorbed m.stock_seat c.number
     → (frame_states : List FrameState) → FreesFrames i (2 ^ k) m.frame_states frame_states → (blocks : List Block) → GivesFrames before (record { at = i; order = k }) free
     → AreMaximalBlocks free blocks → (ledger : Ledger) → ledger ≡ with_uncharge m.ledger g (2 ^ k) → (counts : Counts) → counts ≡ with_drop m.counts
     → AllDropped t w now c g f (record m { blocks = blocks; frame_states = frame_states; ledger = ledger; frame_seat = seat; stock_seat = stock; counts = counts }) h free
@@ -376,7 +376,7 @@ drop_all t w m now same c h tied ok visit_now before free free_was f g was kille
     )) one
 
 -- what the call that collects it says of it
-pub was_fresh : (t : KnownTable) (w : Words) (m : KnownMachine) (c : KnownCpu) (f g : ℕ) → f < t.frames → HasNothingOf m.frame_seat f → IsLent m.frame_seat f c.number
+pub was_fresh : (t : KnownTable) (w : KnownStockTable) (m : KnownMachine) (c : KnownCpu) (f g : ℕ) → f < t.frames → HasNothingOf m.frame_seat f → IsLent m.frame_seat f c.number
     → 1 + (account_of m.stock_seat.view c.number).unabsorbed ≤ (account_of m.stock_seat.view c.number).book
     → group_of c.stock_seat.view.last ≡ (account_of m.stock_seat.view c.number).group → group_of c.stock_seat.view.last ≡ Some g → g < 64 → WasFresh t m c f g
 was_fresh t w m c f g inside nothing lent booked group last fits = record {
@@ -390,7 +390,7 @@ was_fresh t w m c f g inside nothing lent booked group last fits = record {
 }
 
 -- the page that is dropped is charged to the group
-pub drop_charged : (t : KnownTable) (w : Words) (m : KnownMachine) (c : KnownCpu) → IsTied t w c → IsConsistent t w m → (f g : ℕ) → WasFresh t m c f g
+pub drop_charged : (t : KnownTable) (w : KnownStockTable) (m : KnownMachine) (c : KnownCpu) → IsTied t w c → IsConsistent t w m → (f g : ℕ) → WasFresh t m c f g
     → (k : ℕ) → k ≡ 0 → 2 ^ k ≤ pages_of m.ledger g
 drop_charged t w m c tied ok f g was k zero_is =
     let a = was.booked in
@@ -400,6 +400,6 @@ drop_charged t w m c tied ok f g was k zero_is =
     omega (arith, a, b, z, one)
 
 -- the frame is in use
-pub drop_in_use : (t : KnownTable) (w : Words) (m : KnownMachine) (c : KnownCpu) → IsTied t w c → IsConsistent t w m → (before : List Bool) (f g i k : ℕ)
+pub drop_in_use : (t : KnownTable) (w : KnownStockTable) (m : KnownMachine) (c : KnownCpu) → IsTied t w c → IsConsistent t w m → (before : List Bool) (f g i k : ℕ)
     → before ≡ free_of m.frame_states → WasFresh t m c f g → i ≡ f → k ≡ 0 → IsInUse before (record { at = i; order = k })
 drop_in_use t w m c tied ok before f g i k free_was was index zero_is = may_give t w m c tied ok before f i k free_was was.inside was.lent index zero_is

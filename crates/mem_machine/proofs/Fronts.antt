@@ -8,7 +8,7 @@ use Rattle.group_charge.specs.Charges.{AreCharges, current_of}
 use Rattle.frame_word.specs.Views.{note_of}
 use Rattle.frame_word.specs.Seats.{KnownTable}
 use Rattle.stock_word.specs.declared.view.Stock.{Stock}
-use Rattle.stock_word.specs.Stock.{Words, Seated, account_of, stocked, pages_of, group_of, is_held}
+use Rattle.stock_word.specs.Stock.{KnownStockTable, KnownStockSeat, account_of, stocked, pages_of, group_of, is_held}
 use Rattle.stock_word.specs.Kinds.{after_took}
 use Rattle.stock_word.specs.Calls.{with_view}
 use Rattle.cpu_part.specs.Cpus.{KnownCpu, IsTied, times}
@@ -40,7 +40,7 @@ use Rattle.mem_machine.proofs.Followed.{follows_same, LeadsAs}
 
 -- ---- the own stock
 
-pub own_is : (t : KnownTable) (w : Words) (m now : KnownMachine) → m ≡ now → (c : KnownCpu) (stock : Stock) → IsTied t w c → IsConsistent t w m
+pub own_is : (t : KnownTable) (w : KnownStockTable) (m now : KnownMachine) → m ≡ now → (c : KnownCpu) (stock : Stock) → IsTied t w c → IsConsistent t w m
     → (account_of m.stock_seat.view c.number).book ≡ pages_of stock + c.stock_seat.view.fresh + (account_of m.stock_seat.view c.number).unabsorbed
     → group_of stock ≡ (account_of m.stock_seat.view c.number).group → is_held stock ≡ (account_of m.stock_seat.view c.number).filled → IsOwnStock (visit_state now c) stock
 own_is t w m now same c stock tied ok balanced group held = subst (λ (x : KnownMachine). IsOwnStock (visit_state x c) stock) same (record {
@@ -65,7 +65,7 @@ cond_at_most true x = omega arith
 cond_at_most false x = omega arith
 
 -- each frame counts once, and each book is below 65,536
-usage_small : (t : KnownTable) (w : Words) (m : KnownMachine) → IsConsistent t w m → AreCharges m.ledger → (g : ℕ)
+usage_small : (t : KnownTable) (w : KnownStockTable) (m : KnownMachine) → IsConsistent t w m → AreCharges m.ledger → (g : ℕ)
     → current_of m.ledger g ≤ t.frames * 1 + (t.cpus + 1) * 65535
 usage_small t w m ok charges g =
     let groups = m.ledger.groups in
@@ -77,7 +77,7 @@ usage_small t w m ok charges g =
     let both = ledger_visit_state t w m ok charges g in
     omega (arith, charged, booked, both)
 
-pub room_for : (t : KnownTable) (w : Words) (m now : KnownMachine) → m ≡ now → IsConsistent t w m → AreCharges m.ledger → IsOfSize t
+pub room_for : (t : KnownTable) (w : KnownStockTable) (m now : KnownMachine) → m ≡ now → IsConsistent t w m → AreCharges m.ledger → IsOfSize t
     → (pages : ℕ) → pages < 65536 → HasRoomFor now pages
 room_for t w m now same ok charges size pages few =
     let small = subst (λ (x : KnownMachine). current_of x.ledger 0 ≤ t.frames * 1 + (t.cpus + 1) * 65535) same (usage_small t w m ok charges 0) in
@@ -87,7 +87,7 @@ room_for t w m now same ok charges size pages few =
 
 -- ---- the front that is paid for
 
-pub has_page : (t : KnownTable) (w : Words) (m now : KnownMachine) → m ≡ now → (c : KnownCpu) (g : ℕ) → IsTied t w c → IsConsistent t w m → HoldsPage (visit_state now c) g
+pub has_page : (t : KnownTable) (w : KnownStockTable) (m now : KnownMachine) → m ≡ now → (c : KnownCpu) (g : ℕ) → IsTied t w c → IsConsistent t w m → HoldsPage (visit_state now c) g
     → 0 < stocked m.stock_seat.view c.stock_seat.view
 has_page t w m now same c g tied ok page =
     let some : 1 ≤ pages_held (visit_state m c) = subst (λ (x : KnownMachine). 1 ≤ pages_held (visit_state x c)) (sym same) page.some in
@@ -97,7 +97,7 @@ has_page t w m now same c g tied ok page =
     = ap (λ (p : ℕ). (account_of m.stock_seat.view p).book - c.stock_seat.view.fresh - (account_of m.stock_seat.view p).unabsorbed) tied.seats.stock_number in
     omega (arith, some, none, fresh, at)
 
-pub left_after : (t : KnownTable) (w : Words) (m : KnownMachine) (c : KnownCpu) → IsTied t w c → IsConsistent t w m
+pub left_after : (t : KnownTable) (w : KnownStockTable) (m : KnownMachine) (c : KnownCpu) → IsTied t w c → IsConsistent t w m
     → stocked m.stock_seat.view c.stock_seat.view - 1 ≡ pages_held (visit_state m c) - 1
 left_after t w m c tied ok =
     let none = ok.absorbed c.number in
@@ -124,7 +124,7 @@ and_no false = refl
 abbrev paid_cpu : KnownMachine → KnownCpu → ℕ → ℕ → List ℕ → KnownCpu
 paid_cpu m c g f rest = record c { list = rest; fresh = c.fresh ++ f ∷ []; stock_seat = with_view c.stock_seat (after_took c.stock_seat.view g (pages_held (visit_state m c) - 1)) }
 
-module _ (t : KnownTable) (w : Words) (m : KnownMachine) (c : KnownCpu) (tied : IsTied t w c) (ok : IsConsistent t w m) (visit : Visits t (visit_state m c))
+module _ (t : KnownTable) (w : KnownStockTable) (m : KnownMachine) (c : KnownCpu) (tied : IsTied t w c) (ok : IsConsistent t w m) (visit : Visits t (visit_state m c))
     (g f : ℕ) (rest : List ℕ) (front : c.list ≡ f ∷ rest) (inside : f < t.frames) (page : HoldsPage (visit_state m c) g) (none : c.fresh ≡ []) where
   abbrev d : KnownCpu
   d = paid_cpu m c g f rest
@@ -208,14 +208,14 @@ module _ (t : KnownTable) (w : Words) (m : KnownMachine) (c : KnownCpu) (tied : 
       }
 
 -- all of it, of the machine as it was seen before
-pub record FrontPaid (t : KnownTable) (w : Words) (now : KnownMachine) (g f : ℕ) (c : KnownCpu) (n : KnownMachine) (d : KnownCpu) : Type 0 where
+pub record FrontPaid (t : KnownTable) (w : KnownStockTable) (now : KnownMachine) (g f : ℕ) (c : KnownCpu) (n : KnownMachine) (d : KnownCpu) : Type 0 where
   pub consistent : IsConsistent t w n
   pub pays : PaysForFront g f (visit_state now c) (visit_state n d)
   pub visit : Visits t (visit_state n d)
   pub steps : LeadsAs t c.number (visit_state now c) (take_front_steps c.number g) (visit_state n d)
 
-pub front_paid : (t : KnownTable) (w : Words) (m now : KnownMachine) → m ≡ now → (c : KnownCpu) → IsTied t w c → IsConsistent t w m → Visits t (visit_state now c)
-    → (g f h : ℕ) → h ≡ g → HoldsPage (visit_state now c) g → c.fresh ≡ [] → f < t.frames → (stock : Seated) → stock ≡ m.stock_seat → (d : KnownCpu)
+pub front_paid : (t : KnownTable) (w : KnownStockTable) (m now : KnownMachine) → m ≡ now → (c : KnownCpu) → IsTied t w c → IsConsistent t w m → Visits t (visit_state now c)
+    → (g f h : ℕ) → h ≡ g → HoldsPage (visit_state now c) g → c.fresh ≡ [] → f < t.frames → (stock : KnownStockSeat) → stock ≡ m.stock_seat → (d : KnownCpu)
     → TakesFront h (stocked m.stock_seat.view c.stock_seat.view - 1) f c d → FrontPaid t w now g f c (record m { stock_seat = stock }) d
 front_paid t w m now same c tied ok visit_now g f h named page_now none inside stock is d takes =
     let visit : Visits t (visit_state m c) = subst (λ (x : KnownMachine). Visits t (visit_state x c)) (sym same) visit_now in

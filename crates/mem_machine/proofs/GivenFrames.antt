@@ -6,7 +6,7 @@ use Rattle.zone_blocks.specs.Areas.{IsFree, AreMaximalBlocks}
 use Rattle.zone_buddy.specs.Zone.{TakesFrames}
 use Rattle.frame_word.specs.Views.{note_of, in_hands, passed_out_to, took_in}
 use Rattle.frame_word.specs.Seats.{KnownTable, KnownSeat, seat_with, IsInOwnHand}
-use Rattle.stock_word.specs.Stock.{Words}
+use Rattle.stock_word.specs.Stock.{KnownStockTable}
 use Rattle.cpu_part.specs.Cpus.{KnownCpu, IsTied}
 use Rattle.mem_machine.specs.declared.frame_state.FrameState.TheVariants.{Free, Lent}
 use Rattle.mem_machine.specs.FrameStates.{frame_state_at, is_free, free_of}
@@ -19,14 +19,14 @@ use Rattle.mem_machine.proofs.Lends.{lend_consistent, lend_runs, lend_visits, zo
 use Rattle.mem_machine.proofs.Followed.{LeadsAs}
 
 -- all of it, of the machine as it was seen before
-pub record AllGiven (t : KnownTable) (w : Words) (now : KnownMachine) (c : KnownCpu) (f : ℕ) (n : KnownMachine) (d : KnownCpu) (free : List Bool) : Type 0 where
+pub record AllGiven (t : KnownTable) (w : KnownStockTable) (now : KnownMachine) (c : KnownCpu) (f : ℕ) (n : KnownMachine) (d : KnownCpu) (free : List Bool) : Type 0 where
   pub consistent : IsConsistent t w n
   pub free_is : free ≡ free_of n.frame_states
   pub lends : LendsFrame f (visit_state now c) (visit_state n d)
   pub visit : Visits t (visit_state n d)
   pub steps : LeadsAs t c.number (visit_state now c) (lend_steps c.number f) (visit_state n d)
 
-pub given_all : (t : KnownTable) (w : Words) (m now : KnownMachine) → m ≡ now → (c d : KnownCpu) → IsTied t w c → IsConsistent t w m → Visits t (visit_state now c)
+pub given_all : (t : KnownTable) (w : KnownStockTable) (m now : KnownMachine) → m ≡ now → (c d : KnownCpu) → IsTied t w c → IsConsistent t w m → Visits t (visit_state now c)
     → (before free : List Bool) (blocks : List Block) (f i q : ℕ) (seat seat' : KnownSeat) → before ≡ free_of m.frame_states → f < t.frames
     → frame_state_at now.frame_states f ≡ Free → TakesFrames before (record { at = i; order = 0 }) free → AreMaximalBlocks free blocks → i ≡ f → q ≡ c.number
     → seat ≡ seat_with m.frame_seat f (passed_out_to q) → seat' ≡ seat → d ≡ record c { list = c.list ++ f ∷ []; frame_seat = seat_with c.frame_seat f took_in }
@@ -65,7 +65,7 @@ given_all t w m now same c d tied ok visit_now before free blocks f i q seat sea
 -- ---- what the steps on the way ask for
 
 -- the zone's areas have the frame
-pub given_free : (t : KnownTable) (w : Words) (m now : KnownMachine) → m ≡ now → IsConsistent t w m → (before : List Bool) (f i : ℕ) → before ≡ free_of m.frame_states
+pub given_free : (t : KnownTable) (w : KnownStockTable) (m now : KnownMachine) → m ≡ now → IsConsistent t w m → (before : List Bool) (f i : ℕ) → before ≡ free_of m.frame_states
     → f < t.frames → frame_state_at now.frame_states f ≡ Free → i ≡ f → IsFree before i
 given_free t w m now same ok before f i was inside free index =
     let sized = ok.sizes.frame_states in
@@ -74,7 +74,7 @@ given_free t w m now same ok before f i was inside free index =
     ∙ ap (λ (x : KnownMachine). is_free (frame_state_at x.frame_states f)) same ∙ ap is_free free
 
 -- and the zone has it in its hand
-pub given_hand : (t : KnownTable) (w : Words) (m now : KnownMachine) → m ≡ now → IsConsistent t w m → (f : ℕ) → f < t.frames → frame_state_at now.frame_states f ≡ Free
+pub given_hand : (t : KnownTable) (w : KnownStockTable) (m now : KnownMachine) → m ≡ now → IsConsistent t w m → (f : ℕ) → f < t.frames → frame_state_at now.frame_states f ≡ Free
     → IsInOwnHand m.frame_seat f
 given_hand t w m now same ok f inside free =
     let sized = ok.sizes.frame_states in

@@ -8,7 +8,7 @@ use Rattle.frame_word.specs.declared.view.FrameNote.{FrameNote}
 use Rattle.frame_word.specs.Views.{note_of, gave_back, collected_from}
 use Rattle.frame_word.specs.Seats.{KnownTable, KnownSeat, number_of, seat_with, IsOpen, IsLent, IsBorrowed}
 use Rattle.frame_word.proofs.Notes.{note_here, note_else}
-use Rattle.stock_word.specs.Stock.{Words}
+use Rattle.stock_word.specs.Stock.{KnownStockTable}
 use Rattle.cpu_part.specs.Cpus.{KnownCpu, IsTied, times}
 use Rattle.cpu_part.proofs.CallerLemmas.{collected_is_still}
 use Rattle.cpu_part.proofs.Counts.{test, test_here, test_other, times_front}
@@ -39,7 +39,7 @@ abbrev pub told : FrameNote → List ℕ × List ℕ × ℕ
 told k = (k.passed_out, k.collected, k.lent)
 
 -- a frame in the CPU's hand went to the zone, whose note says of hand-overs what a collect leaves
-module _ (t : KnownTable) (w : Words) (m : KnownMachine) (c : KnownCpu) (tied : IsTied t w c) (visit : Visits t (visit_state m c)) (f : ℕ)
+module _ (t : KnownTable) (w : KnownStockTable) (m : KnownMachine) (c : KnownCpu) (tied : IsTied t w c) (visit : Visits t (visit_state m c)) (f : ℕ)
     (change : FrameNote → FrameNote) (same : (k : FrameNote) → told (change k) ≡ told (collected_from c.number k)) where
   abbrev zone : KnownSeat
   zone = seat_with m.frame_seat f change
@@ -100,7 +100,7 @@ pub record IsFreshFront (c : KnownCpu) (f : ℕ) (rest : List ℕ) : Type 0 wher
   pub none_listed : times f c.list ≡ 0
   pub none_back : times f c.back ≡ 0
 
-pub fresh_front : (t : KnownTable) (w : Words) (c : KnownCpu) → IsTied t w c → (f : ℕ) (rest : List ℕ) → c.fresh ≡ f ∷ rest → IsFreshFront c f rest
+pub fresh_front : (t : KnownTable) (w : KnownStockTable) (c : KnownCpu) → IsTied t w c → (f : ℕ) (rest : List ℕ) → c.fresh ≡ f ∷ rest → IsFreshFront c f rest
 fresh_front t w c tied f rest front =
     let a : times f c.fresh ≡ test f f + times f rest = ap (times f) front ∙ times_front f f rest in
     let b = test_here f in
@@ -122,7 +122,7 @@ pub record IsBackFront (c : KnownCpu) (f : ℕ) (rest : List ℕ) : Type 0 where
   pub none_listed : times f c.list ≡ 0
   pub none_fresh : times f c.fresh ≡ 0
 
-pub back_front : (t : KnownTable) (w : Words) (c : KnownCpu) → IsTied t w c → (f : ℕ) (rest : List ℕ) → c.back ≡ f ∷ rest → IsBackFront c f rest
+pub back_front : (t : KnownTable) (w : KnownStockTable) (c : KnownCpu) → IsTied t w c → (f : ℕ) (rest : List ℕ) → c.back ≡ f ∷ rest → IsBackFront c f rest
 back_front t w c tied f rest front =
     let a : times f c.back ≡ test f f + times f rest = ap (times f) front ∙ times_front f f rest in
     let b = test_here f in

@@ -7,7 +7,7 @@ use Rattle.lru_lists.specs.declared.record.Home.{Home}
 use Rattle.lru_lists.specs.declared.record.LruList.TheVariants.{Inactive}
 use Rattle.lru_lists.specs.declared.lru.Lru.{Lru}
 use Rattle.lru_lists.specs.Queue.{link_at}
-use Rattle.lru_lists.specs.Lists.{OthersStand, OneOfAllChanges, StandsIn, AllStand, ChangesOwn, MovesOnly, place_of, inactive_of, active_of}
+use Rattle.lru_lists.specs.Lists.{OthersStayLinked, OneOfAllChanges, AreLinked, AllLinked, ChangesOwn, MovesOnly, place_of, inactive_of, active_of}
 use Rattle.lru_lists.specs.Lists as lists
 use Rattle.mem_machine.specs.Machines.{lists_at, no_lists, group_lists}
 use Rattle.mem_machine.specs.Lists.{JoinsList}
@@ -15,7 +15,7 @@ use Rattle.mem_machine.proofs.Listed.{others_stay}
 
 -- a unit was added to the lists of a group
 pub record IsAdded (links : List Link) (lru : Lru) (f : ℕ) (after : List Link) (new : Lru) : Type 0 where
-  pub stands : StandsIn after new
+  pub stands : AreLinked after new
   pub owner : new.owner ≡ lru.owner
   pub inactive : inactive_of after new ≡ inactive_of links lru ++ record { number = f; is_marked = false; is_dirty = false } ∷ []
   pub active : active_of after new ≡ active_of links lru
@@ -26,11 +26,11 @@ pub record IsAdded (links : List Link) (lru : Lru) (f : ℕ) (after : List Link)
 -- all that `join_list` leaves
 pub record AllJoin (links : List Link) (lists : List Lru) (g f : ℕ) (after : List Link) (new : List Lru) : Type 0 where
   pub joins : JoinsList g f (group_lists links lists) (group_lists after new)
-  pub stand : AllStand after new
+  pub stand : AllLinked after new
   pub frames : length after ≡ length links
   pub groups : length new ≡ 64
 
-module _ (links : List Link) (lists : List Lru) (g f : ℕ) (fits : g < 64) (groups : length lists ≡ 64) (all : AllStand links lists) (any lru : Lru)
+module _ (links : List Link) (lists : List Lru) (g f : ℕ) (fits : g < 64) (groups : length lists ≡ 64) (all : AllLinked links lists) (any lru : Lru)
     (read : lru ≡ get_or lists g any) where
   there : g < length lists
   there = subst (λ (n : ℕ). g < n) (sym groups) fits
@@ -38,9 +38,9 @@ module _ (links : List Link) (lists : List Lru) (g f : ℕ) (fits : g < 64) (gro
   own : lru.owner ≡ g
   own = ap (λ (x : Lru). x.owner) read ∙ (all g any there).0
 
-  module _ (after : List Link) (new : Lru) (added : IsAdded links lru f after new) (others_stand : OthersStand) (one_of_all_changes : OneOfAllChanges) where
-    all_stand : AllStand after (slice_set lists g new)
-    all_stand = subst (λ (k : ℕ). AllStand after (slice_set lists k new)) (added.owner ∙ own)
+  module _ (after : List Link) (new : Lru) (added : IsAdded links lru f after new) (others_stay_linked : OthersStayLinked) (one_of_all_changes : OneOfAllChanges) where
+    all_stand : AllLinked after (slice_set lists g new)
+    all_stand = subst (λ (k : ℕ). AllLinked after (slice_set lists k new)) (added.owner ∙ own)
         (one_of_all_changes links after lists new all (subst (λ (k : ℕ). k < length lists) (sym (added.owner ∙ own)) there) added.stands
         (subst (ChangesOwn links after) (sym added.owner) added.changes))
 
@@ -50,12 +50,12 @@ module _ (links : List Link) (lists : List Lru) (g f : ℕ) (fits : g < 64) (gro
         let was : lru ≡ lists_at lists g = read ∙ get_or_default lists g any no_lists there in
         record {
           joins = record {
-            stands = added.joined ∙ (λ i. Some (record { owner = own i; list = Inactive }));
+            home = added.joined ∙ (λ i. Some (record { owner = own i; list = Inactive }));
             homes = λ x ne. added.moves.home x ne;
             inactive = ap (inactive_of after) now ∙ added.inactive
                 ∙ ap (λ (l : Lru). inactive_of links l ++ record { number = f; is_marked = false; is_dirty = false } ∷ []) was;
             active = ap (active_of after) now ∙ added.active ∙ ap (active_of links) was;
-            others = others_stay links after lists g lru new all groups own added.changes others_stand;
+            others = others_stay links after lists g lru new all groups own added.changes others_stay_linked;
             loose = λ x ne none. added.moves.kept x ne (ap (λ (h : Option Home). place_of h lru.owner) none);
           };
           stand = all_stand;
@@ -64,10 +64,10 @@ module _ (links : List Link) (lists : List Lru) (g f : ℕ) (fits : g < 64) (gro
         }
 
 -- the same if the group's lists were read and written by its number
-pub join_all : (links : List Link) (lists : List Lru) (g f o : ℕ) → o ≡ g → o < 64 → length lists ≡ 64 → AllStand links lists → (any lru : Lru)
-    → lru ≡ get_or lists o any → (after : List Link) (new : Lru) → IsAdded links lru f after new → OthersStand → OneOfAllChanges
+pub join_all : (links : List Link) (lists : List Lru) (g f o : ℕ) → o ≡ g → o < 64 → length lists ≡ 64 → AllLinked links lists → (any lru : Lru)
+    → lru ≡ get_or lists o any → (after : List Link) (new : Lru) → IsAdded links lru f after new → OthersStayLinked → OneOfAllChanges
     → AllJoin links lists g f after (slice_set lists o new)
-join_all links lists g f o index fits groups all any lru read after new added others_stand one_of_all_changes =
+join_all links lists g f o index fits groups all any lru read after new added others_stay_linked one_of_all_changes =
     let read_here : lru ≡ get_or lists g any = read ∙ ap (λ (k : ℕ). get_or lists k any) index in
     subst (λ (k : ℕ). AllJoin links lists g f after (slice_set lists k new)) (sym index)
-    (join_here links lists g f (subst (λ (k : ℕ). k < 64) index fits) groups all any lru read_here after new added others_stand one_of_all_changes)
+    (join_here links lists g f (subst (λ (k : ℕ). k < 64) index fits) groups all any lru read_here after new added others_stay_linked one_of_all_changes)

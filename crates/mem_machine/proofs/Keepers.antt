@@ -4,7 +4,7 @@ use Rattle.std.proofs.lemmas.Bool.{eq-eqb}
 use Rattle.group_tree.specs.Groups.{has_group}
 use Rattle.group_charge.specs.Charges.{AreCharges}
 use Rattle.frame_word.specs.Seats.{KnownTable}
-use Rattle.stock_word.specs.Stock.{Words}
+use Rattle.stock_word.specs.Stock.{KnownStockTable}
 use Rattle.step_rules.proofs.Sums.{sum_part}
 use Rattle.mem_machine.specs.declared.frame_state.FrameState.{FrameState}
 use Rattle.mem_machine.specs.declared.frame_state.FrameState.TheVariants.{Free, Lent, Head, Tail}
@@ -21,7 +21,7 @@ counts (Head unit) g is = let e : unit.group ≡ g = cc in ap (λ b. cond b 1 0)
 counts (Tail h) g is = let e : h ≡ g = cc in ap (λ b. cond b 1 0) (eq-eqb h g e)
 
 -- the group that a frame is charged to is there
-pub keeper_there : (t : KnownTable) (w : Words) (m : KnownMachine) (f g : ℕ) → IsConsistent t w m → AreCharges m.ledger → f < t.frames
+pub keeper_there : (t : KnownTable) (w : KnownStockTable) (m : KnownMachine) (f g : ℕ) → IsConsistent t w m → AreCharges m.ledger → f < t.frames
     → place_of (frame_state_at m.frame_states f) ≡ place.Charged g → has_group m.ledger.groups g ≡ true
 keeper_there t w m f g good legal inside is =
     let one = counts (frame_state_at m.frame_states f) g is in

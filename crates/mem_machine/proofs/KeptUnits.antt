@@ -13,13 +13,13 @@ use Rattle.frame_word.specs.declared.view.FrameNote.{FrameNote}
 use Rattle.frame_word.specs.Views.{note_of}
 use Rattle.frame_word.specs.Seats.{KnownTable, KnownSeat, seat_with}
 use Rattle.frame_word.proofs.Notes.{note_here, note_else}
-use Rattle.stock_word.specs.Stock.{Words, Seated, IsZoneStock, account_of}
+use Rattle.stock_word.specs.Stock.{KnownStockTable, KnownStockSeat, IsZoneStock, account_of}
 use Rattle.group_charge.specs.Charges.{Ledger, pages_of}
 use Rattle.lru_lists.specs.declared.record.Link.{Link}
 use Rattle.lru_lists.specs.declared.record.Home.{Home}
 use Rattle.lru_lists.specs.declared.record.LruList.TheVariants.{Inactive}
 use Rattle.lru_lists.specs.declared.lru.Lru.{Lru}
-use Rattle.lru_lists.specs.Lists.{StandsIn, IsOnNone}
+use Rattle.lru_lists.specs.Lists.{AreLinked, IsOnNone}
 use Rattle.step_rules.proofs.Placing.{within_cases}
 use Rattle.mem_machine.specs.declared.frame_state.FrameState.{FrameState}
 use Rattle.mem_machine.specs.declared.frame_state.FrameState.TheVariants.{Free, Lent, Head, Tail}
@@ -43,22 +43,22 @@ homeless (Some k) x none is = absurd (none-some k.owner (sym (no_head x none) �
     no_head (Head unit) e = absurd (none-some unit.group (sym e))
     no_head (Tail g) e = refl
 
-pub stands_nowhere : (t : KnownTable) (w : Words) (m : KnownMachine) → IsConsistent t w m → (f : ℕ) → f < t.frames → frame_state_group (frame_state_at m.frame_states f) ≡ None
+pub stands_nowhere : (t : KnownTable) (w : KnownStockTable) (m : KnownMachine) → IsConsistent t w m → (f : ℕ) → f < t.frames → frame_state_group (frame_state_at m.frame_states f) ≡ None
     → IsOnNone m.links f
 stands_nowhere t w m ok f inside none = homeless (home_of m.links f) (frame_state_at m.frame_states f) none (ok.frame_states f inside).kept
 
 -- ---- the lists of the group
 
 -- the lists of a group number, as they are read from the machine
-module _ (t : KnownTable) (w : Words) (m : KnownMachine) (ok : IsConsistent t w m) (g : ℕ) (fits : g < 64) (any lru : Lru) (read : lru ≡ get_or m.lists g any) where
+module _ (t : KnownTable) (w : KnownStockTable) (m : KnownMachine) (ok : IsConsistent t w m) (g : ℕ) (fits : g < 64) (any lru : Lru) (read : lru ≡ get_or m.lists g any) where
   pub there : g < length m.lists
   there = let a = ok.sizes.lists in omega (arith, a, fits)
 
   pub read_owner : lru.owner ≡ g
   read_owner = ap (λ (x : Lru). x.owner) read ∙ (ok.lists g any there).0
 
-  pub read_stands : StandsIn m.links lru
-  read_stands = subst (StandsIn m.links) (sym read) (ok.lists g any there).1
+  pub read_stands : AreLinked m.links lru
+  read_stands = subst (AreLinked m.links) (sym read) (ok.lists g any there).1
 
   pub read_is : lists_at m.lists g ≡ lru
   read_is = sym (read ∙ get_or_default m.lists g any no_lists there)
@@ -90,7 +90,7 @@ head_fits : (cpus : ℕ) (note : FrameNote) (g k : ℕ) → g < 64 → IsUsed no
     → FitsFrameState cpus note (Some (record { owner = g; list = Inactive })) (Head (record { group = g; order = k }))
 head_fits cpus note g k fits used = record { own = used.own; lent = ap some_cpu used.lent; borrower = tt; references = used.references; kept = (fits, refl) }
 
-module _ (t : KnownTable) (w : Words) (m : KnownMachine) (ok : IsConsistent t w m) (g : ℕ) (fits : g < 64) (b : Block) (frame_states : List FrameState)
+module _ (t : KnownTable) (w : KnownStockTable) (m : KnownMachine) (ok : IsConsistent t w m) (g : ℕ) (fits : g < 64) (b : Block) (frame_states : List FrameState)
     (placed : PlacesUnit g b m.frame_states frame_states)
     (rest : (x : ℕ) → b.at ≤ x → x < b.at + 2 ^ b.order → x ≢ b.at → frame_state_at m.frame_states x ≡ Free)
     (links : List Link) (joined : home_of links b.at ≡ Some (record { owner = g; list = Inactive }))
@@ -123,8 +123,8 @@ module _ (t : KnownTable) (w : Words) (m : KnownMachine) (ok : IsConsistent t w 
 
 -- what else changed when a unit of this many frames joined its group: the free areas, the stocks, and the charges of
 -- all groups, which fit the frames and the books
-pub record JoinsCharges (t : KnownTable) (w : Words) (m : KnownMachine) (g pages : ℕ) (frame_states : List FrameState) (blocks : List Block) (ledger : Ledger)
-    (stock : Seated) : Type 0 where
+pub record JoinsCharges (t : KnownTable) (w : KnownStockTable) (m : KnownMachine) (g pages : ℕ) (frame_states : List FrameState) (blocks : List Block) (ledger : Ledger)
+    (stock : KnownStockSeat) : Type 0 where
   pub areas : AreMaximalBlocks (free_of frame_states) blocks
   pub table : stock.table ≡ w.table
   pub stocks : IsZoneStock stock.view
@@ -134,12 +134,12 @@ pub record JoinsCharges (t : KnownTable) (w : Words) (m : KnownMachine) (g pages
 
 -- The frames of a block that were charged to no group (all but the first were free) are now a unit of the group. Its
 -- head is on the group's inactive list, in use with one reference of the zone. The machine is consistent.
-pub unit_kept : (t : KnownTable) (w : Words) (m : KnownMachine) → IsConsistent t w m → (g : ℕ) → g < 64 → (b : Block) → IsBlock (length m.frame_states) b
+pub unit_kept : (t : KnownTable) (w : KnownStockTable) (m : KnownMachine) → IsConsistent t w m → (g : ℕ) → g < 64 → (b : Block) → IsBlock (length m.frame_states) b
     → (frame_states : List FrameState) → PlacesUnit g b m.frame_states frame_states → frame_state_group (frame_state_at m.frame_states b.at) ≡ None
     → ((x : ℕ) → b.at ≤ x → x < b.at + 2 ^ b.order → x ≢ b.at → frame_state_at m.frame_states x ≡ Free)
     → (links : List Link) (lists : List Lru) → AllJoin m.links m.lists g b.at links lists
     → (change : FrameNote → FrameNote) → IsUsed (change (note_of m.frame_seat.view b.at))
-    → (blocks : List Block) (ledger : Ledger) (stock : Seated) (counts : Counts) → JoinsCharges t w m g (2 ^ b.order) frame_states blocks ledger stock → BalancesCounts counts
+    → (blocks : List Block) (ledger : Ledger) (stock : KnownStockSeat) (counts : Counts) → JoinsCharges t w m g (2 ^ b.order) frame_states blocks ledger stock → BalancesCounts counts
     → IsConsistent t w (record {
       blocks = blocks;
       frame_states = frame_states;
@@ -169,7 +169,7 @@ unit_kept t w m ok g fits b block frame_states placed first rest links lists joi
       };
       seats = record { frames = ok.seats.frames; table = joins.table; stocks = joins.stocks };
       areas = joins.areas;
-      frame_states = unit_fits t w m ok g fits b frame_states placed rest links joined.joins.stands joined.joins.homes change used;
+      frame_states = unit_fits t w m ok g fits b frame_states placed rest links joined.joins.home joined.joins.homes change used;
       units = units_placed m.frame_states frame_states g b placed block uncharged ok.units;
       lists = joined.stand;
       absorbed = joins.absorbed;

@@ -7,7 +7,7 @@ use Rattle.lru_lists.specs.declared.record.Link.{Link}
 use Rattle.lru_lists.specs.declared.record.Home.{Home}
 use Rattle.lru_lists.specs.declared.lru.Lru.{Lru}
 use Rattle.lru_lists.specs.Queue.{link_at, nowhere, SameUse}
-use Rattle.lru_lists.specs.Lists.{OthersStand, OneOfAllChanges, StandsIn, AllStand, ChangesOwn, MovesOnly, inactive_of, active_of, entries_without}
+use Rattle.lru_lists.specs.Lists.{OthersStayLinked, OneOfAllChanges, AreLinked, AllLinked, ChangesOwn, MovesOnly, inactive_of, active_of, entries_without}
 use Rattle.lru_lists.specs.Lists.{list_of, place_of}
 use Rattle.mem_machine.specs.Machines.{home_of, lists_at, no_lists, group_lists}
 use Rattle.mem_machine.specs.Lists.{LeavesList}
@@ -17,7 +17,7 @@ use Rattle.mem_machine.proofs.Dirties.{on_list}
 -- all that `leave_list` leaves
 pub record AllLeave (links : List Link) (lists : List Lru) (f : ℕ) (after : List Link) (new : List Lru) : Type 0 where
   pub leaves : LeavesList f (group_lists links lists) (group_lists after new)
-  pub stand : AllStand after new
+  pub stand : AllLinked after new
   pub frames : length after ≡ length links
   pub groups : length new ≡ 64
 
@@ -29,7 +29,7 @@ owner_within home h lists is owner groups =
     subst (λ (n : ℕ). h.owner < n) (sym groups) bound
 
 module _ (links : List Link) (lists : List Lru) (f : ℕ) (h : Home) (home : Some h ≡ home_of links f) (owner : IfSome (home_of links f) (λ x. x.owner < 64))
-    (groups : length lists ≡ 64) (all : AllStand links lists) (lru any : Lru) (read : lru ≡ get_or lists h.owner any) where
+    (groups : length lists ≡ 64) (all : AllLinked links lists) (lru any : Lru) (read : lru ≡ get_or lists h.owner any) where
   bound : h.owner < length lists
   bound = owner_within (home_of links f) h lists home owner groups
 
@@ -37,8 +37,8 @@ module _ (links : List Link) (lists : List Lru) (f : ℕ) (h : Home) (home : Som
   own = ap (λ (x : Lru). x.owner) read ∙ (all h.owner any bound).0
 
   -- its lists agree with the links, and it is on one of them
-  pub own_stands : StandsIn links lru
-  own_stands = subst (StandsIn links) (sym read) (all h.owner any bound).1
+  pub own_stands : AreLinked links lru
+  own_stands = subst (AreLinked links) (sym read) (all h.owner any bound).1
 
   pub own_on : list_of links lru.owner f ≢ None
   own_on none = on_list links f h (sym home) (ap (λ (k : ℕ). list_of links k f) (sym own) ∙ none)
@@ -46,15 +46,15 @@ module _ (links : List Link) (lists : List Lru) (f : ℕ) (h : Home) (home : Som
   its_lists : lists_at lists h.owner ≡ lru
   its_lists = sym (read ∙ get_or_default lists h.owner any no_lists bound)
 
-  module _ (after : List Link) (new : Lru) (now_stands : StandsIn after new) (same : new.owner ≡ lru.owner)
+  module _ (after : List Link) (new : Lru) (now_stands : AreLinked after new) (same : new.owner ≡ lru.owner)
       (inactive : inactive_of after new ≡ entries_without f (inactive_of links lru)) (active : active_of after new ≡ entries_without f (active_of links lru))
       (forgotten : link_at after f ≡ nowhere) (changes : ChangesOwn links after lru.owner) (moves : MovesOnly links after lru.owner f)
-      (used : SameUse links after f) (others_stand : OthersStand) (one_of_all_changes : OneOfAllChanges) where
+      (used : SameUse links after f) (others_stay_linked : OthersStayLinked) (one_of_all_changes : OneOfAllChanges) where
     now_its : lists_at (slice_set lists h.owner new) h.owner ≡ new
     now_its = get_or-set_same lists h.owner new no_lists bound
 
-    all_stand : AllStand after (slice_set lists h.owner new)
-    all_stand = subst (λ (k : ℕ). AllStand after (slice_set lists k new)) (same ∙ own)
+    all_stand : AllLinked after (slice_set lists h.owner new)
+    all_stand = subst (λ (k : ℕ). AllLinked after (slice_set lists k new)) (same ∙ own)
         (one_of_all_changes links after lists new all (subst (λ (k : ℕ). k < length lists) (sym (same ∙ own)) bound) now_stands
         (subst (ChangesOwn links after) (sym same) changes))
 
@@ -63,7 +63,7 @@ module _ (links : List Link) (lists : List Lru) (f : ℕ) (h : Home) (home : Som
       leaves = record {
         group = h.owner;
         list = h.list;
-        stands = sym home;
+        home = sym home;
         forgotten = forgotten;
         homes = moves.home;
         loose = λ g none. moves.kept g (λ e. none-some h (sym none ∙ ap (home_of links) e ∙ sym home)) (ap (λ (x : Option Home). place_of x lru.owner) none);
@@ -71,7 +71,7 @@ module _ (links : List Link) (lists : List Lru) (f : ℕ) (h : Home) (home : Som
         inactive = subst (λ (x : Lru × Lru). inactive_of after x.1 ≡ entries_without f (inactive_of links x.0))
             (λ i. (sym its_lists i, sym now_its i)) inactive;
         active = subst (λ (x : Lru × Lru). active_of after x.1 ≡ entries_without f (active_of links x.0)) (λ i. (sym its_lists i, sym now_its i)) active;
-        others = others_stay links after lists h.owner lru new all groups own changes others_stand;
+        others = others_stay links after lists h.owner lru new all groups own changes others_stay_linked;
       };
       stand = all_stand;
       frames = changes.frames;

@@ -14,7 +14,7 @@ use Rattle.group_charge.specs.declared.account.Account.{Account}
 use Rattle.group_charge.specs.Charges.{Ledger, AreCharges, current_of, usage_of as usage_charged, pages_of, account_at}
 use Rattle.group_charge.proofs.ChargeLemmas.{all_distinct, as_many}
 use Rattle.stock_word.specs.declared.view.Account.{Account as Book}
-use Rattle.stock_word.specs.Stock.{Words, account_of}
+use Rattle.stock_word.specs.Stock.{KnownStockTable, account_of}
 use Rattle.frame_word.specs.Seats.{KnownTable}
 use Rattle.step_rules.specs.State.{one_if, sum_to}
 use Rattle.step_rules.specs.Usage.{is_below}
@@ -150,7 +150,7 @@ module _ (groups : List Group) (g : ℕ) where
 
 -- ---- all frames and all books
 
-module _ (t : KnownTable) (w : Words) (m : KnownMachine) (is : IsConsistent t w m) (charges : AreCharges m.ledger) (g : ℕ) where
+module _ (t : KnownTable) (w : KnownStockTable) (m : KnownMachine) (is : IsConsistent t w m) (charges : AreCharges m.ledger) (g : ℕ) where
   abbrev groups : List Group
   groups = m.ledger.groups
 

@@ -12,7 +12,7 @@ use Rattle.frame_word.specs.declared.view.FrameNote.{FrameNote}
 use Rattle.frame_word.specs.Views.{note_of, in_hands, passed_out_to, took_in}
 use Rattle.frame_word.specs.Seats.{KnownTable, KnownSeat, number_of, holds, seat_with, IsInOwnHand, IsLent, IsBorrowed, Passes, NothingPasses}
 use Rattle.frame_word.proofs.Notes.{note_here, note_else}
-use Rattle.stock_word.specs.Stock.{Words, Seated, account_of}
+use Rattle.stock_word.specs.Stock.{KnownStockTable, KnownStockSeat, account_of}
 use Rattle.cpu_part.specs.Cpus.{KnownCpu, IsTied, times}
 use Rattle.cpu_part.proofs.CallerLemmas.{passed_out_passes, accepted_is_still}
 use Rattle.step_rules.specs.declared.phase.Way.TheVariants.{PassingOut, OnList}
@@ -41,7 +41,7 @@ use Rattle.mem_machine.proofs.Followed.{follows_same, LeadsAs}
 -- ---- parts of the local state
 
 -- a part of its own that changed
-pub parts_changed : (stock : Seated) (c : KnownCpu) (l r b : List ℕ) (new : Part) → part_with l r b (account_of stock.view c.number) ≡ new → (q : ℕ)
+pub parts_changed : (stock : KnownStockSeat) (c : KnownCpu) (l r b : List ℕ) (new : Part) → part_with l r b (account_of stock.view c.number) ≡ new → (q : ℕ)
     → cond (q == c.number) (part_with l r b (account_of stock.view q)) (part_with [] [] [] (account_of stock.view q)) ≡ with_at
     (part_of stock c) c.number new q
 parts_changed stock c l r b new is q = elim (cases_eq q c.number) [
@@ -91,7 +91,7 @@ taken_free before after frame_states f was takes =
     let inside = free_inside frame_states f is in
     (inside, free_is (frame_state_at frame_states f) (sym (free_at frame_states f inside) ∙ is))
 
-module _ (t : KnownTable) (w : Words) (m : KnownMachine) (c : KnownCpu) (tied : IsTied t w c) (ok : IsConsistent t w m) (visit : Visits t (visit_state m c))
+module _ (t : KnownTable) (w : KnownStockTable) (m : KnownMachine) (c : KnownCpu) (tied : IsTied t w c) (ok : IsConsistent t w m) (visit : Visits t (visit_state m c))
     (f : ℕ) (inside : f < t.frames) (free : frame_state_at m.frame_states f ≡ Free) where
   p : ℕ
   p = c.number
@@ -205,14 +205,14 @@ module _ (t : KnownTable) (w : Words) (m : KnownMachine) (c : KnownCpu) (tied : 
       same_phase g (Tail h) = refl
 
 -- all of it, of the machine as it was seen before
-pub record AllLent (t : KnownTable) (w : Words) (now : KnownMachine) (c : KnownCpu) (f : ℕ) (n : KnownMachine) (d : KnownCpu) (free : List Bool) : Type 0 where
+pub record AllLent (t : KnownTable) (w : KnownStockTable) (now : KnownMachine) (c : KnownCpu) (f : ℕ) (n : KnownMachine) (d : KnownCpu) (free : List Bool) : Type 0 where
   pub consistent : IsConsistent t w n
   pub free_is : free ≡ free_of n.frame_states
   pub lends : LendsOne f (visit_state now c) (visit_state n d)
   pub steps : LeadsAs t c.number (visit_state now c) (lend_steps c.number f) (visit_state n d)
   pub visit : Visits t (visit_state n d)
 
-pub lend_all : (t : KnownTable) (w : Words) (m now : KnownMachine) → m ≡ now → (c d : KnownCpu) → IsTied t w c → IsConsistent t w m → Visits t (visit_state now c)
+pub lend_all : (t : KnownTable) (w : KnownStockTable) (m now : KnownMachine) → m ≡ now → (c d : KnownCpu) → IsTied t w c → IsConsistent t w m → Visits t (visit_state now c)
     → (before free : List Bool) (k : ℕ) (b : Block) (blocks : List Block) (f i q : ℕ) (seat seat' : KnownSeat)
     → before ≡ free_of m.frame_states → k ≡ 0 → IsFrontOfSmallest m.blocks k b → TakesFrames before b free → AreMaximalBlocks free blocks
     → f ≡ b.at → i ≡ f → q ≡ c.number → seat ≡ seat_with m.frame_seat f (passed_out_to q) → seat' ≡ seat
@@ -267,14 +267,14 @@ block_inside frame_states blocks before free k b was zero_is taken takes =
     taken_free before free frame_states b.at was (subst (λ (x : Block). TakesFrames before x free) (front_is k b blocks taken zero_is) takes)
 
 -- the zone has it in its hand
-pub zone_hand : (t : KnownTable) (w : Words) (m : KnownMachine) → IsConsistent t w m → (f g : ℕ) → f < length m.frame_states → frame_state_at m.frame_states f ≡ Free → g ≡ f
+pub zone_hand : (t : KnownTable) (w : KnownStockTable) (m : KnownMachine) → IsConsistent t w m → (f g : ℕ) → f < length m.frame_states → frame_state_at m.frame_states f ≡ Free → g ≡ f
     → IsInOwnHand m.frame_seat g
 zone_hand t w m ok f g inside free is =
     let s = ok.sizes.frame_states in
     subst (λ (x : ℕ). IsInOwnHand m.frame_seat x) (sym is) ((ok.frame_states f (omega (arith, s, inside))).own ∙ ap (λ (x : FrameState). one_if (is_in_hand x)) free)
 
 -- and once it passed it out, it passes for the CPU and is lent to it
-pub passes_to : (t : KnownTable) (w : Words) (m now : KnownMachine) → m ≡ now → (c : KnownCpu) → IsTied t w c → Visits t (visit_state now c) → (f q : ℕ) (seat : KnownSeat)
+pub passes_to : (t : KnownTable) (w : KnownStockTable) (m now : KnownMachine) → m ≡ now → (c : KnownCpu) → IsTied t w c → Visits t (visit_state now c) → (f q : ℕ) (seat : KnownSeat)
     → f < t.frames → q ≡ c.number → seat ≡ seat_with m.frame_seat f (passed_out_to q) → Passes seat c.frame_seat f
 passes_to t w m now same c tied visit f q seat inside number is =
     passed_out_passes t m.frame_seat c.frame_seat c.number tied.seats.frame_number f (subst (λ (x : KnownMachine). NothingPasses t x.frame_seat c.frame_seat)

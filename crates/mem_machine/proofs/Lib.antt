@@ -47,3 +47,5 @@ pub mod Settled
 pub mod Keepers
 pub mod Fronts
 pub mod Depths
+pub mod Looks
+pub mod Listing

@@ -14,7 +14,7 @@ use Rattle.lru_lists.specs.declared.record.LruList.{LruList}
 use Rattle.lru_lists.specs.declared.record.LruList.TheVariants.{Inactive, Active}
 use Rattle.lru_lists.specs.declared.lru.Lru.{Lru}
 use Rattle.lru_lists.specs.Queue.{link_at, is_among, units_of, without}
-use Rattle.lru_lists.specs.Lists.{StandsIn, AllStand, OthersStand, ChangesOwn, Touches, list_of, place_of, home_of, queue_of, entries_of, entry_of, inactive_of, active_of}
+use Rattle.lru_lists.specs.Lists.{AreLinked, AllLinked, OthersStayLinked, ChangesOwn, Touches, list_of, place_of, home_of, queue_of, entries_of, entry_of, inactive_of, active_of}
 use Rattle.lru_lists.specs.Lists.{changed_at}
 use Rattle.lru_lists.specs.Lists.{entries_without, dirtied, marked}
 use Rattle.lru_lists.specs.declared.lru.Touched.{Touched}
@@ -105,7 +105,7 @@ listed_where links lru f is = elim (or_cases (is_among (units_of links lru.inact
   | inr b ↦ (Active, b)
 ]
 
-module _ (before after : List Link) (lru new : Lru) (old_stands : StandsIn before lru) (new_stands : StandsIn after new) (owner : new.owner ≡ lru.owner)
+module _ (before after : List Link) (lru new : Lru) (old_stands : AreLinked before lru) (new_stands : AreLinked after new) (owner : new.owner ≡ lru.owner)
     (changes : ChangesOwn before after lru.owner) (on : (f : ℕ) → is_listed before lru f ≡ true → is_listed after new f ≡ true)
     (off : (f : ℕ) → is_listed after new f ≡ true → is_listed before lru f ≡ true) where
   -- each frame is on a list of the same owner as before
@@ -154,7 +154,7 @@ dirtied_units before after lru unit d is list =
     ∙ dirtied_numbers unit d (entries_of before lru list)
     ∙ numbers before (units_of before (queue_of lru list))
 
-pub dirtied_owners : (before after : List Link) (lru : Lru) (unit : ℕ) (d : Bool) → StandsIn before lru → StandsIn after lru
+pub dirtied_owners : (before after : List Link) (lru : Lru) (unit : ℕ) (d : Bool) → AreLinked before lru → AreLinked after lru
     → ChangesOwn before after lru.owner
     → ((list : LruList) → entries_of after lru list ≡ changed_at unit (dirtied d) (entries_of before lru list))
     → (f : ℕ) → option_map (λ (x : Home). x.owner) (link_at after f).home ≡ option_map (λ (x : Home). x.owner) (link_at before f).home
@@ -210,7 +210,7 @@ units_numbers : (links : List Link) (lru : Lru) (list : LruList)
     → units_of links (queue_of lru list) ≡ map (λ (e : Entry). e.number) (entries_of links lru list)
 units_numbers links lru list = sym (numbers links (units_of links (queue_of lru list)))
 
-touched_listed : (before after : List Link) (lru new : Lru) (f : ℕ) (touched : Touched) → StandsIn before lru → list_of before lru.owner f ≢ None
+touched_listed : (before after : List Link) (lru new : Lru) (f : ℕ) (touched : Touched) → AreLinked before lru → list_of before lru.owner f ≢ None
     → Touches before lru f touched after new → (g : ℕ) → is_listed after new g ≡ is_listed before lru g
 unfolding is_listed
 touched_listed before after lru new f touch.Marked old on touches g =
@@ -243,7 +243,7 @@ touched_listed before after lru new f touch.Active old on touches g =
       | inr ne ↦ now ∙ moved_listed f g (units_of before lru.inactive) (units_of before lru.active) ne
     ]
 
-pub touched_owners : (before after : List Link) (lru new : Lru) (f : ℕ) (touched : Touched) → StandsIn before lru → StandsIn after new → new.owner ≡ lru.owner
+pub touched_owners : (before after : List Link) (lru new : Lru) (f : ℕ) (touched : Touched) → AreLinked before lru → AreLinked after new → new.owner ≡ lru.owner
     → ChangesOwn before after lru.owner → list_of before lru.owner f ≢ None → Touches before lru f touched after new
     → (g : ℕ) → option_map (λ (x : Home). x.owner) (link_at after g).home ≡ option_map (λ (x : Home). x.owner) (link_at before g).home
 touched_owners before after lru new f touched old stands owner changes on touches =
@@ -253,11 +253,11 @@ touched_owners before after lru new f touched old stands owner changes on touche
 -- ---- the lists of all other groups
 
 -- if the lists of one group change, those of every other group are unchanged
-pub others_stay : (before after : List Link) (lists : List Lru) (g : ℕ) (lru new : Lru) → AllStand before lists → length lists ≡ 64 → lru.owner ≡ g
-    → ChangesOwn before after lru.owner → OthersStand → OthersStay g (group_lists before lists) (group_lists after (slice_set lists g new))
-others_stay before after lists g lru new all sized own changes others_stand h list within ne =
+pub others_stay : (before after : List Link) (lists : List Lru) (g : ℕ) (lru new : Lru) → AllLinked before lists → length lists ≡ 64 → lru.owner ≡ g
+    → ChangesOwn before after lru.owner → OthersStayLinked → OthersStay g (group_lists before lists) (group_lists after (slice_set lists g new))
+others_stay before after lists g lru new all sized own changes others_stay_linked h list within ne =
     let inside : h < length lists = omega (arith, within, sized) in
     let apart : (get_or lists h no_lists).owner ≢ lru.owner = λ e. ne (sym (all h no_lists inside).0 ∙ e ∙ own) in
-    let same = (others_stand before after lru.owner (get_or lists h no_lists) changes apart (all h no_lists inside).1).1 in
+    let same = (others_stay_linked before after lru.owner (get_or lists h no_lists) changes apart (all h no_lists inside).1).1 in
     let stays : get_or (slice_set lists g new) h no_lists ≡ get_or lists h no_lists = get_or-set_other lists g h new no_lists ne in
     ap (λ (x : Lru). entries_of after x list) stays ∙ same list

@@ -8,7 +8,7 @@ use Rattle.std.proofs.lemmas.List.{get_or_past}
 use Rattle.std.proofs.lemmas.List.Sums.{sum_by-append}
 use Rattle.frame_word.specs.Views.{note_of}
 use Rattle.frame_word.specs.Seats.{KnownTable, IsLent, IsBorrowed, LentIsBorrowed, number_of}
-use Rattle.stock_word.specs.Stock.{Words}
+use Rattle.stock_word.specs.Stock.{KnownStockTable}
 use Rattle.cpu_part.specs.Cpus.{KnownCpu, IsTied, times}
 use Rattle.step_rules.specs.State.{one_if}
 use Rattle.mem_machine.specs.declared.frame_state.FrameState.{FrameState}
@@ -33,7 +33,7 @@ pub past_free : (p : ℕ) → Free ≡ Lent p → ⊥
 past_free p e = none-some p (ap lent_to e)
 
 -- a frame that is lent is one of the zone's, and the zone's seat notes whom it is lent to
-lent_noted : (t : KnownTable) (w : Words) (m : KnownMachine) → IsConsistent t w m → (f p : ℕ) → frame_state_at m.frame_states f ≡ Lent p
+lent_noted : (t : KnownTable) (w : KnownStockTable) (m : KnownMachine) → IsConsistent t w m → (f p : ℕ) → frame_state_at m.frame_states f ≡ Lent p
     → (f < t.frames) × ((note_of m.frame_seat.view f).lent ≡ p) × (1 ≤ p)
 lent_noted t w m ok f p is = elim (cases_lt f t.frames) [
   | inl inside ↦
@@ -45,12 +45,12 @@ lent_noted t w m ok f p is = elim (cases_lt f t.frames) [
 ]
 
 -- who a frame is lent to is one of the CPUs
-pub lent_to_cpu : (t : KnownTable) (w : Words) (m : KnownMachine) → IsConsistent t w m → (f p : ℕ) → frame_state_at m.frame_states f ≡ Lent p → (1 ≤ p) × (p ≤ t.cpus)
+pub lent_to_cpu : (t : KnownTable) (w : KnownStockTable) (m : KnownMachine) → IsConsistent t w m → (f p : ℕ) → frame_state_at m.frame_states f ≡ Lent p → (1 ≤ p) × (p ≤ t.cpus)
 lent_to_cpu t w m ok f p is =
     subst (λ (x : FrameState). IfSome (lent_to x) (λ q. (1 ≤ q) × (q ≤ t.cpus))) is (ok.frame_states f (lent_noted t w m ok f p is).0).borrower
 
 -- a CPU with no listed and no fresh frame has none that is lent to it
-pub none_lent : (t : KnownTable) (w : Words) (m : KnownMachine) (c : KnownCpu) → IsConsistent t w m → IsTied t w c → LentIsBorrowed t m.frame_seat c.frame_seat
+pub none_lent : (t : KnownTable) (w : KnownStockTable) (m : KnownMachine) (c : KnownCpu) → IsConsistent t w m → IsTied t w c → LentIsBorrowed t m.frame_seat c.frame_seat
     → c.list ≡ [] → c.fresh ≡ [] → NoneLentTo c.number m.frame_states
 none_lent t w m c ok tied lent no_list no_fresh f is =
     let noted = lent_noted t w m ok f c.number is in

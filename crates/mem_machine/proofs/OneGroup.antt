@@ -5,13 +5,13 @@ use Rattle.std.proofs.lemmas.List.{get_or-set_same, length-set}
 use Rattle.std.proofs.lemmas.Option.{none-some}
 use Rattle.frame_word.specs.Views.{note_of}
 use Rattle.frame_word.specs.Seats.{KnownTable}
-use Rattle.stock_word.specs.Stock.{Words}
+use Rattle.stock_word.specs.Stock.{KnownStockTable}
 use Rattle.lru_lists.specs.declared.record.Link.{Link}
 use Rattle.lru_lists.specs.declared.record.Home.{Home}
 use Rattle.lru_lists.specs.declared.record.Entry.{Entry}
 use Rattle.lru_lists.specs.declared.record.LruList.{LruList}
 use Rattle.lru_lists.specs.declared.lru.Lru.{Lru}
-use Rattle.lru_lists.specs.Lists.{OthersStand, OneOfAllChanges, StandsIn, AllStand, ChangesOwn, SameOwners, Ages, owner_of, list_of, place_of, entries_of}
+use Rattle.lru_lists.specs.Lists.{OthersStayLinked, OneOfAllChanges, AreLinked, AllLinked, ChangesOwn, SameOwners, Ages, owner_of, list_of, place_of, entries_of}
 use Rattle.lru_lists.specs.Lists.{inactive_of, active_of, entries_without, entry_of, marked, first_entry, entry_after}
 use Rattle.mem_machine.specs.FrameStates.{frame_state_at}
 use Rattle.mem_machine.specs.Machines.{KnownMachine, IsConsistent, OthersStay, LooseStay, home_of, lists_at, entries_in, no_lists, lists_of}
@@ -25,11 +25,11 @@ use Rattle.mem_machine.proofs.Followed.{makes_stay}
 
 -- the lists that were read of a group number
 pub record AreRead (now : KnownMachine) (g : ℕ) (lru : Lru) : Type 0 where
-  pub stands : StandsIn now.links lru
+  pub stands : AreLinked now.links lru
   pub owner : lru.owner ≡ g
   pub are : lists_at now.lists g ≡ lru
 
-pub lists_read : (t : KnownTable) (w : Words) (m now : KnownMachine) → m ≡ now → IsConsistent t w m → (g i : ℕ) → i < 64 → i ≡ g → (any lru : Lru)
+pub lists_read : (t : KnownTable) (w : KnownStockTable) (m now : KnownMachine) → m ≡ now → IsConsistent t w m → (g i : ℕ) → i < 64 → i ≡ g → (any lru : Lru)
     → lru ≡ get_or m.lists i any → AreRead now g lru
 lists_read t w m now same ok g i fits is any lru read =
     subst (λ (x : KnownMachine × ℕ). AreRead x.0 x.1 lru) (λ j. (same j, is j)) (record {
@@ -68,7 +68,7 @@ owner_mapped None = refl
 owner_mapped (Some h) = refl
 
 -- what else is unchanged after the lists of one group changed
-pub record GroupChanged (t : KnownTable) (w : Words) (now : KnownMachine) (g : ℕ) (lru new : Lru) (n : KnownMachine) : Type 0 where
+pub record GroupChanged (t : KnownTable) (w : KnownStockTable) (now : KnownMachine) (g : ℕ) (lru new : Lru) (n : KnownMachine) : Type 0 where
   pub consistent : IsConsistent t w n
   pub machine : n ≡ record now { links = n.links; lists = n.lists }
   pub before : lists_at now.lists g ≡ lru
@@ -78,17 +78,17 @@ pub record GroupChanged (t : KnownTable) (w : Words) (now : KnownMachine) (g : �
   pub loose : LooseStay now.links n.links
   pub steps : MakesForAny t now [] n
 
-module _ (t : KnownTable) (w : Words) (m : KnownMachine) (ok : IsConsistent t w m) (g : ℕ) (fits : g < 64) (any lru : Lru) (read : lru ≡ get_or m.lists g any)
-    (links : List Link) (new : Lru) (now_stands : StandsIn links new) (owner : new.owner ≡ lru.owner) (changes : ChangesOwn m.links links lru.owner)
-    (owners : SameOwners m.links links) (others_stand : OthersStand) (one_of_all_changes : OneOfAllChanges) where
+module _ (t : KnownTable) (w : KnownStockTable) (m : KnownMachine) (ok : IsConsistent t w m) (g : ℕ) (fits : g < 64) (any lru : Lru) (read : lru ≡ get_or m.lists g any)
+    (links : List Link) (new : Lru) (now_stands : AreLinked links new) (owner : new.owner ≡ lru.owner) (changes : ChangesOwn m.links links lru.owner)
+    (owners : SameOwners m.links links) (others_stay_linked : OthersStayLinked) (one_of_all_changes : OneOfAllChanges) where
   own : lru.owner ≡ g
   own = read_owner t w m ok g fits any lru read
 
   room : g < length m.lists
   room = there t w m ok g fits any lru read
 
-  all_stand : AllStand links (slice_set m.lists g new)
-  all_stand = subst (λ (k : ℕ). AllStand links (slice_set m.lists k new)) (owner ∙ own)
+  all_stand : AllLinked links (slice_set m.lists g new)
+  all_stand = subst (λ (k : ℕ). AllLinked links (slice_set m.lists k new)) (owner ∙ own)
       (one_of_all_changes m.links links m.lists new ok.lists (subst (λ (k : ℕ). k < length m.lists) (sym (owner ∙ own)) room) now_stands
       (subst (ChangesOwn m.links links) (sym owner) changes))
 
@@ -118,16 +118,16 @@ module _ (t : KnownTable) (w : Words) (m : KnownMachine) (ok : IsConsistent t w 
     machine = refl;
     before = read_is t w m ok g fits any lru read;
     after = get_or-set_same m.lists g new no_lists room;
-    others = others_stay m.links links m.lists g lru new ok.lists ok.sizes.lists own changes others_stand;
+    others = others_stay m.links links m.lists g lru new ok.lists ok.sizes.lists own changes others_stay_linked;
     owners = owners;
     loose = λ f none. loose_stay m.links links lru.owner f changes (mapped f) none;
     steps = λ c. makes_stay t m (record m { links = links; lists = slice_set m.lists g new }) c c refl refl refl refl;
   }
 
 -- the same, of the machine as it was seen before
-pub change_all : (t : KnownTable) (w : Words) (m now : KnownMachine) → m ≡ now → IsConsistent t w m → (g i : ℕ) → i < 64 → i ≡ g → (any lru : Lru)
-    → lru ≡ get_or m.lists i any → (links : List Link) (new : Lru) → StandsIn links new → new.owner ≡ lru.owner → ChangesOwn m.links links lru.owner
-    → SameOwners m.links links → OthersStand → OneOfAllChanges
+pub change_all : (t : KnownTable) (w : KnownStockTable) (m now : KnownMachine) → m ≡ now → IsConsistent t w m → (g i : ℕ) → i < 64 → i ≡ g → (any lru : Lru)
+    → lru ≡ get_or m.lists i any → (links : List Link) (new : Lru) → AreLinked links new → new.owner ≡ lru.owner → ChangesOwn m.links links lru.owner
+    → SameOwners m.links links → OthersStayLinked → OneOfAllChanges
     → GroupChanged t w now g lru new (record m { links = links; lists = slice_set m.lists i new })
 change_all t w m now same ok g i fits is any lru read links new stands owner changes owners others all =
     subst (λ (x : KnownMachine × ℕ). GroupChanged t w x.0 x.1 lru new (record m { links = links; lists = slice_set m.lists i new })) (λ j. (same j, is j))
@@ -135,7 +135,7 @@ change_all t w m now same ok g i fits is any lru read links new stands owner cha
 
 -- ---- the group was aged
 
-pub ages_group : (t : KnownTable) (w : Words) (m now : KnownMachine) → m ≡ now → (g : ℕ) (lru new : Lru) (n : KnownMachine) → GroupChanged t w now g lru new n
+pub ages_group : (t : KnownTable) (w : KnownStockTable) (m now : KnownMachine) → m ≡ now → (g : ℕ) (lru new : Lru) (n : KnownMachine) → GroupChanged t w now g lru new n
     → Ages m.links lru n.links new → AgesGroup g now n
 ages_group t w m now same g lru new n changed ages = record {
   machine = changed.machine;
@@ -147,7 +147,7 @@ ages_group t w m now same g lru new n changed ages = record {
 
 -- ---- a unit of the group was renewed
 
-pub renews_unit : (t : KnownTable) (w : Words) (m now : KnownMachine) → m ≡ now → (g f i : ℕ) → i ≡ f → (lru new : Lru) (n : KnownMachine)
+pub renews_unit : (t : KnownTable) (w : KnownStockTable) (m now : KnownMachine) → m ≡ now → (g f i : ℕ) → i ≡ f → (lru new : Lru) (n : KnownMachine)
     → GroupChanged t w now g lru new n
     → inactive_of n.links new ≡ entries_without i (inactive_of m.links lru) ++ marked false (entry_of m.links i) ∷ []
     → active_of n.links new ≡ active_of m.links lru → RenewsUnit g f now n

@@ -9,7 +9,7 @@ use Rattle.stock_word.specs.declared.view.Account.{Account}
 use Rattle.stock_word.specs.declared.view.StockView.{StockView}
 use Rattle.stock_word.specs.declared.view.Stock.{Stock}
 use Rattle.stock_word.specs.declared.view.Stock.TheVariants.{NoGroup, HeldBy, DrainedOf}
-use Rattle.stock_word.specs.Stock.{Words, Seated, account_of, pages_of, is_held}
+use Rattle.stock_word.specs.Stock.{KnownStockTable, KnownStockSeat, account_of, pages_of, is_held}
 use Rattle.stock_word.specs.Kinds.{filling, after_fill}
 use Rattle.stock_word.specs.Calls.{with_view}
 use Rattle.stock_word.proofs.CallerLemmas.{account_of-with_account, account_of-with_account_other}
@@ -84,11 +84,11 @@ booked_more h g k a empty =
 
 -- ---- consistency
 
-pub fill_consistent : (t : KnownTable) (w : Words) (m : KnownMachine) (q g k : ℕ) (l : Ledger) → IsConsistent t w m
+pub fill_consistent : (t : KnownTable) (w : KnownStockTable) (m : KnownMachine) (q g k : ℕ) (l : Ledger) → IsConsistent t w m
     → q ≤ t.cpus → (account_of m.stock_seat.view q).book ≡ 0 → k < 65536
     → PagesRise m.ledger l g k → IsConsistent t w (record m { ledger = l; stock_seat = with_view m.stock_seat (filling m.stock_seat.view q g k) })
 fill_consistent t w m q g k l ok inside empty small rise =
-    let stock : Seated = with_view m.stock_seat (filling m.stock_seat.view q g k) in
+    let stock : KnownStockSeat = with_view m.stock_seat (filling m.stock_seat.view q g k) in
     let a = account_of m.stock_seat.view q in
     stocks_consistent t w m l stock ok refl ok.seats.stocks
     (λ p. filled_read m.stock_seat.view q g k (λ (x : Account). x.unabsorbed) p
@@ -127,9 +127,9 @@ part_filled l f b a g n none noted empty =
       reported = a.unabsorbed;
     }
 
-module _ (stock : Seated) (c : KnownCpu) (g n : ℕ) (none : length c.fresh ≡ 0) (noted : (account_of stock.view c.number).unabsorbed ≡ 0)
+module _ (stock : KnownStockSeat) (c : KnownCpu) (g n : ℕ) (none : length c.fresh ≡ 0) (noted : (account_of stock.view c.number).unabsorbed ≡ 0)
     (empty : (account_of stock.view c.number).book ≡ 0) where
-  abbrev after_it : Seated
+  abbrev after_it : KnownStockSeat
   after_it = with_view stock (filling stock.view c.number g n)
 
   abbrev shown : ℕ → Account → Part
@@ -152,13 +152,13 @@ module _ (stock : Seated) (c : KnownCpu) (g n : ℕ) (none : length c.fresh ≡ 
   parts_filled = λ i. λ p. part_filled_at p i
 
 -- without fresh frames no phase depends on the stock's group
-phase_stays : (c : KnownCpu) (s : Seated) (f : ℕ) (x : FrameState) → times f c.fresh ≡ 0 → phase_of (record c { stock_seat = s }) f x ≡ phase_of c f x
+phase_stays : (c : KnownCpu) (s : KnownStockSeat) (f : ℕ) (x : FrameState) → times f c.fresh ≡ 0 → phase_of (record c { stock_seat = s }) f x ≡ phase_of c f x
 phase_stays c s f Free none = refl
 phase_stays c s f (Lent q) none = lent_listed (record c { stock_seat = s }) f q none ∙ sym (lent_listed c f q none)
 phase_stays c s f (Head unit) none = refl
 phase_stays c s f (Tail g) none = refl
 
-pub fill_runs : (t : KnownTable) (w : Words) (m : KnownMachine) (c : KnownCpu) (g k : ℕ) → IsConsistent t w m
+pub fill_runs : (t : KnownTable) (w : KnownStockTable) (m : KnownMachine) (c : KnownCpu) (g k : ℕ) → IsConsistent t w m
     → AreCharges m.ledger → IsTied t w c → Visits t (visit_state m c) → c.fresh ≡ []
     → has_group m.ledger.groups g ≡ true → is_killed m.killed g ≡ false → (account_of m.stock_seat.view c.number).book ≡ 0
     → room.PathHasRoom m.ledger.groups (current_of m.ledger) g k
@@ -201,13 +201,13 @@ fill_runs t w m c g k ok facts tied visit none there alive empty has =
     }
 
 -- what `fill_stock` leaves, of the machine as it was seen before
-pub record Filled (t : KnownTable) (w : Words) (m now : KnownMachine) (g k : ℕ) (c : KnownCpu) (l : Ledger) (stock : Seated) (d : KnownCpu) : Type 0 where
+pub record Filled (t : KnownTable) (w : KnownStockTable) (m now : KnownMachine) (g k : ℕ) (c : KnownCpu) (l : Ledger) (stock : KnownStockSeat) (d : KnownCpu) : Type 0 where
   pub consistent : IsConsistent t w (record m { ledger = l; stock_seat = stock })
   pub fills : Fills g k (visit_state now c) (visit_state (record m { ledger = l; stock_seat = stock }) d)
   pub visit : Visits t (visit_state (record m { ledger = l; stock_seat = stock }) d)
   pub steps : LeadsAs t c.number (visit_state now c) (fill_steps c.number g k) (visit_state (record m { ledger = l; stock_seat = stock }) d)
 
-filled_here : (t : KnownTable) (w : Words) (m : KnownMachine) (c : KnownCpu) (g k : ℕ) → IsConsistent t w m
+filled_here : (t : KnownTable) (w : KnownStockTable) (m : KnownMachine) (c : KnownCpu) (g k : ℕ) → IsConsistent t w m
     → AreCharges m.ledger → IsTied t w c → Visits t (visit_state m c) → c.fresh ≡ [] → k < 65536
     → has_group m.ledger.groups g ≡ true → is_killed m.killed g ≡ false → (account_of m.stock_seat.view c.number).book ≡ 0
     → room.PathHasRoom m.ledger.groups (current_of m.ledger) g k
@@ -222,10 +222,10 @@ filled_here t w m c g k ok facts tied visit none small there alive empty has = r
   steps = fill_runs t w m c g k ok facts tied visit none there alive empty has;
 }
 
-pub filled_all : (t : KnownTable) (w : Words) (m now : KnownMachine) (c : KnownCpu) (g k : ℕ) → m ≡ now
+pub filled_all : (t : KnownTable) (w : KnownStockTable) (m now : KnownMachine) (c : KnownCpu) (g k : ℕ) → m ≡ now
     → IsConsistent t w m → AreCharges m.ledger → IsTied t w c → Visits t (visit_state now c)
     → c.fresh ≡ [] → k < 65536 → has_group now.ledger.groups g ≡ true → is_killed now.killed g ≡ false → (account_of m.stock_seat.view c.number).book ≡ 0
-    → room.PathHasRoom m.ledger.groups (current_of m.ledger) g k → (l : Ledger) (stock : Seated) (d : KnownCpu) (h : ℕ) → h ≡ g → l ≡ with_charge m.ledger g k
+    → room.PathHasRoom m.ledger.groups (current_of m.ledger) g k → (l : Ledger) (stock : KnownStockSeat) (d : KnownCpu) (h : ℕ) → h ≡ g → l ≡ with_charge m.ledger g k
     → stock ≡ with_view m.stock_seat (filling m.stock_seat.view c.number h k) → d
     ≡ record c { stock_seat = with_view c.stock_seat (after_fill c.stock_seat.view h k) } → Filled t w m now g k c l stock d
 filled_all t w m now c g k same ok facts tied visit none small there alive empty has l stock d h named charged filled seen =
@@ -233,7 +233,7 @@ filled_all t w m now c g k same ok facts tied visit none small there alive empty
     (ap (λ (x : KnownMachine). has_group x.ledger.groups g) same ∙ there) (ap (λ (x : KnownMachine). is_killed x.killed g) same ∙ alive) empty has in
     let stock_is = filled ∙ ap (λ (n : ℕ). with_view m.stock_seat (filling m.stock_seat.view c.number n k)) named in
     let cpu_is = seen ∙ ap (λ (n : ℕ). record c { stock_seat = with_view c.stock_seat (after_fill c.stock_seat.view n k) }) named in
-    subst (λ (x : KnownMachine × Ledger × Seated × KnownCpu). Filled t w m x.0 g k c x.1 x.2 x.3) (λ i. (
+    subst (λ (x : KnownMachine × Ledger × KnownStockSeat × KnownCpu). Filled t w m x.0 g k c x.1 x.2 x.3) (λ i. (
       same i,
       sym charged i,
       sym stock_is i,
@@ -241,7 +241,7 @@ filled_all t w m now c g k same ok facts tied visit none small there alive empty
     )) here
 
 -- the grant is refused if a limit has no room, and nothing changes
-pub refused_all : (t : KnownTable) (w : Words) (m now : KnownMachine) → m ≡ now → (c : KnownCpu) (g k over : ℕ) → IsConsistent t w m → AreCharges m.ledger
+pub refused_all : (t : KnownTable) (w : KnownStockTable) (m now : KnownMachine) → m ≡ now → (c : KnownCpu) (g k over : ℕ) → IsConsistent t w m → AreCharges m.ledger
     → IsTied t w c → Visits t (visit_state now c) → c.fresh ≡ [] → has_group now.ledger.groups g ≡ true → is_killed now.killed g ≡ false
     → room.IsLowestOver now.ledger.groups (current_of now.ledger) g k over → LeadsAs t c.number (visit_state now c) (over_steps g k over) (visit_state now c)
 refused_all t w m now same c g k over ok facts tied visit none there alive low =

@@ -12,13 +12,13 @@ use Rattle.frame_word.specs.declared.view.FrameNote.{FrameNote}
 use Rattle.frame_word.specs.Views.{note_of, let_go, let_go_last}
 use Rattle.frame_word.specs.Seats.{KnownTable, KnownSeat, number_of, seat_with, holds, IsBorrowed}
 use Rattle.frame_word.proofs.Notes.{note_here, note_else}
-use Rattle.stock_word.specs.Stock.{Words}
+use Rattle.stock_word.specs.Stock.{KnownStockTable}
 use Rattle.zone_buddy.specs.Zone.{GivesFrames}
 use Rattle.group_charge.specs.Charges.{Ledger, with_uncharge}
 use Rattle.lru_lists.specs.declared.record.Link.{Link}
 use Rattle.lru_lists.specs.declared.record.Home.{Home}
 use Rattle.lru_lists.specs.declared.lru.Lru.{Lru}
-use Rattle.lru_lists.specs.Lists.{AllStand}
+use Rattle.lru_lists.specs.Lists.{AllLinked}
 use Rattle.cpu_part.specs.Cpus.{KnownCpu, times}
 use Rattle.step_rules.specs.declared.phase.ChargedUnit.{ChargedUnit}
 use Rattle.step_rules.specs.declared.phase.Stage.TheVariants.{Live, BackAt, Ended}
@@ -142,7 +142,7 @@ kept_owner : (home : Option Home) (x : FrameState) → IfSome home (λ h. (h.own
 kept_owner None x kept = tt
 kept_owner (Some h) x kept = kept.0
 
-module _ (t : KnownTable) (w : Words) (m : KnownMachine) (ok : IsConsistent t w m) (f : ℕ) (inside : f < t.frames) (kept : home_of m.links f ≢ None) where
+module _ (t : KnownTable) (w : KnownStockTable) (m : KnownMachine) (ok : IsConsistent t w m) (f : ℕ) (inside : f < t.frames) (kept : home_of m.links f ≢ None) where
   pub owner_is : IfSome (home_of m.links f) (λ h. h.owner < 64)
   owner_is = kept_owner (home_of m.links f) (frame_state_at m.frame_states f) (ok.frame_states f inside).kept
 
@@ -153,7 +153,7 @@ module _ (t : KnownTable) (w : Words) (m : KnownMachine) (ok : IsConsistent t w 
   pub held_once : holds m.frame_seat f ≡ 1
   held_once = kept_once (home_of m.links f) (holds m.frame_seat f) (ok.frame_states f inside).references kept
 
-  module _ (links : List Link) (lists : List Lru) (leaves : LeavesList f (lists_of m) (group_lists links lists)) (stand : AllStand links lists)
+  module _ (links : List Link) (lists : List Lru) (leaves : LeavesList f (lists_of m) (group_lists links lists)) (stand : AllLinked links lists)
       (linked : length links ≡ t.frames) (listed : length lists ≡ 64) where
     homeless : home_of links f ≡ None
     homeless = ap (λ (k : Link). k.home) leaves.forgotten
@@ -287,7 +287,7 @@ module _ (t : KnownTable) (w : Words) (m : KnownMachine) (ok : IsConsistent t w 
             )
 
 -- the record that was read is the frame's
-pub read_head : (t : KnownTable) (w : Words) (m : KnownMachine) → IsConsistent t w m → (f i : ℕ) → f < t.frames → i ≡ f → (x : FrameState) (unit : ChargedUnit)
+pub read_head : (t : KnownTable) (w : KnownStockTable) (m : KnownMachine) → IsConsistent t w m → (f i : ℕ) → f < t.frames → i ≡ f → (x : FrameState) (unit : ChargedUnit)
     → x ≡ get_or m.frame_states i x → x ≡ Head unit → frame_state_at m.frame_states i ≡ Head unit
 read_head t w m ok f i inside is x unit read head =
     let sized = ok.sizes.frame_states in
@@ -296,12 +296,12 @@ read_head t w m ok f i inside is x unit read head =
 
 -- ---- all of it, of the machine as it was seen before
 
-pub record AllLeft (t : KnownTable) (w : Words) (now : KnownMachine) (f left : ℕ) (n : KnownMachine) : Type 0 where
+pub record AllLeft (t : KnownTable) (w : KnownStockTable) (now : KnownMachine) (f left : ℕ) (n : KnownMachine) : Type 0 where
   pub consistent : IsConsistent t w n
   pub visit : (c : KnownCpu) → Visits t (visit_state now c) → Visits t (visit_state n c)
   pub steps : LeadsForAny t now (release_steps f (Left left)) n
 
-pub left_all : (t : KnownTable) (w : Words) (m now : KnownMachine) → m ≡ now → IsConsistent t w m → (f i : ℕ) → f < t.frames → i ≡ f → home_of now.links f ≢ None → (links : List Link) (lists : List Lru) → LeavesList i (lists_of m) (group_lists links lists) → AllStand links lists
+pub left_all : (t : KnownTable) (w : KnownStockTable) (m now : KnownMachine) → m ≡ now → IsConsistent t w m → (f i : ℕ) → f < t.frames → i ≡ f → home_of now.links f ≢ None → (links : List Link) (lists : List Lru) → LeavesList i (lists_of m) (group_lists links lists) → AllLinked links lists
     → length links ≡ length m.links → length lists ≡ 64 → (left : ℕ) (seat : KnownSeat) → seat ≡ seat_with m.frame_seat f (let_go left)
     → AllLeft t w now f left (record m { links = links; lists = lists; frame_seat = seat })
 left_all t w m now same ok f i inside is kept_now links lists left_list stand linked listed left seat put =
@@ -317,7 +317,7 @@ left_all t w m now same ok f i inside is kept_now links lists left_list stand li
     subst (λ (x : KnownMachine × KnownSeat). AllLeft t w x.0 f left (record m { links = links; lists = lists; frame_seat = x.1 })) (λ j. (same j, sym put j)) all
 
 -- what is left after a kept unit came into the zone's hand by the step before the last one, and was freed
-pub record AllBack (t : KnownTable) (w : Words) (now : KnownMachine) (f : ℕ) (unit : ChargedUnit) (free : List Bool) (steps : Run) (n : KnownMachine) : Type 0 where
+pub record AllBack (t : KnownTable) (w : KnownStockTable) (now : KnownMachine) (f : ℕ) (unit : ChargedUnit) (free : List Bool) (steps : Run) (n : KnownMachine) : Type 0 where
   pub consistent : IsConsistent t w n
   pub free_is : free ≡ free_of n.frame_states
   pub heads : frame_state_at now.frame_states f ≡ Head unit
@@ -328,9 +328,9 @@ pub record AllBack (t : KnownTable) (w : Words) (now : KnownMachine) (f : ℕ) (
   pub runs : LeadsForAny t now steps n
 
 -- the step before the last one leaves the state that the zone's last put leaves
-pub back_all : (t : KnownTable) (w : Words) (m now : KnownMachine) → m ≡ now → IsConsistent t w m → (f i : ℕ)
+pub back_all : (t : KnownTable) (w : KnownStockTable) (m now : KnownMachine) → m ≡ now → IsConsistent t w m → (f i : ℕ)
     → f < t.frames → i ≡ f → home_of now.links f ≢ None → (links : List Link) (lists : List Lru) → LeavesList i (lists_of m) (group_lists links lists)
-    → AllStand links lists → length links ≡ length m.links → length lists ≡ 64
+    → AllLinked links lists → length links ≡ length m.links → length lists ≡ 64
     → (change : FrameNote → FrameNote) → TakesInHand change → (seat : KnownSeat) → seat ≡ seat_with m.frame_seat f change
     → (action : Action) (answered : Answer)
     → ((c : KnownCpu) → holds m.frame_seat f ≡ 1 → IsLocalStep (local_of t m c) c.number 0 action answered) → is_still action answered ≡ true
@@ -408,16 +408,16 @@ back_all t w m now same ok f i inside is kept_now links lists left_list stand li
       },
     )) all
 
-pub record AllReturned (t : KnownTable) (w : Words) (now : KnownMachine) (f : ℕ) (free : List Bool) (n : KnownMachine) : Type 0 where
+pub record AllReturned (t : KnownTable) (w : KnownStockTable) (now : KnownMachine) (f : ℕ) (free : List Bool) (n : KnownMachine) : Type 0 where
   pub consistent : IsConsistent t w n
   pub free_is : free ≡ free_of n.frame_states
   pub returns : ReturnsUnit f now n
   pub visit : (c : KnownCpu) → Visits t (visit_state now c) → Visits t (visit_state n c)
   pub steps : LeadsForAny t now (release_steps f Returned) n
 
-pub returned_all : (t : KnownTable) (w : Words) (m now : KnownMachine) → m ≡ now → IsConsistent t w m → (f i : ℕ)
+pub returned_all : (t : KnownTable) (w : KnownStockTable) (m now : KnownMachine) → m ≡ now → IsConsistent t w m → (f i : ℕ)
     → f < t.frames → i ≡ f → home_of now.links f ≢ None → (links : List Link) (lists : List Lru) → LeavesList i (lists_of m) (group_lists links lists)
-    → AllStand links lists → length links ≡ length m.links → length lists ≡ 64 → (seat : KnownSeat) → seat ≡ seat_with m.frame_seat f let_go_last
+    → AllLinked links lists → length links ≡ length m.links → length lists ≡ 64 → (seat : KnownSeat) → seat ≡ seat_with m.frame_seat f let_go_last
     → (unit : ChargedUnit) → frame_state_at m.frame_states i ≡ Head unit
     → (before free : List Bool) (blocks : List Block) (frame_states : List FrameState) (ledger : Ledger) (counts : Counts)
     → before ≡ free_of m.frame_states → FreesFrames i (2 ^ unit.order) m.frame_states frame_states → GivesFrames before (record { at = i; order = unit.order }) free

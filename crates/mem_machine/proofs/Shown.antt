@@ -10,7 +10,7 @@ use Rattle.frame_word.specs.Views.{gave_back, collected_from, unfrozen}
 use Rattle.frame_word.specs.Seats.{KnownTable, KnownSeat, holds, seat_with}
 use Rattle.frame_word.proofs.Notes.{note_here, note_else}
 use Rattle.stock_word.specs.declared.view.Account.{Account}
-use Rattle.stock_word.specs.Stock.{Words, Seated, account_of}
+use Rattle.stock_word.specs.Stock.{KnownStockTable, KnownStockSeat, account_of}
 use Rattle.stock_word.specs.Kinds.{after_report}
 use Rattle.stock_word.specs.Calls.{with_view}
 use Rattle.cpu_part.specs.Cpus.{KnownCpu, IsTied, times}
@@ -38,7 +38,7 @@ use Rattle.mem_machine.proofs.Takes.{without_none, without_front}
 use Rattle.mem_machine.proofs.Absorbs.{absorbed_account, absorbed_at, absorbed_else}
 use Rattle.mem_machine.proofs.HandOvers.{IsVisited, IsFreshFront, IsBackFront, times_rest}
 
-pub is_visited : (t : KnownTable) (w : Words) (m : KnownMachine) (c : KnownCpu) → IsTied t w c → Visits t (visit_state m c) → (f : ℕ) → f < t.frames
+pub is_visited : (t : KnownTable) (w : KnownStockTable) (m : KnownMachine) (c : KnownCpu) → IsTied t w c → Visits t (visit_state m c) → (f : ℕ) → f < t.frames
     → IsVisited (local_of t m c) c.number f
 is_visited t w m c tied visit f inside = record {
   acts = zone_may_act m.frame_seat c.number;
@@ -121,7 +121,7 @@ module _ (c d : KnownCpu) (frame_states : List FrameState) (f : ℕ) (others : (
 
 -- ---- the parts
 
-module _ (stock : Seated) (c : KnownCpu) (f : ℕ) (rest : List ℕ) (front : c.fresh ≡ f ∷ rest) (at : IsFreshFront c f rest)
+module _ (stock : KnownStockSeat) (c : KnownCpu) (f : ℕ) (rest : List ℕ) (front : c.fresh ≡ f ∷ rest) (at : IsFreshFront c f rest)
     (noted : (account_of stock.view c.number).unabsorbed ≡ 0) (unit : ChargedUnit) where
   abbrev p : ℕ
   p = c.number
@@ -164,7 +164,7 @@ module _ (stock : Seated) (c : KnownCpu) (f : ℕ) (rest : List ℕ) (front : c.
 
   pub parts_absorbed : (q : ℕ) → part_of (with_page_absorbed stock c.number) (fresh_handed c f rest) q ≡ with_at (part_of stock c) c.number absorbed_part q
   parts_absorbed q =
-      let n : Seated = with_page_absorbed stock c.number in
+      let n : KnownStockSeat = with_page_absorbed stock c.number in
       elim (cases_eq q c.number) [
         | inl e ↦ subst (λ (k : ℕ). part_of n (fresh_handed c f rest) k ≡ with_at (part_of stock c) c.number absorbed_part k) (sym e)
             (cond-true (c.number == c.number) (part_with c.list rest c.back (account_of n.view c.number)) (part_with [] [] [] (account_of n.view c.number))
@@ -179,7 +179,7 @@ module _ (stock : Seated) (c : KnownCpu) (f : ℕ) (rest : List ℕ) (front : c.
             ∙ sym (at_other (part_of stock c) c.number absorbed_part q ne)
       ]
 
-module _ (stock : Seated) (c : KnownCpu) (f : ℕ) (rest : List ℕ) (front : c.back ≡ f ∷ rest) (at : IsBackFront c f rest) (unit : ChargedUnit) where
+module _ (stock : KnownStockSeat) (c : KnownCpu) (f : ℕ) (rest : List ℕ) (front : c.back ≡ f ∷ rest) (at : IsBackFront c f rest) (unit : ChargedUnit) where
   -- the CPU's own part without the back frame
   abbrev pub back_part : Part
   back_part = without_frame (part_with c.list c.fresh c.back (account_of stock.view c.number)) (phase.Head unit (BackAt c.number)) c.number f

@@ -11,7 +11,7 @@ use Rattle.frame_word.specs.declared.view.FrameNote.{FrameNote}
 use Rattle.frame_word.specs.Views.{note_of, gave_back, collected_from}
 use Rattle.frame_word.specs.Seats.{KnownTable, KnownSeat, number_of, seat_with, IsLent, IsBorrowed, Passes, NothingPasses}
 use Rattle.frame_word.proofs.Notes.{note_here, note_else}
-use Rattle.stock_word.specs.Stock.{Words, account_of}
+use Rattle.stock_word.specs.Stock.{KnownStockTable, account_of}
 use Rattle.cpu_part.specs.Cpus.{KnownCpu, IsTied, times}
 use Rattle.cpu_part.specs.Calls.{HandsFront}
 use Rattle.cpu_part.proofs.CallerLemmas.{handed_passes, collected_is_still}
@@ -62,7 +62,7 @@ pub without_front : (f : ℕ) (xs rest : List ℕ) → xs ≡ f ∷ rest → tim
 without_front f xs rest front none =
     ap (without f) front ∙ without_here f rest none
 
-module _ (t : KnownTable) (w : Words) (m : KnownMachine) (c : KnownCpu) (tied : IsTied t w c) (ok : IsConsistent t w m) (visit : Visits t (visit_state m c))
+module _ (t : KnownTable) (w : KnownStockTable) (m : KnownMachine) (c : KnownCpu) (tied : IsTied t w c) (ok : IsConsistent t w m) (visit : Visits t (visit_state m c))
     (f : ℕ) (rest : List ℕ) (front : c.list ≡ f ∷ rest) (inside : f < t.frames) (lent : IsLent m.frame_seat f c.number) where
   within : f < length m.frame_states
   within = let s = ok.sizes.frame_states in omega (arith, s, inside)
@@ -194,14 +194,14 @@ module _ (t : KnownTable) (w : Words) (m : KnownMachine) (c : KnownCpu) (tied : 
       }
 
 -- all of it, of the machine as it was seen before
-pub record AllTaken (t : KnownTable) (w : Words) (now : KnownMachine) (c : KnownCpu) (f : ℕ) (n : KnownMachine) (d : KnownCpu) (free : List Bool) : Type 0 where
+pub record AllTaken (t : KnownTable) (w : KnownStockTable) (now : KnownMachine) (c : KnownCpu) (f : ℕ) (n : KnownMachine) (d : KnownCpu) (free : List Bool) : Type 0 where
   pub consistent : IsConsistent t w n
   pub free_is : free ≡ free_of n.frame_states
   pub takes : TakesOneBack f (visit_state now c) (visit_state n d)
   pub steps : LeadsAs t c.number (visit_state now c) (unlist_steps c.number f) (visit_state n d)
   pub visit : Visits t (visit_state n d)
 
-pub take_all : (t : KnownTable) (w : Words) (m now : KnownMachine) → m ≡ now → (c h d : KnownCpu) → IsTied t w c → IsConsistent t w m → Visits t (visit_state now c)
+pub take_all : (t : KnownTable) (w : KnownStockTable) (m now : KnownMachine) → m ≡ now → (c h d : KnownCpu) → IsTied t w c → IsConsistent t w m → Visits t (visit_state now c)
     → (before free : List Bool) (k : ℕ) (blocks : List Block) (f i : ℕ) (seat : KnownSeat)
     → before ≡ free_of m.frame_states → k ≡ 0 → GivesFrames before (record { at = i; order = k }) free → AreMaximalBlocks free blocks
     → f < t.frames → IsLent m.frame_seat f c.number → i ≡ f → HandsFront f c h → seat ≡ seat_with m.frame_seat f (collected_from h.number) → d ≡ h
@@ -244,7 +244,7 @@ pub taken_none : (m now : KnownMachine) → m ≡ now → (c d : KnownCpu) (seat
 taken_none m now same c d seat none is = record { none = none.0; stays = record { machine = (λ i. record m { frame_seat = is i }) ∙ same; cpu = none.1 } }
 
 -- the frame passes for the CPU once it was handed
-pub passes_back_to : (t : KnownTable) (w : Words) (m now : KnownMachine) → m ≡ now → (c h : KnownCpu) → IsTied t w c → Visits t (visit_state now c)
+pub passes_back_to : (t : KnownTable) (w : KnownStockTable) (m now : KnownMachine) → m ≡ now → (c h : KnownCpu) → IsTied t w c → Visits t (visit_state now c)
     → (f : ℕ) (seat : KnownSeat)
     → f < t.frames → HandsFront f c h → seat ≡ m.frame_seat → Passes seat h.frame_seat f
 passes_back_to t w m now same c h tied visit f seat inside hands is =
@@ -254,7 +254,7 @@ passes_back_to t w m now same c h tied visit f seat inside hands is =
     (ap (λ (x : KnownCpu). x.frame_seat) hands.2) inside)
 
 -- its frame may be freed
-pub may_give : (t : KnownTable) (w : Words) (m : KnownMachine) (c : KnownCpu) → IsTied t w c → IsConsistent t w m → (before : List Bool) (f i k : ℕ)
+pub may_give : (t : KnownTable) (w : KnownStockTable) (m : KnownMachine) (c : KnownCpu) → IsTied t w c → IsConsistent t w m → (before : List Bool) (f i k : ℕ)
     → before ≡ free_of m.frame_states → f < t.frames → IsLent m.frame_seat f c.number → i ≡ f → k ≡ 0 → IsInUse before (record { at = i; order = k })
 may_give t w m c tied ok before f i k was inside lent index zero_is =
     let sized = ok.sizes.frame_states in

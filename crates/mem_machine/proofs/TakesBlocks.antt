@@ -16,7 +16,7 @@ use Rattle.frame_word.specs.declared.view.FrameNote.{FrameNote}
 use Rattle.frame_word.specs.Views.{note_of, unfrozen}
 use Rattle.frame_word.specs.Seats.{KnownTable, KnownSeat, seat_with, holds, IsInOwnHand, NothingPasses, LentIsBorrowed}
 use Rattle.frame_word.proofs.Notes.{note_here, note_else}
-use Rattle.stock_word.specs.Stock.{Words}
+use Rattle.stock_word.specs.Stock.{KnownStockTable}
 use Rattle.group_tree.specs.Groups.{has_group}
 use Rattle.group_tree.specs.Room.{PathHasRoom}
 use Rattle.group_charge.specs.Charges.{Ledger, current_of, with_charge, with_uncharge, PagesRise, AreCharges}
@@ -158,7 +158,7 @@ one_more_reference s f x = elim (cases_eq x f) [
 ]
 
 -- the frame that the zone finds free is in its hand
-pub free_in_hand : (t : KnownTable) (w : Words) (m : KnownMachine) → IsConsistent t w m → (f g : ℕ) → f < length m.frame_states → frame_state_at m.frame_states f ≡ Free → g ≡ f
+pub free_in_hand : (t : KnownTable) (w : KnownStockTable) (m : KnownMachine) → IsConsistent t w m → (f g : ℕ) → f < length m.frame_states → frame_state_at m.frame_states f ≡ Free → g ≡ f
     → IsInOwnHand m.frame_seat g
 free_in_hand t w m ok f g inside is named =
     let s = ok.sizes.frame_states in
@@ -167,7 +167,7 @@ free_in_hand t w m ok f g inside is named =
 -- ---- all of it
 
 -- what `take_block` leaves if there is a block, of the machine as it was seen before
-pub record AllTaken (t : KnownTable) (w : Words) (now : KnownMachine) (c : KnownCpu) (g k at : ℕ) (n : KnownMachine) (d : KnownCpu) (free : List Bool) : Type 0 where
+pub record AllTaken (t : KnownTable) (w : KnownStockTable) (now : KnownMachine) (c : KnownCpu) (g k at : ℕ) (n : KnownMachine) (d : KnownCpu) (free : List Bool) : Type 0 where
   pub consistent : IsConsistent t w n
   pub free_is : free ≡ free_of n.frame_states
   pub takes : TakesBlock g k at now n
@@ -197,7 +197,7 @@ taken_machine m g b blocks frame_states links lists = record {
   watch = m.watch;
 }
 
-taken_here : (t : KnownTable) (w : Words) (m : KnownMachine) (c : KnownCpu) → IsConsistent t w m → AreCharges m.ledger → (g : ℕ) → g < 64 → (b : Block)
+taken_here : (t : KnownTable) (w : KnownStockTable) (m : KnownMachine) (c : KnownCpu) → IsConsistent t w m → AreCharges m.ledger → (g : ℕ) → g < 64 → (b : Block)
     → MayTake t m c g → PathHasRoom m.ledger.groups (current_of m.ledger) g (2 ^ b.order) → PagesRise m.ledger (with_charge m.ledger g (2 ^ b.order)) g (2 ^ b.order)
     → (before free : List Bool) (blocks : List Block) → before ≡ free_of m.frame_states → IsFrontOfSmallest m.blocks b.order b → TakesFrames before b free
     → AreMaximalBlocks free blocks → (frame_states : List FrameState) → PlacesUnit g b m.frame_states frame_states → holds m.frame_seat b.at ≡ 0
@@ -250,7 +250,7 @@ taken_here t w m c ok facts g fits b may room rise before free blocks was front 
           }) facts (λ h. refl) (same_events (with_charge m.ledger g (2 ^ b.order)));
     }
 
-pub taken_all : (t : KnownTable) (w : Words) (m now : KnownMachine) → m ≡ now → (c d : KnownCpu) → d ≡ c → IsConsistent t w m → AreCharges m.ledger → (g : ℕ) → g < 64
+pub taken_all : (t : KnownTable) (w : KnownStockTable) (m now : KnownMachine) → m ≡ now → (c d : KnownCpu) → d ≡ c → IsConsistent t w m → AreCharges m.ledger → (g : ℕ) → g < 64
     → (k pages : ℕ) → pages ≡ 2 ^ k → MayTake t now c g → PathHasRoom m.ledger.groups (current_of m.ledger) g pages → (ledger : Ledger) → ledger ≡ with_charge m.ledger g pages
     → PagesRise m.ledger ledger g pages → (before free : List Bool) (b : Block) (blocks : List Block) → before ≡ free_of m.frame_states
     → IsFrontOfSmallest m.blocks k b → TakesFrames before b free → AreMaximalBlocks free blocks → (frame_states : List FrameState) → PlacesUnit g b m.frame_states frame_states
@@ -295,7 +295,7 @@ pub record NoneTaken (t : KnownTable) (now : KnownMachine) (c : KnownCpu) (g k :
   pub none : TakesNoBlock g k now n
   pub steps : LeadsAs t c.number (visit_state now c) (unplaced_steps g k) (visit_state n d)
 
-pub none_all : (t : KnownTable) (w : Words) (m now : KnownMachine) → m ≡ now → (c d : KnownCpu) → d ≡ c → IsConsistent t w m → AreCharges m.ledger → (g k pages : ℕ) → pages ≡ 2 ^ k
+pub none_all : (t : KnownTable) (w : KnownStockTable) (m now : KnownMachine) → m ≡ now → (c d : KnownCpu) → d ≡ c → IsConsistent t w m → AreCharges m.ledger → (g k pages : ℕ) → pages ≡ 2 ^ k
     → MayTake t now c g → PathHasRoom m.ledger.groups (current_of m.ledger) g pages → (charged ledger : Ledger) → charged ≡ with_charge m.ledger g pages → ledger ≡ with_uncharge charged g pages
     → (blocks : List Block) → blocks ≡ m.blocks → HasNoneFrom m.blocks k → NoneTaken t now c g k (record m { blocks = blocks; ledger = ledger }) d
 none_all t w m now same c d stays ok facts g k pages size may room charged ledger rises falls blocks kept none =

@@ -4,12 +4,12 @@ use Rattle.std.specs.Prelude.{slice_set, option_map}
 use Rattle.std.proofs.lemmas.List.{get_or-set_same, length-set}
 use Rattle.frame_word.specs.Views.{note_of}
 use Rattle.frame_word.specs.Seats.{KnownTable}
-use Rattle.stock_word.specs.Stock.{Words}
+use Rattle.stock_word.specs.Stock.{KnownStockTable}
 use Rattle.lru_lists.specs.declared.record.Link.{Link}
 use Rattle.lru_lists.specs.declared.record.Home.{Home}
 use Rattle.lru_lists.specs.declared.lru.Lru.{Lru}
 use Rattle.lru_lists.specs.declared.lru.Touched.{Touched}
-use Rattle.lru_lists.specs.Lists.{OthersStand, OneOfAllChanges, StandsIn, AllStand, ChangesOwn, Touches, list_of}
+use Rattle.lru_lists.specs.Lists.{OthersStayLinked, OneOfAllChanges, AreLinked, AllLinked, ChangesOwn, Touches, list_of}
 use Rattle.cpu_part.specs.Cpus.{KnownCpu}
 use Rattle.mem_machine.specs.FrameStates.{frame_state_at}
 use Rattle.mem_machine.specs.Machines.{KnownMachine, IsConsistent, home_of, no_lists}
@@ -19,19 +19,19 @@ use Rattle.mem_machine.proofs.Listed.{touched_owners, fits_home, loose_stay, oth
 use Rattle.mem_machine.proofs.Dirties.{owner_bound, on_list, owned, stands, its_lists}
 use Rattle.mem_machine.proofs.Followed.{makes_stay}
 
-module _ (t : KnownTable) (w : Words) (m : KnownMachine) (ok : IsConsistent t w m) (f : ℕ) (inside : f < t.frames) (h : Home)
+module _ (t : KnownTable) (w : KnownStockTable) (m : KnownMachine) (ok : IsConsistent t w m) (f : ℕ) (inside : f < t.frames) (h : Home)
     (home : home_of m.links f ≡ Some h)
-    (lru : Lru) (read : lru ≡ get_or m.lists h.owner lru) (links : List Link) (new : Lru) (touched : Touched) (now_stands : StandsIn links new)
+    (lru : Lru) (read : lru ≡ get_or m.lists h.owner lru) (links : List Link) (new : Lru) (touched : Touched) (now_stands : AreLinked links new)
     (owner : new.owner ≡ lru.owner) (touches : Touches m.links lru f touched links new) (changes : ChangesOwn m.links links lru.owner)
-    (others_stand : OthersStand) (one_of_all_changes : OneOfAllChanges) where
+    (others_stay_linked : OthersStayLinked) (one_of_all_changes : OneOfAllChanges) where
   bound : h.owner < length m.lists
   bound = let a = owner_bound t w m ok f h inside home in let b = ok.sizes.lists in omega (arith, a, b)
 
   own : lru.owner ≡ h.owner
   own = owned t w m ok f inside h home lru read
 
-  all_stand : AllStand links (slice_set m.lists h.owner new)
-  all_stand = subst (λ (k : ℕ). AllStand links (slice_set m.lists k new)) (owner ∙ own)
+  all_stand : AllLinked links (slice_set m.lists h.owner new)
+  all_stand = subst (λ (k : ℕ). AllLinked links (slice_set m.lists k new)) (owner ∙ own)
       (one_of_all_changes m.links links m.lists new ok.lists (subst (λ (k : ℕ). k < length m.lists) (sym (owner ∙ own)) bound) now_stands
       (subst (ChangesOwn m.links links) (sym owner) changes))
 
@@ -63,24 +63,24 @@ module _ (t : KnownTable) (w : Words) (m : KnownMachine) (ok : IsConsistent t w 
   touch_does = record {
     group = h.owner;
     list = h.list;
-    stands = home;
+    home = home;
     machine = refl;
     touches = subst (λ (x : Lru × Lru). Touches m.links x.0 f touched links x.1)
         (λ i. (sym (its_lists t w m ok f inside h home lru read) i, sym (get_or-set_same m.lists h.owner new no_lists bound) i)) touches;
-    others = others_stay m.links links m.lists h.owner lru new ok.lists ok.sizes.lists own changes others_stand;
+    others = others_stay m.links links m.lists h.owner lru new ok.lists ok.sizes.lists own changes others_stay_linked;
     loose = λ g none. loose_stay m.links links lru.owner g changes (owners g) none;
   }
 
 -- all of it, of the machine as it was seen before
-pub record AllTouched (t : KnownTable) (w : Words) (now : KnownMachine) (f : ℕ) (touched : Touched) (n : KnownMachine) : Type 0 where
+pub record AllTouched (t : KnownTable) (w : KnownStockTable) (now : KnownMachine) (f : ℕ) (touched : Touched) (n : KnownMachine) : Type 0 where
   pub consistent : IsConsistent t w n
   pub touches : TouchesUnit f touched now n
   pub steps : (c : KnownCpu) → MakesAs t c.number (visit_state now c) [] (visit_state n c)
 
-pub touch_all : (t : KnownTable) (w : Words) (m now : KnownMachine) → m ≡ now → IsConsistent t w m → (f i : ℕ) → f < t.frames → i ≡ f → (h : Home)
-    → Some h ≡ home_of m.links i → (lru : Lru) → lru ≡ get_or m.lists h.owner lru → (links : List Link) (new : Lru) (touched : Touched) → StandsIn links new
+pub touch_all : (t : KnownTable) (w : KnownStockTable) (m now : KnownMachine) → m ≡ now → IsConsistent t w m → (f i : ℕ) → f < t.frames → i ≡ f → (h : Home)
+    → Some h ≡ home_of m.links i → (lru : Lru) → lru ≡ get_or m.lists h.owner lru → (links : List Link) (new : Lru) (touched : Touched) → AreLinked links new
     → new.owner ≡ lru.owner → Touches m.links lru i touched links new → ChangesOwn m.links links lru.owner
-    → OthersStand → OneOfAllChanges → AllTouched t w now f touched (record m { links = links; lists = slice_set m.lists h.owner new })
+    → OthersStayLinked → OneOfAllChanges → AllTouched t w now f touched (record m { links = links; lists = slice_set m.lists h.owner new })
 touch_all t w m now same ok f i inside is h home lru read links new touched now_stands owner touches changes others all =
     let at : home_of m.links f ≡ Some h = ap (home_of m.links) (sym is) ∙ sym home in
     let told : Touches m.links lru f touched links new = subst (λ (k : ℕ). Touches m.links lru k touched links new) is touches in

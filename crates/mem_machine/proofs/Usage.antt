@@ -12,7 +12,7 @@ use Rattle.group_charge.specs.Charges.{AreCharges, current_of}
 use Rattle.stock_word.specs.declared.view.Account.{Account as Book}
 use Rattle.stock_word.specs.declared.view.Stock.{Stock}
 use Rattle.stock_word.specs.declared.view.Stock.TheVariants as stock_is
-use Rattle.stock_word.specs.Stock.{Words, account_of}
+use Rattle.stock_word.specs.Stock.{KnownStockTable, account_of}
 use Rattle.stock_word.specs.Stock as stocks
 use Rattle.frame_word.specs.Views.{note_of}
 use Rattle.frame_word.specs.Seats.{KnownTable, LentIsBorrowed}
@@ -51,7 +51,7 @@ pub record IsBalanced (m : KnownMachine) (c : KnownCpu) : Type 0 where
   pub covers : length c.fresh ≤ (account_of m.stock_seat.view c.number).book
   pub none_fresh : stocks.group_of c.stock_seat.view.last ≡ None → length c.fresh ≡ 0
 
-module _ (t : KnownTable) (w : Words) (m : KnownMachine) (c : KnownCpu) (is : IsConsistent t w m) (charges : AreCharges m.ledger)
+module _ (t : KnownTable) (w : KnownStockTable) (m : KnownMachine) (c : KnownCpu) (is : IsConsistent t w m) (charges : AreCharges m.ledger)
     (lent : LentIsBorrowed t m.frame_seat c.frame_seat) (tied : IsTied t w c) (balanced : IsBalanced m c) (g : ℕ) where
   abbrev groups : List Group
   groups = m.ledger.groups
@@ -212,7 +212,7 @@ no_group stock_is.NoGroup e = refl
 no_group (stock_is.HeldBy h n) e = absurd (none-some h (sym e))
 no_group (stock_is.DrainedOf h) e = absurd (none-some h (sym e))
 
-pub looked : (t : KnownTable) (w : Words) (m : KnownMachine) (c : KnownCpu) (stock : Stock) → IsTied t w c
+pub looked : (t : KnownTable) (w : KnownStockTable) (m : KnownMachine) (c : KnownCpu) (stock : Stock) → IsTied t w c
     → (account_of m.stock_seat.view c.number).book ≡ stocks.pages_of stock + c.stock_seat.view.fresh + (account_of m.stock_seat.view c.number).unabsorbed
     → stocks.group_of stock ≡ (account_of m.stock_seat.view c.number).group
     → (stock ≡ c.stock_seat.view.last) ⊎ (stock ≡ stocks.drained_of c.stock_seat.view.last)
@@ -228,7 +228,7 @@ pub balanced_alone : (m : KnownMachine) (c : KnownCpu) → c.fresh ≡ [] → Is
 balanced_alone m c none = record { group = inl (ap length none); covers = let zero_is = ap length none in omega arith; none_fresh = λ e. ap length none }
 
 -- the same, of the machine as it was seen before the look
-pub usage_seen : (t : KnownTable) (w : Words) (m now : KnownMachine) → m ≡ now → (c : KnownCpu) → IsConsistent t w m → AreCharges m.ledger
+pub usage_seen : (t : KnownTable) (w : KnownStockTable) (m now : KnownMachine) → m ≡ now → (c : KnownCpu) → IsConsistent t w m → AreCharges m.ledger
     → LentIsBorrowed t now.frame_seat c.frame_seat → IsTied t w c → IsBalanced m c → (g : ℕ) → usage_of (local_of t now c) g ≡ current_of now.ledger g
 usage_seen t w m now same c is charges lent tied balanced g =
     subst (λ (k : KnownMachine). usage_of (local_of t k c) g ≡ current_of k.ledger g) same

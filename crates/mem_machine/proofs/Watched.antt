@@ -1,8 +1,10 @@
--- What a call does stays true if the machine after it has another watch. Serves all calls that make steps.
+-- What a call does stays true if the machine after it has another watch. Serves all calls that make steps. Other notes
+-- change as little. That serves `evict`.
 use Rattle.std.proofs.Common.{ℕ}
 use Rattle.frame_word.specs.Seats.{KnownTable}
-use Rattle.stock_word.specs.Stock.{Words}
+use Rattle.stock_word.specs.Stock.{KnownStockTable}
 use Rattle.cpu_part.specs.Cpus.{KnownCpu}
+use Rattle.kill_notes.specs.Notes.{KnownNotes}
 use Rattle.step_watch.specs.Watched.{KnownWatch}
 use Rattle.mem_machine.specs.Machines.{KnownMachine, VisitState, IsConsistent, Visits, visit_state, with_watch}
 use Rattle.mem_machine.specs.Lending.{LendsFrame, LendsOne, TakesOneBack}
@@ -13,7 +15,7 @@ use Rattle.mem_machine.specs.Blocks.{TakesBlock, TakesNoBlock}
 use Rattle.mem_machine.specs.Paying.{PaysForFront}
 use Rattle.mem_machine.specs.Stocks.{DrainsBy, Fills}
 
-pub consistent_still : (t : KnownTable) (w : Words) (n : KnownMachine) (v : KnownWatch) → IsConsistent t w n → IsConsistent t w (with_watch n v)
+pub consistent_still : (t : KnownTable) (w : KnownStockTable) (n : KnownMachine) (v : KnownWatch) → IsConsistent t w n → IsConsistent t w (with_watch n v)
 consistent_still t w n v ok = record {
   sizes = let s = ok.sizes in record { frame_states = s.frame_states; links = s.links; lists = s.lists; killed = s.killed; cpus = s.cpus };
   seats = ok.seats;
@@ -29,6 +31,23 @@ consistent_still t w n v ok = record {
 
 pub visits_still : (t : KnownTable) (n : KnownMachine) (d : KnownCpu) (v : KnownWatch) → Visits t (visit_state n d) → Visits t (visit_state (with_watch n v) d)
 visits_still t n d v visit = record { is_open = visit.is_open; still = visit.still; lent = visit.lent }
+
+pub consistent_noted : (t : KnownTable) (w : KnownStockTable) (n : KnownMachine) (k : KnownNotes) → IsConsistent t w n → IsConsistent t w (record n { notes = k })
+consistent_noted t w n k ok = record {
+  sizes = let s = ok.sizes in record { frame_states = s.frame_states; links = s.links; lists = s.lists; killed = s.killed; cpus = s.cpus };
+  seats = ok.seats;
+  areas = ok.areas;
+  frame_states = ok.frame_states;
+  units = ok.units;
+  lists = ok.lists;
+  absorbed = ok.absorbed;
+  bounded = ok.bounded;
+  charged = ok.charged;
+  balances = ok.balances;
+}
+
+pub visits_noted : (t : KnownTable) (n : KnownMachine) (d : KnownCpu) (k : KnownNotes) → Visits t (visit_state n d) → Visits t (visit_state (record n { notes = k }) d)
+visits_noted t n d k visit = record { is_open = visit.is_open; still = visit.still; lent = visit.lent }
 
 module _ (a : VisitState) (n : KnownMachine) (d : KnownCpu) (v : KnownWatch) where
   pub lends_still : (f : ℕ) → LendsFrame f a (visit_state n d) → LendsFrame f a (visit_state (with_watch n v) d)

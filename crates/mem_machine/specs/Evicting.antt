@@ -3,6 +3,7 @@ use Rattle.std.specs.Prelude.{◌≡◌, ◌≢◌, ℕ, ◌^◌, Option, Some, 
 use Rattle.zone_blocks.specs.Areas.{AreMaximalBlocks}
 use Rattle.frame_word.specs.Views.{frozen, missed}
 use Rattle.frame_word.specs.Seats.{seat_with}
+use Rattle.kill_notes.specs.Notes.{unit_noted}
 use Rattle.group_charge.specs.Charges.{UsageRises, with_uncharge}
 use Rattle.step_rules.specs.declared.phase.ChargedUnit.{ChargedUnit}
 use Rattle.step_rules.specs.declared.step.Action.TheVariants.{Freeze, Return}
@@ -28,7 +29,7 @@ pub record MissesUnit (frame : ℕ) (before after : KnownMachine) : Type 0 where
   }
 
 -- The unit was frozen and freed. It left its list, its frames are free, and its pages, this many, left the charge of
--- its group. Nothing else changed, except what the watch saw.
+-- its group. The unit is noted, if freed units are. Nothing else changed, except what the watch saw.
 pub record EvictsUnit (frame pages : ℕ) (before after : KnownMachine) : Type 0 where
   pub unit : ChargedUnit
   pub heads : frame_state_at before.frame_states frame ≡ Head unit
@@ -46,6 +47,7 @@ pub record EvictsUnit (frame pages : ℕ) (before after : KnownMachine) : Type 0
     lists = after.lists;
     frame_seat = seat_with before.frame_seat frame (frozen 1);
     counts = with_freeze before.counts;
+    notes = unit_noted before.notes unit.group frame (2 ^ unit.order);
     watch = after.watch;
   }
 

@@ -35,7 +35,7 @@ some_cpu (suc before) = Some (suc before)
 
 -- the CPU that the frame is lent to
 abbrev pub lent_to : FrameState → Option ℕ
-lent_to (Lent processor) = Some processor
+lent_to (Lent cpu) = Some cpu
 lent_to _ = None
 
 -- the unit that the frame heads
@@ -57,7 +57,7 @@ head_group_of _ = None
 -- the place of the frame: free, lent to a CPU, or charged to a group
 abbrev pub place_of : FrameState → Place
 place_of Free = place.Free
-place_of (Lent processor) = place.Lent processor
+place_of (Lent cpu) = place.Lent cpu
 place_of (Head unit) = place.Charged unit.group
 place_of (Tail group) = place.Charged group
 
@@ -69,7 +69,8 @@ count_of wanted (Some number) = if number == wanted then 1 else 0
 -- the unit's frames are a block of the zone, and all but the head are tails of the unit's group
 pub record IsUnitAt (frame_states : List FrameState) (frame : ℕ) (unit : ChargedUnit) : Type 0 where
   pub block : IsBlock (length frame_states) (record { at = frame; order = unit.order })
-  pub tails : (tail : ℕ) → frame < tail → tail < frame + 2 ^ unit.order → frame_state_at frame_states tail ≡ Tail unit.group
+  pub tails : (tail : ℕ) → frame < tail → tail < frame + 2 ^ unit.order
+      → frame_state_at frame_states tail ≡ Tail unit.group
 
 -- the frame is in a unit of the group, and isn't its head
 pub record IsTailOf (frame_states : List FrameState) (frame owner : ℕ) : Type 0 where
@@ -82,5 +83,6 @@ pub record IsTailOf (frame_states : List FrameState) (frame owner : ℕ) : Type 
 
 -- each head has its unit, and each tail is in a unit
 pub record AreUnits (frame_states : List FrameState) : Type 0 where
-  pub heads : (frame : ℕ) (unit : ChargedUnit) → frame_state_at frame_states frame ≡ Head unit → IsUnitAt frame_states frame unit
+  pub heads : (frame : ℕ) (unit : ChargedUnit) → frame_state_at frame_states frame ≡ Head unit
+      → IsUnitAt frame_states frame unit
   pub tails : (frame group : ℕ) → frame_state_at frame_states frame ≡ Tail group → IsTailOf frame_states frame group

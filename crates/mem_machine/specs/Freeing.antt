@@ -8,4 +8,5 @@ use Rattle.mem_machine.specs.FrameStates.{frame_state_at}
 -- this many frames from `at` on are free, and all other frames keep their records
 pub record FreesFrames (at count : ℕ) (before after : List FrameState) : Type 0 where
   pub frames : length after ≡ length before
-  pub records : (frame : ℕ) → frame_state_at after frame ≡ (if is_within at count frame then Free else frame_state_at before frame)
+  pub records : (frame : ℕ) → frame_state_at after frame
+      ≡ (if is_within at count frame then Free else frame_state_at before frame)

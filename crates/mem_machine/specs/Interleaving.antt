@@ -18,9 +18,9 @@ Shows table run now = ShowsLocal (zone_of table) run now.cpu.number (local_at ta
 -- `mixed` may follow the run. Its steps of this CPU and of the zone's seat are `steps`, in this order. Each of those
 -- has the answer that the references and stocks of all seats decide at that place, and each other step is allowed at
 -- its place.
-pub record IsMixed (table : KnownTable) (run : Run) (processor : ℕ) (steps mixed : Run) : Type 0 where
-  pub own : own_steps processor mixed ≡ steps
-  pub follows : IsInterleaved (zone_of table) run processor mixed
+pub record IsMixed (table : KnownTable) (run : Run) (cpu : ℕ) (steps mixed : Run) : Type 0 where
+  pub own : own_steps cpu mixed ≡ steps
+  pub follows : IsInterleaved (zone_of table) run cpu mixed
 
 -- Suppose that a run shows a CPU the machine, and that a call makes these steps. Mix in any steps that other CPUs may
 -- make. Then the longer run is legal, and shows the CPU the machine and the part that the call left.

@@ -1,7 +1,7 @@
 -- What contracts see of the machine's fields, and what always holds of them.
 use Rattle.std.specs.Prelude.{◌≡◌}
 use Rattle.frame_word.specs.Seats.{KnownTable}
-use Rattle.stock_word.specs.Stock.{Words}
+use Rattle.stock_word.specs.Stock.{KnownStockTable}
 use Rattle.mem_machine.specs.declared.machine.Machine.TheInside.{Inside}
 use Rattle.mem_machine.specs.FrameStates.{free_of}
 use Rattle.mem_machine.specs.Machines.{KnownMachine, IsConsistent}
@@ -23,6 +23,6 @@ machine_of fields = record {
 }
 
 -- what the fields show is consistent, and the zone's free frames are those whose record is Free
-pub record AreKept {N : Type 0} (table : KnownTable) (words : Words) (fields : Inside N) : Type 0 where
-  pub consistent : IsConsistent table words (machine_of fields)
+pub record AreKept {N : Type 0} (table : KnownTable) (stock_table : KnownStockTable) (fields : Inside N) : Type 0 where
+  pub consistent : IsConsistent table stock_table (machine_of fields)
   pub free : fields.zone.free ≡ free_of fields.frame_states.items

@@ -22,3 +22,4 @@ pub mod Evicting
 pub mod Settling
 pub mod Paying
 pub mod Places
+pub mod Showing

@@ -9,7 +9,7 @@ use Rattle.mem_machine.specs.Machines.{KnownMachine, GroupLists, OthersStay, Loo
 -- The unit joins the newest end of its group's inactive list, clean and unmarked. Every other frame is on the list that
 -- it was on, if any. The lists of all other groups are the same, and each other frame on no list keeps its link.
 pub record JoinsList (group frame : ℕ) (before after : GroupLists) : Type 0 where
-  pub stands : home_of after.links frame ≡ Some (record { owner = group; list = Inactive })
+  pub home : home_of after.links frame ≡ Some (record { owner = group; list = Inactive })
   pub homes : (other : ℕ) → other ≢ frame → home_of after.links other ≡ home_of before.links other
   pub inactive : inactive_of after.links (lists_at after.lists group)
       ≡ inactive_of before.links (lists_at before.lists group)
@@ -29,7 +29,7 @@ ListsUnit group frame before after = JoinsList group frame (lists_of before) (li
 pub record LeavesList (frame : ℕ) (before after : GroupLists) : Type 0 where
   pub group : ℕ
   pub list : LruList
-  pub stands : home_of before.links frame ≡ Some (record { owner = group; list = list })
+  pub home : home_of before.links frame ≡ Some (record { owner = group; list = list })
   pub forgotten : link_at after.links frame ≡ nowhere
   pub homes : (other : ℕ) → other ≢ frame → home_of after.links other ≡ home_of before.links other
   pub loose : LooseStay before.links after.links

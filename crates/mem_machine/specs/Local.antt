@@ -3,7 +3,7 @@ use Rattle.std.specs.Prelude.{◌≡◌, ℕ, ◌-◌, ◌==◌, ◌&&◌, nat_l
 use Rattle.std.specs.Prelude.{List, [], length, slice_index, if◌then◌else◌}
 use Rattle.frame_word.specs.Seats.{KnownTable, KnownSeat, holds}
 use Rattle.stock_word.specs.declared.view.Account.{Account}
-use Rattle.stock_word.specs.Stock.{Seated, account_of}
+use Rattle.stock_word.specs.Stock.{KnownStockSeat, account_of}
 use Rattle.stock_word.specs.Stock as stocks
 use Rattle.cpu_part.specs.Cpus.{KnownCpu, times}
 use Rattle.step_rules.specs.declared.phase.Hold.{Hold}
@@ -39,10 +39,10 @@ fresh_group cpu = number_or_0 (stocks.group_of cpu.stock_seat.view.last)
 -- frames, else listed. The head of a unit is back if it is one of the CPU's back frames, else live.
 abbrev pub phase_of : KnownCpu → ℕ → FrameState → Phase
 phase_of cpu frame Free = phase.InZone
-phase_of cpu frame (Lent processor) =
-    if processor == cpu.number && nat_le 1 (times frame cpu.fresh)
-    then phase.Head (record { group = fresh_group cpu; order = 0 }) (FreshAt processor)
-    else phase.Lent processor OnList
+phase_of cpu frame (Lent other) =
+    if other == cpu.number && nat_le 1 (times frame cpu.fresh)
+    then phase.Head (record { group = fresh_group cpu; order = 0 }) (FreshAt other)
+    else phase.Lent other OnList
 phase_of cpu frame (Head unit) =
     if nat_le 1 (times frame cpu.back) then phase.Head unit (BackAt cpu.number) else phase.Head unit Live
 phase_of cpu frame (Tail group) = phase.Tail group
@@ -66,11 +66,11 @@ part_with list fresh back account = record {
 
 -- the part of the CPU of this number, as `cpu` sees it: with its lists if it is `cpu` itself, else with the account
 -- alone
-abbrev pub part_of : Seated → KnownCpu → ℕ → Part
-part_of stock cpu processor =
-    if processor == cpu.number
-    then part_with cpu.list cpu.fresh cpu.back (account_of stock.view processor)
-    else part_with [] [] [] (account_of stock.view processor)
+abbrev pub part_of : KnownStockSeat → KnownCpu → ℕ → Part
+part_of stock cpu other =
+    if other == cpu.number
+    then part_with cpu.list cpu.fresh cpu.back (account_of stock.view other)
+    else part_with [] [] [] (account_of stock.view other)
 
 -- the references of a seat on the frame, as `cpu` sees them: those of the zone (seat 0) and its own
 abbrev pub references_of : KnownSeat → KnownCpu → ℕ → ℕ → ℕ
@@ -79,7 +79,7 @@ references_of zone_seat cpu seat frame =
 
 -- the CPU of this number holds the lock, and is visited if its visit is open
 abbrev pub hold_of : KnownSeat → ℕ → Hold
-hold_of seat processor = if slice_index seat.view.opened processor == 1 then Visiting processor else HeldBy processor
+hold_of seat cpu = if slice_index seat.view.opened cpu == 1 then Visiting cpu else HeldBy cpu
 
 -- The local state of a visit state: what the machine shows to the CPU that holds the lock, in the words of the rules.
 -- No page is pending between two calls.
@@ -102,8 +102,9 @@ local_at table now = local_of table now.machine now.cpu
 -- These steps, of the CPU of this number and of the zone's seat, lead from one visit state to another. They are local
 -- steps between the two local states. The ledger's peaks and event counts follow them, and so do the machine's counts.
 -- The machine's watch took them, in this order.
-pub record MakesAs (table : KnownTable) (number : ℕ) (before : VisitState) (steps : Run) (after : VisitState) : Type 0 where
-  pub leads : IsLocalRun number (local_at table before) steps (local_at table after)
+pub record MakesAs (table : KnownTable) (cpu_number : ℕ) (before : VisitState) (steps : Run)
+    (after : VisitState) : Type 0 where
+  pub leads : IsLocalRun cpu_number (local_at table before) steps (local_at table after)
   pub follows : FollowsSteps (local_at table before) before.machine.ledger steps after.machine.ledger
   pub counts : after.machine.counts ≡ counts_over (local_at table before) steps before.machine.counts
   pub watched : Watches before.machine.watch steps after.machine.watch
@@ -119,4 +120,5 @@ MakesBy table steps before after = Makes table before (steps before) after
 
 -- for each CPU that may hold the lock, these steps lead from one machine to the other, and its part stays the same
 abbrev pub MakesForAny : KnownTable → KnownMachine → Run → KnownMachine → Type 0
-MakesForAny table before steps after = (cpu : KnownCpu) → Makes table (visit_state before cpu) steps (visit_state after cpu)
+MakesForAny table before steps after = (cpu : KnownCpu)
+    → Makes table (visit_state before cpu) steps (visit_state after cpu)

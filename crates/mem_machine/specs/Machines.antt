@@ -9,7 +9,7 @@ use Rattle.frame_word.specs.Views.{note_of}
 use Rattle.frame_word.specs.Seats.{KnownTable, KnownSeat, IsZoneSeat, IsOpen, NothingPasses, LentIsBorrowed}
 use Rattle.frame_word.specs.Seats.{first_zone_view}
 use Rattle.stock_word.specs.declared.view.Account.{Account}
-use Rattle.stock_word.specs.Stock.{Words, Seated, IsZoneStock, account_of, first_zone_stock}
+use Rattle.stock_word.specs.Stock.{KnownStockTable, KnownStockSeat, IsZoneStock, account_of, first_zone_stock}
 use Rattle.group_charge.specs.Charges.{Ledger, pages_of, current_of, initial_ledger, with_new_group}
 use Rattle.group_tree.specs.Bounds.{most_groups}
 use Rattle.group_tree.specs.Groups.{IsLeastFreeNumber}
@@ -22,7 +22,7 @@ use Rattle.lru_lists.specs.declared.record.LruList.TheVariants.{Inactive, Active
 use Rattle.lru_lists.specs.declared.lru.Lru.{Lru}
 use Rattle.lru_lists.specs.declared.queue.Queue.{Queue}
 use Rattle.lru_lists.specs.Queue.{link_at, AreNowhere}
-use Rattle.lru_lists.specs.Lists.{AllStand, entries_of}
+use Rattle.lru_lists.specs.Lists.{AllLinked, entries_of}
 use Rattle.step_rules.specs.State.{sum_to, one_if}
 use Rattle.cpu_part.specs.Cpus.{KnownCpu}
 use Rattle.mem_machine.specs.declared.frame_state.FrameState.{FrameState}
@@ -30,7 +30,7 @@ use Rattle.mem_machine.specs.declared.frame_state.FrameState.TheVariants.{Free}
 use Rattle.mem_machine.specs.declared.counts.Counts.{Counts}
 use Rattle.step_watch.specs.Watched.{KnownWatch}
 use Rattle.kill_notes.specs.declared.note.Note.{Note}
-use Rattle.kill_notes.specs.Notes.{noted}
+use Rattle.kill_notes.specs.Notes.{KnownNotes, forgotten, no_notes, noted}
 -- the units freed are the last puts, the freezes and the drops together, or the greatest count if that is less
 pub use Rattle.mem_machine.specs.Counts.{BalancesCounts}
 use Rattle.mem_machine.specs.Counts.{no_counts}
@@ -48,15 +48,23 @@ pub record KnownMachine : Type 0 where
   pub links : List Link
   pub lists : List Lru
   pub frame_seat : KnownSeat
-  pub stock_seat : Seated
+  pub stock_seat : KnownStockSeat
   pub killed : List Bool
   pub counts : Counts
-  pub notes : List Note
+  pub notes : KnownNotes
   pub watch : KnownWatch
 
 -- the machine after one more note
 abbrev pub with_note : KnownMachine → Note → KnownMachine
 with_note machine note = record machine { notes = noted machine.notes note }
+
+-- the machine after all notes are forgotten
+abbrev pub without_notes : KnownMachine → KnownMachine
+without_notes machine = record machine { notes = forgotten machine.notes }
+
+-- the machine with freed units noted from now on, or not
+abbrev pub with_telling : KnownMachine → (is_on : Bool) → KnownMachine
+with_telling machine is_on = record machine { notes = record machine.notes { tells_units = is_on } }
 
 -- the machine with another watch
 abbrev pub with_watch : KnownMachine → KnownWatch → KnownMachine
@@ -122,7 +130,7 @@ LooseStay before after =
 -- each group number has its two lists, and all of them agree with the links
 pub record AreGroupLists (links : List Link) (lists : List Lru) : Type 0 where
   pub groups : length lists ≡ most_groups
-  pub stand : AllStand links lists
+  pub stand : AllLinked links lists
 
 -- the group of this number is killed
 abbrev pub is_killed : List Bool → ℕ → Bool
@@ -130,16 +138,17 @@ is_killed killed group = slice_index_or killed group false
 
 -- how many frames are charged to the group itself
 abbrev pub frames_charged : List FrameState → ℕ → ℕ
-frames_charged frame_states group = sum_to (length frame_states) (λ frame. count_of group (frame_state_group (frame_state_at frame_states frame)))
+frames_charged frame_states group = sum_to (length frame_states)
+    (λ frame. count_of group (frame_state_group (frame_state_at frame_states frame)))
 
 -- the pages of a CPU's book if its stock is of the group, else 0
 abbrev pub booked : ℕ → Account → ℕ
 booked group account = if count_of group account.group == 0 then 0 else account.book
 
 -- how many pages are booked to the stocks of the group itself
-abbrev pub pages_booked : KnownTable → Seated → ℕ → ℕ
+abbrev pub pages_booked : KnownTable → KnownStockSeat → ℕ → ℕ
 pages_booked table stock group =
-    sum_to (table.cpus + 1) (λ processor. booked group (account_of stock.view processor))
+    sum_to (table.cpus + 1) (λ cpu. booked group (account_of stock.view cpu))
 
 -- The zone's seat and the lists agree with the frame's record. The frame is in the zone's hand exactly if it is free or
 -- a tail. It is lent to the CPU that its record names, whose number is between 1 and `cpus`. The zone has one reference
@@ -147,22 +156,23 @@ pages_booked table stock group =
 pub record FitsFrameState (cpus : ℕ) (note : FrameNote) (home : Option Home) (frame_state : FrameState) : Type 0 where
   pub own : note.own ≡ one_if (is_in_hand frame_state)
   pub lent : some_cpu note.lent ≡ lent_to frame_state
-  pub borrower : IfSome (lent_to frame_state) (λ processor. (1 ≤ processor) × (processor ≤ cpus))
+  pub borrower : IfSome (lent_to frame_state) (λ cpu. (1 ≤ cpu) × (cpu ≤ cpus))
   pub references : note.references ≡ one_if (is_some home)
   pub kept : IfSome home (λ list. (list.owner < most_groups) × (head_group_of frame_state ≡ Some list.owner))
 
 -- the parts have the sizes of the tables, and both tables have the same number of CPUs
-pub record AreSized (table : KnownTable) (words : Words) (machine : KnownMachine) : Type 0 where
+pub record AreSized (table : KnownTable) (stock_table : KnownStockTable) (machine : KnownMachine) : Type 0 where
   pub frame_states : length machine.frame_states ≡ table.frames
   pub links : length machine.links ≡ table.frames
   pub lists : length machine.lists ≡ most_groups
   pub killed : length machine.killed ≡ most_groups
-  pub cpus : words.cpus ≡ table.cpus
+  pub cpus : stock_table.cpus ≡ table.cpus
 
 -- the two seats are the zone's, at these tables
-pub record AreZoneSeats (frame_table : KnownTable) (words : Words) (seat : KnownSeat) (stock : Seated) : Type 0 where
+pub record AreZoneSeats (frame_table : KnownTable) (stock_table : KnownStockTable) (seat : KnownSeat)
+    (stock : KnownStockSeat) : Type 0 where
   pub frames : IsZoneSeat frame_table seat
-  pub table : stock.table ≡ words.table
+  pub table : stock.table ≡ stock_table.table
   pub stocks : IsZoneStock stock.view
 
 -- The machine is consistent. Its sizes are those of the tables, and its seats are the zone's. The free areas are the
@@ -170,19 +180,20 @@ pub record AreZoneSeats (frame_table : KnownTable) (words : Words) (seat : Known
 -- make up units. All lists agree with the links. No reported page is unabsorbed, and each book fits a stock word. The
 -- own charge of a group is the frames charged to it and the books of its stocks. The units freed are the last puts,
 -- freezes and drops together, or the greatest count if that is less.
-pub record IsConsistent (table : KnownTable) (words : Words) (machine : KnownMachine) : Type 0 where
-  pub sizes : AreSized table words machine
-  pub seats : AreZoneSeats table words machine.frame_seat machine.stock_seat
+pub record IsConsistent (table : KnownTable) (stock_table : KnownStockTable) (machine : KnownMachine) : Type 0 where
+  pub sizes : AreSized table stock_table machine
+  pub seats : AreZoneSeats table stock_table machine.frame_seat machine.stock_seat
   pub areas : AreMaximalBlocks (free_of machine.frame_states) machine.blocks
   pub frame_states : (frame : ℕ) → frame < table.frames
       → FitsFrameState table.cpus (note_of machine.frame_seat.view frame) (home_of machine.links frame)
       (frame_state_at machine.frame_states frame)
   pub units : AreUnits machine.frame_states
-  pub lists : AllStand machine.links machine.lists
-  pub absorbed : (processor : ℕ) → (account_of machine.stock_seat.view processor).unabsorbed ≡ 0
-  pub bounded : (processor : ℕ) → (account_of machine.stock_seat.view processor).book < 65536
+  pub lists : AllLinked machine.links machine.lists
+  pub absorbed : (cpu : ℕ) → (account_of machine.stock_seat.view cpu).unabsorbed ≡ 0
+  pub bounded : (cpu : ℕ) → (account_of machine.stock_seat.view cpu).book < 65536
   pub charged : (group : ℕ)
-      → pages_of machine.ledger group ≡ frames_charged machine.frame_states group + pages_booked table machine.stock_seat group
+      → pages_of machine.ledger group
+      ≡ frames_charged machine.frame_states group + pages_booked table machine.stock_seat group
   pub balances : BalancesCounts machine.counts
 
 -- a group of this path was made: it has the least free number, and it isn't killed
@@ -253,16 +264,16 @@ pub record KeepsVisit (table : KnownTable) (before after : VisitState) : Type 0 
 
 -- a CPU of this number exists
 abbrev pub IsCpuOf : KnownTable → ℕ → Type 0
-IsCpuOf table processor = (1 ≤ processor) × (processor ≤ table.cpus)
+IsCpuOf table cpu = (1 ≤ cpu) × (cpu ≤ table.cpus)
 
 -- The machine of a new boot. All frames are free and on no list, only the root exists, and no group is killed. All
--- counts are 0, there are no notes, and the zone's seats have done nothing yet.
-pub record IsFirst (table : KnownTable) (words : Words) (machine : KnownMachine) : Type 0 where
+-- counts are 0, nothing is noted, and the zone's seats have done nothing yet.
+pub record IsFirst (table : KnownTable) (stock_table : KnownStockTable) (machine : KnownMachine) : Type 0 where
   pub frame_states : machine.frame_states ≡ replicate table.frames Free
   pub ledger : machine.ledger ≡ initial_ledger
   pub nowhere : AreNowhere machine.links
   pub frame_seat : machine.frame_seat ≡ record { table = table.table; view = first_zone_view table.frames }
-  pub stock_seat : machine.stock_seat ≡ record { table = words.table; view = first_zone_stock }
+  pub stock_seat : machine.stock_seat ≡ record { table = stock_table.table; view = first_zone_stock }
   pub killed : machine.killed ≡ replicate most_groups false
   pub counts : machine.counts ≡ no_counts
-  pub notes : machine.notes ≡ []
+  pub notes : machine.notes ≡ no_notes

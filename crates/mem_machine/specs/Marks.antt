@@ -10,7 +10,7 @@ use Rattle.mem_machine.specs.Machines.{home_of, lists_at, lists_of, inactive_in,
 pub record Dirties (frame : ℕ) (is_dirty : Bool) (before after : KnownMachine) : Type 0 where
   pub group : ℕ
   pub list : LruList
-  pub stands : home_of before.links frame ≡ Some (record { owner = group; list = list })
+  pub home : home_of before.links frame ≡ Some (record { owner = group; list = list })
   pub machine : after ≡ record before { links = after.links }
   pub inactive : inactive_in after group ≡ changed_at frame (dirtied is_dirty) (inactive_in before group)
   pub active : active_in after group ≡ changed_at frame (dirtied is_dirty) (active_in before group)
@@ -21,7 +21,7 @@ pub record Dirties (frame : ℕ) (is_dirty : Bool) (before after : KnownMachine)
 pub record TouchesUnit (frame : ℕ) (touched : Touched) (before after : KnownMachine) : Type 0 where
   pub group : ℕ
   pub list : LruList
-  pub stands : home_of before.links frame ≡ Some (record { owner = group; list = list })
+  pub home : home_of before.links frame ≡ Some (record { owner = group; list = list })
   pub machine : after ≡ record before { links = after.links; lists = after.lists }
   pub touches : Touches before.links (lists_at before.lists group) frame touched
       after.links (lists_at after.lists group)

@@ -15,4 +15,4 @@ frames_in_groups frame_states = sum_by (λ frame_state. one_if (is_some (frame_s
 
 -- no frame is lent to the CPU
 abbrev pub NoneLentTo : ℕ → List FrameState → Type 0
-NoneLentTo processor frame_states = (frame : ℕ) → frame_state_at frame_states frame ≢ Lent processor
+NoneLentTo cpu frame_states = (frame : ℕ) → frame_state_at frame_states frame ≢ Lent cpu

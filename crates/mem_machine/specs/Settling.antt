@@ -7,7 +7,7 @@ use Rattle.frame_word.specs.Views.{gave_back, collected_from, unfrozen}
 use Rattle.frame_word.specs.Seats.{KnownTable, KnownSeat, seat_with}
 use Rattle.frame_word.specs.Seats.{IsZoneSeat, IsOpen, NothingPasses, HasNothingOf, IsLent}
 use Rattle.stock_word.specs.declared.view.Account.{Account}
-use Rattle.stock_word.specs.Stock.{Seated, account_of, group_of}
+use Rattle.stock_word.specs.Stock.{KnownStockSeat, account_of, group_of}
 use Rattle.stock_word.specs.Kinds.{after_report, noting, absorbing, with_steps}
 use Rattle.stock_word.specs.Calls.{with_view}
 use Rattle.group_charge.specs.Charges.{with_uncharge}
@@ -27,8 +27,8 @@ use Rattle.mem_machine.specs.Counts.{with_drop, with_last_put}
 use Rattle.mem_machine.specs.Freeing.{FreesFrames}
 
 -- the zone's seat at the stocks, after it absorbed in one step a page that the CPU reported
-abbrev pub with_page_absorbed : Seated → ℕ → Seated
-with_page_absorbed seat processor = with_view seat (with_steps 1 (absorbing (noting seat.view processor 1) processor))
+abbrev pub with_page_absorbed : KnownStockSeat → ℕ → KnownStockSeat
+with_page_absorbed seat cpu = with_view seat (with_steps 1 (absorbing (noting seat.view cpu 1) cpu))
 
 -- at least one page of the account's book isn't reported yet
 abbrev pub HasUnreportedPage : Account → Type 0
@@ -43,7 +43,7 @@ pub record IsVisitedAt (table : KnownTable) (seat : KnownSeat) (cpu : KnownCpu) 
 -- What the zone's seats know of a fresh frame of the CPU. The zone has no reference on it and doesn't own it; it is
 -- lent to the CPU. A page for it is in the book of the CPU's stock, and the CPU and the zone agree on the stock's
 -- group.
-pub record KnowsFresh (table : KnownTable) (seat : KnownSeat) (stock : Seated)
+pub record KnowsFresh (table : KnownTable) (seat : KnownSeat) (stock : KnownStockSeat)
     (cpu : KnownCpu) (frame : ℕ) : Type 0 where
   pub inside : frame < table.frames
   pub nothing : HasNothingOf seat frame
@@ -163,34 +163,34 @@ pub record Settles (before after : VisitState) : Type 0 where
 
 -- the steps by which the zone takes over a fresh frame, and its page leaves the book
 abbrev pub collect_steps : ℕ → ℕ → Run
-collect_steps processor frame =
-    cpu_makes processor (PassBack frame) Done
-    ∷ cpu_makes processor (Report 1) Done
-    ∷ zone_makes (Collect frame processor) Done
-    ∷ zone_makes (Absorb processor) (Pages 1)
+collect_steps cpu frame =
+    cpu_makes cpu (PassBack frame) Done
+    ∷ cpu_makes cpu (Report 1) Done
+    ∷ zone_makes (Collect frame cpu) Done
+    ∷ zone_makes (Absorb cpu) (Pages 1)
     ∷ []
 
 -- the steps of a fresh frame that is kept
 abbrev pub keep_steps : ℕ → ℕ → Run
-keep_steps processor frame =
-    collect_steps processor frame ++ zone_makes (Unfreeze frame 1) Done ∷ zone_makes (Publish frame) Done ∷ []
+keep_steps cpu frame =
+    collect_steps cpu frame ++ zone_makes (Unfreeze frame 1) Done ∷ zone_makes (Publish frame) Done ∷ []
 
 -- the steps of a fresh frame that is dropped
 abbrev pub drop_steps : ℕ → ℕ → Run
-drop_steps processor frame = collect_steps processor frame ++ zone_makes (Return frame) Done ∷ []
+drop_steps cpu frame = collect_steps cpu frame ++ zone_makes (Return frame) Done ∷ []
 
 -- the steps of a back frame, whose unit is freed
 abbrev pub return_steps : ℕ → ℕ → Run
-return_steps processor frame =
-    cpu_makes processor (PassBack frame) Done
-    ∷ zone_makes (Collect frame processor) Done
+return_steps cpu frame =
+    cpu_makes cpu (PassBack frame) Done
+    ∷ zone_makes (Collect frame cpu) Done
     ∷ zone_makes (Return frame) Done
     ∷ []
 
 -- the steps of a fresh frame: dropped if its group is killed, else kept
 abbrev pub fresh_steps : Bool → ℕ → ℕ → Run
-fresh_steps is_killed processor frame =
-    if is_killed then drop_steps processor frame else keep_steps processor frame
+fresh_steps is_killed cpu frame =
+    if is_killed then drop_steps cpu frame else keep_steps cpu frame
 
 -- the steps of all fresh frames, in the order in which they were taken
 abbrev pub all_fresh_steps : VisitState → Run

@@ -1,9 +1,10 @@
 -- The list of steps of each call, with the answer of each step.
 use Rattle.std.specs.Prelude.{ℕ, zero, suc, Bool, Option, Some, None, List, [], ◌∷◌, sum_by}
 use Rattle.std.specs.List.{flat_map}
-use Rattle.step_rules.specs.declared.step.Action.TheVariants.{OpenVisit, ShutVisit, PassOut, TakeIn, PassBack}
-use Rattle.step_rules.specs.declared.step.Action.TheVariants.{Collect, Fill, DrainStock, Grant, Ungrant}
-use Rattle.step_rules.specs.declared.step.Action.TheVariants.{Consume, NoteMax, NoteOom, NoteGroupKill, SetMax, SetFlag, Make, Remove, Kill}
+use Rattle.step_rules.specs.declared.step.Action.TheVariants.{OpenVisit, ShutVisit, PassOut, TakeIn, PassBack, Collect}
+use Rattle.step_rules.specs.declared.step.Action.TheVariants.{Fill, DrainStock, Grant, Ungrant, Consume, NoteMax}
+use Rattle.step_rules.specs.declared.step.Action.TheVariants.{NoteOom, NoteGroupKill, SetMax, SetFlag, Make, Remove}
+use Rattle.step_rules.specs.declared.step.Action.TheVariants.{Kill}
 use Rattle.step_rules.specs.declared.step.Answer.TheVariants.{Done, Took, Pages, Granted, Over, Number}
 use Rattle.step_rules.specs.After.{Run}
 -- a step of the zone's seat or of a CPU's, with its answer
@@ -11,28 +12,28 @@ pub use Rattle.step_watch.specs.Watched.{zone_makes, cpu_makes}
 
 -- the CPU's visit begins
 abbrev pub open_steps : ℕ → Run
-open_steps processor = zone_makes (OpenVisit processor) Done ∷ []
+open_steps cpu = zone_makes (OpenVisit cpu) Done ∷ []
 
 -- the CPU's visit ends
 abbrev pub shut_steps : ℕ → Run
-shut_steps processor = zone_makes (ShutVisit processor) Done ∷ []
+shut_steps cpu = zone_makes (ShutVisit cpu) Done ∷ []
 
 -- the zone passes the free frame to the CPU, which adds it to the end of its list
 abbrev pub lend_steps : ℕ → ℕ → Run
-lend_steps processor frame = zone_makes (PassOut frame processor) Done ∷ cpu_makes processor (TakeIn frame) Done ∷ []
+lend_steps cpu frame = zone_makes (PassOut frame cpu) Done ∷ cpu_makes cpu (TakeIn frame) Done ∷ []
 
 -- these frames are added to the end of the CPU's list, one after the other
 abbrev pub refill_steps : ℕ → List ℕ → Run
-refill_steps processor frames = flat_map (lend_steps processor) frames
+refill_steps cpu frames = flat_map (lend_steps cpu) frames
 
 -- the CPU passes the frame back, and the zone collects it
 abbrev pub unlist_steps : ℕ → ℕ → Run
-unlist_steps processor frame =
-    cpu_makes processor (PassBack frame) Done ∷ zone_makes (Collect frame processor) Done ∷ []
+unlist_steps cpu frame =
+    cpu_makes cpu (PassBack frame) Done ∷ zone_makes (Collect frame cpu) Done ∷ []
 
 -- these frames are returned to the free areas, one after the other
 abbrev pub drain_list_steps : ℕ → List ℕ → Run
-drain_list_steps processor frames = flat_map (unlist_steps processor) frames
+drain_list_steps cpu frames = flat_map (unlist_steps cpu) frames
 
 -- this many pages leave the group's charge; if there are none, or there is no group, there is no step
 abbrev pub ungrant_steps : Option ℕ → ℕ → Run
@@ -42,7 +43,7 @@ ungrant_steps (Some group) (suc more) = zone_makes (Ungrant group (suc more)) Do
 
 -- the stock of the CPU, which is of this group, is drained of this many pages, and they leave the group's charge
 abbrev pub drain_steps : ℕ → Option ℕ → ℕ → Run
-drain_steps processor group pages = zone_makes (DrainStock processor) (Pages pages) ∷ ungrant_steps group pages
+drain_steps cpu group pages = zone_makes (DrainStock cpu) (Pages pages) ∷ ungrant_steps group pages
 
 -- a drain: whose stock it was, the stock's group, and how many pages were in it
 pub record Drain : Type 0 where
@@ -60,8 +61,8 @@ drain_stocks_steps drains = flat_map (λ drain. drain_steps drain.cpu drain.grou
 
 -- this many pages are granted to the group and fill the CPU's stock
 abbrev pub fill_steps : ℕ → ℕ → ℕ → Run
-fill_steps processor group pages =
-    zone_makes (Grant group pages) Granted ∷ zone_makes (Fill processor group pages) Done ∷ []
+fill_steps cpu group pages =
+    zone_makes (Grant group pages) Granted ∷ zone_makes (Fill cpu group pages) Done ∷ []
 
 -- the grant of this many pages is refused, because group `over` has no room for them
 abbrev pub over_steps : ℕ → ℕ → ℕ → Run
@@ -69,7 +70,7 @@ over_steps group pages over = zone_makes (Grant group pages) (Over over) ∷ []
 
 -- the front of the CPU's list becomes fresh, paid for with a page of its stock, which is of the group
 abbrev pub take_front_steps : ℕ → ℕ → Run
-take_front_steps processor group = cpu_makes processor (Consume group) Took ∷ []
+take_front_steps cpu group = cpu_makes cpu (Consume group) Took ∷ []
 
 -- an event: the group's usage was about to exceed its limit
 abbrev pub note_max_steps : ℕ → Run

@@ -25,11 +25,11 @@ uncharged ledger (Some group) pages = with_uncharge ledger group pages
 
 -- the group of the CPU's stock
 abbrev pub stock_group : KnownMachine → ℕ → Option ℕ
-stock_group machine processor = (account_of machine.stock_seat.view processor).group
+stock_group machine cpu = (account_of machine.stock_seat.view cpu).group
 
 -- the CPU's stock is drained, or was never filled
 abbrev pub IsDrained : KnownMachine → ℕ → Type 0
-IsDrained machine processor = (account_of machine.stock_seat.view processor).filled ≡ false
+IsDrained machine cpu = (account_of machine.stock_seat.view cpu).filled ≡ false
 
 -- a stock can take this many pages: at least one, and as many as fit its word
 abbrev pub FitsStock : ℕ → Type 0
@@ -53,31 +53,31 @@ steps_to_drain (Some group) = 3
 
 -- The zone's seat drains the CPU's stock of this many pages, by this many steps. The pages leave the stock's book and
 -- the charge of its group. A stock that is already drained gives 0 pages.
-pub record DrainsBy (steps processor pages : ℕ) (before after : KnownMachine) : Type 0 where
+pub record DrainsBy (steps cpu pages : ℕ) (before after : KnownMachine) : Type 0 where
   pub machine : after ≡ record before {
-    ledger = uncharged before.ledger (stock_group before processor) pages;
+    ledger = uncharged before.ledger (stock_group before cpu) pages;
     stock_seat =
-        with_view before.stock_seat (with_steps steps (draining before.stock_seat.view processor pages));
+        with_view before.stock_seat (with_steps steps (draining before.stock_seat.view cpu pages));
     watch = after.watch;
   }
-  pub booked : pages ≤ (account_of before.stock_seat.view processor).book
-  pub drained_before : IsDrained before processor → pages ≡ 0
+  pub booked : pages ≤ (account_of before.stock_seat.view cpu).book
+  pub drained_before : IsDrained before cpu → pages ≡ 0
 
 -- the CPU's stock is drained after a look found its group
 abbrev pub Drains : ℕ → ℕ → KnownMachine → KnownMachine → Type 0
-Drains processor pages before after =
-    DrainsBy (steps_to_drain (stock_group before processor)) processor pages before after
+Drains cpu pages before after =
+    DrainsBy (steps_to_drain (stock_group before cpu)) cpu pages before after
 
 -- the CPU's stock is drained by this many steps of the zone's seat, and the drain is noted
-pub record DrainsNoted (steps processor pages : ℕ) (before after : KnownMachine) : Type 0 where
-  pub drains : DrainsBy steps processor pages before (record after { notes = before.notes })
-  pub noted : after.notes ≡ noted before.notes (Stock processor pages)
+pub record DrainsNoted (steps cpu pages : ℕ) (before after : KnownMachine) : Type 0 where
+  pub drains : DrainsBy steps cpu pages before (record after { notes = before.notes })
+  pub noted : after.notes ≡ noted before.notes (Stock cpu pages)
 
 -- the CPU's stock is drained after a look found its group, and `drain` is that drain
-pub record DrainsOne (processor : ℕ) (drain : Drain) (before after : KnownMachine) : Type 0 where
-  pub cpu : drain.cpu ≡ processor
-  pub group : drain.group ≡ stock_group before processor
-  pub drains : DrainsNoted (steps_to_drain (stock_group before processor)) processor drain.pages before after
+pub record DrainsOne (number : ℕ) (drain : Drain) (before after : KnownMachine) : Type 0 where
+  pub cpu : drain.cpu ≡ number
+  pub group : drain.group ≡ stock_group before number
+  pub drains : DrainsNoted (steps_to_drain (stock_group before number)) number drain.pages before after
 
 -- which stocks a call drains: a test of the existing groups and of a stock's group
 abbrev pub StockTest : Type 0
@@ -93,19 +93,19 @@ of_group group groups stock = is_of_group stock group
 
 -- the test chooses the CPU's stock
 abbrev pub is_chosen : StockTest → KnownMachine → ℕ → Bool
-is_chosen test machine processor = test machine.ledger.groups (stock_group machine processor)
+is_chosen test machine cpu = test machine.ledger.groups (stock_group machine cpu)
 
 -- If the test chooses the CPU's stock, that stock is drained, and this is the one drain. Else there is no drain, and
 -- only the look changes the seat: if the stock is of no group, it now counts as drained with no page.
 abbrev pub DrainsIf : StockTest → ℕ → List Drain → KnownMachine → KnownMachine → Type 0
-DrainsIf test processor [] before after =
-    (is_chosen test before processor ≡ false) × (after ≡ record before {
+DrainsIf test cpu [] before after =
+    (is_chosen test before cpu ≡ false) × (after ≡ record before {
       stock_seat = with_view before.stock_seat
-          (with_steps 1 (after_look before.stock_seat.view processor (stock_group before processor)));
+          (with_steps 1 (after_look before.stock_seat.view cpu (stock_group before cpu)));
     })
-DrainsIf test processor (drain ∷ []) before after =
-    (is_chosen test before processor ≡ true) × DrainsOne processor drain before after
-DrainsIf test processor (one ∷ two ∷ more) before after = ⊥
+DrainsIf test cpu (drain ∷ []) before after =
+    (is_chosen test before cpu ≡ true) × DrainsOne cpu drain before after
+DrainsIf test cpu (one ∷ two ∷ more) before after = ⊥
 
 -- the drains are those of a first part followed by those of a last part, made in this order
 pub record DrainsInTurn (AreFirst AreLast : List Drain → KnownMachine → KnownMachine → Type 0) (drains : List Drain)
@@ -125,7 +125,7 @@ DrainsAllIf test (suc count) drains before after =
 
 -- the CPU's stock is drained if it is of a group in this group's subtree
 abbrev pub DrainsBelow : ℕ → ℕ → List Drain → KnownMachine → KnownMachine → Type 0
-DrainsBelow group processor drains before after = DrainsIf (of_subtree group) processor drains before after
+DrainsBelow group cpu drains before after = DrainsIf (of_subtree group) cpu drains before after
 
 -- of the stocks of CPUs 1 to `count`, those of the group's subtree are drained
 abbrev pub DrainsAllBelow : ℕ → ℕ → List Drain → KnownMachine → KnownMachine → Type 0
@@ -152,8 +152,8 @@ DrainsGroup table group pages before after =
 
 -- each stock that the test chooses is drained
 abbrev pub AreDrainedIf : StockTest → ℕ → KnownMachine → Type 0
-AreDrainedIf test cpus machine = (processor : ℕ) → 1 ≤ processor → processor ≤ cpus
-    → is_chosen test machine processor ≡ true → IsDrained machine processor
+AreDrainedIf test cpus machine = (cpu : ℕ) → 1 ≤ cpu → cpu ≤ cpus
+    → is_chosen test machine cpu ≡ true → IsDrained machine cpu
 
 -- each stock of the group's subtree is drained
 abbrev pub AreDrained : ℕ → ℕ → KnownMachine → Type 0

@@ -22,7 +22,7 @@ impl<N: BootName> Machine<N> {
         ensures steps { MakesForAny N.frames self.old [] self.new }
     {
         let owner = group.number() as usize;
-        list_laws::others_stand();
+        list_laws::others_stay_linked();
         list_laws::one_of_all_changes();
         self.lists[owner].age(&mut self.links);
     }
@@ -31,13 +31,13 @@ impl<N: BootName> Machine<N> {
     /// unit's head.
     pub fn renew(&mut self, group: GroupId, head: Frame)
         requires frame { head < N.frames.frames }
-        requires stands { home_of self.old.links head ≡ Some (record { owner = group; list = Inactive }) }
+        requires home { home_of self.old.links head ≡ Some (record { owner = group; list = Inactive }) }
         ensures renews { RenewsUnit group head self.old self.new }
         ensures steps { MakesForAny N.frames self.old [] self.new }
     {
         let at = head.number();
         let owner = group.number() as usize;
-        list_laws::others_stand();
+        list_laws::others_stay_linked();
         list_laws::one_of_all_changes();
         self.lists[owner].renew(&mut self.links, at);
     }
@@ -60,7 +60,7 @@ impl<N: BootName> Machine<N> {
     /// over a list calls `oldest` first, and then `newer` from each unit to the next.
     pub fn newer(&self, group: GroupId, list: LruList, head: Frame) -> Option<Entry>
         requires frame { head < N.frames.frames }
-        requires stands { home_of self.now.links head ≡ Some (record { owner = group; list = list }) }
+        requires home { home_of self.now.links head ≡ Some (record { owner = group; list = list }) }
         ensures { result ≡ entry_after head (entries_in self.now group list) }
     {
         self.lists[group.number() as usize].newer(&self.links, head.number())

@@ -65,7 +65,7 @@ impl<N: BootName> Machine<N> {
             (block_steps group order result) (visit_state self.new cpu.new) }
     {
         let pages = order.frames();
-        let _number = cpu.number(); // Called for its contract.
+        let _cpu_number = cpu.number(); // Called for its contract.
         let _tree = self.charges.tree(); // Called for its contract.
         if let Err(over) = self.charges.try_charge(group, pages) {
             let lowest = over.group;

@@ -14,8 +14,8 @@ use frame_word::Frame;
 
 impl<N: BootName> Machine<N> {
     /// Tries to take a kept unit out of use. If the zone's reference is the only one, nobody can get the unit any more:
-    /// it is freed, and the result is its number of pages. Else the result is None, a miss, and the unit stays kept.
-    /// `head` is the unit's head.
+    /// it is freed, and noted if reclaimed units are (`tell_units`), and the result is its number of pages. Else the
+    /// result is None, a miss, and the unit stays kept. `head` is the unit's head.
     pub fn evict(&mut self, tables: &Tables<N>, head: Frame) -> Option<u32>
         requires frame { head < N.frames.frames }
         requires kept { HeadsKeptUnit self.old head }
@@ -33,6 +33,7 @@ impl<N: BootName> Machine<N> {
         let FrameState::Head(unit) = self.frame_states[at as usize] else {
             unreachable!()
         };
+        let group = unit.group;
         let order = unit.order;
         leave_list(&mut self.links, &mut self.lists, at);
         free_unit(
@@ -44,6 +45,8 @@ impl<N: BootName> Machine<N> {
         );
         self.watch.returned(at);
         self.counts = self.counts.with_freeze();
-        Some(order.frames())
+        let pages = order.frames();
+        self.notes.note_unit(group, at, pages);
+        Some(pages)
     }
 }

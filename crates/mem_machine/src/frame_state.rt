@@ -8,7 +8,7 @@ use step_rules::phase::ChargedUnit;
 
 /// The record of one frame: what the machine uses it for. There is one for each frame, so it takes only 3 bytes: one
 /// each for the variant, the CPU or the group, and the order.
-#[derive(Clone, Copy, Debug, PartialEq, Eq)]
+#[derive(Clone, Copy, PartialEq, Eq)]
 pub enum FrameState {
     /// In the zone's free areas.
     Free,

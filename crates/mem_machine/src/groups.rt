@@ -3,8 +3,9 @@
 ghost use Rattle.std.specs.Prelude.{◌≡◌, ◌≢◌, IsTrue, IfOk, OnErr, false, true, slice_set, []};
 ghost use Rattle.std.specs.Result.{result_err};
 ghost use Rattle.group_tree.specs.Groups.{has_group, has_child, make_fault};
-ghost use Rattle.group_charge.specs.Charges.{current_of, SameUsage, with_group_limit, with_group_removed, with_oom_flag};
-ghost use Rattle.group_charge.specs.Charges.{with_group_kill_noted, with_kill_noted, with_max_noted, with_oom_noted};
+ghost use Rattle.group_charge.specs.Charges.{current_of, SameUsage, with_group_limit, with_group_removed};
+ghost use Rattle.group_charge.specs.Charges.{with_oom_flag, with_group_kill_noted, with_kill_noted, with_max_noted};
+ghost use Rattle.group_charge.specs.Charges.{with_oom_noted};
 ghost use Rattle.mem_machine.specs.Machines.{is_killed, AddsGroup, Visits};
 ghost use Rattle.mem_machine.specs.Local.{Makes, MakesForAny, visit_state};
 ghost use Rattle.mem_machine.specs.Steps.{kill_steps, note_group_kill_steps, note_max_steps, note_oom_steps};
@@ -112,9 +113,10 @@ impl<N: BootName> Machine<N> {
           ledger = with_group_removed self.old.ledger group;
           watch = self.new.watch;
         } }
-        ensures steps { Makes N.frames (visit_state self.old cpu.now) (remove_steps group) (visit_state self.new cpu.now) }
+        ensures steps { Makes N.frames (visit_state self.old cpu.now) (remove_steps group)
+            (visit_state self.new cpu.now) }
     {
-        let _number = cpu.number(); // Called for its contract.
+        let _cpu_number = cpu.number(); // Called for its contract.
         let _tree = self.charges.tree(); // Called for its contract.
         self.charges.remove(group);
         self.watch.zone_made(Action::Remove { group }, Answer::Done);

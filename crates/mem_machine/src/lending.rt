@@ -25,7 +25,7 @@ impl<N: BootName> Machine<N> {
         ensures lends { LendsIfFree N.frames result (visit_state self.old cpu.old) (visit_state self.new cpu.new) }
         ensures visit { Visits N.frames (visit_state self.new cpu.new) }
     {
-        let number = cpu.number();
+        let cpu_number = cpu.number();
         let _few = tables.stocks.cpus(); // Its contract bounds CPU numbers, so one fits a byte.
         let Some(block) = self.zone.take(Order::of(0).unwrap()) else {
             return false;
@@ -34,11 +34,13 @@ impl<N: BootName> Machine<N> {
             unreachable!()
         };
         let at = frame.number();
-        tables.frames.pass_out(&mut self.frame_seat, frame, number);
-        self.watch.passed_out(at, number);
-        self.frame_states[at as usize] = FrameState::Lent(number as u8);
+        tables
+            .frames
+            .pass_out(&mut self.frame_seat, frame, cpu_number);
+        self.watch.passed_out(at, cpu_number);
+        self.frame_states[at as usize] = FrameState::Lent(cpu_number as u8);
         cpu.accept(tables, &mut self.frame_seat, frame);
-        self.watch.took_in(number, at);
+        self.watch.took_in(cpu_number, at);
         true
     }
 
@@ -72,31 +74,34 @@ impl<N: BootName> Machine<N> {
         ensures steps { Makes N.frames (visit_state self.old cpu.old)
             (lend_steps cpu.old.number frame) (visit_state self.new cpu.new) }
     {
-        let number = cpu.number();
+        let cpu_number = cpu.number();
         let _few = tables.stocks.cpus(); // Its contract bounds CPU numbers, so one fits a byte.
         let given = frame.number();
         self.zone.take_frame(given);
-        tables.frames.pass_out(&mut self.frame_seat, frame, number);
-        self.watch.passed_out(given, number);
-        self.frame_states[given as usize] = FrameState::Lent(number as u8);
+        tables
+            .frames
+            .pass_out(&mut self.frame_seat, frame, cpu_number);
+        self.watch.passed_out(given, cpu_number);
+        self.frame_states[given as usize] = FrameState::Lent(cpu_number as u8);
         cpu.accept(tables, &mut self.frame_seat, frame);
-        self.watch.took_in(number, given);
+        self.watch.took_in(cpu_number, given);
     }
 
     // Frees the front of the CPU's list, if there is one.
     fn take_one_back(&mut self, tables: &Tables<N>, cpu: &mut Cpu<N>) -> bool
         requires { Visits N.frames (visit_state self.old cpu.old) }
-        ensures takes { TakesBackIfListed N.frames result (visit_state self.old cpu.old) (visit_state self.new cpu.new) }
+        ensures takes { TakesBackIfListed N.frames result (visit_state self.old cpu.old)
+            (visit_state self.new cpu.new) }
         ensures visit { Visits N.frames (visit_state self.new cpu.new) }
     {
-        let number = cpu.number();
+        let cpu_number = cpu.number();
         let Some(frame) = cpu.hand_front(tables, &mut self.frame_seat) else {
             return false;
         };
         let at = frame.number();
-        self.watch.passed_back(number, at);
+        self.watch.passed_back(cpu_number, at);
         cpu.collect(tables, &mut self.frame_seat, frame);
-        self.watch.collected(at, number);
+        self.watch.collected(at, cpu_number);
         self.frame_states[at as usize] = FrameState::Free;
         self.zone.give(Block {
             at,
@@ -111,10 +116,12 @@ impl<N: BootName> Machine<N> {
         requires { Visits N.frames (visit_state self.old cpu.old) }
         ensures at_most { result ≤ count }
         ensures listed { result ≤ length cpu.old.list }
-        ensures takes { TakesManyBack (take result cpu.old.list) (visit_state self.old cpu.old) (visit_state self.new cpu.new) }
+        ensures takes { TakesManyBack (take result cpu.old.list) (visit_state self.old cpu.old)
+            (visit_state self.new cpu.new) }
         ensures fewer_only_at_the_end { result < count → cpu.new.list ≡ [] }
         ensures visit { Visits N.frames (visit_state self.new cpu.new) }
-        ensures steps { MakesBy N.frames (unlist_front_steps result) (visit_state self.old cpu.old) (visit_state self.new cpu.new) }
+        ensures steps { MakesBy N.frames (unlist_front_steps result) (visit_state self.old cpu.old)
+            (visit_state self.new cpu.new) }
     {
         for taken in 0..count {
             if !self.take_one_back(tables, cpu) {

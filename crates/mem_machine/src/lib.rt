@@ -40,6 +40,7 @@ mod places;
 mod readers;
 mod releasing;
 mod settling;
+mod showing;
 mod start;
 mod stock_ledger;
 mod stocks;

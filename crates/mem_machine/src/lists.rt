@@ -21,7 +21,7 @@ pub(crate) fn join_list(links: &mut Links, lists: &mut Vec<Lru>, group: GroupId,
     ensures frames { length links.new ≡ length links.old }
 {
     let owner = group.number() as usize;
-    list_laws::others_stand();
+    list_laws::others_stay_linked();
     list_laws::one_of_all_changes();
     let mut own = lists[owner];
     own.add(links, head);
@@ -41,9 +41,9 @@ pub(crate) fn leave_list(links: &mut Links, lists: &mut Vec<Lru>, head: u32)
     let Some(home) = links.home(head) else {
         unreachable!()
     };
-    list_laws::others_stand();
+    list_laws::others_stay_linked();
     list_laws::one_of_all_changes();
     let mut own = lists[home.owner as usize];
-    own.take_off(links, head);
+    own.unlink_and_clear(links, head);
     lists[home.owner as usize] = own;
 }

@@ -45,7 +45,8 @@ pub struct Machine<N: BootName> {
     pub(crate) killed: Vec<bool>,
     // How many units ended, were freed, or were missed since the boot.
     pub(crate) counts: Counts,
-    // The notes since the last `forget_notes`: limits without room, what was tried there, and who was killed.
+    // The notes since the last `forget_notes`: limits without room, what was tried there, which units were reclaimed,
+    // and who was killed.
     pub(crate) notes: Notes,
     // Takes each step of the zone's seat and of the CPU that holds the lock, right behind the step.
     pub(crate) watch: Watch,

@@ -24,7 +24,7 @@ impl<N: BootName> Machine<N> {
         let Some(home) = self.links.home(at) else {
             unreachable!()
         };
-        list_laws::others_stand();
+        list_laws::others_stay_linked();
         list_laws::one_of_all_changes();
         let mut lists = self.lists[home.owner as usize];
         let touched = lists.touch(&mut self.links, at);
@@ -44,7 +44,7 @@ impl<N: BootName> Machine<N> {
             unreachable!()
         };
         let lists = self.lists[home.owner as usize];
-        list_laws::others_stand();
+        list_laws::others_stay_linked();
         list_laws::one_of_all_changes();
         lists.set_dirty(&mut self.links, at, is_dirty);
     }

@@ -1,19 +1,34 @@
-//! Notes of what was tried at limits, for explanations of kills.
+//! Notes of what was tried and reclaimed, for explanations.
 
-ghost use Rattle.std.specs.Prelude.{◌≡◌, []};
-ghost use Rattle.mem_machine.specs.Machines.{with_note};
+ghost use Rattle.std.specs.Prelude.{◌≡◌};
+ghost use Rattle.mem_machine.specs.Machines.{with_note, with_telling, without_notes};
 
 use crate::machine::Machine;
 use cpu_part::BootName;
 use kill_notes::note::Note;
 
 impl<N: BootName> Machine<N> {
-    /// The notes since the last `forget_notes`, the oldest first: limits without room, what was tried there, and who
-    /// was killed. If there were more than 2,048, only the first 2,048 are kept.
+    /// The notes since the last `forget_notes`, the oldest first: limits without room, what was tried there, which
+    /// units were reclaimed, and who was killed. If there were more than 2,048, only the first 2,048 are kept. At most
+    /// 1,024 of them are runs of reclaimed units.
     pub fn notes(&self) -> &[Note]
-        ensures { result.now ≡ self.now.notes }
+        ensures { result.now ≡ self.now.notes.list }
     {
         self.notes.as_slice()
+    }
+
+    /// How many frames were reclaimed since the last `forget_notes` of which no note tells.
+    pub fn notes_left_out(&self) -> u64
+        ensures { result ≡ self.now.notes.left_out }
+    {
+        self.notes.left_out()
+    }
+
+    /// Notes each reclaimed unit from now on, or no longer. Nothing else changes, and no step is made.
+    pub fn tell_units(&mut self, is_on: bool)
+        ensures { self.new ≡ with_telling self.old is_on }
+    {
+        self.notes.tell_units(is_on);
     }
 
     /// Adds a note. Nothing else changes, and no step is made.
@@ -23,9 +38,9 @@ impl<N: BootName> Machine<N> {
         self.notes.note(note);
     }
 
-    /// Forgets all notes. Nothing else changes, and no step is made.
+    /// Forgets all notes. Whether reclaimed units are noted stays. Nothing else changes, and no step is made.
     pub fn forget_notes(&mut self)
-        ensures { self.new ≡ record self.old { notes = [] } }
+        ensures { self.new ≡ without_notes self.old }
     {
         self.notes.clear();
     }

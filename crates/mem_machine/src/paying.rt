@@ -21,7 +21,7 @@ impl<N: BootName> Machine<N> {
         ensures machine { self.new ≡ with_look self.old }
         ensures cpu { cpu.new ≡ cpu.old }
     {
-        let _number = cpu.number(); // Called for its contract.
+        let _cpu_number = cpu.number(); // Called for its contract.
         self.stock_seat.look(tables, cpu)
     }
 
@@ -47,9 +47,9 @@ impl<N: BootName> Machine<N> {
         ensures steps { Makes N.frames (visit_state self.old cpu.old)
             (take_front_steps cpu.old.number group) (visit_state self.new cpu.new) }
     {
-        let number = cpu.number();
+        let cpu_number = cpu.number();
         let frame = self.stock_seat.take_front(tables, cpu, group);
-        self.watch.consumed(number, group);
+        self.watch.consumed(cpu_number, group);
         frame
     }
 }

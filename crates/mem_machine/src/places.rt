@@ -32,6 +32,6 @@ impl<N: BootName> Machine<N> {
         ensures { NoneLentTo cpu.now.number self.now.frame_states }
     {
         let _ = &self.frame_seat; // Called for its contract.
-        let _number = cpu.number(); // Called for its contract.
+        let _cpu_number = cpu.number(); // Called for its contract.
     }
 }

@@ -65,7 +65,8 @@ impl<N: BootName> Machine<N> {
         requires kept { HeadsKeptUnit self.old head }
         ensures releases { Releases head result self.old self.new }
         ensures visit { Visits N.frames (visit_state self.new cpu.now) }
-        ensures steps { Makes N.frames (visit_state self.old cpu.now) (release_steps head result) (visit_state self.new cpu.now) }
+        ensures steps { Makes N.frames (visit_state self.old cpu.now) (release_steps head result)
+            (visit_state self.new cpu.now) }
     {
         self.drop_zone_reference(tables, head)
     }

@@ -22,13 +22,13 @@ use step_watch::Watch;
 use zone_blocks::order::Order;
 
 // The watch takes the steps by which the zone took over a fresh frame of the CPU.
-fn take_collected(watch: &mut Watch, number: u32, frame: u32)
-    ensures { Watches watch.old (collect_steps number frame) watch.new }
+fn take_collected(watch: &mut Watch, cpu: u32, frame: u32)
+    ensures { Watches watch.old (collect_steps cpu frame) watch.new }
 {
-    watch.passed_back(number, frame);
-    watch.reported(number, 1);
-    watch.collected(frame, number);
-    watch.absorbed(number, 1);
+    watch.passed_back(cpu, frame);
+    watch.reported(cpu, 1);
+    watch.collected(frame, cpu);
+    watch.absorbed(cpu, 1);
 }
 
 impl<N: BootName> Machine<N> {
@@ -42,12 +42,12 @@ impl<N: BootName> Machine<N> {
         ensures steps { Makes N.frames (visit_state self.old cpu.old)
             (keep_steps cpu.old.number result) (visit_state self.new cpu.new) }
     {
-        let number = cpu.number();
+        let cpu_number = cpu.number();
         let frame = self
             .stock_seat
             .collect_fresh(tables, cpu, &mut self.frame_seat, group);
         let at = frame.number();
-        take_collected(&mut self.watch, number, at);
+        take_collected(&mut self.watch, cpu_number, at);
         tables.frames.unfreeze(&mut self.frame_seat, frame, 1);
         self.watch.unfroze(at, 1);
         let order = Order::of(0).unwrap();
@@ -68,12 +68,12 @@ impl<N: BootName> Machine<N> {
         ensures steps { Makes N.frames (visit_state self.old cpu.old)
             (drop_steps cpu.old.number result) (visit_state self.new cpu.new) }
     {
-        let number = cpu.number();
+        let cpu_number = cpu.number();
         let frame = self
             .stock_seat
             .collect_fresh(tables, cpu, &mut self.frame_seat, group);
         let at = frame.number();
-        take_collected(&mut self.watch, number, at);
+        take_collected(&mut self.watch, cpu_number, at);
         let order = Order::of(0).unwrap();
         let unit = ChargedUnit { group, order };
         free_unit(
@@ -95,14 +95,14 @@ impl<N: BootName> Machine<N> {
         ensures visit { Visits N.frames (visit_state self.new cpu.new) }
         ensures steps { MakesReturnSteps N.frames result (visit_state self.old cpu.old) (visit_state self.new cpu.new) }
     {
-        let number = cpu.number();
+        let cpu_number = cpu.number();
         let Some(frame) = cpu.hand_back(tables, &mut self.frame_seat) else {
             return None;
         };
         let at = frame.number();
-        self.watch.passed_back(number, at);
+        self.watch.passed_back(cpu_number, at);
         cpu.collect(tables, &mut self.frame_seat, frame);
-        self.watch.collected(at, number);
+        self.watch.collected(at, cpu_number);
         let FrameState::Head(unit) = self.frame_states[at as usize] else {
             unreachable!()
         };
@@ -128,11 +128,11 @@ impl<N: BootName> Machine<N> {
         if cpu.fresh_len() == 0 {
             return None;
         }
-        let Some(number) = cpu.last_stock().group() else {
+        let Some(group_number) = cpu.last_stock().group() else {
             unreachable!()
         };
-        let group = GroupId::of(number).unwrap();
-        if self.killed[number as usize] {
+        let group = GroupId::of(group_number).unwrap();
+        if self.killed[group_number as usize] {
             Some(self.drop_one(tables, cpu, group))
         } else {
             Some(self.keep_one(tables, cpu, group))
@@ -160,7 +160,8 @@ impl<N: BootName> Machine<N> {
         ensures fresh { cpu.new.fresh ≡ cpu.old.fresh }
         ensures none_back { cpu.new.back ≡ [] }
         ensures visit { Visits N.frames (visit_state self.new cpu.new) }
-        ensures steps { MakesBy N.frames return_all_steps (visit_state self.old cpu.old) (visit_state self.new cpu.new) }
+        ensures steps { MakesBy N.frames return_all_steps (visit_state self.old cpu.old)
+            (visit_state self.new cpu.new) }
     {
         while let Some(_frame) = self.return_one(tables, cpu) {}
     }

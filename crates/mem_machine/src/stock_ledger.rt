@@ -30,10 +30,10 @@ pub(crate) struct StockLedger<N: BootName> {
 }
 
 impl<N: BootName> Model for StockLedger<N> {
-    ghost use Rattle.stock_word.specs.Stock.{Seated};
+    ghost use Rattle.stock_word.specs.Stock.{KnownStockSeat};
     ghost use Rattle.mem_machine.specs.Booked.{AreBooked};
 
-    ghost Value = { Seated };
+    ghost Value = { KnownStockSeat };
 
     ghost view = { λ books. books.seat };
 
@@ -75,24 +75,24 @@ impl<N: BootName> StockLedger<N> {
     }
 
     /// The group of the CPU's stock, as `StockWords::group` returns it.
-    pub(crate) fn group(&mut self, tables: &Tables<N>, processor: u32) -> Option<GroupId>
-        requires processor { IsCpuOf N.frames processor }
-        ensures group { result ≡ (account_of self.old.view processor).group }
-        ensures seat { self.new ≡ with_view self.old (with_steps 1 (after_look self.old.view processor result)) }
+    pub(crate) fn group(&mut self, tables: &Tables<N>, cpu: u32) -> Option<GroupId>
+        requires cpu { IsCpuOf N.frames cpu }
+        ensures group { result ≡ (account_of self.old.view cpu).group }
+        ensures seat { self.new ≡ with_view self.old (with_steps 1 (after_look self.old.view cpu result)) }
     {
-        let number = tables.stocks.group(&mut self.seat, processor)?;
+        let number = tables.stocks.group(&mut self.seat, cpu)?;
         Some(GroupId::of(number).unwrap())
     }
 
     /// Drains the stock of the CPU, which is of this group, as `StockWords::drain` does: by a look and a swap.
-    pub(crate) fn drain(&mut self, tables: &Tables<N>, processor: u32, group: GroupId) -> u32
-        requires processor { IsCpuOf N.frames processor }
-        requires group { (account_of self.old.view processor).group ≡ Some group }
-        ensures seat { self.new ≡ with_view self.old (with_steps 2 (draining self.old.view processor result)) }
-        ensures booked { result ≤ (account_of self.old.view processor).book }
-        ensures drained_before { (account_of self.old.view processor).filled ≡ false → result ≡ 0 }
+    pub(crate) fn drain(&mut self, tables: &Tables<N>, cpu: u32, group: GroupId) -> u32
+        requires cpu { IsCpuOf N.frames cpu }
+        requires group { (account_of self.old.view cpu).group ≡ Some group }
+        ensures seat { self.new ≡ with_view self.old (with_steps 2 (draining self.old.view cpu result)) }
+        ensures booked { result ≤ (account_of self.old.view cpu).book }
+        ensures drained_before { (account_of self.old.view cpu).filled ≡ false → result ≡ 0 }
     {
-        let pages = tables.stocks.drain(&mut self.seat, processor);
+        let pages = tables.stocks.drain(&mut self.seat, cpu);
         let number = group.number();
         self.sums[number as usize] -= pages;
         pages
@@ -111,7 +111,7 @@ impl<N: BootName> StockLedger<N> {
           stock_seat = with_view cpu.old.stock_seat (after_fill cpu.old.stock_seat.view group pages);
         } }
     {
-        let _number = cpu.number(); // Called for its contract.
+        let _cpu_number = cpu.number(); // Called for its contract.
         let owner = group.number();
         cpu.fill(tables, &mut self.seat, owner, pages);
         self.sums[owner as usize] += pages;
@@ -165,12 +165,12 @@ impl<N: BootName> StockLedger<N> {
         ensures zone { zone.new ≡ seat_with zone.old result (collected_from cpu.old.number) }
         ensures seat { self.new ≡ with_page_absorbed self.old cpu.old.number }
     {
-        let number = cpu.number();
+        let cpu_number = cpu.number();
         let Some(frame) = cpu.hand_fresh(tables, zone, &mut self.seat) else {
             unreachable!()
         };
         cpu.collect(tables, zone, frame);
-        let pages = tables.stocks.absorb(&mut self.seat, number);
+        let pages = tables.stocks.absorb(&mut self.seat, cpu_number);
         let owner = group.number() as usize;
         self.sums[owner] -= pages;
         frame

@@ -3,10 +3,10 @@
 ghost use Rattle.std.specs.Prelude.{◌≡◌, ◌<◌, [], Some, IsTrue, OnOk, OnErr, IfErr};
 ghost use Rattle.group_tree.specs.Groups.{has_group, in_subtree};
 ghost use Rattle.mem_machine.specs.Machines.{IsCpuOf, LacksRoom, OnlyWatches, Visits};
-ghost use Rattle.mem_machine.specs.Stocks.{IsDrained, AreDrained, AreOwnDrained, FitsStock, stock_group};
-ghost use Rattle.mem_machine.specs.Stocks.{of_group, of_subtree, Drains, DrainsBy, DrainsIf, DrainsBySteps, DrainsNoted};
-ghost use Rattle.mem_machine.specs.Stocks.{DrainsGroup, DrainsSubtree, Fills, Prepays, IsOver};
-ghost use Rattle.mem_machine.specs.Stocks.{RefusesGrant, own_fill_steps, prepay_steps, refused_prepay_steps};
+ghost use Rattle.mem_machine.specs.Stocks.{IsDrained, AreDrained, AreOwnDrained, FitsStock, stock_group, of_group};
+ghost use Rattle.mem_machine.specs.Stocks.{of_subtree, Drains, DrainsBy, DrainsIf, DrainsBySteps, DrainsNoted};
+ghost use Rattle.mem_machine.specs.Stocks.{DrainsGroup, DrainsSubtree, Fills, Prepays, IsOver, RefusesGrant};
+ghost use Rattle.mem_machine.specs.Stocks.{own_fill_steps, prepay_steps, refused_prepay_steps};
 ghost use Rattle.mem_machine.specs.Paying.{MayCharge};
 ghost use Rattle.mem_machine.specs.Local.{MakesBy, MakesForAny, visit_state};
 ghost use Rattle.mem_machine.specs.Steps.{drain_steps};
@@ -38,16 +38,16 @@ fn is_at_or_below(tree: &Tree, group: GroupId, other: GroupId) -> bool
 
 impl<N: BootName> Machine<N> {
     // Drains the stock of the CPU, which a look found to be of this group, and returns how many pages were in it.
-    fn drain_of(&mut self, tables: &Tables<N>, processor: u32, group: GroupId) -> u32
-        requires processor { IsCpuOf N.frames processor }
-        requires group { stock_group self.old processor ≡ Some group }
-        ensures drains { DrainsBy 2 processor result self.old self.new }
+    fn drain_of(&mut self, tables: &Tables<N>, cpu: u32, group: GroupId) -> u32
+        requires cpu { IsCpuOf N.frames cpu }
+        requires group { stock_group self.old cpu ≡ Some group }
+        ensures drains { DrainsBy 2 cpu result self.old self.new }
         ensures steps { MakesForAny N.frames self.old
-            (drain_steps processor (stock_group self.old processor) result) self.new }
+            (drain_steps cpu (stock_group self.old cpu) result) self.new }
     {
         let _tree = self.charges.tree(); // Called for its contract.
-        let pages = self.stock_seat.drain(tables, processor, group);
-        self.watch.drained(processor, pages as u128);
+        let pages = self.stock_seat.drain(tables, cpu, group);
+        self.watch.drained(cpu, pages as u128);
         if pages > 0 {
             self.charges.uncharge(group, pages);
             self.watch.ungranted(group, pages);
@@ -57,35 +57,32 @@ impl<N: BootName> Machine<N> {
 
     // Drains the stock of the CPU, which a look found to be of this group, notes the drain, and returns how many pages
     // were in it.
-    fn drain_noted(&mut self, tables: &Tables<N>, processor: u32, group: GroupId) -> u32
-        requires processor { IsCpuOf N.frames processor }
-        requires group { stock_group self.old processor ≡ Some group }
-        ensures drains { DrainsNoted 2 processor result self.old self.new }
+    fn drain_noted(&mut self, tables: &Tables<N>, cpu: u32, group: GroupId) -> u32
+        requires cpu { IsCpuOf N.frames cpu }
+        requires group { stock_group self.old cpu ≡ Some group }
+        ensures drains { DrainsNoted 2 cpu result self.old self.new }
         ensures steps { MakesForAny N.frames self.old
-            (drain_steps processor (stock_group self.old processor) result) self.new }
+            (drain_steps cpu (stock_group self.old cpu) result) self.new }
     {
-        let pages = self.drain_of(tables, processor, group);
-        self.notes.note(Note::Stock {
-            cpu: processor,
-            pages,
-        });
+        let pages = self.drain_of(tables, cpu, group);
+        self.notes.note(Note::Stock { cpu, pages });
         pages
     }
 
     /// Drains the stock of any CPU of the boot, and returns how many pages were in it. The pages leave the stock's book
     /// and the charge of its group. That CPU may go on with its own calls meanwhile.
-    pub fn drain_stock(&mut self, tables: &Tables<N>, processor: u32) -> u32
-        requires processor { IsCpuOf N.frames processor }
-        ensures drains { Drains processor result self.old self.new }
+    pub fn drain_stock(&mut self, tables: &Tables<N>, cpu: u32) -> u32
+        requires cpu { IsCpuOf N.frames cpu }
+        ensures drains { Drains cpu result self.old self.new }
         ensures steps { MakesForAny N.frames self.old
-            (drain_steps processor (stock_group self.old processor) result) self.new }
+            (drain_steps cpu (stock_group self.old cpu) result) self.new }
     {
-        match self.stock_seat.group(tables, processor) {
+        match self.stock_seat.group(tables, cpu) {
             None => {
-                self.watch.drained(processor, 0);
+                self.watch.drained(cpu, 0);
                 0
             }
-            Some(group) => self.drain_of(tables, processor, group),
+            Some(group) => self.drain_of(tables, cpu, group),
         }
     }
 
@@ -100,16 +97,14 @@ impl<N: BootName> Machine<N> {
 
     // Drains and notes the CPU's stock if it is of a group in this group's subtree, and returns how many pages were in
     // it.
-    fn drain_if_below(&mut self, tables: &Tables<N>, processor: u32, group: GroupId) -> u32
-        requires processor { IsCpuOf N.frames processor }
+    fn drain_if_below(&mut self, tables: &Tables<N>, cpu: u32, group: GroupId) -> u32
+        requires cpu { IsCpuOf N.frames cpu }
         requires there { IsTrue (has_group self.old.ledger.groups group) }
-        ensures { DrainsBySteps N.frames (DrainsIf (of_subtree group) processor) result self.old self.new }
+        ensures { DrainsBySteps N.frames (DrainsIf (of_subtree group) cpu) result self.old self.new }
     {
-        match self.stock_seat.group(tables, processor) {
+        match self.stock_seat.group(tables, cpu) {
             None => 0,
-            Some(owner) if self.is_below(group, owner) => self.drain_noted(
-                tables, processor, owner,
-            ),
+            Some(owner) if self.is_below(group, owner) => self.drain_noted(tables, cpu, owner),
             Some(_) => 0,
         }
     }
@@ -123,20 +118,20 @@ impl<N: BootName> Machine<N> {
         ensures drained { AreDrained group N.frames.cpus self.new }
     {
         let mut pages = 0;
-        for before in 0..tables.frames.cpus() {
-            pages += u64::from(self.drain_if_below(tables, before + 1, group));
+        for cpu_index in 0..tables.frames.cpus() {
+            pages += u64::from(self.drain_if_below(tables, cpu_index + 1, group));
         }
         pages
     }
 
     // Drains and notes the CPU's stock if it is of the group itself, and returns how many pages were in it.
-    fn drain_if_own(&mut self, tables: &Tables<N>, processor: u32, group: GroupId) -> u32
-        requires processor { IsCpuOf N.frames processor }
-        ensures { DrainsBySteps N.frames (DrainsIf (of_group group) processor) result self.old self.new }
+    fn drain_if_own(&mut self, tables: &Tables<N>, cpu: u32, group: GroupId) -> u32
+        requires cpu { IsCpuOf N.frames cpu }
+        ensures { DrainsBySteps N.frames (DrainsIf (of_group group) cpu) result self.old self.new }
     {
-        match self.stock_seat.group(tables, processor) {
+        match self.stock_seat.group(tables, cpu) {
             None => 0,
-            Some(owner) if owner == group => self.drain_noted(tables, processor, owner),
+            Some(owner) if owner == group => self.drain_noted(tables, cpu, owner),
             Some(_) => 0,
         }
     }
@@ -148,8 +143,8 @@ impl<N: BootName> Machine<N> {
         ensures drained { AreOwnDrained group N.frames.cpus self.new }
     {
         let mut pages = 0;
-        for before in 0..tables.frames.cpus() {
-            pages += u64::from(self.drain_if_own(tables, before + 1, group));
+        for cpu_index in 0..tables.frames.cpus() {
+            pages += u64::from(self.drain_if_own(tables, cpu_index + 1, group));
         }
         pages
     }
@@ -175,11 +170,12 @@ impl<N: BootName> Machine<N> {
         ensures unchanged { OnErr result (OnlyWatches (visit_state self.old cpu.old) (visit_state self.new cpu.new)) }
         ensures visit { Visits N.frames (visit_state self.new cpu.new) }
         ensures steps { OnOk result
-            (MakesBy N.frames (own_fill_steps group pages) (visit_state self.old cpu.old) (visit_state self.new cpu.new)) }
+            (MakesBy N.frames (own_fill_steps group pages) (visit_state self.old cpu.old)
+            (visit_state self.new cpu.new)) }
         ensures refused { IfErr result (λ over. RefusesGrant N.frames group pages over
             (visit_state self.old cpu.old) (visit_state self.new cpu.new)) }
     {
-        let number = cpu.number();
+        let cpu_number = cpu.number();
         let _tree = self.charges.tree(); // Called for its contract.
         if let Err(over) = self.charges.try_charge(group, pages) {
             let lowest = over.group;
@@ -188,7 +184,7 @@ impl<N: BootName> Machine<N> {
         }
         self.watch.granted(group, pages);
         self.stock_seat.fill(tables, cpu, group, pages);
-        self.watch.filled(number, group, pages);
+        self.watch.filled(cpu_number, group, pages);
         Ok(())
     }
 
@@ -207,17 +203,20 @@ impl<N: BootName> Machine<N> {
         requires charges { MayCharge self.old group pages }
         requires pages { FitsStock pages }
         requires none_fresh { cpu.old.fresh ≡ [] }
-        ensures prepays { OnOk result (Prepays group pages (visit_state self.old cpu.old) (visit_state self.new cpu.new)) }
+        ensures prepays { OnOk result (Prepays group pages (visit_state self.old cpu.old)
+            (visit_state self.new cpu.new)) }
         ensures over { IfErr result
             (λ over. IsOver group pages over.group (visit_state self.old cpu.old) (visit_state self.new cpu.new)) }
         ensures visit { Visits N.frames (visit_state self.new cpu.new) }
         ensures steps { OnOk result
-            (MakesBy N.frames (prepay_steps group pages) (visit_state self.old cpu.old) (visit_state self.new cpu.new)) }
+            (MakesBy N.frames (prepay_steps group pages) (visit_state self.old cpu.old)
+            (visit_state self.new cpu.new)) }
         ensures refused { IfErr result (λ over. MakesBy N.frames
-            (refused_prepay_steps group pages over.group) (visit_state self.old cpu.old) (visit_state self.new cpu.new)) }
+            (refused_prepay_steps group pages over.group) (visit_state self.old cpu.old)
+            (visit_state self.new cpu.new)) }
     {
-        let number = cpu.number();
-        self.drain_stock(tables, number);
+        let cpu_number = cpu.number();
+        self.drain_stock(tables, cpu_number);
         // The drain returns how many pages it took; only the look shows that none is left.
         let _emptied = self.own_stock(tables, cpu);
         self.fill_stock(tables, cpu, group, pages)

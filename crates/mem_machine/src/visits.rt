@@ -19,11 +19,12 @@ impl<N: BootName> Machine<N> {
         } }
         ensures cpu { cpu.new ≡ cpu.old }
         ensures visits { Visits N.frames (visit_state self.new cpu.new) }
-        ensures steps { Makes N.frames (visit_state self.old cpu.old) (open_steps cpu.old.number) (visit_state self.new cpu.new) }
+        ensures steps { Makes N.frames (visit_state self.old cpu.old) (open_steps cpu.old.number)
+            (visit_state self.new cpu.new) }
     {
-        let number = cpu.number();
+        let cpu_number = cpu.number();
         cpu.open(tables, &mut self.frame_seat);
-        self.watch.visit_opened(number);
+        self.watch.visit_opened(cpu_number);
     }
 
     /// Shuts the visit of the CPU.
@@ -37,10 +38,11 @@ impl<N: BootName> Machine<N> {
         ensures shut { IsShut self.new.frame_seat cpu.new.number }
         ensures still { NothingPasses N.frames self.new.frame_seat cpu.new.frame_seat }
         ensures lent { LentIsBorrowed N.frames self.new.frame_seat cpu.new.frame_seat }
-        ensures steps { Makes N.frames (visit_state self.old cpu.old) (shut_steps cpu.old.number) (visit_state self.new cpu.new) }
+        ensures steps { Makes N.frames (visit_state self.old cpu.old) (shut_steps cpu.old.number)
+            (visit_state self.new cpu.new) }
     {
-        let number = cpu.number();
+        let cpu_number = cpu.number();
         cpu.shut(tables, &mut self.frame_seat);
-        self.watch.visit_shut(number);
+        self.watch.visit_shut(cpu_number);
     }
 }

@@ -25,18 +25,12 @@ impl<N: BootName> Machine<N> {
     }
 
     /// The watch takes a step of a CPU's seat that no other call of the machine takes: a lock, an unlock, or a step
-    /// that the CPU makes without the lock. The machine stays as it is. A caller that is in a hurry first asks the watch
-    /// whether it is on, because an action has room for a path.
-    pub fn take_step(&mut self, number: u32, action: Action, answer: Answer)
+    /// that the CPU makes without the lock. The machine stays as it is. A caller that is in a hurry first asks the
+    /// watch whether it is on, because an action has room for a path.
+    pub fn take_step(&mut self, cpu: u32, action: Action, answer: Answer)
         ensures machine { self.new ≡ record self.old { watch = self.new.watch } }
-        ensures watched { Watches self.old.watch (cpu_makes number action answer ∷ []) self.new.watch }
+        ensures watched { Watches self.old.watch (cpu_makes cpu action answer ∷ []) self.new.watch }
     {
-        self.watch.take(
-            &Step {
-                seat: number,
-                action,
-            },
-            &answer,
-        );
+        self.watch.take(&Step { seat: cpu, action }, &answer);
     }
 }

@@ -151,7 +151,7 @@ pub usage_evicted : (m n : KnownMachine) (f pages k g : ℕ) → EvictsUnit f pa
 usage_evicted m n f pages k g is list home below =
     let groups : n.ledger.groups ≡ m.ledger.groups = ap (λ (x : KnownMachine). x.ledger.groups) is.machine in
     let own : is.unit.group ≡ k = is.own ∙ same_owner (record { owner = is.list.group; list = is.list.list }) (record { owner = k; list = list })
-    (sym is.list.stands ∙ home) in
+    (sym is.list.home ∙ home) in
     let there : in_subtree n.ledger.groups g is.unit.group ≡ true = (λ i. in_subtree (groups i) g (own i)) ∙ below in
     sym (is.usage g ∙ on_path_true (in_subtree n.ledger.groups g is.unit.group) (current_of n.ledger g) pages there)
   where

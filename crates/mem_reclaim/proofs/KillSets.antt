@@ -24,7 +24,7 @@ use Rattle.mem_machine.specs.Stocks.{AreOwnDrained}
 use Rattle.mem_machine.proofs.Followed.{makes_both, makes_none}
 use Rattle.mem_reclaim.specs.declared.noting.GroupSnapshot.{GroupSnapshot}
 use Rattle.mem_reclaim.specs.declared.sets.Killed.{Killed}
-use Rattle.mem_reclaim.specs.Killing.{HasNoKeptUnit, IsKilledBy, KillsAll, KillsAs, KillsBySteps, KillsNoted, KillsSoBySteps, KillsSubtree, KillsThese}
+use Rattle.mem_reclaim.specs.Killing.{HasNoKeptUnit, IsKilledBy, KillsGroups, KillsHeadOrVictim, KillsGroupBySteps, KillsGroupNoted, KillsGroupsBySteps, KillsSubtree, AreKillsOf}
 use Rattle.mem_reclaim.specs.Killing.{OnlyDrains, OnlyLetsGo, snapshot_of, killed_note, with_all_killed}
 use Rattle.mem_reclaim.specs.KillNotes.{NotesVictim}
 use Rattle.mem_reclaim.specs.Moves.{Rises, has_kill, is_kill, is_miss, killed_by, kills_in, missed_in, returned_in}
@@ -56,11 +56,11 @@ quiet_kills (e ∷ rest) quiet =
 pub missed_both : (f : ℕ) (one two : Run) → missed_in f (one ++ two) ≡ missed_in f one + missed_in f two
 missed_both f one two = sum_by-append (λ (e : Step × Answer). cond (is_miss f e.0.action e.1) 1 0) one two
 
-these_none : (m : KnownMachine) → KillsThese [] m [] m
+these_none : (m : KnownMachine) → AreKillsOf [] m [] m
 these_none m = record { killed = refl; no_miss = λ f. refl; returned = rises_none m.counts.last_puts m.counts.last_puts refl }
 
-these_both : (first last : List ℕ) (a b c : KnownMachine) (one two : Run) → KillsThese first a one b → KillsThese last b two c
-    → KillsThese (first ++ last) a (one ++ two) c
+these_both : (first last : List ℕ) (a b c : KnownMachine) (one two : Run) → AreKillsOf first a one b → AreKillsOf last b two c
+    → AreKillsOf (first ++ last) a (one ++ two) c
 these_both first last a b c one two p q = record {
   killed = kills_both one two ∙ (λ i. p.killed i ++ q.killed i);
   no_miss = λ f. let x = p.no_miss f in let y = q.no_miss f in let z = missed_both f one two in omega (arith, x, y, z);
@@ -87,7 +87,7 @@ all_one P g here = All-cons P g [] here (All-nil P)
 
 -- exactly these groups were killed, as `Kills` says; and what that leaves
 pub record KilledSo (t : KnownTable) (groups : List ℕ) (Kills : KnownMachine → Run → KnownMachine → Type 0) (m n : KnownMachine) : Type 0 where
-  pub kills : KillsSoBySteps t groups Kills m n
+  pub kills : KillsGroupsBySteps t groups Kills m n
   pub marked : n.killed ≡ with_all_killed m.killed groups
   pub drained : All (λ g. AreOwnDrained g t.cpus n) groups
   pub stocks : OnlyDrains m n
@@ -121,14 +121,14 @@ lets_after_note t m n first k = record {
 
 -- a group was killed, and that was noted
 pub record OneKilled (t : KnownTable) (limited g : ℕ) (m n : KnownMachine) : Type 0 where
-  pub kills : KillsSoBySteps t (g ∷ []) (KillsNoted t limited g) m n
+  pub kills : KillsGroupsBySteps t (g ∷ []) (KillsGroupNoted t limited g) m n
   pub marked : n.killed ≡ slice_set m.killed g true
   pub drained : AreOwnDrained g t.cpus n
   pub stocks : OnlyDrains m n
   pub none_kept : HasNoKeptUnit g n
   pub keeps : OnlyLetsGo t m n
 
-pub one_so : (t : KnownTable) (limited g : ℕ) (m n : KnownMachine) → OneKilled t limited g m n → KilledSo t (g ∷ []) (KillsNoted t limited g) m n
+pub one_so : (t : KnownTable) (limited g : ℕ) (m n : KnownMachine) → OneKilled t limited g m n → KilledSo t (g ∷ []) (KillsGroupNoted t limited g) m n
 one_so t limited g m n one = record {
   kills = one.kills;
   marked = one.marked;
@@ -138,7 +138,7 @@ one_so t limited g m n one = record {
   keeps = one.keeps;
 }
 
-pub one_killed : (t : KnownTable) (limited g : ℕ) (m b n : KnownMachine) (had : GroupSnapshot) → had ≡ snapshot_of m g → KillsBySteps t g m b
+pub one_killed : (t : KnownTable) (limited g : ℕ) (m b n : KnownMachine) (had : GroupSnapshot) → had ≡ snapshot_of m g → KillsGroupBySteps t g m b
     → b.killed ≡ slice_set m.killed g true → AreOwnDrained g t.cpus b → OnlyDrains m b → HasNoKeptUnit g b → OnlyLetsGo t m b
     → n ≡ with_note b (killed_note limited g had b) → OneKilled t limited g m n
 one_killed t limited g m b n had had_is kills marked drained stocks none_kept keeps noted_had =
@@ -175,13 +175,13 @@ one_killed t limited g m b n had had_is kills marked drained stocks none_kept ke
 
 -- ---- one group after another
 
-kills_all_more : (t : KnownTable) (limited : ℕ) (groups : List ℕ) (g : ℕ) (m b n : KnownMachine) (one two : Run) → KillsAll t limited groups m one b
-    → KillsNoted t limited g b two n → KillsAll t limited (groups ++ g ∷ []) m (one ++ two) n
+kills_all_more : (t : KnownTable) (limited : ℕ) (groups : List ℕ) (g : ℕ) (m b n : KnownMachine) (one two : Run) → KillsGroups t limited groups m one b
+    → KillsGroupNoted t limited g b two n → KillsGroups t limited (groups ++ g ∷ []) m (one ++ two) n
 kills_all_more t limited [] g m b n one two all last = record {
   between = n;
   first = two;
   later = [];
-  kills = subst (λ (x : KnownMachine). KillsNoted t limited g x two n) all.0 last;
+  kills = subst (λ (x : KnownMachine). KillsGroupNoted t limited g x two n) all.0 last;
   others = (refl, refl);
   steps_are = ap (λ (r : Run). r ++ two) all.1 ∙ sym (append-nil two);
 }
@@ -194,7 +194,7 @@ kills_all_more t limited (h ∷ groups) g m b n one two all last = record {
   steps_are = ap (λ (r : Run). r ++ two) all.steps_are ∙ append_assoc all.first all.later two;
 }
 
-set_none : (t : KnownTable) (limited : ℕ) (m : KnownMachine) → KilledSo t [] (KillsAll t limited []) m m
+set_none : (t : KnownTable) (limited : ℕ) (m : KnownMachine) → KilledSo t [] (KillsGroups t limited []) m m
 set_none t limited m = record {
   kills = record { steps = []; kills = (refl, refl); runs = λ c. makes_none t c.number (visit_state m c); these = these_none m };
   marked = refl;
@@ -204,8 +204,8 @@ set_none t limited m = record {
   keeps = only_lets_none t m;
 }
 
-set_more : (t : KnownTable) (limited : ℕ) (groups : List ℕ) (g : ℕ) (m b n : KnownMachine) → KilledSo t groups (KillsAll t limited groups) m b
-    → KilledSo t (g ∷ []) (KillsNoted t limited g) b n → KilledSo t (groups ++ g ∷ []) (KillsAll t limited (groups ++ g ∷ [])) m n
+set_more : (t : KnownTable) (limited : ℕ) (groups : List ℕ) (g : ℕ) (m b n : KnownMachine) → KilledSo t groups (KillsGroups t limited groups) m b
+    → KilledSo t (g ∷ []) (KillsGroupNoted t limited g) b n → KilledSo t (groups ++ g ∷ []) (KillsGroups t limited (groups ++ g ∷ [])) m n
 set_more t limited groups g m b n so one = record {
   kills = record {
     steps = so.kills.steps ++ one.kills.steps;
@@ -229,7 +229,7 @@ set_more t limited groups g m b n so one = record {
 
 -- those with a number below k were killed; the others are marked or not as they were
 pub record KilledSoFar (t : KnownTable) (limited head : ℕ) (m : KnownMachine) (k : ℕ) (now : KnownMachine) : Type 0 where
-  pub so : KilledSo t (alive_to m head k) (KillsAll t limited (alive_to m head k)) m now
+  pub so : KilledSo t (alive_to m head k) (KillsGroups t limited (alive_to m head k)) m now
   pub alive : (j : ℕ) → k ≤ j → is_killed now.killed j ≡ is_killed m.killed j
 
 pub below_first : (t : KnownTable) (limited head : ℕ) (m : KnownMachine) → KilledSoFar t limited head m 0 m
@@ -248,7 +248,7 @@ pub below_same : (t : KnownTable) (limited head : ℕ) (m : KnownMachine) (k : �
 below_same t limited head m k now s dead =
     let same = alive_same m head k (may_still t limited head m k now s ∙ dead) in
     record {
-      so = subst (λ (l : List ℕ). KilledSo t l (KillsAll t limited l) m now) (sym same) s.so;
+      so = subst (λ (l : List ℕ). KilledSo t l (KillsGroups t limited l) m now) (sym same) s.so;
       alive = λ j le. s.alive j (omega (arith, le));
     }
 
@@ -258,7 +258,7 @@ pub below_more : (t : KnownTable) (limited head : ℕ) (m : KnownMachine) (k : �
 below_more t limited head m k now s may n one =
     let more = alive_more m head k (may_still t limited head m k now s ∙ may) in
     record {
-      so = subst (λ (l : List ℕ). KilledSo t l (KillsAll t limited l) m n) (sym more)
+      so = subst (λ (l : List ℕ). KilledSo t l (KillsGroups t limited l) m n) (sym more)
           (set_more t limited (alive_to m head k) k m now n s.so (one_so t limited k now n one));
       alive = λ j le.
           ap (λ (l : List Bool). is_killed l j) one.marked
@@ -267,19 +267,19 @@ below_more t limited head m k now s may n one =
     }
 
 pub below_all : (t : KnownTable) (limited head : ℕ) (m : KnownMachine) (k : ℕ) (now : KnownMachine) → KilledSoFar t limited head m k now → k ≡ 64
-    → KilledSo t (alive_below m head) (KillsAll t limited (alive_below m head)) m now
-below_all t limited head m k now s all = subst (λ (x : ℕ). KilledSo t (alive_to m head x) (KillsAll t limited (alive_to m head x)) m now) all s.so
+    → KilledSo t (alive_below m head) (KillsGroups t limited (alive_below m head)) m now
+below_all t limited head m k now s all = subst (λ (x : ℕ). KilledSo t (alive_to m head x) (KillsGroups t limited (alive_to m head x)) m now) all s.so
 
 -- ---- a subtree between its note and its count
 
 pub subtree_killed : (t : KnownTable) (limited head : ℕ) (m a b n : KnownMachine) → a ≡ with_note m (group_kill_note m head)
-    → KilledSo t (alive_below a head) (KillsAll t limited (alive_below a head)) a b
+    → KilledSo t (alive_below a head) (KillsGroups t limited (alive_below a head)) a b
     → n ≡ record b { ledger = with_group_kill_noted b.ledger head; watch = n.watch } → ((g : ℕ) → current_of n.ledger g ≡ current_of b.ledger g)
     → MakesForAny t b (note_group_kill_steps head) n → KilledSo t (alive_below m head) (KillsSubtree t limited head) m n
 subtree_killed t limited head m a b n noted so_a counted usage runs =
     let note : Note = group_kill_note m head in
-    let so : KilledSo t (alive_below m head) (KillsAll t limited (alive_below m head)) (with_note m note) b =
-    subst (λ (x : KnownMachine). KilledSo t (alive_below x head) (KillsAll t limited (alive_below x head)) x b) noted so_a in
+    let so : KilledSo t (alive_below m head) (KillsGroups t limited (alive_below m head)) (with_note m note) b =
+    subst (λ (x : KnownMachine). KilledSo t (alive_below x head) (KillsGroups t limited (alive_below x head)) x b) noted so_a in
     let killing : Run = so.kills.steps in
     let these = so.kills.these in
     record {
@@ -331,13 +331,13 @@ pub record VictimKilled (t : KnownTable) (limited : ℕ) (killed : Killed) (m n 
 
 pub victim_killed : (t : KnownTable) (limited : ℕ) (killed : Killed) (m a n : KnownMachine) → NotesVictim limited killed.victim m a
     → IsHead a.ledger.groups limited killed → (flag : Bool) → is_oom_group a.ledger.groups killed.head ≡ flag
-    → KilledSo t (set_if flag a killed) (KillsAs flag t limited killed) a n → VictimKilled t limited killed m n
+    → KilledSo t (set_if flag a killed) (KillsHeadOrVictim flag t limited killed) a n → VictimKilled t limited killed m n
 victim_killed t limited killed m a n told head_a flag flag_a so_flag =
     let note : Note = victim_note m limited killed.victim told.next in
-    let so_a : KilledSo t (kill_set a killed) (KillsAs (is_oom_group a.ledger.groups killed.head) t limited killed) a n =
-    subst (λ (b : Bool). KilledSo t (set_if b a killed) (KillsAs b t limited killed) a n) (sym flag_a) so_flag in
-    let so : KilledSo t (kill_set m killed) (KillsAs (is_oom_group m.ledger.groups killed.head) t limited killed) (with_note m note) n =
-    subst (λ (x : KnownMachine). KilledSo t (kill_set x killed) (KillsAs (is_oom_group x.ledger.groups killed.head) t limited killed) x n)
+    let so_a : KilledSo t (kill_set a killed) (KillsHeadOrVictim (is_oom_group a.ledger.groups killed.head) t limited killed) a n =
+    subst (λ (b : Bool). KilledSo t (set_if b a killed) (KillsHeadOrVictim b t limited killed) a n) (sym flag_a) so_flag in
+    let so : KilledSo t (kill_set m killed) (KillsHeadOrVictim (is_oom_group m.ledger.groups killed.head) t limited killed) (with_note m note) n =
+    subst (λ (x : KnownMachine). KilledSo t (kill_set x killed) (KillsHeadOrVictim (is_oom_group x.ledger.groups killed.head) t limited killed) x n)
     told.machine so_a in
     record {
       kills = record {

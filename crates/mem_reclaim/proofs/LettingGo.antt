@@ -9,7 +9,7 @@ use Rattle.frame_word.specs.declared.view.FrameNote.{FrameNote}
 use Rattle.frame_word.specs.Views.{let_go, let_go_last}
 use Rattle.frame_word.specs.Seats.{KnownTable, KnownSeat, IsOpen, NothingPasses, LentIsBorrowed, misses_of, seat_with}
 use Rattle.frame_word.proofs.Notes.{note_here, note_else}
-use Rattle.stock_word.specs.Stock.{Seated, Words, account_of}
+use Rattle.stock_word.specs.Stock.{KnownStockSeat, KnownStockTable, account_of}
 use Rattle.group_tree.specs.declared.group.Group.{Group}
 use Rattle.lru_lists.specs.declared.record.Link.{Link}
 use Rattle.lru_lists.specs.declared.record.Home.{Home}
@@ -43,8 +43,8 @@ use Rattle.mem_machine.proofs.Prepaying.{current_falls}
 use Rattle.mem_machine.specs.declared.counts.Counts.{Counts}
 use Rattle.mem_reclaim.specs.Moves.{Rises, has_kill, is_kill, is_miss, missed_in, returned_in}
 use Rattle.mem_reclaim.specs.Staying.{OnlyLeave}
-use Rattle.mem_reclaim.specs.Killing.{KillsBySteps, HasNoKeptUnit, KeepsStocks, LetsGoAll, LetsGoBySteps, OnlyDrains, OnlyLetsGo, with_killed}
-use Rattle.mem_reclaim.proofs.Listing.{has_unit, listed_is, home_inside, has_mid}
+use Rattle.mem_reclaim.specs.Killing.{KillsGroupBySteps, HasNoKeptUnit, KeepsStocks, LetsGoAll, LetsGoBySteps, OnlyDrains, OnlyLetsGo, with_killed}
+use Rattle.mem_machine.proofs.Listing.{has_unit, listed_is, home_inside, has_mid}
 use Rattle.mem_reclaim.proofs.Rising.{drains_return_none, returned_both, rises_both, units_rise}
 use Rattle.mem_machine.proofs.Followed.{makes_both, makes_none}
 
@@ -153,10 +153,10 @@ same_home a b e = cc
 off_entries : (m n : KnownMachine) (g f : ℕ) (list : LruList) → LeavesList f (lists_of m) (lists_of n)
     → home_of m.links f ≡ Some (record { owner = g; list = list }) → entries_in n g list ≡ entries_without f (entries_in m g list)
 off_entries m n g f Inactive is home =
-    let own : is.group ≡ g = same_home (record { owner = is.group; list = is.list }) (record { owner = g; list = Inactive }) (sym is.stands ∙ home) in
+    let own : is.group ≡ g = same_home (record { owner = is.group; list = is.list }) (record { owner = g; list = Inactive }) (sym is.home ∙ home) in
     subst (λ (k : ℕ). entries_in n k Inactive ≡ entries_without f (entries_in m k Inactive)) own is.inactive
 off_entries m n g f Active is home =
-    let own : is.group ≡ g = same_home (record { owner = is.group; list = is.list }) (record { owner = g; list = Active }) (sym is.stands ∙ home) in
+    let own : is.group ≡ g = same_home (record { owner = is.group; list = is.list }) (record { owner = g; list = Active }) (sym is.home ∙ home) in
     subst (λ (k : ℕ). entries_in n k Active ≡ entries_without f (entries_in m k Active)) own is.active
 
 -- ---- the units of a list that were released so far
@@ -202,7 +202,7 @@ pub some_oldest : (t : KnownTable) (g : ℕ) (list : LruList) (m : KnownMachine)
     → i < length (entries_in m g list) → (oldest : Option Entry) → oldest ≡ first_entry (entries_in now g list) → oldest ≡ None → ⊥
 some_oldest t g list m i now s more oldest first none = none_first (entries_in now g list) i _ (sym none ∙ first) s.left more
 
-pub oldest_is : (t : KnownTable) (w : Words) (g : ℕ) → g < 64 → (list : LruList) (now : KnownMachine) → IsConsistent t w now → (u : Entry)
+pub oldest_is : (t : KnownTable) (w : KnownStockTable) (g : ℕ) → g < 64 → (list : LruList) (now : KnownMachine) → IsConsistent t w now → (u : Entry)
     → (oldest : Option Entry) → oldest ≡ first_entry (entries_in now g list) → oldest ≡ Some u → Oldest t g list now u
 oldest_is t w g fits list now ok u oldest first some =
     let e = first_is (entries_in now g list) u (sym some ∙ first) in
@@ -423,7 +423,7 @@ last_puts_rise v m a d b n is drained drains first last one two =
 
 -- what the parts of a kill leave, one after the other
 pub record AllKilled (t : KnownTable) (v : ℕ) (m n : KnownMachine) : Type 0 where
-  pub kills : KillsBySteps t v m n
+  pub kills : KillsGroupBySteps t v m n
   pub marked : n.killed ≡ slice_set m.killed v true
   pub drained : AreOwnDrained v t.cpus n
   pub none_kept : HasNoKeptUnit v n
@@ -431,18 +431,18 @@ pub record AllKilled (t : KnownTable) (v : ℕ) (m n : KnownMachine) : Type 0 wh
   pub stocks : OnlyDrains m n
 
 -- no unit is on an empty list
-none_listed : (t : KnownTable) (w : Words) (m : KnownMachine) → IsConsistent t w m → (v : ℕ) → v < 64 → (list : LruList) → entries_in m v list ≡ []
+none_listed : (t : KnownTable) (w : KnownStockTable) (m : KnownMachine) → IsConsistent t w m → (v : ℕ) → v < 64 → (list : LruList) → entries_in m v list ≡ []
     → (f : ℕ) → home_of m.links f ≡ Some (record { owner = v; list = list }) → ⊥
 none_listed t w m ok v fits list empty f home =
     false≢true (sym (ap (has_unit f) empty) ∙ (listed_is t w m ok v fits list).at_home f home)
 
-keeps_none_of : (t : KnownTable) (w : Words) (b n : KnownMachine) → IsConsistent t w b → IsConsistent t w n → (v : ℕ) → v < 64
+keeps_none_of : (t : KnownTable) (w : KnownStockTable) (b n : KnownMachine) → IsConsistent t w b → IsConsistent t w n → (v : ℕ) → v < 64
     → entries_in b v Inactive ≡ [] → entries_in n v Active ≡ [] → OnlyLeave b n → (f : ℕ) (list : LruList)
     → home_of n.links f ≡ Some (record { owner = v; list = list }) → ⊥
 keeps_none_of t w b n ok_b ok_n v fits first last leaves f Inactive home = none_listed t w b ok_b v fits Inactive first f (leaves f _ home)
 keeps_none_of t w b n ok_b ok_n v fits first last leaves f Active home = none_listed t w n ok_n v fits Active last f home
 
-pub all_killed : (t : KnownTable) (w : Words) (v : ℕ) → v < 64 → (m a d b n : KnownMachine) → a ≡ with_watch (with_killed m v) a.watch
+pub all_killed : (t : KnownTable) (w : KnownStockTable) (v : ℕ) → v < 64 → (m a d b n : KnownMachine) → a ≡ with_watch (with_killed m v) a.watch
     → ((g : ℕ) → current_of a.ledger g ≡ current_of m.ledger g) → MakesForAny t m (kill_steps v) a
     → (pages : ℕ) → DrainsGroup t v pages a d → AreOwnDrained v t.cpus d
     → LetsGoBySteps t (entries_in d v Inactive) d b → entries_in b v Inactive ≡ [] → OnlyLetsGo t d b → KeepsStocks d b → IsConsistent t w b
@@ -489,16 +489,16 @@ all_killed t w v fits m a d b n is usage killed pages drains drained first first
       };
       marked = last_stocks.killed ∙ first_stocks.killed ∙ unit.killed ∙ ap (λ (x : KnownMachine). x.killed) is;
       drained = λ q some few of.
-          ap (λ (s : Seated). (account_of s.view q).filled) stock
+          ap (λ (s : KnownStockSeat). (account_of s.view q).filled) stock
           ∙ drained q some few ((λ i. of_group v (sym groups i) (account_of (sym stock i).view q).group) ∙ of);
       none_kept = λ f h home owner.
           keeps_none_of t w b n ok_b ok_n v fits first_empty last_empty last_keeps.leaves f h.list
           (home ∙ (λ i. Some (record { owner = owner i; list = h.list })));
       keeps = only_lets_both t m a n at_first (only_lets_both t a d n at_drain (only_lets_both t d b n first_keeps last_keeps));
       stocks = record {
-        of = λ p. ap (λ (x : Seated). (account_of x.view p).group) stock ∙ unit.stocks.of p ∙ ap (λ (x : KnownMachine). stock_group x p) is;
+        of = λ p. ap (λ (x : KnownStockSeat). (account_of x.view p).group) stock ∙ unit.stocks.of p ∙ ap (λ (x : KnownMachine). stock_group x p) is;
         drained = λ p was.
-            ap (λ (x : Seated). (account_of x.view p).filled) stock
+            ap (λ (x : KnownStockSeat). (account_of x.view p).filled) stock
             ∙ unit.stocks.drained p (ap (λ (x : KnownMachine). (account_of x.stock_seat.view p).filled) is ∙ was);
       };
     }

@@ -19,7 +19,7 @@ use Rattle.mem_machine.specs.Local.{MakesForAny}
 use Rattle.mem_machine.specs.Ageing.{RenewsUnit, entries_in}
 use Rattle.mem_machine.specs.Evicting.{EvictsUnit, Evicts, evict_steps}
 use Rattle.mem_reclaim.specs.Wanted.{progress}
-use Rattle.mem_reclaim.specs.Moves.{Leads}
+use Rattle.mem_reclaim.specs.Moves.{FreesBySteps}
 use Rattle.mem_reclaim.specs.Units.{TriesReclaimAs, TriesReclaim}
 use Rattle.mem_reclaim.specs.Staying.{OnlyLeave, IsMissed}
 use Rattle.mem_reclaim.proofs.Moving.{moves_rest, moves_none, moves_try, misses_rose}
@@ -28,7 +28,7 @@ use Rattle.mem_reclaim.proofs.Wanting.{rested}
 -- ---- the three cases
 
 pub meets_dirty : (t : KnownTable) (marks_count : Bool) (g : ℕ) (e : Entry) (m : KnownMachine) → e.is_dirty ≡ true
-    → Leads t 0 m m (TriesReclaim marks_count g e 1)
+    → FreesBySteps t 0 m m (TriesReclaim marks_count g e 1)
 meets_dirty t marks_count g e m dirty = record {
   steps = [];
   does = subst (λ (d : Bool). TriesReclaimAs d (marks_count && e.is_marked) g e.number (progress 0 m [] m)) (sym dirty) (rested m);
@@ -36,7 +36,7 @@ meets_dirty t marks_count g e m dirty = record {
 }
 
 pub meets_spared : (t : KnownTable) (marks_count : Bool) (g f : ℕ) (e : Entry) (m n : KnownMachine) → e.is_dirty ≡ false → (marks_count && e.is_marked) ≡ true
-    → e.number ≡ f → RenewsUnit g f m n → MakesForAny t m [] n → Leads t 0 m n (TriesReclaim marks_count g e 1)
+    → e.number ≡ f → RenewsUnit g f m n → MakesForAny t m [] n → FreesBySteps t 0 m n (TriesReclaim marks_count g e 1)
 meets_spared t marks_count g f e m n clean spared is renews runs = record {
   steps = [];
   does = subst (λ (x : Bool × Bool × ℕ). TriesReclaimAs x.0 x.1 g x.2 (progress 0 m [] n)) (λ i. (sym clean i, sym spared i, sym is i))
@@ -44,11 +44,11 @@ meets_spared t marks_count g f e m n clean spared is renews runs = record {
   moves = moves_none t m n runs (ap (λ (x : KnownMachine). x.frame_seat) renews.machine) (ap (λ (x : KnownMachine). x.counts) renews.machine);
 }
 
-pub meets_tried : (t : KnownTable) (marks_count : Bool) (g f : ℕ) (e : Entry) (m n : KnownMachine) (answer : Option ℕ) (given : ℕ) → e.is_dirty ≡ false
-    → (marks_count && e.is_marked) ≡ false → e.number ≡ f → Evicts f answer m n → MakesForAny t m (evict_steps f answer) n → given ≡ unwrap_or answer 0
-    → Leads t given m n (TriesReclaim marks_count g e 1)
-meets_tried t marks_count g f e m n answer given clean spared is evicts runs pages =
-    subst (λ (p : ℕ). Leads t p m n (TriesReclaim marks_count g e 1)) (sym pages) (record {
+pub meets_tried : (t : KnownTable) (marks_count : Bool) (g f : ℕ) (e : Entry) (m n : KnownMachine) (answer : Option ℕ) (freed : ℕ) → e.is_dirty ≡ false
+    → (marks_count && e.is_marked) ≡ false → e.number ≡ f → Evicts f answer m n → MakesForAny t m (evict_steps f answer) n → freed ≡ unwrap_or answer 0
+    → FreesBySteps t freed m n (TriesReclaim marks_count g e 1)
+meets_tried t marks_count g f e m n answer freed clean spared is evicts runs pages =
+    subst (λ (p : ℕ). FreesBySteps t p m n (TriesReclaim marks_count g e 1)) (sym pages) (record {
       steps = evict_steps f answer;
       does = subst (λ (x : Bool × Bool × ℕ). TriesReclaimAs x.0 x.1 g x.2 (progress (unwrap_or answer 0) m (evict_steps f answer) n)) (λ i. (sym clean i, sym spared i, sym is i))
           (record { answer = answer; evicts = evicts; pages = refl; tries = refl });
@@ -68,10 +68,10 @@ same_home a b e = cc
 evicted_entries : (m n : KnownMachine) (g f pages : ℕ) (list : LruList) → EvictsUnit f pages m n → home_of m.links f ≡ Some (record { owner = g; list = list })
     → entries_in n g list ≡ entries_without f (entries_in m g list)
 evicted_entries m n g f pages Inactive is home =
-    let own : is.list.group ≡ g = same_home (record { owner = is.list.group; list = is.list.list }) (record { owner = g; list = Inactive }) (sym is.list.stands ∙ home) in
+    let own : is.list.group ≡ g = same_home (record { owner = is.list.group; list = is.list.list }) (record { owner = g; list = Inactive }) (sym is.list.home ∙ home) in
     subst (λ (k : ℕ). entries_in n k Inactive ≡ entries_without f (entries_in m k Inactive)) own is.list.inactive
 evicted_entries m n g f pages Active is home =
-    let own : is.list.group ≡ g = same_home (record { owner = is.list.group; list = is.list.list }) (record { owner = g; list = Active }) (sym is.list.stands ∙ home) in
+    let own : is.list.group ≡ g = same_home (record { owner = is.list.group; list = is.list.list }) (record { owner = g; list = Active }) (sym is.list.home ∙ home) in
     subst (λ (k : ℕ). entries_in n k Active ≡ entries_without f (entries_in m k Active)) own is.list.active
 
 tried_list : (m n : KnownMachine) (g f : ℕ) (list : LruList) (answer : Option ℕ) → Evicts f answer m n → home_of m.links f ≡ Some (record { owner = g; list = list })
@@ -80,17 +80,17 @@ tried_list m n g f list None is home = inl (ap (λ (x : KnownMachine). entries_i
 tried_list m n g f list (Some pages) is home =
     inr ([], evicted_entries m n g f pages list is home ∙ sym (append-nil (entries_without f (entries_in m g list))))
 
-met_as : (dirty spared : Bool) (m n : KnownMachine) (g f given : ℕ) (steps : Run) (list : LruList) → TriesReclaimAs dirty spared g f (progress given m steps n)
+met_as : (dirty spared : Bool) (m n : KnownMachine) (g f freed : ℕ) (steps : Run) (list : LruList) → TriesReclaimAs dirty spared g f (progress freed m steps n)
     → (spared ≡ true → list ≡ Inactive) → home_of m.links f ≡ Some (record { owner = g; list = list }) → MetList g list f m n
-met_as true spared m n g f given steps list is inactive home = inl (ap (λ (x : KnownMachine). entries_in x g list) is.machine)
-met_as false true m n g f given steps list is inactive home =
+met_as true spared m n g f freed steps list is inactive home = inl (ap (λ (x : KnownMachine). entries_in x g list) is.machine)
+met_as false true m n g f freed steps list is inactive home =
     subst (λ (l : LruList). MetList g l f m n) (sym (inactive refl)) (inr (marked false (entry_of m.links f) ∷ [], is.renews.inactive))
-met_as false false m n g f given steps list is inactive home = tried_list m n g f list is.answer is.evicts home
+met_as false false m n g f freed steps list is inactive home = tried_list m n g f list is.answer is.evicts home
 
-pub met_list : (marks_count : Bool) (m n : KnownMachine) (g want given : ℕ) (e : Entry) (steps : Run) (list : LruList) → TriesReclaim marks_count g e want (progress given m steps n)
+pub met_list : (marks_count : Bool) (m n : KnownMachine) (g want freed : ℕ) (e : Entry) (steps : Run) (list : LruList) → TriesReclaim marks_count g e want (progress freed m steps n)
     → (marks_count ≡ true → list ≡ Inactive) → home_of m.links e.number ≡ Some (record { owner = g; list = list }) → MetList g list e.number m n
-met_list true m n g want given e steps list is inactive home = met_as e.is_dirty e.is_marked m n g e.number given steps list is (λ i. inactive refl) home
-met_list false m n g want given e steps list is inactive home = met_as e.is_dirty false m n g e.number given steps list is (λ i. absurd (true≢false (sym i))) home
+met_list true m n g want freed e steps list is inactive home = met_as e.is_dirty e.is_marked m n g e.number freed steps list is (λ i. inactive refl) home
+met_list false m n g want freed e steps list is inactive home = met_as e.is_dirty false m n g e.number freed steps list is (λ i. absurd (true≢false (sym i))) home
 
 -- ---- if marks don't count, units leave and none joins, and one that stays clean is missed
 
@@ -108,19 +108,19 @@ try_misses m n f None is h home clean =
     omega (arith, a, one)
 try_misses m n f (Some pages) is h home clean = absurd (none-some h (sym (ap (λ (k : Link). k.home) is.list.forgotten) ∙ home))
 
-leaves_as : (dirty : Bool) (m n : KnownMachine) (g f given : ℕ) (steps : Run) → TriesReclaimAs dirty false g f (progress given m steps n) → OnlyLeave m n
-leaves_as true m n g f given steps is x h home = ap (λ (k : KnownMachine). home_of k.links x) (sym is.machine) ∙ home
-leaves_as false m n g f given steps is x h home = try_leaves m n f is.answer is.evicts x h home
+leaves_as : (dirty : Bool) (m n : KnownMachine) (g f freed : ℕ) (steps : Run) → TriesReclaimAs dirty false g f (progress freed m steps n) → OnlyLeave m n
+leaves_as true m n g f freed steps is x h home = ap (λ (k : KnownMachine). home_of k.links x) (sym is.machine) ∙ home
+leaves_as false m n g f freed steps is x h home = try_leaves m n f is.answer is.evicts x h home
 
-misses_as : (dirty : Bool) (m n : KnownMachine) (g f given : ℕ) (steps : Run) → TriesReclaimAs dirty false g f (progress given m steps n) → (link_at m.links f).is_dirty ≡ dirty
+misses_as : (dirty : Bool) (m n : KnownMachine) (g f freed : ℕ) (steps : Run) → TriesReclaimAs dirty false g f (progress freed m steps n) → (link_at m.links f).is_dirty ≡ dirty
     → (h : Home) → IsMissed m n f h
-misses_as true m n g f given steps is dirt h home clean =
+misses_as true m n g f freed steps is dirt h home clean =
     absurd (true≢false (sym dirt ∙ ap (λ (k : KnownMachine). (link_at k.links f).is_dirty) (sym is.machine) ∙ clean))
-misses_as false m n g f given steps is dirt h home clean = try_misses m n f is.answer is.evicts h home clean
+misses_as false m n g f freed steps is dirt h home clean = try_misses m n f is.answer is.evicts h home clean
 
-pub met_leaves : (m n : KnownMachine) (g want given : ℕ) (e : Entry) (steps : Run) → TriesReclaim false g e want (progress given m steps n) → OnlyLeave m n
-met_leaves m n g want given e steps is = leaves_as e.is_dirty m n g e.number given steps is
+pub met_leaves : (m n : KnownMachine) (g want freed : ℕ) (e : Entry) (steps : Run) → TriesReclaim false g e want (progress freed m steps n) → OnlyLeave m n
+met_leaves m n g want freed e steps is = leaves_as e.is_dirty m n g e.number freed steps is
 
-pub met_misses : (m n : KnownMachine) (g want given : ℕ) (e : Entry) (steps : Run) → TriesReclaim false g e want (progress given m steps n)
+pub met_misses : (m n : KnownMachine) (g want freed : ℕ) (e : Entry) (steps : Run) → TriesReclaim false g e want (progress freed m steps n)
     → (link_at m.links e.number).is_dirty ≡ e.is_dirty → (h : Home) → IsMissed m n e.number h
-met_misses m n g want given e steps is dirt = misses_as e.is_dirty m n g e.number given steps is dirt
+met_misses m n g want freed e steps is dirt = misses_as e.is_dirty m n g e.number freed steps is dirt

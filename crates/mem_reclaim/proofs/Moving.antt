@@ -28,7 +28,7 @@ use Rattle.mem_machine.specs.Local.{IsLocalRun, MakesForAny, local_of, phase_of,
 use Rattle.mem_machine.specs.Evicting.{MissesUnit, EvictsUnit, Evicts, evict_steps}
 use Rattle.mem_machine.specs.Steps.{zone_makes}
 use Rattle.mem_machine.specs.declared.counts.Counts.{Counts}
-use Rattle.mem_reclaim.specs.Moves.{Moves, Rises, all_missed_in, pages_back, pages_returned, returned_in, is_miss, missed_in, is_kill, has_kill}
+use Rattle.mem_reclaim.specs.Moves.{FreesPages, Rises, all_missed_in, pages_back, pages_returned, returned_in, is_miss, missed_in, is_kill, has_kill}
 use Rattle.mem_reclaim.proofs.Rising.{missed_both, returned_both, rises_both, rises_none, rises_one}
 use Rattle.mem_machine.proofs.Followed.{makes_both, makes_none}
 
@@ -49,7 +49,7 @@ pages_both p (e ∷ rest) two a b run =
 both_false : (a b : Bool) → a ≡ false → b ≡ false → (a || b) ≡ false
 both_false a b x y = rw x y
 
-pub moves_none : (t : KnownTable) (m n : KnownMachine) → MakesForAny t m [] n → n.frame_seat ≡ m.frame_seat → n.counts ≡ m.counts → Moves t m 0 [] n
+pub moves_none : (t : KnownTable) (m n : KnownMachine) → MakesForAny t m [] n → n.frame_seat ≡ m.frame_seat → n.counts ≡ m.counts → FreesPages t m 0 [] n
 moves_none t m n runs seat counts = record {
   runs = runs;
   pages = λ c. refl;
@@ -59,11 +59,11 @@ moves_none t m n runs seat counts = record {
   missed = rises_none m.counts.misses n.counts.misses (ap (λ (k : Counts). k.misses) counts);
 }
 
-pub moves_rest : (t : KnownTable) (m : KnownMachine) → Moves t m 0 [] m
+pub moves_rest : (t : KnownTable) (m : KnownMachine) → FreesPages t m 0 [] m
 moves_rest t m = moves_none t m m (λ c. makes_none t c.number (visit_state m c)) refl refl
 
-pub moves_both : (t : KnownTable) (a b c : KnownMachine) (some more : ℕ) (one two : Run) → Moves t a some one b → Moves t b more two c
-    → Moves t a (some + more) (one ++ two) c
+pub moves_both : (t : KnownTable) (a b c : KnownMachine) (some more : ℕ) (one two : Run) → FreesPages t a some one b → FreesPages t b more two c
+    → FreesPages t a (some + more) (one ++ two) c
 moves_both t a b c some more one two first second = record {
   runs = λ p. makes_both t p.number one two (visit_state a p) (visit_state b p) (visit_state c p) (first.runs p) (second.runs p);
   pages = λ p.
@@ -128,7 +128,7 @@ pub misses_stay : (m n : KnownMachine) (f pages : ℕ) → EvictsUnit f pages m 
 misses_stay m n f pages is g = ap (λ (x : KnownMachine). misses_of x.frame_seat g) is.machine ∙ misses_frozen m.frame_seat f g
 
 pub moves_try : (t : KnownTable) (m n : KnownMachine) (f : ℕ) (answer : Option ℕ) → Evicts f answer m n → MakesForAny t m (evict_steps f answer) n
-    → Moves t m (unwrap_or answer 0) (evict_steps f answer) n
+    → FreesPages t m (unwrap_or answer 0) (evict_steps f answer) n
 moves_try t m n f None is runs = record {
   runs = runs;
   pages = λ c. refl;

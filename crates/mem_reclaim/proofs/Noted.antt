@@ -4,7 +4,7 @@ use Rattle.group_tree.specs.Room.{max_count}
 use Rattle.group_charge.specs.Charges.{current_of}
 use Rattle.kill_notes.specs.declared.note.Note.TheVariants as note
 use Rattle.mem_machine.specs.Machines.{KnownMachine, with_note}
-use Rattle.mem_reclaim.specs.Killing.{KillsAs, KillsNoted, kept_units}
+use Rattle.mem_reclaim.specs.Killing.{KillsHeadOrVictim, KillsGroupNoted, kept_units}
 use Rattle.mem_reclaim.specs.Laws.{LoneKillsAreNotedAsMade, MissedUnitsWereTried, RoundsAreNotedAsMade, TheVictimIsOne}
 use Rattle.mem_reclaim.specs.Moves.{Rises, all_missed_in, returned_in}
 use Rattle.mem_reclaim.specs.Victim.{own_frames, victim_note}
@@ -23,7 +23,7 @@ the_victim_is_one m g (Some v) (Some u) one two =
     ap Some number
 
 pub missed_units_were_tried : MissedUnitsWereTried
-missed_units_were_tried t before given steps after g moves missed f home below is clean =
+missed_units_were_tried t before freed steps after g moves missed f home below is clean =
     let rose = missed f home below is clean in
     let counted = moves.misses f in
     omega (arith, rose, counted)
@@ -44,14 +44,14 @@ rounds_are_noted_as_made g k want done made few_freezes few_misses =
     risen done.before.counts.misses (all_missed_in done.steps) x.counts.misses made.missed (omega (arith, misses, few_misses)) in
     record {
       reclaimed = x;
-      noted = made.noted ∙ (λ i. with_note x (note.Round k (units i) (missed i) done.given (current_of x.ledger g)));
+      noted = made.noted ∙ (λ i. with_note x (note.Round k (units i) (missed i) done.freed (current_of x.ledger g)));
     }
 
 pub lone_kills_are_noted_as_made : LoneKillsAreNotedAsMade
 lone_kills_are_noted_as_made t limited killed before after kill alone few =
     let told = with_note before (victim_note before limited killed.victim kill.next) in
-    let kills : KillsNoted t limited killed.victim told kill.steps after =
-    subst (λ (b : Bool). KillsAs b t limited killed told kill.steps after) alone kill.kills in
+    let kills : KillsGroupNoted t limited killed.victim told kill.steps after =
+    subst (λ (b : Bool). KillsHeadOrVictim b t limited killed told kill.steps after) alone kill.kills in
     let x = kills.killed in
     let v = killed.victim in
     let puts : after.counts.last_puts ≡ x.counts.last_puts = ap (λ (m : KnownMachine). m.counts.last_puts) kills.noted in

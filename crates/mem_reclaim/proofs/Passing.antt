@@ -4,7 +4,7 @@ use Rattle.std.proofs.Common.{refl, sym, ap, ◌∙◌, subst, inl, inr, arith, 
 use Rattle.std.specs.List.{range_with_len}
 use Rattle.std.proofs.lemmas.Bool.{cases_eq, ltb-true}
 use Rattle.frame_word.specs.Seats.{KnownTable}
-use Rattle.stock_word.specs.Stock.{Words}
+use Rattle.stock_word.specs.Stock.{KnownStockTable}
 use Rattle.group_tree.specs.declared.group.Group.{Group}
 use Rattle.group_tree.specs.Groups.{in_subtree}
 use Rattle.group_charge.specs.Charges.{current_of}
@@ -16,27 +16,27 @@ use Rattle.mem_machine.specs.Local.{MakesForAny}
 use Rattle.mem_machine.specs.Ageing.{AgesGroup}
 use Rattle.mem_machine.proofs.Dirties.{owner_bound}
 use Rattle.mem_reclaim.specs.Wanted.{WhileWanted}
-use Rattle.mem_reclaim.specs.Moves.{Moves, Leads}
+use Rattle.mem_reclaim.specs.Moves.{FreesPages, FreesBySteps}
 use Rattle.mem_reclaim.specs.Units.{ScansList}
 use Rattle.mem_reclaim.specs.Passes.{AgesAndScans, ReclaimsGroup, ReclaimsPass}
 use Rattle.mem_reclaim.specs.Staying.{Keeps, OnlyLeave, IsMissed, MissedAll}
 use Rattle.mem_reclaim.proofs.Wanting.{SoFar, so_far_none, so_far_more, so_far_done, so_far_enough, rested}
 use Rattle.mem_reclaim.proofs.Moving.{moves_none, moves_both, moves_rest}
 use Rattle.mem_reclaim.proofs.Keeping.{keeps_none, keeps_both, keeps_owners, only_both, missed_still}
-use Rattle.mem_reclaim.proofs.Listing.{home_inside}
+use Rattle.mem_machine.proofs.Listing.{home_inside}
 
 -- ---- a group's first pass
 
-pub aged_leads : (t : KnownTable) (m aged n : KnownMachine) (g want given : ℕ) → AgesGroup g m aged → MakesForAny t m [] aged
-    → Leads t given aged n (ScansList true g Inactive want)
-    → Leads t given m n (AgesAndScans g want)
-aged_leads t m aged n g want given ages runs scans =
-    let e : 0 + given ≡ given = omega arith in
+pub aged_leads : (t : KnownTable) (m aged n : KnownMachine) (g want freed : ℕ) → AgesGroup g m aged → MakesForAny t m [] aged
+    → FreesBySteps t freed aged n (ScansList true g Inactive want)
+    → FreesBySteps t freed m n (AgesAndScans g want)
+aged_leads t m aged n g want freed ages runs scans =
+    let e : 0 + freed ≡ freed = omega arith in
     record {
       steps = scans.steps;
       does = record { aged = aged; ages = ages; scans = scans.does };
-      moves = subst (λ (x : ℕ). Moves t m x scans.steps n) e
-          (moves_both t m aged n 0 given [] scans.steps
+      moves = subst (λ (x : ℕ). FreesPages t m x scans.steps n) e
+          (moves_both t m aged n 0 freed [] scans.steps
           (moves_none t m aged runs (ap (λ (x : KnownMachine). x.frame_seat) ages.machine) (ap (λ (x : KnownMachine). x.counts) ages.machine)) scans.moves);
     }
 
@@ -53,10 +53,10 @@ usage_both t a b c g x some more keeps first second below =
     let v = second (ap (λ (l : List Group). in_subtree l x g) keeps.groups ∙ below) in
     omega (arith, u, v)
 
-pub aged_usage : (t : KnownTable) (m aged n : KnownMachine) (g x given : ℕ) → AgesGroup g m aged
-    → (in_subtree aged.ledger.groups x g ≡ true → current_of n.ledger x + given ≡ current_of aged.ledger x)
-    → in_subtree m.ledger.groups x g ≡ true → current_of n.ledger x + given ≡ current_of m.ledger x
-aged_usage t m aged n g x given ages second below =
+pub aged_usage : (t : KnownTable) (m aged n : KnownMachine) (g x freed : ℕ) → AgesGroup g m aged
+    → (in_subtree aged.ledger.groups x g ≡ true → current_of n.ledger x + freed ≡ current_of aged.ledger x)
+    → in_subtree m.ledger.groups x g ≡ true → current_of n.ledger x + freed ≡ current_of m.ledger x
+aged_usage t m aged n g x freed ages second below =
     let same = ap (λ (y : KnownMachine). current_of y.ledger x) ages.machine in
     let v = second (ap (λ (y : KnownMachine). in_subtree y.ledger.groups x g) ages.machine ∙ below) in
     omega (arith, same, v)
@@ -73,29 +73,29 @@ both_missed t m k n g first last only inactive active f Active =
 
 -- ---- a turn
 
-pub turn_first : (t : KnownTable) (g k want given : ℕ) (m n : KnownMachine) → in_subtree m.ledger.groups g k ≡ true
-    → Leads t given m n (AgesAndScans k want) → Leads t given m n (ReclaimsGroup true g k want)
-turn_first t g k want given m n inside leads = record { steps = leads.steps; does = inl (inside, leads.does); moves = leads.moves }
+pub turn_first : (t : KnownTable) (g k want freed : ℕ) (m n : KnownMachine) → in_subtree m.ledger.groups g k ≡ true
+    → FreesBySteps t freed m n (AgesAndScans k want) → FreesBySteps t freed m n (ReclaimsGroup true g k want)
+turn_first t g k want freed m n inside leads = record { steps = leads.steps; does = inl (inside, leads.does); moves = leads.moves }
 
-pub turn_second : (t : KnownTable) (g k want given : ℕ) (m n : KnownMachine) → in_subtree m.ledger.groups g k ≡ true
-    → Leads t given m n (WhileWanted (ScansList false k) (Inactive ∷ Active ∷ []) want)
-    → Leads t given m n (ReclaimsGroup false g k want)
-turn_second t g k want given m n inside leads = record { steps = leads.steps; does = inl (inside, leads.does); moves = leads.moves }
+pub turn_second : (t : KnownTable) (g k want freed : ℕ) (m n : KnownMachine) → in_subtree m.ledger.groups g k ≡ true
+    → FreesBySteps t freed m n (WhileWanted (ScansList false k) (Inactive ∷ Active ∷ []) want)
+    → FreesBySteps t freed m n (ReclaimsGroup false g k want)
+turn_second t g k want freed m n inside leads = record { steps = leads.steps; does = inl (inside, leads.does); moves = leads.moves }
 
 pub turn_none : (t : KnownTable) (first : Bool) (g k want : ℕ) (m : KnownMachine) → in_subtree m.ledger.groups g k ≡ false
-    → Leads t 0 m m (ReclaimsGroup first g k want)
+    → FreesBySteps t 0 m m (ReclaimsGroup first g k want)
 turn_none t first g k want m outside = record { steps = []; does = inr (outside, rested m); moves = moves_rest t m }
 
 -- ---- a pass
 
 -- the numbers below k had their turn
-pub record PassSoFar (t : KnownTable) (first : Bool) (g want : ℕ) (m : KnownMachine) (k given : ℕ) (now : KnownMachine) : Type 0 where
-  pub so_far : SoFar t (ReclaimsGroup first g) (range_with_len 0 64) want m (range_with_len k (64 - k)) given now
+pub record PassSoFar (t : KnownTable) (first : Bool) (g want : ℕ) (m : KnownMachine) (k freed : ℕ) (now : KnownMachine) : Type 0 where
+  pub so_far : SoFar t (ReclaimsGroup first g) (range_with_len 0 64) want m (range_with_len k (64 - k)) freed now
   pub keeps : Keeps t m now
-  pub usage : current_of now.ledger g + given ≡ current_of m.ledger g
-  pub few : given < want + 2 ^ 32
+  pub usage : current_of now.ledger g + freed ≡ current_of m.ledger g
+  pub few : freed < want + 2 ^ 32
   pub leaves : first ≡ false → OnlyLeave m now
-  pub missed : first ≡ false → given < want → (f : ℕ) (h : Home) → h.owner < k → in_subtree m.ledger.groups g h.owner ≡ true → IsMissed m now f h
+  pub missed : first ≡ false → freed < want → (f : ℕ) (h : Home) → h.owner < k → in_subtree m.ledger.groups g h.owner ≡ true → IsMissed m now f h
 
 pub pass_none : (t : KnownTable) (first : Bool) (g want : ℕ) (m : KnownMachine) → PassSoFar t first g want m 0 0 m
 pass_none t first g want m = record {
@@ -112,23 +112,23 @@ range_next k lt =
     let e : suc (64 - (k + 1)) ≡ 64 - k = omega (arith, lt) in
     subst (λ (n : ℕ). range_with_len k n ≡ k ∷ range_with_len (k + 1) (64 - (k + 1))) e refl
 
-pub pass_more : (t : KnownTable) (first : Bool) (g want : ℕ) (m : KnownMachine) (k given : ℕ) (now : KnownMachine) → PassSoFar t first g want m k given now
-    → k < 64 → given < want → (turn : ℕ) → turn ≡ k → (some : ℕ) (then : KnownMachine)
-    → Leads t some now then (ReclaimsGroup first g turn (want - given))
-    → Keeps t now then → current_of then.ledger g + some ≡ current_of now.ledger g → some < want - given + 2 ^ 32 → (first ≡ false → OnlyLeave now then)
-    → (first ≡ false → some < want - given → in_subtree now.ledger.groups g turn ≡ true
+pub pass_more : (t : KnownTable) (first : Bool) (g want : ℕ) (m : KnownMachine) (k freed : ℕ) (now : KnownMachine) → PassSoFar t first g want m k freed now
+    → k < 64 → freed < want → (turn : ℕ) → turn ≡ k → (some : ℕ) (then : KnownMachine)
+    → FreesBySteps t some now then (ReclaimsGroup first g turn (want - freed))
+    → Keeps t now then → current_of then.ledger g + some ≡ current_of now.ledger g → some < want - freed + 2 ^ 32 → (first ≡ false → OnlyLeave now then)
+    → (first ≡ false → some < want - freed → in_subtree now.ledger.groups g turn ≡ true
     → (f : ℕ) (list : LruList) → IsMissed now then f (record { owner = turn; list = list }))
-    → PassSoFar t first g want m (k + 1) (given + some) then
-pass_more t first g want m k given now s lt wanted turn at some then leads_turn keeps usage few leaves missed_turn =
-    let leads : Leads t some now then (ReclaimsGroup first g k (want - given)) =
-    subst (λ (x : ℕ). Leads t some now then (ReclaimsGroup first g x (want - given))) at leads_turn in
-    let missed : first ≡ false → some < want - given → in_subtree now.ledger.groups g k ≡ true
+    → PassSoFar t first g want m (k + 1) (freed + some) then
+pass_more t first g want m k freed now s lt wanted turn at some then leads_turn keeps usage few leaves missed_turn =
+    let leads : FreesBySteps t some now then (ReclaimsGroup first g k (want - freed)) =
+    subst (λ (x : ℕ). FreesBySteps t some now then (ReclaimsGroup first g x (want - freed))) at leads_turn in
+    let missed : first ≡ false → some < want - freed → in_subtree now.ledger.groups g k ≡ true
     → (f : ℕ) (list : LruList) → IsMissed now then f (record { owner = k; list = list }) =
-    subst (λ (x : ℕ). first ≡ false → some < want - given → in_subtree now.ledger.groups g x ≡ true
+    subst (λ (x : ℕ). first ≡ false → some < want - freed → in_subtree now.ledger.groups g x ≡ true
     → (f : ℕ) (list : LruList) → IsMissed now then f (record { owner = x; list = list })) at missed_turn in
     record {
-      so_far = so_far_more t (ReclaimsGroup first g) (range_with_len 0 64) want m k (range_with_len (k + 1) (64 - (k + 1))) given now
-          (subst (λ (l : List ℕ). SoFar t (ReclaimsGroup first g) (range_with_len 0 64) want m l given now) (range_next k lt) s.so_far) wanted some then leads;
+      so_far = so_far_more t (ReclaimsGroup first g) (range_with_len 0 64) want m k (range_with_len (k + 1) (64 - (k + 1))) freed now
+          (subst (λ (l : List ℕ). SoFar t (ReclaimsGroup first g) (range_with_len 0 64) want m l freed now) (range_next k lt) s.so_far) wanted some then leads;
       keeps = keeps_both t m now then s.keeps keeps;
       usage = let a = s.usage in omega (arith, a, usage);
       few = omega (arith, wanted, few);
@@ -145,25 +145,25 @@ pass_more t first g want m k given now s lt wanted turn at some then leads_turn 
       ];
     }
 
-pub record PassEnds (t : KnownTable) (first : Bool) (g want : ℕ) (m : KnownMachine) (given : ℕ) (now : KnownMachine) : Type 0 where
-  pub passes : Leads t given m now (ReclaimsPass g first want)
-  pub missed : first ≡ false → given < want → MissedAll g m now
+pub record PassEnds (t : KnownTable) (first : Bool) (g want : ℕ) (m : KnownMachine) (freed : ℕ) (now : KnownMachine) : Type 0 where
+  pub passes : FreesBySteps t freed m now (ReclaimsPass g first want)
+  pub missed : first ≡ false → freed < want → MissedAll g m now
 
-pub pass_enough : (t : KnownTable) (first : Bool) (g want : ℕ) (m : KnownMachine) (k given : ℕ) (now : KnownMachine) → PassSoFar t first g want m k given now
-    → want ≤ given → PassEnds t first g want m given now
-pass_enough t first g want m k given now s enough = record {
-  passes = so_far_enough t (ReclaimsGroup first g) (range_with_len 0 64) want m (range_with_len k (64 - k)) given now s.so_far enough;
+pub pass_enough : (t : KnownTable) (first : Bool) (g want : ℕ) (m : KnownMachine) (k freed : ℕ) (now : KnownMachine) → PassSoFar t first g want m k freed now
+    → want ≤ freed → PassEnds t first g want m freed now
+pass_enough t first g want m k freed now s enough = record {
+  passes = so_far_enough t (ReclaimsGroup first g) (range_with_len 0 64) want m (range_with_len k (64 - k)) freed now s.so_far enough;
   missed = λ off less. absurd (omega (arith, less, enough));
 }
 
 range_none : (k : ℕ) → 64 ≤ k → range_with_len k (64 - k) ≡ []
 range_none k le = let e : 0 ≡ 64 - k = omega (arith, le) in subst (λ (n : ℕ). range_with_len k n ≡ []) e refl
 
-pub pass_done : (t : KnownTable) (w : Words) (first : Bool) (g want : ℕ) (m : KnownMachine) (k given : ℕ) (now : KnownMachine) → IsConsistent t w now
-    → PassSoFar t first g want m k given now → 64 ≤ k → PassEnds t first g want m given now
-pass_done t w first g want m k given now ok s all = record {
-  passes = so_far_done t (ReclaimsGroup first g) (range_with_len 0 64) want m given now
-      (subst (λ (l : List ℕ). SoFar t (ReclaimsGroup first g) (range_with_len 0 64) want m l given now) (range_none k all) s.so_far);
+pub pass_done : (t : KnownTable) (w : KnownStockTable) (first : Bool) (g want : ℕ) (m : KnownMachine) (k freed : ℕ) (now : KnownMachine) → IsConsistent t w now
+    → PassSoFar t first g want m k freed now → 64 ≤ k → PassEnds t first g want m freed now
+pass_done t w first g want m k freed now ok s all = record {
+  passes = so_far_done t (ReclaimsGroup first g) (range_with_len 0 64) want m freed now
+      (subst (λ (l : List ℕ). SoFar t (ReclaimsGroup first g) (range_with_len 0 64) want m l freed now) (range_none k all) s.so_far);
   missed = λ off less f h inside home clean.
       let fits : h.owner < 64 = owner_bound t w now ok f h (home_inside t w now ok f h home) home in
       s.missed off less f h (omega (arith, fits, all)) (ap (λ (l : List Group). in_subtree l g h.owner) (sym s.keeps.groups) ∙ inside) home clean;

@@ -1,4 +1,4 @@
--- Rounds of reclaim, as far as they were made. Serves `reclaim_round` and `reclaim_rounds`.
+-- Rounds of reclaim, as far as they were made. Serves `reclaim_round`, `reclaim_to_limit` and `reclaim_amount`.
 use Rattle.std.proofs.Common.{◌≡◌, ◌≢◌, ◌⊎◌, ℕ, suc, ◌+◌, ◌-◌, ◌*◌, ◌^◌, ◌<◌, ◌≤◌, Bool, true, [], ◌++◌, refl, sym, ◌∙◌, subst, inl, inr, arith}
 use Rattle.std.specs.Prelude.{nat_lt}
 use Rattle.std.proofs.lemmas.Bool.{lt-ltb}
@@ -7,11 +7,12 @@ use Rattle.frame_word.specs.Seats.{KnownTable}
 use Rattle.group_charge.specs.Charges.{current_of}
 use Rattle.step_rules.specs.After.{Run}
 use Rattle.kill_notes.specs.declared.note.Note.{Note}
+use Rattle.kill_notes.specs.declared.note.Note.TheVariants.{Asked}
 use Rattle.mem_machine.specs.Machines.{KnownMachine, with_note}
-use Rattle.mem_reclaim.specs.Wanted.{GivesNothing, progress}
-use Rattle.mem_reclaim.specs.Moves.{Moves, Leads}
+use Rattle.mem_reclaim.specs.Wanted.{AfterNote, FreesNothing, Reclaiming, progress}
+use Rattle.mem_reclaim.specs.Moves.{FreesPages, FreesBySteps}
 use Rattle.mem_reclaim.specs.Passes.{Reclaims}
-use Rattle.mem_reclaim.specs.Rounds.{ReclaimsRound, ReclaimsRounds, pages_missing, round_note}
+use Rattle.mem_reclaim.specs.Rounds.{ReclaimsAmount, ReclaimsPages, ReclaimsRound, ReclaimsRounds, pages_missing, round_note}
 use Rattle.mem_reclaim.specs.Staying.{Keeps, MissedAll}
 use Rattle.mem_reclaim.proofs.Wanting.{rested}
 use Rattle.mem_reclaim.proofs.Moving.{moves_rest, moves_both}
@@ -33,18 +34,70 @@ keeps_noted t m n note k = record {
   misses = k.misses;
 }
 
+-- nor does one before
+pub keeps_after_note : (t : KnownTable) (m n : KnownMachine) (note : Note) → Keeps t (with_note m note) n → Keeps t m n
+keeps_after_note t m n note k = record {
+  stock_seat = k.stock_seat;
+  killed = k.killed;
+  groups = k.groups;
+  opened = k.opened;
+  usage = k.usage;
+  visit = λ c v. k.visit c (record { is_open = v.is_open; still = v.still; lent = v.lent });
+  dirty = λ f is. k.dirty f (record { kept = is.kept; dirty = is.dirty });
+  owners = k.owners;
+  dirt = k.dirt;
+  misses = k.misses;
+}
+
+-- what is done after a note is done, as seen from before it
+pub leads_after_note : (t : KnownTable) (freed : ℕ) (m n : KnownMachine) (note : Note) (Does : Reclaiming) → FreesBySteps t freed (with_note m note) n Does
+    → FreesBySteps t freed m n (AfterNote note Does)
+leads_after_note t freed m n note Does leads =
+    let k = leads.moves in record {
+      steps = leads.steps;
+      does = leads.does;
+      moves = record {
+        runs = λ c. let r = k.runs c in record { leads = r.leads; follows = r.follows; counts = r.counts; watched = r.watched };
+        pages = k.pages;
+        quiet = k.quiet;
+        misses = k.misses;
+        returned = k.returned;
+        missed = k.missed;
+      };
+    }
+
+-- what the reclaim of an amount left
+pub record AmountGives (t : KnownTable) (g asked : ℕ) (m : KnownMachine) (freed : ℕ) (n : KnownMachine) : Type 0 where
+  pub rounds : FreesBySteps t freed m n (ReclaimsAmount g asked)
+  pub keeps : Keeps t m n
+  pub usage : current_of n.ledger g + freed ≡ current_of m.ledger g
+  pub missed : freed < asked → MissedAll g m n
+
+-- the note of what is asked for, and then the rounds
+pub amount_noted : (t : KnownTable) (g asked freed : ℕ) (m x n : KnownMachine) → x ≡ with_note m (Asked g asked) → FreesBySteps t freed x n (ReclaimsPages g asked)
+    → (freed < asked → MissedAll g x n) → current_of n.ledger g + freed ≡ current_of x.ledger g → Keeps t x n → AmountGives t g asked m freed n
+amount_noted t g asked freed m x n noted leads missed usage keeps =
+    let note = Asked g asked in
+    let here = subst (λ (y : KnownMachine). FreesBySteps t freed y n (ReclaimsPages g asked)) noted leads in
+    record {
+      rounds = leads_after_note t freed m n note (ReclaimsPages g asked) here;
+      keeps = keeps_after_note t m n note (subst (λ (y : KnownMachine). Keeps t y n) noted keeps);
+      usage = subst (λ (y : KnownMachine). current_of n.ledger g + freed ≡ current_of y.ledger g) noted usage;
+      missed = λ few. subst (λ (y : KnownMachine). MissedAll g y n) noted (missed few);
+    }
+
 -- what one round left
-pub record RoundGives (t : KnownTable) (g number want : ℕ) (m : KnownMachine) (given : ℕ) (now : KnownMachine) : Type 0 where
-  pub makes : Leads t given m now (ReclaimsRound g number want)
+pub record RoundGives (t : KnownTable) (g number want : ℕ) (m : KnownMachine) (freed : ℕ) (now : KnownMachine) : Type 0 where
+  pub makes : FreesBySteps t freed m now (ReclaimsRound g number want)
   pub keeps : Keeps t m now
 
 -- a reclaim, and then its note
-pub round_noted : (t : KnownTable) (g number want : ℕ) (m : KnownMachine) (given : ℕ) (x n : KnownMachine)
-    → Leads t given m x (Reclaims g want) → Keeps t m x
-    → n ≡ with_note x (round_note g number given m x) → RoundGives t g number want m given n
-round_noted t g number want m given x n leads keeps noted =
-    let note = round_note g number given m x in
-    subst (λ (y : KnownMachine). RoundGives t g number want m given y) (sym noted) (record {
+pub round_noted : (t : KnownTable) (g number want : ℕ) (m : KnownMachine) (freed : ℕ) (x n : KnownMachine)
+    → FreesBySteps t freed m x (Reclaims g want) → Keeps t m x
+    → n ≡ with_note x (round_note g number freed m x) → RoundGives t g number want m freed n
+round_noted t g number want m freed x n leads keeps noted =
+    let note = round_note g number freed m x in
+    subst (λ (y : KnownMachine). RoundGives t g number want m freed y) (sym noted) (record {
       makes = record {
         steps = leads.steps;
         does = record {
@@ -67,21 +120,21 @@ round_noted t g number want m given x n leads keeps noted =
     })
 
 -- what rounds left: pages of the group's subtree were freed and, if they are too few, each clean unit was tried
-pub record RoundsGive (t : KnownTable) (g need limit : ℕ) (m : KnownMachine) (given : ℕ) (now : KnownMachine) : Type 0 where
-  pub rounds : Leads t given m now (ReclaimsRounds g (pages_missing g need limit) 16)
+pub record RoundsGive (t : KnownTable) (g need limit : ℕ) (m : KnownMachine) (freed : ℕ) (now : KnownMachine) : Type 0 where
+  pub rounds : FreesBySteps t freed m now (ReclaimsRounds g (pages_missing g need limit) 16)
   pub keeps : Keeps t m now
-  pub usage : current_of now.ledger g + given ≡ current_of m.ledger g
+  pub usage : current_of now.ledger g + freed ≡ current_of m.ledger g
   pub missed : limit < current_of now.ledger g + need → MissedAll g m now
 
 -- this many rounds were made, so what the remaining rounds do makes up the whole
-pub record RoundsSoFar (t : KnownTable) (g need limit : ℕ) (m : KnownMachine) (made given : ℕ) (now : KnownMachine) : Type 0 where
+pub record RoundsSoFar (t : KnownTable) (g need limit : ℕ) (m : KnownMachine) (made freed : ℕ) (now : KnownMachine) : Type 0 where
   pub steps : Run
   pub whole : (more : ℕ) (rest : Run) (n : KnownMachine) → ReclaimsRounds g (pages_missing g need limit) (16 - made) (progress more now rest n)
-      → ReclaimsRounds g (pages_missing g need limit) 16 (progress (given + more) m (steps ++ rest) n)
-  pub moves : Moves t m given steps now
+      → ReclaimsRounds g (pages_missing g need limit) 16 (progress (freed + more) m (steps ++ rest) n)
+  pub moves : FreesPages t m freed steps now
   pub keeps : Keeps t m now
-  pub usage : current_of now.ledger g + given ≡ current_of m.ledger g
-  pub few : given ≤ made * 2 ^ 32
+  pub usage : current_of now.ledger g + freed ≡ current_of m.ledger g
+  pub few : freed ≤ made * 2 ^ 32
   pub missed : 1 ≤ made → limit < current_of now.ledger g + need → MissedAll g m now
 
 module _ (t : KnownTable) (g need limit : ℕ) (m : KnownMachine) where
@@ -98,12 +151,12 @@ module _ (t : KnownTable) (g need limit : ℕ) (m : KnownMachine) where
     missed = λ some. absurd (omega (arith, some));
   }
 
-  module _ (made given : ℕ) (now : KnownMachine) (so : RoundsSoFar t g need limit m made given now) where
+  module _ (made freed : ℕ) (now : KnownMachine) (so : RoundsSoFar t g need limit m made freed now) where
     -- nothing more is done
     ended : ReclaimsRounds g (pages_missing g need limit) (16 - made) (progress 0 now [] now)
-        → Leads t given m now (ReclaimsRounds g (pages_missing g need limit) 16)
+        → FreesBySteps t freed m now (ReclaimsRounds g (pages_missing g need limit) 16)
     ended rest =
-        let d : given + 0 ≡ given = omega arith in
+        let d : freed + 0 ≡ freed = omega arith in
         record {
           steps = so.steps;
           does = subst (λ (y : ℕ × Run). ReclaimsRounds g (pages_missing g need limit) 16 (progress y.0 m y.1 now)) (λ i. (d i, append-nil so.steps i))
@@ -112,7 +165,7 @@ module _ (t : KnownTable) (g need limit : ℕ) (m : KnownMachine) where
         }
 
     -- all rounds were made
-    pub rounds_done : 16 ≤ made → RoundsGive t g need limit m given now
+    pub rounds_done : 16 ≤ made → RoundsGive t g need limit m freed now
     rounds_done all =
         let e : 0 ≡ 16 - made = omega (arith, all) in
         record {
@@ -127,7 +180,7 @@ module _ (t : KnownTable) (g need limit : ℕ) (m : KnownMachine) where
       next_left = omega (arith, left)
 
       -- no page is missing
-      pub rounds_enough : pages_missing g need limit now.ledger ≡ 0 → RoundsGive t g need limit m given now
+      pub rounds_enough : pages_missing g need limit now.ledger ≡ 0 → RoundsGive t g need limit m freed now
       rounds_enough none = record {
         rounds = ended (subst (λ (k : ℕ). ReclaimsRounds g (pages_missing g need limit) k (progress 0 now [] now)) next_left (inl (none, rested now)));
         keeps = so.keeps;
@@ -137,7 +190,7 @@ module _ (t : KnownTable) (g need limit : ℕ) (m : KnownMachine) where
 
       -- one round more
       module _ (want some : ℕ) (then : KnownMachine) (tried_all : Bool) (wants : want ≡ pages_missing g need limit now.ledger) (wanted : want ≢ 0)
-          (leads : Leads t some now then (ReclaimsRound g (made + 1) want)) (tells : tried_all ≡ nat_lt some want)
+          (leads : FreesBySteps t some now then (ReclaimsRound g (made + 1) want)) (tells : tried_all ≡ nat_lt some want)
           (missed : tried_all ≡ true → MissedAll g now then) (usage : current_of then.ledger g + some ≡ current_of now.ledger g)
           (keeps : Keeps t now then) where
         does : ReclaimsRound g (16 - (16 - (made + 1))) (pages_missing g need limit now.ledger) (progress some now leads.steps then)
@@ -148,11 +201,11 @@ module _ (t : KnownTable) (g need limit : ℕ) (m : KnownMachine) where
         keeps_on : Keeps t m then
         keeps_on = keeps_both t m now then so.keeps keeps
 
-        usage_on : current_of then.ledger g + (given + some) ≡ current_of m.ledger g
+        usage_on : current_of then.ledger g + (freed + some) ≡ current_of m.ledger g
         usage_on = let a = so.usage in omega (arith, a, usage)
 
-        moves_on : Moves t m (given + some) (so.steps ++ leads.steps) then
-        moves_on = moves_both t m now then given some so.steps leads.steps so.moves leads.moves
+        moves_on : FreesPages t m (freed + some) (so.steps ++ leads.steps) then
+        moves_on = moves_both t m now then freed some so.steps leads.steps so.moves leads.moves
 
         -- a round that leaves pages missing has tried everything
         missed_on : limit < current_of then.ledger g + need → MissedAll g m then
@@ -163,10 +216,10 @@ module _ (t : KnownTable) (g need limit : ℕ) (m : KnownMachine) where
 
         -- the round and what comes after it make up what was left
         goes_on : (more : ℕ) (rest : Run) (n : KnownMachine)
-            → ((some ≡ 0) × GivesNothing (progress more then rest n)) ⊎ ((1 ≤ some) × ReclaimsRounds g (pages_missing g need limit) (16 - (made + 1)) (progress more then rest n))
-            → ReclaimsRounds g (pages_missing g need limit) 16 (progress (given + some + more) m (so.steps ++ (leads.steps ++ rest)) n)
+            → ((some ≡ 0) × FreesNothing (progress more then rest n)) ⊎ ((1 ≤ some) × ReclaimsRounds g (pages_missing g need limit) (16 - (made + 1)) (progress more then rest n))
+            → ReclaimsRounds g (pages_missing g need limit) 16 (progress (freed + some + more) m (so.steps ++ (leads.steps ++ rest)) n)
         goes_on more rest n h =
-            let d : given + (some + more) ≡ given + some + more = omega arith in
+            let d : freed + (some + more) ≡ freed + some + more = omega arith in
             let one : ReclaimsRounds g (pages_missing g need limit) (suc (16 - (made + 1))) (progress (some + more) now (leads.steps ++ rest) n) =
             inr (
               omega (arith, wants, wanted),
@@ -178,7 +231,7 @@ module _ (t : KnownTable) (g need limit : ℕ) (m : KnownMachine) where
                 more = more;
                 first = does;
                 second = h;
-                given_is = refl;
+                freed_is = refl;
                 steps_are = refl;
               },
             ) in
@@ -186,11 +239,11 @@ module _ (t : KnownTable) (g need limit : ℕ) (m : KnownMachine) where
             (so.whole (some + more) (leads.steps ++ rest) n
             (subst (λ (k : ℕ). ReclaimsRounds g (pages_missing g need limit) k (progress (some + more) now (leads.steps ++ rest) n)) next_left one))
 
-        pub rounds_more : some ≢ 0 → current_of now.ledger g < 2 ^ 32 → RoundsSoFar t g need limit m (made + 1) (given + some) then
+        pub rounds_more : some ≢ 0 → current_of now.ledger g < 2 ^ 32 → RoundsSoFar t g need limit m (made + 1) (freed + some) then
         rounds_more gave low = record {
           steps = so.steps ++ leads.steps;
           whole = λ more rest n h.
-              subst (λ (y : Run). ReclaimsRounds g (pages_missing g need limit) 16 (progress (given + some + more) m y n)) (sym (append_assoc so.steps leads.steps rest))
+              subst (λ (y : Run). ReclaimsRounds g (pages_missing g need limit) 16 (progress (freed + some + more) m y n)) (sym (append_assoc so.steps leads.steps rest))
               (goes_on more rest n (inr (omega (arith, gave), h)));
           moves = moves_on;
           keeps = keeps_on;
@@ -200,9 +253,9 @@ module _ (t : KnownTable) (g need limit : ℕ) (m : KnownMachine) where
         }
 
         -- it gave nothing
-        pub rounds_end : some ≡ 0 → RoundsGive t g need limit m (given + some) then
+        pub rounds_end : some ≡ 0 → RoundsGive t g need limit m (freed + some) then
         rounds_end none =
-            let d : given + some + 0 ≡ given + some = omega arith in
+            let d : freed + some + 0 ≡ freed + some = omega arith in
             record {
               rounds = record {
                 steps = so.steps ++ leads.steps;

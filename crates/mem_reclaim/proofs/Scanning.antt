@@ -5,7 +5,7 @@ use Rattle.std.proofs.lemmas.Bool.{cases_eq, ne_eqb, false≢true}
 use Rattle.std.proofs.lemmas.Option.{none-some}
 use Rattle.std.proofs.lemmas.List.{append_assoc, append-nil}
 use Rattle.frame_word.specs.Seats.{KnownTable, misses_of}
-use Rattle.stock_word.specs.Stock.{Words}
+use Rattle.stock_word.specs.Stock.{KnownStockTable}
 use Rattle.group_tree.specs.declared.group.Group.{Group}
 use Rattle.group_tree.specs.Groups.{in_subtree}
 use Rattle.group_charge.specs.Charges.{current_of}
@@ -16,14 +16,14 @@ use Rattle.lru_lists.specs.Queue.{link_at}
 use Rattle.lru_lists.specs.Lists.{entry_after, first_entry, entry_of, entries_without}
 use Rattle.mem_machine.specs.Machines.{KnownMachine, IsConsistent, home_of}
 use Rattle.mem_machine.specs.Ageing.{entries_in}
-use Rattle.mem_reclaim.specs.Moves.{Leads}
+use Rattle.mem_reclaim.specs.Moves.{FreesBySteps}
 use Rattle.mem_reclaim.specs.Wanted.{WhileWanted, progress}
 use Rattle.mem_reclaim.specs.Units.{TriesReclaim, ScansList}
 use Rattle.mem_reclaim.specs.Staying.{Keeps, OnlyLeave, IsMissed}
 use Rattle.mem_reclaim.proofs.Wanting.{SoFar, so_far_none, so_far_more, so_far_done, so_far_enough}
 use Rattle.mem_reclaim.proofs.Keeping.{keeps_none, keeps_both, only_both}
 use Rattle.mem_reclaim.proofs.Meeting.{MetList, met_list, met_leaves, met_misses}
-use Rattle.mem_reclaim.proofs.Listing.{has_unit, IsListed, listed_is, home_inside, has_mid, apart_mid, read_mid, after_mid, without_mid}
+use Rattle.mem_machine.proofs.Listing.{has_unit, IsListed, listed_is, home_inside, has_mid, apart_mid, read_mid, after_mid, without_mid}
 
 -- the next unit is the first of these; of none, nothing is said
 abbrev pub IsNext : Option Entry → List Entry → Type 0
@@ -36,7 +36,7 @@ MissedOrLeft m g list now todo = (f : ℕ) → home_of now.links f ≡ Some (rec
     → (has_unit f todo ≡ true) ⊎ (misses_of m.frame_seat f < misses_of now.frame_seat f)
 
 -- Some units stayed, some are still to be met, and some moved behind them
-pub record ScanSoFar (t : KnownTable) (marks_count : Bool) (g : ℕ) (list : LruList) (want : ℕ) (m : KnownMachine) (i given : ℕ) (next : Option Entry)
+pub record ScanSoFar (t : KnownTable) (marks_count : Bool) (g : ℕ) (list : LruList) (want : ℕ) (m : KnownMachine) (i freed : ℕ) (next : Option Entry)
     (now : KnownMachine) : Type 0 where
   pub stayed : List Entry
   pub todo : List Entry
@@ -44,10 +44,10 @@ pub record ScanSoFar (t : KnownTable) (marks_count : Bool) (g : ℕ) (list : Lru
   pub are : entries_in now g list ≡ stayed ++ (todo ++ moved)
   pub left : length todo + i ≡ length (entries_in m g list)
   pub next_is : IsNext next todo
-  pub so_far : SoFar t (TriesReclaim marks_count g) (entries_in m g list) want m todo given now
+  pub so_far : SoFar t (TriesReclaim marks_count g) (entries_in m g list) want m todo freed now
   pub keeps : Keeps t m now
-  pub usage : (x : ℕ) → in_subtree m.ledger.groups x g ≡ true → current_of now.ledger x + given ≡ current_of m.ledger x
-  pub few : given < want + 2 ^ 32
+  pub usage : (x : ℕ) → in_subtree m.ledger.groups x g ≡ true → current_of now.ledger x + freed ≡ current_of m.ledger x
+  pub few : freed < want + 2 ^ 32
   pub leaves : marks_count ≡ false → OnlyLeave m now
   pub missed : marks_count ≡ false → MissedOrLeft m g list now todo
 
@@ -55,7 +55,7 @@ first_is_next : (next : Option Entry) (entries : List Entry) → next ≡ first_
 first_is_next next [] is = tt
 first_is_next next (e ∷ es) is = is
 
-pub scan_first : (t : KnownTable) (w : Words) (m : KnownMachine) → IsConsistent t w m → (marks_count : Bool) (g : ℕ) → g < 64 → (list : LruList) (want : ℕ)
+pub scan_first : (t : KnownTable) (w : KnownStockTable) (m : KnownMachine) → IsConsistent t w m → (marks_count : Bool) (g : ℕ) → g < 64 → (list : LruList) (want : ℕ)
     (next : Option Entry) → next ≡ first_entry (entries_in m g list) → ScanSoFar t marks_count g list want m 0 0 next m
 scan_first t w m ok marks_count g fits list want next is = record {
   stayed = [];
@@ -95,8 +95,8 @@ pub some_next : (next : Option Entry) (todo : List Entry) (i n : ℕ) → IsNext
 some_next next [] i n is left lt none = omega (arith, left, lt)
 some_next next (e ∷ es) i n is left lt none = none-some e (sym none ∙ is)
 
-module _ (t : KnownTable) (w : Words) (marks_count : Bool) (g : ℕ) (fits : g < 64) (list : LruList) (want : ℕ) (m : KnownMachine) (i given : ℕ)
-    (next : Option Entry) (now : KnownMachine) (ok : IsConsistent t w now) (s : ScanSoFar t marks_count g list want m i given next now)
+module _ (t : KnownTable) (w : KnownStockTable) (marks_count : Bool) (g : ℕ) (fits : g < 64) (list : LruList) (want : ℕ) (m : KnownMachine) (i freed : ℕ)
+    (next : Option Entry) (now : KnownMachine) (ok : IsConsistent t w now) (s : ScanSoFar t marks_count g list want m i freed next now)
     (units : ℕ) (counted : units ≡ length (entries_in m g list)) (left : i < units) (u : Entry) (some : next ≡ Some u) where
   entries_are : (rest : List Entry) → s.todo ≡ u ∷ rest → entries_in now g list ≡ s.stayed ++ u ∷ (rest ++ s.moved)
   entries_are rest ahead = s.are ∙ ap (λ (l : List Entry). s.stayed ++ (l ++ s.moved)) ahead
@@ -119,8 +119,8 @@ module _ (t : KnownTable) (w : Words) (marks_count : Bool) (g : ℕ) (fits : g <
   abbrev here : Here t g list now s.stayed s.todo u
   here = scan_here
 
-  module _ (r : ℕ) (then : KnownMachine) (inactive : marks_count ≡ true → list ≡ Inactive) (wanted : given < want) (small : r < 2 ^ 32)
-      (leads : Leads t r now then (TriesReclaim marks_count g u 1)) (keeps : Keeps t now then)
+  module _ (r : ℕ) (then : KnownMachine) (inactive : marks_count ≡ true → list ≡ Inactive) (wanted : freed < want) (small : r < 2 ^ 32)
+      (leads : FreesBySteps t r now then (TriesReclaim marks_count g u 1)) (keeps : Keeps t now then)
       (usage : (x : ℕ) → in_subtree now.ledger.groups x g ≡ true → current_of then.ledger x + r ≡ current_of now.ledger x)
       (newer : Option Entry) (f : ℕ) (at : f ≡ u.number) (newer_is : newer ≡ entry_after f (entries_in now g list)) where
     now_are : entries_in now g list ≡ s.stayed ++ u ∷ (here.rest ++ s.moved)
@@ -164,7 +164,7 @@ module _ (t : KnownTable) (w : Words) (marks_count : Bool) (g : ℕ) (fits : g <
           | inr rose ↦ inr (omega (arith, b, rose))
         ]
 
-    pub scan_more : ScanSoFar t marks_count g list want m (i + 1) (given + r) newer then
+    pub scan_more : ScanSoFar t marks_count g list want m (i + 1) (freed + r) newer then
     scan_more =
         let parts = split (met_list marks_count now then g 1 r u leads.steps list leads.does inactive here.home) in
         let groups = s.keeps.groups in
@@ -175,8 +175,8 @@ module _ (t : KnownTable) (w : Words) (marks_count : Bool) (g : ℕ) (fits : g <
           are = parts.2;
           left = let a = s.left in let b : length s.todo ≡ length (u ∷ here.rest) = ap length here.ahead in omega (arith, a, b);
           next_is = next_of here.rest s.moved (newer_is ∙ ap (λ (x : ℕ). entry_after x (entries_in now g list)) at ∙ ap (entry_after u.number) now_are ∙ after_mid s.stayed (here.rest ++ s.moved) u here.front);
-          so_far = so_far_more t (TriesReclaim marks_count g) (entries_in m g list) want m u here.rest given now
-              (subst (λ (l : List Entry). SoFar t (TriesReclaim marks_count g) (entries_in m g list) want m l given now) here.ahead s.so_far) wanted r then
+          so_far = so_far_more t (TriesReclaim marks_count g) (entries_in m g list) want m u here.rest freed now
+              (subst (λ (l : List Entry). SoFar t (TriesReclaim marks_count g) (entries_in m g list) want m l freed now) here.ahead s.so_far) wanted r then
               (record { steps = leads.steps; does = leads.does; moves = leads.moves });
           keeps = keeps_both t m now then s.keeps keeps;
           usage = λ x below.
@@ -191,27 +191,27 @@ module _ (t : KnownTable) (w : Words) (marks_count : Bool) (g : ℕ) (fits : g <
 
 -- ---- the end
 
-pub record ScanEnds (t : KnownTable) (marks_count : Bool) (g : ℕ) (list : LruList) (want : ℕ) (m : KnownMachine) (given : ℕ) (now : KnownMachine) : Type 0 where
-  pub scans : Leads t given m now (ScansList marks_count g list want)
-  pub missed : marks_count ≡ false → given < want → (f : ℕ) → IsMissed m now f (record { owner = g; list = list })
+pub record ScanEnds (t : KnownTable) (marks_count : Bool) (g : ℕ) (list : LruList) (want : ℕ) (m : KnownMachine) (freed : ℕ) (now : KnownMachine) : Type 0 where
+  pub scans : FreesBySteps t freed m now (ScansList marks_count g list want)
+  pub missed : marks_count ≡ false → freed < want → (f : ℕ) → IsMissed m now f (record { owner = g; list = list })
 
 none_left : (todo : List Entry) (i n : ℕ) → length todo + i ≡ n → n ≤ i → todo ≡ []
 none_left [] i n left all = refl
 none_left (e ∷ es) i n left all = absurd (let a : length (e ∷ es) + i ≡ n = left in omega (arith, a, all))
 
 -- the units are those of the list in the first machine
-of_list : (t : KnownTable) (marks_count : Bool) (g : ℕ) (list : LruList) (want given : ℕ) (m now : KnownMachine)
-    → Leads t given m now (WhileWanted (TriesReclaim marks_count g) (entries_in m g list) want) → Leads t given m now (ScansList marks_count g list want)
-of_list t marks_count g list want given m now h = record { steps = h.steps; does = h.does; moves = h.moves }
+of_list : (t : KnownTable) (marks_count : Bool) (g : ℕ) (list : LruList) (want freed : ℕ) (m now : KnownMachine)
+    → FreesBySteps t freed m now (WhileWanted (TriesReclaim marks_count g) (entries_in m g list) want) → FreesBySteps t freed m now (ScansList marks_count g list want)
+of_list t marks_count g list want freed m now h = record { steps = h.steps; does = h.does; moves = h.moves }
 
 -- all were met
-pub scan_done : (t : KnownTable) (marks_count : Bool) (g : ℕ) (list : LruList) (want : ℕ) (m : KnownMachine) (i given : ℕ) (next : Option Entry) (now : KnownMachine)
-    → ScanSoFar t marks_count g list want m i given next now → (units : ℕ) → units ≡ length (entries_in m g list) → units ≤ i → ScanEnds t marks_count g list want m given now
-scan_done t marks_count g list want m i given next now s units counted all =
+pub scan_done : (t : KnownTable) (marks_count : Bool) (g : ℕ) (list : LruList) (want : ℕ) (m : KnownMachine) (i freed : ℕ) (next : Option Entry) (now : KnownMachine)
+    → ScanSoFar t marks_count g list want m i freed next now → (units : ℕ) → units ≡ length (entries_in m g list) → units ≤ i → ScanEnds t marks_count g list want m freed now
+scan_done t marks_count g list want m i freed next now s units counted all =
     let none : s.todo ≡ [] = none_left s.todo i units (s.left ∙ sym counted) all in
     record {
-      scans = of_list t marks_count g list want given m now (so_far_done t (TriesReclaim marks_count g) (entries_in m g list) want m given now
-          (subst (λ (l : List Entry). SoFar t (TriesReclaim marks_count g) (entries_in m g list) want m l given now) none s.so_far));
+      scans = of_list t marks_count g list want freed m now (so_far_done t (TriesReclaim marks_count g) (entries_in m g list) want m freed now
+          (subst (λ (l : List Entry). SoFar t (TriesReclaim marks_count g) (entries_in m g list) want m l freed now) none s.so_far));
       missed = λ off less f home clean. elim (s.missed off f home clean) [
         | inl to ↦ absurd (false≢true (sym (ap (has_unit f) none) ∙ to))
         | inr rose ↦ rose
@@ -219,10 +219,10 @@ scan_done t marks_count g list want m i given next now s units counted all =
     }
 
 -- enough pages were freed
-pub scan_enough : (t : KnownTable) (marks_count : Bool) (g : ℕ) (list : LruList) (want : ℕ) (m : KnownMachine) (i given : ℕ) (next : Option Entry) (now : KnownMachine)
-    → ScanSoFar t marks_count g list want m i given next now → want ≤ given → ScanEnds t marks_count g list want m given now
-scan_enough t marks_count g list want m i given next now s enough = record {
-  scans = of_list t marks_count g list want given m now
-      (so_far_enough t (TriesReclaim marks_count g) (entries_in m g list) want m s.todo given now s.so_far enough);
+pub scan_enough : (t : KnownTable) (marks_count : Bool) (g : ℕ) (list : LruList) (want : ℕ) (m : KnownMachine) (i freed : ℕ) (next : Option Entry) (now : KnownMachine)
+    → ScanSoFar t marks_count g list want m i freed next now → want ≤ freed → ScanEnds t marks_count g list want m freed now
+scan_enough t marks_count g list want m i freed next now s enough = record {
+  scans = of_list t marks_count g list want freed m now
+      (so_far_enough t (TriesReclaim marks_count g) (entries_in m g list) want m s.todo freed now s.so_far enough);
   missed = λ off less f home clean. absurd (omega (arith, less, enough));
 }

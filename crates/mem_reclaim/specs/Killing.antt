@@ -75,7 +75,7 @@ pub record KillsGroup (table : KnownTable) (group : ℕ) (before : KnownMachine)
 
 -- The first of these steps kills the group, and no other step kills. None is a freeze that missed. The machine's last
 -- puts rose by the units that the steps return.
-pub record KillsOnce (group : ℕ) (before : KnownMachine) (steps : Run) (after : KnownMachine) : Type 0 where
+pub record HasOneKillStep (group : ℕ) (before : KnownMachine) (steps : Run) (after : KnownMachine) : Type 0 where
   pub later : Run
   pub front : steps ≡ kill_steps group ++ later
   pub quiet : has_kill later ≡ false
@@ -83,11 +83,11 @@ pub record KillsOnce (group : ℕ) (before : KnownMachine) (steps : Run) (after 
   pub returned : Rises before.counts.last_puts (returned_in later) after.counts.last_puts
 
 -- a group is killed by some steps, whichever CPU holds the lock
-pub record KillsBySteps (table : KnownTable) (group : ℕ) (before after : KnownMachine) : Type 0 where
+pub record KillsGroupBySteps (table : KnownTable) (group : ℕ) (before after : KnownMachine) : Type 0 where
   pub steps : Run
   pub kills : KillsGroup table group before steps after
   pub runs : MakesForAny table before steps after
-  pub once : KillsOnce group before steps after
+  pub once : HasOneKillStep group before steps after
 
 -- how many kept units the group has
 abbrev pub kept_units : KnownMachine → ℕ → ℕ
@@ -109,27 +109,27 @@ killed_note limited group had after =
     (had.units - (after.counts.last_puts - had.last_puts)) (own_frames after group) (current_of after.ledger limited)
 
 -- a group is killed for the group `limited`, and a note says what became of its units
-pub record KillsNoted (table : KnownTable) (limited group : ℕ) (before : KnownMachine) (steps : Run)
+pub record KillsGroupNoted (table : KnownTable) (limited group : ℕ) (before : KnownMachine) (steps : Run)
     (after : KnownMachine) : Type 0 where
   pub killed : KnownMachine
   pub kills : KillsGroup table group before steps killed
   pub noted : after ≡ with_note killed (killed_note limited group (snapshot_of before group) killed)
 
 -- a group is killed and noted like this, and then `Then` leads on
-pub record KillsThen (table : KnownTable) (limited group : ℕ) (Then : KnownMachine → Run → KnownMachine → Type 0)
+pub record KillsGroupThen (table : KnownTable) (limited group : ℕ) (Then : KnownMachine → Run → KnownMachine → Type 0)
     (before : KnownMachine) (steps : Run) (after : KnownMachine) : Type 0 where
   pub between : KnownMachine
   pub first : Run
   pub later : Run
-  pub kills : KillsNoted table limited group before first between
+  pub kills : KillsGroupNoted table limited group before first between
   pub others : Then between later after
   pub steps_are : steps ≡ first ++ later
 
 -- these groups are killed and noted like this, one after the other
-abbrev pub KillsAll : KnownTable → ℕ → List ℕ → KnownMachine → Run → KnownMachine → Type 0
-KillsAll table limited [] before steps after = (after ≡ before) × (steps ≡ [])
-KillsAll table limited (group ∷ others) before steps after =
-    KillsThen table limited group (KillsAll table limited others) before steps after
+abbrev pub KillsGroups : KnownTable → ℕ → List ℕ → KnownMachine → Run → KnownMachine → Type 0
+KillsGroups table limited [] before steps after = (after ≡ before) × (steps ≡ [])
+KillsGroups table limited (group ∷ others) before steps after =
+    KillsGroupThen table limited group (KillsGroups table limited others) before steps after
 
 -- A group is killed as a whole for the group `limited`. A note says how many groups die. Each group of its subtree that
 -- isn't killed is killed, by ascending number. Then one `oom_group_kill` is noted at it.
@@ -137,31 +137,32 @@ pub record KillsSubtree (table : KnownTable) (limited head : ℕ) (before : Know
     (after : KnownMachine) : Type 0 where
   pub between : KnownMachine
   pub killing : Run
-  pub kills : KillsAll table limited (alive_below before head) (with_note before (group_kill_note before head))
+  pub kills : KillsGroups table limited (alive_below before head) (with_note before (group_kill_note before head))
       killing between
   pub counted : after ≡ record between { ledger = with_group_kill_noted between.ledger head; watch = after.watch }
   pub steps_are : steps ≡ killing ++ note_group_kill_steps head
 
 -- these steps kill exactly these groups, in this order; none of them is a freeze that missed; and the machine's last
 -- puts rose by the units that they return
-pub record KillsThese (groups : List ℕ) (before : KnownMachine) (steps : Run) (after : KnownMachine) : Type 0 where
+pub record AreKillsOf (groups : List ℕ) (before : KnownMachine) (steps : Run) (after : KnownMachine) : Type 0 where
   pub killed : kills_in steps ≡ groups
   pub no_miss : (frame : ℕ) → missed_in frame steps ≡ 0
   pub returned : Rises before.counts.last_puts (returned_in steps) after.counts.last_puts
 
 -- exactly these groups are killed, as `Kills` says, by some steps, whichever CPU holds the lock
-pub record KillsSoBySteps (table : KnownTable) (groups : List ℕ) (Kills : KnownMachine → Run → KnownMachine → Type 0)
+pub record KillsGroupsBySteps (table : KnownTable) (groups : List ℕ)
+    (Kills : KnownMachine → Run → KnownMachine → Type 0)
     (before after : KnownMachine) : Type 0 where
   pub steps : Run
   pub kills : Kills before steps after
   pub runs : MakesForAny table before steps after
-  pub these : KillsThese groups before steps after
+  pub these : AreKillsOf groups before steps after
 
 -- what is done with a victim and its head: if the head's flag is on, the head is killed as a whole; else only the
 -- victim is killed
-abbrev pub KillsAs : Bool → KnownTable → ℕ → Killed → KnownMachine → Run → KnownMachine → Type 0
-KillsAs true table limited killed = KillsSubtree table limited killed.head
-KillsAs false table limited killed = KillsNoted table limited killed.victim
+abbrev pub KillsHeadOrVictim : Bool → KnownTable → ℕ → Killed → KnownMachine → Run → KnownMachine → Type 0
+KillsHeadOrVictim true table limited killed = KillsSubtree table limited killed.head
+KillsHeadOrVictim false table limited killed = KillsGroupNoted table limited killed.victim
 
 -- A victim and all groups that die with it are killed for the group `limited`, by some steps, whichever CPU holds the
 -- lock. First a note says who is the victim and why. Then the head is killed as a whole if its flag is on, else the
@@ -171,10 +172,10 @@ pub record IsKilledBy (table : KnownTable) (limited : ℕ) (killed : Killed) (be
   pub follows : IsNext before limited killed.victim next
   pub head_is : IsHead before.ledger.groups limited killed
   pub steps : Run
-  pub kills : KillsAs (is_oom_group before.ledger.groups killed.head) table limited killed
+  pub kills : KillsHeadOrVictim (is_oom_group before.ledger.groups killed.head) table limited killed
       (with_note before (victim_note before limited killed.victim next)) steps after
   pub runs : MakesForAny table before steps after
-  pub these : KillsThese (kill_set before killed) before steps after
+  pub these : AreKillsOf (kill_set before killed) before steps after
 
 -- if the group has a victim, it is killed with all groups that die with it; else nothing changed
 abbrev pub KillsVictim : KnownTable → ℕ → Option Killed → KnownMachine → KnownMachine → Type 0
@@ -210,8 +211,8 @@ pub record KeepsStocks (before after : KnownMachine) : Type 0 where
 
 -- each CPU's stock is of the same group, and each drained stock is still drained
 pub record OnlyDrains (before after : KnownMachine) : Type 0 where
-  pub of : (processor : ℕ) → stock_group after processor ≡ stock_group before processor
-  pub drained : (processor : ℕ) → IsDrained before processor → IsDrained after processor
+  pub of : (cpu : ℕ) → stock_group after cpu ≡ stock_group before cpu
+  pub drained : (cpu : ℕ) → IsDrained before cpu → IsDrained after cpu
 
 -- no unit is kept for the group
 abbrev pub HasNoKeptUnit : ℕ → KnownMachine → Type 0

@@ -12,7 +12,7 @@ use Rattle.kill_notes.specs.declared.note.Note.TheVariants as note
 use Rattle.mem_machine.specs.Machines.{KnownMachine, home_of, with_note}
 use Rattle.mem_reclaim.specs.declared.sets.Killed.{Killed}
 use Rattle.mem_reclaim.specs.Killing.{IsKilledBy, kept_units}
-use Rattle.mem_reclaim.specs.Moves.{Moves, all_missed_in, missed_in, returned_in}
+use Rattle.mem_reclaim.specs.Moves.{FreesPages, all_missed_in, missed_in, returned_in}
 use Rattle.mem_reclaim.specs.Rounds.{ReclaimsRound}
 use Rattle.mem_reclaim.specs.Sets.{IsHead, kill_set}
 use Rattle.mem_reclaim.specs.Staying.{MissedAll}
@@ -59,8 +59,8 @@ TheVictimIsOne =
 -- if each clean unit that the subtree still keeps counts as missed, a freeze of each is among the steps
 abbrev pub MissedUnitsWereTried : Type 0
 MissedUnitsWereTried =
-    (table : KnownTable) (before : KnownMachine) (given : ℕ) (steps : Run) (after : KnownMachine) (group : ℕ)
-    → Moves table before given steps after → MissedAll group before after
+    (table : KnownTable) (before : KnownMachine) (freed : ℕ) (steps : Run) (after : KnownMachine) (group : ℕ)
+    → FreesPages table before freed steps after → MissedAll group before after
     → (frame : ℕ) (home : Home) → in_subtree after.ledger.groups group home.owner ≡ true
     → home_of after.links frame ≡ Some home → (link_at after.links frame).is_dirty ≡ false → 1 ≤ missed_in frame steps
 
@@ -69,7 +69,7 @@ MissedUnitsWereTried =
 pub record NotesRound (group number : ℕ) (done : Progress) : Type 0 where
   pub reclaimed : KnownMachine
   pub noted : done.after ≡ with_note reclaimed
-      (note.Round number (returned_in done.steps) (all_missed_in done.steps) done.given
+      (note.Round number (returned_in done.steps) (all_missed_in done.steps) done.freed
       (current_of reclaimed.ledger group))
 
 -- a round's note reports what the round's own steps did, unless one of the machine's two counts is at its greatest

@@ -79,10 +79,10 @@ has_kill steps = list_any (λ entry. is_kill entry.0.action) steps
 -- Whichever CPU holds the lock, these steps lead from one machine to the other. They free this many pages, and none of
 -- them kills a group. The misses that the zone's seat noted for each frame rose by those among the steps. The machine's
 -- freezes rose by the number of units that the steps return, and its misses by all misses among them.
-pub record Moves (table : KnownTable) (before : KnownMachine) (given : ℕ) (steps : Run)
+pub record FreesPages (table : KnownTable) (before : KnownMachine) (freed : ℕ) (steps : Run)
     (after : KnownMachine) : Type 0 where
   pub runs : MakesForAny table before steps after
-  pub pages : (cpu : KnownCpu) → pages_returned (local_of table before cpu) steps ≡ given
+  pub pages : (cpu : KnownCpu) → pages_returned (local_of table before cpu) steps ≡ freed
   pub quiet : has_kill steps ≡ false
   pub misses : (frame : ℕ)
       → misses_of after.frame_seat frame ≡ misses_of before.frame_seat frame + missed_in frame steps
@@ -90,7 +90,8 @@ pub record Moves (table : KnownTable) (before : KnownMachine) (given : ℕ) (ste
   pub missed : Rises before.counts.misses (all_missed_in steps) after.counts.misses
 
 -- some list of steps leads from one machine to the other and frees this many pages, and `Does` holds of it
-pub record Leads (table : KnownTable) (given : ℕ) (before after : KnownMachine) (Does : Reclaiming) : Type 0 where
+pub record FreesBySteps (table : KnownTable) (freed : ℕ) (before after : KnownMachine)
+    (Does : Reclaiming) : Type 0 where
   pub steps : Run
-  pub does : Does (progress given before steps after)
-  pub moves : Moves table before given steps after
+  pub does : Does (progress freed before steps after)
+  pub moves : FreesPages table before freed steps after

@@ -6,14 +6,14 @@ use Rattle.group_tree.specs.Groups.{in_subtree}
 use Rattle.lru_lists.specs.declared.record.LruList.TheVariants.{Inactive, Active}
 use Rattle.mem_machine.specs.Machines.{KnownMachine}
 use Rattle.mem_machine.specs.Ageing.{AgesGroup}
-use Rattle.mem_reclaim.specs.Wanted.{GivesNothing, Progress, Reclaiming, WhileWanted, progress}
+use Rattle.mem_reclaim.specs.Wanted.{FreesNothing, Progress, Reclaiming, WhileWanted, progress}
 use Rattle.mem_reclaim.specs.Units.{ScansList}
 
 -- the first pass over a group: its lists are aged, and then its inactive units are scanned; marked ones are spared
 pub record AgesAndScans (group want : ℕ) (done : Progress) : Type 0 where
   pub aged : KnownMachine
   pub ages : AgesGroup group done.before aged
-  pub scans : ScansList true group Inactive want (progress done.given aged done.steps done.after)
+  pub scans : ScansList true group Inactive want (progress done.freed aged done.steps done.after)
 
 -- what a pass does with a group: the first pass ages and scans it; the second scans its inactive and then its active
 -- units, and ignores marks
@@ -26,7 +26,7 @@ PassesGroup false group want = WhileWanted (ScansList false group) (Inactive ∷
 abbrev pub ReclaimsGroup : Bool → ℕ → ℕ → ℕ → Reclaiming
 ReclaimsGroup is_first group turn want done =
     ((in_subtree done.before.ledger.groups group turn ≡ true) × PassesGroup is_first turn want done)
-    ⊎ ((in_subtree done.before.ledger.groups group turn ≡ false) × GivesNothing done)
+    ⊎ ((in_subtree done.before.ledger.groups group turn ≡ false) × FreesNothing done)
 
 -- one pass over the groups of the subtree
 abbrev pub ReclaimsPass : ℕ → Bool → ℕ → Reclaiming

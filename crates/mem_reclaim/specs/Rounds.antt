@@ -2,10 +2,10 @@
 use Rattle.std.specs.Prelude.{◌≡◌, ℕ, zero, suc, ◌+◌, ◌-◌, ◌≤◌, ◌⊎◌}
 use Rattle.group_charge.specs.Charges.{Ledger, current_of}
 use Rattle.kill_notes.specs.declared.note.Note.{Note}
-use Rattle.kill_notes.specs.declared.note.Note.TheVariants.{Round}
+use Rattle.kill_notes.specs.declared.note.Note.TheVariants.{Asked, Round}
 use Rattle.mem_machine.specs.Machines.{KnownMachine, with_note}
 use Rattle.mem_reclaim.specs.Moves.{Rises, all_missed_in, returned_in}
-use Rattle.mem_reclaim.specs.Wanted.{BothGive, GivesNothing, Progress, Reclaiming, progress}
+use Rattle.mem_reclaim.specs.Wanted.{AfterNote, BothFree, FreesNothing, Progress, Reclaiming, progress}
 use Rattle.mem_reclaim.specs.Passes.{Reclaims}
 
 -- the greatest number of rounds of reclaim, before a limit or if no frame is free
@@ -26,28 +26,32 @@ round_note group number pages before after =
 -- that the steps return, and the misses by the freezes that missed.
 pub record ReclaimsRound (group number want : ℕ) (done : Progress) : Type 0 where
   pub reclaimed : KnownMachine
-  pub reclaims : Reclaims group want (progress done.given done.before done.steps reclaimed)
-  pub noted : done.after ≡ with_note reclaimed (round_note group number done.given done.before reclaimed)
+  pub reclaims : Reclaims group want (progress done.freed done.before done.steps reclaimed)
+  pub noted : done.after ≡ with_note reclaimed (round_note group number done.freed done.before reclaimed)
   pub returned : Rises done.before.counts.freezes (returned_in done.steps) reclaimed.counts.freezes
   pub missed : Rises done.before.counts.misses (all_missed_in done.steps) reclaimed.counts.misses
 
 -- what is done after a round that freed `some` pages: nothing if it freed none
 abbrev pub UnlessNone : Reclaiming → ℕ → Reclaiming
-UnlessNone Does some done = ((some ≡ 0) × GivesNothing done) ⊎ ((1 ≤ some) × Does done)
+UnlessNone Does some done = ((some ≡ 0) × FreesNothing done) ⊎ ((1 ≤ some) × Does done)
 
 -- At most `rounds` of the `max_rounds` rounds of reclaim from the group's subtree. `missing` says how many pages are
 -- missing, and each round wants the pages that are missing when it begins. The rounds end as soon as no page is
 -- missing, or after a round that freed none.
 abbrev pub ReclaimsRounds : ℕ → (Ledger → ℕ) → ℕ → Reclaiming
-ReclaimsRounds group missing zero done = GivesNothing done
+ReclaimsRounds group missing zero done = FreesNothing done
 ReclaimsRounds group missing (suc rounds) done =
-    ((missing done.before.ledger ≡ 0) × GivesNothing done)
+    ((missing done.before.ledger ≡ 0) × FreesNothing done)
     ⊎ ((1 ≤ missing done.before.ledger)
-    × BothGive (ReclaimsRound group (max_rounds - rounds) (missing done.before.ledger))
+    × BothFree (ReclaimsRound group (max_rounds - rounds) (missing done.before.ledger))
     (UnlessNone (ReclaimsRounds group missing rounds)) done)
 
 -- This many pages of the group's subtree are reclaimed, in at most 16 rounds. Each round wants what is still missing:
 -- the pages to free so that the usage with the pages asked for is at most the usage before.
-abbrev pub ReclaimsAmount : (group asked : ℕ) → Reclaiming
-ReclaimsAmount group asked done =
+abbrev pub ReclaimsPages : (group asked : ℕ) → Reclaiming
+ReclaimsPages group asked done =
     ReclaimsRounds group (pages_missing group asked (current_of done.before.ledger group)) max_rounds done
+
+-- a note says how many pages are asked for, and then they are reclaimed
+abbrev pub ReclaimsAmount : (group asked : ℕ) → Reclaiming
+ReclaimsAmount group asked done = AfterNote (Asked group asked) (ReclaimsPages group asked) done

@@ -4,11 +4,11 @@ use Rattle.lru_lists.specs.declared.record.Entry.{Entry}
 use Rattle.lru_lists.specs.declared.record.LruList.{LruList}
 use Rattle.mem_machine.specs.Ageing.{RenewsUnit, entries_in}
 use Rattle.mem_machine.specs.Evicting.{Evicts, evict_steps}
-use Rattle.mem_reclaim.specs.Wanted.{GivesNothing, Progress, Reclaiming, WhileWanted}
+use Rattle.mem_reclaim.specs.Wanted.{FreesNothing, Progress, Reclaiming, WhileWanted}
 
 -- the unit gets a second chance: it moves, unmarked, to the newest end of the group's inactive list
 pub record SparesUnit (group frame : ℕ) (done : Progress) : Type 0 where
-  pub no_page : done.given ≡ 0
+  pub no_page : done.freed ≡ 0
   pub renews : RenewsUnit group frame done.before done.after
   pub no_step : done.steps ≡ []
 
@@ -16,18 +16,19 @@ pub record SparesUnit (group frame : ℕ) (done : Progress) : Type 0 where
 pub record TriesUnit (frame : ℕ) (done : Progress) : Type 0 where
   pub answer : Option ℕ
   pub evicts : Evicts frame answer done.before done.after
-  pub pages : done.given ≡ unwrap_or answer 0
+  pub pages : done.freed ≡ unwrap_or answer 0
   pub tries : done.steps ≡ evict_steps frame answer
 
 -- what is done with a unit, by whether it is dirty and whether it is spared: a dirty unit is left alone in any case
 abbrev pub TriesReclaimAs : Bool → Bool → ℕ → ℕ → Reclaiming
-TriesReclaimAs true is_spared group frame = GivesNothing
+TriesReclaimAs true is_spared group frame = FreesNothing
 TriesReclaimAs false true group frame = SparesUnit group frame
 TriesReclaimAs false false group frame = TriesUnit frame
 
 -- what is done with a unit of the group while pages are wanted; a marked unit is spared if marks count
 abbrev pub TriesReclaim : Bool → ℕ → Entry → ℕ → Reclaiming
-TriesReclaim marks_count group unit want = TriesReclaimAs unit.is_dirty (marks_count && unit.is_marked) group unit.number
+TriesReclaim marks_count group unit want = TriesReclaimAs unit.is_dirty (marks_count && unit.is_marked) group
+    unit.number
 
 -- what is done with the units that are on one of the group's lists now, the oldest first
 abbrev pub ScansList : Bool → ℕ → LruList → ℕ → Reclaiming

@@ -3,27 +3,25 @@
 ghost use Rattle.std.specs.Prelude.{◌≡◌, ◌<◌, ◌+◌, IsTrue};
 ghost use Rattle.group_tree.specs.Groups.{has_group};
 ghost use Rattle.group_charge.specs.Charges.{current_of};
-ghost use Rattle.mem_reclaim.specs.Moves.{Leads};
-ghost use Rattle.mem_reclaim.specs.Rounds.{ReclaimsAmount};
+ghost use Rattle.mem_reclaim.specs.Moves.{FreesBySteps};
+ghost use Rattle.mem_reclaim.specs.Rounds.{ReclaimsAmount, ReclaimsPages};
 ghost use Rattle.mem_reclaim.specs.Staying.{Keeps, MissedAll};
 
 use crate::rounds::{MAX_ROUNDS, reclaim_round};
 use cpu_part::{BootName, Tables};
 use group_tree::group::GroupId;
+use kill_notes::note::Note;
 use mem_machine::Machine;
 
-/// Reclaims `asked` pages from the subtree of `group`, in at most 16 rounds. Each round wants what is still missing and
-/// is noted; a round that freed nothing is the last. Returns how many pages were freed. They are more than asked for if
-/// a block had more, and fewer only if each clean unit that the subtree still keeps was tried and missed. Stocks stay,
-/// no event is counted, and nobody is killed.
-pub fn reclaim_pages<N: BootName>(
+// Reclaims `asked` pages from the subtree of `group` in rounds, as `reclaim_amount` does, without the note before them.
+fn make_reclaim_rounds<N: BootName>(
     machine: &mut Machine<N>,
     tables: &Tables<N>,
     group: GroupId,
     asked: u64,
 ) -> u64
     requires there { IsTrue (has_group machine.old.ledger.groups group) }
-    ensures rounds { Leads N.frames result machine.old machine.new (ReclaimsAmount group asked) }
+    ensures rounds { FreesBySteps N.frames result machine.old machine.new (ReclaimsPages group asked) }
     ensures missed { result < asked → MissedAll group machine.old machine.new }
     ensures usage { current_of machine.new.ledger group + result ≡ current_of machine.old.ledger group }
     ensures keeps { Keeps N.frames machine.old machine.new }
@@ -41,4 +39,27 @@ pub fn reclaim_pages<N: BootName>(
         }
     }
     freed
+}
+
+/// Reclaims `asked` pages from the subtree of `group`, in at most 16 rounds. That they are asked for is noted first.
+/// Each round wants what is still missing and is noted; a round that freed nothing is the last. Returns how many pages
+/// were freed. They are more than asked for if a block had more, and fewer only if each clean unit that the subtree
+/// still keeps was tried and missed. Stocks stay, no event is counted, and nobody is killed.
+pub fn reclaim_amount<N: BootName>(
+    machine: &mut Machine<N>,
+    tables: &Tables<N>,
+    group: GroupId,
+    asked: u64,
+) -> u64
+    requires there { IsTrue (has_group machine.old.ledger.groups group) }
+    ensures rounds { FreesBySteps N.frames result machine.old machine.new (ReclaimsAmount group asked) }
+    ensures missed { result < asked → MissedAll group machine.old machine.new }
+    ensures usage { current_of machine.new.ledger group + result ≡ current_of machine.old.ledger group }
+    ensures keeps { Keeps N.frames machine.old machine.new }
+{
+    machine.note(Note::Asked {
+        group,
+        pages: asked,
+    });
+    make_reclaim_rounds(machine, tables, group, asked)
 }

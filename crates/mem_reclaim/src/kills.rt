@@ -8,9 +8,9 @@ ghost use Rattle.mem_machine.specs.Ageing.{entries_in};
 ghost use Rattle.mem_machine.specs.Stocks.{AreOwnDrained};
 ghost use Rattle.mem_reclaim.specs.Victim.{IsVictim};
 ghost use Rattle.mem_reclaim.specs.Sets.{alive_below, kill_set};
-ghost use Rattle.mem_reclaim.specs.Killing.{HasNoKeptUnit, KeepsStocks, KillsAll, KillsBySteps, KillsNoted};
-ghost use Rattle.mem_reclaim.specs.Killing.{KillsSoBySteps, KillsSubtree, KillsVictim, LetsGoBySteps, OnlyDrains};
-ghost use Rattle.mem_reclaim.specs.Killing.{OnlyLetsGo, victim_of, with_all_killed};
+ghost use Rattle.mem_reclaim.specs.Killing.{HasNoKeptUnit, KeepsStocks, KillsGroups, KillsGroupBySteps};
+ghost use Rattle.mem_reclaim.specs.Killing.{KillsGroupNoted, KillsGroupsBySteps, KillsSubtree, KillsVictim};
+ghost use Rattle.mem_reclaim.specs.Killing.{LetsGoBySteps, OnlyDrains, OnlyLetsGo, victim_of, with_all_killed};
 
 use crate::noting::{note_killed, note_subtree, note_victim, take_snapshot};
 use crate::sets::{Killed, highest_flagged};
@@ -48,7 +48,7 @@ fn let_go_all<N: BootName>(
 fn kill_group<N: BootName>(machine: &mut Machine<N>, tables: &Tables<N>, group: GroupId)
     requires there { IsTrue (has_group machine.old.ledger.groups group) }
     requires alive { is_killed machine.old.killed group ≡ false }
-    ensures kills { KillsBySteps N.frames group machine.old machine.new }
+    ensures kills { KillsGroupBySteps N.frames group machine.old machine.new }
     ensures marked { machine.new.killed ≡ slice_set machine.old.killed group true }
     ensures drained { AreOwnDrained group N.frames.cpus machine.new }
     ensures stocks { OnlyDrains machine.old machine.new }
@@ -58,7 +58,7 @@ fn kill_group<N: BootName>(machine: &mut Machine<N>, tables: &Tables<N>, group: 
     machine.mark_killed(group);
     machine.drain_group_stocks(tables, group);
     let_go_all(machine, tables, group, LruList::Inactive);
-    let _records = machine.frame_states(); // Called for its contract.
+    let _frame_states = machine.frame_states(); // Called for its contract.
     let_go_all(machine, tables, group, LruList::Active);
     let _frame_states = machine.frame_states(); // Called for its contract.
 }
@@ -73,7 +73,8 @@ fn kill_noted<N: BootName>(
     requires limited { IsTrue (has_group machine.old.ledger.groups limited) }
     requires there { IsTrue (has_group machine.old.ledger.groups group) }
     requires alive { is_killed machine.old.killed group ≡ false }
-    ensures kills { KillsSoBySteps N.frames (group ∷ []) (KillsNoted N.frames limited group) machine.old machine.new }
+    ensures kills { KillsGroupsBySteps N.frames (group ∷ []) (KillsGroupNoted N.frames limited group) machine.old
+        machine.new }
     ensures marked { machine.new.killed ≡ slice_set machine.old.killed group true }
     ensures drained { AreOwnDrained group N.frames.cpus machine.new }
     ensures stocks { OnlyDrains machine.old machine.new }
@@ -94,8 +95,8 @@ fn kill_below<N: BootName>(
 )
     requires limited { IsTrue (has_group machine.old.ledger.groups limited) }
     requires head { IsTrue (has_group machine.old.ledger.groups head) }
-    ensures kills { KillsSoBySteps N.frames (alive_below machine.old head)
-        (KillsAll N.frames limited (alive_below machine.old head)) machine.old machine.new }
+    ensures kills { KillsGroupsBySteps N.frames (alive_below machine.old head)
+        (KillsGroups N.frames limited (alive_below machine.old head)) machine.old machine.new }
     ensures marked { machine.new.killed ≡ with_all_killed machine.old.killed (alive_below machine.old head) }
     ensures drained { All (λ group. AreOwnDrained group N.frames.cpus machine.new) (alive_below machine.old head) }
     ensures stocks { OnlyDrains machine.old machine.new }
@@ -122,7 +123,7 @@ fn kill_subtree<N: BootName>(
     requires limited { IsTrue (has_group machine.old.ledger.groups limited) }
     requires head { IsTrue (has_group machine.old.ledger.groups head) }
     requires below_root { head ≢ 0 }
-    ensures kills { KillsSoBySteps N.frames (alive_below machine.old head)
+    ensures kills { KillsGroupsBySteps N.frames (alive_below machine.old head)
         (KillsSubtree N.frames limited head) machine.old machine.new }
     ensures marked { machine.new.killed ≡ with_all_killed machine.old.killed (alive_below machine.old head) }
     ensures drained { All (λ group. AreOwnDrained group N.frames.cpus machine.new) (alive_below machine.old head) }
@@ -136,16 +137,13 @@ fn kill_subtree<N: BootName>(
 }
 
 /// Kills the victim of a group, and reports what was killed; None if there is no victim, and then nothing has changed.
-/// The head is the highest group with memory.oom.group on, from the victim up to this group, both included. If there is
-/// one, each group of its subtree that isn't killed is killed, by ascending number, and then one `oom_group_kill` is
-/// noted at the head. Otherwise the victim is killed alone.
+/// If memory.oom.group is on in a group from the victim up to this group, both included, then each group of the subtree
+/// of the highest such group is killed, by ascending number. Otherwise the victim is killed alone.
 ///
-/// Nothing can be charged to a killed group until it is removed; each kill is noted as `oom_kill` at the group that it
-/// kills. The group's stocks are drained. Its kept units, dirty ones included, leave their lists and lose the zone's
-/// reference: the inactive ones first, and each list from the oldest on. Units without a pin are freed and uncharged.
-/// The others stay charged, and nobody keeps them, until their last put is settled. A note before the kill says why
-/// this is the victim. If a flag applies, another says how many groups die. After each kill, a note says what became of
-/// the group's units.
+/// Nothing can be charged to a killed group until it is removed. It has no stock and keeps no unit: units without a pin
+/// are freed and uncharged, dirty ones included, and the others stay charged until their last put is settled. Events
+/// (memory.events) are `oom_kill` at each group that is killed, and one `oom_group_kill` at the head. Notes say why
+/// this is the victim, how many groups die by a flag, and what became of each group's units.
 pub fn kill<N: BootName>(
     machine: &mut Machine<N>,
     tables: &Tables<N>,

@@ -1,8 +1,8 @@
 //! Laws of kills and of reclaim: what each function ensures holds of every victim and all groups that die with it, of
 //! every unit that was tried, and of every note.
 
-ghost use Rattle.mem_reclaim.specs.Laws.{FlaggedGroupsDieWhole, LoneKillsAreNotedAsMade, MissedUnitsWereTried, OnlyTheLivingDie};
-ghost use Rattle.mem_reclaim.specs.Laws.{RoundsAreNotedAsMade, TheVictimIsOne, VictimsDie};
+ghost use Rattle.mem_reclaim.specs.Laws.{FlaggedGroupsDieWhole, LoneKillsAreNotedAsMade, MissedUnitsWereTried};
+ghost use Rattle.mem_reclaim.specs.Laws.{OnlyTheLivingDie, RoundsAreNotedAsMade, TheVictimIsOne, VictimsDie};
 
 /// If a group in the subtree of the limited group has memory.oom.group on, it is killed as a whole, or no group of its
 /// subtree is killed.

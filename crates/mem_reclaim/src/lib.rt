@@ -18,9 +18,9 @@ mod sets;
 mod try_reclaim;
 mod victims;
 
-pub use amounts::reclaim_pages;
+pub use amounts::reclaim_amount;
 pub use kills::kill;
 pub use reclaiming::{Reclaimed, reclaim};
-pub use rounds::{MAX_ROUNDS, reclaim_rounds};
+pub use rounds::{MAX_ROUNDS, reclaim_round, reclaim_to_limit};
 pub use sets::Killed;
 pub use victims::victim;

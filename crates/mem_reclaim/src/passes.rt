@@ -3,7 +3,7 @@
 ghost use Rattle.std.specs.Prelude.{◌≡◌, ◌<◌, ◌+◌, ◌^◌, true, false, IsTrue};
 ghost use Rattle.group_tree.specs.Groups.{has_group, in_subtree};
 ghost use Rattle.group_charge.specs.Charges.{current_of};
-ghost use Rattle.mem_reclaim.specs.Moves.{Leads};
+ghost use Rattle.mem_reclaim.specs.Moves.{FreesBySteps};
 ghost use Rattle.mem_reclaim.specs.Passes.{PassesGroup, ReclaimsGroup, ReclaimsPass};
 ghost use Rattle.mem_reclaim.specs.Staying.{Keeps, MissedAll, MissedOfGroup, OnlyLeave, UsageFalls};
 
@@ -22,7 +22,7 @@ fn age_and_scan<N: BootName>(
     want: u64,
 ) -> u64
     requires { IsTrue (has_group machine.old.ledger.groups group) }
-    ensures passes { Leads N.frames result machine.old machine.new (PassesGroup true group want) }
+    ensures passes { FreesBySteps N.frames result machine.old machine.new (PassesGroup true group want) }
     ensures keeps { Keeps N.frames machine.old machine.new }
     ensures usage { UsageFalls group result machine.old machine.new }
     ensures few { result < want + 2 ^ 32 }
@@ -40,7 +40,7 @@ fn scan_both<N: BootName>(
 ) -> u64
     requires there { IsTrue (has_group machine.old.ledger.groups group) }
     requires wanted { 0 < want }
-    ensures passes { Leads N.frames result machine.old machine.new (PassesGroup false group want) }
+    ensures passes { FreesBySteps N.frames result machine.old machine.new (PassesGroup false group want) }
     ensures keeps { Keeps N.frames machine.old machine.new }
     ensures usage { UsageFalls group result machine.old machine.new }
     ensures few { result < want + 2 ^ 32 }
@@ -83,7 +83,7 @@ fn reclaim_group<N: BootName>(
 ) -> u64
     requires there { IsTrue (has_group machine.old.ledger.groups group) }
     requires wanted { 0 < want }
-    ensures turns { Leads N.frames result machine.old machine.new (ReclaimsGroup is_first group turn want) }
+    ensures turns { FreesBySteps N.frames result machine.old machine.new (ReclaimsGroup is_first group turn want) }
     ensures keeps { Keeps N.frames machine.old machine.new }
     ensures usage { current_of machine.new.ledger group + result ≡ current_of machine.old.ledger group }
     ensures few { result < want + 2 ^ 32 }
@@ -111,7 +111,7 @@ pub(crate) fn reclaim_pass<N: BootName>(
     is_first: bool,
 ) -> u64
     requires there { IsTrue (has_group machine.old.ledger.groups group) }
-    ensures passes { Leads N.frames result machine.old machine.new (ReclaimsPass group is_first want) }
+    ensures passes { FreesBySteps N.frames result machine.old machine.new (ReclaimsPass group is_first want) }
     ensures keeps { Keeps N.frames machine.old machine.new }
     ensures usage { current_of machine.new.ledger group + result ≡ current_of machine.old.ledger group }
     ensures few { result < want + 2 ^ 32 }
@@ -119,16 +119,16 @@ pub(crate) fn reclaim_pass<N: BootName>(
     ensures missed { is_first ≡ false → result < want → MissedAll group machine.old machine.new }
 {
     let _usage = machine.current(group); // At most this many pages are freed.
-    let mut given = 0;
+    let mut freed = 0;
     for number in 0..MAX_GROUPS as u32 {
-        if want <= given {
-            return given;
+        if want <= freed {
+            return freed;
         }
         let Some(turn) = GroupId::of(number) else {
             unreachable!()
         };
-        given += reclaim_group(machine, tables, group, turn, want - given, is_first);
+        freed += reclaim_group(machine, tables, group, turn, want - freed, is_first);
     }
     let _frame_states = machine.frame_states(); // Called for its contract.
-    given
+    freed
 }

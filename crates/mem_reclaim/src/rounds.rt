@@ -3,7 +3,7 @@
 ghost use Rattle.std.specs.Prelude.{◌≡◌, ◌<◌, ◌+◌, ◌^◌, IsTrue, nat_lt};
 ghost use Rattle.group_tree.specs.Groups.{has_group};
 ghost use Rattle.group_charge.specs.Charges.{current_of};
-ghost use Rattle.mem_reclaim.specs.Moves.{Leads};
+ghost use Rattle.mem_reclaim.specs.Moves.{FreesBySteps};
 ghost use Rattle.mem_reclaim.specs.Rounds.{ReclaimsRound, ReclaimsRounds, max_rounds, pages_missing};
 ghost use Rattle.mem_reclaim.specs.Staying.{Keeps, MissedAll};
 
@@ -28,8 +28,9 @@ fn missing(charges: &Charges, group: GroupId, need: u32, limit: u32) -> u64
 }
 
 /// Makes the round of this number, from 1, for a group, in which `want` pages are wanted. It is noted with what it
-/// tried.
-pub(crate) fn reclaim_round<N: BootName>(
+/// tried, behind the units that it freed, if these are noted. If it frees fewer pages, each clean unit that the subtree
+/// still keeps was tried and missed.
+pub fn reclaim_round<N: BootName>(
     machine: &mut Machine<N>,
     tables: &Tables<N>,
     group: GroupId,
@@ -37,7 +38,7 @@ pub(crate) fn reclaim_round<N: BootName>(
     want: u64,
 ) -> Reclaimed
     requires there { IsTrue (has_group machine.old.ledger.groups group) }
-    ensures makes { Leads N.frames result.pages machine.old machine.new (ReclaimsRound group number want) }
+    ensures makes { FreesBySteps N.frames result.pages machine.old machine.new (ReclaimsRound group number want) }
     ensures tried_all { result.tried_all ≡ nat_lt result.pages want }
     ensures missed { IsTrue result.tried_all → MissedAll group machine.old machine.new }
     ensures usage { current_of machine.new.ledger group + result.pages ≡ current_of machine.old.ledger group }
@@ -61,7 +62,7 @@ pub(crate) fn reclaim_round<N: BootName>(
 /// rounds. Each round wants the pages that are missing when it begins, and is noted; one that freed none is the last.
 /// Returns how many pages were freed. If they weren't enough, each clean unit that the subtree still keeps was tried
 /// and missed.
-pub fn reclaim_rounds<N: BootName>(
+pub fn reclaim_to_limit<N: BootName>(
     machine: &mut Machine<N>,
     tables: &Tables<N>,
     group: GroupId,
@@ -69,23 +70,23 @@ pub fn reclaim_rounds<N: BootName>(
     limit: u32,
 ) -> u64
     requires there { IsTrue (has_group machine.old.ledger.groups group) }
-    ensures rounds { Leads N.frames result machine.old machine.new
+    ensures rounds { FreesBySteps N.frames result machine.old machine.new
         (ReclaimsRounds group (pages_missing group need limit) max_rounds) }
     ensures missed { limit < current_of machine.new.ledger group + need → MissedAll group machine.old machine.new }
     ensures usage { current_of machine.new.ledger group + result ≡ current_of machine.old.ledger group }
     ensures keeps { Keeps N.frames machine.old machine.new }
 {
-    let mut given = 0;
+    let mut freed = 0;
     for round in 0..MAX_ROUNDS {
         let want = missing(machine.charges(), group, need, limit);
         if want == 0 {
-            return given;
+            return freed;
         }
         let pages = reclaim_round(machine, tables, group, round + 1, want).pages;
-        given += pages;
+        freed += pages;
         if pages == 0 {
-            return given;
+            return freed;
         }
     }
-    given
+    freed
 }

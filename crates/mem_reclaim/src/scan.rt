@@ -3,7 +3,7 @@
 ghost use Rattle.std.specs.Prelude.{◌≡◌, ◌<◌, ◌+◌, ◌^◌, false, IsTrue};
 ghost use Rattle.group_tree.specs.Groups.{has_group};
 ghost use Rattle.lru_lists.specs.declared.record.LruList.TheVariants.{Inactive};
-ghost use Rattle.mem_reclaim.specs.Moves.{Leads};
+ghost use Rattle.mem_reclaim.specs.Moves.{FreesBySteps};
 ghost use Rattle.mem_reclaim.specs.Units.{ScansList};
 ghost use Rattle.mem_reclaim.specs.Staying.{Keeps, MissedOnList, OnlyLeave, UsageFalls};
 
@@ -25,21 +25,21 @@ pub(crate) fn scan<N: BootName>(
 ) -> u64
     requires there { IsTrue (has_group machine.old.ledger.groups group) }
     requires inactive { IsTrue marks_count → list ≡ Inactive }
-    ensures scans { Leads N.frames result machine.old machine.new (ScansList marks_count group list want) }
+    ensures scans { FreesBySteps N.frames result machine.old machine.new (ScansList marks_count group list want) }
     ensures keeps { Keeps N.frames machine.old machine.new }
     ensures usage { UsageFalls group result machine.old machine.new }
     ensures few { result < want + 2 ^ 32 }
     ensures leaves { marks_count ≡ false → OnlyLeave machine.old machine.new }
     ensures missed { marks_count ≡ false → result < want → MissedOnList group list machine.old machine.new }
 {
-    let _records = machine.frame_states(); // Called for its contract.
+    let _frame_states = machine.frame_states(); // Called for its contract.
     let _usage = machine.current(group); // At most this much is freed, so no sum overflows.
     let units = machine.listed(group, list);
     let mut next = machine.oldest(group, list);
-    let mut given = 0;
+    let mut freed = 0;
     for _met in 0..units {
-        if want <= given {
-            return given;
+        if want <= freed {
+            return freed;
         }
         let _frame_states = machine.frame_states(); // Called for its contract.
         let Some(unit) = next else { unreachable!() };
@@ -47,7 +47,7 @@ pub(crate) fn scan<N: BootName>(
             unreachable!()
         };
         next = machine.newer(group, list, frame);
-        given += u64::from(try_reclaim(machine, tables, group, list, unit, frame, marks_count));
+        freed += u64::from(try_reclaim(machine, tables, group, list, unit, frame, marks_count));
     }
-    given
+    freed
 }

@@ -1,4 +1,5 @@
-//! Which groups are killed with a victim (cgroup-v2.rst, memory.oom.group; `mem_cgroup_get_oom_group`, since Linux 4.19).
+//! Which groups are killed with a victim (cgroup-v2.rst, memory.oom.group; `mem_cgroup_get_oom_group`, since Linux
+//! 4.19).
 
 ghost use Rattle.std.specs.Prelude.{◌≡◌, ◌≢◌, IfSome, IsTrue};
 ghost use Rattle.group_tree.specs.Groups.{in_subtree};

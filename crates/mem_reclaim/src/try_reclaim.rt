@@ -4,7 +4,7 @@ ghost use Rattle.std.specs.Prelude.{◌≡◌, ◌<◌, ◌&&◌, Some, IsTrue};
 ghost use Rattle.lru_lists.specs.declared.record.LruList.TheVariants.{Inactive};
 ghost use Rattle.lru_lists.specs.Lists.{entry_of};
 ghost use Rattle.mem_machine.specs.Machines.{home_of};
-ghost use Rattle.mem_reclaim.specs.Moves.{Leads};
+ghost use Rattle.mem_reclaim.specs.Moves.{FreesBySteps};
 ghost use Rattle.mem_reclaim.specs.Units.{TriesReclaim};
 ghost use Rattle.mem_reclaim.specs.Staying.{Keeps, UsageFalls};
 
@@ -34,9 +34,9 @@ pub(crate) fn try_reclaim<N: BootName>(
 ) -> u32
     requires frame { frame < N.frames.frames }
     requires unit { unit ≡ entry_of machine.old.links frame }
-    requires stands { home_of machine.old.links frame ≡ Some (record { owner = group; list = list }) }
+    requires home { home_of machine.old.links frame ≡ Some (record { owner = group; list = list }) }
     requires inactive { IsTrue marks_count → list ≡ Inactive }
-    ensures attempts { Leads N.frames result machine.old machine.new (TriesReclaim marks_count group unit 1) }
+    ensures attempts { FreesBySteps N.frames result machine.old machine.new (TriesReclaim marks_count group unit 1) }
     ensures keeps { Keeps N.frames machine.old machine.new }
     ensures usage { UsageFalls group result machine.old machine.new }
 {

@@ -18,16 +18,16 @@ use Rattle.mem_system.specs.Outcomes.{HasItsGroups, reply_of}
 use Rattle.mem_system.specs.Commands.{BySteps, Transition, transition}
 use Rattle.mem_system.proofs.Telling.{path_told}
 
-pub allocated : (sizes : Config) (path : List ℕ) (order group : ℕ) (way : Transition VisitState) → number_at way.before.machine.ledger.groups path ≡ Some group
-    → order ≤ 10 → (answer : Result ℕ AllocFault) → AllocatesAs sizes group order answer way
-    → ((g : ℕ) → answer ≡ Err (Over g) → IsTrue (has_group way.after.machine.ledger.groups g))
-    → Allocates sizes path order (reply_of way.after.machine.ledger (outcome_of answer)) way
-allocated sizes path order group way found within (Ok f) done there = record { group = group; found = found; within = within; allocates = done }
-allocated sizes path order group way found within (Err (Over g)) done there =
-    (record { group = group; found = found; within = within; allocates = done }, path_told way.after.machine.ledger.groups g (there g refl))
-allocated sizes path order group way found within (Err NoFrames) done there =
+pub allocated : (sizes : Config) (path : List ℕ) (order group : ℕ) (call : Transition VisitState) → number_at call.before.machine.ledger.groups path ≡ Some group
+    → order ≤ 10 → (answer : Result ℕ AllocFault) → AllocatesAs sizes group order answer call
+    → ((g : ℕ) → answer ≡ Err (Over g) → IsTrue (has_group call.after.machine.ledger.groups g))
+    → Allocates sizes path order (reply_of call.after.machine.ledger (outcome_of answer)) call
+allocated sizes path order group call found within (Ok f) done there = record { group = group; found = found; within = within; allocates = done }
+allocated sizes path order group call found within (Err (Over g)) done there =
+    (record { group = group; found = found; within = within; allocates = done }, path_told call.after.machine.ledger.groups g (there g refl))
+allocated sizes path order group call found within (Err NoFrames) done there =
     record { group = group; found = found; within = within; allocates = done }
-allocated sizes path order group way found within (Err RequesterKilled) done there =
+allocated sizes path order group call found within (Err RequesterKilled) done there =
     record { group = group; found = found; within = within; allocates = done }
 
 -- the group that is over its limit is there

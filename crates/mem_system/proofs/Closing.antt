@@ -8,14 +8,14 @@ use Rattle.std.proofs.lemmas.List.{take_all, drop_all}
 use Rattle.seat_sums.specs.Totals.{sum_over}
 use Rattle.frame_word.specs.declared.view.FrameView.{FrameView}
 use Rattle.frame_word.specs.Views.{note_of}
-use Rattle.frame_word.specs.ReferenceRule.{no_mark, only, references_in}
+use Rattle.frame_word.specs.ReferenceRule.{mark_base, only, references_in}
 use Rattle.frame_word.specs.ReferenceRule.{opened_in}
 use Rattle.frame_word.specs.Seats.{KnownTable, KnownSeat, view_of, AreSeatsAt}
 use Rattle.stock_word.specs.declared.view.Stock.{Stock}
 use Rattle.stock_word.specs.declared.view.Stock.TheVariants.{NoGroup, HeldBy, DrainedOf}
 use Rattle.stock_word.specs.declared.view.StockView.{StockView}
 use Rattle.stock_word.specs.StockRule.{IsStockOf}
-use Rattle.stock_word.specs.Stock.{Words, Seated, AreOf, account_of, view_in, pages_of, is_held}
+use Rattle.stock_word.specs.Stock.{KnownStockTable, KnownStockSeat, AreOf, account_of, view_in, pages_of, is_held}
 use Rattle.cpu_part.specs.Cpus.{KnownCpu, IsIdle, times}
 use Rattle.step_rules.specs.State.{one_if}
 use Rattle.mem_machine.specs.Machines.{KnownMachine, IsConsistent, home_of}
@@ -43,17 +43,17 @@ written_back k new old long all =
     ap (λ (l : List KnownCpu). take k (new ++ l)) (drop_all (length new) old (omega (arith, long))) ∙ ap (λ (l : List KnownCpu). take k l) (append-nil new)
     ∙ take_all k new (omega (arith, long, all))
 
-pub idle_all : (t : KnownTable) (w : Words) (m : KnownMachine) (cpus : List KnownCpu) → All (λ c. IsSpent t w m c) cpus → All IsIdle cpus
+pub idle_all : (t : KnownTable) (w : KnownStockTable) (m : KnownMachine) (cpus : List KnownCpu) → All (λ c. IsSpent t w m c) cpus → All IsIdle cpus
 idle_all t w m cpus all = λ k any inside. (all k any inside).idle
 
 -- the seats of the CPUs are at the tables
-pub frame_seats_at : (t : KnownTable) (w : Words) (m : KnownMachine) (cpus : List KnownCpu) → All (λ c. IsSpent t w m c) cpus
+pub frame_seats_at : (t : KnownTable) (w : KnownStockTable) (m : KnownMachine) (cpus : List KnownCpu) → All (λ c. IsSpent t w m c) cpus
     → AreSeatsAt t.table (map frame_seat_of cpus)
 frame_seats_at t w m [] all = tt
 frame_seats_at t w m (c ∷ cpus) all =
     ((all 0 c (omega arith)).tied.seats.frame_table, frame_seats_at t w m cpus (λ k any inside. all (suc k) any (omega (arith, inside))))
 
-pub stock_seats_at : (t : KnownTable) (w : Words) (m : KnownMachine) (cpus : List KnownCpu) → All (λ c. IsSpent t w m c) cpus
+pub stock_seats_at : (t : KnownTable) (w : KnownStockTable) (m : KnownMachine) (cpus : List KnownCpu) → All (λ c. IsSpent t w m c) cpus
     → AreOf w.table (map stock_seat_of cpus)
 stock_seats_at t w m [] all = tt
 stock_seats_at t w m (c ∷ cpus) all =
@@ -86,7 +86,7 @@ not_held (HeldBy g n) is = absurd (false≢true (sym is))
 not_held (DrainedOf g) is = refl
 
 -- a machine all of whose visits are shut, and CPUs that have nothing left, with their seats at the closed tables
-module _ (t : KnownTable) (w : Words) (m : KnownMachine) (cpus : List KnownCpu) (shut : AllShut m) (all : All (λ c. IsSpent t w m c) cpus)
+module _ (t : KnownTable) (w : KnownStockTable) (m : KnownMachine) (cpus : List KnownCpu) (shut : AllShut m) (all : All (λ c. IsSpent t w m c) cpus)
     (closed : IsClosed t w m (map frame_seat_of cpus) (map stock_seat_of cpus)) where
   ok : IsConsistent t w m
   ok = closed.consistent
@@ -124,7 +124,7 @@ module _ (t : KnownTable) (w : Words) (m : KnownMachine) (cpus : List KnownCpu) 
         | inr other ↦ elim other [
           | inl in_hand ↦ let nothing = in_hand.0 in let no = in_hand.1 in omega (arith, nothing, no, zone, none)
           | inr passing ↦
-              let p = slice_index closed.frame_words f - no_mark in
+              let p = slice_index closed.frame_words f - mark_base in
               let low = passing.0 in
               let high = passing.1 in
               let visit = closed.rule.each_visit p (omega (arith, low)) (omega (arith, high, low)) in
@@ -185,7 +185,7 @@ drops_join : (a b c k most : ℕ) → min (min (a + b + c) most + k) most ≡ mi
 drops_join a b c k most = omega arith
 
 -- the last visits, from their two rounds
-pub all_visits : (t : KnownTable) (w : Words) (l : KnownLocked) (cpus : List KnownCpu) (x : KnownMachine) (rested : List KnownCpu) (k : KnownSpent)
+pub all_visits : (t : KnownTable) (w : KnownStockTable) (l : KnownLocked) (cpus : List KnownCpu) (x : KnownMachine) (rested : List KnownCpu) (k : KnownSpent)
     → IsQuiet t w l → pins_of cpus ≡ 0 → k.drops ≡ min (drops_of cpus) max_count
     → ForEachCpu (VisitsUnderLock t SettlesInVisit) l.machine cpus x rested → ForEachCpu (VisitsUnderLock t Empties) x rested k.machine k.cpus
     → MakesLastVisits t w l cpus k
@@ -205,14 +205,14 @@ all_visits t w l cpus x rested k quiet no_pin drops rests empties = record {
 }
 
 -- the tables are closed
-pub all_closes : (t : KnownTable) (w : Words) (k : KnownSpent) (a : Audit) (frame_seats : List KnownSeat) (stock_seats : List Seated)
+pub all_closes : (t : KnownTable) (w : KnownStockTable) (k : KnownSpent) (a : Audit) (frame_seats : List KnownSeat) (stock_seats : List KnownStockSeat)
     → AllShut k.machine → All (λ c. IsSpent t w k.machine c) k.cpus
     → (((p : ℕ) → NoneLentTo p k.machine.frame_states) → IsAuditOf t k.machine k.drops a)
     → IsClosed t w k.machine frame_seats stock_seats → frame_seats ≡ map frame_seat_of k.cpus → stock_seats ≡ map stock_seat_of k.cpus → Closes t w k a
 all_closes t w k a frame_seats stock_seats shut all tells_then closing frames stocks =
     let y = k.machine in
     let closed : IsClosed t w y (map frame_seat_of k.cpus) (map stock_seat_of k.cpus) =
-    subst (λ (z : List KnownSeat × List Seated). IsClosed t w y z.0 z.1) (λ i. (frames i, stocks i)) closing in
+    subst (λ (z : List KnownSeat × List KnownStockSeat). IsClosed t w y z.0 z.1) (λ i. (frames i, stocks i)) closing in
     let none = none_lent t w y k.cpus shut all closed in
     let tells = tells_then (λ p f is. none p f is) in
     let placed = each_is_placed y.frame_states (λ f p is. none p f is) in

@@ -5,7 +5,7 @@ use Rattle.std.proofs.lemmas.List.{drop_more, take_more_set, drop-set-lt, length
 use Rattle.std.proofs.lemmas.List.Sums.{get_or-le-sum_by}
 use Rattle.std.proofs.lemmas.List.Elements.{All-append}
 use Rattle.frame_word.specs.Seats.{KnownTable}
-use Rattle.stock_word.specs.Stock.{Words}
+use Rattle.stock_word.specs.Stock.{KnownStockTable}
 use Rattle.cpu_part.specs.Cpus.{KnownCpu}
 use Rattle.mem_machine.specs.Machines.{KnownMachine}
 use Rattle.mem_system.specs.Ends.{ForEachCpu, IsSpent, LendsAndFillsNone, pins_of}
@@ -70,7 +70,7 @@ no_pin_at cpus now i any inside long left none =
     let part = get_or-le-sum_by (λ (c : KnownCpu). length c.pins) cpus i any within in
     ap (λ (l : List KnownCpu). (get_or l 0 any).pins) (same_next i cpus now any within long left) ∙ nothing_left _ (omega (arith, part, none))
 
-pub spent_still : (t : KnownTable) (w : Words) (x y : KnownMachine) → LendsAndFillsNone x y → (c : KnownCpu) → IsSpent t w x c → IsSpent t w y c
+pub spent_still : (t : KnownTable) (w : KnownStockTable) (x y : KnownMachine) → LendsAndFillsNone x y → (c : KnownCpu) → IsSpent t w x c → IsSpent t w y c
 spent_still t w x y alone c spent =
     record { tied = spent.tied; idle = spent.idle; none_lent = alone.none_lent c.number spent.none_lent; drained = alone.drained c.number spent.drained }
 

@@ -11,11 +11,11 @@ use Rattle.mem_machine.specs.Machines.{KnownMachine, Visits, KeepsVisit, with_wa
 use Rattle.mem_machine.specs.Steps.{drain_stocks_steps, set_max_steps}
 use Rattle.mem_machine.specs.Stocks.{DrainsSubtree, AreDrained}
 use Rattle.mem_machine.specs.Local.{MakesForAny, visit_state}
-use Rattle.mem_reclaim.specs.Moves.{Leads}
+use Rattle.mem_reclaim.specs.Moves.{FreesBySteps}
 use Rattle.mem_reclaim.specs.Rounds.{ReclaimsRounds, pages_missing}
 use Rattle.mem_reclaim.specs.Staying.{Keeps, MissedAll}
 use Rattle.step_rules.specs.After.{Run}
-use Rattle.mem_alloc.specs.Kills.{KillsFor}
+use Rattle.mem_alloc.specs.Kills.{KillsForRoom}
 use Rattle.mem_alloc.specs.Stepping.{ByStepsOfAny, transition}
 use Rattle.mem_alloc.proofs.Killing.{kills_lower}
 use Rattle.mem_alloc.proofs.NoRash.{all_same}
@@ -82,11 +82,11 @@ above_visit t g limit m n c b v = elim (cases_lt limit (current_of m.ledger g)) 
 ]
 
 -- the stocks are drained, and then the rounds are made
-pub lowered_by : (t : KnownTable) (g limit pages given : ℕ) (m x n : KnownMachine) → DrainsSubtree t g pages m x
+pub lowered_by : (t : KnownTable) (g limit pages freed : ℕ) (m x n : KnownMachine) → DrainsSubtree t g pages m x
     → AreDrained g t.cpus x
-    → Leads t given x n (ReclaimsRounds g (pages_missing g 0 limit) 16)
+    → FreesBySteps t freed x n (ReclaimsRounds g (pages_missing g 0 limit) 16)
     → (limit < current_of n.ledger g + 0 → MissedAll g x n) → Keeps t x n → ByStepsOfAny t (LowersUsage g limit) m n
-lowered_by t g limit pages given m x n sub none leads missed keeps = record {
+lowered_by t g limit pages freed m x n sub none leads missed keeps = record {
   steps = drain_stocks_steps sub.drains ++ leads.steps;
   does = record {
     drains = sub.drains;
@@ -94,7 +94,7 @@ lowered_by t g limit pages given m x n sub none leads missed keeps = record {
     drains_all = sub.all;
     none_held = none;
     drain_runs = sub.steps;
-    given = given;
+    freed = freed;
     reclaims = leads;
     missed = λ over. missed (omega (arith, over));
     keeps = keeps;
@@ -108,7 +108,7 @@ lowered_by t g limit pages given m x n sub none leads missed keeps = record {
 
 -- the usage is above it
 pub lowered_above : (t : KnownTable) (g limit : ℕ) (m y x n : KnownMachine) → limit < current_of m.ledger g → y ≡ with_limit_noted m g 0
-    → ByStepsOfAny t (LowersUsage g limit) y x → ByStepsOfAny t (KillsFor None g 0) x n
+    → ByStepsOfAny t (LowersUsage g limit) y x → ByStepsOfAny t (KillsForRoom None g 0) x n
     → ByStepsOfAny t (LowersAbove g limit) m n
 lowered_above t g limit m y x n over told of_y k =
     let b = subst (λ (z : KnownMachine). ByStepsOfAny t (LowersUsage g limit) z x) told of_y in record {

@@ -49,56 +49,56 @@ use Rattle.mem_system.specs.Commands.{Executes}
 
 -- ---- commands that kill nobody
 
-makes_quiet : (path : List ℕ) (said : Reply) (way : Transition KnownMachine) → MakesGroup path said way → has_kill way.steps ≡ false
-makes_quiet path (reply.Group n) way h = ap has_kill h.steps_are
-makes_quiet path (reply.Refused fault) way h = ap has_kill h.1.steps_are
-makes_quiet path other way h = absurd h
+makes_quiet : (path : List ℕ) (said : Reply) (call : Transition KnownMachine) → MakesGroup path said call → has_kill call.steps ≡ false
+makes_quiet path (reply.Group n) call h = ap has_kill h.steps_are
+makes_quiet path (reply.Refused fault) call h = ap has_kill h.1.steps_are
+makes_quiet path other call h = absurd h
 
-lowers_quiet : (g limit : ℕ) (way : Transition KnownMachine) → LowersUsage g limit way → has_kill way.steps ≡ false
-lowers_quiet g limit way h =
+lowers_quiet : (g limit : ℕ) (call : Transition KnownMachine) → LowersUsage g limit call → has_kill call.steps ≡ false
+lowers_quiet g limit call h =
     ap has_kill h.steps_are
     ∙ no_kill_both (drain_stocks_steps h.drains) h.reclaims.steps (quiet_drains h.drains).quiet h.reclaims.moves.quiet
 
-removes_quiet : (path : List ℕ) (said : Reply) (way : Transition KnownMachine) → Removes path said way → has_kill way.steps ≡ false
-removes_quiet path reply.Done way h =
+removes_quiet : (path : List ℕ) (said : Reply) (call : Transition KnownMachine) → Removes path said call → has_kill call.steps ≡ false
+removes_quiet path reply.Done call h =
     ap has_kill h.steps_are
-    ∙ no_kill_both h.lowering (remove_steps h.group) (lowers_quiet h.group 0 (transition way.table way.before h.lowering h.emptied) h.lowers) refl
-removes_quiet path (reply.Refused fault.Busy) way h = lowers_quiet h.group 0 way h.lowers
-removes_quiet path (reply.Refused other) way h = ap has_kill h.1.steps_are
-removes_quiet path other way h = absurd h
+    ∙ no_kill_both h.lowering (remove_steps h.group) (lowers_quiet h.group 0 (transition call.table call.before h.lowering h.emptied) h.lowers) refl
+removes_quiet path (reply.Refused fault.Busy) call h = lowers_quiet h.group 0 call h.lowers
+removes_quiet path (reply.Refused other) call h = ap has_kill h.1.steps_are
+removes_quiet path other call h = absurd h
 
-touches_quiet : (f : ℕ) (said : Reply) (way : Transition KnownMachine) → TouchesFrame f said way → has_kill way.steps ≡ false
-touches_quiet f reply.Marked way h = ap has_kill h.1
-touches_quiet f reply.Active way h = ap has_kill h.1
-touches_quiet f (reply.Refused fault.NotKept) way h = ap has_kill h.stays.steps_are
-touches_quiet f other way h = absurd h
+touches_quiet : (f : ℕ) (said : Reply) (call : Transition KnownMachine) → TouchesFrame f said call → has_kill call.steps ≡ false
+touches_quiet f reply.Marked call h = ap has_kill h.1
+touches_quiet f reply.Active call h = ap has_kill h.1
+touches_quiet f (reply.Refused fault.NotKept) call h = ap has_kill h.stays.steps_are
+touches_quiet f other call h = absurd h
 
-notes_quiet : (is_dirty : Bool) (f : ℕ) (said : Reply) (way : Transition KnownMachine) → NotesDirt f is_dirty said way → has_kill way.steps ≡ false
-notes_quiet is_dirty f reply.Done way h = ap has_kill h.1
-notes_quiet is_dirty f (reply.Refused fault.NotKept) way h = ap has_kill h.stays.steps_are
-notes_quiet is_dirty f other way h = absurd h
+notes_quiet : (is_dirty : Bool) (f : ℕ) (said : Reply) (call : Transition KnownMachine) → NotesDirt f is_dirty said call → has_kill call.steps ≡ false
+notes_quiet is_dirty f reply.Done call h = ap has_kill h.1
+notes_quiet is_dirty f (reply.Refused fault.NotKept) call h = ap has_kill h.stays.steps_are
+notes_quiet is_dirty f other call h = absurd h
 
-cuts_quiet : (sizes : Config) (way : Transition VisitState) → CutsList sizes way → has_kill way.steps ≡ false
-cuts_quiet sizes way h = ap has_kill h.steps_are ∙ (back_calm way.before.cpu.number h.cut).quiet
+cuts_quiet : (sizes : Config) (call : Transition VisitState) → CutsList sizes call → has_kill call.steps ≡ false
+cuts_quiet sizes call h = ap has_kill h.steps_are ∙ (back_calm call.before.cpu.number h.cut).quiet
 
-lists_quiet : (sizes : Config) (f : ℕ) (way : Transition VisitState) → ListsFrame sizes f way → has_kill way.steps ≡ false
-lists_quiet sizes f way h =
+lists_quiet : (sizes : Config) (f : ℕ) (call : Transition VisitState) → ListsFrame sizes f call → has_kill call.steps ≡ false
+lists_quiet sizes f call h =
     ap has_kill h.steps_are
-    ∙ no_kill_both h.cutting (lend_steps way.before.cpu.number f) (cuts_quiet sizes (transition way.table way.before h.cutting h.mid) h.cuts) refl
+    ∙ no_kill_both h.cutting (lend_steps call.before.cpu.number f) (cuts_quiet sizes (transition call.table call.before h.cutting h.mid) h.cuts) refl
 
-returns_quiet : (sizes : Config) (f : ℕ) (way : Transition VisitState) → ReturnsFrames sizes f way → has_kill way.steps ≡ false
-returns_quiet sizes f way h =
+returns_quiet : (sizes : Config) (f : ℕ) (call : Transition VisitState) → ReturnsFrames sizes f call → has_kill call.steps ≡ false
+returns_quiet sizes f call h =
     let listed : has_kill h.listing ≡ false = elim (cases_eq h.returns.unit.order 0) [
-      | inl single ↦ lists_quiet sizes f (transition way.table (visit_state h.freed way.before.cpu) h.listing way.after) (h.single single)
+      | inl single ↦ lists_quiet sizes f (transition call.table (visit_state h.freed call.before.cpu) h.listing call.after) (h.single single)
       | inr block ↦ ap has_kill (h.block block).steps_are
     ] in
     ap has_kill h.steps_are ∙ no_kill_both (release_steps f released.Returned) h.listing refl listed
 
-releases_quiet : (sizes : Config) (f : ℕ) (said : Reply) (way : Transition VisitState) → ReleasesFrame sizes f said way → has_kill way.steps ≡ false
-releases_quiet sizes f (reply.Left left) way h = ap has_kill h.steps_are
-releases_quiet sizes f reply.Returned way h = returns_quiet sizes f way h
-releases_quiet sizes f (reply.Refused fault.NotKept) way h = ap has_kill h.does.stays.steps_are
-releases_quiet sizes f other way h = absurd h
+releases_quiet : (sizes : Config) (f : ℕ) (said : Reply) (call : Transition VisitState) → ReleasesFrame sizes f said call → has_kill call.steps ≡ false
+releases_quiet sizes f (reply.Left left) call h = ap has_kill h.steps_are
+releases_quiet sizes f reply.Returned call h = returns_quiet sizes f call h
+releases_quiet sizes f (reply.Refused fault.NotKept) call h = ap has_kill h.does.stays.steps_are
+releases_quiet sizes f other call h = absurd h
 
 -- ---- a limit that is written
 

@@ -1,7 +1,7 @@
 -- Visits under the lock, and the steps that the watch takes of them. Serves the visits at the end of a system.
 use Rattle.std.proofs.Common.{◌≡◌, ℕ, List, [], ◌∷◌, ◌++◌, sym, subst}
 use Rattle.frame_word.specs.Seats.{KnownTable}
-use Rattle.stock_word.specs.Stock.{Words}
+use Rattle.stock_word.specs.Stock.{KnownStockTable}
 use Rattle.cpu_part.specs.Cpus.{KnownCpu}
 use Rattle.step_rules.specs.declared.step.Action.TheVariants.{Lock, Unlock}
 use Rattle.step_rules.specs.declared.step.Answer.TheVariants.{Done}
@@ -33,7 +33,7 @@ locked_visit t Does m m1 n1 n c d p named found lock visit left unlock = record 
 pub shut_seen : (m n : KnownMachine) (w : KnownWatch) → n ≡ with_watch m w → AllShut m → AllShut n
 shut_seen m n w is shut = subst AllShut (sym is) shut
 
-pub spent_seen : (t : KnownTable) (s : Words) (m n : KnownMachine) (w : KnownWatch) (c : KnownCpu) → n ≡ with_watch m w → IsSpent t s m c → IsSpent t s n c
+pub spent_seen : (t : KnownTable) (s : KnownStockTable) (m n : KnownMachine) (w : KnownWatch) (c : KnownCpu) → n ≡ with_watch m w → IsSpent t s m c → IsSpent t s n c
 spent_seen t s m n w c is spent = subst (λ (k : KnownMachine). IsSpent t s k c) (sym is)
     (record { tied = spent.tied; idle = spent.idle; none_lent = spent.none_lent; drained = spent.drained })
 

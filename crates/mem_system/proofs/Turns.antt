@@ -5,7 +5,7 @@ use Rattle.std.specs.Prelude.{slice_set}
 use Rattle.std.proofs.lemmas.Bool.{cases_lt, cases_eq}
 use Rattle.frame_word.specs.Seats.{KnownTable}
 use Rattle.stock_word.specs.declared.view.Account.{Account}
-use Rattle.stock_word.specs.Stock.{Seated, account_at, account_of}
+use Rattle.stock_word.specs.Stock.{KnownStockSeat, account_at, account_of}
 use Rattle.stock_word.specs.Kinds.{draining}
 use Rattle.cpu_part.specs.Cpus.{KnownCpu}
 use Rattle.mem_machine.specs.declared.frame_state.FrameState.{FrameState}
@@ -114,7 +114,7 @@ emptied_alone m entered x y n c1 c2 frames p q k opened takes drains shut =
     let first : entered.frame_states ≡ m.frame_states = ap (λ (z : KnownMachine). z.frame_states) opened in
     let accounts : n.stock_seat.view.accounts ≡ (draining m.stock_seat.view q k).accounts =
     ap (λ (z : KnownMachine). z.stock_seat.view.accounts) shut ∙ ap (λ (z : KnownMachine). z.stock_seat.view.accounts) drains.machine
-    ∙ ap (λ (z : Seated). (draining z.view q k).accounts) (taken.stock_seat ∙ ap (λ (z : KnownMachine). z.stock_seat) opened) in
+    ∙ ap (λ (z : KnownStockSeat). (draining z.view q k).accounts) (taken.stock_seat ∙ ap (λ (z : KnownMachine). z.stock_seat) opened) in
     record {
       none_lent = λ r none f is. none f (sym (ap (λ (l : List FrameState). frame_state_at l f) first)
           ∙ taken.lent f r (sym (ap (λ (l : List FrameState). frame_state_at l f) frame_states) ∙ is));

@@ -6,7 +6,7 @@ use Rattle.frame_word.specs.Views.{put_at}
 use Rattle.frame_word.specs.Seats.{KnownTable}
 use Rattle.frame_word.proofs.Notes.{put_here, put_else}
 use Rattle.cpu_part.specs.Cpus.{KnownCpu}
-use Rattle.mem_machine.specs.Machines.{KnownMachine, is_killed, with_watch}
+use Rattle.mem_machine.specs.Machines.{KnownMachine, is_killed, with_watch, without_notes}
 use Rattle.mem_machine.specs.Local.{local_of, fresh_group, visit_state, MakesAs}
 use Rattle.mem_machine.specs.Settling.{SettlesFresh, SettlesAllFresh, ReturnsAllBack, Settles, settle_steps}
 use Rattle.mem_machine.specs.Steps.{open_steps, shut_steps}
@@ -48,16 +48,16 @@ settled_opened m n c d s = returned_all c.back s.mid.machine n s.mid.cpu d s.bac
 
 -- the whole command, from its four parts
 pub served : (t : KnownTable) (cmd : Cmd) (l k : KnownLocked) (c d : KnownCpu) (reply : Reply) (entered mid x : KnownMachine) (c1 c2 c3 : KnownCpu)
-    → entered ≡ with_watch (with_visit_of (record l.machine { notes = [] }) c.number 1) entered.watch → c1 ≡ c → c2.number ≡ c1.number → c3.number ≡ c2.number
+    → entered ≡ with_watch (with_visit_of (without_notes l.machine) c.number 1) entered.watch → c1 ≡ c → c2.number ≡ c1.number → c3.number ≡ c2.number
     → k.machine ≡ with_watch (with_visit_of x c3.number 0) k.machine.watch → d ≡ c3 → k.sizes ≡ l.sizes
-    → MakesAs t c.number (visit_state (record l.machine { notes = [] }) c) (open_steps c.number) (visit_state entered c1)
+    → MakesAs t c.number (visit_state (without_notes l.machine) c) (open_steps c.number) (visit_state entered c1)
     → Settles (visit_state entered c1) (visit_state mid c2) → MakesAs t c1.number (visit_state entered c1) (settle_steps (visit_state entered c1)) (visit_state mid c2)
     → BySteps t (Executes l.sizes cmd reply) (visit_state mid c2) (visit_state x c3)
     → MakesAs t c3.number (visit_state x c3) (shut_steps c3.number) (visit_state k.machine d)
     → IsServed t cmd reply (locked_state l c) (locked_state k d)
 served t cmd l k c d reply entered mid x c1 c2 c3 opened same second third shut after sizes first settles rests executed last =
     let p = c.number in
-    let begins = with_watch (with_visit_of (record l.machine { notes = [] }) p 1) entered.watch in
+    let begins = with_watch (with_visit_of (without_notes l.machine) p 1) entered.watch in
     let two : c2.number ≡ p = second ∙ ap (λ (y : KnownCpu). y.number) same in
     let three : c3.number ≡ p = third ∙ two in
     let before : KnownMachine × KnownCpu → Type 0 = λ (y : KnownMachine × KnownCpu). MakesAs t p (visit_state l.machine c) (open_steps p) (visit_state y.0 y.1) in

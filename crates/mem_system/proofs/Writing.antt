@@ -12,7 +12,7 @@ use Rattle.mem_machine.specs.Machines.{KnownMachine}
 use Rattle.mem_machine.specs.Local.{visit_state}
 use Rattle.mem_machine.proofs.Followed.{makes_none}
 use Rattle.group_charge.specs.Charges.{current_of}
-use Rattle.mem_reclaim.specs.Moves.{Leads}
+use Rattle.mem_reclaim.specs.Moves.{FreesBySteps}
 use Rattle.mem_reclaim.specs.Rounds.{ReclaimsAmount}
 use Rattle.mem_reclaim.specs.Staying.{Keeps, MissedAll}
 use Rattle.mem_alloc.specs.Stepping.{ByStepsOfAny}
@@ -62,7 +62,7 @@ read_only OomGroup a b c = absurd (b refl)
 read_only Reclaim a b c = absurd (c refl)
 
 module _ (t : KnownTable) (value : List ℕ) (g asked freed : ℕ) (m n : KnownMachine) (reads : ReadsAmount value asked)
-    (leads : Leads t freed m n (ReclaimsAmount g asked)) (missed : freed < asked → MissedAll g m n)
+    (leads : FreesBySteps t freed m n (ReclaimsAmount g asked)) (missed : freed < asked → MissedAll g m n)
     (usage : current_of n.ledger g + freed ≡ current_of m.ledger g) (keeps : Keeps t m n) where
   -- all that was asked for is freed
   pub reclaims_all : asked ≤ freed → ByStepsOfAny t (WritesTo Reclaim value g Done) m n

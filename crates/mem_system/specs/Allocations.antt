@@ -16,36 +16,36 @@ use Rattle.mem_system.specs.declared.command.Reply.TheVariants.{Frame, OverLimit
 
 -- an allocation of this order for the group: a single frame if the order is 0, else a block
 pub record AllocatesAs (sizes : Config) (group order : ℕ) (answer : Result ℕ AllocFault)
-    (way : Transition VisitState) : Type 0 where
-  pub frame : order ≡ 0 → AllocatesFrame sizes group answer way
-  pub block : order ≢ 0 → AllocatesBlock group order answer way
+    (call : Transition VisitState) : Type 0 where
+  pub frame : order ≡ 0 → AllocatesFrame sizes group answer call
+  pub block : order ≢ 0 → AllocatesBlock group order answer call
 
 -- a group has the path and the order is at most 10: the allocation is made for the group, with this answer
 pub record AllocatesFor (sizes : Config) (path : List ℕ) (order : ℕ) (answer : Result ℕ AllocFault)
-    (way : Transition VisitState) : Type 0 where
+    (call : Transition VisitState) : Type 0 where
   pub group : ℕ
-  pub found : number_at way.before.machine.ledger.groups path ≡ Some group
+  pub found : number_at call.before.machine.ledger.groups path ≡ Some group
   pub within : order ≤ 10
-  pub allocates : AllocatesAs sizes group order answer way
+  pub allocates : AllocatesAs sizes group order answer call
 
 -- a group has the path, but the order is above 10, and nothing changed
-pub record HasBadOrder (path : List ℕ) (order : ℕ) (way : Transition VisitState) : Type 0 where
+pub record HasBadOrder (path : List ℕ) (order : ℕ) (call : Transition VisitState) : Type 0 where
   pub group : ℕ
-  pub found : number_at way.before.machine.ledger.groups path ≡ Some group
+  pub found : number_at call.before.machine.ledger.groups path ≡ Some group
   pub above : 10 < order
-  pub stays : Stays way
+  pub stays : Stays call
 
 -- Alloc: the reply is the frame or the head of the block, or a refusal for the first cause that holds
 abbrev pub Allocates : Config → (path : List ℕ) (order : ℕ) → Reply → Transition VisitState → Type 0
-Allocates sizes path order (Frame head) way = AllocatesFor sizes path order (Ok head) way
-Allocates sizes path order (OverLimit over text) way =
-    AllocatesFor sizes path order (Err (Over over)) way × (path_of way.after.machine.ledger.groups over ≡ Some text)
-Allocates sizes path order (Refused fault.NoGroup) way =
-    (number_at way.before.machine.ledger.groups path ≡ None) × Stays way
-Allocates sizes path order (Refused fault.BadOrder) way = HasBadOrder path order way
-Allocates sizes path order (Refused fault.NoFrames) way = AllocatesFor sizes path order (Err NoFrames) way
-Allocates sizes path order (Refused fault.Killed) way = AllocatesFor sizes path order (Err RequesterKilled) way
-Allocates sizes path order other way = ⊥
+Allocates sizes path order (Frame head) call = AllocatesFor sizes path order (Ok head) call
+Allocates sizes path order (OverLimit over text) call =
+    AllocatesFor sizes path order (Err (Over over)) call × (path_of call.after.machine.ledger.groups over ≡ Some text)
+Allocates sizes path order (Refused fault.NoGroup) call =
+    (number_at call.before.machine.ledger.groups path ≡ None) × Stays call
+Allocates sizes path order (Refused fault.BadOrder) call = HasBadOrder path order call
+Allocates sizes path order (Refused fault.NoFrames) call = AllocatesFor sizes path order (Err NoFrames) call
+Allocates sizes path order (Refused fault.Killed) call = AllocatesFor sizes path order (Err RequesterKilled) call
+Allocates sizes path order other call = ⊥
 
 -- the outcome of an allocation, by its answer
 abbrev pub outcome_of : Result ℕ AllocFault → Outcome

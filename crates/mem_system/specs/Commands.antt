@@ -1,7 +1,7 @@
 -- What each command does inside a visit, by which steps, and with which reply.
 use Rattle.std.specs.Prelude.{◌≡◌, ℕ, true, false, ◌+◌, ◌<◌, ◌≤◌, List, [], length}
 use Rattle.frame_word.specs.Seats.{KnownTable}
-use Rattle.stock_word.specs.Stock.{Words}
+use Rattle.stock_word.specs.Stock.{KnownStockTable}
 use Rattle.cpu_part.specs.Cpus.{KnownCpu}
 use Rattle.zone_sizes.specs.declared.config.Config.{Config}
 use Rattle.zone_sizes.specs.Config.{IsValidConfig}
@@ -39,7 +39,8 @@ IsOfZone table command = NamesFrameBelow table.frames command
 
 -- What a command finds inside its visit. The CPU is visited and settled, the sizes are in their ranges, and the tables
 -- have these sizes.
-pub record MayExecute (table : KnownTable) (stock_table : Words) (sizes : Config) (now : VisitState) : Type 0 where
+pub record MayExecute (table : KnownTable) (stock_table : KnownStockTable) (sizes : Config)
+    (now : VisitState) : Type 0 where
   pub visit : Visits table now
   pub settled : IsSettled now.cpu
   pub valid : IsValidConfig sizes
@@ -47,17 +48,17 @@ pub record MayExecute (table : KnownTable) (stock_table : Words) (sizes : Config
 
 -- what the command does inside the visit, and its reply
 abbrev pub Executes : Config → Cmd → Reply → Transition VisitState → Type 0
-Executes sizes (Mkdir path) reply way = OfMachineAlone (MakesGroup path.now reply) way
-Executes sizes (Rmdir path) reply way = OfMachineAlone (Removes path.now reply) way
-Executes sizes (Write path file value) reply way = OfMachineAlone (Writes path.now file.now value.now reply) way
-Executes sizes (Read path file) reply way = Reads way.before.machine.ledger path.now file.now reply × Stays way
-Executes sizes Settle reply way = (reply ≡ Done) × Stays way
-Executes sizes (Owner frame) reply way = TellsPlace way.before.machine frame reply × Stays way
-Executes sizes (Touch frame) reply way = OfMachineAlone (TouchesFrame frame reply) way
-Executes sizes (Dirty frame) reply way = OfMachineAlone (NotesDirt frame true reply) way
-Executes sizes (Clean frame) reply way = OfMachineAlone (NotesDirt frame false reply) way
-Executes sizes (Release frame) reply way = ReleasesFrame sizes frame reply way
-Executes sizes (Alloc path order) reply way = Allocates sizes path.now order reply way
+Executes sizes (Mkdir path) reply call = OfMachineAlone (MakesGroup path.now reply) call
+Executes sizes (Rmdir path) reply call = OfMachineAlone (Removes path.now reply) call
+Executes sizes (Write path file value) reply call = OfMachineAlone (Writes path.now file.now value.now reply) call
+Executes sizes (Read path file) reply call = Reads call.before.machine.ledger path.now file.now reply × Stays call
+Executes sizes Settle reply call = (reply ≡ Done) × Stays call
+Executes sizes (Owner frame) reply call = TellsPlace call.before.machine frame reply × Stays call
+Executes sizes (Touch frame) reply call = OfMachineAlone (TouchesFrame frame reply) call
+Executes sizes (Dirty frame) reply call = OfMachineAlone (NotesDirt frame true reply) call
+Executes sizes (Clean frame) reply call = OfMachineAlone (NotesDirt frame false reply) call
+Executes sizes (Release frame) reply call = ReleasesFrame sizes frame reply call
+Executes sizes (Alloc path order) reply call = Allocates sizes path.now order reply call
 
 -- the fresh frames after a command: the frame that an Alloc of order 0 returned, and none after any other command
 abbrev pub FreshAfter : Cmd → Reply → (fresh : List ℕ) → Type 0

@@ -9,8 +9,8 @@ use Rattle.step_rules.specs.State.{one_if}
 use Rattle.step_rules.specs.After.{Run}
 use Rattle.frame_word.specs.Seats.{KnownTable, KnownSeat, view_of}
 use Rattle.stock_word.specs.declared.view.Stock.{Stock}
-use Rattle.stock_word.specs.Stock.{Words, Seated, account_of, view_in, word_of, pages_of}
-use Rattle.stock_word.specs.StockRule.{IsStockOf, stock_place, report_place}
+use Rattle.stock_word.specs.Stock.{KnownStockTable, KnownStockSeat, account_of, view_in, word_of, pages_of}
+use Rattle.stock_word.specs.StockRule.{IsStockOf, stock_index, report_index}
 use Rattle.group_tree.specs.Room.{max_count}
 use Rattle.cpu_part.specs.Cpus.{KnownCpu, IsTied, IsIdle}
 use Rattle.mem_machine.specs.Machines.{KnownMachine, IsConsistent, home_of, with_watch}
@@ -35,27 +35,29 @@ abbrev pub drops_of : List KnownCpu → ℕ
 drops_of cpus = sum_by (λ cpu. cpu.drops) cpus
 
 -- the CPU is settled in a visit
-pub record SettlesInVisit (way : Transition VisitState) : Type 0 where
+pub record SettlesInVisit (call : Transition VisitState) : Type 0 where
   pub settled : KnownMachine
   pub seen : KnownWatch
-  pub settles : Settles (with_watch_at (visited way.before) seen) (visit_state settled way.after.cpu)
-  pub machine : way.after.machine ≡ with_watch (with_visit_of settled way.before.cpu.number 0) way.after.machine.watch
-  pub steps_are : way.steps ≡ visit_steps way.before []
+  pub settles : Settles (with_watch_at (visited call.before) seen) (visit_state settled call.after.cpu)
+  pub machine : call.after.machine
+      ≡ with_watch (with_visit_of settled call.before.cpu.number 0) call.after.machine.watch
+  pub steps_are : call.steps ≡ visit_steps call.before []
 
 -- in a visit, all frames of the CPU's list are returned to the zone, and then its stock is drained
-pub record Empties (way : Transition VisitState) : Type 0 where
+pub record Empties (call : Transition VisitState) : Type 0 where
   pub emptied : KnownMachine
   pub seen : KnownWatch
-  pub takes : TakesManyBack way.before.cpu.list (with_watch_at (visited way.before) seen)
-      (visit_state emptied way.after.cpu)
+  pub takes : TakesManyBack call.before.cpu.list (with_watch_at (visited call.before) seen)
+      (visit_state emptied call.after.cpu)
   pub pages : ℕ
   pub drained : KnownMachine
-  pub drains : Drains way.before.cpu.number pages emptied drained
-  pub machine : way.after.machine ≡ with_watch (with_visit_of drained way.before.cpu.number 0) way.after.machine.watch
-  pub steps_are : way.steps ≡ open_steps way.before.cpu.number
-      ++ (drain_list_steps way.before.cpu.number way.before.cpu.list
-      ++ (drain_steps way.before.cpu.number (stock_group emptied way.before.cpu.number) pages
-      ++ shut_steps way.before.cpu.number))
+  pub drains : Drains call.before.cpu.number pages emptied drained
+  pub machine : call.after.machine
+      ≡ with_watch (with_visit_of drained call.before.cpu.number 0) call.after.machine.watch
+  pub steps_are : call.steps ≡ open_steps call.before.cpu.number
+      ++ (drain_list_steps call.before.cpu.number call.before.cpu.list
+      ++ (drain_steps call.before.cpu.number (stock_group emptied call.before.cpu.number) pages
+      ++ shut_steps call.before.cpu.number))
 
 -- A visit that does this is made under the lock: the machine's watch takes the Lock before it and the Unlock after it.
 pub record VisitsUnderLock (table : KnownTable) (Does : Transition VisitState → Type 0) (before after : VisitState)
@@ -84,8 +86,8 @@ ForEachCpu Visit before (cpu ∷ cpus) after (cpu_left ∷ left) =
 ForEachCpu Visit before cpus after left = ⊥
 
 -- the steps of a visit under the lock: the Lock, the steps of the visit itself, and the Unlock
-abbrev pub between_locks : (processor : ℕ) → Run → Run
-between_locks processor steps = cpu_makes processor Lock Done ∷ (steps ++ cpu_makes processor Unlock Done ∷ [])
+abbrev pub between_locks : (cpu : ℕ) → Run → Run
+between_locks cpu steps = cpu_makes cpu Lock Done ∷ (steps ++ cpu_makes cpu Unlock Done ∷ [])
 
 -- the steps of the visits under the lock, one CPU after the other
 abbrev pub steps_of_visits : (table : KnownTable) (Does : Transition VisitState → Type 0) (before : KnownMachine)
@@ -104,7 +106,8 @@ pub record IsSettledUnpinned (cpu : KnownCpu) : Type 0 where
   pub no_pin : cpu.pins ≡ []
 
 -- the CPU has no frame on any of its lists and no pin, no frame is lent to it, and its stock is drained
-pub record IsSpent (table : KnownTable) (stock_table : Words) (machine : KnownMachine) (cpu : KnownCpu) : Type 0 where
+pub record IsSpent (table : KnownTable) (stock_table : KnownStockTable) (machine : KnownMachine)
+    (cpu : KnownCpu) : Type 0 where
   pub tied : IsTied table stock_table cpu
   pub idle : IsIdle cpu
   pub none_lent : NoneLentTo cpu.number machine.frame_states
@@ -112,9 +115,9 @@ pub record IsSpent (table : KnownTable) (stock_table : Words) (machine : KnownMa
 
 -- no frame was lent to a CPU that had none, and no drained stock was filled
 pub record LendsAndFillsNone (before after : KnownMachine) : Type 0 where
-  pub none_lent : (processor : ℕ) → NoneLentTo processor before.frame_states → NoneLentTo processor after.frame_states
-  pub drained : (processor : ℕ) → (account_of before.stock_seat.view processor).filled ≡ false
-      → (account_of after.stock_seat.view processor).filled ≡ false
+  pub none_lent : (cpu : ℕ) → NoneLentTo cpu before.frame_states → NoneLentTo cpu after.frame_states
+  pub drained : (cpu : ℕ) → (account_of before.stock_seat.view cpu).filled ≡ false
+      → (account_of after.stock_seat.view cpu).filled ≡ false
 
 -- The audit counts the machine's frames, last puts and freezes. Its drops and returns are the machine's with the CPUs'
 -- own drops added, each of which is also a return. A count stays at its greatest value.
@@ -138,31 +141,31 @@ abbrev pub frame_seat_of : KnownCpu → KnownSeat
 frame_seat_of cpu = cpu.frame_seat
 
 -- the CPU's seat at the stocks' table
-abbrev pub stock_seat_of : KnownCpu → Seated
+abbrev pub stock_seat_of : KnownCpu → KnownStockSeat
 stock_seat_of cpu = cpu.stock_seat
 
 -- one of the seats is the CPU's
-pub record HasSeatOf (seats : List Seated) (processor : ℕ) : Type 0 where
+pub record HasSeatOf (seats : List KnownStockSeat) (cpu : ℕ) : Type 0 where
   pub place : ℕ
   pub inside : place < length seats
-  pub number : (view_in seats place).number ≡ processor
+  pub number : (view_in seats place).number ≡ cpu
 
--- the stock words are what the machine's seat and the CPU's seat at this place of the list know of that CPU's stock
-abbrev pub TellsStockAt : (stock_words : List ℕ) → KnownMachine → (seats : List Seated) (place : ℕ) → Type 0
+-- the stock words are what the zone's seat and the CPU's seat at this index of the list know of that CPU's stock
+abbrev pub TellsStockAt : (stock_words : List ℕ) → KnownMachine → (seats : List KnownStockSeat) (place : ℕ) → Type 0
 TellsStockAt stock_words machine seats place =
     IsStockOf stock_words (view_in seats place).number machine.stock_seat.view (view_in seats place)
 
 -- Both tables are closed with these seats and the machine's. The machine was consistent, and the frames' words keep the
 -- reference rule. Each CPU has a seat at the stocks' table, and the stock words are what that seat and the machine's
 -- know.
-pub record IsClosed (table : KnownTable) (stock_table : Words) (machine : KnownMachine)
-    (frame_seats : List KnownSeat) (stock_seats : List Seated) : Type 0 where
+pub record IsClosed (table : KnownTable) (stock_table : KnownStockTable) (machine : KnownMachine)
+    (frame_seats : List KnownSeat) (stock_seats : List KnownStockSeat) : Type 0 where
   pub consistent : IsConsistent table stock_table machine
   pub frame_words : List ℕ
   pub rule : ReferenceRule table.frames table.cpus frame_words
       ((machine.frame_seat.view ∷ map view_of frame_seats) ∷ [])
   pub stock_words : List ℕ
-  pub each : (processor : ℕ) → 0 < processor → processor ≤ stock_table.cpus → HasSeatOf stock_seats processor
+  pub each : (cpu : ℕ) → 0 < cpu → cpu ≤ stock_table.cpus → HasSeatOf stock_seats cpu
   pub stocks : (place : ℕ) → place < length stock_seats → TellsStockAt stock_words machine stock_seats place
 
 -- The words of the frames' table at the end. They keep the reference rule with the views of all seats. A frame's word
@@ -175,12 +178,12 @@ pub record AreLastWords (table : KnownTable) (machine : KnownMachine) (cpus : Li
       → slice_index last frame ≡ one_if (is_some (home_of machine.links frame))
 
 -- no page is left in the CPU's stock word, in its report word, or in its book
-pub record HasNoPage (machine : KnownMachine) (stock_words : List ℕ) (processor : ℕ) : Type 0 where
+pub record HasNoPage (machine : KnownMachine) (stock_words : List ℕ) (cpu : ℕ) : Type 0 where
   pub stock : Stock
-  pub encoded : slice_index stock_words (stock_place processor) ≡ word_of stock
+  pub encoded : slice_index stock_words (stock_index cpu) ≡ word_of stock
   pub empty : pages_of stock ≡ 0
-  pub none_reported : slice_index stock_words (report_place processor) ≡ 0
-  pub book : (account_of machine.stock_seat.view processor).book ≡ 0
+  pub none_reported : slice_index stock_words (report_index cpu) ≡ 0
+  pub book : (account_of machine.stock_seat.view cpu).book ≡ 0
 
 -- a boot whose last visits are made: its machine, the CPUs' parts, and how many fresh frames the CPUs put back on their
 -- own lists
@@ -189,10 +192,11 @@ pub record KnownSpent : Type 0 where
   pub cpus : List KnownCpu
   pub drops : ℕ
 
--- The last visits of a boot without pins, each under the lock. Each CPU is settled, then each CPU's list is returned and
--- its stock drained, by steps that the machine's counts follow. These are all steps, in order, and the machine's watch
--- took them.
-pub record MakesLastVisits (table : KnownTable) (stock_table : Words) (locked : KnownLocked) (cpus : List KnownCpu)
+-- The last visits of a boot without pins, each under the lock. Each CPU is settled, then each CPU's list is returned
+-- and its stock drained, by steps that the machine's counts follow. These are all steps, in order, and the machine's
+-- watch took them.
+pub record MakesLastVisits (table : KnownTable) (stock_table : KnownStockTable) (locked : KnownLocked)
+    (cpus : List KnownCpu)
     (spent : KnownSpent) : Type 0 where
   pub quiet : IsQuiet table stock_table locked
   pub no_pin : pins_of cpus ≡ 0
@@ -207,22 +211,23 @@ pub record MakesLastVisits (table : KnownTable) (stock_table : Words) (locked : 
   pub watched : Watches locked.machine.watch steps spent.machine.watch
   pub drops : spent.drops ≡ min (drops_of cpus) max_count
 
--- The tables of a boot are closed after its last visits. No frame is lent to anyone, and no stock has a page. The closed
--- words are what the seats know. The audit counts what the machine and the CPUs counted, and it adds up.
-pub record Closes (table : KnownTable) (stock_table : Words) (spent : KnownSpent) (audit : Audit) : Type 0 where
+-- The tables of a boot are closed after its last visits. No frame is lent to anyone, and no stock has a page. The
+-- closed words are what the seats know. The audit counts what the machine and the CPUs counted, and it adds up.
+pub record Closes (table : KnownTable) (stock_table : KnownStockTable) (spent : KnownSpent)
+    (audit : Audit) : Type 0 where
   pub all_spent : All (λ cpu. IsSpent table stock_table spent.machine cpu) spent.cpus
-  pub none_lent : (processor : ℕ) → NoneLentTo processor spent.machine.frame_states
+  pub none_lent : (cpu : ℕ) → NoneLentTo cpu spent.machine.frame_states
   pub stock_words : List ℕ
   pub told : All (λ cpu. IsStockOf stock_words cpu.number spent.machine.stock_seat.view cpu.stock_seat.view) spent.cpus
-  pub no_page : (processor : ℕ) → 1 ≤ processor → processor ≤ table.cpus
-      → HasNoPage spent.machine stock_words processor
+  pub no_page : (cpu : ℕ) → 1 ≤ cpu → cpu ≤ table.cpus
+      → HasNoPage spent.machine stock_words cpu
   pub frame_words : List ℕ
   pub last_words : AreLastWords table spent.machine spent.cpus frame_words
   pub counted : IsAuditOf table spent.machine spent.drops audit
   pub adds_up : AddsUp audit
 
 -- the end of a boot without pins: its last visits are made, and then its tables are closed
-pub record Ends (table : KnownTable) (stock_table : Words) (locked : KnownLocked) (cpus : List KnownCpu)
+pub record Ends (table : KnownTable) (stock_table : KnownStockTable) (locked : KnownLocked) (cpus : List KnownCpu)
     (audit : Audit) : Type 0 where
   pub spent : KnownSpent
   pub visits : MakesLastVisits table stock_table locked cpus spent

@@ -1,5 +1,6 @@
 -- The files of the groups: how they are found, what a read returns, and what a write does.
-use Rattle.std.specs.Prelude.{◌≡◌, ◌≢◌, ◌⊎◌, ℕ, ◌+◌, ◌<◌, ◌≤◌, Bool, false, Option, Some, None, Result, Ok, Err, List, ◌++◌}
+use Rattle.std.specs.Prelude.{◌≡◌, ◌≢◌, ◌⊎◌, ℕ, ◌+◌, ◌<◌, ◌≤◌, Bool, false, Option, Some, None, Result, Ok, Err, List}
+use Rattle.std.specs.Prelude.{◌++◌}
 use Rattle.group_tree.specs.declared.group.Group.{Group}
 use Rattle.group_tree.specs.Groups.{number_at}
 use Rattle.group_tree.specs.declared.fault.Fault.{Fault}
@@ -16,7 +17,7 @@ use Rattle.step_rules.specs.After.{Run}
 use Rattle.mem_machine.specs.Machines.{KnownMachine, KeepsVisit, Visits, with_watch}
 use Rattle.mem_machine.specs.Local.{visit_state}
 use Rattle.mem_machine.specs.Steps.{set_max_steps, set_oom_group_steps}
-use Rattle.mem_reclaim.specs.Moves.{Leads}
+use Rattle.mem_reclaim.specs.Moves.{FreesBySteps}
 use Rattle.mem_reclaim.specs.Rounds.{ReclaimsAmount}
 use Rattle.mem_reclaim.specs.Staying.{Keeps, MissedAll}
 use Rattle.mem_alloc.specs.Stepping.{Transition, MachineStays, transition}
@@ -28,7 +29,8 @@ use Rattle.step_watch.specs.Watched.{KnownWatch}
 -- the visit of each CPU that was visited before is kept
 abbrev pub KeepsAnyVisit : KnownTable → (before after : KnownMachine) → Type 0
 KeepsAnyVisit table before after =
-    (cpu : KnownCpu) → Visits table (visit_state before cpu) → KeepsVisit table (visit_state before cpu) (visit_state after cpu)
+    (cpu : KnownCpu) → Visits table (visit_state before cpu)
+    → KeepsVisit table (visit_state before cpu) (visit_state after cpu)
 
 -- the group has this path and isn't the root, and the name is that of its file
 pub record IsFileOf (groups : List Group) (path name : List ℕ) (group : ℕ) (file : File) : Type 0 where
@@ -67,54 +69,55 @@ abbrev pub with_limit_of : KnownMachine → (group : ℕ) → Option ℕ → Kno
 with_limit_of machine group limit = record machine { ledger = with_group_limit machine.ledger group limit }
 
 -- the group gets the limit, and then its usage is kept to it
-pub record SetsLimit (group : ℕ) (limit : Option ℕ) (way : Transition KnownMachine) : Type 0 where
+pub record SetsLimit (group : ℕ) (limit : Option ℕ) (call : Transition KnownMachine) : Type 0 where
   pub lowering : Run
   pub seen : KnownWatch
   pub keeps : KeepsToLimit group limit
-      (transition way.table (with_watch (with_limit_of way.before group limit) seen) lowering way.after)
-  pub steps_are : way.steps ≡ set_max_steps group limit ++ lowering
+      (transition call.table (with_watch (with_limit_of call.before group limit) seen) lowering call.after)
+  pub steps_are : call.steps ≡ set_max_steps group limit ++ lowering
 
 -- the value is the text of a limit, and the group gets that limit
-pub record WritesLimit (value : List ℕ) (group : ℕ) (way : Transition KnownMachine) : Type 0 where
+pub record WritesLimit (value : List ℕ) (group : ℕ) (call : Transition KnownMachine) : Type 0 where
   pub limit : Option ℕ
   pub reads : ReadsAs value limit
-  pub sets : SetsLimit group limit way
+  pub sets : SetsLimit group limit call
 
 -- the machine with another flag of the group: whether it is killed as a whole
 abbrev pub with_flag_of : KnownMachine → (group : ℕ) → Bool → KnownMachine
 with_flag_of machine group flag = record machine { ledger = with_oom_flag machine.ledger group flag }
 
 -- the group gets the flag, by one step, and nothing else changes: nobody is killed, and nothing is noted
-pub record SetsFlag (group : ℕ) (flag : Bool) (way : Transition KnownMachine) : Type 0 where
-  pub machine : way.after ≡ with_watch (with_flag_of way.before group flag) way.after.watch
-  pub steps_are : way.steps ≡ set_oom_group_steps group flag
+pub record SetsFlag (group : ℕ) (flag : Bool) (call : Transition KnownMachine) : Type 0 where
+  pub machine : call.after ≡ with_watch (with_flag_of call.before group flag) call.after.watch
+  pub steps_are : call.steps ≡ set_oom_group_steps group flag
 
 -- the value is the text of a flag, and the group gets that flag
-pub record WritesFlag (value : List ℕ) (group : ℕ) (way : Transition KnownMachine) : Type 0 where
+pub record WritesFlag (value : List ℕ) (group : ℕ) (call : Transition KnownMachine) : Type 0 where
   pub flag : Bool
   pub reads : IsFlagText value flag
-  pub sets : SetsFlag group flag way
+  pub sets : SetsFlag group flag call
 
 -- The value is the text of an amount, and this many pages of the group's subtree are reclaimed, by these steps alone.
 -- Stocks and killed groups stay, and no dirty unit is freed. If fewer pages are freed than asked for, each clean unit
 -- that the subtree still keeps was tried and missed.
-pub record WritesAmount (value : List ℕ) (group : ℕ) (Ends : (asked freed : ℕ) → Type 0) (way : Transition KnownMachine) : Type 0 where
+pub record WritesAmount (value : List ℕ) (group : ℕ) (Ends : (asked freed : ℕ) → Type 0)
+    (call : Transition KnownMachine) : Type 0 where
   pub asked : ℕ
   pub freed : ℕ
   pub reads : ReadsAmount value asked
-  pub reclaims : Leads way.table freed way.before way.after (ReclaimsAmount group asked)
-  pub missed : freed < asked → MissedAll group way.before way.after
-  pub usage : current_of way.after.ledger group + freed ≡ current_of way.before.ledger group
-  pub keeps : Keeps way.table way.before way.after
+  pub reclaims : FreesBySteps call.table freed call.before call.after (ReclaimsAmount group asked)
+  pub missed : freed < asked → MissedAll group call.before call.after
+  pub usage : current_of call.after.ledger group + freed ≡ current_of call.before.ledger group
+  pub keeps : Keeps call.table call.before call.after
   pub ends : Ends asked freed
-  pub steps_are : way.steps ≡ reclaims.steps
+  pub steps_are : call.steps ≡ reclaims.steps
 
 -- what a value written to a file of the group sets, and what is done for it
 abbrev pub SetsFile : File → (value : List ℕ) → (group : ℕ) → Transition KnownMachine → Type 0
-SetsFile Max value group way = WritesLimit value group way
-SetsFile OomGroup value group way = WritesFlag value group way
-SetsFile Reclaim value group way = WritesAmount value group (λ asked freed. asked ≤ freed) way
-SetsFile read_only value group way = ⊥
+SetsFile Max value group call = WritesLimit value group call
+SetsFile OomGroup value group call = WritesFlag value group call
+SetsFile Reclaim value group call = WritesAmount value group (λ asked freed. asked ≤ freed) call
+SetsFile read_only value group call = ⊥
 
 -- why an existing file refuses a value: the file is read-only, or the value is malformed or too great for it
 abbrev pub RefusesValue : File → (value : List ℕ) → Fault → Type 0
@@ -128,24 +131,25 @@ RefusesValue file value fault = ⊥
 
 -- the file is memory.reclaim, and fewer pages are freed than the value asks for: the write is refused, and these pages
 -- stay freed
-pub record FallsShort (file : File) (value : List ℕ) (group : ℕ) (fault : Fault) (way : Transition KnownMachine) : Type 0 where
+pub record FallsShort (file : File) (value : List ℕ) (group : ℕ) (fault : Fault)
+    (call : Transition KnownMachine) : Type 0 where
   pub file_is : file ≡ Reclaim
   pub fault_is : fault ≡ Again
-  pub frees : WritesAmount value group (λ asked freed. freed < asked) way
+  pub frees : WritesAmount value group (λ asked freed. freed < asked) call
 
 -- a value is written to an existing file: it is set; or it is refused, and nothing changed; or it falls short
 abbrev pub WritesTo : File → (value : List ℕ) → (group : ℕ) → Reply → Transition KnownMachine → Type 0
-WritesTo file value group Done way = SetsFile file value group way
-WritesTo file value group (Refused fault) way =
-    (RefusesValue file value fault × MachineStays way) ⊎ FallsShort file value group fault way
-WritesTo file value group other way = ⊥
+WritesTo file value group Done call = SetsFile file value group call
+WritesTo file value group (Refused fault) call =
+    (RefusesValue file value fault × MachineStays call) ⊎ FallsShort file value group fault call
+WritesTo file value group other call = ⊥
 
 -- the path and the name are those of a file, and the value is set
-pub record WritesFile (path name value : List ℕ) (way : Transition KnownMachine) : Type 0 where
+pub record WritesFile (path name value : List ℕ) (call : Transition KnownMachine) : Type 0 where
   pub group : ℕ
   pub file : File
-  pub is_file : IsFileOf way.before.ledger.groups path name group file
-  pub sets : SetsFile file value group way
+  pub is_file : IsFileOf call.before.ledger.groups path name group file
+  pub sets : SetsFile file value group call
 
 -- the file exists, and refuses the value
 pub record RefusesValueOf (groups : List Group) (path name value : List ℕ) (fault : Fault) : Type 0 where
@@ -160,19 +164,19 @@ RefusesWrite groups path name value fault =
     HasNoFile groups path name fault ⊎ RefusesValueOf groups path name value fault
 
 -- the path and the name are those of a file, and the write falls short
-pub record WritesShort (path name value : List ℕ) (fault : Fault) (way : Transition KnownMachine) : Type 0 where
+pub record WritesShort (path name value : List ℕ) (fault : Fault) (call : Transition KnownMachine) : Type 0 where
   pub group : ℕ
   pub file : File
-  pub is_file : IsFileOf way.before.ledger.groups path name group file
-  pub falls : FallsShort file value group fault way
+  pub is_file : IsFileOf call.before.ledger.groups path name group file
+  pub falls : FallsShort file value group fault call
 
 -- Write: the value is set; or it is refused, and nothing changed; or it falls short
 abbrev pub Writes : (path name value : List ℕ) → Reply → Transition KnownMachine → Type 0
-Writes path name value Done way = WritesFile path name value way
-Writes path name value (Refused fault) way =
-    (RefusesWrite way.before.ledger.groups path name value fault × MachineStays way)
-    ⊎ WritesShort path name value fault way
-Writes path name value other way = ⊥
+Writes path name value Done call = WritesFile path name value call
+Writes path name value (Refused fault) call =
+    (RefusesWrite call.before.ledger.groups path name value fault × MachineStays call)
+    ⊎ WritesShort path name value fault call
+Writes path name value other call = ⊥
 
 -- the file is memory.max of this group, and the value is the text of this limit
 pub record IsLimitFor (groups : List Group) (path name value : List ℕ) (group : ℕ) (limit : Option ℕ) : Type 0 where

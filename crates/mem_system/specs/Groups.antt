@@ -13,40 +13,40 @@ use Rattle.mem_system.specs.Leaves.{IsLeafAt, HasNoLeaf}
 use Rattle.mem_system.specs.Usage.{LowersUsage}
 
 -- no refusal applies, and the machine makes the group of this path with this number
-pub record MakesNewGroup (path : List ℕ) (number : ℕ) (way : Transition KnownMachine) : Type 0 where
-  pub no_fault : make_fault way.before.ledger.groups path ≡ None
-  pub adds : AddsGroup number path way.before way.after
-  pub steps_are : way.steps ≡ make_steps path number
+pub record MakesNewGroup (path : List ℕ) (number : ℕ) (call : Transition KnownMachine) : Type 0 where
+  pub no_fault : make_fault call.before.ledger.groups path ≡ None
+  pub adds : AddsGroup number path call.before call.after
+  pub steps_are : call.steps ≡ make_steps path number
 
 -- Mkdir: the group is made; or it is refused for the first cause that holds, and nothing changed
 abbrev pub MakesGroup : (path : List ℕ) → Reply → Transition KnownMachine → Type 0
-MakesGroup path (Group number) way = MakesNewGroup path number way
-MakesGroup path (Refused fault) way = (make_fault way.before.ledger.groups path ≡ Some fault) × MachineStays way
-MakesGroup path other way = ⊥
+MakesGroup path (Group number) call = MakesNewGroup path number call
+MakesGroup path (Refused fault) call = (make_fault call.before.ledger.groups path ≡ Some fault) × MachineStays call
+MakesGroup path other call = ⊥
 
 -- the usage of the group is lowered to 0, and the group is removed
-pub record RemovesGroup (path : List ℕ) (way : Transition KnownMachine) : Type 0 where
+pub record RemovesGroup (path : List ℕ) (call : Transition KnownMachine) : Type 0 where
   pub group : ℕ
-  pub leaf : IsLeafAt way.before.ledger.groups path group
+  pub leaf : IsLeafAt call.before.ledger.groups path group
   pub lowering : Run
   pub emptied : KnownMachine
-  pub lowers : LowersUsage group 0 (transition way.table way.before lowering emptied)
+  pub lowers : LowersUsage group 0 (transition call.table call.before lowering emptied)
   pub empty : current_of emptied.ledger group ≡ 0
-  pub machine : way.after
-      ≡ record emptied { ledger = with_group_removed emptied.ledger group; watch = way.after.watch }
-  pub steps_are : way.steps ≡ lowering ++ remove_steps group
+  pub machine : call.after
+      ≡ record emptied { ledger = with_group_removed emptied.ledger group; watch = call.after.watch }
+  pub steps_are : call.steps ≡ lowering ++ remove_steps group
 
 -- the usage of the group is lowered as far as possible, and pages are still charged to it
-pub record StaysBusy (path : List ℕ) (way : Transition KnownMachine) : Type 0 where
+pub record StaysBusy (path : List ℕ) (call : Transition KnownMachine) : Type 0 where
   pub group : ℕ
-  pub leaf : IsLeafAt way.before.ledger.groups path group
-  pub lowers : LowersUsage group 0 way
-  pub pages : 1 ≤ current_of way.after.ledger group
+  pub leaf : IsLeafAt call.before.ledger.groups path group
+  pub lowers : LowersUsage group 0 call
+  pub pages : 1 ≤ current_of call.after.ledger group
 
 -- Rmdir: the group is removed; or pages stay charged to it after draining and reclaim; or there is no such group, and
 -- nothing changed
 abbrev pub Removes : (path : List ℕ) → Reply → Transition KnownMachine → Type 0
-Removes path Done way = RemovesGroup path way
-Removes path (Refused Busy) way = StaysBusy path way
-Removes path (Refused fault) way = HasNoLeaf way.before.ledger.groups path fault × MachineStays way
-Removes path other way = ⊥
+Removes path Done call = RemovesGroup path call
+Removes path (Refused Busy) call = StaysBusy path call
+Removes path (Refused fault) call = HasNoLeaf call.before.ledger.groups path fault × MachineStays call
+Removes path other call = ⊥

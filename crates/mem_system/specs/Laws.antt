@@ -14,7 +14,7 @@ use Rattle.mem_system.specs.Visits.{Transition, LockedState, Serves}
 -- may ask for, before the first kill of the set that dies with the victim.
 abbrev pub CommandsKillLast : Type 0
 CommandsKillLast =
-    (cmd : Cmd) (reply : Reply) (way : Transition LockedState) (served : Serves cmd reply way) (before rest : Run)
+    (cmd : Cmd) (reply : Reply) (call : Transition LockedState) (served : Serves cmd reply call) (before rest : Run)
     (made : Step × Answer) (group : ℕ) → served.inner ≡ before ++ made ∷ rest → made.0.action ≡ Kill group
-    → ComesLast (MayAskFor cmd served.settled.machine.ledger.groups) way.table served.settled.machine served.settled.cpu
-    before group
+    → ComesLast (MayAskFor cmd served.settled.machine.ledger.groups) call.table served.settled.machine
+    served.settled.cpu before group

@@ -1,7 +1,7 @@
 -- What lies behind the zone's lock, and what always holds of it.
 use Rattle.std.specs.Prelude.{◌≡◌, ℕ, ◌≤◌}
 use Rattle.frame_word.specs.Seats.{KnownTable, IsShut}
-use Rattle.stock_word.specs.Stock.{Words}
+use Rattle.stock_word.specs.Stock.{KnownStockTable}
 use Rattle.zone_sizes.specs.declared.config.Config.{Config}
 use Rattle.zone_sizes.specs.Config.{IsValidConfig}
 use Rattle.group_charge.specs.Charges.{AreCharges}
@@ -15,24 +15,24 @@ pub record KnownLocked : Type 0 where
 
 -- no visit is open
 abbrev pub AllShut : KnownMachine → Type 0
-AllShut machine = (processor : ℕ) → IsShut machine.frame_seat processor
+AllShut machine = (cpu : ℕ) → IsShut machine.frame_seat cpu
 
 -- While the lock is free, no visit is open, the sizes are in their ranges, and the tables have these sizes.
-pub record IsQuiet (table : KnownTable) (stock_table : Words) (locked : KnownLocked) : Type 0 where
+pub record IsQuiet (table : KnownTable) (stock_table : KnownStockTable) (locked : KnownLocked) : Type 0 where
   pub shut : AllShut locked.machine
   pub valid : IsValidConfig locked.sizes
   pub sized : IsSizedAs locked.sizes table stock_table
 
 -- What a call finds behind the lock, and leaves there. No visit is open, the machine is consistent, and the groups make
 -- up a tree, each with its account.
-pub record IsSound (table : KnownTable) (stock_table : Words) (locked : KnownLocked) : Type 0 where
+pub record IsSound (table : KnownTable) (stock_table : KnownStockTable) (locked : KnownLocked) : Type 0 where
   pub quiet : IsQuiet table stock_table locked
   pub consistent : IsConsistent table stock_table locked.machine
   pub charges : AreCharges locked.machine.ledger
 
 -- `IsSo` holds of some sound value that was behind the lock while the lock was free. No clause can name that value,
 -- because no clause can look through the lock.
-pub record BehindLock (table : KnownTable) (stock_table : Words) (IsSo : KnownLocked → Type 0) : Type 0 where
+pub record BehindLock (table : KnownTable) (stock_table : KnownStockTable) (IsSo : KnownLocked → Type 0) : Type 0 where
   pub locked : KnownLocked
   pub sound : IsSound table stock_table locked
   pub so : IsSo locked

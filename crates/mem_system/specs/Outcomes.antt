@@ -31,7 +31,7 @@ reply_of ledger (outcome.Frame frame) = Frame frame
 reply_of ledger outcome.Done = Done
 reply_of ledger (outcome.Text group file) = text_reply (file_text ledger group file)
 reply_of ledger outcome.Free = Free
-reply_of ledger (outcome.Lent processor) = Lent processor
+reply_of ledger (outcome.Lent cpu) = Lent cpu
 reply_of ledger (outcome.Charged group) = Charged group (path_or_empty (path_of ledger.groups group))
 reply_of ledger outcome.Marked = Marked
 reply_of ledger outcome.Active = Active
@@ -49,7 +49,8 @@ HasItsGroups ledger other = Unit {0}
 
 -- A call had this outcome: local steps lead from one visit state to another and do this, with the reply that the ledger
 -- after them makes of the outcome.
-abbrev pub ComesTo : KnownTable → Outcome → (Reply → Transition VisitState → Type 0) → (before after : VisitState) → Type 0
+abbrev pub ComesTo : KnownTable → Outcome → (Reply → Transition VisitState → Type 0) → (before after : VisitState)
+    → Type 0
 ComesTo table outcome Does before after = BySteps table (Does (reply_of after.machine.ledger outcome)) before after
 
 -- the same for a call on the machine alone, whichever CPU holds the lock

@@ -1,9 +1,11 @@
--- What is served before a text of the machine is written.
+-- What is served before a text of the machine is written, and what a look at words leaves.
+use Rattle.std.specs.Prelude.{◌≡◌, ℕ, List, Option, Some, None}
 use Rattle.frame_word.specs.Seats.{KnownTable}
-use Rattle.stock_word.specs.Stock.{Words}
+use Rattle.stock_word.specs.Stock.{KnownStockTable}
 use Rattle.mem_system.specs.declared.command.Cmd.TheVariants.{Settle}
 use Rattle.mem_system.specs.declared.command.Reply.TheVariants.{Done}
 use Rattle.cpu_part.specs.Cpus.{KnownCpu}
+use Rattle.machine_texts.specs.Units.{TellsUnits}
 use Rattle.mem_machine.specs.Machines.{KnownMachine}
 use Rattle.mem_system.specs.Locked.{KnownLocked, IsSound}
 use Rattle.mem_system.specs.Visits.{LockedState, locked_state, IsServed}
@@ -14,7 +16,7 @@ SettlesCaller table before after = IsServed table Settle Done before after
 
 -- What a text through the lock says. Some sound value was behind the lock, the caller was settled in it, and a sound
 -- value was left. `tells` holds of the machine that was left.
-pub record TellsOf (table : KnownTable) (stock_table : Words) (tells : KnownMachine → Type 0)
+pub record TellsOf (table : KnownTable) (stock_table : KnownStockTable) (tells : KnownMachine → Type 0)
     (before after : KnownCpu) : Type 0 where
   pub found : KnownLocked
   pub left : KnownLocked
@@ -22,3 +24,23 @@ pub record TellsOf (table : KnownTable) (stock_table : Words) (tells : KnownMach
   pub settles : SettlesCaller table (locked_state found before) (locked_state left after)
   pub sound_after : IsSound table stock_table left
   pub told : tells left.machine
+
+-- What a text of the units of a group leaves, by the number of the group, if there is one. If there is none, `none`
+-- holds and the machine stays the same. Else the zone's seat looked at the words of the group's kept units, and `tells`
+-- holds of the text of these.
+abbrev pub UnitsAt : Option ℕ → (none : Type 0) → (tells : List ℕ → Type 0) → (before after : KnownMachine) → Type 0
+UnitsAt None none tells before after = none × (after ≡ before)
+UnitsAt (Some group) none tells before after = TellsUnits group tells before after
+
+-- What a text through the lock says if it needs looks at words. Some sound value was behind the lock, the caller was
+-- settled in it, and a sound value was left. `tells` holds of the settled state and of the machine that the looks left.
+pub record TellsAfterSettling (table : KnownTable) (stock_table : KnownStockTable)
+    (tells : LockedState → KnownMachine → Type 0)
+    (before after : KnownCpu) : Type 0 where
+  pub found : KnownLocked
+  pub settled : KnownLocked
+  pub left : KnownLocked
+  pub sound_before : IsSound table stock_table found
+  pub settles : SettlesCaller table (locked_state found before) (locked_state settled after)
+  pub sound_after : IsSound table stock_table left
+  pub told : tells (locked_state settled after) left.machine

@@ -14,20 +14,20 @@ pub record IsUnitOf (machine : KnownMachine) (number found : ℕ) : Type 0 where
   pub heads : HeadsKeptUnit machine found
 
 -- the frame heads no kept unit, and nothing changed
-pub record HeadsNoUnit (frame : ℕ) (way : Transition KnownMachine) : Type 0 where
-  pub on_no_list : home_of way.before.links frame ≡ None
-  pub stays : MachineStays way
+pub record HeadsNoUnit (frame : ℕ) (call : Transition KnownMachine) : Type 0 where
+  pub on_no_list : home_of call.before.links frame ≡ None
+  pub stays : MachineStays call
 
 -- Touch: the unit is marked, on the inactive list; or it moved, unmarked, to the newest end of the active list; or the
 -- frame heads no kept unit
 abbrev pub TouchesFrame : (frame : ℕ) → Reply → Transition KnownMachine → Type 0
-TouchesFrame frame Marked way = TouchesUnit frame touched.Marked way.before way.after × (way.steps ≡ [])
-TouchesFrame frame Active way = TouchesUnit frame touched.Active way.before way.after × (way.steps ≡ [])
-TouchesFrame frame (Refused NotKept) way = HeadsNoUnit frame way
-TouchesFrame frame other way = ⊥
+TouchesFrame frame Marked call = TouchesUnit frame touched.Marked call.before call.after × (call.steps ≡ [])
+TouchesFrame frame Active call = TouchesUnit frame touched.Active call.before call.after × (call.steps ≡ [])
+TouchesFrame frame (Refused NotKept) call = HeadsNoUnit frame call
+TouchesFrame frame other call = ⊥
 
 -- Dirty and Clean: the unit is noted as dirty or clean, or the frame heads no kept unit
 abbrev pub NotesDirt : (frame : ℕ) (is_dirty : Bool) → Reply → Transition KnownMachine → Type 0
-NotesDirt frame is_dirty Done way = Dirties frame is_dirty way.before way.after × (way.steps ≡ [])
-NotesDirt frame is_dirty (Refused NotKept) way = HeadsNoUnit frame way
-NotesDirt frame is_dirty other way = ⊥
+NotesDirt frame is_dirty Done call = Dirties frame is_dirty call.before call.after × (call.steps ≡ [])
+NotesDirt frame is_dirty (Refused NotKept) call = HeadsNoUnit frame call
+NotesDirt frame is_dirty other call = ⊥

@@ -2,11 +2,11 @@
 use Rattle.std.specs.Prelude.{◌≡◌, ℕ, false, Some, List, [], ◌++◌}
 use Rattle.std.specs.Borrow.{Bor}
 use Rattle.frame_word.specs.Seats.{KnownTable, LentIsBorrowed, NothingPasses, seat_with_visit}
-use Rattle.stock_word.specs.Stock.{Words}
+use Rattle.stock_word.specs.Stock.{KnownStockTable}
 use Rattle.group_tree.specs.Groups.{number_at}
 use Rattle.cpu_part.specs.Cpus.{KnownCpu}
 use Rattle.step_rules.specs.After.{Run}
-use Rattle.mem_machine.specs.Machines.{KnownMachine, with_watch}
+use Rattle.mem_machine.specs.Machines.{KnownMachine, with_watch, without_notes}
 use Rattle.mem_machine.specs.Local.{VisitState, visit_state, Makes}
 use Rattle.mem_machine.specs.Settling.{Settles, settle_steps}
 use Rattle.mem_machine.specs.Steps.{open_steps, shut_steps}
@@ -26,9 +26,9 @@ use Rattle.mem_system.specs.Commands.{Executes, ListAndFreshStayWithin}
 use Rattle.step_watch.specs.Watched.{KnownWatch}
 
 -- the machine with the CPU's visit open (1) or shut (0)
-abbrev pub with_visit_of : KnownMachine → (processor state : ℕ) → KnownMachine
-with_visit_of machine processor state =
-    record machine { frame_seat = seat_with_visit machine.frame_seat processor state }
+abbrev pub with_visit_of : KnownMachine → (cpu state : ℕ) → KnownMachine
+with_visit_of machine cpu state =
+    record machine { frame_seat = seat_with_visit machine.frame_seat cpu state }
 
 -- the visit state after the CPU's visit is opened
 abbrev pub visited : VisitState → VisitState
@@ -36,7 +36,7 @@ visited before = visit_state (with_visit_of before.machine before.cpu.number 1) 
 
 -- the visit state after all earlier notes are forgotten and the CPU's visit is opened
 abbrev pub begun : VisitState → VisitState
-begun before = visited (visit_state (record before.machine { notes = [] }) before.cpu)
+begun before = visited (visit_state (without_notes before.machine) before.cpu)
 
 -- the visit state with another watch
 abbrev pub with_watch_at : VisitState → KnownWatch → VisitState
@@ -63,23 +63,24 @@ visit_steps before inner =
 -- A command under the lock. Earlier notes are forgotten, the caller's visit is opened, the caller is settled, the
 -- command is executed, and the visit is shut. The command kills a group only after it tried everything else, and only
 -- its own steps kill. The misses that are noted are those among its steps.
-pub record Serves (cmd : Cmd) (reply : Reply) (way : Transition LockedState) : Type 0 where
+pub record Serves (cmd : Cmd) (reply : Reply) (call : Transition LockedState) : Type 0 where
   pub settled : VisitState
   pub seen : KnownWatch
-  pub settles : Settles (with_watch_at (begun (visit_state_of way.before)) seen) settled
+  pub settles : Settles (with_watch_at (begun (visit_state_of call.before)) seen) settled
   pub inner : Run
   pub done : KnownMachine
-  pub executes : Executes way.before.locked.sizes cmd reply (transition way.table settled inner (visit_state done way.after.cpu))
-  pub no_rash : NoRashKill way.table (MayAskFor cmd settled.machine.ledger.groups) settled.machine settled.cpu inner
-  pub only_inner : has_kill (visit_steps (visit_state_of way.before) []) ≡ false
-  pub misses : CountsMisses (transition way.table settled.machine inner done)
-  pub machine : way.after.locked.machine
-      ≡ with_watch (with_visit_of done way.before.cpu.number 0) way.after.locked.machine.watch
-  pub sizes : way.after.locked.sizes ≡ way.before.locked.sizes
-  pub steps_are : way.steps ≡ visit_steps (visit_state_of way.before) inner
+  pub executes : Executes call.before.locked.sizes cmd reply
+      (transition call.table settled inner (visit_state done call.after.cpu))
+  pub no_rash : NoRashKill call.table (MayAskFor cmd settled.machine.ledger.groups) settled.machine settled.cpu inner
+  pub only_inner : has_kill (visit_steps (visit_state_of call.before) []) ≡ false
+  pub misses : CountsMisses (transition call.table settled.machine inner done)
+  pub machine : call.after.locked.machine
+      ≡ with_watch (with_visit_of done call.before.cpu.number 0) call.after.locked.machine.watch
+  pub sizes : call.after.locked.sizes ≡ call.before.locked.sizes
+  pub steps_are : call.steps ≡ visit_steps (visit_state_of call.before) inner
 
--- a command was served under the lock with this reply: these steps lead from one locked state to the other, and the machine's
--- counts follow them
+-- a command was served under the lock with this reply: these steps lead from one locked state to the other, and the
+-- machine's counts follow them
 pub record IsServed (table : KnownTable) (cmd : Cmd) (reply : Reply) (before after : LockedState) : Type 0 where
   pub steps : Run
   pub serves : Serves cmd reply (transition table before steps after)
@@ -107,7 +108,7 @@ pub record EndsVisit (table : KnownTable) (before after : LockedState) : Type 0 
 
 -- What a visit through the lock says. Some sound value was behind the lock, the CPU was served with it, and a sound
 -- value was left. The frames lent to the CPU after it are those that its seat has borrowed.
-pub record IsVisited (table : KnownTable) (stock_table : Words) (Served : LockedState → LockedState → Type 0)
+pub record IsVisited (table : KnownTable) (stock_table : KnownStockTable) (Served : LockedState → LockedState → Type 0)
     (before after : KnownCpu) : Type 0 where
   pub found : KnownLocked
   pub left : KnownLocked

@@ -28,7 +28,7 @@ pub struct Audit {
 
 // The audit of a machine that lends no frame, so all frames that aren't charged are free. `drops` are the CPUs' own.
 pub(crate) fn take_audit<N: BootName>(machine: &Machine<N>, tables: &Tables<N>, drops: u64) -> Audit
-    ensures { ((processor : ℕ) → NoneLentTo processor machine.now.frame_states) → IsAuditOf N.frames machine.now drops result }
+    ensures { ((cpu : ℕ) → NoneLentTo cpu machine.now.frame_states) → IsAuditOf N.frames machine.now drops result }
 {
     let _frame_states = machine.frame_states(); // Called for its contract.
     let frames = tables.frames.frames();

@@ -43,9 +43,9 @@ fn count_drops<N: BootName>(cpus: &[Cpu<N>]) -> u64
 }
 
 /// Makes the last visits of a boot, from all its parts, with those of all its CPUs in any order. If no pin remains, it
-/// settles each CPU in a visit. Then, in another visit of each CPU, it returns the CPU's list to the zone and drains its
-/// stock. Each visit is made under the lock, and the machine's watch takes all these steps. If a pin remains, it does
-/// nothing and returns all parts.
+/// settles each CPU in a visit. Then, in another visit of each CPU, it returns the CPU's list to the zone and drains
+/// its stock. Each visit is made under the lock, and the machine's watch takes all these steps. If a pin remains, it
+/// does nothing and returns all parts.
 pub fn make_last_visits<N: BootName>(
     locked: Locked<N>,
     tables: Tables<N>,
@@ -88,8 +88,9 @@ pub fn make_last_visits<N: BootName>(
     })
 }
 
-/// Ends a boot, from all its parts, with those of all its CPUs in any order. If no pin remains, it makes the last visits
-/// of the CPUs, closes the tables and returns what was counted. If a pin remains, it does nothing and returns all parts.
+/// Ends a boot, from all its parts, with those of all its CPUs in any order. If no pin remains, it makes the last
+/// visits of the CPUs, closes the tables and returns what was counted. If a pin remains, it does nothing and returns
+/// all parts.
 pub fn end<N: BootName>(
     locked: Locked<N>,
     tables: Tables<N>,

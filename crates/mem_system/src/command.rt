@@ -21,7 +21,7 @@ use mem_machine::Machine;
 use zone_sizes::config::Config;
 
 /// A command of a CPU. Paths and file names may be any bytes.
-#[derive(Clone, Copy, Debug, PartialEq, Eq)]
+#[derive(Clone, Copy, PartialEq, Eq)]
 pub enum Cmd<'a> {
     /// Makes the group of this path.
     Mkdir {

@@ -19,7 +19,7 @@ use group_charge::charges::Charges;
 use group_tree::fault::Fault;
 use group_tree::group::GroupId;
 use mem_machine::Machine;
-use mem_reclaim::reclaim_pages;
+use mem_reclaim::reclaim_amount;
 
 // The group of the path and its file of this name.
 fn find_file(charges: &Charges, path: &[u8], name: &[u8]) -> Result<(GroupId, File), Fault>
@@ -104,7 +104,7 @@ fn write_flag<N: BootName>(machine: &mut Machine<N>, group: GroupId, value: &[u8
 }
 
 // Reclaims this many pages from the group's subtree. The write is refused if fewer were freed; these stay freed.
-fn reclaim_amount<N: BootName>(
+fn reclaim_asked<N: BootName>(
     machine: &mut Machine<N>,
     tables: &Tables<N>,
     group: GroupId,
@@ -116,7 +116,7 @@ fn reclaim_amount<N: BootName>(
     ensures groups { HasItsGroups machine.new.ledger result }
     ensures stays { KeepsAnyVisit N.frames machine.old machine.new }
 {
-    if reclaim_pages(machine, tables, group, asked) < asked {
+    if reclaim_amount(machine, tables, group, asked) < asked {
         Outcome::Refused(Fault::Again)
     } else {
         Outcome::Done
@@ -136,7 +136,7 @@ fn write_reclaim<N: BootName>(
     ensures stays { KeepsAnyVisit N.frames machine.old machine.new }
 {
     match read_amount(value) {
-        Ok(asked) => reclaim_amount(machine, tables, group, asked),
+        Ok(asked) => reclaim_asked(machine, tables, group, asked),
         Err(fault) => Outcome::Refused(fault),
     }
 }

@@ -16,7 +16,8 @@ use step_rules::step::{Action, Answer};
 fn settle_cpu<N: BootName>(machine: &mut Machine<N>, tables: &Tables<N>, cpu: &mut Cpu<N>)
     requires shut { AllShut machine.old }
     requires no_pin { cpu.old.pins ≡ [] }
-    ensures settles { BySteps N.frames SettlesInVisit (visit_state machine.old cpu.old) (visit_state machine.new cpu.new) }
+    ensures settles { BySteps N.frames SettlesInVisit (visit_state machine.old cpu.old)
+        (visit_state machine.new cpu.new) }
     ensures shut { AllShut machine.new }
     ensures settled { IsSettledUnpinned cpu.new }
 {
@@ -51,10 +52,10 @@ fn settle_under_lock<N: BootName>(machine: &mut Machine<N>, tables: &Tables<N>, 
     ensures shut { AllShut machine.new }
     ensures settled { IsSettledUnpinned cpu.new }
 {
-    let number = cpu.number();
-    machine.take_step(number, Action::Lock, Answer::Done);
+    let cpu_number = cpu.number();
+    machine.take_step(cpu_number, Action::Lock, Answer::Done);
     settle_cpu(machine, tables, cpu);
-    machine.take_step(number, Action::Unlock, Answer::Done);
+    machine.take_step(cpu_number, Action::Unlock, Answer::Done);
 }
 
 // Returns the list of the settled CPU to the zone and drains its stock, in a visit under the lock.
@@ -67,10 +68,10 @@ fn empty_under_lock<N: BootName>(machine: &mut Machine<N>, tables: &Tables<N>, c
     ensures spent { IsSpent N.frames N.stocks machine.new cpu.new }
     ensures others { LendsAndFillsNone machine.old machine.new }
 {
-    let number = cpu.number();
-    machine.take_step(number, Action::Lock, Answer::Done);
+    let cpu_number = cpu.number();
+    machine.take_step(cpu_number, Action::Lock, Answer::Done);
     empty_cpu(machine, tables, cpu);
-    machine.take_step(number, Action::Unlock, Answer::Done);
+    machine.take_step(cpu_number, Action::Unlock, Answer::Done);
 }
 
 // Settles the CPUs, one after the other.

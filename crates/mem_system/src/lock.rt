@@ -4,7 +4,7 @@ ghost use Rattle.std.specs.Prelude.{◌≡◌, ◌∷◌, []};
 ghost use Rattle.group_tree.specs.Groups.{number_at};
 ghost use Rattle.group_charge.specs.Charges.{AreCharges};
 ghost use Rattle.step_watch.specs.Watched.{Watches};
-ghost use Rattle.mem_machine.specs.Machines.{IsConsistent, with_watch};
+ghost use Rattle.mem_machine.specs.Machines.{IsConsistent, with_telling, with_watch};
 ghost use Rattle.mem_machine.specs.Steps.{cpu_makes};
 ghost use Rattle.mem_system.specs.Locked.{IsQuiet};
 
@@ -75,6 +75,13 @@ impl<N: BootName> Locked<N> {
         self.machine.charges()
     }
 
+    /// Notes each unit that is reclaimed from now on, or no longer. Nothing else changes.
+    pub fn tell_units(&mut self, is_on: bool)
+        ensures { self.new ≡ record self.old { machine = with_telling self.old.machine is_on } }
+    {
+        self.machine.tell_units(is_on);
+    }
+
     /// Puts a watch into the machine. A boot does this before the first step.
     pub fn set_watch(&mut self, watch: Watch)
         ensures { self.new ≡ record self.old { machine = with_watch self.old.machine watch } }
@@ -92,10 +99,10 @@ impl<N: BootName> Locked<N> {
     /// The machine's watch takes a step of a CPU's seat that no command takes: a lock, an unlock, or a step that the
     /// CPU makes without the lock. Nothing else changes.
     #[inline(always)]
-    pub fn take_step(&mut self, number: u32, action: Action, answer: Answer)
+    pub fn take_step(&mut self, cpu: u32, action: Action, answer: Answer)
         ensures locked { self.new ≡ record self.old { machine = with_watch self.old.machine self.new.machine.watch } }
-        ensures watched { Watches self.old.machine.watch (cpu_makes number action answer ∷ []) self.new.machine.watch }
+        ensures watched { Watches self.old.machine.watch (cpu_makes cpu action answer ∷ []) self.new.machine.watch }
     {
-        self.machine.take_step(number, action, answer);
+        self.machine.take_step(cpu, action, answer);
     }
 }

@@ -11,7 +11,7 @@ use group_tree::group::GroupId;
 
 /// The outcome of a command: a `Reply` without texts, which the charges give while the lock is held. It is small, so a
 /// caller that writes the reply at once needs no room for a path.
-#[derive(Clone, Copy, Debug, PartialEq, Eq)]
+#[derive(Clone, Copy, PartialEq, Eq)]
 pub enum Outcome {
     /// The group that was made.
     Group(GroupId),

@@ -22,7 +22,8 @@ use zone_sizes::config::Config;
 // Whether the unit that the frame heads is a single frame.
 fn is_single<N: BootName>(machine: &Machine<N>, frame: Frame) -> bool
     requires { frame < N.frames.frames }
-    ensures { (unit : ChargedUnit) → frame_state_at machine.now.frame_states frame ≡ Head unit → IsTrue result ↔ (unit.order ≡ 0) }
+    ensures { (unit : ChargedUnit) → frame_state_at machine.now.frame_states frame ≡ Head unit → IsTrue result
+        ↔ (unit.order ≡ 0) }
 {
     match machine.unit(frame) {
         Some(unit) => unit.order.exponent() == 0,
@@ -39,7 +40,8 @@ fn cut_list<N: BootName>(
 )
     requires visit { Visits N.frames (visit_state machine.old cpu.old) }
     requires sizes { IsValidConfig sizes }
-    ensures cuts { BySteps N.frames (CutsList sizes) (visit_state machine.old cpu.old) (visit_state machine.new cpu.new) }
+    ensures cuts { BySteps N.frames (CutsList sizes) (visit_state machine.old cpu.old)
+        (visit_state machine.new cpu.new) }
     ensures visit { Visits N.frames (visit_state machine.new cpu.new) }
     ensures room { length cpu.new.list < 256 }
     ensures below_high { length cpu.old.list ≤ sizes.high → length cpu.new.list < sizes.high }
@@ -62,7 +64,8 @@ fn list_frame<N: BootName>(
     requires frame { frame < N.frames.frames }
     requires free { frame_state_at machine.old.frame_states frame ≡ Free }
     requires none_fresh { cpu.old.fresh ≡ [] }
-    ensures lists { BySteps N.frames (ListsFrame sizes frame) (visit_state machine.old cpu.old) (visit_state machine.new cpu.new) }
+    ensures lists { BySteps N.frames (ListsFrame sizes frame) (visit_state machine.old cpu.old)
+        (visit_state machine.new cpu.new) }
     ensures stays { KeepsVisit N.frames (visit_state machine.old cpu.old) (visit_state machine.new cpu.new) }
     ensures fresh { cpu.new.fresh ≡ cpu.old.fresh }
     ensures at_most_high { ListStaysWithin sizes cpu.old cpu.new }

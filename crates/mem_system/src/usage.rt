@@ -9,7 +9,7 @@ use cpu_part::{BootName, Tables};
 use group_tree::group::GroupId;
 use mem_alloc::{kill_for, note_limit};
 use mem_machine::Machine;
-use mem_reclaim::reclaim_rounds;
+use mem_reclaim::reclaim_to_limit;
 
 // Lowers the group's usage to this many pages, as far as possible: drains the stocks of its subtree, and reclaims from
 // it in rounds.
@@ -23,7 +23,7 @@ pub(crate) fn lower_usage<N: BootName>(
     ensures { ByStepsOfAny N.frames (LowersUsage group limit) machine.old machine.new }
 {
     machine.drain_stocks(tables, group);
-    reclaim_rounds(machine, tables, group, 0, limit);
+    reclaim_to_limit(machine, tables, group, 0, limit);
 }
 
 // If the group's usage is above its limit, notes that and lowers the usage as `lower_usage` does. If that isn't enough,

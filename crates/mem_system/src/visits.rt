@@ -29,7 +29,8 @@ pub fn serve_outcome<N: BootName>(
     cmd: &Cmd<'_>,
 ) -> Outcome
     requires { IsOfZone N.frames cmd.now }
-    ensures served { ServesOutcome N.frames cmd.now result (locked_state locked.old cpu.old) (locked_state locked.new cpu.new) }
+    ensures served { ServesOutcome N.frames cmd.now result (locked_state locked.old cpu.old)
+        (locked_state locked.new cpu.new) }
     ensures groups { HasItsGroups locked.new.machine.ledger result }
     ensures settled { IsSettledAfter cmd.now (reply_of locked.new.machine.ledger result) cpu.new }
     ensures ends { EndsVisit N.frames (locked_state locked.old cpu.old) (locked_state locked.new cpu.new) }
@@ -52,7 +53,8 @@ pub(crate) fn serve_into<N: BootName>(
     reply: &mut Reply,
 )
     requires { IsOfZone N.frames cmd.now }
-    ensures served { IsServed N.frames cmd.now reply.new (locked_state locked.old cpu.old) (locked_state locked.new cpu.new) }
+    ensures served { IsServed N.frames cmd.now reply.new (locked_state locked.old cpu.old)
+        (locked_state locked.new cpu.new) }
     ensures settled { IsSettledAfter cmd.now reply.new cpu.new }
     ensures ends { EndsVisit N.frames (locked_state locked.old cpu.old) (locked_state locked.new cpu.new) }
 {
@@ -70,7 +72,8 @@ pub fn serve<N: BootName>(
     cmd: &Cmd<'_>,
 ) -> Reply
     requires { IsOfZone N.frames cmd.now }
-    ensures served { IsServed N.frames cmd.now result (locked_state locked.old cpu.old) (locked_state locked.new cpu.new) }
+    ensures served { IsServed N.frames cmd.now result (locked_state locked.old cpu.old)
+        (locked_state locked.new cpu.new) }
     ensures settled { IsSettledAfter cmd.now result cpu.new }
     ensures ends { EndsVisit N.frames (locked_state locked.old cpu.old) (locked_state locked.new cpu.new) }
 {
@@ -89,7 +92,8 @@ pub fn serve_frame_outcome<N: BootName>(
     group: GroupId,
 ) -> Outcome
     requires there { IsTrue (has_group locked.old.machine.ledger.groups group) }
-    ensures served { ServesFrameOutcome N.frames group result (locked_state locked.old cpu.old) (locked_state locked.new cpu.new) }
+    ensures served { ServesFrameOutcome N.frames group result (locked_state locked.old cpu.old)
+        (locked_state locked.new cpu.new) }
     ensures groups { HasItsGroups locked.new.machine.ledger result }
     ensures fresh { FreshOf (reply_of locked.new.machine.ledger result) 0 cpu.new.fresh }
     ensures back { cpu.new.back ≡ [] }

@@ -7,7 +7,7 @@ use Rattle.script_lines.specs.declared.line.Line.{Line}
 use Rattle.script_lines.specs.declared.line.Line.TheVariants.{Go, At}
 use Rattle.script_lines.specs.declared.line.Command.{Command}
 use Rattle.script_lines.specs.declared.line.Command.TheVariants.{Settle}
-use Rattle.script_lines.specs.declared.line.Command.TheVariants.{Blocks, Show}
+use Rattle.script_lines.specs.declared.line.Command.TheVariants.{Blocks, Show, Stock}
 use Rattle.script_lines.specs.Verb.{its_verb, name_of}
 use Rattle.script_lines.specs.declared.verb.Verb.{Verb}
 use Rattle.script_lines.specs.declared.verb.Verb.TheVariants as verb
@@ -20,9 +20,9 @@ on_none {T} r P Q is_none p = let F : Option T → Type 0 = λ o. MatchOption o 
 
 -- a text that is neither `go` nor a request is no line
 pub not_asked : (sizes : Config) (n : ℕ) (text : List ℕ) → is_go text ≡ false
-    → ((processor : ℕ) (command : Command) → ¬ IsRequestText sizes processor command text) → (line : Line) → ¬ IsLineText sizes n line text
+    → ((cpu : ℕ) (command : Command) → ¬ IsRequestText sizes cpu command text) → (line : Line) → ¬ IsLineText sizes n line text
 not_asked sizes n text goes none Go is = let now : is_go (codes "go") ≡ false = rw is at goes in cc
-not_asked sizes n text goes none (At number processor command) is = none processor command is.1
+not_asked sizes n text goes none (At number cpu command) is = none cpu command is.1
 
 -- the arguments of `alloc` have a space
 pub alloc_has_space : (text : List ℕ) → NoSpace text → (path : List ℕ) (order : ℕ) → ¬ IsAllocText path order text
@@ -68,12 +68,12 @@ write_parts text w r v s cut next path file value is =
     let is_file : IsPathText v = subst IsPathText (sym same.0) is.file_text in
     (first.0, is_file)
 
--- the processor and the command are the parts of the cut
-pub request_parts : (sizes : Config) (text w r : List ℕ) → IsCut text w r → (processor : ℕ) (command : Command)
-    → IsRequestText sizes processor command text → WritesNumber w processor × IsCommandText sizes command r
-request_parts sizes text w r cut processor command is =
+-- the CPU and the command are the parts of the cut
+pub request_parts : (sizes : Config) (text w r : List ℕ) → IsCut text w r → (cpu : ℕ) (command : Command)
+    → IsRequestText sizes cpu command text → WritesNumber w cpu × IsCommandText sizes command r
+request_parts sizes text w r cut cpu command is =
     let same = cut_once text w r is.digits is.rest cut (digits_no_space is.digits is.writes.digits.1) is.parts in
-    let is_number : WritesNumber w processor = subst (λ (x : List ℕ). WritesNumber x processor) (sym same.0) is.writes in
+    let is_number : WritesNumber w cpu = subst (λ (x : List ℕ). WritesNumber x cpu) (sym same.0) is.writes in
     let is_command : IsCommandText sizes command r = subst (IsCommandText sizes command) (sym same.1) is.command_text in
     (is_number, is_command)
 
@@ -91,6 +91,7 @@ pub command_parts : (sizes : Config) (text w r : List ℕ) → IsCut text w r �
 command_parts sizes text w r cut Settle is = absurd (no_cut (codes "settle") w r (name_no_space verb.Settle) (sym is ∙ cut.parts))
 command_parts sizes text w r cut Blocks is = absurd (no_cut (codes "blocks") w r (name_no_space verb.Blocks) (sym is ∙ cut.parts))
 command_parts sizes text w r cut Show is = absurd (no_cut (codes "show") w r (name_no_space verb.Show) (sym is ∙ cut.parts))
+command_parts sizes text w r cut Stock is = absurd (no_cut (codes "stock") w r (name_no_space verb.Stock) (sym is ∙ cut.parts))
 command_parts sizes text w r cut command is = name_parts sizes text w r cut command is.0 is.1 is.2
 
 -- whether a command of this name stands alone
@@ -98,6 +99,7 @@ abbrev pub stands_alone : Verb → Bool
 stands_alone verb.Settle = true
 stands_alone verb.Blocks = true
 stands_alone verb.Show = true
+stands_alone verb.Stock = true
 stands_alone v = false
 
 -- the text of a command begins with its name
@@ -105,6 +107,7 @@ pub begins : (sizes : Config) (text : List ℕ) (command : Command) → IsComman
 begins sizes text Settle is = inl is
 begins sizes text Blocks is = inl is
 begins sizes text Show is = inl is
+begins sizes text Stock is = inl is
 begins sizes text command is = inr (is.0, is.1)
 
 -- a name that isn't of a command that stands alone
@@ -112,6 +115,7 @@ pub not_alone : (sizes : Config) (text : List ℕ) (v : Verb) → text ≡ name_
 not_alone sizes text v e other Settle is = let same : v ≡ verb.Settle = same_verb v verb.Settle (sym e ∙ is) in cc
 not_alone sizes text v e other Blocks is = let same : v ≡ verb.Blocks = same_verb v verb.Blocks (sym e ∙ is) in cc
 not_alone sizes text v e other Show is = let same : v ≡ verb.Show = same_verb v verb.Show (sym e ∙ is) in cc
+not_alone sizes text v e other Stock is = let same : v ≡ verb.Stock = same_verb v verb.Stock (sym e ∙ is) in cc
 not_alone sizes text v e other command is =
     no_cut (name_of v) (name_of (its_verb command)) is.0 (name_no_space v) (sym e ∙ is.1)
 
@@ -134,6 +138,7 @@ pub is_command : (sizes : Config) (text r : List ℕ) (v : Verb) → IsCut text 
 is_command sizes text r v cut Settle same has = absurd has
 is_command sizes text r v cut Blocks same has = absurd has
 is_command sizes text r v cut Show same has = absurd has
+is_command sizes text r v cut Stock same has = absurd has
 is_command sizes text r v cut command same has = named_parts sizes text r v cut command same has
 
 -- what the arguments say is what the text says
@@ -144,9 +149,10 @@ pub from_arguments : (sizes : Config) (text r : List ℕ) (v : Verb) (found : Op
 from_arguments sizes text r v None cut is = no_command sizes text r v cut is
 from_arguments sizes text r v (Some command) cut is = is_command sizes text r v cut command is.0 is.1
 
--- a name that is none of three
-pub is_other : (v : Verb) → v ≢ verb.Settle → v ≢ verb.Blocks → v ≢ verb.Show → stands_alone v ≡ false
-is_other verb.Settle a b d = absurd (a refl)
-is_other verb.Blocks a b d = absurd (b refl)
-is_other verb.Show a b d = absurd (d refl)
-is_other v a b d = refl
+-- a name that is none of four
+pub is_other : (v : Verb) → v ≢ verb.Settle → v ≢ verb.Blocks → v ≢ verb.Show → v ≢ verb.Stock → stands_alone v ≡ false
+is_other verb.Settle a b d e = absurd (a refl)
+is_other verb.Blocks a b d e = absurd (b refl)
+is_other verb.Show a b d e = absurd (d refl)
+is_other verb.Stock a b d e = absurd (e refl)
+is_other v a b d e = refl

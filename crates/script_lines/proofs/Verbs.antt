@@ -7,7 +7,7 @@ use Rattle.script_lines.specs.Verb.{coded_commands, name_of, verb_coded}
 use Rattle.std.specs.Map.{lookup}
 use Rattle.script_lines.specs.declared.verb.Verb.{Verb}
 use Rattle.script_lines.specs.declared.verb.Verb.TheVariants.{Mkdir, Rmdir, Write, Read, Alloc, Fast, Release, Get, Put, Settle, Touch}
-use Rattle.script_lines.specs.declared.verb.Verb.TheVariants.{Dirty, Clean, Owner, Blocks, Show}
+use Rattle.script_lines.specs.declared.verb.Verb.TheVariants.{Dirty, Clean, Owner, Blocks, Show, Stock, Units}
 use Rattle.script_lines.proofs.Codes.{AreBytes, same_code}
 use Rattle.script_lines.proofs.Cuts.{NoSpace}
 
@@ -29,6 +29,8 @@ verb_coded-name_of Clean = refl
 verb_coded-name_of Owner = refl
 verb_coded-name_of Blocks = refl
 verb_coded-name_of Show = refl
+verb_coded-name_of Stock = refl
+verb_coded-name_of Units = refl
 
 -- two commands have two names
 pub same_verb : (v w : Verb) → name_of v ≡ name_of w → v ≡ w
@@ -83,6 +85,8 @@ name_is_word Clean = refl
 name_is_word Owner = refl
 name_is_word Blocks = refl
 name_is_word Show = refl
+name_is_word Stock = refl
+name_is_word Units = refl
 
 -- no name has a space
 pub name_no_space : (v : Verb) → NoSpace (name_of v)
@@ -108,6 +112,8 @@ is_short Clean = refl
 is_short Owner = refl
 is_short Blocks = refl
 is_short Show = refl
+is_short Stock = refl
+is_short Units = refl
 
 -- no name is long
 pub name_short : (v : Verb) → length (name_of v) < 8
@@ -116,4 +122,4 @@ name_short v = ltb-true (length (name_of v)) 8 (is_short v)
 -- a text whose number names a command is its name
 pub named : (text : List ℕ) (v : Verb) → AreBytes text → verb_coded (code_of text) ≡ Some v → text ≡ name_of v
 named text v bytes e = same_code text (name_of v) bytes (name_bytes v) (coded_in coded_commands (code_of text) v
-    (refl, (refl, (refl, (refl, (refl, (refl, (refl, (refl, (refl, (refl, (refl, (refl, (refl, (refl, (refl, (refl, tt)))))))))))))))) e)
+    (refl, (refl, (refl, (refl, (refl, (refl, (refl, (refl, (refl, (refl, (refl, (refl, (refl, (refl, (refl, (refl, (refl, (refl, tt)))))))))))))))))) e)

@@ -1,6 +1,6 @@
 -- The form of a script: lines that each end with a line feed, which the last may lack.
-use Rattle.std.specs.Prelude.{◌≡◌, ◌≢◌, ◌⊎◌, ℕ, Bool, true, false, not, ◌==◌, ◌-◌, ◌<◌, ◌≤◌, List, [], ◌∷◌, ◌++◌, All, codes, nat_eq}
-use Rattle.std.specs.Prelude.{count_by, filter, length, slice_get, take, Option, None, Some, ⊤}
+use Rattle.std.specs.Prelude.{◌≡◌, ◌≢◌, ◌⊎◌, ℕ, Bool, true, false, not, ◌==◌, ◌-◌, ◌<◌, ◌≤◌, List, [], ◌∷◌, ◌++◌, All}
+use Rattle.std.specs.Prelude.{codes, nat_eq, count_by, filter, length, slice_get, take, Option, None, Some, ⊤}
 use Rattle.std.specs.Borrow.{Bor}
 use Rattle.std.specs.List.{AllZip, enumerate_from, list_any, slice_split}
 use Rattle.std.specs.Cmp.Lexicographic.{pointwise}
@@ -9,8 +9,8 @@ use Rattle.script_lines.specs.declared.line.Line.{Line}
 use Rattle.script_lines.specs.declared.line.Line.TheVariants.{Go, At}
 use Rattle.script_lines.specs.declared.line.Command.{Command}
 -- how each command is written
-pub use Rattle.script_lines.specs.Verb.{IsPathText, WritesNumber, IsAllocText, IsReadText, IsWriteText, IsFrameText, IsGroupText, IsPath}
-pub use Rattle.script_lines.specs.Verb.{HasArguments, IsCommandText}
+pub use Rattle.script_lines.specs.Verb.{IsPathText, WritesNumber, IsAllocText, IsReadText, IsWriteText, IsFrameText}
+pub use Rattle.script_lines.specs.Verb.{IsGroupText, IsPath, HasArguments, IsCommandText}
 use Rattle.script_lines.specs.Verb.{name_of}
 use Rattle.script_lines.specs.declared.verb.Verb.{Verb}
 use Rattle.script_lines.specs.declared.fault.ScriptFault.{ScriptFault}
@@ -48,13 +48,13 @@ IsNamed verb None text = text ≡ name_of verb
 IsNamed verb (Some rest) text = IsCut text (name_of verb) rest.now
 
 -- `P COMMAND`, P being the number of a CPU
-pub record IsRequestText (sizes : Config) (processor : ℕ) (command : Command) (text : List ℕ) : Type 0 where
+pub record IsRequestText (sizes : Config) (cpu : ℕ) (command : Command) (text : List ℕ) : Type 0 where
   pub digits : List ℕ
   pub rest : List ℕ
   pub parts : text ≡ digits ++ 32 ∷ rest
-  pub writes : WritesNumber digits processor
-  pub low : 1 ≤ processor
-  pub high : processor ≤ sizes.cpus
+  pub writes : WritesNumber digits cpu
+  pub low : 1 ≤ cpu
+  pub high : cpu ≤ sizes.cpus
   pub command_text : IsCommandText sizes command rest
 
 -- whether the text is `go`
@@ -64,7 +64,7 @@ is_go text = pointwise nat_eq text (codes "go")
 -- the n-th line is `go`, or is `P COMMAND` and has its number
 abbrev pub IsLineText : Config → ℕ → Line → List ℕ → Type 0
 IsLineText sizes n Go text = text ≡ codes "go"
-IsLineText sizes n (At number processor command) text = (number ≡ n) × IsRequestText sizes processor command text
+IsLineText sizes n (At number cpu command) text = (number ≡ n) × IsRequestText sizes cpu command text
 
 -- an empty text, or a comment
 abbrev pub is_skipped : List ℕ → Bool

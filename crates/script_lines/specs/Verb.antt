@@ -10,8 +10,9 @@ use Rattle.script_lines.specs.declared.line.Command.{Command}
 use Rattle.script_lines.specs.declared.line.Command.TheVariants as command
 use Rattle.script_lines.specs.declared.verb.Name.{Name}
 use Rattle.script_lines.specs.declared.verb.Verb.{Verb}
-use Rattle.script_lines.specs.declared.verb.Verb.TheVariants.{Mkdir, Rmdir, Write, Read, Alloc, Fast, Release, Get, Put, Settle, Touch}
-use Rattle.script_lines.specs.declared.verb.Verb.TheVariants.{Dirty, Clean, Owner, Blocks, Show}
+use Rattle.script_lines.specs.declared.verb.Verb.TheVariants.{Mkdir, Rmdir, Write, Read, Alloc, Fast, Release, Get, Put}
+use Rattle.script_lines.specs.declared.verb.Verb.TheVariants.{Settle, Touch, Dirty, Clean, Owner, Blocks, Show, Stock}
+use Rattle.script_lines.specs.declared.verb.Verb.TheVariants.{Units}
 
 -- which command it is
 abbrev pub its_verb : Command → Verb
@@ -31,6 +32,8 @@ its_verb (command.Clean frame) = Clean
 its_verb (command.Owner frame) = Owner
 its_verb command.Blocks = Blocks
 its_verb command.Show = Show
+its_verb command.Stock = Stock
+its_verb (command.Units path) = Units
 
 -- the command about this frame; None for a command that names no frame
 abbrev pub on_frame : Verb → ℕ → Option Command
@@ -61,6 +64,8 @@ name_of Clean = codes "clean"
 name_of Owner = codes "owner"
 name_of Blocks = codes "blocks"
 name_of Show = codes "show"
+name_of Stock = codes "stock"
+name_of Units = codes "units"
 
 -- ---- what follows a name
 
@@ -108,7 +113,7 @@ pub record IsGroupText (group : ℕ) (text : List ℕ) : Type 0 where
 abbrev pub IsPath : List ℕ → List ℕ → Type 0
 IsPath path text = IsPathText path × (path ≡ text)
 
--- what follows the name of a command and a space; nothing may follow `settle`, `blocks` and `show`
+-- what follows the name of a command and a space; nothing may follow `settle`, `blocks`, `show` and `stock`
 abbrev pub HasArguments : Config → Command → List ℕ → Type 0
 HasArguments sizes (command.Mkdir path) text = IsPath path.now text
 HasArguments sizes (command.Rmdir path) text = IsPath path.now text
@@ -116,6 +121,7 @@ HasArguments sizes (command.Write path file value) text = IsWriteText path.now f
 HasArguments sizes (command.Read path file) text = IsReadText path.now file.now text
 HasArguments sizes (command.Alloc path order) text = IsAllocText path.now order text
 HasArguments sizes (command.Fast group) text = IsGroupText group text
+HasArguments sizes (command.Units path) text = IsPath path.now text
 HasArguments sizes (command.Release frame) text = IsFrameText sizes frame text
 HasArguments sizes (command.Get frame) text = IsFrameText sizes frame text
 HasArguments sizes (command.Put frame) text = IsFrameText sizes frame text
@@ -126,13 +132,16 @@ HasArguments sizes (command.Owner frame) text = IsFrameText sizes frame text
 HasArguments sizes command.Settle text = ⊥
 HasArguments sizes command.Blocks text = ⊥
 HasArguments sizes command.Show text = ⊥
+HasArguments sizes command.Stock text = ⊥
 
 -- the name of a command, a space and its arguments; or the name alone
 abbrev pub IsCommandText : Config → Command → List ℕ → Type 0
 IsCommandText sizes command.Settle text = text ≡ codes "settle"
 IsCommandText sizes command.Blocks text = text ≡ codes "blocks"
 IsCommandText sizes command.Show text = text ≡ codes "show"
-IsCommandText sizes other text = (arguments : List ℕ) × (text ≡ name_of (its_verb other) ++ 32 ∷ arguments) × HasArguments sizes other arguments
+IsCommandText sizes command.Stock text = text ≡ codes "stock"
+IsCommandText sizes other text = (arguments : List ℕ) × (text ≡ name_of (its_verb other) ++ 32 ∷ arguments)
+    × HasArguments sizes other arguments
 
 -- ---- the table
 
@@ -144,7 +153,7 @@ coded_commands =
     ∷ (code_of (codes "read"), Read) ∷ (code_of (codes "release"), Release) ∷ (code_of (codes "dirty"), Dirty)
     ∷ (code_of (codes "rmdir"), Rmdir) ∷ (code_of (codes "get"), Get) ∷ (code_of (codes "alloc"), Alloc)
     ∷ (code_of (codes "show"), Show) ∷ (code_of (codes "fast"), Fast) ∷ (code_of (codes "mkdir"), Mkdir)
-    ∷ (code_of (codes "put"), Put) ∷ []
+    ∷ (code_of (codes "put"), Put) ∷ (code_of (codes "stock"), Stock) ∷ (code_of (codes "units"), Units) ∷ []
 
 -- the command whose name has this number
 abbrev pub verb_coded : ℕ → Option Verb

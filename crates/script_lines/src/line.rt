@@ -1,7 +1,7 @@
 //! The lines of a script.
 
 /// One line of a script.
-#[derive(Clone, Copy, Debug, PartialEq, Eq)]
+#[derive(Clone, Copy)]
 pub enum Line<'a> {
     /// From here on each CPU may run its own lines while others run theirs.
     Go,
@@ -9,14 +9,14 @@ pub enum Line<'a> {
     /// script's text, from 1. Empty lines and comments count.
     At {
         number: usize,
-        processor: u32,
+        cpu: u32,
         command: Command<'a>,
     },
 }
 
 /// What a line asks for. A path and a file's name are bytes above 32 and below 127. Whether such a group and file exist
 /// is not checked here. A frame is one of the zone.
-#[derive(Clone, Copy, Debug, PartialEq, Eq)]
+#[derive(Clone, Copy)]
 pub enum Command<'a> {
     /// Makes the group of this path.
     Mkdir {
@@ -80,4 +80,10 @@ pub enum Command<'a> {
     Blocks,
     /// Shows the place of every frame and the usage of every group.
     Show,
+    /// Shows the stock of the CPU, and how many frames and pins it has.
+    Stock,
+    /// Shows the kept units of the group of this path.
+    Units {
+        path: &'a [u8],
+    },
 }

@@ -27,8 +27,8 @@ pub fn number(word: &[u8]) -> Option<u32>
     Some(value as u32)
 }
 
-/// The number before the first space, as `number` reads it, and what follows that space. None if there is no space, or no
-/// number before it. It reads the digits and finds their end in one pass.
+/// The number before the first space, as `number` reads it, and what follows that space. None if there is no space, or
+/// no number before it. It reads the digits and finds their end in one pass.
 pub(crate) fn first_number(text: &[u8]) -> Option<(u32, &[u8])>
     ensures { MatchOption result
         ((word : List ℕ) (rest : List ℕ) (n : ℕ) → IsCut text.now word rest → ¬ WritesNumber word n)

@@ -1,9 +1,10 @@
 //! A script's bytes, cut into lines.
 
-ghost use Rattle.std.specs.Prelude.{◌≡◌, ◌≢◌, ◌↔◌, ◌∷◌, ℕ, ◌+◌, ◌<◌, ◌≤◌, All, IfErr, IfOk, IfSome, IsTrue, List, MatchOption};
-ghost use Rattle.std.specs.Prelude.{length, take};
-ghost use Rattle.script_lines.specs.Script.{HasArguments, IsAllocText, IsCommandText, IsCut, IsFirstBadLine, IsFrameText, IsGroupText, IsLineText};
-ghost use Rattle.script_lines.specs.Script.{IsPathText, IsReadText, IsRequestText, IsScript, IsWriteText, NamesFirstBadLine, ended_lines};
+ghost use Rattle.std.specs.Prelude.{◌≡◌, ◌≢◌, ◌↔◌, ◌∷◌, ℕ, ◌+◌, ◌<◌, ◌≤◌, All, IfErr, IfOk, IfSome, IsTrue, List};
+ghost use Rattle.std.specs.Prelude.{MatchOption, length, take};
+ghost use Rattle.script_lines.specs.Script.{HasArguments, IsAllocText, IsCommandText, IsCut, IsFirstBadLine};
+ghost use Rattle.script_lines.specs.Script.{IsFrameText, IsGroupText, IsLineText, IsPathText, IsReadText};
+ghost use Rattle.script_lines.specs.Script.{IsRequestText, IsScript, IsWriteText, NamesFirstBadLine, ended_lines};
 ghost use Rattle.script_lines.specs.Script.{is_go, is_skipped, longest_script, texts_left, texts_of};
 ghost use Rattle.script_lines.specs.Verb.{IsNames, its_verb, on_frame};
 ghost use Rattle.script_lines.specs.declared.line.Command.{Command};
@@ -136,7 +137,9 @@ pub fn is_go(text: &[u8]) -> bool
 }
 
 /// The line of this number, from 1, which has this text. None if the text is empty or a comment, or isn't in the
-/// grammar. A text of more than 1,024 bytes isn't refused here.
+/// grammar. A text of more than 1,024 bytes isn't refused here. It is inlined, with what it
+/// calls, because its result is large: a call would write it to memory twice.
+#[inline(always)]
 pub fn parse_line<'a>(
     names: &Names,
     number: usize,
@@ -150,29 +153,31 @@ pub fn parse_line<'a>(
     if is_go(text) {
         return Some(Line::Go);
     }
-    let (processor, command) = parse_request(names, text, sizes)?;
+    let (cpu, command) = parse_request(names, text, sizes)?;
     Some(Line::At {
         number,
-        processor,
+        cpu,
         command,
     })
 }
 
 // The CPU and the command.
+#[inline(always)]
 fn parse_request<'a>(names: &Names, text: &'a [u8], sizes: &Config) -> Option<(u32, Command<'a>)>
     requires { IsNames names.now }
     ensures { MatchOption result
-        ((processor : ℕ) (command : Command) → ¬ IsRequestText sizes.now processor command text.entry.now)
+        ((cpu : ℕ) (command : Command) → ¬ IsRequestText sizes.now cpu command text.entry.now)
         (λ r. IsRequestText sizes.now r.0 r.1 text.entry.now) }
 {
-    let (processor, rest) = first_number(text)?;
-    if processor < 1 || sizes.cpus < processor {
+    let (cpu, rest) = first_number(text)?;
+    if cpu < 1 || sizes.cpus < cpu {
         return None;
     }
     let command = parse_command(names, rest, sizes)?;
-    Some((processor, command))
+    Some((cpu, command))
 }
 
+#[inline(always)]
 fn parse_command<'a>(names: &Names, text: &'a [u8], sizes: &Config) -> Option<Command<'a>>
     requires { IsNames names.now }
     ensures { MatchOption result ((command : Command) → ¬ IsCommandText sizes.now command text.entry.now)
@@ -184,6 +189,7 @@ fn parse_command<'a>(names: &Names, text: &'a [u8], sizes: &Config) -> Option<Co
             Verb::Settle => Some(Command::Settle),
             Verb::Blocks => Some(Command::Blocks),
             Verb::Show => Some(Command::Show),
+            Verb::Stock => Some(Command::Stock),
             _ => None,
         },
         Some(arguments) => parse_arguments(verb, arguments, sizes),
@@ -219,7 +225,10 @@ fn parse_arguments<'a>(verb: Verb, arguments: &'a [u8], sizes: &Config) -> Optio
             let group = group_of(arguments)?;
             Some(Command::Fast { group })
         }
-        Verb::Settle | Verb::Blocks | Verb::Show => None,
+        Verb::Units => Some(Command::Units {
+            path: path_of(arguments)?,
+        }),
+        Verb::Settle | Verb::Blocks | Verb::Show | Verb::Stock => None,
         _ => on_frame(verb, frame_of(arguments, sizes)?),
     }
 }

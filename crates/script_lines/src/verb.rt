@@ -12,11 +12,11 @@ use std::alloc::{AllocError, Global};
 /// How many bytes the longest name has.
 const LONGEST_NAME: usize = 7;
 
-/// Each of the 16 names has a place of its own in the table: the upper four bits of its number times this one.
+/// Each of the first 16 names has a place of its own in the table: the upper four bits of its number times this one.
 const SPREAD: u64 = 7_351_189_111_781_068_673;
 
 /// Which command a line has.
-#[derive(Clone, Copy, Debug, PartialEq, Eq)]
+#[derive(Clone, Copy, PartialEq, Eq)]
 pub enum Verb {
     Mkdir,
     Rmdir,
@@ -34,11 +34,13 @@ pub enum Verb {
     Owner,
     Blocks,
     Show,
+    Stock,
+    Units,
 }
 
-/// The name of a command, as the number that its bytes are behind a 1, to the base 256. So a map hashes and compares it at
-/// once; it would take a slice piece by piece.
-#[derive(Clone, Copy, Debug, PartialEq, Eq, Hash)]
+/// The name of a command, as the number that its bytes are behind a 1, to the base 256. So a map hashes and compares it
+/// at once; it would take a slice piece by piece.
+#[derive(Clone, Copy, PartialEq, Eq, Hash)]
 pub struct Name {
     code: u64,
 }
@@ -72,8 +74,8 @@ impl Name {
 /// The commands by their names.
 pub type Names = IndexMap<Name, Verb>;
 
-/// A new table of all commands by their names, each at the place that its number gives. `AllocError` if memory runs
-/// out.
+/// A new table of all commands by their names. The first 16 are each at the place that its number gives; the others
+/// follow, because their answers cost far more than a search. `AllocError` if memory runs out.
 pub fn command_names(alloc: Global) -> Result<Names, AllocError>
     ensures { IfOk result IsNames }
 {
@@ -96,12 +98,15 @@ pub fn command_names(alloc: Global) -> Result<Names, AllocError>
             (Name::of(b"fast"), Verb::Fast),
             (Name::of(b"mkdir"), Verb::Mkdir),
             (Name::of(b"put"), Verb::Put),
+            (Name::of(b"stock"), Verb::Stock),
+            (Name::of(b"units"), Verb::Units),
         ],
     )
 }
 
 // The command of this name. The first look is at the place that the name's number gives. The map's own search costs
-// several times as much; it is for words that name no command, and would serve any order of the table.
+// several times as much; it is for `stock`, `units` and words that name no command, and would serve any order of the
+// table.
 fn verb_named(names: &Names, name: Name) -> Option<Verb>
     requires { IsNames names.now }
     ensures { result ≡ verb_coded name.code }

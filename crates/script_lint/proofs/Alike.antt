@@ -6,7 +6,7 @@ use Rattle.std.proofs.lemmas.List.Elements.{All-push}
 use Rattle.script_lines.specs.Verb.{name_of}
 use Rattle.script_lines.specs.declared.verb.Verb.{Verb}
 use Rattle.script_lines.specs.declared.verb.Verb.TheVariants.{Mkdir, Rmdir, Write, Read, Alloc, Fast, Release, Get, Put, Settle, Touch}
-use Rattle.script_lines.specs.declared.verb.Verb.TheVariants.{Dirty, Clean, Owner, Blocks, Show}
+use Rattle.script_lines.specs.declared.verb.Verb.TheVariants.{Dirty, Clean, Owner, Blocks, Show, Stock, Units}
 use Rattle.script_lint.specs.Causes.{all_verbs}
 use Rattle.script_lint.specs.Names.{BeginAlike, IsCommon, IsLongest}
 
@@ -69,7 +69,7 @@ no_more_of text verbs v most count so_far common less = record {
 }
 
 -- each command is among all
-in_all : (v : Verb) → (k : ℕ) × (k < 16) × (get_or all_verbs k Mkdir ≡ v)
+in_all : (v : Verb) → (k : ℕ) × (k < 18) × (get_or all_verbs k Mkdir ≡ v)
 in_all Mkdir = (0, omega arith, refl)
 in_all Rmdir = (1, omega arith, refl)
 in_all Write = (2, omega arith, refl)
@@ -86,6 +86,8 @@ in_all Clean = (12, omega arith, refl)
 in_all Owner = (13, omega arith, refl)
 in_all Blocks = (14, omega arith, refl)
 in_all Show = (15, omega arith, refl)
+in_all Stock = (16, omega arith, refl)
+in_all Units = (17, omega arith, refl)
 
 -- what is the most of all commands is the longest
 pub longest_of : (text : List ℕ) (most : ℕ) → IsMostOf text all_verbs most → IsLongest text most

@@ -9,7 +9,7 @@ use Rattle.script_lines.specs.declared.line.Command.{Command}
 use Rattle.script_lines.specs.declared.line.Command.TheVariants as command
 use Rattle.script_lines.specs.declared.verb.Verb.{Verb}
 use Rattle.script_lines.specs.declared.verb.Verb.TheVariants.{Mkdir, Rmdir, Write, Read, Alloc, Fast, Release, Get, Put, Settle, Touch}
-use Rattle.script_lines.specs.declared.verb.Verb.TheVariants.{Dirty, Clean, Owner, Blocks, Show}
+use Rattle.script_lines.specs.declared.verb.Verb.TheVariants.{Dirty, Clean, Owner, Blocks, Show, Stock, Units}
 use Rattle.script_lines.proofs.Cuts.{cut_once, no_cut}
 use Rattle.std.proofs.lemmas.Bool.{cases_lt}
 use Rattle.script_lines.proofs.Readings.{begins, command_parts, is_command, not_alone, stands_alone}
@@ -40,6 +40,8 @@ to_shape sizes (command.Owner frame) r h = let low = h.in_zone in (frame, h.writ
 to_shape sizes command.Settle r h = absurd h
 to_shape sizes command.Blocks r h = absurd h
 to_shape sizes command.Show r h = absurd h
+to_shape sizes command.Stock r h = absurd h
+to_shape sizes (command.Units path) r h = subst IsPathText h.1 h.0
 
 -- a text that is borrowed from nowhere
 abbrev lent : List ℕ → Bor (List ℕ)
@@ -83,6 +85,8 @@ from_shape sizes zone Owner r is =
 from_shape sizes zone Settle r is = absurd is
 from_shape sizes zone Blocks r is = absurd is
 from_shape sizes zone Show r is = absurd is
+from_shape sizes zone Stock r is = absurd is
+from_shape sizes zone Units r is = (command.Units (lent r), refl, (is, refl))
 
 -- a name, a space and what has the shape are a command, and nothing else behind the name is
 pub command_from : (sizes : Config) → HasZone sizes → (text : List ℕ) (v : Verb) (r : List ℕ) → IsCut text (name_of v) r
@@ -103,12 +107,14 @@ pub is_alone : (sizes : Config) (v : Verb) → shape_of sizes v ≡ Alone → Is
 is_alone sizes Settle e = (command.Settle, refl)
 is_alone sizes Blocks e = (command.Blocks, refl)
 is_alone sizes Show e = (command.Show, refl)
+is_alone sizes Stock e = (command.Stock, refl)
 is_alone sizes other e = cc
 
 not_standing : (sizes : Config) (v : Verb) → shape_of sizes v ≢ Alone → stands_alone v ≡ false
 not_standing sizes Settle n = absurd (n refl)
 not_standing sizes Blocks n = absurd (n refl)
 not_standing sizes Show n = absurd (n refl)
+not_standing sizes Stock n = absurd (n refl)
 not_standing sizes other n = refl
 
 slash : IsPathText (47 ∷ [])
@@ -126,6 +132,8 @@ some_shape : (sizes : Config) (v : Verb) → (shape_of sizes v ≡ Alone) ⊎ (r
 some_shape sizes Settle = inl refl
 some_shape sizes Blocks = inl refl
 some_shape sizes Show = inl refl
+some_shape sizes Stock = inl refl
+some_shape sizes Units = inr (47 ∷ [], slash)
 some_shape sizes Mkdir = inr (47 ∷ [], slash)
 some_shape sizes Rmdir = inr (47 ∷ [], slash)
 some_shape sizes Write = inr (47 ∷ 32 ∷ 47 ∷ 32 ∷ [], (47 ∷ [], 47 ∷ 32 ∷ [], refl, slash, (47 ∷ [], [], refl, slash, tt)))

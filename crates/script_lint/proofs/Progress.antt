@@ -45,7 +45,7 @@ says_line sizes n went text good asks = elim (good.says asks) [
 
 of_line : (sizes : Config) (n : ℕ) (text : List ℕ) (line : Line) → IsLineText sizes n line text → (is_go text ≡ true) ⊎ IsRequest sizes text
 of_line sizes n text Go is = inl (go_is text is)
-of_line sizes n text (At number processor command) is = inr (processor, command, is.1)
+of_line sizes n text (At number cpu command) is = inr (cpu, command, is.1)
 
 never_both : (goes went : Bool) → (goes ≡ true → went ≡ false) → went ≡ true → goes ≡ false
 never_both true true once e = once refl

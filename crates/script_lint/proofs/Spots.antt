@@ -5,12 +5,12 @@ use Rattle.std.proofs.lemmas.Bool.{ltb-false, ltb-true}
 use Rattle.std.proofs.lemmas.List.{length-take-le}
 use Rattle.zone_sizes.specs.declared.config.Config.{Config}
 use Rattle.script_lint.specs.Causes.{byte_at, cause_at, is_between_words, is_double_space, is_printable, lacks_command, lacks_number}
-use Rattle.script_lint.specs.Causes.{lacks_processor, later_cause_at, misses_frame, misses_group, misses_processor}
+use Rattle.script_lint.specs.Causes.{lacks_cpu, later_cause_at, misses_frame, misses_group, misses_cpu}
 use Rattle.script_lint.specs.Continuation.{GoesOn, IsStuck}
 use Rattle.script_lint.specs.Lines.{IsCause, IsGoodHere, IsSpot, stuck_spot, whole_spot}
 use Rattle.script_lint.specs.Shapes.{IsGoodText}
 use Rattle.script_lint.specs.declared.finding.Cause.{Cause}
-use Rattle.script_lint.specs.declared.finding.Cause.TheVariants.{NoProcessor, ProcessorOutOfRange, UnknownCommand, TooFewWords}
+use Rattle.script_lint.specs.declared.finding.Cause.TheVariants.{NoCpu, CpuOutOfRange, UnknownCommand, TooFewWords}
 use Rattle.script_lint.specs.declared.finding.Cause.TheVariants.{TooManyWords, TwoSpaces, SpaceAtEnd, Tab, CarriageReturn}
 use Rattle.script_lint.specs.declared.finding.Cause.TheVariants.{NumberOutOfRange, FrameOutOfZone, GroupOutOfRange, UnprintableByte}
 use Rattle.script_lint.specs.declared.finding.Cause.TheVariants.{InputTooLong, LineTooLong, SecondGo}
@@ -41,7 +41,7 @@ later_local text place =
     (misses_frame text place) (misses_group text place) (not (is_printable (byte_at text place)))
 
 first_of : (a b c d e f : Bool) (later : Cause) → IsLocal later
-    → IsLocal (if a then NoProcessor else if b then ProcessorOutOfRange else if c then UnknownCommand else if d then TooFewWords
+    → IsLocal (if a then NoCpu else if b then CpuOutOfRange else if c then UnknownCommand else if d then TooFewWords
     else if e then TooManyWords else if f then TwoSpaces else later)
 first_of true b c d e f later is = tt
 first_of false true c d e f later is = tt
@@ -53,7 +53,7 @@ first_of false false false false false false later is = is
 
 cause_local : (text : List ℕ) (place : ℕ) → IsLocal (cause_at text place)
 cause_local text place =
-    first_of (lacks_processor text place) (misses_processor text place) (lacks_command text place) (byte_at text place == 10)
+    first_of (lacks_cpu text place) (misses_cpu text place) (lacks_command text place) (byte_at text place == 10)
     (is_between_words text place) (is_double_space text place) (later_cause_at text place) (later_local text place)
 
 is_cause : (sizes : Config) (went : Bool) (Within : Type 0) (text : List ℕ) (place : ℕ) (cause : Cause) → IsLocal cause

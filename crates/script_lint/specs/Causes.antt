@@ -1,16 +1,19 @@
 -- Why no good line goes on at some place of a line: each cause as a test of the line's text and the place.
-use Rattle.std.specs.Prelude.{ℕ, zero, suc, ◌+◌, ◌-◌, Bool, true, not, ◌&&◌, ◌||◌, ◌==◌, List, [], ◌∷◌, codes, count_by, if◌then◌else◌, nat_eq, nat_lt, slice_get, take, Option, None, Some}
+use Rattle.std.specs.Prelude.{ℕ, zero, suc, ◌+◌, ◌-◌, Bool, true, not, ◌&&◌, ◌||◌, ◌==◌, List, [], ◌∷◌, codes, count_by}
+use Rattle.std.specs.Prelude.{if◌then◌else◌, nat_eq, nat_lt, slice_get, take, Option, None, Some}
 use Rattle.std.specs.List.{list_any}
 use Rattle.std.specs.Cmp.Lexicographic.{pointwise}
 use Rattle.script_lines.specs.Script.{is_go}
 use Rattle.script_lines.specs.Verb.{name_of}
 use Rattle.script_lines.specs.declared.verb.Verb.{Verb}
-use Rattle.script_lines.specs.declared.verb.Verb.TheVariants.{Mkdir, Rmdir, Write, Read, Alloc, Fast, Release, Get, Put, Settle, Touch}
-use Rattle.script_lines.specs.declared.verb.Verb.TheVariants.{Dirty, Clean, Owner, Blocks, Show}
+use Rattle.script_lines.specs.declared.verb.Verb.TheVariants.{Mkdir, Rmdir, Write, Read, Alloc, Fast, Release, Get, Put}
+use Rattle.script_lines.specs.declared.verb.Verb.TheVariants.{Settle, Touch, Dirty, Clean, Owner, Blocks, Show, Stock}
+use Rattle.script_lines.specs.declared.verb.Verb.TheVariants.{Units}
 use Rattle.script_lint.specs.declared.finding.Cause.{Cause}
-use Rattle.script_lint.specs.declared.finding.Cause.TheVariants.{NoProcessor, ProcessorOutOfRange, UnknownCommand, TooFewWords}
-use Rattle.script_lint.specs.declared.finding.Cause.TheVariants.{TooManyWords, TwoSpaces, SpaceAtEnd, Tab, CarriageReturn}
-use Rattle.script_lint.specs.declared.finding.Cause.TheVariants.{NumberOutOfRange, FrameOutOfZone, GroupOutOfRange, UnprintableByte, SecondGo}
+use Rattle.script_lint.specs.declared.finding.Cause.TheVariants.{NoCpu, CpuOutOfRange, UnknownCommand}
+use Rattle.script_lint.specs.declared.finding.Cause.TheVariants.{TooFewWords, TooManyWords, TwoSpaces, SpaceAtEnd, Tab}
+use Rattle.script_lint.specs.declared.finding.Cause.TheVariants.{CarriageReturn, NumberOutOfRange, FrameOutOfZone}
+use Rattle.script_lint.specs.declared.finding.Cause.TheVariants.{GroupOutOfRange, UnprintableByte, SecondGo}
 
 -- ---- the text and the place
 
@@ -67,19 +70,22 @@ is_gap b = b == 32 || b == 9 || b == 13 || b == 10
 -- ---- the causes
 
 -- the first word isn't a number: a byte of it is neither a digit nor one of those that have causes of their own
-abbrev pub lacks_processor : List ℕ → ℕ → Bool
-lacks_processor text place =
-    (spaces_before text place == 0) && not (is_gap (byte_at text place)) && not (is_digit (byte_at text place)) && not (is_go text)
+abbrev pub lacks_cpu : List ℕ → ℕ → Bool
+lacks_cpu text place =
+    (spaces_before text place == 0) && not (is_gap (byte_at text place)) && not (is_digit (byte_at text place))
+    && not (is_go text)
 
 -- the first word is a number, and no CPU has it: a digit makes it too great, or it ends as zero
-abbrev pub misses_processor : List ℕ → ℕ → Bool
-misses_processor text place =
-    (spaces_before text place == 0) && (is_digit (byte_at text place) || ((byte_at text place == 32) && is_digit (byte_at text 0)))
+abbrev pub misses_cpu : List ℕ → ℕ → Bool
+misses_cpu text place =
+    (spaces_before text place == 0)
+    && (is_digit (byte_at text place) || ((byte_at text place == 32) && is_digit (byte_at text 0)))
 
 -- all commands
 abbrev pub all_verbs : List Verb
 all_verbs =
-    Mkdir ∷ Rmdir ∷ Write ∷ Read ∷ Alloc ∷ Fast ∷ Release ∷ Get ∷ Put ∷ Settle ∷ Touch ∷ Dirty ∷ Clean ∷ Owner ∷ Blocks ∷ Show ∷ []
+    Mkdir ∷ Rmdir ∷ Write ∷ Read ∷ Alloc ∷ Fast ∷ Release ∷ Get ∷ Put ∷ Settle ∷ Touch ∷ Dirty ∷ Clean ∷ Owner ∷ Blocks
+    ∷ Show ∷ Stock ∷ Units ∷ []
 
 -- the name of a command, or no name at all
 abbrev pub is_known : List ℕ → Bool
@@ -100,7 +106,8 @@ is_between_words text place =
 
 -- a space, and another beside it
 abbrev pub is_double_space : List ℕ → ℕ → Bool
-is_double_space text place = (byte_at text place == 32) && (byte_before text place == 32 || byte_at text (place + 1) == 32)
+is_double_space text place = (byte_at text place == 32)
+    && (byte_before text place == 32 || byte_at text (place + 1) == 32)
 
 -- the line is that of this command
 abbrev pub is_line_of : List ℕ → List ℕ → Bool
@@ -137,8 +144,8 @@ later_cause_at text place =
 -- the first cause that holds at the place
 abbrev pub cause_at : List ℕ → ℕ → Cause
 cause_at text place =
-    if lacks_processor text place then NoProcessor
-    else if misses_processor text place then ProcessorOutOfRange
+    if lacks_cpu text place then NoCpu
+    else if misses_cpu text place then CpuOutOfRange
     else if lacks_command text place then UnknownCommand
     else if byte_at text place == 10 then TooFewWords
     else if is_between_words text place then TooManyWords

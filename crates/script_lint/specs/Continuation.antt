@@ -5,8 +5,8 @@ use Rattle.std.specs.Prelude.{◌≡◌, ◌⊎◌, ℕ, ◌+◌, ◌<◌, ◌�
 abbrev pub GoesOn : (List ℕ → Type 0) → List ℕ → Type 0
 GoesOn Form front = (rest : List ℕ) × Form (front ++ rest)
 
--- the text isn't of this form: its first `place` bytes can be continued to one that is, and with one byte more they can't;
--- or all of its bytes can be continued, and the text ends too early
+-- the text isn't of this form: its first `place` bytes can be continued to one that is, and with one byte more they
+-- can't; or all of its bytes can be continued, and the text ends too early
 pub record IsStuck (Form : List ℕ → Type 0) (text : List ℕ) (place : ℕ) : Type 0 where
   pub inside : place ≤ length text
   pub goes_on : GoesOn Form (take place text)

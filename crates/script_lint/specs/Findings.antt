@@ -1,5 +1,6 @@
 -- The bad lines of a script.
-use Rattle.std.specs.Prelude.{◌≡◌, ◌⊎◌, ℕ, ◌+◌, ◌-◌, ◌<◌, ◌≤◌, false, List, [], ◌∷◌, All, length, slice_get, take, Option, None, Some, ⊤}
+use Rattle.std.specs.Prelude.{◌≡◌, ◌⊎◌, ℕ, ◌+◌, ◌-◌, ◌<◌, ◌≤◌, false, List, [], ◌∷◌, All, length, slice_get, take}
+use Rattle.std.specs.Prelude.{Option, None, Some, ⊤}
 use Rattle.std.specs.List.{AllPairs}
 use Rattle.zone_sizes.specs.declared.config.Config.{Config}
 use Rattle.script_lines.specs.Script.{IsGoodLine, ended_lines, has_go, longest_script, texts_of}
@@ -15,7 +16,8 @@ pub record IsFinding (sizes : Config) (script : List ℕ) (found : Finding) : Ty
   pub low : 1 ≤ found.line
   pub is_text : slice_get (texts_of script) (found.line - 1) ≡ Some found.text.now
   pub bad : ¬ IsGoodLine sizes script found.line
-  pub spot : IsSpot sizes (has_go (take (found.line - 1) (texts_of script))) (IsWithin script found.line) found.text.now found.spot
+  pub spot : IsSpot sizes (has_go (take (found.line - 1) (texts_of script))) (IsWithin script found.line) found.text.now
+      found.spot
 
 -- one of the findings has this line
 abbrev pub Names : List Finding → ℕ → Type 0
@@ -32,7 +34,8 @@ pub record AreFindings (sizes : Config) (script : List ℕ) (count : ℕ) (findi
 -- the whole script was linted, or, if it is too long, its lines up to the first that isn't within
 pub record IsLinted (sizes : Config) (script : List ℕ) (findings : List Finding) : Type 0 where
   pub count : ℕ
-  pub all : (n : ℕ) → 1 ≤ n → n ≤ length (texts_of script) → (longest_script < length script → n ≤ ended_lines (take longest_script script) + 1)
+  pub all : (n : ℕ) → 1 ≤ n → n ≤ length (texts_of script)
+      → (longest_script < length script → n ≤ ended_lines (take longest_script script) + 1)
       → n ≤ count
   pub are : AreFindings sizes script count findings
 

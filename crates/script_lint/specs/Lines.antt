@@ -1,5 +1,6 @@
 -- Where a line goes wrong, and why.
-use Rattle.std.specs.Prelude.{◌≡◌, ℕ, ◌+◌, ◌<◌, ◌≤◌, Bool, List, Option, None, Some, if◌then◌else◌, length, nat_lt, take}
+use Rattle.std.specs.Prelude.{◌≡◌, ℕ, ◌+◌, ◌<◌, ◌≤◌, Bool, List, Option, None, Some, if◌then◌else◌, length, nat_lt}
+use Rattle.std.specs.Prelude.{take}
 use Rattle.zone_sizes.specs.declared.config.Config.{Config}
 use Rattle.script_lines.specs.Script.{longest_line}
 use Rattle.script_lint.specs.Causes.{cause_at}
@@ -20,15 +21,16 @@ pub record GoesOnHere (sizes : Config) (went : Bool) (front : List ℕ) : Type 0
   pub short : length front ≤ longest_line
   pub on : GoesOn (IsGoodText sizes went) front
 
--- why the text goes wrong at this place. The line is too long only if a good text goes on with the byte that is one too many,
--- and the script only if the text is good.
+-- why the text goes wrong at this place. The line is too long only if a good text goes on with the byte that is one too
+-- many, and the script only if the text is good.
 abbrev pub IsCause : Config → Bool → Type 0 → List ℕ → ℕ → Cause → Type 0
 IsCause sizes went Within text place LineTooLong =
     (place ≡ longest_line) × (place < length text) × GoesOn (IsGoodText sizes went) (take (place + 1) text)
 IsCause sizes went Within text place InputTooLong = (place ≡ length text) × IsGoodText sizes went text × ¬ Within
 IsCause sizes went Within text place cause = IsStuck (IsGoodText sizes went) text place × (cause ≡ cause_at text place)
 
--- the bytes before the place go on to a good line, and with one byte more they don't, or the line ends wrongly; and the cause
+-- the bytes before the place go on to a good line, and with one byte more they don't, or the line ends wrongly; and the
+-- cause
 pub record IsSpot (sizes : Config) (went : Bool) (Within : Type 0) (text : List ℕ) (spot : Spot) : Type 0 where
   pub inside : spot.place ≤ length text
   pub goes_on : GoesOnHere sizes went (take spot.place text)

@@ -17,5 +17,6 @@ AddsSpot number text (Some spot) old new =
 abbrev pub AddsFinding : Config → ℕ → Bool → Bool → Bor (List ℕ) → List Finding → List Finding → Type 0
 AddsFinding sizes number went is_within text old new =
     ((new ≡ old) × IsGoodHere sizes went (is_within ≡ true) text.now)
-    ⊎ (spot : Spot) × (near : Option Verb) × (new ≡ old ++ record { line = number; text = text; spot = spot; near = near } ∷ [])
+    ⊎ (spot : Spot) × (near : Option Verb)
+    × (new ≡ old ++ record { line = number; text = text; spot = spot; near = near } ∷ [])
     × IsSpot sizes went (is_within ≡ true) text.now spot

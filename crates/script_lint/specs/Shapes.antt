@@ -1,12 +1,13 @@
 -- What the words of a line have to be.
-use Rattle.std.specs.Prelude.{◌≡◌, ◌⊎◌, ℕ, ◌-◌, ◌<◌, ◌≤◌, ◌^◌, List, All, length, ◌≢◌, ◌+◌, ⊤, Option, None, Some, Bool, true, false}
+use Rattle.std.specs.Prelude.{◌≡◌, ◌⊎◌, ℕ, ◌-◌, ◌<◌, ◌≤◌, ◌^◌, List, All, length, ◌≢◌, ◌+◌, ⊤, Option, None, Some, Bool}
+use Rattle.std.specs.Prelude.{true, false}
 use Rattle.zone_sizes.specs.declared.config.Config.{Config}
 use Rattle.zone_sizes.specs.Config.{most_cpus, most_frames}
 use Rattle.script_lines.specs.Script.{IsCommandText, IsCut, IsPathText, IsRequestText, WritesNumber, is_go, is_skipped}
 use Rattle.script_lines.specs.declared.line.Command.{Command}
 use Rattle.script_lines.specs.declared.verb.Verb.{Verb}
 use Rattle.script_lines.specs.declared.verb.Verb.TheVariants.{Mkdir, Rmdir, Write, Read, Alloc, Fast, Settle}
-use Rattle.script_lines.specs.declared.verb.Verb.TheVariants.{Blocks, Show}
+use Rattle.script_lines.specs.declared.verb.Verb.TheVariants.{Blocks, Show, Stock, Units}
 use Rattle.script_lint.specs.declared.shape.Kind.{Kind}
 use Rattle.script_lint.specs.declared.shape.Kind.TheVariants.{Number, Path}
 use Rattle.script_lint.specs.declared.shape.Shape.{Shape}
@@ -45,8 +46,10 @@ abbrev pub shape_of : Config → Verb → Shape
 shape_of sizes Settle = Alone
 shape_of sizes Blocks = Alone
 shape_of sizes Show = Alone
+shape_of sizes Stock = Alone
 shape_of sizes Mkdir = One Path
 shape_of sizes Rmdir = One Path
+shape_of sizes Units = One Path
 shape_of sizes Write = Open Path Path
 shape_of sizes Read = Two Path Path
 shape_of sizes Alloc = Two Path (up_to 4294967295)
@@ -93,7 +96,7 @@ IsCommand sizes text = (command : Command) × IsCommandText sizes command text
 
 -- `P COMMAND`
 abbrev pub IsRequest : Config → List ℕ → Type 0
-IsRequest sizes text = (processor : ℕ) × (command : Command) × IsRequestText sizes processor command text
+IsRequest sizes text = (cpu : ℕ) × (command : Command) × IsRequestText sizes cpu command text
 
 -- the text of a line, however long: it is empty, a comment, `go` or `P COMMAND`, and isn't `go` after a `go`
 pub record IsGoodText (sizes : Config) (went : Bool) (text : List ℕ) : Type 0 where

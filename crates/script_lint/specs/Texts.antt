@@ -1,5 +1,6 @@
 -- What is written for what is found.
-use Rattle.std.specs.Prelude.{ℕ, ◌+◌, ◌-◌, ◌≤◌, Bool, List, [], ◌++◌, ◌==◌, Option, None, Some, codes, if◌then◌else◌, length, nat_lt}
+use Rattle.std.specs.Prelude.{ℕ, ◌+◌, ◌-◌, ◌≤◌, Bool, List, [], ◌++◌, ◌==◌, Option, None, Some, codes, if◌then◌else◌}
+use Rattle.std.specs.Prelude.{length, nat_lt}
 use Rattle.std.specs.Char.{encode_utf8}
 use Rattle.std.specs.Fmt.{decimal}
 use Rattle.std.specs.List.{flat_map}
@@ -8,10 +9,11 @@ use Rattle.script_lines.specs.Verb.{name_of}
 use Rattle.script_lines.specs.declared.verb.Verb.{Verb}
 use Rattle.script_lint.specs.Causes.{byte_at, is_printable, word_at}
 use Rattle.script_lint.specs.declared.finding.Cause.{Cause}
-use Rattle.script_lint.specs.declared.finding.Cause.TheVariants.{NoProcessor, ProcessorOutOfRange, UnknownCommand, TooFewWords}
-use Rattle.script_lint.specs.declared.finding.Cause.TheVariants.{TooManyWords, TwoSpaces, SpaceAtEnd, Tab, CarriageReturn}
-use Rattle.script_lint.specs.declared.finding.Cause.TheVariants.{NumberOutOfRange, FrameOutOfZone, GroupOutOfRange, UnprintableByte}
-use Rattle.script_lint.specs.declared.finding.Cause.TheVariants.{LineTooLong, InputTooLong, SecondGo}
+use Rattle.script_lint.specs.declared.finding.Cause.TheVariants.{NoCpu, CpuOutOfRange, UnknownCommand}
+use Rattle.script_lint.specs.declared.finding.Cause.TheVariants.{TooFewWords, TooManyWords, TwoSpaces, SpaceAtEnd, Tab}
+use Rattle.script_lint.specs.declared.finding.Cause.TheVariants.{CarriageReturn, NumberOutOfRange, FrameOutOfZone}
+use Rattle.script_lint.specs.declared.finding.Cause.TheVariants.{GroupOutOfRange, UnprintableByte, LineTooLong}
+use Rattle.script_lint.specs.declared.finding.Cause.TheVariants.{InputTooLong, SecondGo}
 use Rattle.script_lint.specs.declared.finding.Finding.{Finding}
 
 -- the place is one of the text, or its end
@@ -34,21 +36,24 @@ near_text (Some v) = codes "; did you mean '" ++ name_of v ++ codes "'?"
 -- what is said of a carriage return, at the end of the line or before
 abbrev pub return_text : Bool → List ℕ
 return_text at_end =
-    if at_end then codes "carriage return at the end of the line: the script has Windows line ends" else codes "carriage return"
+    if at_end then codes "carriage return at the end of the line: the script has Windows line ends"
+    else codes "carriage return"
 
 -- which CPUs there are
 abbrev pub cpus_text : ℕ → List ℕ
-cpus_text cpus = codes " doesn't exist (CPUs 1 to " ++ (decimal cpus ++ (codes " with --cpus " ++ (decimal cpus ++ codes ")")))
+cpus_text cpus = codes " doesn't exist (CPUs 1 to "
+    ++ (decimal cpus ++ (codes " with --cpus " ++ (decimal cpus ++ codes ")")))
 
 -- which frames there are
 abbrev pub frames_text : ℕ → List ℕ
 frames_text frames =
-    codes " is outside the zone (frames 0 to " ++ (decimal (frames - 1) ++ (codes " with --frames " ++ (decimal frames ++ codes ")")))
+    codes " is outside the zone (frames 0 to "
+    ++ (decimal (frames - 1) ++ (codes " with --frames " ++ (decimal frames ++ codes ")")))
 
 -- why the line is bad
 abbrev pub cause_text : Config → Finding → Cause → List ℕ
-cause_text sizes f NoProcessor = codes "no CPU's number: a line is P COMMAND or go"
-cause_text sizes f ProcessorOutOfRange = codes "CPU " ++ (word_text f ++ cpus_text sizes.cpus)
+cause_text sizes f NoCpu = codes "no CPU's number: a line is P COMMAND or go"
+cause_text sizes f CpuOutOfRange = codes "CPU " ++ (word_text f ++ cpus_text sizes.cpus)
 cause_text sizes f UnknownCommand = codes "no command '" ++ (word_text f ++ (codes "'" ++ near_text f.near))
 cause_text sizes f TooFewWords = codes "too few words"
 cause_text sizes f TooManyWords = codes "too many words"
@@ -59,7 +64,8 @@ cause_text sizes f CarriageReturn = return_text (f.spot.place + 1 == length f.te
 cause_text sizes f NumberOutOfRange = codes "'" ++ word_text f ++ codes "' isn't a number from 0 to 4294967295"
 cause_text sizes f FrameOutOfZone = codes "frame " ++ (word_text f ++ frames_text sizes.frames)
 cause_text sizes f GroupOutOfRange = codes "group " ++ word_text f ++ codes " is outside 0 to 63"
-cause_text sizes f UnprintableByte = codes "byte " ++ decimal (byte_at f.text.now f.spot.place) ++ codes " isn't printable ASCII"
+cause_text sizes f UnprintableByte = codes "byte " ++ decimal (byte_at f.text.now f.spot.place)
+    ++ codes " isn't printable ASCII"
 cause_text sizes f LineTooLong = codes "the line has more than 1024 bytes"
 cause_text sizes f InputTooLong = codes "the script has more than 1048576 bytes"
 cause_text sizes f SecondGo = codes "a second go"
@@ -73,11 +79,13 @@ finding_text name sizes f =
 -- the line that says that `high` is too low, if it may be the default
 abbrev pub default_text : (high batch : ℕ) → List ℕ
 default_text high batch =
-    codes "sizes: --high " ++ (decimal high ++ (codes " (the default) is below --batch " ++ (decimal batch ++ codes "\n")))
+    codes "sizes: --high " ++ (decimal high
+    ++ (codes " (the default) is below --batch " ++ (decimal batch ++ codes "\n")))
 
 -- the same, if it isn't
 abbrev pub given_text : (high batch : ℕ) → List ℕ
-given_text high batch = codes "sizes: --high " ++ decimal high ++ codes " is below --batch " ++ decimal batch ++ codes "\n"
+given_text high batch = codes "sizes: --high " ++ decimal high ++ codes " is below --batch " ++ decimal batch
+    ++ codes "\n"
 
 -- the line that says why the sizes are refused, if they are
 abbrev pub sizes_text : Config → List ℕ

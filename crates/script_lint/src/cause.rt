@@ -4,8 +4,8 @@ ghost use Rattle.std.specs.Prelude.{◌≡◌, ◌≤◌, length};
 ghost use Rattle.script_lint.specs.Causes.{after_space, byte_at, byte_before, cause_at, is_between_words};
 ghost use Rattle.script_lint.specs.Causes.{is_digit, is_double_space, is_gap};
 ghost use Rattle.script_lint.specs.Causes.{is_known, is_line_of, is_printable, later_cause_at};
-ghost use Rattle.script_lint.specs.Causes.{lacks_command, lacks_number, lacks_processor, misses_frame, misses_group};
-ghost use Rattle.script_lint.specs.Causes.{misses_processor, spaces_before, until_space, word_at, word_behind};
+ghost use Rattle.script_lint.specs.Causes.{lacks_command, lacks_number, lacks_cpu, misses_frame, misses_group};
+ghost use Rattle.script_lint.specs.Causes.{misses_cpu, spaces_before, until_space, word_at, word_behind};
 
 use crate::command::{VERBS, name_of};
 use crate::finding::Cause;
@@ -16,10 +16,10 @@ pub(crate) fn cause_of(text: &[u8], place: usize) -> Cause
     requires { place ≤ length text.now }
     ensures { result ≡ cause_at text.now place }
 {
-    if lacks_processor(text, place) {
-        Cause::NoProcessor
-    } else if misses_processor(text, place) {
-        Cause::ProcessorOutOfRange
+    if lacks_cpu(text, place) {
+        Cause::NoCpu
+    } else if misses_cpu(text, place) {
+        Cause::CpuOutOfRange
     } else if lacks_command(text, place) {
         Cause::UnknownCommand
     } else if byte_at(text, place) == b'\n' {
@@ -150,18 +150,18 @@ fn is_gap(byte: u8) -> bool
 }
 
 // Whether the first word isn't a number.
-fn lacks_processor(text: &[u8], place: usize) -> bool
+fn lacks_cpu(text: &[u8], place: usize) -> bool
     requires { place ≤ length text.now }
-    ensures { result ≡ lacks_processor text.now place }
+    ensures { result ≡ lacks_cpu text.now place }
 {
     let byte = byte_at(text, place);
     spaces_before(text, place) == 0 && !is_gap(byte) && !is_digit(byte) && !is_go(text)
 }
 
 // Whether the first word is a number, and no CPU has it.
-fn misses_processor(text: &[u8], place: usize) -> bool
+fn misses_cpu(text: &[u8], place: usize) -> bool
     requires { place ≤ length text.now }
-    ensures { result ≡ misses_processor text.now place }
+    ensures { result ≡ misses_cpu text.now place }
 {
     let byte = byte_at(text, place);
     spaces_before(text, place) == 0

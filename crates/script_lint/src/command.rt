@@ -17,7 +17,7 @@ use script_lines::verb::{Names, Verb, first_verb};
 use zone_sizes::config::Config;
 
 // All commands.
-pub(crate) const VERBS: [Verb; 16] = [
+pub(crate) const VERBS: [Verb; 18] = [
     Verb::Mkdir,
     Verb::Rmdir,
     Verb::Write,
@@ -34,6 +34,8 @@ pub(crate) const VERBS: [Verb; 16] = [
     Verb::Owner,
     Verb::Blocks,
     Verb::Show,
+    Verb::Stock,
+    Verb::Units,
 ];
 
 // The name of a command, as a script writes it.
@@ -57,6 +59,8 @@ pub(crate) fn name_of(verb: Verb) -> &'static str
         Verb::Owner => "owner",
         Verb::Blocks => "blocks",
         Verb::Show => "show",
+        Verb::Stock => "stock",
+        Verb::Units => "units",
     }
 }
 

@@ -3,12 +3,12 @@
 use script_lines::verb::Verb;
 
 /// Why no good line goes on at some byte. The first that holds there is found, in this order.
-#[derive(Clone, Copy, Debug, PartialEq, Eq)]
+#[derive(Clone, Copy, PartialEq, Eq)]
 pub enum Cause {
     /// The line doesn't begin with the number of a CPU, and isn't `go`.
-    NoProcessor,
+    NoCpu,
     /// There is no CPU of this number.
-    ProcessorOutOfRange,
+    CpuOutOfRange,
     /// No command has this name.
     UnknownCommand,
     /// The line ends, and something is due.
@@ -40,7 +40,7 @@ pub enum Cause {
 }
 
 /// Where a line goes wrong.
-#[derive(Clone, Copy, Debug, PartialEq, Eq)]
+#[derive(Clone, Copy, PartialEq, Eq)]
 pub struct Spot {
     /// How many bytes of the line are right: the next one, or the end of the line, is where it goes wrong.
     pub place: usize,
@@ -49,7 +49,7 @@ pub struct Spot {
 }
 
 /// A bad line.
-#[derive(Clone, Copy, Debug, PartialEq, Eq)]
+#[derive(Clone, Copy, PartialEq, Eq)]
 pub struct Finding<'a> {
     /// The number of the line, from 1.
     pub line: usize,

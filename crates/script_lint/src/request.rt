@@ -18,11 +18,11 @@ pub(crate) fn request_place(names: &Names, text: &[u8], sizes: &Config) -> Optio
     ensures { MatchOption result (IsRequest sizes.now text.now)
         (λ place. IsStuck (IsRequest sizes.now) text.now place) }
 {
-    let processor = Kind::Number {
+    let cpu = Kind::Number {
         least: 1,
         most: sizes.cpus,
     };
-    match start_of(processor, text) {
+    match start_of(cpu, text) {
         Start::Stuck(place) => Some(place),
         Start::Word(word, rest) => match command_place(names, rest, sizes) {
             Some(place) => Some(word.len() + 1 + place),

@@ -8,7 +8,7 @@ use script_lines::verb::Verb;
 use zone_sizes::config::Config;
 
 /// What a word has to be.
-#[derive(Clone, Copy, Debug, PartialEq, Eq)]
+#[derive(Clone, Copy, PartialEq, Eq)]
 pub enum Kind {
     /// A decimal number in this range.
     Number {
@@ -22,7 +22,7 @@ pub enum Kind {
 }
 
 /// What follows the name of a command.
-#[derive(Clone, Copy, Debug, PartialEq, Eq)]
+#[derive(Clone, Copy, PartialEq, Eq)]
 pub enum Shape {
     /// Nothing, not even a space.
     Alone,
@@ -40,8 +40,8 @@ pub(crate) fn shape_of(verb: Verb, sizes: &Config) -> Shape
     ensures { result ≡ shape_of sizes.now verb }
 {
     match verb {
-        Verb::Settle | Verb::Blocks | Verb::Show => Shape::Alone,
-        Verb::Mkdir | Verb::Rmdir => Shape::One(Kind::Path),
+        Verb::Settle | Verb::Blocks | Verb::Show | Verb::Stock => Shape::Alone,
+        Verb::Mkdir | Verb::Rmdir | Verb::Units => Shape::One(Kind::Path),
         Verb::Write => Shape::Open(Kind::Path, Kind::Path),
         Verb::Read => Shape::Two(Kind::Path, Kind::Path),
         Verb::Alloc => Shape::Two(Kind::Path, up_to(u32::MAX)),

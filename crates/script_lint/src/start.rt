@@ -10,7 +10,7 @@ use crate::shape::Kind;
 use script_lines::script::first_word;
 
 /// How a text begins, if a word, a space and more are due.
-#[derive(Clone, Copy, Debug)]
+#[derive(Clone, Copy)]
 pub enum Start<'a> {
     /// From this place on no text goes on so.
     Stuck(usize),

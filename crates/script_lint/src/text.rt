@@ -7,7 +7,7 @@ ghost use Rattle.zone_sizes.specs.declared.config.Config.{Config};
 ghost use Rattle.script_lint.specs.Texts.{IsInside, cause_text, cpus_text, default_text, finding_text, frames_text};
 ghost use Rattle.script_lint.specs.Texts.{given_text, near_text, shown, sizes_text, word_text};
 ghost use Rattle.script_lint.specs.declared.finding.Cause.TheVariants.{CarriageReturn, FrameOutOfZone, GroupOutOfRange};
-ghost use Rattle.script_lint.specs.declared.finding.Cause.TheVariants.{NumberOutOfRange, ProcessorOutOfRange};
+ghost use Rattle.script_lint.specs.declared.finding.Cause.TheVariants.{NumberOutOfRange, CpuOutOfRange};
 ghost use Rattle.script_lint.specs.declared.finding.Cause.TheVariants.{UnknownCommand, UnprintableByte};
 
 use crate::cause::{byte_at, is_printable, word_at};
@@ -96,8 +96,8 @@ pub fn write_cause(
         ≡ string_bytes text.old ++ cause_text sizes.now finding.now finding.now.spot.cause) }
 {
     match finding.spot.cause {
-        Cause::NoProcessor => text.push_str("no CPU's number: a line is P COMMAND or go"),
-        Cause::ProcessorOutOfRange => write_processor(finding, sizes, text),
+        Cause::NoCpu => text.push_str("no CPU's number: a line is P COMMAND or go"),
+        Cause::CpuOutOfRange => write_cpu(finding, sizes, text),
         Cause::UnknownCommand => write_unknown(finding, text),
         Cause::TooFewWords => text.push_str("too few words"),
         Cause::TooManyWords => text.push_str("too many words"),
@@ -133,14 +133,10 @@ fn shown(byte: u8) -> u8
     if is_printable(byte) { byte } else { b'?' }
 }
 
-fn write_processor(
-    finding: &Finding<'_>,
-    sizes: &Config,
-    text: &mut String,
-) -> Result<(), AllocError>
+fn write_cpu(finding: &Finding<'_>, sizes: &Config, text: &mut String) -> Result<(), AllocError>
     requires { IsInside finding.now }
     ensures { IfOk result (λ _. string_bytes text.new
-        ≡ string_bytes text.old ++ cause_text sizes.now finding.now ProcessorOutOfRange) }
+        ≡ string_bytes text.old ++ cause_text sizes.now finding.now CpuOutOfRange) }
 {
     text.push_str("CPU ")?;
     push_word(finding, text)?;

@@ -14,7 +14,7 @@ use Rattle.frame_word.specs.Views.{looked, raced}
 use Rattle.frame_word.specs.Seats.{KnownTable, KnownSeat, holds, seat_with}
 use Rattle.stock_word.specs.declared.view.Stock.{Stock}
 use Rattle.stock_word.specs.declared.view.Stock.TheVariants as stock_is
-use Rattle.stock_word.specs.Stock.{Words, Seated, drained_of, group_of}
+use Rattle.stock_word.specs.Stock.{KnownStockTable, KnownStockSeat, drained_of, group_of}
 use Rattle.stock_word.specs.Calls.{with_view}
 use Rattle.group_tree.specs.declared.fault.Fault.TheVariants.{PinsFull, NotPinned}
 use Rattle.cpu_part.specs.declared.answers.Fast as fast
@@ -37,7 +37,7 @@ use Rattle.step_watch.proofs.Watching.{watches_none}
 use Rattle.mem_machine.specs.declared.frame_state.FrameState.{FrameState}
 use Rattle.mem_machine.specs.declared.frame_state.FrameState.TheVariants as frame_state_is
 use Rattle.mem_machine.specs.FrameStates.{frame_state_at}
-use Rattle.mem_machine.specs.Machines.{KnownMachine, visit_state}
+use Rattle.mem_machine.specs.Machines.{KnownMachine, visit_state, with_telling, with_watch}
 use Rattle.mem_machine.specs.Local.{local_of, phase_of, number_or_0, Makes, IsLocalRun}
 use Rattle.mem_machine.specs.Interleaving.{zone_of}
 use Rattle.mem_machine.specs.Steps.{cpu_makes}
@@ -62,8 +62,10 @@ use Rattle.reply_texts.specs.Answer as answer
 use Rattle.script_replay.specs.declared.work.Work.{Work}
 use Rattle.script_replay.specs.declared.work.Work.TheVariants as work
 use Rattle.script_replay.specs.Answers.{RepliesServed, GetsPin, PutsPin, CanNotList, AnswersRelease, AnswersFrame, IsServedUnderLock, SettlesUnderLock}
-use Rattle.script_replay.specs.Answers.{AnswersWork, OnlyWatched, WritesWork, fast_steps, get_steps, put_steps, locked_with_watch}
+use Rattle.script_replay.specs.Answers.{AnswersWork, OnlyWatched, WritesWork, fast_steps, get_steps, put_steps, locked_with_telling, locked_with_watch}
 use Rattle.script_replay.specs.Ranges.{WorkInRange}
+use Rattle.script_replay.proofs.Looking.{IsLookedAt, shut_before, stock_looked, units_looked}
+use Rattle.group_charge.specs.Charges.{Ledger}
 use Rattle.mem_machine.specs.Counting.{counts_over}
 use Rattle.mem_machine.specs.Following.{FollowsSteps}
 
@@ -83,7 +85,7 @@ module _ (t : KnownTable) (m : KnownMachine) (c : KnownCpu) where
   pub unseen_same : (d : KnownCpu) → d ≡ c → IsUnseen t m c d
   unseen_same d is = record { number = ap (λ (x : KnownCpu). x.number) is; same = ap (local_of t m) is }
 
-  stock_phase : (stock : Seated) → group_of stock.view.last ≡ group_of c.stock_seat.view.last → (f : ℕ) (x : FrameState) →
+  stock_phase : (stock : KnownStockSeat) → group_of stock.view.last ≡ group_of c.stock_seat.view.last → (f : ℕ) (x : FrameState) →
       phase_of (record c { stock_seat = stock }) f x ≡ phase_of c f x
   stock_phase stock group f frame_state_is.Free = refl
   stock_phase stock group f (frame_state_is.Lent q) =
@@ -93,7 +95,7 @@ module _ (t : KnownTable) (m : KnownMachine) (c : KnownCpu) where
   stock_phase stock group f (frame_state_is.Tail g) = refl
 
   -- it saw something of its stock, not of which group that is
-  unseen_stock : (d : KnownCpu) (stock : Seated) → d ≡ record c { stock_seat = stock } → group_of stock.view.last ≡ group_of c.stock_seat.view.last → IsUnseen t m c d
+  unseen_stock : (d : KnownCpu) (stock : KnownStockSeat) → d ≡ record c { stock_seat = stock } → group_of stock.view.last ≡ group_of c.stock_seat.view.last → IsUnseen t m c d
   unseen_stock d stock is group = subst (IsUnseen t m c) (sym is) (record {
     number = refl;
     same = λ i. record (local_of t m c) { phases = λ f. stock_phase stock group f (frame_state_at m.frame_states f) i };
@@ -138,6 +140,25 @@ shows_watched t run m cpus watch shows = record {
   each = λ j e at. let was = shows.each j e at in record { number = was.number; sees = was.sees };
 }
 
+-- nor does it matter whether units are told
+pub shows_told : (t : KnownTable) (run : Run) (m : KnownMachine) (cpus : List KnownCpu) (is_on : Bool) (watch : KnownWatch) → ShowsAll t run m cpus
+    → ShowsAll t run (with_watch (with_telling m is_on) watch) cpus
+shows_told t run m cpus is_on watch shows = record {
+  legal = shows.legal;
+  free = shows.free;
+  count = shows.count;
+  each = λ j e at. let was = shows.each j e at in record { number = was.number; sees = was.sees };
+}
+
+-- the run that shows a machine shows it after looks too
+pub shows_looked : (t : KnownTable) (run : Run) (m n : KnownMachine) (cpus : List KnownCpu) → IsLookedAt t m n → ShowsAll t run m cpus → ShowsAll t run n cpus
+shows_looked t run m n cpus looked shows = record {
+  legal = shows.legal;
+  free = shows.free;
+  count = shows.count;
+  each = λ j e at. let was = shows.each j e at in record { number = was.number; sees = looked.same e ∙ was.sees };
+}
+
 -- nothing was taken where nothing changed
 pub not_watched : (before after : KnownLocked) → after ≡ before → OnlyWatched [] before after
 not_watched before after same = record {
@@ -147,7 +168,7 @@ not_watched before after same = record {
 
 -- ---- one part of the whole
 
-module _ (t : KnownTable) (w : Words) (run : Run) (locked : KnownLocked) (cpus : List KnownCpu) (k : ℕ) (c : KnownCpu)
+module _ (t : KnownTable) (w : KnownStockTable) (run : Run) (locked : KnownLocked) (cpus : List KnownCpu) (k : ℕ) (c : KnownCpu)
     (shows : ShowsAll t run locked.machine cpus) (is_part : slice_get cpus k ≡ Some c) (tied : AreTied t w cpus) where
   abbrev m : KnownMachine
   m = locked.machine
@@ -192,12 +213,12 @@ module _ (t : KnownTable) (w : Words) (run : Run) (locked : KnownLocked) (cpus :
       )
 
   -- served under the lock, which the watch has taken, after a look at its own stock
-  served_follows : (seen : KnownCpu) → IsUnseen t m c seen → (found : KnownLocked) (watch : KnownWatch) → found ≡ locked_with_watch locked watch →
+  served_follows : (seen : KnownCpu) → IsUnseen t m c seen → (found : KnownLocked) (is_explained : Bool) (watch : KnownWatch) → found ≡ locked_with_watch (locked_with_telling locked is_explained) watch →
       (command : Cmd) (reply : Reply) (after : LockedState) → (is : IsServed t command reply (locked_state found seen) after) → AllShut after.locked.machine →
       GoesOn (under_lock p is.steps) → Follows (under_lock p is.steps) after
-  served_follows seen unseen found watch locks command reply after is shut legal =
+  served_follows seen unseen found is_explained watch locks command reply after is shut legal =
       let n : KnownMachine = found.machine in
-      let shown : ShowsAll t run n cpus = subst (λ (l : KnownLocked). ShowsAll t run l.machine cpus) (sym locks) (shows_watched t run m cpus watch shows) in
+      let shown : ShowsAll t run n cpus = subst (λ (l : KnownLocked). ShowsAll t run l.machine cpus) (sym locks) (shows_told t run m cpus is_explained watch shows) in
       let same : local_of t n seen ≡ local_of t n c =
       subst (λ (l : KnownLocked). local_of t l.machine seen ≡ local_of t l.machine c) (sym locks) unseen.same in
       let leads : Makes t (visit_state n c) is.steps (visit_state after.locked.machine after.cpu) = record {
@@ -303,67 +324,83 @@ module _ (t : KnownTable) (w : Words) (run : Run) (locked : KnownLocked) (cpus :
   put_follows f after said is kept legal = absurd is
 
   -- served under the lock
-  locked_follows : (seen : KnownCpu) → IsUnseen t m c seen → (command : Cmd) (reply : Reply) (steps : Run) (after : LockedState) →
-      IsServedUnderLock command seen reply (transition t before steps after) → AllShut after.locked.machine → GoesOn steps → Follows steps after
-  locked_follows seen unseen command reply steps after is shut legal =
+  locked_follows : (is_explained : Bool) (seen : KnownCpu) → IsUnseen t m c seen → (command : Cmd) (reply : Reply) (steps : Run) (after : LockedState) →
+      IsServedUnderLock is_explained command seen reply (transition t before steps after) → AllShut after.locked.machine → GoesOn steps → Follows steps after
+  locked_follows is_explained seen unseen command reply steps after is shut legal =
       let left_shut : AllShut is.left.machine = subst (λ (l : KnownLocked). AllShut l.machine) is.unlock.locked shut in
       as_made steps (under_lock p is.served.steps) after (is.steps_are ∙ ap (λ (q : ℕ). under_lock q is.served.steps) unseen.number)
       (λ all. watched_follows (under_lock p is.served.steps) (cpu_makes seen.number step.Unlock says.Done ∷ []) is.left after is.unlock
-      (served_follows seen unseen is.found is.found.machine.watch is.lock.locked command reply (locked_state is.left after.cpu) is.served left_shut all)) legal
+      (served_follows seen unseen is.found is_explained is.found.machine.watch is.lock.locked command reply (locked_state is.left after.cpu) is.served left_shut all)) legal
 
-  replied_follows : (command : Cmd) (steps : Run) (after : LockedState) (said : Answer) → RepliesServed command (transition t before steps after) said → AllShut after.locked.machine →
+  replied_follows : (is_explained : Bool) (command : Cmd) (steps : Run) (after : LockedState) (said : Answer) → RepliesServed is_explained command (transition t before steps after) said → AllShut after.locked.machine →
       GoesOn steps → Follows steps after
-  replied_follows command steps after (answer.Served reply) is shut legal =
-      locked_follows c (unseen_same t m c c refl) command reply steps after is shut legal
-  replied_follows command steps after said is shut legal = absurd is
+  replied_follows is_explained command steps after (answer.Served reply) is shut legal =
+      locked_follows is_explained c (unseen_same t m c c refl) command reply steps after is shut legal
+  replied_follows is_explained command steps after said is shut legal = absurd is
 
-  frame_follows : (path : Bor (List ℕ)) (steps : Run) (after : LockedState) (said : Answer) (may_kill : Bool) → AnswersFrame path (transition t before steps after) said may_kill →
+  frame_follows : (is_explained : Bool) (path : Bor (List ℕ)) (steps : Run) (after : LockedState) (said : Answer) (is_noted : Bool) → AnswersFrame is_explained path (transition t before steps after) said is_noted →
       AllShut after.locked.machine → GoesOn steps → Follows steps after
-  frame_follows path steps after (answer.Fast (Got f)) false is shut legal =
+  frame_follows is_explained path steps after (answer.Fast (Got f)) false is shut legal =
       as_made steps (fast_steps p is.gets.group (Got f)) after is.alone.steps_are
       (λ all. got_follows is.gets.group f after is.gets.got is.alone.locked all) legal
-  frame_follows path steps after (answer.Served reply) false none shut legal =
+  frame_follows is_explained path steps after (answer.Served reply) false none shut legal =
       as_made steps [] after none.1 (λ all. unseen_follows after (not_watched locked after.locked none.0.same_locked)
       (unseen_same t m c after.cpu none.0.same_cpu)) legal
-  frame_follows path steps after (answer.Served reply) true served shut legal =
+  frame_follows is_explained path steps after (answer.Served reply) true served shut legal =
       let none = served.none in
-      locked_follows served.seen (fast_unseen t m c none.group none.fast served.seen none.answers none.none) (cmd.Alloc path 0) reply steps after served.served
+      locked_follows is_explained served.seen (fast_unseen t m c none.group none.fast served.seen none.answers none.none) (cmd.Alloc path 0) reply steps after served.served
       shut legal
-  frame_follows path steps after said may_kill is shut legal = absurd is
+  frame_follows is_explained path steps after said is_noted is shut legal = absurd is
 
-  release_follows : (f : ℕ) (steps : Run) (after : LockedState) (said : Answer) (may_kill : Bool) → AnswersRelease f (transition t before steps after) said may_kill →
+  release_follows : (is_explained : Bool) (f : ℕ) (steps : Run) (after : LockedState) (said : Answer) (is_noted : Bool) → AnswersRelease is_explained f (transition t before steps after) said is_noted →
       AllShut after.locked.machine → GoesOn steps → Follows steps after
-  release_follows f steps after answer.Listed false is shut legal =
+  release_follows is_explained f steps after answer.Listed false is shut legal =
       as_made steps (cpu_makes p (step.Credit f) says.Back ∷ []) after is.1.steps_are
       (λ all. step_follows (step.Credit f) says.Back after is.1.locked (ap (λ (x : KnownCpu). x.number) is.0.listed.5) refl (λ e. cc)
       (fast_calls_lead.listed t w run m cpus k c after.cpu this_part f is.0.fresh is.0.listed
       (legal_fast_steps_are_decided t run cpus k m c (step.Credit f) says.Back shows is_part refl (λ e. cc) all)
       after.locked.machine.watch is.1.locked.watched) all) legal
-  release_follows f steps after (answer.Served reply) true is shut legal =
-      locked_follows is.seen (list_unseen t m c f is.seen is.not_listed) (cmd.Release f) reply steps after is.served shut legal
-  release_follows f steps after said may_kill is shut legal = absurd is
+  release_follows is_explained f steps after (answer.Served reply) true is shut legal =
+      locked_follows is_explained is.seen (list_unseen t m c f is.seen is.not_listed) (cmd.Release f) reply steps after is.served shut legal
+  release_follows is_explained f steps after said is_noted is shut legal = absurd is
 
   settle_follows : (steps : Run) (after : LockedState) → SettlesUnderLock (transition t before steps after) → AllShut after.locked.machine → GoesOn steps → Follows steps after
-  settle_follows steps after is shut legal = locked_follows c (unseen_same t m c c refl) cmd.Settle Done steps after is shut legal
+  settle_follows steps after is shut legal = locked_follows false c (unseen_same t m c c refl) cmd.Settle Done steps after is shut legal
 
-  answer_follows : (asked : Work) (steps : Run) (after : LockedState) (said : Answer) (may_kill : Bool) → WorkInRange t.frames asked →
-      AnswersWork asked (transition t before steps after) said may_kill → AllShut after.locked.machine → GoesOn steps → Follows steps after
-  answer_follows (work.Visit command) steps after said true names is shut legal = replied_follows command steps after said is shut legal
-  answer_follows (work.Frame path) steps after said may_kill names is shut legal = frame_follows path steps after said may_kill is shut legal
-  answer_follows (work.Fast g) steps after (answer.Fast taken) false names is shut legal =
+  answer_follows : (is_explained : Bool) (asked : Work) (steps : Run) (after : LockedState) (said : Answer) (is_noted : Bool) → WorkInRange t.frames asked →
+      AnswersWork is_explained asked (transition t before steps after) said is_noted → AllShut after.locked.machine → GoesOn steps → Follows steps after
+  answer_follows is_explained (work.Visit command) steps after said true names is shut legal = replied_follows is_explained command steps after said is shut legal
+  answer_follows is_explained (work.Frame path) steps after said is_noted names is shut legal = frame_follows is_explained path steps after said is_noted is shut legal
+  answer_follows is_explained (work.Fast g) steps after (answer.Fast taken) false names is shut legal =
       as_made steps (fast_steps p g taken) after is.1.steps_are (λ all. fast_follows g taken after is.0 is.1.locked all) legal
-  answer_follows (work.Release f) steps after said may_kill names is shut legal = release_follows f steps after said may_kill is shut legal
-  answer_follows (work.Get f) steps after said false names is shut legal =
+  answer_follows is_explained (work.Release f) steps after said is_noted names is shut legal = release_follows is_explained f steps after said is_noted is shut legal
+  answer_follows is_explained (work.Get f) steps after said false names is shut legal =
       as_made steps (get_steps p f said) after is.1.steps_are (λ all. get_follows f after said names is.0 is.1.locked all) legal
-  answer_follows (work.Put f) steps after said false names is shut legal =
+  answer_follows is_explained (work.Put f) steps after said false names is shut legal =
       as_made steps (put_steps p f said) after is.1.steps_are (λ all. put_follows f after said is.0 is.1.locked all) legal
-  answer_follows work.Settle steps after answer.Settled false names is shut legal = settle_follows steps after is shut legal
-  answer_follows asked steps after said true names is shut legal = absurd is
-  answer_follows asked steps after said false names is shut legal = absurd is
+  answer_follows is_explained work.Settle steps after answer.Settled false names is shut legal = settle_follows steps after is shut legal
+  answer_follows is_explained asked steps after said true names is shut legal = absurd is
+  answer_follows is_explained asked steps after said false names is shut legal = absurd is
+
+  -- settled, and then looks at words
+  looked_follows : (steps : Run) (settled after : LockedState) → SettlesUnderLock (transition t before steps settled)
+      → IsLookedAt t settled.locked.machine after.locked.machine → after.cpu ≡ settled.cpu → AllShut after.locked.machine → GoesOn steps → Follows steps after
+  looked_follows steps settled after is looked same shut legal =
+      let n : KnownMachine = after.locked.machine in
+      let was = settle_follows steps settled is (shut_before t settled.locked.machine n looked shut) legal in (
+        subst (λ (d : KnownCpu). ShowsAll t (run ++ steps) n (slice_set cpus k d)) (sym same)
+            (shows_looked t (run ++ steps) settled.locked.machine n (slice_set cpus k settled.cpu) looked was.0),
+        λ told. subst (λ (l : Ledger). TellsRun t (run ++ steps) l) (sym looked.ledger) (was.1 told),
+      )
 
   pub work_follows : (is_explained : Bool) (asked : Work) (steps : Run) (after : LockedState) (text : List ℕ) → WorkInRange t.frames asked
       → WritesWork is_explained asked (transition t before steps after) text → AllShut after.locked.machine → GoesOn steps → Follows steps after
   work_follows is_explained work.Blocks steps after text names is shut legal = settle_follows steps after is.settles shut legal
   work_follows is_explained work.Show steps after text names is shut legal = settle_follows steps after is.settles shut legal
+  work_follows is_explained work.Stock steps after text names is shut legal =
+      looked_follows steps is.settled after is.settles (stock_looked t is.settled.locked.machine after.locked.machine is.told.look) is.cpu shut legal
+  work_follows is_explained (work.Units path) steps after text names is shut legal =
+      looked_follows steps is.settled after is.settles
+      (units_looked t _ _ _ is.settled.locked.machine after.locked.machine is.told) is.cpu shut legal
   work_follows is_explained asked steps after text names is shut legal =
-      answer_follows asked steps after is.said is.may_kill names is.answered shut legal
+      answer_follows is_explained asked steps after is.said is.is_noted names is.answered shut legal

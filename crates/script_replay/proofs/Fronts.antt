@@ -12,9 +12,9 @@ use Rattle.script_replay.specs.Answers.{AnswersWork, CanNotList, GetsNoneFast, S
 use Rattle.script_replay.specs.Terms.{Terms}
 
 module _ (on : Terms) (l : KnownLocked) (c seen : KnownCpu) (after : LockedState) where
-  allocated : (path : Bor (List ℕ)) → GetsNoneFast path.now (locked_state l c) seen → (steps : Run) (said : Answer) (may_kill : Bool)
-      → AnswersWork (Visit (cmd.Alloc path 0)) (transition on.frames (locked_state l seen) steps after) said may_kill
-      → AnswersWork (Frame path) (transition on.frames (locked_state l c) steps after) said may_kill
+  allocated : (path : Bor (List ℕ)) → GetsNoneFast path.now (locked_state l c) seen → (steps : Run) (said : Answer) (is_noted : Bool)
+      → AnswersWork on.is_explained (Visit (cmd.Alloc path 0)) (transition on.frames (locked_state l seen) steps after) said is_noted
+      → AnswersWork on.is_explained (Frame path) (transition on.frames (locked_state l c) steps after) said is_noted
   allocated path none steps (Served reply) true is =
       record {
         seen = seen;
@@ -38,15 +38,15 @@ module _ (on : Terms) (l : KnownLocked) (c seen : KnownCpu) (after : LockedState
     steps = is.steps;
     writes = record {
       said = writes.said;
-      may_kill = writes.may_kill;
-      answered = allocated path none is.steps writes.said writes.may_kill writes.answered;
+      is_noted = writes.is_noted;
+      answered = allocated path none is.steps writes.said writes.is_noted writes.answered;
       text_is = writes.text_is;
     };
   }
 
-  released : (f : ℕ) → CanNotList f c seen → (steps : Run) (said : Answer) (may_kill : Bool)
-      → AnswersWork (Visit (cmd.Release f)) (transition on.frames (locked_state l seen) steps after) said may_kill
-      → AnswersWork (Release f) (transition on.frames (locked_state l c) steps after) said may_kill
+  released : (f : ℕ) → CanNotList f c seen → (steps : Run) (said : Answer) (is_noted : Bool)
+      → AnswersWork on.is_explained (Visit (cmd.Release f)) (transition on.frames (locked_state l seen) steps after) said is_noted
+      → AnswersWork on.is_explained (Release f) (transition on.frames (locked_state l c) steps after) said is_noted
   released f can_not steps (Served reply) true is =
       record {
         seen = seen;
@@ -70,8 +70,8 @@ module _ (on : Terms) (l : KnownLocked) (c seen : KnownCpu) (after : LockedState
     steps = is.steps;
     writes = record {
       said = writes.said;
-      may_kill = writes.may_kill;
-      answered = released f can_not is.steps writes.said writes.may_kill writes.answered;
+      is_noted = writes.is_noted;
+      answered = released f can_not is.steps writes.said writes.is_noted writes.answered;
       text_is = writes.text_is;
     };
   }

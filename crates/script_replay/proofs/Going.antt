@@ -10,7 +10,7 @@ use Rattle.std.proofs.lemmas.Option.{slice_get_within, slice_get_read, none-some
 use Rattle.frame_word.specs.Seats.{KnownTable}
 use Rattle.stock_word.specs.declared.view.Stock.{Stock}
 use Rattle.stock_word.specs.declared.view.Stock.TheVariants as stock_is
-use Rattle.stock_word.specs.Stock.{Words, group_of}
+use Rattle.stock_word.specs.Stock.{KnownStockTable, group_of}
 use Rattle.cpu_part.specs.Cpus.{KnownCpu, IsTied}
 use Rattle.step_rules.specs.After.{Run, IsLegalRun}
 use Rattle.step_watch.specs.Watched.{has_legal_steps}
@@ -49,7 +49,7 @@ no_group (stock_is.HeldBy h n) e = absurd (none-some h (sym e))
 no_group (stock_is.DrainedOf h) e = absurd (none-some h (sym e))
 
 -- the other parts stay what their seats know
-pub tied_still : (t : KnownTable) (w : Words) (cpus : List KnownCpu) (k : ℕ) (c d : KnownCpu) → slice_get cpus k ≡ Some c → IsTied t w d →
+pub tied_still : (t : KnownTable) (w : KnownStockTable) (cpus : List KnownCpu) (k : ℕ) (c d : KnownCpu) → slice_get cpus k ≡ Some c → IsTied t w d →
     (d.stock_seat.view.last ≡ stock_is.NoGroup → d.fresh ≡ []) → AreTied t w cpus → AreTied t w (slice_set cpus k d)
 tied_still t w cpus k c d is_part tied none all j e at = elim (cases_eq j k) [
   | inl here ↦
@@ -59,17 +59,17 @@ tied_still t w cpus k c d is_part tied none all j e at = elim (cases_eq j k) [
 ]
 
 -- a command that was served at its part
-pub part_keeps : (on : Terms) (before after : KnownLocked) (cpus : List KnownCpu) (line : Line) (processor : ℕ) (command : Command) (c d : KnownCpu)
-    {number : ℕ} {Z U E : Type 0} (r : Result U E) (old new : String Z) → on.is_numbered ≡ false → line ≡ At number processor command →
-    LineIsThere on.frames.frames (length cpus) line → slice_get cpus (processor - 1) ≡ Some c →
+pub part_keeps : (on : Terms) (before after : KnownLocked) (cpus : List KnownCpu) (line : Line) (cpu : ℕ) (command : Command) (c d : KnownCpu)
+    {number : ℕ} {Z U E : Type 0} (r : Result U E) (old new : String Z) → on.is_numbered ≡ false → line ≡ At number cpu command →
+    LineIsThere on.frames.frames (length cpus) line → slice_get cpus (cpu - 1) ≡ Some c →
     AddsText r old new (ServesCommand on command (locked_state before c) (locked_state after d)) →
     HoldsInvariants on.frames on.stocks after → IsTied on.frames on.stocks d → (d.stock_seat.view.last ≡ stock_is.NoGroup → d.fresh ≡ []) →
-    AddsText r old new (ServesAndKeeps on line (system_state before cpus) (system_state after (slice_set cpus (processor - 1) d)))
-part_keeps on before after cpus line processor command c d {number = number} r old new plain is there is_part answered holds tied none = record {
+    AddsText r old new (ServesAndKeeps on line (system_state before cpus) (system_state after (slice_set cpus (cpu - 1) d)))
+part_keeps on before after cpus line cpu command c d {number = number} r old new plain is there is_part answered holds tied none = record {
   text = answered.text;
   so = record {
     there = there;
-    serves = subst (λ (x : Line). ServesLine on x (system_state before cpus) (system_state after (slice_set cpus (processor - 1) d)) answered.text) (sym is)
+    serves = subst (λ (x : Line). ServesLine on x (system_state before cpus) (system_state after (slice_set cpus (cpu - 1) d)) answered.text) (sym is)
         (record {
           steps = answered.so.steps;
           tells = record {
@@ -80,28 +80,28 @@ part_keeps on before after cpus line processor command c d {number = number} r o
         });
     keeps = record {
       holds = holds;
-      tied = λ all. tied_still on.frames on.stocks cpus (processor - 1) c d is_part tied none all;
+      tied = λ all. tied_still on.frames on.stocks cpus (cpu - 1) c d is_part tied none all;
     };
   };
   added = answered.added;
 }
 
 -- the same, of the part that was read
-pub part_read : (on : Terms) (before after : KnownLocked) (cpus : List KnownCpu) (line : Line) (processor : ℕ) (command : Command) (c d : KnownCpu)
-    {number : ℕ} {Z U E : Type 0} (r : Result U E) (old new : String Z) → on.is_numbered ≡ false → line ≡ At number processor command →
-    LineIsThere on.frames.frames (length cpus) line → c ≡ get_or cpus (processor - 1) c →
+pub part_read : (on : Terms) (before after : KnownLocked) (cpus : List KnownCpu) (line : Line) (cpu : ℕ) (command : Command) (c d : KnownCpu)
+    {number : ℕ} {Z U E : Type 0} (r : Result U E) (old new : String Z) → on.is_numbered ≡ false → line ≡ At number cpu command →
+    LineIsThere on.frames.frames (length cpus) line → c ≡ get_or cpus (cpu - 1) c →
     AddsText r old new (ServesCommand on command (locked_state before c) (locked_state after d)) →
     HoldsInvariants on.frames on.stocks after → IsTied on.frames on.stocks d → (d.stock_seat.view.last ≡ stock_is.NoGroup → d.fresh ≡ []) →
-    AddsText r old new (ServesAndKeeps on line (system_state before cpus) (system_state after (slice_set cpus (processor - 1) d)))
-part_read on before after cpus line processor command c d {number = number} r old new plain is there read answered holds tied none =
-    let named : LineIsThere on.frames.frames (length cpus) (At number processor command) = subst (LineIsThere on.frames.frames (length cpus)) is there in
+    AddsText r old new (ServesAndKeeps on line (system_state before cpus) (system_state after (slice_set cpus (cpu - 1) d)))
+part_read on before after cpus line cpu command c d {number = number} r old new plain is there read answered holds tied none =
+    let named : LineIsThere on.frames.frames (length cpus) (At number cpu command) = subst (LineIsThere on.frames.frames (length cpus)) is there in
     let low = named.low in
     let high = named.high in
-    part_keeps on before after cpus line processor command c d r old new plain is there
-    (slice_get_read cpus (length cpus) (processor - 1) c refl (omega arith) read) answered holds tied none
+    part_keeps on before after cpus line cpu command c d r old new plain is there
+    (slice_get_read cpus (length cpus) (cpu - 1) c refl (omega arith) read) answered holds tied none
 
 -- nothing is done for `go`, and nothing is added
-pub go_keeps : (t : KnownTable) (w : Words) (is_explained : Bool) (before : KnownLocked) (cpus : List KnownCpu) {Z U E : Type 0} (r : Result U E)
+pub go_keeps : (t : KnownTable) (w : KnownStockTable) (is_explained : Bool) (before : KnownLocked) (cpus : List KnownCpu) {Z U E : Type 0} (r : Result U E)
     (answers : String Z) (line : Line) → line ≡ Go → HoldsInvariants t w before
     → AddsText r answers answers (ServesAndKeeps (terms t w is_explained) line (system_state before cpus) (system_state before cpus))
 go_keeps t w is_explained before cpus r answers line is holds = record {
@@ -118,7 +118,7 @@ go_keeps t w is_explained before cpus r answers line is holds = record {
 }
 
 -- the same line with its number
-pub numbered_keeps : (t : KnownTable) (w : Words) (is_explained : Bool) (line : Line) (s e : SystemState) (text : List ℕ)
+pub numbered_keeps : (t : KnownTable) (w : KnownStockTable) (is_explained : Bool) (line : Line) (s e : SystemState) (text : List ℕ)
     → ServesAndKeeps (terms t w is_explained) line s e text
     → ServesAndKeeps (numbered_terms t w is_explained true) line s e (numbered_text (number_in_script line) text)
 numbered_keeps t w is_explained line s e text keeps = record {
@@ -135,7 +135,7 @@ numbered_keeps t w is_explained line s e text keeps = record {
 }
 
 -- a line that was answered into a text of its own, which is then added with the number, as far as there is memory
-pub number_added : (t : KnownTable) (w : Words) (is_explained : Bool) (line : Line) (s e : SystemState) {Z U E : Type 0} (r : Result U E)
+pub number_added : (t : KnownTable) (w : KnownStockTable) (is_explained : Bool) (line : Line) (s e : SystemState) {Z U E : Type 0} (r : Result U E)
     (old new : String Z) (number : ℕ) (said plain : List ℕ) → ServesAndKeeps (terms t w is_explained) line s e said → plain ≡ said
     → number ≡ number_in_script line → IfOk r (λ _. string_bytes new ≡ string_bytes old ++ numbered_text number plain)
     → AddsText r old new (ServesAndKeeps (numbered_terms t w is_explained true) line s e)
@@ -146,7 +146,7 @@ number_added t w is_explained line s e r old new number said plain keeps is numb
 }
 
 -- an answer in this form, by whether lines are numbered in it
-pub formed : (t : KnownTable) (w : Words) (form : Form) (line : Line) (s e : SystemState) {Z U E : Type 0} (r : Result U E) (old new : String Z)
+pub formed : (t : KnownTable) (w : KnownStockTable) (form : Form) (line : Line) (s e : SystemState) {Z U E : Type 0} (r : Result U E) (old new : String Z)
     (is_numbered : Bool) → form.is_numbered ≡ is_numbered
     → AddsText r old new (ServesAndKeeps (numbered_terms t w form.is_explained is_numbered) line s e)
     → AddsText r old new (ServesAndKeeps (form_terms t w form) line s e)
@@ -171,7 +171,7 @@ all_served on (line ∷ lines) s e text all = record {
 
 -- ---- their history
 
-some_cpu : (t : KnownTable) (w : Words) (locked : KnownLocked) → IsQuiet t w locked → 1 ≤ t.cpus
+some_cpu : (t : KnownTable) (w : KnownStockTable) (locked : KnownLocked) → IsQuiet t w locked → 1 ≤ t.cpus
 some_cpu t w locked quiet = let sized = quiet.sized.cpus in let low = quiet.valid.cpus_low in omega arith
 
 -- a run shows the state; if the ledger before had the peaks and event counts of the run before, the ledger now has
@@ -186,13 +186,13 @@ line_follows : (on : Terms) (run : Run) (line : Line) (s e : SystemState) (text 
 line_follows on run Go s e text shows tied keeps legal =
     subst (λ (r : Run). Follows on.frames run s r e) (sym (ap (λ (r : Run). run ++ r) keeps.serves.tells.so.steps_are ∙ append-nil run))
     (subst (λ (x : SystemState). Follows on.frames run s run x) (sym keeps.serves.tells.so.stays) (shows, λ told. told))
-line_follows on run (At number processor command) s e text shows tied keeps legal =
+line_follows on run (At number cpu command) s e text shows tied keeps legal =
     let steps = keeps.serves.steps in
-    let is : AtPart processor (λ part left. WritesWork on.is_explained (work_of command)
+    let is : AtPart cpu (λ part left. WritesWork on.is_explained (work_of command)
     (transition on.frames (locked_state s.locked part) steps (locked_state e.locked left)) keeps.serves.tells.plain) s.cpus e.cpus = keeps.serves.tells.so in
     subst (λ (cpus : List KnownCpu). ShowsAll on.frames (run ++ steps) e.locked.machine cpus
     × (TellsRun on.frames run s.locked.machine.ledger → TellsRun on.frames (run ++ steps) e.locked.machine.ledger)) (sym is.cpus)
-    (work_follows on.frames on.stocks run s.locked s.cpus (processor - 1) is.part shows is.is_part tied on.is_explained (work_of command) steps (locked_state e.locked is.left) keeps.serves.tells.plain
+    (work_follows on.frames on.stocks run s.locked s.cpus (cpu - 1) is.part shows is.is_part tied on.is_explained (work_of command) steps (locked_state e.locked is.left) keeps.serves.tells.plain
     (work_in_range on.frames.frames command keeps.there.names) is.done keeps.keeps.holds.quiet.shut legal)
 
 pub keeps_history : (on : Terms) (lines : List Line) (before : Past) (e : SystemState) (text : List ℕ) →

@@ -32,7 +32,7 @@ work_in_range frames command named = named
 -- the same of a line
 pub line_there : (sizes : Config) (n : ℕ) (line : Line) (text : List ℕ) → IsLineText sizes n line text → LineIsThere sizes.frames sizes.cpus line
 line_there sizes n Go text is = tt
-line_there sizes n (At number processor command) text is =
+line_there sizes n (At number cpu command) text is =
     record { low = is.1.low; high = is.1.high; names = named_in_range sizes command is.1.rest is.1.command_text }
 
 lines_there : (sizes : Config) (texts : List (ℕ × List ℕ)) (lines : List Line) → AllZip (λ t line. IsLineText sizes t.0 line t.1) texts lines

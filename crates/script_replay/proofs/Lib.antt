@@ -10,3 +10,4 @@ pub mod Following
 pub mod Seeing
 pub mod UnderLock
 pub mod Visiting
+pub mod Looking

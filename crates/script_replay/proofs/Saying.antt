@@ -1,5 +1,5 @@
 -- What a command says as a value. Serves `typed_answers` and `typed_calls`.
-use Rattle.std.proofs.Common.{◌≡◌, ◌-◌, ◌&&◌, ℕ, Bool, true, false, Some, List, [], ◌∷◌, append-nil, arith, get_or, refl, subst, sym}
+use Rattle.std.proofs.Common.{◌≡◌, ◌-◌, ℕ, Bool, true, false, Some, List, [], ◌∷◌, append-nil, arith, get_or, refl, subst, sym}
 use Rattle.std.specs.Prelude.{Option, Result, length, slice_set}
 use Rattle.std.specs.List.{slice_get}
 use Rattle.std.proofs.lemmas.Option.{slice_get_read}
@@ -9,23 +9,21 @@ use Rattle.frame_word.specs.Seats.{KnownTable}
 use Rattle.group_tree.specs.declared.fault.Fault.{Fault}
 use Rattle.stock_word.specs.declared.view.Stock.TheVariants as stock_is
 use Rattle.cpu_part.specs.Cpus.{KnownCpu, IsTied}
-use Rattle.step_rules.specs.After.{Run}
-use Rattle.mem_system.specs.declared.command.Reply.{Reply}
 use Rattle.mem_system.specs.Locked.{KnownLocked}
 use Rattle.mem_system.specs.Visits.{LockedState, Transition, locked_state, transition}
-use Rattle.reply_texts.specs.Answer.{Answer, Served}
+use Rattle.reply_texts.specs.Answer.{Answer}
 use Rattle.reply_texts.specs.Answers.{answer_text}
 use Rattle.script_lines.specs.declared.line.Command.{Command}
 use Rattle.script_lines.specs.declared.line.Line.TheVariants.{At}
 use Rattle.script_replay.specs.declared.work.Work.{Work}
-use Rattle.script_replay.specs.declared.work.Work.TheVariants.{Visit, Frame, Fast, Release, Get, Put, Settle, Blocks, Show}
-use Rattle.script_replay.specs.Answers.{AnswersWork, CanNotList, GetsNoneFast, GetsPin, OnlyWatched, PutsPin, ReleasesUnderLock}
-use Rattle.script_replay.specs.Answers.{ServesUnderLock, WritesAnswer, WritesWork, get_steps, kills_text, pin_answer, put_steps}
+use Rattle.script_replay.specs.declared.work.Work.TheVariants.{Visit, Frame, Fast, Release, Get, Put, Settle, Blocks, Show, Stock, Units}
+use Rattle.script_replay.specs.Answers.{AnswersWork, GetsPin, OnlyWatched, PutsPin}
+use Rattle.script_replay.specs.Answers.{WritesAnswer, WritesWork, get_steps, pin_answer, put_steps}
 use Rattle.script_replay.specs.Answers.{unpin_answer}
 use Rattle.script_replay.specs.History.{HoldsInvariants, ServesAndKeeps}
 use Rattle.script_replay.specs.Lines.{SystemState, system_state}
 use Rattle.script_replay.specs.Ranges.{IsThere}
-use Rattle.script_replay.specs.Terms.{BootTables, Terms, boot_tables, terms}
+use Rattle.script_replay.specs.Terms.{BootTables, Terms, terms}
 use Rattle.script_replay.specs.Typed.{SaysCommand, SaysWork}
 use Rattle.script_replay.specs.Works.{work_of}
 use Rattle.script_replay.proofs.Going.{all_replayed, tied_still}
@@ -38,7 +36,7 @@ module _ (table : KnownTable) (f n : ℕ) (l m : KnownLocked) (c d : KnownCpu) (
   got r pins watched says =
       subst (SaysWork table (Get f) (locked_state l c) (locked_state m d)) says (record {
         steps = get_steps c.number f (pin_answer r);
-        may_kill = false;
+        is_noted = false;
         answered = (
           pins,
           record {
@@ -53,7 +51,7 @@ module _ (table : KnownTable) (f n : ℕ) (l m : KnownLocked) (c d : KnownCpu) (
   put r pins watched says =
       subst (SaysWork table (Put f) (locked_state l c) (locked_state m d)) says (record {
         steps = put_steps c.number f (unpin_answer r);
-        may_kill = false;
+        is_noted = false;
         answered = (
           pins,
           record {
@@ -65,26 +63,28 @@ module _ (table : KnownTable) (f n : ℕ) (l m : KnownLocked) (c d : KnownCpu) (
 
 -- ---- the text of what is said
 
-module _ (way : Transition LockedState) (said : Answer) where
-  as_answer : (work : Work) (may_kill : Bool) → AnswersWork work way said may_kill → WritesAnswer false work way (answer_text said)
-  as_answer work true so = record { said = said; may_kill = true; answered = so; text_is = sym (append-nil (answer_text said)) }
-  as_answer work false so = record { said = said; may_kill = false; answered = so; text_is = sym (append-nil (answer_text said)) }
+module _ (call : Transition LockedState) (said : Answer) where
+  as_answer : (work : Work) (is_noted : Bool) → AnswersWork false work call said is_noted → WritesAnswer false work call (answer_text said)
+  as_answer work true so = record { said = said; is_noted = true; answered = so; text_is = sym (append-nil (answer_text said)) }
+  as_answer work false so = record { said = said; is_noted = false; answered = so; text_is = sym (append-nil (answer_text said)) }
 
-  pub as_text : (work : Work) (may_kill : Bool) → AnswersWork work way said may_kill → WritesWork false work way (answer_text said)
-  as_text (Visit command) may_kill so = as_answer (Visit command) may_kill so
-  as_text (Frame path) may_kill so = as_answer (Frame path) may_kill so
-  as_text (Fast group) may_kill so = as_answer (Fast group) may_kill so
-  as_text (Release frame) may_kill so = as_answer (Release frame) may_kill so
-  as_text (Get frame) may_kill so = as_answer (Get frame) may_kill so
-  as_text (Put frame) may_kill so = as_answer (Put frame) may_kill so
-  as_text Settle may_kill so = as_answer Settle may_kill so
-  as_text Blocks may_kill so = absurd so
-  as_text Show may_kill so = absurd so
+  pub as_text : (work : Work) (is_noted : Bool) → AnswersWork false work call said is_noted → WritesWork false work call (answer_text said)
+  as_text (Visit command) is_noted so = as_answer (Visit command) is_noted so
+  as_text (Frame path) is_noted so = as_answer (Frame path) is_noted so
+  as_text (Fast group) is_noted so = as_answer (Fast group) is_noted so
+  as_text (Release frame) is_noted so = as_answer (Release frame) is_noted so
+  as_text (Get frame) is_noted so = as_answer (Get frame) is_noted so
+  as_text (Put frame) is_noted so = as_answer (Put frame) is_noted so
+  as_text Settle is_noted so = as_answer Settle is_noted so
+  as_text Blocks is_noted so = absurd so
+  as_text Show is_noted so = absurd so
+  as_text Stock is_noted so = absurd so
+  as_text (Units path) is_noted so = absurd so
 
 -- ---- a command at its part
 
-module _ (tables : BootTables) (l m : KnownLocked) (cpus : List KnownCpu) (processor : ℕ) (command : Command) (c d : KnownCpu) (said : Answer)
-    (there : IsThere tables.frames.frames (length cpus) processor command) (is_part : slice_get cpus (processor - 1) ≡ Some c)
+module _ (tables : BootTables) (l m : KnownLocked) (cpus : List KnownCpu) (cpu : ℕ) (command : Command) (c d : KnownCpu) (said : Answer)
+    (there : IsThere tables.frames.frames (length cpus) cpu command) (is_part : slice_get cpus (cpu - 1) ≡ Some c)
     (says : SaysWork tables.frames (work_of command) (locked_state l c) (locked_state m d) said) (holds : HoldsInvariants tables.frames tables.stocks m)
     (tied : IsTied tables.frames tables.stocks d) (none : d.stock_seat.view.last ≡ stock_is.NoGroup → d.fresh ≡ []) where
   abbrev on : Terms
@@ -94,9 +94,9 @@ module _ (tables : BootTables) (l m : KnownLocked) (cpus : List KnownCpu) (proce
   before = system_state l cpus
 
   abbrev after : SystemState
-  after = system_state m (slice_set cpus (processor - 1) d)
+  after = system_state m (slice_set cpus (cpu - 1) d)
 
-  one_line : (number : ℕ) → ServesAndKeeps on (At number processor command) before after (answer_text said)
+  one_line : (number : ℕ) → ServesAndKeeps on (At number cpu command) before after (answer_text said)
   one_line number = record {
     there = there;
     serves = record {
@@ -107,7 +107,7 @@ module _ (tables : BootTables) (l m : KnownLocked) (cpus : List KnownCpu) (proce
           part = c;
           left = d;
           is_part = is_part;
-          done = as_text (transition tables.frames (locked_state l c) says.steps (locked_state m d)) said (work_of command) says.may_kill says.answered;
+          done = as_text (transition tables.frames (locked_state l c) says.steps (locked_state m d)) said (work_of command) says.is_noted says.answered;
           cpus = refl;
         };
         text_is = refl;
@@ -115,14 +115,14 @@ module _ (tables : BootTables) (l m : KnownLocked) (cpus : List KnownCpu) (proce
     };
     keeps = record {
       holds = holds;
-      tied = λ all. tied_still tables.frames tables.stocks cpus (processor - 1) c d is_part tied none all;
+      tied = λ all. tied_still tables.frames tables.stocks cpus (cpu - 1) c d is_part tied none all;
     };
   }
 
-  pub command_said : SaysCommand tables processor command before after said
+  pub command_said : SaysCommand tables cpu command before after said
   command_said = record {
     says = record { part = c; left = d; is_part = is_part; done = says; cpus = refl };
-    replays = λ number. all_replayed on (At number processor command ∷ []) before after (answer_text said) (record {
+    replays = λ number. all_replayed on (At number cpu command ∷ []) before after (answer_text said) (record {
       first = answer_text said;
       rest = [];
       between = after;
@@ -133,9 +133,9 @@ module _ (tables : BootTables) (l m : KnownLocked) (cpus : List KnownCpu) (proce
   }
 
 -- the part of a CPU that is there
-pub part_of : (cpus : List KnownCpu) (frames processor : ℕ) (command : Command) (c : KnownCpu) → IsThere frames (length cpus) processor command
-    → c ≡ get_or cpus (processor - 1) c → slice_get cpus (processor - 1) ≡ Some c
-part_of cpus frames processor command c there read =
+pub part_of : (cpus : List KnownCpu) (frames cpu : ℕ) (command : Command) (c : KnownCpu) → IsThere frames (length cpus) cpu command
+    → c ≡ get_or cpus (cpu - 1) c → slice_get cpus (cpu - 1) ≡ Some c
+part_of cpus frames cpu command c there read =
     let low = there.low in
     let high = there.high in
-    slice_get_read cpus (length cpus) (processor - 1) c refl (omega arith) read
+    slice_get_read cpus (length cpus) (cpu - 1) c refl (omega arith) read

@@ -24,7 +24,8 @@ use Rattle.script_lines.specs.declared.line.Line.{Line}
 use Rattle.script_lines.specs.declared.line.Line.TheVariants.{Go, At}
 use Rattle.script_replay.specs.declared.work.Work.{Work}
 use Rattle.script_replay.specs.declared.work.Work.TheVariants as work
-use Rattle.script_replay.specs.Answers.{AnswersFrame, AnswersRelease, AnswersWork, IsServedUnderLock, OnlyWatched, RepliesServed, WritesWork}
+use Rattle.script_replay.specs.Answers.{AnswersFrame, AnswersRelease, AnswersWork, IsServedUnderLock, OnlyWatched, RepliesServed, SettlesUnderLock, WritesWork}
+use Rattle.script_replay.proofs.Looking.{IsLookedAt, stock_looked, units_looked}
 use Rattle.script_replay.specs.History.{Past, past, past_line, KeepsHistory, TellsHistory, TellsLegalHistory}
 use Rattle.script_replay.specs.Lines.{SystemState, WritesLine}
 use Rattle.script_replay.specs.Terms.{Terms}
@@ -49,8 +50,8 @@ module _ (t : KnownTable) (before : LockedState) (steps : Run) (after : LockedSt
   alone_seen : (made : Run) → steps ≡ made → OnlyWatched made before.locked after.locked → SeesAll
   alone_seen made are only = subst (λ (r : Run). Sees r before.locked after.locked) (sym are) (only_sees made before.locked after.locked only)
 
-  locked_seen : (command : Cmd) (seen : KnownCpu) (reply : Reply) → IsServedUnderLock command seen reply (transition t before steps after) → SeesAll
-  locked_seen command seen reply is =
+  locked_seen : (is_explained : Bool) (command : Cmd) (seen : KnownCpu) (reply : Reply) → IsServedUnderLock is_explained command seen reply (transition t before steps after) → SeesAll
+  locked_seen is_explained command seen reply is =
       let first : Run = cpu_makes seen.number step.Lock says.Done ∷ [] in
       let last : Run = cpu_makes seen.number step.Unlock says.Done ∷ [] in
       let a : KnownWatch = before.locked.machine.watch in
@@ -60,38 +61,49 @@ module _ (t : KnownTable) (before : LockedState) (steps : Run) (after : LockedSt
       let rest : Watches b (is.served.steps ++ last) e =
       watches_both b is.served.steps d last e is.served.makes.watched (only_sees last is.left after.locked is.unlock) in
       subst (λ (r : Run). Watches a r e) (sym is.steps_are)
-      (watches_both a first b (is.served.steps ++ last) e (only_sees first before.locked is.found is.lock) rest)
+      (watches_both a first b (is.served.steps ++ last) e is.lock.watched rest)
 
-  replied_seen : (command : Cmd) (said : Answer) → RepliesServed command (transition t before steps after) said → SeesAll
-  replied_seen command (answer.Served reply) is = locked_seen command before.cpu reply is
-  replied_seen command said is = absurd is
+  replied_seen : (is_explained : Bool) (command : Cmd) (said : Answer) → RepliesServed is_explained command (transition t before steps after) said → SeesAll
+  replied_seen is_explained command (answer.Served reply) is = locked_seen is_explained command before.cpu reply is
+  replied_seen is_explained command said is = absurd is
 
-  frame_seen : (path : Bor (List ℕ)) (said : Answer) (may_kill : Bool) → AnswersFrame path (transition t before steps after) said may_kill → SeesAll
-  frame_seen path (answer.Fast (Got f)) false is = alone_seen _ is.alone.steps_are is.alone.locked
-  frame_seen path (answer.Served reply) false none = stays_seen steps before.locked after.locked none.1 none.0.same_locked
-  frame_seen path (answer.Served reply) true is = locked_seen _ is.seen reply is.served
-  frame_seen path said may_kill is = absurd is
+  frame_seen : (is_explained : Bool) (path : Bor (List ℕ)) (said : Answer) (is_noted : Bool) → AnswersFrame is_explained path (transition t before steps after) said is_noted → SeesAll
+  frame_seen is_explained path (answer.Fast (Got f)) false is = alone_seen _ is.alone.steps_are is.alone.locked
+  frame_seen is_explained path (answer.Served reply) false none = stays_seen steps before.locked after.locked none.1 none.0.same_locked
+  frame_seen is_explained path (answer.Served reply) true is = locked_seen is_explained _ is.seen reply is.served
+  frame_seen is_explained path said is_noted is = absurd is
 
-  release_seen : (f : ℕ) (said : Answer) (may_kill : Bool) → AnswersRelease f (transition t before steps after) said may_kill → SeesAll
-  release_seen f answer.Listed false is = alone_seen _ is.1.steps_are is.1.locked
-  release_seen f (answer.Served reply) true is = locked_seen _ is.seen reply is.served
-  release_seen f said may_kill is = absurd is
+  release_seen : (is_explained : Bool) (f : ℕ) (said : Answer) (is_noted : Bool) → AnswersRelease is_explained f (transition t before steps after) said is_noted → SeesAll
+  release_seen is_explained f answer.Listed false is = alone_seen _ is.1.steps_are is.1.locked
+  release_seen is_explained f (answer.Served reply) true is = locked_seen is_explained _ is.seen reply is.served
+  release_seen is_explained f said is_noted is = absurd is
 
-  answer_seen : (asked : Work) (said : Answer) (may_kill : Bool) → AnswersWork asked (transition t before steps after) said may_kill → SeesAll
-  answer_seen (work.Visit command) said true is = replied_seen command said is
-  answer_seen (work.Frame path) said may_kill is = frame_seen path said may_kill is
-  answer_seen (work.Fast g) (answer.Fast taken) false is = alone_seen _ is.1.steps_are is.1.locked
-  answer_seen (work.Release f) said may_kill is = release_seen f said may_kill is
-  answer_seen (work.Get f) said false is = alone_seen _ is.1.steps_are is.1.locked
-  answer_seen (work.Put f) said false is = alone_seen _ is.1.steps_are is.1.locked
-  answer_seen work.Settle answer.Settled false is = locked_seen _ before.cpu _ is
-  answer_seen asked said true is = absurd is
-  answer_seen asked said false is = absurd is
+  answer_seen : (is_explained : Bool) (asked : Work) (said : Answer) (is_noted : Bool) → AnswersWork is_explained asked (transition t before steps after) said is_noted → SeesAll
+  answer_seen is_explained (work.Visit command) said true is = replied_seen is_explained command said is
+  answer_seen is_explained (work.Frame path) said is_noted is = frame_seen is_explained path said is_noted is
+  answer_seen is_explained (work.Fast g) (answer.Fast taken) false is = alone_seen _ is.1.steps_are is.1.locked
+  answer_seen is_explained (work.Release f) said is_noted is = release_seen is_explained f said is_noted is
+  answer_seen is_explained (work.Get f) said false is = alone_seen _ is.1.steps_are is.1.locked
+  answer_seen is_explained (work.Put f) said false is = alone_seen _ is.1.steps_are is.1.locked
+  answer_seen is_explained work.Settle answer.Settled false is = locked_seen false _ before.cpu _ is
+  answer_seen is_explained asked said true is = absurd is
+  answer_seen is_explained asked said false is = absurd is
 
-  work_seen : (is_explained : Bool) (asked : Work) (text : List ℕ) → WritesWork is_explained asked (transition t before steps after) text → SeesAll
-  work_seen is_explained work.Blocks text is = locked_seen _ before.cpu _ is.settles
-  work_seen is_explained work.Show text is = locked_seen _ before.cpu _ is.settles
-  work_seen is_explained asked text is = answer_seen asked is.said is.may_kill is.answered
+-- the watch took nothing at a look
+looked_seen : (t : KnownTable) (before : LockedState) (steps : Run) (settled after : LockedState) → SettlesUnderLock (transition t before steps settled)
+    → IsLookedAt t settled.locked.machine after.locked.machine → Sees steps before.locked after.locked
+looked_seen t before steps settled after is looked = subst (λ (w : KnownWatch). Watches before.locked.machine.watch steps w) (sym looked.watch)
+    (locked_seen t before steps settled false _ before.cpu _ is)
+
+work_seen : (t : KnownTable) (before : LockedState) (steps : Run) (after : LockedState) (is_explained : Bool) (asked : Work) (text : List ℕ)
+    → WritesWork is_explained asked (transition t before steps after) text → Sees steps before.locked after.locked
+work_seen t before steps after is_explained work.Blocks text is = locked_seen t before steps after false _ before.cpu _ is.settles
+work_seen t before steps after is_explained work.Show text is = locked_seen t before steps after false _ before.cpu _ is.settles
+work_seen t before steps after is_explained work.Stock text is =
+    looked_seen t before steps is.settled after is.settles (stock_looked t is.settled.locked.machine after.locked.machine is.told.look)
+work_seen t before steps after is_explained (work.Units path) text is =
+    looked_seen t before steps is.settled after is.settles (units_looked t _ _ _ is.settled.locked.machine after.locked.machine is.told)
+work_seen t before steps after is_explained asked text is = answer_seen t before steps after is_explained asked is.said is.is_noted is.answered
 
 -- ---- a line, and all lines
 
@@ -99,7 +111,7 @@ pub line_seen : (t : KnownTable) (is_explained : Bool) (line : Line) (before : S
     → WritesLine is_explained line (transition t before steps after) text → Sees steps before.locked after.locked
 line_seen t is_explained Go before steps after text is =
     stays_seen steps before.locked after.locked is.steps_are (ap (λ (s : SystemState). s.locked) is.stays)
-line_seen t is_explained (At number processor command) before steps after text is =
+line_seen t is_explained (At number cpu command) before steps after text is =
     work_seen t _ steps _ is_explained _ text is.done
 
 -- the steps of all lines of a history, which the watch took

@@ -21,14 +21,14 @@ unwatched steps l off = record {
 }
 
 -- a fast allocation without a frame made no step
-pub no_fast_step : (processor group : ℕ) (fast : Fast) → ((f : ℕ) → fast ≢ Got f) → (l : KnownLocked)
-    → OnlyWatched (fast_steps processor group fast) l l
-no_fast_step processor group FreshFull none l = not_watched l l refl
-no_fast_step processor group ListEmpty none l = not_watched l l refl
-no_fast_step processor group OtherGroup none l = not_watched l l refl
-no_fast_step processor group Drained none l = not_watched l l refl
-no_fast_step processor group NoStock none l = not_watched l l refl
-no_fast_step processor group (Got f) none l = absurd (none f refl)
+pub no_fast_step : (cpu group : ℕ) (fast : Fast) → ((f : ℕ) → fast ≢ Got f) → (l : KnownLocked)
+    → OnlyWatched (fast_steps cpu group fast) l l
+no_fast_step cpu group FreshFull none l = not_watched l l refl
+no_fast_step cpu group ListEmpty none l = not_watched l l refl
+no_fast_step cpu group OtherGroup none l = not_watched l l refl
+no_fast_step cpu group Drained none l = not_watched l l refl
+no_fast_step cpu group NoStock none l = not_watched l l refl
+no_fast_step cpu group (Got f) none l = absurd (none f refl)
 
 -- few references are left after a put
 pub few_left : (f : ℕ) (c d : KnownCpu) (put : PutAnswer) → UnpinAnswers f put c d → (left : ℕ) → unpin_answer (Some put) ≡ answer.Put (Left left)

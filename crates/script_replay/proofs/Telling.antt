@@ -1,5 +1,5 @@
 -- A text for an answer.
-use Rattle.std.proofs.Common.{◌≡◌, ◌∙◌, ◌++◌, ◌&&◌, Bool, true, false, List, ℕ, Result, Ok, Err, IfOk, IfErr, ap, append_assoc, append-nil, refl, subst, sym}
+use Rattle.std.proofs.Common.{◌≡◌, ◌∙◌, ◌++◌, ◌&&◌, Bool, true, false, List, [], ℕ, Result, Ok, Err, IfOk, IfErr, ap, append_assoc, append-nil, refl, subst, sym}
 use Rattle.std.specs.declared.string.String.{String}
 use Rattle.std.specs.String.{string_bytes}
 use Rattle.mem_system.specs.declared.command.Cmd.{Cmd}
@@ -10,7 +10,7 @@ use Rattle.reply_texts.specs.Answers.{answer_text}
 use Rattle.reply_texts.specs.Replies.{reply_text}
 use Rattle.script_replay.specs.declared.work.Work.{Work}
 use Rattle.script_replay.specs.declared.work.Work.TheVariants.{Visit, Settle}
-use Rattle.script_replay.specs.Answers.{AddsAnswer, AddsText, AnswersWork, ServesUnderLock, ServesWork, WritesAnswer, kills_text}
+use Rattle.script_replay.specs.Answers.{AddsAnswer, AddsText, AnswersWork, ServesUnderLock, ServesWork, WritesAnswer, path_removed, told_text}
 use Rattle.script_replay.specs.Numbers.{SaysNumbered, numbered_text}
 use Rattle.script_replay.specs.Terms.{Terms}
 
@@ -46,28 +46,28 @@ told_as is as_well before after r turn adds = record {
   added = adds.added;
 }
 
--- an answer without an explanation of kills
-pub alone : (is_explained : Bool) (work : Work) (way : Transition LockedState) (said : Answer) → AnswersWork work way said false
-    → WritesAnswer is_explained work way (answer_text said)
-alone is_explained work way said so = record { said = said; may_kill = false; answered = so; text_is = sym (append-nil (answer_text said)) }
+-- an answer without an explanation
+pub alone : (is_explained : Bool) (work : Work) (call : Transition LockedState) (said : Answer) → AnswersWork is_explained work call said false
+    → WritesAnswer is_explained work call (answer_text said)
+alone is_explained work call said so = record { said = said; is_noted = false; answered = so; text_is = sym (append-nil (answer_text said)) }
 
--- the answer to a Settle has no explanation of kills, whether or not one is asked for
-pub settle_alone : (is_explained : Bool) (way : Transition LockedState) (text : List ℕ) → WritesAnswer false Settle way text → WritesAnswer is_explained Settle way text
-settle_alone is_explained way text writes = tells writes.said writes.may_kill writes.answered writes.text_is
+-- the answer to a Settle has no explanation, whether or not one is asked for
+pub settle_alone : (is_explained : Bool) (call : Transition LockedState) (text : List ℕ) → WritesAnswer false Settle call text → WritesAnswer is_explained Settle call text
+settle_alone is_explained call text writes = tells writes.said writes.is_noted writes.answered writes.text_is
   where
-    tells : (said : Answer) (may_kill : Bool) → AnswersWork Settle way said may_kill
-        → text ≡ answer_text said ++ kills_text (may_kill && false) way.after.locked.machine → WritesAnswer is_explained Settle way text
-    tells said false answered is = record { said = said; may_kill = false; answered = answered; text_is = is }
+    tells : (said : Answer) (is_noted : Bool) → AnswersWork false Settle call said is_noted
+        → text ≡ answer_text said ++ told_text (is_noted && false) [] call.after.locked.machine → WritesAnswer is_explained Settle call text
+    tells said false answered is = record { said = said; is_noted = false; answered = answered; text_is = is }
     tells said true answered is = absurd answered
 
--- a command that was served under the lock: its reply, followed by the explanation of its kills
-pub served : (on : Terms) (command : Cmd) (before after : LockedState) (reply : Reply) → ServesUnderLock on.frames command reply before after
-    → ServesWork on (Visit command) before after (reply_text reply ++ kills_text on.is_explained after.locked.machine)
+-- a command that was served under the lock: its reply, followed by its explanation
+pub served : (on : Terms) (command : Cmd) (before after : LockedState) (reply : Reply) → ServesUnderLock on.frames on.is_explained command reply before after
+    → ServesWork on (Visit command) before after (reply_text reply ++ told_text on.is_explained (path_removed command) after.locked.machine)
 served on command before after reply is = record {
   steps = is.steps;
   writes = record {
     said = Served reply;
-    may_kill = true;
+    is_noted = true;
     answered = is.served;
     text_is = refl;
   };

@@ -1,6 +1,6 @@
 -- A command between the Lock and the Unlock that the watch takes. Serves `serve_under_lock`, `serve_frame_under_lock`,
 -- `settle_under_lock`.
-use Rattle.std.proofs.Common.{◌≡◌, ℕ, [], ◌∷◌, ap, refl, subst, sym}
+use Rattle.std.proofs.Common.{◌≡◌, ℕ, Bool, [], ◌∷◌, ap, refl, subst, sym}
 use Rattle.frame_word.specs.Seats.{KnownTable}
 use Rattle.group_charge.specs.Charges.{Ledger}
 use Rattle.cpu_part.specs.Cpus.{KnownCpu}
@@ -14,19 +14,19 @@ use Rattle.mem_system.specs.declared.outcome.Outcome.{Outcome}
 use Rattle.mem_system.specs.Locked.{KnownLocked}
 use Rattle.mem_system.specs.Outcomes.{HasItsGroups, reply_of}
 use Rattle.mem_system.specs.Visits.{IsServed, ServesOutcome, locked_state}
-use Rattle.script_replay.specs.Answers.{OnlyWatched, ServesUnderLock}
+use Rattle.script_replay.specs.Answers.{OnlyWatched, ServesUnderLock, locked_with_telling}
 
-module _ (t : KnownTable) (cmd : Cmd) (before found left after : KnownLocked) (c d : KnownCpu) (number : ℕ) (named : number ≡ c.number)
-    (lock : OnlyWatched (cpu_makes number Lock says.Done ∷ []) before found) (unlock : OnlyWatched (cpu_makes number Unlock says.Done ∷ []) left after) where
+module _ (t : KnownTable) (is_explained : Bool) (cmd : Cmd) (before found left after : KnownLocked) (c d : KnownCpu) (number : ℕ) (named : number ≡ c.number)
+    (lock : OnlyWatched (cpu_makes number Lock says.Done ∷ []) (locked_with_telling before is_explained) found) (unlock : OnlyWatched (cpu_makes number Unlock says.Done ∷ []) left after) where
   -- the watch took a Lock before the command, and an Unlock after it
   pub served_locked : (reply : Reply) → IsServed t cmd reply (locked_state found c) (locked_state left d)
-      → ServesUnderLock t cmd reply (locked_state before c) (locked_state after d)
+      → ServesUnderLock t is_explained cmd reply (locked_state before c) (locked_state after d)
   served_locked reply served = record {
     steps = under_lock c.number served.steps;
     served = record {
       found = found;
       left = left;
-      lock = subst (λ (n : ℕ). OnlyWatched (cpu_makes n Lock says.Done ∷ []) before found) named lock;
+      lock = subst (λ (n : ℕ). OnlyWatched (cpu_makes n Lock says.Done ∷ []) (locked_with_telling before is_explained) found) named lock;
       served = served;
       unlock = subst (λ (n : ℕ). OnlyWatched (cpu_makes n Unlock says.Done ∷ []) left after) named unlock;
       steps_are = refl;
@@ -38,7 +38,7 @@ module _ (t : KnownTable) (cmd : Cmd) (before found left after : KnownLocked) (c
   same_ledger = sym (ap (λ (l : KnownLocked). l.machine.ledger) unlock.locked)
 
   pub outcome_locked : (outcome : Outcome) → ServesOutcome t cmd outcome (locked_state found c) (locked_state left d)
-      → ServesUnderLock t cmd (reply_of after.machine.ledger outcome) (locked_state before c) (locked_state after d)
+      → ServesUnderLock t is_explained cmd (reply_of after.machine.ledger outcome) (locked_state before c) (locked_state after d)
   outcome_locked outcome served = served_locked (reply_of after.machine.ledger outcome)
       (subst (λ (l : Ledger). IsServed t cmd (reply_of l outcome) (locked_state found c) (locked_state left d)) same_ledger served)
 

@@ -43,20 +43,20 @@ released_after on f c seen d said can_not served = absurd served
 -- ---- one line
 
 -- a command that was answered at the part that was read
-pub part_visited : (on : BootTables) (cpus : List KnownCpu) (line : Line) (processor : ℕ) (command : Command) (c d : KnownCpu)
-    {number : ℕ} {Z U E : Type 0} (r : Result U E) (old new : String Z) → line ≡ At number processor command → LineIsThere on.frames.frames (length cpus) line →
-    c ≡ get_or cpus (processor - 1) c →
+pub part_visited : (on : BootTables) (cpus : List KnownCpu) (line : Line) (cpu : ℕ) (command : Command) (c d : KnownCpu)
+    {number : ℕ} {Z U E : Type 0} (r : Result U E) (old new : String Z) → line ≡ At number cpu command → LineIsThere on.frames.frames (length cpus) line →
+    c ≡ get_or cpus (cpu - 1) c →
     AddsText r old new (VisitsCommand on command c d) →
-    AddsText r old new (VisitsLine on line cpus (slice_set cpus (processor - 1) d))
-part_visited on cpus line processor command c d {number = number} r old new is there read answered =
-    let named : LineIsThere on.frames.frames (length cpus) (At number processor command) = subst (LineIsThere on.frames.frames (length cpus)) is there in
+    AddsText r old new (VisitsLine on line cpus (slice_set cpus (cpu - 1) d))
+part_visited on cpus line cpu command c d {number = number} r old new is there read answered =
+    let named : LineIsThere on.frames.frames (length cpus) (At number cpu command) = subst (LineIsThere on.frames.frames (length cpus)) is there in
     let low = named.low in
     let high = named.high in record {
       text = answered.text;
-      so = subst (λ (x : Line). VisitsLine on x cpus (slice_set cpus (processor - 1) d) answered.text) (sym is) (record {
+      so = subst (λ (x : Line). VisitsLine on x cpus (slice_set cpus (cpu - 1) d) answered.text) (sym is) (record {
         part = c;
         left = d;
-        is_part = slice_get_read cpus (length cpus) (processor - 1) c refl (omega arith) read;
+        is_part = slice_get_read cpus (length cpus) (cpu - 1) c refl (omega arith) read;
         done = answered.so;
         cpus = refl;
       });

@@ -25,8 +25,10 @@ use Rattle.step_watch.specs.Watched.{KnownWatch, Watches}
 use Rattle.kill_texts.specs.Explanation.{explanation_text}
 use Rattle.machine_texts.specs.Blocks.{blocks_text}
 use Rattle.machine_texts.specs.Show.{show_text}
-use Rattle.mem_machine.specs.Machines.{KnownMachine, with_watch}
+use Rattle.machine_texts.specs.Stock.{stock_line_text}
+use Rattle.mem_machine.specs.Machines.{KnownMachine, with_telling, with_watch}
 use Rattle.mem_machine.specs.Steps.{cpu_makes}
+use Rattle.mem_machine.specs.Stocks.{with_look}
 use Rattle.mem_history.specs.Whole.{under_lock}
 use Rattle.mem_history.specs.Leading.{put_answer}
 use Rattle.mem_system.specs.declared.command.Cmd.{Cmd}
@@ -34,14 +36,15 @@ use Rattle.mem_system.specs.declared.command.Cmd.TheVariants as cmd
 use Rattle.mem_system.specs.declared.command.Reply.{Reply}
 use Rattle.mem_system.specs.declared.command.Reply.TheVariants.{Done, Refused}
 use Rattle.mem_system.specs.Locked.{KnownLocked}
-use Rattle.mem_system.specs.Visits.{Transition, transition, LockedState, locked_state, IsServed}
+use Rattle.mem_system.specs.Shown.{UnitsAt}
+use Rattle.mem_system.specs.Visits.{Transition, transition, LockedState, locked_state, visit_state_of, IsServed}
 use Rattle.reply_texts.specs.Answer.{Answer}
 use Rattle.reply_texts.specs.Answer as answer
 use Rattle.reply_texts.specs.Answers.{answer_text}
 use Rattle.script_lines.specs.declared.line.Command.{Command}
 use Rattle.script_replay.specs.declared.work.Work.{Work}
 use Rattle.script_replay.specs.declared.work.Work.TheVariants.{Visit, Frame, Fast, Release, Get, Put, Settle}
-use Rattle.script_replay.specs.declared.work.Work.TheVariants.{Blocks, Show}
+use Rattle.script_replay.specs.declared.work.Work.TheVariants.{Blocks, Show, Stock, Units}
 use Rattle.script_replay.specs.Terms.{Terms}
 use Rattle.script_replay.specs.Works.{work_of}
 
@@ -71,6 +74,10 @@ AddsAnswer result old new is_answered = AddsText result old new (IsTextOf is_ans
 abbrev pub locked_with_watch : KnownLocked → KnownWatch → KnownLocked
 locked_with_watch locked watch = record locked { machine = with_watch locked.machine watch }
 
+-- the same behind the lock, with reclaimed units noted from now on, or not
+abbrev pub locked_with_telling : KnownLocked → (is_on : Bool) → KnownLocked
+locked_with_telling locked is_on = record locked { machine = with_telling locked.machine is_on }
+
 -- the watch of the machine takes these steps, and nothing else changes behind the lock
 pub record OnlyWatched (steps : Run) (before after : KnownLocked) : Type 0 where
   pub locked : after ≡ locked_with_watch before after.machine.watch
@@ -79,21 +86,21 @@ pub record OnlyWatched (steps : Run) (before after : KnownLocked) : Type 0 where
 -- ---- without the lock
 
 -- no lock is taken: only the CPU makes these steps, and behind the lock the watch takes them
-pub record TakesNoLock (steps : Run) (way : Transition LockedState) : Type 0 where
-  pub locked : OnlyWatched steps way.before.locked way.after.locked
-  pub steps_are : way.steps ≡ steps
+pub record TakesNoLock (steps : Run) (call : Transition LockedState) : Type 0 where
+  pub locked : OnlyWatched steps call.before.locked call.after.locked
+  pub steps_are : call.steps ≡ steps
 
 -- a fast allocation that got a frame made one step, which consumes a page; any other made no step
-abbrev pub fast_steps : (processor group : ℕ) → cpu.Fast → Run
-fast_steps processor group (Got frame) = cpu_makes processor (step.Consume group) says.Took ∷ []
-fast_steps processor group other = []
+abbrev pub fast_steps : ℕ → ℕ → cpu.Fast → Run
+fast_steps number group (Got frame) = cpu_makes number (step.Consume group) says.Took ∷ []
+fast_steps number group other = []
 
 -- Fast: the result of a fast allocation for this group, which takes no lock
 abbrev pub AnswersFast : (group : ℕ) → Transition LockedState → Answer → Type 0
-AnswersFast group way (answer.Fast fast) =
-    FastAnswers group fast way.before.cpu way.after.cpu
-    × TakesNoLock (fast_steps way.before.cpu.number group fast) way
-AnswersFast group way other = ⊥
+AnswersFast group call (answer.Fast fast) =
+    FastAnswers group fast call.before.cpu call.after.cpu
+    × TakesNoLock (fast_steps call.before.cpu.number group fast) call
+AnswersFast group call other = ⊥
 
 -- the answer to a Get, by what the call for the pin returned
 abbrev pub pin_answer : Result GetAnswer Fault → Answer
@@ -109,15 +116,15 @@ GetsPin frame before after (answer.Served (Refused PinsFull)) =
 GetsPin frame before after other = ⊥
 
 -- a get that was held made one step; any other made none
-abbrev pub get_steps : (processor frame : ℕ) → Answer → Run
-get_steps processor frame (answer.Got Held) = cpu_makes processor (step.Get frame) says.Held ∷ []
-get_steps processor frame other = []
+abbrev pub get_steps : (cpu frame : ℕ) → Answer → Run
+get_steps cpu frame (answer.Got Held) = cpu_makes cpu (step.Get frame) says.Held ∷ []
+get_steps cpu frame other = []
 
 -- Get: the pin and the answer, without the lock
 abbrev pub AnswersGet : (frame : ℕ) → Transition LockedState → Answer → Type 0
-AnswersGet frame way answer =
-    GetsPin frame way.before.cpu way.after.cpu answer
-    × TakesNoLock (get_steps way.before.cpu.number frame answer) way
+AnswersGet frame call answer =
+    GetsPin frame call.before.cpu call.after.cpu answer
+    × TakesNoLock (get_steps call.before.cpu.number frame answer) call
 
 -- the answer to a Put, by what the put of a pin returned, or None if the CPU has no pin on the frame
 abbrev pub unpin_answer : Option PutAnswer → Answer
@@ -131,47 +138,52 @@ PutsPin frame before after (answer.Served (Refused NotPinned)) = (times frame be
 PutsPin frame before after other = ⊥
 
 -- each put is one step
-abbrev pub put_steps : (processor frame : ℕ) → Answer → Run
-put_steps processor frame (answer.Put put) = cpu_makes processor (step.Put frame) (put_answer put) ∷ []
-put_steps processor frame other = []
+abbrev pub put_steps : (cpu frame : ℕ) → Answer → Run
+put_steps cpu frame (answer.Put put) = cpu_makes cpu (step.Put frame) (put_answer put) ∷ []
+put_steps cpu frame other = []
 
 -- Put: the pin and the answer, without the lock
 abbrev pub AnswersPut : (frame : ℕ) → Transition LockedState → Answer → Type 0
-AnswersPut frame way answer =
-    PutsPin frame way.before.cpu way.after.cpu answer
-    × TakesNoLock (put_steps way.before.cpu.number frame answer) way
+AnswersPut frame call answer =
+    PutsPin frame call.before.cpu call.after.cpu answer
+    × TakesNoLock (put_steps call.before.cpu.number frame answer) call
 
 -- ---- with what lies behind the lock: no lock is taken by value, but in the history the steps are between a Lock and
 -- an Unlock, which the watch takes
 
 -- The command is served under the lock for a CPU with the part `seen`: the steps are Lock, those of the command, and
--- Unlock. The command finds `found` behind the lock, where the watch took the Lock, and leaves `left`.
-pub record IsServedUnderLock (command : Cmd) (seen : KnownCpu) (reply : Reply) (way : Transition LockedState) : Type 0 where
+-- Unlock. Reclaimed units are noted exactly if the command is explained. The command finds `found` behind the lock,
+-- where the watch took the Lock, and leaves `left`.
+pub record IsServedUnderLock (is_explained : Bool) (command : Cmd) (seen : KnownCpu) (reply : Reply)
+    (call : Transition LockedState) : Type 0 where
   pub found : KnownLocked
   pub left : KnownLocked
-  pub lock : OnlyWatched (cpu_makes seen.number step.Lock says.Done ∷ []) way.before.locked found
-  pub served : IsServed way.table command reply (locked_state found seen) (locked_state left way.after.cpu)
-  pub unlock : OnlyWatched (cpu_makes seen.number step.Unlock says.Done ∷ []) left way.after.locked
-  pub steps_are : way.steps ≡ under_lock seen.number served.steps
+  pub lock : OnlyWatched (cpu_makes seen.number step.Lock says.Done ∷ [])
+      (locked_with_telling call.before.locked is_explained) found
+  pub served : IsServed call.table command reply (locked_state found seen) (locked_state left call.after.cpu)
+  pub unlock : OnlyWatched (cpu_makes seen.number step.Unlock says.Done ∷ []) left call.after.locked
+  pub steps_are : call.steps ≡ under_lock seen.number served.steps
 
 -- the command of a CPU was served under the lock with this reply, by some steps
-pub record ServesUnderLock (table : KnownTable) (command : Cmd) (reply : Reply) (before after : LockedState) : Type 0 where
+pub record ServesUnderLock (table : KnownTable) (is_explained : Bool) (command : Cmd) (reply : Reply)
+    (before after : LockedState) : Type 0 where
   pub steps : Run
-  pub served : IsServedUnderLock command before.cpu reply (transition table before steps after)
+  pub served : IsServedUnderLock is_explained command before.cpu reply (transition table before steps after)
 
 -- the command was served under the lock, and its reply is the answer
-abbrev pub RepliesServed : Cmd → Transition LockedState → Answer → Type 0
-RepliesServed command way (answer.Served reply) = IsServedUnderLock command way.before.cpu reply way
-RepliesServed command way other = ⊥
+abbrev pub RepliesServed : (is_explained : Bool) → Cmd → Transition LockedState → Answer → Type 0
+RepliesServed is_explained command call (answer.Served reply) =
+    IsServedUnderLock is_explained command call.before.cpu reply call
+RepliesServed is_explained command call other = ⊥
 
--- the CPU was settled under the lock
+-- the CPU was settled under the lock; there is nothing to explain
 abbrev pub SettlesUnderLock : Transition LockedState → Type 0
-SettlesUnderLock way = IsServedUnderLock cmd.Settle way.before.cpu Done way
+SettlesUnderLock call = IsServedUnderLock false cmd.Settle call.before.cpu Done call
 
 -- Settle: the CPU was settled
 abbrev pub AnswersSettle : Transition LockedState → Answer → Type 0
-AnswersSettle way answer.Settled = SettlesUnderLock way
-AnswersSettle way other = ⊥
+AnswersSettle call answer.Settled = SettlesUnderLock call
+AnswersSettle call other = ⊥
 
 -- ---- Release: if possible, a fresh frame is listed again without the lock; else the command is served under the lock
 
@@ -196,18 +208,20 @@ abbrev pub CanNotList : (frame : ℕ) (before seen : KnownCpu) → Type 0
 CanNotList frame before seen = IsNotFresh frame before seen ⊎ FindsDrained frame before seen
 
 -- the frame couldn't be listed again without the lock, and its Release was served under it
-pub record ReleasesUnderLock (frame : ℕ) (reply : Reply) (way : Transition LockedState) : Type 0 where
+pub record ReleasesUnderLock (is_explained : Bool) (frame : ℕ) (reply : Reply)
+    (call : Transition LockedState) : Type 0 where
   pub seen : KnownCpu
-  pub not_listed : CanNotList frame way.before.cpu seen
-  pub served : IsServedUnderLock (cmd.Release frame) seen reply way
+  pub not_listed : CanNotList frame call.before.cpu seen
+  pub served : IsServedUnderLock is_explained (cmd.Release frame) seen reply call
 
--- the answer of a Release, and whether groups may have been killed for it
-abbrev pub AnswersRelease : (frame : ℕ) → Transition LockedState → Answer → (may_kill : Bool) → Type 0
-AnswersRelease frame way answer.Listed false =
-    ListsAgain frame way.before.cpu way.after.cpu
-    × TakesNoLock (cpu_makes way.before.cpu.number (step.Credit frame) says.Back ∷ []) way
-AnswersRelease frame way (answer.Served reply) true = ReleasesUnderLock frame reply way
-AnswersRelease frame way other may_kill = ⊥
+-- the answer of a Release, and whether there are notes of it
+abbrev pub AnswersRelease : (is_explained : Bool) → (frame : ℕ) → Transition LockedState → Answer → (is_noted : Bool)
+    → Type 0
+AnswersRelease is_explained frame call answer.Listed false =
+    ListsAgain frame call.before.cpu call.after.cpu
+    × TakesNoLock (cpu_makes call.before.cpu.number (step.Credit frame) says.Back ∷ []) call
+AnswersRelease is_explained frame call (answer.Served reply) true = ReleasesUnderLock is_explained frame reply call
+AnswersRelease is_explained frame call other is_noted = ⊥
 
 -- ---- Alloc of a single frame: if possible, a frame of the list is taken without the lock; else the command is served
 -- under the lock
@@ -226,9 +240,9 @@ pub record GetsFast (path : List ℕ) (before : LockedState) (after : KnownCpu) 
   pub got : FastAnswers group (Got frame) before.cpu after
 
 -- a frame was got without the lock: the step is the CPU's own, and what lies behind the lock stays the same
-pub record AllocatesFast (path : List ℕ) (frame : ℕ) (way : Transition LockedState) : Type 0 where
-  pub gets : GetsFast path way.before way.after.cpu frame
-  pub alone : TakesNoLock (fast_steps way.before.cpu.number gets.group (Got frame)) way
+pub record AllocatesFast (path : List ℕ) (frame : ℕ) (call : Transition LockedState) : Type 0 where
+  pub gets : GetsFast path call.before call.after.cpu frame
+  pub alone : TakesNoLock (fast_steps call.before.cpu.number gets.group (Got frame)) call
 
 -- A group has the path, but a call that takes no lock got no frame for it. `seen` is the part that this call left.
 pub record GetsNoneFast (path : List ℕ) (before : LockedState) (seen : KnownCpu) : Type 0 where
@@ -239,57 +253,95 @@ pub record GetsNoneFast (path : List ℕ) (before : LockedState) (seen : KnownCp
   pub none : (frame : ℕ) → fast ≢ Got frame
 
 -- no frame was got without the lock, and the Alloc was served under it
-pub record AllocatesUnderLock (path : Bor (List ℕ)) (reply : Reply) (way : Transition LockedState) : Type 0 where
+pub record AllocatesUnderLock (is_explained : Bool) (path : Bor (List ℕ)) (reply : Reply)
+    (call : Transition LockedState) : Type 0 where
   pub seen : KnownCpu
-  pub none : GetsNoneFast path.now way.before seen
-  pub served : IsServedUnderLock (cmd.Alloc path 0) seen reply way
+  pub none : GetsNoneFast path.now call.before seen
+  pub served : IsServedUnderLock is_explained (cmd.Alloc path 0) seen reply call
 
--- the answer of an Alloc of a single frame, and whether groups may have been killed for it
-abbrev pub AnswersFrame : (path : Bor (List ℕ)) → Transition LockedState → Answer → (may_kill : Bool) → Type 0
-AnswersFrame path way (answer.Fast (Got frame)) false = AllocatesFast path.now frame way
-AnswersFrame path way (answer.Served reply) false =
-    FindsNoGroup path.now way.before way.after reply × (way.steps ≡ [])
-AnswersFrame path way (answer.Served reply) true = AllocatesUnderLock path reply way
-AnswersFrame path way other may_kill = ⊥
+-- the answer of an Alloc of a single frame, and whether there are notes of it
+abbrev pub AnswersFrame : (is_explained : Bool) → (path : Bor (List ℕ)) → Transition LockedState → Answer
+    → (is_noted : Bool) → Type 0
+AnswersFrame is_explained path call (answer.Fast (Got frame)) false = AllocatesFast path.now frame call
+AnswersFrame is_explained path call (answer.Served reply) false =
+    FindsNoGroup path.now call.before call.after reply × (call.steps ≡ [])
+AnswersFrame is_explained path call (answer.Served reply) true = AllocatesUnderLock is_explained path reply call
+AnswersFrame is_explained path call other is_noted = ⊥
 
 -- ---- any command
 
--- The answer of a command, except of those that answer a text of any length, and whether groups may have been killed
--- for it. They may if the command was served under the lock, except for a Settle, which asks for no memory.
-abbrev pub AnswersWork : Work → Transition LockedState → Answer → (may_kill : Bool) → Type 0
-AnswersWork (Visit command) way said true = RepliesServed command way said
-AnswersWork (Frame path) way said may_kill = AnswersFrame path way said may_kill
-AnswersWork (Fast group) way said false = AnswersFast group way said
-AnswersWork (Release frame) way said may_kill = AnswersRelease frame way said may_kill
-AnswersWork (Get frame) way said false = AnswersGet frame way said
-AnswersWork (Put frame) way said false = AnswersPut frame way said
-AnswersWork Settle way said false = AnswersSettle way said
-AnswersWork work way said may_kill = ⊥
+-- The answer of a command, except of those that answer a text of any length, and whether there are notes of it. There
+-- are if the command was served under the lock, except for a Settle, which asks for no memory.
+abbrev pub AnswersWork : (is_explained : Bool) → Work → Transition LockedState → Answer → (is_noted : Bool) → Type 0
+AnswersWork is_explained (Visit command) call said true = RepliesServed is_explained command call said
+AnswersWork is_explained (Frame path) call said is_noted = AnswersFrame is_explained path call said is_noted
+AnswersWork is_explained (Fast group) call said false = AnswersFast group call said
+AnswersWork is_explained (Release frame) call said is_noted = AnswersRelease is_explained frame call said is_noted
+AnswersWork is_explained (Get frame) call said false = AnswersGet frame call said
+AnswersWork is_explained (Put frame) call said false = AnswersPut frame call said
+AnswersWork is_explained Settle call said false = AnswersSettle call said
+AnswersWork is_explained work call said is_noted = ⊥
 
--- if it is asked for, the explanation of the kills of a command that was served under the lock, from the groups and
--- notes that the command left
-abbrev pub kills_text : (is_told : Bool) → KnownMachine → List ℕ
-kills_text true machine = explanation_text machine.ledger.groups machine.notes
-kills_text false machine = []
+-- the path of the group that the command removes, if it is to remove one
+abbrev pub path_removed : Cmd → List ℕ
+path_removed (cmd.Rmdir path) = path.now
+path_removed other = []
 
--- the text of the answer; if groups may have been killed and an explanation is asked for, the text continues with why
--- they were
-pub record WritesAnswer (is_explained : Bool) (work : Work) (way : Transition LockedState) (text : List ℕ) : Type 0 where
+-- the path of the group that a command of a script removes, if it is to remove one
+abbrev pub path_gone : Work → List ℕ
+path_gone (Visit command) = path_removed command
+path_gone work = []
+
+-- if it is asked for, the explanation of a command that was served under the lock: what it drained, reclaimed and
+-- killed, from the groups and notes that the command left
+abbrev pub told_text : (is_told : Bool) → (gone : List ℕ) → KnownMachine → List ℕ
+told_text true gone machine = explanation_text machine.ledger.groups gone machine.notes.list machine.notes.left_out
+told_text false gone machine = []
+
+-- the text of the answer; if there are notes of the command and an explanation is asked for, the text continues with
+-- the explanation
+pub record WritesAnswer (is_explained : Bool) (work : Work) (call : Transition LockedState)
+    (text : List ℕ) : Type 0 where
   pub said : Answer
-  pub may_kill : Bool
-  pub answered : AnswersWork work way said may_kill
-  pub text_is : text ≡ answer_text said ++ kills_text (may_kill && is_explained) way.after.locked.machine
+  pub is_noted : Bool
+  pub answered : AnswersWork is_explained work call said is_noted
+  pub text_is : text
+      ≡ answer_text said ++ told_text (is_noted && is_explained) (path_gone work) call.after.locked.machine
 
 -- the CPU is settled, and the text is that of the machine after that
-pub record WritesMachine (machine_text : KnownMachine → List ℕ) (way : Transition LockedState) (text : List ℕ) : Type 0 where
-  pub settles : SettlesUnderLock way
-  pub text_is : text ≡ machine_text way.after.locked.machine
+pub record WritesMachine (machine_text : KnownMachine → List ℕ) (call : Transition LockedState)
+    (text : List ℕ) : Type 0 where
+  pub settles : SettlesUnderLock call
+  pub text_is : text ≡ machine_text call.after.locked.machine
+
+-- The CPU is settled, and then the zone's seat looks at words. `tells` holds of the settled state and of the machine
+-- that the looks left; nothing else changed.
+pub record WritesAfterLooks (tells : LockedState → KnownMachine → Type 0) (call : Transition LockedState) : Type 0 where
+  pub settled : LockedState
+  pub settles : SettlesUnderLock (transition call.table call.before call.steps settled)
+  pub told : tells settled call.after.locked.machine
+  pub sizes : call.after.locked.sizes ≡ settled.locked.sizes
+  pub cpu : call.after.cpu ≡ settled.cpu
+
+-- Stock: the text is the line about the settled CPU, with its stock as one look found it
+pub record TellsStock (text : List ℕ) (settled : LockedState) (machine : KnownMachine) : Type 0 where
+  pub text_is : text ≡ stock_line_text (visit_state_of settled)
+  pub look : machine ≡ with_look settled.locked.machine
+
+-- Units: the text is that of the kept units of the group of this path, with the pins that one look at each unit's word
+-- found; or no group has the path, and that is refused
+abbrev pub TellsUnitsOf : (path text : List ℕ) (settled : LockedState) (machine : KnownMachine) → Type 0
+TellsUnitsOf path text settled machine =
+    UnitsAt (number_at settled.locked.machine.ledger.groups path)
+    (text ≡ answer_text (answer.Served (Refused NoGroup))) (λ shown. text ≡ shown) settled.locked.machine machine
 
 -- the answer of a command, as text
 abbrev pub WritesWork : (is_explained : Bool) → Work → Transition LockedState → (text : List ℕ) → Type 0
-WritesWork is_explained Blocks way text = WritesMachine (λ machine. blocks_text machine.blocks) way text
-WritesWork is_explained Show way text = WritesMachine show_text way text
-WritesWork is_explained work way text = WritesAnswer is_explained work way text
+WritesWork is_explained Blocks call text = WritesMachine (λ machine. blocks_text machine.blocks) call text
+WritesWork is_explained Show call text = WritesMachine show_text call text
+WritesWork is_explained Stock call text = WritesAfterLooks (TellsStock text) call
+WritesWork is_explained (Units path) call text = WritesAfterLooks (TellsUnitsOf path.now text) call
+WritesWork is_explained work call text = WritesAnswer is_explained work call text
 
 -- the answer of a command, as text, by some steps
 pub record ServesWork (terms : Terms) (work : Work) (before after : LockedState) (text : List ℕ) : Type 0 where

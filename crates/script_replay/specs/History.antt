@@ -2,7 +2,7 @@
 use Rattle.std.specs.Prelude.{◌≡◌, ℕ, ◌-◌, false, List, [], ◌∷◌, ◌++◌, Result, Vec, IfErr, IfOk, OnErr}
 use Rattle.std.specs.Prelude.{get_or, length, ⊤}
 use Rattle.frame_word.specs.Seats.{KnownTable}
-use Rattle.stock_word.specs.Stock.{Words}
+use Rattle.stock_word.specs.Stock.{KnownStockTable}
 use Rattle.group_charge.specs.Charges.{AreCharges}
 use Rattle.step_rules.specs.After.{Run, IsLegalRun}
 use Rattle.step_rules.specs.Promise.{Promise}
@@ -45,8 +45,8 @@ pub record HoldsPromise (table : KnownTable) (earlier : Run) (before : SystemSta
   pub tells : TellsRun table earlier before.locked.machine.ledger → TellsRun table run now.locked.machine.ledger
 
 -- The first line is served by these steps, which the watch took. If the run so far with these steps is legal, the
--- promise holds after it, and the ledger keeps the peaks and event counts of the run. The other lines have their history
--- from there on.
+-- promise holds after it, and the ledger keeps the peaks and event counts of the run. The other lines have their
+-- history from there on.
 pub record TellsFirstAndRest (terms : Terms) (line : Line) (past : Past) (text : List ℕ)
     (tells_rest : Past → List ℕ → Type 0) : Type 0 where
   pub first : List ℕ
@@ -93,8 +93,8 @@ KeepsHistory terms [] past last text = (text ≡ []) × (last ≡ past)
 KeepsHistory terms (line ∷ lines) past last text =
     KeepsFirstAndRest terms line past text (λ later rest. KeepsHistory terms lines later last rest)
 
--- The watch saw all steps of the lines: they are one legal run, which the watch counted, and after each line the promise
--- holds.
+-- The watch saw all steps of the lines: they are one legal run, which the watch counted, and after each line the
+-- promise holds.
 pub record TellsLegalHistory (terms : Terms) (lines : List Line) (before after : SystemState) (text : List ℕ)
     : Type 0 where
   pub run : Run
@@ -117,7 +117,8 @@ pub record ReplaysOrStops {Z E : Type 0} (terms : Terms) (lines : List Line) (be
 
 -- the lines are served one after the other; they have a legal history from a boot whose watch is new, and whose ledger
 -- has the peaks and event counts of no step
-pub record ReplaysLegally (terms : Terms) (lines : List Line) (before after : SystemState) (text : List ℕ) : Type 0 where
+pub record ReplaysLegally (terms : Terms) (lines : List Line) (before after : SystemState)
+    (text : List ℕ) : Type 0 where
   pub served : ServesAll terms lines before after text
   pub history : ShowsAll terms.frames [] before.locked.machine before.cpus
       → AreTied terms.frames terms.stocks before.cpus → TellsRun terms.frames [] before.locked.machine.ledger
@@ -145,13 +146,14 @@ pub record ReplaysCheckedOrStops {Z : Type 0} (terms : Terms) (lines : List Line
 
 -- ---- what else is known of a line
 -- what always holds behind the lock: no visit is open, the machine is consistent, and the groups make up a tree
-pub record HoldsInvariants (table : KnownTable) (stock_table : Words) (locked : KnownLocked) : Type 0 where
+pub record HoldsInvariants (table : KnownTable) (stock_table : KnownStockTable) (locked : KnownLocked) : Type 0 where
   pub quiet : IsQuiet table stock_table locked
   pub consistent : IsConsistent table stock_table locked.machine
   pub charges : AreCharges locked.machine.ledger
 
 -- the invariants hold behind the lock; if each CPU's part before agreed with its seats, so does each part after
-pub record KeepsInvariants (table : KnownTable) (stock_table : Words) (before after : SystemState) : Type 0 where
+pub record KeepsInvariants (table : KnownTable) (stock_table : KnownStockTable)
+    (before after : SystemState) : Type 0 where
   pub holds : HoldsInvariants table stock_table after.locked
   pub tied : AreTied table stock_table before.cpus → AreTied table stock_table after.cpus
 

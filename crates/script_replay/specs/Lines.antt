@@ -20,39 +20,39 @@ pub record SystemState : Type 0 where
 -- the number of the line among all lines of its script; `go` has none here, and counts as 0
 abbrev pub number_in_script : Line → ℕ
 number_in_script Go = 0
-number_in_script (At number processor command) = number
+number_in_script (At number cpu command) = number
 
 -- the state with this behind the lock and these parts
 abbrev pub system_state : KnownLocked → List KnownCpu → SystemState
 system_state locked cpus = record { locked = locked; cpus = cpus }
 
 -- `is_done` leads from this CPU's part to a new one, and the other parts stay the same
-pub record AtPart (processor : ℕ) (is_done : (before after : KnownCpu) → Type 0) (before after : List KnownCpu)
+pub record AtPart (cpu : ℕ) (is_done : (before after : KnownCpu) → Type 0) (before after : List KnownCpu)
     : Type 0 where
   pub part : KnownCpu
   pub left : KnownCpu
-  pub is_part : slice_get before (processor - 1) ≡ Some part
+  pub is_part : slice_get before (cpu - 1) ≡ Some part
   pub done : is_done part left
-  pub cpus : after ≡ slice_set before (processor - 1) left
+  pub cpus : after ≡ slice_set before (cpu - 1) left
 
 -- there is no answer, and nothing is done
-pub record WritesNothing (way : Transition SystemState) (text : List ℕ) : Type 0 where
+pub record WritesNothing (call : Transition SystemState) (text : List ℕ) : Type 0 where
   pub text_is : text ≡ []
-  pub stays : way.after ≡ way.before
-  pub steps_are : way.steps ≡ []
+  pub stays : call.after ≡ call.before
+  pub steps_are : call.steps ≡ []
 
 -- the answer of a line, as text, on this transition; `go` has no answer and does nothing
 abbrev pub WritesLine : (is_explained : Bool) → Line → Transition SystemState → (text : List ℕ) → Type 0
-WritesLine is_explained Go way text = WritesNothing way text
-WritesLine is_explained (At number processor command) way text =
-    AtPart processor (λ part left. WritesWork is_explained (work_of command)
-    (transition way.table (locked_state way.before.locked part) way.steps (locked_state way.after.locked left)) text)
-    way.before.cpus way.after.cpus
+WritesLine is_explained Go call text = WritesNothing call text
+WritesLine is_explained (At number cpu command) call text =
+    AtPart cpu (λ part left. WritesWork is_explained (work_of command)
+    (transition call.table (locked_state call.before.locked part) call.steps (locked_state call.after.locked left))
+    text) call.before.cpus call.after.cpus
 
 -- the answer of a line on these terms, as text, on this transition
 abbrev pub TellsLine : Terms → Line → Transition SystemState → (text : List ℕ) → Type 0
-TellsLine terms line way text =
-    SaysNumbered terms.is_numbered (number_in_script line) (WritesLine terms.is_explained line way) text
+TellsLine terms line call text =
+    SaysNumbered terms.is_numbered (number_in_script line) (WritesLine terms.is_explained line call) text
 
 -- the answer of a line, as text, by some steps
 pub record ServesLine (terms : Terms) (line : Line) (before after : SystemState) (text : List ℕ) : Type 0 where

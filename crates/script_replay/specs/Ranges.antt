@@ -25,12 +25,12 @@ NamesInRange frames (Alloc path order) = Unit {0}
 NamesInRange frames command = WorkInRange frames (work_of command)
 
 -- a line's CPU is one of this many, and all that its command names is in range
-pub record IsThere (frames cpus processor : ℕ) (command : Command) : Type 0 where
-  pub low : 1 ≤ processor
-  pub high : processor ≤ cpus
+pub record IsThere (frames cpus cpu : ℕ) (command : Command) : Type 0 where
+  pub low : 1 ≤ cpu
+  pub high : cpu ≤ cpus
   pub names : NamesInRange frames command
 
 -- all that a line names exists; `go` names nothing
 abbrev pub LineIsThere : ℕ → ℕ → Line → Type 0
 LineIsThere frames cpus Go = Unit {0}
-LineIsThere frames cpus (At number processor command) = IsThere frames cpus processor command
+LineIsThere frames cpus (At number cpu command) = IsThere frames cpus cpu command

@@ -1,43 +1,43 @@
 -- The terms of a replay.
 use Rattle.std.specs.Prelude.{Bool, false}
 use Rattle.frame_word.specs.Seats.{KnownTable}
-use Rattle.stock_word.specs.Stock.{Words}
+use Rattle.stock_word.specs.Stock.{KnownStockTable}
 use Rattle.script_replay.specs.declared.form.Form.{Form}
 
 -- the tables of a boot: those of the frames' words and of the stocks' words
 pub record BootTables : Type 0 where
   pub frames : KnownTable
-  pub stocks : Words
+  pub stocks : KnownStockTable
 
 -- the boot tables with these two tables
-abbrev pub boot_tables : KnownTable → Words → BootTables
-boot_tables frames stocks = record { frames = frames; stocks = stocks }
+abbrev pub boot_tables : KnownTable → KnownStockTable → BootTables
+boot_tables frames stock_table = record { frames = frames; stocks = stock_table }
 
--- the terms of a replay: the tables of its boot, whether kills are explained behind the answers, and whether each line
--- of an answer begins with the number of its script line
+-- the terms of a replay: the tables of its boot, whether answers are explained, and whether each line of an answer
+-- begins with the number of its script line
 pub record Terms : Type 0 where
   pub frames : KnownTable
-  pub stocks : Words
+  pub stocks : KnownStockTable
   pub is_explained : Bool
   pub is_numbered : Bool
 
 -- the terms with these tables and these choices
-abbrev pub numbered_terms : KnownTable → Words → (is_explained is_numbered : Bool) → Terms
-numbered_terms frames stocks is_explained is_numbered = record {
+abbrev pub numbered_terms : KnownTable → KnownStockTable → (is_explained is_numbered : Bool) → Terms
+numbered_terms frames stock_table is_explained is_numbered = record {
   frames = frames;
-  stocks = stocks;
+  stocks = stock_table;
   is_explained = is_explained;
   is_numbered = is_numbered;
 }
 
 -- the terms without numbers
-abbrev pub terms : KnownTable → Words → (is_explained : Bool) → Terms
-terms frames stocks is_explained = numbered_terms frames stocks is_explained false
+abbrev pub terms : KnownTable → KnownStockTable → (is_explained : Bool) → Terms
+terms frames stock_table is_explained = numbered_terms frames stock_table is_explained false
 
 -- the form with these choices
 abbrev pub form_of : (is_explained is_numbered : Bool) → Form
 form_of is_explained is_numbered = record { is_explained = is_explained; is_numbered = is_numbered }
 
 -- the terms of this form of answers
-abbrev pub form_terms : KnownTable → Words → Form → Terms
-form_terms frames stocks form = numbered_terms frames stocks form.is_explained form.is_numbered
+abbrev pub form_terms : KnownTable → KnownStockTable → Form → Terms
+form_terms frames stock_table form = numbered_terms frames stock_table form.is_explained form.is_numbered

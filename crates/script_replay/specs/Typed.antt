@@ -1,8 +1,7 @@
 -- What a command of a CPU does whose answer is a value, and not a text.
-use Rattle.std.specs.Prelude.{◌≡◌, ℕ, Bool, false, [], ◌∷◌}
+use Rattle.std.specs.Prelude.{ℕ, Bool, false, [], ◌∷◌}
 use Rattle.frame_word.specs.Seats.{KnownTable}
 use Rattle.group_charge.specs.Charges.{Ledger}
-use Rattle.cpu_part.specs.Cpus.{KnownCpu}
 use Rattle.step_rules.specs.After.{Run}
 use Rattle.mem_system.specs.Outcomes.{HasItsGroups, reply_of}
 use Rattle.mem_system.specs.Visits.{LockedState, locked_state, transition}
@@ -10,7 +9,6 @@ use Rattle.reply_texts.specs.Answer.{Answer}
 use Rattle.reply_texts.specs.Answer as answer
 use Rattle.reply_texts.specs.Answers.{answer_text}
 use Rattle.script_lines.specs.declared.line.Command.{Command}
-use Rattle.script_lines.specs.declared.line.Command.TheVariants.{Blocks, Show}
 use Rattle.script_lines.specs.declared.line.Line.TheVariants.{At}
 use Rattle.script_replay.specs.declared.said.Said.{Said}
 use Rattle.script_replay.specs.declared.said.Said.TheVariants as said
@@ -40,19 +38,21 @@ SaysItsGroups ledger other = Unit {0}
 abbrev pub IsShort : Work → Type 0
 IsShort work.Blocks = ⊥
 IsShort work.Show = ⊥
+IsShort work.Stock = ⊥
+IsShort (work.Units path) = ⊥
 IsShort other = Unit {0}
 
 -- the command was served by some steps, and this is its answer
 pub record SaysWork (table : KnownTable) (work : Work) (before after : LockedState) (said : Answer) : Type 0 where
   pub steps : Run
-  pub may_kill : Bool
-  pub answered : AnswersWork work (transition table before steps after) said may_kill
+  pub is_noted : Bool
+  pub answered : AnswersWork false work (transition table before steps after) said is_noted
 
 -- The command of the CPU of this number was served with this answer. A script of the command alone, whatever the number
 -- of its line, is replayed from the state before to the state after, and its answer is the text of this one.
-pub record SaysCommand (tables : BootTables) (processor : ℕ) (command : Command) (before after : SystemState)
+pub record SaysCommand (tables : BootTables) (cpu : ℕ) (command : Command) (before after : SystemState)
     (said : Answer) : Type 0 where
-  pub says : AtPart processor (λ part left. SaysWork tables.frames (work_of command)
+  pub says : AtPart cpu (λ part left. SaysWork tables.frames (work_of command)
       (locked_state before.locked part) (locked_state after.locked left) said) before.cpus after.cpus
-  pub replays : (number : ℕ) → Replays (terms tables.frames tables.stocks false) (At number processor command ∷ [])
+  pub replays : (number : ℕ) → Replays (terms tables.frames tables.stocks false) (At number cpu command ∷ [])
       before after (answer_text said)

@@ -14,7 +14,7 @@ use Rattle.mem_system.specs.declared.command.Reply.{Reply}
 use Rattle.mem_system.specs.declared.command.Reply.TheVariants.{Done}
 use Rattle.mem_system.specs.Locked.{BehindLock}
 use Rattle.mem_system.specs.Visits.{locked_state, IsServed, IsVisited}
-use Rattle.mem_system.specs.Shown.{TellsOf}
+use Rattle.mem_system.specs.Shown.{TellsAfterSettling, TellsOf}
 use Rattle.reply_texts.specs.Answer.{Answer}
 use Rattle.reply_texts.specs.Answer as answer
 use Rattle.script_lines.specs.declared.line.Command.{Command}
@@ -22,9 +22,9 @@ use Rattle.script_lines.specs.declared.line.Line.{Line}
 use Rattle.script_lines.specs.declared.line.Line.TheVariants.{Go, At}
 use Rattle.script_replay.specs.declared.work.Work.{Work}
 use Rattle.script_replay.specs.declared.work.Work.TheVariants.{Visit, Frame, Fast, Release, Get, Put, Settle}
-use Rattle.script_replay.specs.declared.work.Work.TheVariants.{Blocks, Show}
+use Rattle.script_replay.specs.declared.work.Work.TheVariants.{Blocks, Show, Stock, Units}
 use Rattle.script_replay.specs.Answers.{CanNotList, FindsNoGroup, GetsFast, GetsNoneFast, GetsPin, IsTextOf, ListsAgain}
-use Rattle.script_replay.specs.Answers.{PutsPin}
+use Rattle.script_replay.specs.Answers.{PutsPin, TellsStock, TellsUnitsOf}
 use Rattle.script_replay.specs.Lines.{AtPart, InOrder}
 use Rattle.script_replay.specs.Terms.{BootTables}
 use Rattle.script_replay.specs.Works.{work_of}
@@ -90,13 +90,20 @@ AnswersWorkByVisit tables (Put frame) before after said = PutsPin frame before a
 AnswersWorkByVisit tables Settle before after said = AnswersSettleByVisit tables before after said
 AnswersWorkByVisit tables Blocks before after said = ⊥
 AnswersWorkByVisit tables Show before after said = ⊥
+AnswersWorkByVisit tables Stock before after said = ⊥
+AnswersWorkByVisit tables (Units path) before after said = ⊥
 
--- the answer of a command, as text; `blocks` and `show` settle the CPU, and write the machine as it is after that
+-- The answer of a command, as text. `blocks` and `show` settle the CPU, and write the machine as it is after that.
+-- `stock` and `units` also look at words, in the same visit.
 abbrev pub VisitsWork : BootTables → Work → (before after : KnownCpu) (text : List ℕ) → Type 0
 VisitsWork tables Blocks before after text =
     TellsOf tables.frames tables.stocks (λ machine. text ≡ blocks_text machine.blocks) before after
 VisitsWork tables Show before after text =
     TellsOf tables.frames tables.stocks (λ machine. text ≡ show_text machine) before after
+VisitsWork tables Stock before after text = TellsAfterSettling tables.frames tables.stocks (TellsStock text) before
+    after
+VisitsWork tables (Units path) before after text =
+    TellsAfterSettling tables.frames tables.stocks (TellsUnitsOf path.now text) before after
 VisitsWork tables work before after text =
     IsTextOf (λ said. AnswersWorkByVisit tables work before after said) text
 
@@ -107,8 +114,8 @@ VisitsCommand tables command before after text = VisitsWork tables (work_of comm
 -- the answer of a line, as text; `go` has no answer and does nothing
 abbrev pub VisitsLine : BootTables → Line → (before after : List KnownCpu) (text : List ℕ) → Type 0
 VisitsLine tables Go before after text = (text ≡ []) × (after ≡ before)
-VisitsLine tables (At number processor command) before after text =
-    AtPart processor (λ part left. VisitsCommand tables command part left text) before after
+VisitsLine tables (At number cpu command) before after text =
+    AtPart cpu (λ part left. VisitsCommand tables command part left text) before after
 
 -- the answers of lines, served by visits one after the other
 abbrev pub VisitsAll : BootTables → List Line → (before after : List KnownCpu) (text : List ℕ) → Type 0

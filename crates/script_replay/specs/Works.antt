@@ -4,7 +4,7 @@ use Rattle.mem_system.specs.declared.command.Cmd.TheVariants as cmd
 use Rattle.script_lines.specs.declared.line.Command.{Command}
 use Rattle.script_lines.specs.declared.line.Command.TheVariants.{Mkdir, Rmdir, Write, Read, Alloc, Fast, Release}
 use Rattle.script_lines.specs.declared.line.Command.TheVariants.{Get, Put, Settle, Touch, Dirty, Clean}
-use Rattle.script_lines.specs.declared.line.Command.TheVariants.{Owner, Blocks, Show}
+use Rattle.script_lines.specs.declared.line.Command.TheVariants.{Owner, Blocks, Show, Stock, Units}
 use Rattle.script_replay.specs.declared.work.Work.{Work}
 use Rattle.script_replay.specs.declared.work.Work.TheVariants as work
 
@@ -27,3 +27,5 @@ work_of (Clean frame) = work.Visit (cmd.Clean frame)
 work_of (Owner frame) = work.Visit (cmd.Owner frame)
 work_of Blocks = work.Blocks
 work_of Show = work.Show
+work_of Stock = work.Stock
+work_of (Units path) = work.Units path

@@ -7,9 +7,10 @@ ghost use Rattle.mem_system.specs.declared.command.Cmd.TheVariants.{Alloc};
 ghost use Rattle.std.specs.String.{string_bytes};
 ghost use Rattle.mem_system.specs.Visits.{locked_state};
 ghost use Rattle.mem_system.specs.Commands.{IsOfZone};
-ghost use Rattle.script_replay.specs.declared.work.Work.TheVariants.{Blocks, Frame, Release, Settle, Show, Visit};
+ghost use Rattle.script_replay.specs.declared.work.Work.TheVariants.{Blocks, Frame, Release, Settle, Show, Stock};
+ghost use Rattle.script_replay.specs.declared.work.Work.TheVariants.{Units, Visit};
 ghost use Rattle.script_replay.specs.declared.work.Work.TheVariants as asked;
-ghost use Rattle.script_replay.specs.Answers.{AddsText, ServesCommand, ServesWork, kills_text};
+ghost use Rattle.script_replay.specs.Answers.{AddsText, ServesCommand, ServesWork, path_removed, told_text};
 ghost use Rattle.script_replay.specs.Ranges.{NamesInRange, WorkInRange};
 ghost use Rattle.script_replay.specs.Terms.{terms};
 
@@ -22,13 +23,13 @@ use group_tree::fault::Fault;
 use group_tree::group::GroupId;
 use kill_texts::write_explanation;
 use machine_texts::{write_blocks, write_show};
-use mem_system::{Cmd, Locked};
+use mem_system::{Cmd, Locked, write_own_stock, write_units_at};
 use reply_texts::{write_fast, write_listed, write_outcome, write_refusal, write_settled};
 use script_lines::line::Command;
 use std::alloc::AllocError;
 
-// Serves a command of the script and adds its answer. If `is_explained` is true, why groups were killed for it follows
-// the answer. If memory runs out, the command was served all the same.
+// Serves a command of the script and adds its answer. If `is_explained` is true, what was drained, reclaimed and killed
+// for it follows the answer. If memory runs out, the command was served all the same.
 #[tactic(auto, using(crate::proofs::InRange::work_in_range))]
 pub(crate) fn answer_text<N: BootName>(
     locked: &mut Locked<N>,
@@ -63,20 +64,22 @@ fn answer_work<N: BootName>(
         (locked_state locked.old cpu.old) (locked_state locked.new cpu.new)) }
 {
     match *work {
-        Work::Visit(cmd) => serve_command(locked, tables, cpu, &cmd, is_explained, text),
+        Work::Visit(cmd) => answer_command(locked, tables, cpu, &cmd, is_explained, text),
         Work::Frame { path } => answer_frame(locked, tables, cpu, path, is_explained, text),
-        Work::Fast { group } => serve_fast(locked, tables, cpu, group, text),
+        Work::Fast { group } => answer_fast(locked, tables, cpu, group, text),
         Work::Release { frame } => answer_release(locked, tables, cpu, frame, is_explained, text),
-        Work::Get { frame } => serve_get(locked, tables, cpu, frame, text),
-        Work::Put { frame } => serve_put(locked, tables, cpu, frame, text),
+        Work::Get { frame } => answer_get(locked, tables, cpu, frame, text),
+        Work::Put { frame } => answer_put(locked, tables, cpu, frame, text),
         Work::Settle => answer_settle(locked, tables, cpu, text),
         Work::Blocks => answer_blocks(locked, tables, cpu, text),
         Work::Show => answer_show(locked, tables, cpu, text),
+        Work::Stock => answer_stock(locked, tables, cpu, text),
+        Work::Units { path } => answer_units(locked, tables, cpu, path, text),
     }
 }
 
 // Takes a frame of the list without the lock, and adds the answer.
-fn serve_fast<N: BootName>(
+fn answer_fast<N: BootName>(
     locked: &mut Locked<N>,
     tables: &Tables<N>,
     cpu: &mut Cpu<N>,
@@ -88,52 +91,52 @@ fn serve_fast<N: BootName>(
         (ServesWork (terms N.frames N.stocks is_explained) (asked.Fast group)
         (locked_state locked.old cpu.old) (locked_state locked.new cpu.new)) }
 {
-    let number = cpu.number();
+    let cpu_number = cpu.number();
     let fast = cpu.alloc_fast(tables, group);
-    watch_fast(locked, number, group, &fast);
+    watch_fast(locked, cpu_number, group, &fast);
     write_fast(&fast, text)
 }
 
 // Pins the frame without the lock, and adds the answer.
-fn serve_get<N: BootName>(
+fn answer_get<N: BootName>(
     locked: &mut Locked<N>,
     tables: &Tables<N>,
     cpu: &mut Cpu<N>,
-    number: u32,
+    frame: u32,
     text: &mut String,
 ) -> Result<(), AllocError>
-    requires in_zone { number < N.frames.frames }
+    requires in_zone { frame < N.frames.frames }
     ensures answered { (is_explained : Bool) → AddsText result text.old text.new
-        (ServesWork (terms N.frames N.stocks is_explained) (asked.Get number)
+        (ServesWork (terms N.frames N.stocks is_explained) (asked.Get frame)
         (locked_state locked.old cpu.old) (locked_state locked.new cpu.new)) }
 {
-    let processor = cpu.number();
-    let got = pin(tables, cpu, number);
-    watch_get(locked, processor, number, &got);
+    let cpu_number = cpu.number();
+    let got = pin(tables, cpu, frame);
+    watch_get(locked, cpu_number, frame, &got);
     write_pin(&got, text)
 }
 
 // Puts a pin of the frame without the lock, and adds the answer.
-fn serve_put<N: BootName>(
+fn answer_put<N: BootName>(
     locked: &mut Locked<N>,
     tables: &Tables<N>,
     cpu: &mut Cpu<N>,
-    number: u32,
+    frame: u32,
     text: &mut String,
 ) -> Result<(), AllocError>
-    requires in_zone { number < N.frames.frames }
+    requires in_zone { frame < N.frames.frames }
     ensures answered { (is_explained : Bool) → AddsText result text.old text.new
-        (ServesWork (terms N.frames N.stocks is_explained) (asked.Put number)
+        (ServesWork (terms N.frames N.stocks is_explained) (asked.Put frame)
         (locked_state locked.old cpu.old) (locked_state locked.new cpu.new)) }
 {
-    let processor = cpu.number();
-    let put = unpin(tables, cpu, number);
-    watch_put(locked, processor, number, &put);
+    let cpu_number = cpu.number();
+    let put = unpin(tables, cpu, frame);
+    watch_put(locked, cpu_number, frame, &put);
     write_unpin(&put, text)
 }
 
-// Serves the command under the lock, and adds its reply and the explanation of its kills.
-fn serve_command<N: BootName>(
+// Serves the command under the lock, and adds its reply and its explanation.
+fn answer_command<N: BootName>(
     locked: &mut Locked<N>,
     tables: &Tables<N>,
     cpu: &mut Cpu<N>,
@@ -146,14 +149,14 @@ fn serve_command<N: BootName>(
         (ServesWork (terms N.frames N.stocks is_explained) (Visit cmd.now)
         (locked_state locked.old cpu.old) (locked_state locked.new cpu.new)) }
 {
-    let outcome = serve_under_lock(locked, tables, cpu, cmd);
+    let outcome = serve_under_lock(locked, tables, cpu, cmd, is_explained);
     write_outcome(locked.charges(), &outcome, text)?;
-    explain(locked, is_explained, text)
+    explain(locked, is_explained, path_removed(cmd), text)
 }
 
-// Serves an Alloc of a single frame for this group under the lock, and adds its reply and the explanation of its kills.
+// Serves an Alloc of a single frame for this group under the lock, and adds its reply and its explanation.
 // It doesn't look the group's path up again.
-fn serve_frame<N: BootName>(
+fn answer_frame_under_lock<N: BootName>(
     locked: &mut Locked<N>,
     tables: &Tables<N>,
     cpu: &mut Cpu<N>,
@@ -167,25 +170,38 @@ fn serve_frame<N: BootName>(
         (ServesWork (terms N.frames N.stocks is_explained) (Visit (Alloc path 0))
         (locked_state locked.old cpu.old) (locked_state locked.new cpu.new)) }
 {
-    let outcome = serve_frame_under_lock(locked, tables, cpu, group);
+    let outcome = serve_frame_under_lock(locked, tables, cpu, group, is_explained);
     write_outcome(locked.charges(), &outcome, text)?;
-    explain(locked, is_explained, text)
+    explain(locked, is_explained, &[], text)
 }
 
-// Adds why groups were killed for the last command, if that is asked for.
+// The path of the group that the command removes, if it is to remove one.
+fn path_removed<'a>(cmd: &Cmd<'a>) -> &'a [u8]
+    ensures { result.now ≡ path_removed cmd.now }
+{
+    match *cmd {
+        Cmd::Rmdir { path } => path,
+        _ => &[],
+    }
+}
+
+// Adds what the last command drained, reclaimed and killed, if that is asked for. The group that it removed, if it
+// removed one, had the path `gone`.
 fn explain<N: BootName>(
     locked: &Locked<N>,
     is_explained: bool,
+    gone: &[u8],
     text: &mut String,
 ) -> Result<(), AllocError>
     ensures { OnOk result
-        (string_bytes text.new ≡ string_bytes text.old ++ kills_text is_explained locked.now.machine) }
+        (string_bytes text.new ≡ string_bytes text.old ++ told_text is_explained gone.now locked.now.machine) }
 {
     if !is_explained {
         return Ok(());
     }
     let machine = locked.machine();
-    write_explanation(machine.charges().tree(), machine.notes(), text)
+    let (notes, left_out) = (machine.notes(), machine.notes_left_out());
+    write_explanation(machine.charges().tree(), gone, notes, left_out, text)
 }
 
 // Takes a frame, if possible without the lock.
@@ -204,14 +220,14 @@ fn answer_frame<N: BootName>(
     let Some(group) = locked.find(path) else {
         return write_refusal(&Fault::NoGroup, text);
     };
-    let processor = cpu.number();
-    let number = group.number();
-    match cpu.alloc_fast(tables, number) {
+    let cpu_number = cpu.number();
+    let group_number = group.number();
+    match cpu.alloc_fast(tables, group_number) {
         Fast::Got(frame) => {
-            watch_fast(locked, processor, number, &Fast::Got(frame));
+            watch_fast(locked, cpu_number, group_number, &Fast::Got(frame));
             write_fast(&Fast::Got(frame), text)
         }
-        _ => serve_frame(locked, tables, cpu, group, is_explained, text),
+        _ => answer_frame_under_lock(locked, tables, cpu, group, is_explained, text),
     }
 }
 
@@ -220,31 +236,31 @@ fn answer_release<N: BootName>(
     locked: &mut Locked<N>,
     tables: &Tables<N>,
     cpu: &mut Cpu<N>,
-    number: u32,
+    frame: u32,
     is_explained: bool,
     text: &mut String,
 ) -> Result<(), AllocError>
-    requires in_zone { number < N.frames.frames }
+    requires in_zone { frame < N.frames.frames }
     ensures answered { AddsText result text.old text.new
-        (ServesWork (terms N.frames N.stocks is_explained) (Release number)
+        (ServesWork (terms N.frames N.stocks is_explained) (Release frame)
         (locked_state locked.old cpu.old) (locked_state locked.new cpu.new)) }
 {
-    let processor = cpu.number();
-    if try_list(tables, cpu, number) {
-        watch_credit(locked, processor, number);
+    let cpu_number = cpu.number();
+    if try_list(tables, cpu, frame) {
+        watch_credit(locked, cpu_number, frame);
         return write_listed(text);
     }
-    serve_command(
+    answer_command(
         locked,
         tables,
         cpu,
-        &Cmd::Release { frame: number },
+        &Cmd::Release { frame },
         is_explained,
         text,
     )
 }
 
-// Settles the CPU, and adds the answer. A Settle kills nobody, so there is nothing to explain.
+// Settles the CPU, and adds the answer. A Settle asks for no memory, so there is nothing to explain.
 fn answer_settle<N: BootName>(
     locked: &mut Locked<N>,
     tables: &Tables<N>,
@@ -284,4 +300,37 @@ fn answer_show<N: BootName>(
 {
     settle_under_lock(locked, tables, cpu);
     write_show(locked.machine(), text)
+}
+
+// Settles the CPU, and adds the line about its stock, and how many frames and pins it has.
+fn answer_stock<N: BootName>(
+    locked: &mut Locked<N>,
+    tables: &Tables<N>,
+    cpu: &mut Cpu<N>,
+    text: &mut String,
+) -> Result<(), AllocError>
+    ensures answered { AddsText result text.old text.new (ServesWork (terms N.frames N.stocks false) Stock
+        (locked_state locked.old cpu.old) (locked_state locked.new cpu.new)) }
+{
+    settle_under_lock(locked, tables, cpu);
+    write_own_stock(locked, tables, cpu, text)
+}
+
+// Settles the CPU, and adds the kept units of the group of this path.
+fn answer_units<N: BootName>(
+    locked: &mut Locked<N>,
+    tables: &Tables<N>,
+    cpu: &mut Cpu<N>,
+    path: &[u8],
+    text: &mut String,
+) -> Result<(), AllocError>
+    ensures answered { AddsText result text.old text.new (ServesWork (terms N.frames N.stocks false) (Units path.entry)
+        (locked_state locked.old cpu.old) (locked_state locked.new cpu.new)) }
+{
+    settle_under_lock(locked, tables, cpu);
+    let is_there = write_units_at(locked, tables, path, text)?;
+    if is_there {
+        return Ok(());
+    }
+    write_refusal(&Fault::NoGroup, text)
 }

@@ -10,7 +10,7 @@ use std::alloc::{AllocError, Global};
 /// How the answers to lines are written.
 #[derive(Clone, Copy, Debug, PartialEq, Eq)]
 pub struct Form {
-    /// Whether an answer for which groups were killed is followed by the explanation.
+    /// Whether the answer of a command that drained, reclaimed or killed is followed by the explanation.
     pub is_explained: bool,
     /// Whether each line of an answer begins with the number of its script line.
     pub is_numbered: bool,

@@ -1,6 +1,6 @@
 //! The commands under the lock, by value: the machine's watch takes the Lock before a command and the Unlock after it.
 
-ghost use Rattle.std.specs.Prelude.{◌≡◌, ◌∷◌, [], IsTrue, List, Some, ℕ};
+ghost use Rattle.std.specs.Prelude.{◌≡◌, ◌∷◌, [], IsTrue, List, Some, false, ℕ};
 ghost use Rattle.std.specs.Borrow.{Bor};
 ghost use Rattle.group_tree.specs.Groups.{has_group, number_at};
 ghost use Rattle.step_rules.specs.declared.step.Action.TheVariants.{Lock, Unlock};
@@ -11,55 +11,65 @@ ghost use Rattle.mem_system.specs.declared.command.Reply.TheVariants as reply;
 ghost use Rattle.mem_system.specs.Commands.{IsOfZone};
 ghost use Rattle.mem_system.specs.Outcomes.{HasItsGroups, reply_of};
 ghost use Rattle.mem_system.specs.Visits.{locked_state};
-ghost use Rattle.script_replay.specs.Answers.{OnlyWatched, ServesUnderLock};
+ghost use Rattle.script_replay.specs.Answers.{OnlyWatched, ServesUnderLock, locked_with_telling};
 
 use cpu_part::{BootName, Cpu, Tables};
 use group_tree::group::GroupId;
 use mem_system::{Cmd, Locked, Outcome, serve_frame_outcome, serve_outcome};
 use step_rules::step::{Action, Answer};
 
-// The CPU of this number takes the lock. The watch is asked first whether it is on, because an action has room for a
-// path, and building one for each line costs.
+// The watch takes the Lock of this CPU. It is asked first whether it is on, because an action has room for a path, and
+// building one for each line costs.
 #[inline(always)]
 #[tactic(auto, using(crate::proofs::Taking::unwatched))]
-fn lock<N: BootName>(locked: &mut Locked<N>, number: u32)
-    ensures { OnlyWatched (cpu_makes number Lock Done ∷ []) locked.old locked.new }
+fn watch_lock<N: BootName>(locked: &mut Locked<N>, cpu: u32)
+    ensures { OnlyWatched (cpu_makes cpu Lock Done ∷ []) locked.old locked.new }
 {
     if !locked.watch().is_on() {
         return;
     }
-    locked.take_step(number, Action::Lock, Answer::Done);
+    locked.take_step(cpu, Action::Lock, Answer::Done);
+}
+
+// This CPU takes the lock for a command. Reclaimed units are noted from now on exactly if the command is explained.
+#[inline(always)]
+fn lock<N: BootName>(locked: &mut Locked<N>, cpu: u32, is_explained: bool)
+    ensures { OnlyWatched (cpu_makes cpu Lock Done ∷ []) (locked_with_telling locked.old is_explained) locked.new }
+{
+    locked.tell_units(is_explained);
+    watch_lock(locked, cpu);
 }
 
 // The CPU of this number releases the lock.
 #[inline(always)]
 #[tactic(auto, using(crate::proofs::Taking::unwatched))]
-fn unlock<N: BootName>(locked: &mut Locked<N>, number: u32)
-    ensures { OnlyWatched (cpu_makes number Unlock Done ∷ []) locked.old locked.new }
+fn unlock<N: BootName>(locked: &mut Locked<N>, cpu: u32)
+    ensures { OnlyWatched (cpu_makes cpu Unlock Done ∷ []) locked.old locked.new }
 {
     if !locked.watch().is_on() {
         return;
     }
-    locked.take_step(number, Action::Unlock, Answer::Done);
+    locked.take_step(cpu, Action::Unlock, Answer::Done);
 }
 
-// Serves the command under the lock.
+// Serves the command under the lock. Reclaimed units are noted exactly if the command is explained.
 #[inline(always)]
 pub(crate) fn serve_under_lock<N: BootName>(
     locked: &mut Locked<N>,
     tables: &Tables<N>,
     cpu: &mut Cpu<N>,
     cmd: &Cmd<'_>,
+    is_explained: bool,
 ) -> Outcome
     requires of_zone { IsOfZone N.frames cmd.now }
-    ensures served { ServesUnderLock N.frames cmd.now (reply_of locked.new.machine.ledger result)
+    ensures served { ServesUnderLock N.frames is_explained cmd.now (reply_of locked.new.machine.ledger result)
         (locked_state locked.old cpu.old) (locked_state locked.new cpu.new) }
     ensures groups { HasItsGroups locked.new.machine.ledger result }
 {
-    let number = cpu.number();
-    lock(locked, number);
+    let cpu_number = cpu.number();
+    lock(locked, cpu_number, is_explained);
     let outcome = serve_outcome(locked, tables, cpu, cmd);
-    unlock(locked, number);
+    unlock(locked, cpu_number);
     outcome
 }
 
@@ -70,17 +80,18 @@ pub(crate) fn serve_frame_under_lock<N: BootName>(
     tables: &Tables<N>,
     cpu: &mut Cpu<N>,
     group: GroupId,
+    is_explained: bool,
 ) -> Outcome
     requires there { IsTrue (has_group locked.old.machine.ledger.groups group) }
     ensures served { (path : Bor (List ℕ)) → number_at locked.old.machine.ledger.groups path.now ≡ Some group
-        → ServesUnderLock N.frames (Alloc path 0) (reply_of locked.new.machine.ledger result)
+        → ServesUnderLock N.frames is_explained (Alloc path 0) (reply_of locked.new.machine.ledger result)
         (locked_state locked.old cpu.old) (locked_state locked.new cpu.new) }
     ensures groups { HasItsGroups locked.new.machine.ledger result }
 {
-    let number = cpu.number();
-    lock(locked, number);
+    let cpu_number = cpu.number();
+    lock(locked, cpu_number, is_explained);
     let outcome = serve_frame_outcome(locked, tables, cpu, group);
-    unlock(locked, number);
+    unlock(locked, cpu_number);
     outcome
 }
 
@@ -90,11 +101,11 @@ pub(crate) fn settle_under_lock<N: BootName>(
     tables: &Tables<N>,
     cpu: &mut Cpu<N>,
 )
-    ensures served { ServesUnderLock N.frames Settle reply.Done
+    ensures served { ServesUnderLock N.frames false Settle reply.Done
         (locked_state locked.old cpu.old) (locked_state locked.new cpu.new) }
 {
-    let number = cpu.number();
-    lock(locked, number);
+    let cpu_number = cpu.number();
+    lock(locked, cpu_number, false);
     mem_system::settle(locked, tables, cpu);
-    unlock(locked, number);
+    unlock(locked, cpu_number);
 }

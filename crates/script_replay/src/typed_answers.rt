@@ -16,7 +16,7 @@ use group_tree::fault::Fault;
 use mem_system::{Cmd, Locked, Outcome};
 
 // Does what a command asks for, whose answer isn't a text of any length.
-pub(crate) fn say_work<N: BootName>(
+pub(crate) fn serve_typed_work<N: BootName>(
     locked: &mut Locked<N>,
     tables: &Tables<N>,
     cpu: &mut Cpu<N>,
@@ -29,23 +29,25 @@ pub(crate) fn say_work<N: BootName>(
     ensures groups { SaysItsGroups locked.new.machine.ledger result }
 {
     match *work {
-        Work::Visit(cmd) => Said::Served(serve_under_lock(locked, tables, cpu, &cmd)),
-        Work::Frame { path } => say_frame(locked, tables, cpu, path),
-        Work::Fast { group } => say_fast(locked, tables, cpu, group),
-        Work::Release { frame } => say_release(locked, tables, cpu, frame),
-        Work::Get { frame } => say_get(locked, tables, cpu, frame),
-        Work::Put { frame } => say_put(locked, tables, cpu, frame),
+        Work::Visit(cmd) => Said::Served(serve_under_lock(locked, tables, cpu, &cmd, false)),
+        Work::Frame { path } => serve_typed_frame(locked, tables, cpu, path),
+        Work::Fast { group } => serve_typed_fast(locked, tables, cpu, group),
+        Work::Release { frame } => serve_typed_release(locked, tables, cpu, frame),
+        Work::Get { frame } => serve_typed_get(locked, tables, cpu, frame),
+        Work::Put { frame } => serve_typed_put(locked, tables, cpu, frame),
         Work::Settle => {
             settle_under_lock(locked, tables, cpu);
             Said::Settled
         }
         Work::Blocks => unreachable!(),
         Work::Show => unreachable!(),
+        Work::Stock => unreachable!(),
+        Work::Units { path: _ } => unreachable!(),
     }
 }
 
 // Takes a frame, if possible without the lock.
-fn say_frame<N: BootName>(
+fn serve_typed_frame<N: BootName>(
     locked: &mut Locked<N>,
     tables: &Tables<N>,
     cpu: &mut Cpu<N>,
@@ -58,19 +60,19 @@ fn say_frame<N: BootName>(
     let Some(group) = locked.find(path) else {
         return Said::Served(Outcome::Refused(Fault::NoGroup));
     };
-    let processor = cpu.number();
-    let number = group.number();
-    match cpu.alloc_fast(tables, number) {
+    let cpu_number = cpu.number();
+    let group_number = group.number();
+    match cpu.alloc_fast(tables, group_number) {
         Fast::Got(frame) => {
-            watch_fast(locked, processor, number, &Fast::Got(frame));
+            watch_fast(locked, cpu_number, group_number, &Fast::Got(frame));
             Said::Fast(Fast::Got(frame))
         }
-        _ => Said::Served(serve_frame_under_lock(locked, tables, cpu, group)),
+        _ => Said::Served(serve_frame_under_lock(locked, tables, cpu, group, false)),
     }
 }
 
 // Takes a frame of the list without the lock.
-fn say_fast<N: BootName>(
+fn serve_typed_fast<N: BootName>(
     locked: &mut Locked<N>,
     tables: &Tables<N>,
     cpu: &mut Cpu<N>,
@@ -81,47 +83,47 @@ fn say_fast<N: BootName>(
         (locked_state locked.new cpu.new) (answer_of locked.new.machine.ledger result) }
     ensures groups { SaysItsGroups locked.new.machine.ledger result }
 {
-    let number = cpu.number();
+    let cpu_number = cpu.number();
     let fast = cpu.alloc_fast(tables, group);
-    watch_fast(locked, number, group, &fast);
+    watch_fast(locked, cpu_number, group, &fast);
     Said::Fast(fast)
 }
 
 // Lists a fresh frame again, if possible without the lock.
-fn say_release<N: BootName>(
+fn serve_typed_release<N: BootName>(
     locked: &mut Locked<N>,
     tables: &Tables<N>,
     cpu: &mut Cpu<N>,
-    number: u32,
+    frame: u32,
 ) -> Said
-    requires in_zone { number < N.frames.frames }
-    ensures said { SaysWork N.frames (asked.Release number) (locked_state locked.old cpu.old)
+    requires in_zone { frame < N.frames.frames }
+    ensures said { SaysWork N.frames (asked.Release frame) (locked_state locked.old cpu.old)
         (locked_state locked.new cpu.new) (answer_of locked.new.machine.ledger result) }
     ensures groups { SaysItsGroups locked.new.machine.ledger result }
 {
-    let processor = cpu.number();
-    if try_list(tables, cpu, number) {
-        watch_credit(locked, processor, number);
+    let cpu_number = cpu.number();
+    if try_list(tables, cpu, frame) {
+        watch_credit(locked, cpu_number, frame);
         return Said::Listed;
     }
-    Said::Served(serve_under_lock(locked, tables, cpu, &Cmd::Release { frame: number }))
+    Said::Served(serve_under_lock(locked, tables, cpu, &Cmd::Release { frame }, false))
 }
 
 // Pins the frame without the lock.
-fn say_get<N: BootName>(
+fn serve_typed_get<N: BootName>(
     locked: &mut Locked<N>,
     tables: &Tables<N>,
     cpu: &mut Cpu<N>,
-    number: u32,
+    frame: u32,
 ) -> Said
-    requires in_zone { number < N.frames.frames }
-    ensures said { SaysWork N.frames (asked.Get number) (locked_state locked.old cpu.old)
+    requires in_zone { frame < N.frames.frames }
+    ensures said { SaysWork N.frames (asked.Get frame) (locked_state locked.old cpu.old)
         (locked_state locked.new cpu.new) (answer_of locked.new.machine.ledger result) }
     ensures groups { SaysItsGroups locked.new.machine.ledger result }
 {
-    let processor = cpu.number();
-    let got = pin(tables, cpu, number);
-    watch_get(locked, processor, number, &got);
+    let cpu_number = cpu.number();
+    let got = pin(tables, cpu, frame);
+    watch_get(locked, cpu_number, frame, &got);
     match got {
         Ok(got) => Said::Got(got),
         Err(fault) => Said::Served(Outcome::Refused(fault)),
@@ -129,20 +131,20 @@ fn say_get<N: BootName>(
 }
 
 // Puts a pin of the frame without the lock.
-fn say_put<N: BootName>(
+fn serve_typed_put<N: BootName>(
     locked: &mut Locked<N>,
     tables: &Tables<N>,
     cpu: &mut Cpu<N>,
-    number: u32,
+    frame: u32,
 ) -> Said
-    requires in_zone { number < N.frames.frames }
-    ensures said { SaysWork N.frames (asked.Put number) (locked_state locked.old cpu.old)
+    requires in_zone { frame < N.frames.frames }
+    ensures said { SaysWork N.frames (asked.Put frame) (locked_state locked.old cpu.old)
         (locked_state locked.new cpu.new) (answer_of locked.new.machine.ledger result) }
     ensures groups { SaysItsGroups locked.new.machine.ledger result }
 {
-    let processor = cpu.number();
-    let put = unpin(tables, cpu, number);
-    watch_put(locked, processor, number, &put);
+    let cpu_number = cpu.number();
+    let put = unpin(tables, cpu, frame);
+    watch_put(locked, cpu_number, frame, &put);
     match put {
         Some(put) => Said::Put(put),
         None => Said::Served(Outcome::Refused(Fault::NotPinned)),

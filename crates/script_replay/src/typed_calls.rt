@@ -12,7 +12,7 @@ ghost use Rattle.script_replay.specs.Typed.{IsShort, SaysCommand, SaysItsGroups,
 ghost use Rattle.script_replay.specs.Works.{work_of};
 
 use crate::said::Said;
-use crate::typed_answers::say_work;
+use crate::typed_answers::serve_typed_work;
 use crate::value_replay::see_invariants;
 use crate::work::work_of;
 use cpu_part::{BootName, Cpu, Tables};
@@ -20,28 +20,28 @@ use mem_system::Locked;
 use script_lines::line::Command;
 
 /// Serves a command for the CPU of this number, from 1, as `replay` does, and returns its answer as a value. All that
-/// the command names is there, and it isn't `show` or `blocks`. No memory is taken.
+/// the command names is there, and it isn't `show`, `blocks`, `stock` or `units`. No memory is taken.
 pub fn serve_typed<N: BootName>(
     locked: &mut Locked<N>,
     tables: &Tables<N>,
     cpus: &mut [Cpu<N>],
-    processor: u32,
+    cpu: u32,
     command: &Command<'_>,
 ) -> Said
-    requires there { IsThere N.frames.frames (length cpus.old) processor command.now }
+    requires there { IsThere N.frames.frames (length cpus.old) cpu command.now }
     requires short { IsShort (work_of command.now) }
-    ensures said { SaysCommand (boot_tables N.frames N.stocks) processor command.now
+    ensures said { SaysCommand (boot_tables N.frames N.stocks) cpu command.now
         (system_state locked.old cpus.old) (system_state locked.new cpus.new)
         (answer_of locked.new.machine.ledger result) }
     ensures groups { SaysItsGroups locked.new.machine.ledger result }
 {
-    let at = (processor - 1) as usize;
-    say_part(locked, tables, &mut cpus[at], command)
+    let at = (cpu - 1) as usize;
+    serve_typed_part(locked, tables, &mut cpus[at], command)
 }
 
 // Serves a command at this part.
 #[tactic(auto, using(crate::proofs::InRange::work_in_range))]
-fn say_part<N: BootName>(
+fn serve_typed_part<N: BootName>(
     locked: &mut Locked<N>,
     tables: &Tables<N>,
     cpu: &mut Cpu<N>,
@@ -57,8 +57,8 @@ fn say_part<N: BootName>(
     ensures none_fresh { cpu.new.stock_seat.view.last ≡ NoGroup → cpu.new.fresh ≡ [] }
 {
     let work = work_of(command);
-    let said = say_work(locked, tables, cpu, &work);
-    let _number = cpu.number(); // Called for its contract: `tied`.
+    let said = serve_typed_work(locked, tables, cpu, &work);
+    let _cpu_number = cpu.number(); // Called for its contract: `tied`.
     let _last = cpu.last_stock(); // Called for its contract: `none_fresh`.
     see_invariants(locked);
     said

@@ -16,11 +16,12 @@ use std::alloc::AllocError;
 
 // Lists the frame again without the lock, if it is fresh at the CPU and its page can be credited. Returns whether it
 // did.
-pub(crate) fn try_list<N: BootName>(tables: &Tables<N>, cpu: &mut Cpu<N>, number: u32) -> bool
-    requires in_zone { number < N.frames.frames }
-    ensures listed { MatchBool result (ListsAgain number cpu.old cpu.new) (CanNotList number cpu.old cpu.new) }
+pub(crate) fn try_list<N: BootName>(tables: &Tables<N>, cpu: &mut Cpu<N>, frame_number: u32) -> bool
+    requires in_zone { frame_number < N.frames.frames }
+    ensures listed { MatchBool result (ListsAgain frame_number cpu.old cpu.new)
+        (CanNotList frame_number cpu.old cpu.new) }
 {
-    let frame = tables.frames.frame(number).unwrap();
+    let frame = tables.frames.frame(frame_number).unwrap();
     if !cpu.has_fresh(frame) {
         return false;
     }
@@ -34,12 +35,12 @@ pub(crate) fn try_list<N: BootName>(tables: &Tables<N>, cpu: &mut Cpu<N>, number
 pub(crate) fn pin<N: BootName>(
     tables: &Tables<N>,
     cpu: &mut Cpu<N>,
-    number: u32,
+    frame_number: u32,
 ) -> Result<Get, Fault>
-    requires in_zone { number < N.frames.frames }
-    ensures { GetsPin number cpu.old cpu.new (pin_answer result) }
+    requires in_zone { frame_number < N.frames.frames }
+    ensures { GetsPin frame_number cpu.old cpu.new (pin_answer result) }
 {
-    let frame = tables.frames.frame(number).unwrap();
+    let frame = tables.frames.frame(frame_number).unwrap();
     cpu.get(tables, frame)
 }
 
@@ -54,12 +55,16 @@ pub(crate) fn write_pin(got: &Result<Get, Fault>, text: &mut String) -> Result<(
 }
 
 // Puts a pin of the frame, without the lock. Returns None if the CPU has no pin on it.
-pub(crate) fn unpin<N: BootName>(tables: &Tables<N>, cpu: &mut Cpu<N>, number: u32) -> Option<Put>
-    requires in_zone { number < N.frames.frames }
-    ensures put { PutsPin number cpu.old cpu.new (unpin_answer result) }
+pub(crate) fn unpin<N: BootName>(
+    tables: &Tables<N>,
+    cpu: &mut Cpu<N>,
+    frame_number: u32,
+) -> Option<Put>
+    requires in_zone { frame_number < N.frames.frames }
+    ensures put { PutsPin frame_number cpu.old cpu.new (unpin_answer result) }
     ensures few { (left : ℕ) → unpin_answer result ≡ answer.Put (Left left) → left < 2 ^ 32 }
 {
-    let frame = tables.frames.frame(number).unwrap();
+    let frame = tables.frames.frame(frame_number).unwrap();
     if !cpu.holds(frame) {
         return None;
     }
@@ -77,29 +82,29 @@ pub(crate) fn write_unpin(put: &Option<Put>, text: &mut String) -> Result<(), Al
 }
 
 // Pins the frame, without the lock, and adds the answer.
-pub(crate) fn answer_get<N: BootName>(
+pub(crate) fn answer_pin<N: BootName>(
     tables: &Tables<N>,
     cpu: &mut Cpu<N>,
-    number: u32,
+    frame: u32,
     text: &mut String,
 ) -> Result<(), AllocError>
-    requires in_zone { number < N.frames.frames }
-    ensures answered { AddsAnswer result text.old text.new (GetsPin number cpu.old cpu.new) }
+    requires in_zone { frame < N.frames.frames }
+    ensures answered { AddsAnswer result text.old text.new (GetsPin frame cpu.old cpu.new) }
 {
-    let got = pin(tables, cpu, number);
+    let got = pin(tables, cpu, frame);
     write_pin(&got, text)
 }
 
 // Puts a pin of the frame, without the lock, and adds the answer.
-pub(crate) fn answer_put<N: BootName>(
+pub(crate) fn answer_unpin<N: BootName>(
     tables: &Tables<N>,
     cpu: &mut Cpu<N>,
-    number: u32,
+    frame: u32,
     text: &mut String,
 ) -> Result<(), AllocError>
-    requires in_zone { number < N.frames.frames }
-    ensures answered { AddsAnswer result text.old text.new (PutsPin number cpu.old cpu.new) }
+    requires in_zone { frame < N.frames.frames }
+    ensures answered { AddsAnswer result text.old text.new (PutsPin frame cpu.old cpu.new) }
 {
-    let put = unpin(tables, cpu, number);
+    let put = unpin(tables, cpu, frame);
     write_unpin(&put, text)
 }

@@ -165,12 +165,8 @@ pub fn serve_line<N: BootName>(
             see_invariants(locked);
             Ok(())
         }
-        Line::At {
-            processor,
-            command,
-            ..
-        } => {
-            let at = (*processor - 1) as usize;
+        Line::At { cpu, command, .. } => {
+            let at = (*cpu - 1) as usize;
             serve_part(
                 locked,
                 tables,
@@ -201,7 +197,7 @@ fn serve_part<N: BootName>(
     ensures none_fresh { cpu.new.stock_seat.view.last ≡ NoGroup → cpu.new.fresh ≡ [] }
 {
     let served = answer_text(locked, tables, cpu, command, is_explained, answers);
-    let _number = cpu.number(); // Called for its contract: `tied`.
+    let _cpu_number = cpu.number(); // Called for its contract: `tied`.
     let _last = cpu.last_stock(); // Called for its contract: `none_fresh`.
     see_invariants(locked);
     served

@@ -4,14 +4,14 @@ ghost use Rattle.std.specs.Prelude.{◌<◌, true};
 ghost use Rattle.mem_system.specs.Commands.{IsOfZone};
 ghost use Rattle.script_replay.specs.Answers.{AddsAnswer, AddsText};
 ghost use Rattle.script_replay.specs.Numbers.{SaysNumbered};
-ghost use Rattle.script_replay.specs.declared.work.Work.TheVariants.{Blocks, Show};
+ghost use Rattle.script_replay.specs.declared.work.Work.TheVariants.{Blocks, Show, Stock, Units};
 ghost use Rattle.script_replay.specs.Ranges.{NamesInRange, WorkInRange};
 ghost use Rattle.script_replay.specs.Terms.{boot_tables};
 ghost use Rattle.script_replay.specs.Visits.{AnswersFrameByVisit, AnswersReleaseByVisit, AnswersSettleByVisit};
 ghost use Rattle.script_replay.specs.Visits.{RepliesVisited, VisitsCommand, VisitsWork};
 
 use crate::form::write_numbered;
-use crate::unlocked_calls::{answer_get, answer_put, try_list};
+use crate::unlocked_calls::{answer_pin, answer_unpin, try_list};
 use crate::work::{Work, work_of};
 use cpu_part::{BootName, Cpu, Fast};
 use group_tree::fault::Fault;
@@ -46,10 +46,10 @@ pub fn visit_line<N: BootName, R: Wait, G: Gate>(
     ensures answered { AddsText result text.old text.new
         (VisitsCommand (boot_tables N.frames N.stocks) command.now cpu.old cpu.new) }
 {
-    let number = cpu.number();
-    visitor.gate.before(number, line);
+    let cpu_number = cpu.number();
+    visitor.gate.before(cpu_number, line);
     visit_text(visitor, cpu, command, text)?;
-    visitor.gate.after(number, line);
+    visitor.gate.after(cpu_number, line);
     Ok(())
 }
 
@@ -105,11 +105,13 @@ fn visit_work<N: BootName, R: Wait, G: Gate>(
         Work::Frame { path } => visit_frame(visitor, cpu, path, text),
         Work::Fast { group } => write_fast(&cpu.alloc_fast(tables, group), text),
         Work::Release { frame } => visit_release(visitor, cpu, frame, text),
-        Work::Get { frame } => answer_get(tables, cpu, frame, text),
-        Work::Put { frame } => answer_put(tables, cpu, frame, text),
+        Work::Get { frame } => answer_pin(tables, cpu, frame, text),
+        Work::Put { frame } => answer_unpin(tables, cpu, frame, text),
         Work::Settle => visit_settle(visitor, cpu, text),
         Work::Blocks => visit_blocks(visitor, cpu, text),
         Work::Show => visit_show(visitor, cpu, text),
+        Work::Stock => visit_stock(visitor, cpu, text),
+        Work::Units { path } => visit_units(visitor, cpu, path, text),
     }
 }
 
@@ -169,17 +171,17 @@ fn visit_frame<N: BootName, R: Wait, G: Gate>(
 fn visit_release<N: BootName, R: Wait, G: Gate>(
     visitor: &Visitor<'_, N, R, G>,
     cpu: &mut Cpu<N>,
-    number: u32,
+    frame: u32,
     text: &mut String,
 ) -> Result<(), AllocError>
-    requires in_zone { number < N.frames.frames }
+    requires in_zone { frame < N.frames.frames }
     ensures answered { AddsAnswer result text.old text.new
-        (AnswersReleaseByVisit (boot_tables N.frames N.stocks) number cpu.old cpu.new) }
+        (AnswersReleaseByVisit (boot_tables N.frames N.stocks) frame cpu.old cpu.new) }
 {
-    if try_list(visitor.system.tables(), cpu, number) {
+    if try_list(visitor.system.tables(), cpu, frame) {
         return write_listed(text);
     }
-    visit_and_reply(visitor, cpu, &Cmd::Release { frame: number }, text)
+    visit_and_reply(visitor, cpu, &Cmd::Release { frame }, text)
 }
 
 // Settles the CPU, and adds the free blocks.
@@ -202,4 +204,32 @@ fn visit_show<N: BootName, R: Wait, G: Gate>(
     ensures { AddsText result text.old text.new (VisitsWork (boot_tables N.frames N.stocks) Show cpu.old cpu.new) }
 {
     visitor.system.show_into(visitor.rt, cpu, text)
+}
+
+// Settles the CPU, and adds the line about its stock, and how many frames and pins it has.
+fn visit_stock<N: BootName, R: Wait, G: Gate>(
+    visitor: &Visitor<'_, N, R, G>,
+    cpu: &mut Cpu<N>,
+    text: &mut String,
+) -> Result<(), AllocError>
+    ensures { AddsText result text.old text.new (VisitsWork (boot_tables N.frames N.stocks) Stock cpu.old cpu.new) }
+{
+    visitor.system.stock_into(visitor.rt, cpu, text)
+}
+
+// Settles the CPU, and adds the kept units of the group of this path.
+fn visit_units<N: BootName, R: Wait, G: Gate>(
+    visitor: &Visitor<'_, N, R, G>,
+    cpu: &mut Cpu<N>,
+    path: &[u8],
+    text: &mut String,
+) -> Result<(), AllocError>
+    ensures { AddsText result text.old text.new
+        (VisitsWork (boot_tables N.frames N.stocks) (Units path.entry) cpu.old cpu.new) }
+{
+    let is_there = visitor.system.units_into(visitor.rt, cpu, path, text)?;
+    if is_there {
+        return Ok(());
+    }
+    write_refusal(&Fault::NoGroup, text)
 }

@@ -53,12 +53,8 @@ fn serve_by_visit<N: BootName, R: Wait>(
 {
     match line {
         Line::Go => Ok(()),
-        Line::At {
-            processor,
-            command,
-            ..
-        } => {
-            let at = (*processor - 1) as usize;
+        Line::At { cpu, command, .. } => {
+            let at = (*cpu - 1) as usize;
             let visitor = Visitor {
                 rt,
                 system,

@@ -19,9 +19,9 @@ use step_rules::step::{Action, Answer};
 // The watch takes the step of a fast allocation for this group, if that got a frame.
 #[inline(always)]
 #[tactic(auto, using(crate::proofs::Taking::unwatched))]
-pub(crate) fn watch_fast<N: BootName>(locked: &mut Locked<N>, number: u32, group: u32, fast: &Fast)
+pub(crate) fn watch_fast<N: BootName>(locked: &mut Locked<N>, cpu: u32, group: u32, fast: &Fast)
     requires there { group < 64 }
-    ensures { OnlyWatched (fast_steps number group fast.now) locked.old locked.new }
+    ensures { OnlyWatched (fast_steps cpu group fast.now) locked.old locked.new }
 {
     if !locked.watch().is_on() {
         return;
@@ -29,7 +29,7 @@ pub(crate) fn watch_fast<N: BootName>(locked: &mut Locked<N>, number: u32, group
     match fast {
         Fast::Got(_) => {
             let group = GroupId::of(group).unwrap();
-            locked.take_step(number, Action::Consume { group }, Answer::Took);
+            locked.take_step(cpu, Action::Consume { group }, Answer::Took);
         }
         _ => {}
     }
@@ -40,17 +40,17 @@ pub(crate) fn watch_fast<N: BootName>(locked: &mut Locked<N>, number: u32, group
 #[tactic(auto, using(crate::proofs::Taking::unwatched))]
 pub(crate) fn watch_get<N: BootName>(
     locked: &mut Locked<N>,
-    number: u32,
+    cpu: u32,
     frame: u32,
     got: &Result<Get, Fault>,
 )
-    ensures { OnlyWatched (get_steps number frame (pin_answer got.now)) locked.old locked.new }
+    ensures { OnlyWatched (get_steps cpu frame (pin_answer got.now)) locked.old locked.new }
 {
     if !locked.watch().is_on() {
         return;
     }
     match got {
-        Ok(Get::Held) => locked.take_step(number, Action::Get { frame }, Answer::Held),
+        Ok(Get::Held) => locked.take_step(cpu, Action::Get { frame }, Answer::Held),
         Ok(Get::Zero) => {}
         Ok(Get::Raced(_)) => {}
         Ok(Get::Full) => {}
@@ -63,12 +63,12 @@ pub(crate) fn watch_get<N: BootName>(
 #[tactic(auto, using(crate::proofs::Taking::unwatched))]
 pub(crate) fn watch_put<N: BootName>(
     locked: &mut Locked<N>,
-    number: u32,
+    cpu: u32,
     frame: u32,
     put: &Option<Put>,
 )
     requires few { (left : ℕ) → unpin_answer put.now ≡ answer.Put (Left left) → left < 2 ^ 32 }
-    ensures { OnlyWatched (put_steps number frame (unpin_answer put.now)) locked.old locked.new }
+    ensures { OnlyWatched (put_steps cpu frame (unpin_answer put.now)) locked.old locked.new }
 {
     if !locked.watch().is_on() {
         return;
@@ -77,20 +77,20 @@ pub(crate) fn watch_put<N: BootName>(
         None => {}
         Some(Put::Left(left)) => {
             let left = *left as u32;
-            locked.take_step(number, Action::Put { frame }, Answer::Left(left));
+            locked.take_step(cpu, Action::Put { frame }, Answer::Left(left));
         }
-        Some(Put::Last) => locked.take_step(number, Action::Put { frame }, Answer::Last),
+        Some(Put::Last) => locked.take_step(cpu, Action::Put { frame }, Answer::Last),
     }
 }
 
 // The watch takes the step of the drop of a fresh frame that listed it again.
 #[inline(always)]
 #[tactic(auto, using(crate::proofs::Taking::unwatched))]
-pub(crate) fn watch_credit<N: BootName>(locked: &mut Locked<N>, number: u32, frame: u32)
-    ensures { OnlyWatched (cpu_makes number (step.Credit frame) says.Back ∷ []) locked.old locked.new }
+pub(crate) fn watch_credit<N: BootName>(locked: &mut Locked<N>, cpu: u32, frame: u32)
+    ensures { OnlyWatched (cpu_makes cpu (step.Credit frame) says.Back ∷ []) locked.old locked.new }
 {
     if !locked.watch().is_on() {
         return;
     }
-    locked.take_step(number, Action::Credit { frame }, Answer::Back);
+    locked.take_step(cpu, Action::Credit { frame }, Answer::Back);
 }

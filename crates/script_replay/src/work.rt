@@ -7,7 +7,7 @@ use mem_system::Cmd;
 use script_lines::line::Command;
 
 /// What is done for a command of a script.
-#[derive(Clone, Copy, Debug, PartialEq, Eq)]
+#[derive(Clone, Copy, PartialEq, Eq)]
 pub enum Work<'a> {
     /// The command is served under the lock, and its reply is the answer.
     Visit(Cmd<'a>),
@@ -27,6 +27,10 @@ pub enum Work<'a> {
     Blocks,
     /// The CPU is settled, and the answer has the place of each frame and the usage of each group.
     Show,
+    /// The CPU is settled, and the answer has its stock, and how many frames and pins it has.
+    Stock,
+    /// The CPU is settled, and the answer has the kept units of the group of this path.
+    Units { path: &'a [u8] },
 }
 
 // What the command asks for. It is inlined, so that no value of 64 bytes is built just to be matched.
@@ -52,5 +56,7 @@ pub(crate) fn work_of<'a>(command: &Command<'a>) -> Work<'a>
         Command::Owner { frame } => Work::Visit(Cmd::Owner { frame }),
         Command::Blocks => Work::Blocks,
         Command::Show => Work::Show,
+        Command::Stock => Work::Stock,
+        Command::Units { path } => Work::Units { path },
     }
 }

@@ -8,7 +8,7 @@ use Rattle.script_threads.specs.Runs.{go_or, lines_before_go}
 go_within : (place : ℕ) (lines : List Line) → go_or 0 place lines ≤ place + length lines
 go_within place [] = omega arith
 go_within place (Go ∷ lines) = omega arith
-go_within place (At number processor command ∷ lines) = let rest = go_within (place + 1) lines in omega (arith, rest)
+go_within place (At number cpu command ∷ lines) = let rest = go_within (place + 1) lines in omega (arith, rest)
 
 pub go_least : (lines : List Line) → lines_before_go lines ≤ length lines
 go_least lines = let within = go_within 0 lines in omega (arith, within)

@@ -7,7 +7,7 @@ use Rattle.script_threads.specs.Own.{LineNames}
 
 line_names : (frames cpus : ℕ) (line : Line) → LineIsThere frames cpus line → LineNames frames line
 line_names frames cpus Go there = tt
-line_names frames cpus (At number processor command) there = there.names
+line_names frames cpus (At number cpu command) there = there.names
 
 -- what lines name that are there is in range
 pub lines_name : (frames cpus : ℕ) (lines : List Line) → All (LineIsThere frames cpus) lines → All (LineNames frames) lines

@@ -8,13 +8,13 @@ use Rattle.script_threads.specs.Own.{KnownWorker, ServesOwn, worker}
 
 -- a worker for each of these parts, whose CPUs are numbered from this number on
 abbrev pub workers_from : ℕ → List KnownCpu → List Line → (is_numbered : Bool) → List KnownWorker
-workers_from number [] lines is_numbered = []
-workers_from number (cpu ∷ cpus) lines is_numbered =
-    worker number cpu lines is_numbered ∷ workers_from (number + 1) cpus lines is_numbered
+workers_from cpu_number [] lines is_numbered = []
+workers_from cpu_number (cpu ∷ cpus) lines is_numbered =
+    worker cpu_number cpu lines is_numbered ∷ workers_from (cpu_number + 1) cpus lines is_numbered
 
 -- the line that heads the answers of a CPU
 abbrev pub heading : ℕ → List ℕ
-heading number = codes "cpu " ++ decimal number ++ codes "\n"
+heading cpu_number = codes "cpu " ++ decimal cpu_number ++ codes "\n"
 
 -- the text is the answers of the worker's own lines, from its part at the start to some part that it left
 pub record TellsOwn (tables : BootTables) (worker : KnownWorker) (text : List ℕ) : Type 0 where
@@ -26,4 +26,4 @@ abbrev pub TellsEach : BootTables → List KnownWorker → (text : List ℕ) →
 TellsEach tables [] text = text ≡ []
 TellsEach tables (worker ∷ workers) text =
     (own : List ℕ) × (others : List ℕ) × TellsOwn tables worker own × TellsEach tables workers others
-    × (text ≡ (heading worker.number ++ own) ++ others)
+    × (text ≡ (heading worker.cpu_number ++ own) ++ others)

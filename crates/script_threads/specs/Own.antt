@@ -12,29 +12,29 @@ use Rattle.script_replay.specs.Visits.{VisitsCommand}
 -- the frames and groups that a line names are in range, whichever its CPU; `go` names nothing
 abbrev pub LineNames : ℕ → Line → Type 0
 LineNames frames Go = Unit {0}
-LineNames frames (At number processor command) = NamesInRange frames command
+LineNames frames (At number cpu command) = NamesInRange frames command
 
 -- a line of the CPU of this number is answered with this text on its part, with its number if that is asked for; any
 -- other line is skipped
 abbrev pub ServesOwnLine : BootTables → (is_numbered : Bool) (own : ℕ) → Line → (before after : KnownCpu)
     (text : List ℕ) → Type 0
 ServesOwnLine tables is_numbered own Go before after text = (text ≡ []) × (after ≡ before)
-ServesOwnLine tables is_numbered own (At number processor command) before after text =
-    MatchBool (processor == own) (SaysNumbered is_numbered number (VisitsCommand tables command before after) text)
+ServesOwnLine tables is_numbered own (At number cpu command) before after text =
+    MatchBool (cpu == own) (SaysNumbered is_numbered number (VisitsCommand tables command before after) text)
     ((text ≡ []) × (after ≡ before))
 
 -- a worker: the number of its CPU, its part at the start, all lines, of which it serves its own, and whether their
 -- answers have numbers
 pub record KnownWorker : Type 0 where
-  pub number : ℕ
+  pub cpu_number : ℕ
   pub before : KnownCpu
   pub lines : List Line
   pub is_numbered : Bool
 
 -- the worker of this CPU
-abbrev pub worker : (number : ℕ) (before : KnownCpu) (lines : List Line) (is_numbered : Bool) → KnownWorker
-worker number before lines is_numbered = record {
-  number = number;
+abbrev pub worker : (cpu_number : ℕ) (before : KnownCpu) (lines : List Line) (is_numbered : Bool) → KnownWorker
+worker cpu_number before lines is_numbered = record {
+  cpu_number = cpu_number;
   before = before;
   lines = lines;
   is_numbered = is_numbered;
@@ -43,4 +43,4 @@ worker number before lines is_numbered = record {
 -- the worker's own lines are answered one after another, from its part at the start to the part that it left
 abbrev pub ServesOwn : BootTables → KnownWorker → (after : KnownCpu) (text : List ℕ) → Type 0
 ServesOwn tables worker after text =
-    InOrder (ServesOwnLine tables worker.is_numbered worker.number) worker.lines worker.before after text
+    InOrder (ServesOwnLine tables worker.is_numbered worker.cpu_number) worker.lines worker.before after text

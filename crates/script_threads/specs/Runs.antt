@@ -11,7 +11,7 @@ use Rattle.script_threads.specs.Each.{TellsEach, workers_from}
 abbrev pub go_or : ℕ → ℕ → List Line → ℕ
 go_or last place [] = last
 go_or last place (Go ∷ lines) = place
-go_or last place (At number processor command ∷ lines) = go_or last (place + 1) lines
+go_or last place (At number cpu command ∷ lines) = go_or last (place + 1) lines
 
 -- how many lines precede `go`; 0 if there is no `go`
 abbrev pub lines_before_go : List Line → ℕ

@@ -92,20 +92,20 @@ fn start_all<'s, E, N: BootName + Send + Sync, R: Wait + Sync, G: Gate + Sync>(
     ensures { IfOk result (λ workers. workers.items ≡ workers_from 1 cpus.old lines.now is_numbered) }
 {
     let mut workers = Vec::with_capacity(alloc, cpus.len())?;
-    let mut number = 1;
+    let mut cpu_number = 1;
     for cpu in cpus.iter_mut() {
         let job = Job {
             rt,
             alloc,
             system,
             cpu,
-            number,
+            cpu_number,
             lines,
             is_numbered,
             gate,
         };
         workers.push(start(scope, job)?)?;
-        number += 1;
+        cpu_number += 1;
     }
     Ok(workers)
 }

@@ -21,20 +21,28 @@ pub(crate) fn serve_own<N: BootName, R: Wait, G: Gate>(
     alloc: Global,
     system: &System<N>,
     cpu: &mut Cpu<N>,
-    number: u32,
+    cpu_number: u32,
     lines: &[Line<'_>],
     is_numbered: bool,
     gate: &G,
 ) -> Result<String, AllocError>
     requires { All (LineNames N.frames.frames) lines.now }
     ensures { IfOk result (λ text.
-        ServesOwn (boot_tables N.frames N.stocks) (worker number cpu.old lines.now is_numbered) cpu.new
+        ServesOwn (boot_tables N.frames N.stocks) (worker cpu_number cpu.old lines.now is_numbered) cpu.new
         (string_bytes text)) }
 {
     let visitor = Visitor { rt, system, gate };
     let mut text = String::new(alloc);
     for line in lines {
-        serve_own_line(alloc, &visitor, cpu, number, line, is_numbered, &mut text)?;
+        serve_own_line(
+            alloc,
+            &visitor,
+            cpu,
+            cpu_number,
+            line,
+            is_numbered,
+            &mut text,
+        )?;
     }
     Ok(text)
 }
@@ -44,23 +52,23 @@ fn serve_own_line<N: BootName, R: Wait, G: Gate>(
     alloc: Global,
     visitor: &Visitor<'_, N, R, G>,
     cpu: &mut Cpu<N>,
-    number: u32,
+    cpu_number: u32,
     line: &Line<'_>,
     is_numbered: bool,
     text: &mut String,
 ) -> Result<(), AllocError>
     requires { LineNames N.frames.frames line.now }
     ensures { AddsText result text.old text.new
-        (ServesOwnLine (boot_tables N.frames N.stocks) is_numbered number line.now cpu.old cpu.new) }
+        (ServesOwnLine (boot_tables N.frames N.stocks) is_numbered cpu_number line.now cpu.old cpu.new) }
 {
     match line {
         Line::Go => Ok(()),
         Line::At {
             number: line,
-            processor,
+            cpu: line_cpu,
             command,
         } => {
-            if *processor != number {
+            if *line_cpu != cpu_number {
                 return Ok(());
             }
             if is_numbered {

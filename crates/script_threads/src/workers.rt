@@ -30,7 +30,7 @@ pub(crate) struct Job<'a, N: BootName, R, G> {
     pub(crate) alloc: Global,
     pub(crate) system: &'a System<N>,
     pub(crate) cpu: &'a mut Cpu<N>,
-    pub(crate) number: u32,
+    pub(crate) cpu_number: u32,
     pub(crate) lines: &'a [Line<'a>],
     pub(crate) is_numbered: bool,
     pub(crate) gate: &'a G,
@@ -40,19 +40,19 @@ pub(crate) struct Job<'a, N: BootName, R, G> {
 #[derive(Drop)]
 struct Answers<'a, N: BootName> {
     before: Snapshot<Cpu<N>>,
-    number: u32,
+    cpu_number: u32,
     lines: &'a [Line<'a>],
     is_numbered: bool,
 }
 
 impl<'a, N: BootName> Promise<Result<Told<N>, AllocError>> for Answers<'a, N> {
     ghost kept_by = { λ p r. IfOk r (λ told. ServesOwn (boot_tables N.frames N.stocks)
-        (worker p.number p.before.value p.lines.now p.is_numbered) told.after.value (string_bytes told.text)) };
+        (worker p.cpu_number p.before.value p.lines.now p.is_numbered) told.after.value (string_bytes told.text)) };
 }
 
 #[derive(Drop)]
 pub(crate) struct Worker<'a, N: BootName> {
-    number: u32,
+    cpu_number: u32,
     handle: PromisedHandle<Result<Told<N>, AllocError>, Answers<'a, N>>,
 }
 
@@ -60,30 +60,30 @@ impl<'a, N: BootName> Model for Worker<'a, N> {
     ghost Value = { KnownWorker };
 
     ghost view = { λ w.
-        worker w.handle.promise.number w.handle.promise.before.value w.handle.promise.lines.now
+        worker w.handle.promise.cpu_number w.handle.promise.before.value w.handle.promise.lines.now
         w.handle.promise.is_numbered };
 
-    ghost invariant = { λ w. w.number ≡ w.handle.promise.number };
+    ghost invariant = { λ w. w.cpu_number ≡ w.handle.promise.cpu_number };
 }
 
 impl<'a, N: BootName, R: Wait, G: Gate> Job<'a, N, R, G> {
     fn run(self) -> Result<Told<N>, AllocError>
         requires { All (LineNames N.frames.frames) self.lines.now }
         ensures { IfOk result (λ told. ServesOwn (boot_tables N.frames N.stocks)
-            (worker self.entry.number self.entry.cpu.now self.entry.lines.now self.entry.is_numbered) told.after.value
-            (string_bytes told.text)) }
+            (worker self.entry.cpu_number self.entry.cpu.now self.entry.lines.now self.entry.is_numbered)
+            told.after.value (string_bytes told.text)) }
     {
         let Job {
             rt,
             alloc,
             system,
             cpu,
-            number,
+            cpu_number,
             lines,
             is_numbered,
             gate,
         } = self;
-        let text = serve_own(rt, alloc, system, cpu, number, lines, is_numbered, gate)?;
+        let text = serve_own(rt, alloc, system, cpu, cpu_number, lines, is_numbered, gate)?;
         let after = Snapshot::of(&*cpu);
         Ok(Told { text, after })
     }
@@ -96,35 +96,35 @@ pub(crate) fn start<'s, E, N: BootName + Send + Sync, R: Wait + Sync, G: Gate + 
 ) -> Result<Worker<'s, N>, AllocError>
     requires { All (LineNames N.frames.frames) job.lines.now }
     ensures { IfOk result (λ started. started
-        ≡ worker job.entry.number job.entry.cpu.now job.entry.lines.now job.entry.is_numbered) }
+        ≡ worker job.entry.cpu_number job.entry.cpu.now job.entry.lines.now job.entry.is_numbered) }
 {
-    let number = job.number;
+    let cpu_number = job.cpu_number;
     let promise = Answers {
         before: Snapshot::of(&*job.cpu),
-        number,
+        cpu_number,
         lines: job.lines,
         is_numbered: job.is_numbered,
     };
     let handle = scope.spawn_with(promise, move || job.run())?;
-    Ok(Worker { number, handle })
+    Ok(Worker { cpu_number, handle })
 }
 
 impl<'a, N: BootName> Worker<'a, N> {
     // Joins the worker and appends its answers under its heading.
     pub(crate) fn join<R: Threads>(self, rt: &R, text: &mut String) -> Result<(), AllocError>
         ensures { IfOk result (λ _. (own : List ℕ) × TellsOwn (boot_tables N.frames N.stocks) self.entry own
-            × (string_bytes text.new ≡ string_bytes text.old ++ (heading self.entry.number ++ own))) }
+            × (string_bytes text.new ≡ string_bytes text.old ++ (heading self.entry.cpu_number ++ own))) }
     {
-        let Worker { number, handle } = self;
+        let Worker { cpu_number, handle } = self;
         let told = handle.join(rt)?;
-        write_heading(number, text)?;
+        write_heading(cpu_number, text)?;
         text.push_str(told.text.as_str())
     }
 }
 
 // Appends the line that heads the answers of a CPU.
-fn write_heading(number: u32, text: &mut String) -> Result<(), AllocError>
-    ensures { OnOk result (string_bytes text.new ≡ string_bytes text.old ++ heading number) }
+fn write_heading(cpu_number: u32, text: &mut String) -> Result<(), AllocError>
+    ensures { OnOk result (string_bytes text.new ≡ string_bytes text.old ++ heading cpu_number) }
 {
-    writeln!(text, "cpu {number}")
+    writeln!(text, "cpu {cpu_number}")
 }

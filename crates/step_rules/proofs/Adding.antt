@@ -1,4 +1,4 @@
--- The three parts of usage, counted over a run. Serves `current_is_told`.
+-- The three parts of usage, counted over a run. Serves `current_follows_the_run`.
 use Rattle.std.proofs.Common.{◌≡◌, ℕ, ◌+◌, ◌<◌, ◌&&◌, ◌==◌, Bool, true, false, Option, Some, None, refl, sym, ◌∙◌, ap, cond, if◌then◌else◌, eq-eqb}
 use Rattle.std.proofs.lemmas.Bool.{ne_eqb, lt-ltb}
 use Rattle.group_tree.specs.Groups.{in_subtree}
@@ -10,11 +10,11 @@ use Rattle.step_rules.specs.State.{Zone, State, one_if, sum_to}
 use Rattle.step_rules.specs.Usage.{is_below, frames_kept, stock_below, pages_prepaid, pages_pending}
 use Rattle.step_rules.specs.After.{state_of}
 use Rattle.step_rules.specs.Places.{places_of, is_same_frame_place, place_in}
-use Rattle.step_rules.specs.Returns.{counted_beside}
-use Rattle.step_rules.specs.Counts.{stock_in, stock_out, counted_over}
+use Rattle.step_rules.specs.Returns.{counted_with_state}
+use Rattle.step_rules.specs.Counts.{stock_in, stock_out, counted}
 use Rattle.step_rules.specs.Grants.{pending_in, pending_out}
 use Rattle.step_rules.specs.Folds.{last_fill}
-use Rattle.step_rules.specs.Current.{AllCurrentIsTold}
+use Rattle.step_rules.specs.Current.{AllCurrentFollowsRun}
 use Rattle.step_rules.proofs.Sums.{sum_same, sum_none, sum_both, sum_only}
 use Rattle.step_rules.proofs.Counting.{stocks_are_counted}
 use Rattle.step_rules.proofs.Granting.{pending_is_counted}
@@ -68,8 +68,8 @@ one_pair zone s g (Some k) homed there =
     and_so true = refl
     and_so false = refl
 
-pub current_is_told : AllCurrentIsTold
-current_is_told zone run legal g =
+pub current_follows_the_run : AllCurrentFollowsRun
+current_follows_the_run zone run legal g =
     let s = state_of zone run in
     let homed = (homed_run zone run legal).1 in
     let told = (every_frame_has_one_place zone run legal).told in
@@ -84,14 +84,14 @@ current_is_told zone run legal g =
           (sym (told f (Charged h) ∙ ap (λ b. b && is_same_frame_place (Charged h) (place_in (s.phases f))) (lt-ltb f zone.frames below)
           ∙ charged_is (s.phases f) h))));
       prepaid =
-          in_and_out (zone.cpus + 1) (λ p. is_below s.groups g (last_fill run p).group) (λ p. counted_over (stock_in p) run)
-          (λ p. (s.parts p).stock.pages) (λ p. counted_over (stock_out p) run)
+          in_and_out (zone.cpus + 1) (λ p. is_below s.groups g (last_fill run p).group) (λ p. counted (stock_in p) run)
+          (λ p. (s.parts p).stock.pages) (λ p. counted (stock_out p) run)
           (λ p below. stocks_are_counted zone run legal p)
-          ∙ ap (λ n. n + sum_to (zone.cpus + 1) (λ p. if is_below s.groups g (last_fill run p).group then counted_over (stock_out p) run else 0))
+          ∙ ap (λ n. n + sum_to (zone.cpus + 1) (λ p. if is_below s.groups g (last_fill run p).group then counted (stock_out p) run else 0))
           (sum_same (zone.cpus + 1) (λ p. if is_below s.groups g (last_fill run p).group then (s.parts p).stock.pages else 0)
           (λ p. stock_below s.groups g (s.parts p)) (λ p below. same_stock p));
-      pending = in_and_out 64 (in_subtree s.groups g) (λ h. counted_beside (pending_in h) zone run) s.pending
-          (λ h. counted_beside (pending_out h) zone run) (λ h below. pending_is_counted zone run legal h);
+      pending = in_and_out 64 (in_subtree s.groups g) (λ h. counted_with_state (pending_in h) zone run) s.pending
+          (λ h. counted_with_state (pending_out h) zone run) (λ h below. pending_is_counted zone run legal h);
       usage = ap (λ (z : Zone). frames_kept s.groups s.phases z.frames g + pages_prepaid s.groups s.parts z.cpus g + pages_pending s.groups s.pending g) sizes;
     }
   where

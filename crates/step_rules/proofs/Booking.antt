@@ -20,11 +20,11 @@ use Rattle.step_rules.proofs.Runs.{after_illegal, allowed, sound_run}
 use Rattle.step_rules.proofs.LocalLaws.{no_illegal}
 use Rattle.step_rules.proofs.Settling.{times_are}
 use Rattle.step_rules.proofs.Counting.{gained, lost, stayed, stayed_last}
-use Rattle.step_rules.proofs.Uniting.{units_are_told}
+use Rattle.step_rules.proofs.Uniting.{units_follow_the_run}
 use Rattle.step_rules.proofs.Returning.{Along, counted_so_along}
 use Rattle.step_rules.proofs.Few.{few_fresh, few_pins}
 
--- what a processor may pass back is fresh by the run exactly where it is fresh there
+-- what a CPU may pass back is fresh by the run exactly where it is fresh there
 sent_fresh : (p front f : ℕ) (x : Phase) → (has_as ListFrame p x && front == f || has_as FreshFrame p x || has_as kinds.BackFrame p x) ≡ true →
     is_some (fresh_group x) ≡ has_as FreshFrame p x
 sent_fresh p front f x may =
@@ -78,7 +78,7 @@ unreported_made p zone run seat (PassBack f) Done legal made =
     let ok = made.legal in
     let may : may_pass_back s seat f ≡ true = (pass_back_tests (state_of zone run) seat f ok).3 in
     let same : is_some ((units_of run).fresh_for f) ≡ has_as FreshFrame seat (s.phases f) =
-    ap is_some (sym (units_are_told zone run legal f).fresh) ∙ sent_fresh seat (front_of (s.parts seat).list) f (s.phases f) may in
+    ap is_some (sym (units_follow_the_run zone run legal f).fresh) ∙ sent_fresh seat (front_of (s.parts seat).list) f (s.phases f) may in
     ap (λ b. unreported (s.parts p) + (if seat == p then one_if b else 0)) same
     ∙ gained unreported s.parts seat p (without_frame (s.parts seat) (s.phases f) seat f) (one_if (has_as FreshFrame seat (s.phases f))) refl
 unreported_made p zone run seat (Consume g) Took legal made = stayed unreported (state_of zone run).parts seat p (paid ((state_of zone run).parts seat)) refl

@@ -1,4 +1,4 @@
--- What breaks the promise, and the sight that keeps it.
+-- What breaks the promise, and the shown state that keeps it.
 use Rattle.std.proofs.Common.{◌≡◌, ◌≤◌, ◌==◌, Some, List, refl, sym, ◌∙◌, ap, subst, arith, inl, inr}
 use Rattle.std.proofs.lemmas.Bool.{true≢false, false≢true}
 use Rattle.group_tree.specs.Path.{names_of}

@@ -41,7 +41,7 @@ use Rattle.step_rules.proofs.Homes.{some_there, IsHomed, number_low, cpu_low, sa
 use Rattle.step_rules.proofs.Keeping.{homed_run}
 use Rattle.step_rules.proofs.Moving.{kept_one, pends_one, pends_split, pends_less, frames_move, frames_stay, prepaid_moves, prepaid_stays, pending_moves, stock_as}
 use Rattle.step_rules.proofs.Telling.{told_run}
-use Rattle.step_rules.proofs.Uniting.{units_are_told}
+use Rattle.step_rules.proofs.Uniting.{units_follow_the_run}
 use Rattle.step_rules.proofs.Returning.{counted_so_along}
 
 -- ---- the groups
@@ -377,7 +377,7 @@ module _ (groups : List Group) (m : ℕ) where
             omega arith)
         | inr made ↦
             let both = homed_run zone run legal in
-            moves_exactly s run seat action answer both.0 both.1 (λ f. (units_are_told zone run legal f).unit) made.legal made.answered made.counted
+            moves_exactly s run seat action answer both.0 both.1 (λ f. (units_follow_the_run zone run legal f).unit) made.legal made.answered made.counted
       ]
 
   nothing_at_first : (zone : Zone) → total groups m (at_boot zone) ≡ 0

@@ -12,7 +12,7 @@ use Rattle.step_rules.specs.declared.step.Answer.TheVariants.{Illegal, Done, Hel
 use Rattle.step_rules.specs.State.{Zone, Part, State, at_boot, with_at}
 use Rattle.step_rules.specs.Legal.{is_legal, IsAnswer, IsCounted, Allows, may_fill, is_of_group}
 use Rattle.step_rules.specs.After.{Run, after, state_of, IsLegalRun, with_back, paid, credited, filled, drained}
-use Rattle.step_rules.specs.Counts.{count_at, references_in, references_out, stock_in, stock_out, book_in, book_out, counted_over}
+use Rattle.step_rules.specs.Counts.{count_at, references_in, references_out, stock_in, stock_out, book_in, book_out, counted}
 use Rattle.step_rules.specs.Counts.{ReferencesAreCounted, StocksAreCounted, BooksAreCounted}
 use Rattle.step_rules.proofs.LegalTests.{fill_tests, freeze_tests, put_tests}
 use Rattle.step_rules.proofs.Basics.{at_same, at_other}
@@ -36,11 +36,11 @@ abbrev Count : Type 0
 Count = ℕ → Action → Answer → ℕ
 
 -- a number of the state that each step changes by what it counts in and out is what the run counts
-counted : (gain loss : Count) (F : State → ℕ) → ((zone : Zone) → F (at_boot zone) ≡ 0) →
+counts_balance : (gain loss : Count) (F : State → ℕ) → ((zone : Zone) → F (at_boot zone) ≡ 0) →
     ((s : State) (seat : ℕ) (action : Action) (answer : Answer) → IsSound s → Allows s seat action answer →
     F s + gain seat action answer ≡ F (after s seat action answer) + loss seat action answer) →
-    (zone : Zone) (run : Run) → IsLegalRun zone run → counted_over gain run ≡ F (state_of zone run) + counted_over loss run
-counted gain loss F boot each zone run legal =
+    (zone : Zone) (run : Run) → IsLegalRun zone run → counted gain run ≡ F (state_of zone run) + counted loss run
+counts_balance gain loss F boot each zone run legal =
     let f : Step × Answer → ℕ = λ e. gain e.0.seat e.0.action e.1 in
     let g : Step × Answer → ℕ = λ e. loss e.0.seat e.0.action e.1 in
     let kept = kept_along (λ (t : ℕ × ℕ) (e : Step × Answer). (t.0 + f e, t.1 + g e)) (λ s t. t.0 ≡ F s + t.1)
@@ -153,7 +153,7 @@ references_made k m s seat action answer legal = refl
 
 pub references_are_counted : ReferencesAreCounted
 references_are_counted zone run legal seat f =
-    counted (references_in seat f) (references_out seat f) (λ s. s.references seat f) (λ z. refl)
+    counts_balance (references_in seat f) (references_out seat f) (λ s. s.references seat f) (λ z. refl)
     (λ s k action answer sound ok. by_answer s k action answer ok) zone run legal
   where
     by_answer : (s : State) (k : ℕ) (action : Action) (answer : Answer) → Allows s k action answer →
@@ -170,7 +170,7 @@ references_are_counted zone run legal seat f =
           | inr made ↦ references_made seat f s k action answer made.legal
         ]
 
--- one processor's part changes
+-- one CPU's part changes
 part_changes : (T : Part → ℕ) (parts : ℕ → Part) (q p : ℕ) (part : Part) (i o : ℕ) → T (parts q) + i ≡ T part + o →
     T (parts p) + cond (q == p) i 0 ≡ T (with_at parts q part p) + cond (q == p) o 0
 part_changes T parts q p part i o e =
@@ -238,7 +238,7 @@ stock_made p s seat action answer legal ok count = refl
 
 pub stocks_are_counted : StocksAreCounted
 stocks_are_counted zone run legal p =
-    counted (stock_in p) (stock_out p) (λ s. pages_in (s.parts p)) (λ z. refl) (λ s k action answer sound ok. by_answer s k action answer ok) zone run legal
+    counts_balance (stock_in p) (stock_out p) (λ s. pages_in (s.parts p)) (λ z. refl) (λ s k action answer sound ok. by_answer s k action answer ok) zone run legal
   where
     by_answer : (s : State) (k : ℕ) (action : Action) (answer : Answer) → Allows s k action answer →
         pages_in (s.parts p) + stock_in p k action answer ≡ pages_in ((after s k action answer).parts p) + stock_out p k action answer
@@ -255,7 +255,7 @@ stocks_are_counted zone run legal p =
           | inr made ↦ stock_made p s k action answer made.legal made.answered made.counted
         ]
 
--- the book of a processor
+-- the book of a CPU
 abbrev book_in_part : Part → ℕ
 book_in_part part = part.book
 
@@ -286,7 +286,7 @@ book_made p s seat action answer sound legal ok count = refl
 
 pub books_are_counted : BooksAreCounted
 books_are_counted zone run legal p =
-    counted (book_in p) (book_out p) (λ s. book_in_part (s.parts p)) (λ z. refl) by_answer zone run legal
+    counts_balance (book_in p) (book_out p) (λ s. book_in_part (s.parts p)) (λ z. refl) by_answer zone run legal
   where
     by_answer : (s : State) (k : ℕ) (action : Action) (answer : Answer) → IsSound s → Allows s k action answer →
         book_in_part (s.parts p) + book_in p k action answer ≡ book_in_part ((after s k action answer).parts p) + book_out p k action answer

@@ -39,7 +39,7 @@ part_changed p parts q part = λ i. λ m. changed_at m i
           ∙ sym (at_other (hide_parts p parts) q (if q == p then part else hide_part part) m ne)
     ]
 
--- a processor's own part changes under the cover as it does
+-- a CPU's own part changes under the cover as it does
 pub own_changed : (p : ℕ) (parts : ℕ → Part) (q : ℕ) (F : Part → Part) → q ≡ p →
     hide_parts p (with_at parts q (F (parts q))) ≡ with_at (hide_parts p parts) q (F (hide_parts p parts q))
 own_changed p parts q F e =
@@ -58,7 +58,7 @@ any_changed p parts q F same =
           ∙ ap F (sym (other_part p parts q ne)))
     ]
 
--- another processor's change that the cover hides
+-- another CPU's change that the cover hides
 pub other_changed : (p : ℕ) (parts : ℕ → Part) (q : ℕ) (part : Part) → (q ≡ p → ⊥) → hide_part part ≡ hide_part (parts q) →
     hide_parts p (with_at parts q part) ≡ hide_parts p parts
 other_changed p parts q part ne same = λ i. λ m. hidden_at m i

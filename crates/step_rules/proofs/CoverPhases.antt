@@ -60,7 +60,7 @@ back_own : (u : ChargedUnit) (p q : ℕ) (kind : Kind) (b : Bool) → (q == p) �
 back_own u p q kind true e = refl
 back_own u p q kind false e = by_kind (λ k. has_as k p (Head u Live) ≡ has_as k p (Head u (BackAt q))) refl refl (sym e) kind
 
--- a processor sees its own frames
+-- a CPU sees its own frames
 pub own_seen : (p : ℕ) (kind : Kind) (x : Phase) → has_as kind p (hide_phase p x) ≡ has_as kind p x
 own_seen p kind InZone = refl
 own_seen p kind (Lent q way) = refl

@@ -16,7 +16,7 @@ use Rattle.step_rules.proofs.Lists.{times, count_length}
 use Rattle.step_rules.proofs.Sound.{IsPaid, PhasePaid, IsSound, groups_in}
 use Rattle.step_rules.proofs.PhaseLemmas.{free_is}
 
--- 1 where another processor than p, whose stock is of the subtree, has the frame fresh
+-- 1 where another CPU than p, whose stock is of the subtree, has the frame fresh
 abbrev covered : List Group → ℕ → ℕ → (ℕ → Option ℕ) → ℕ → Phase → ℕ
 covered groups g p stocks q x = if q == p then 0 else (if is_below groups g (stocks q) then one_if (has_as FreshFrame q x) else 0)
 
@@ -83,7 +83,7 @@ stock_counts groups g p parts q = counts (q == p) (is_below groups g (parts q).s
     counts false true e = rw e refl
     counts false false e = rw e refl
 
--- the fresh frames of a processor, counted by frame
+-- the fresh frames of a CPU, counted by frame
 fresh_length : (s : State) (q : ℕ) → IsSound s → sum_to s.zone.frames (λ f. one_if (has_as FreshFrame q (s.phases f))) ≡ length (s.parts q).fresh
 fresh_length s q sound =
     sum_same s.zone.frames (λ f. one_if (has_as FreshFrame q (s.phases f))) (λ f. times f (s.parts q).fresh) (λ f below. sym (sound.lists q FreshFrame f))

@@ -1,4 +1,4 @@
--- A processor has at most 32 fresh frames, and at most 256 pins and back frames. Serves `parts_are_booked`.
+-- A CPU has at most 32 fresh frames, and at most 256 pins and back frames. Serves `parts_are_booked`.
 use Rattle.std.proofs.Common.{◌≡◌, ℕ, ◌+◌, ◌-◌, ◌<◌, ◌≤◌, ◌==◌, Bool, true, false, length, refl, sym, ◌∙◌, ap, subst, arith, inl, inr, cond, if◌then◌else◌}
 use Rattle.std.specs.Prelude.{nat_le, nat_lt}
 use Rattle.std.proofs.lemmas.Bool.{cases_eq, ne_eqb, leb-true, ltb-true}

@@ -1,4 +1,4 @@
--- The free areas are determined by the run. Serves `areas_are_told`.
+-- The free areas are determined by the run. Serves `areas_follow_the_run`.
 use Rattle.std.proofs.Common.{◌≡◌, ℕ, ◌+◌, ◌<◌, ◌&&◌, [], ◌∷◌, ◌++◌, map, refl, sym, ◌∙◌, ap, arith, zero, suc}
 use Rattle.std.specs.List.{fold, range_with_len}
 use Rattle.std.proofs.lemmas.Bool.{lt-ltb}
@@ -11,7 +11,7 @@ use Rattle.step_rules.specs.Phases.{is_free}
 use Rattle.step_rules.specs.State.{Zone, State, at_boot, free_in}
 use Rattle.step_rules.specs.After.{Run, state_of}
 use Rattle.step_rules.specs.Places.{places_of, is_same_frame_place, place_in}
-use Rattle.step_rules.specs.FreeAreas.{free_frames, AllAreasAreTold}
+use Rattle.step_rules.specs.FreeAreas.{free_frames, AllAreasFollowRun}
 use Rattle.step_rules.proofs.Placed.{every_frame_has_one_place, zone_kept}
 use Rattle.step_rules.proofs.Runs.{next}
 
@@ -37,8 +37,8 @@ free_place (Lent p way) = refl
 free_place (Head u stage) = refl
 free_place (Tail g) = refl
 
-pub areas_are_told : AllAreasAreTold
-areas_are_told zone run legal =
+pub areas_follow_the_run : AllAreasFollowRun
+areas_follow_the_run zone run legal =
     let s = state_of zone run in
     let told = (every_frame_has_one_place zone run legal).told in
     record {

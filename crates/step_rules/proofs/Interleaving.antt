@@ -1,4 +1,4 @@
--- Local steps of a processor among others' steps. Serves `local_runs_interleave`, `local_runs_compose`.
+-- Local steps of a CPU among others' steps. Serves `local_runs_interleave`, `local_runs_compose`.
 use Rattle.std.proofs.Common.{◌≡◌, ℕ, ◌==◌, Bool, cond, false, [], ◌∷◌, sym, ◌∙◌, subst, inl, inr, eq-eqb, zero, suc, take}
 use Rattle.std.specs.Prelude.{IfSome}
 use Rattle.std.specs.List.{slice_get}

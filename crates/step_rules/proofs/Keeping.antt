@@ -12,7 +12,7 @@ use Rattle.step_rules.specs.declared.step.Action.{Action}
 use Rattle.step_rules.specs.declared.step.Answer.{Answer}
 use Rattle.step_rules.specs.Phases.{FreshFrame, keeper_of, has_as}
 use Rattle.step_rules.specs.State.{Zone, State, at_boot, front_of}
-use Rattle.step_rules.specs.Legal.{Allows, is_settled}
+use Rattle.step_rules.specs.Legal.{Allows, no_page_pends}
 use Rattle.step_rules.specs.After.{Run, after, state_of, IsLegalRun}
 use Rattle.step_rules.specs.Keepers.{StockIsKept, AllKeepersAreThere}
 use Rattle.step_rules.proofs.Lists.{front_stands, one_if_true}
@@ -82,7 +82,7 @@ kept_stock_of s p sound h fits = record {
   reported = λ off. let a = h.quiet p off in omega arith;
 }
 
-pub settled_all : (s : State) → IsHomed s → is_settled s ≡ true → (g : ℕ) → s.pending g ≡ 0
+pub settled_all : (s : State) → IsHomed s → no_page_pends s ≡ true → (g : ℕ) → s.pending g ≡ 0
 settled_all s h all g = elim (cases_Bool (has_group s.groups g)) [
   | inl there ↦ equal_test (s.pending g) 0 (all_at 64 (λ k. s.pending k == 0) all g (number_low s.groups g h.tree there))
   | inr absent ↦ h.pages g absent

@@ -9,7 +9,7 @@ use Rattle.step_rules.specs.declared.step.Action.TheVariants.{Publish, Return, S
 use Rattle.step_rules.specs.Phases.{FreshFrame, is_free, is_head, has_as, passes_out, passes_back, is_head_in_hand, may_return}
 use Rattle.step_rules.specs.State.{State, is_cpu, is_frame, is_unheld, is_held_by, visits, may_zone_act, pins_of}
 use Rattle.step_rules.specs.Usage.{usage_of}
-use Rattle.step_rules.specs.Legal.{is_legal, is_settled, no_frame_passes, nothing_passes, may_pass_back, may_fill, is_removable}
+use Rattle.step_rules.specs.Legal.{is_legal, no_page_pends, no_frame_passes, nothing_passes, may_pass_back, may_fill, is_removable}
 
 and_two : (x y : Bool) → (x && y) ≡ true → (x ≡ true) × (y ≡ true)
 and_two x y e = and_parts x y e
@@ -37,8 +37,8 @@ pub lock_tests : (s : State) (seat : ℕ) → is_legal s seat Lock ≡ true →
 lock_tests s seat e = and_two (is_cpu s.zone seat) (is_unheld s.hold) e
 
 pub unlock_tests : (s : State) (seat : ℕ) → is_legal s seat Unlock ≡ true →
-    (is_cpu s.zone seat ≡ true) × (is_held_by seat s.hold ≡ true) × (is_settled s ≡ true) × (no_frame_passes s ≡ true)
-unlock_tests s seat e = and_four (is_cpu s.zone seat) (is_held_by seat s.hold) (is_settled s) (no_frame_passes s) e
+    (is_cpu s.zone seat ≡ true) × (is_held_by seat s.hold ≡ true) × (no_page_pends s ≡ true) × (no_frame_passes s ≡ true)
+unlock_tests s seat e = and_four (is_cpu s.zone seat) (is_held_by seat s.hold) (no_page_pends s) (no_frame_passes s) e
 
 pub open_visit_tests : (s : State) (seat p : ℕ) → is_legal s seat (OpenVisit p) ≡ true →
     (may_zone_act s.hold seat ≡ true) × (is_held_by p s.hold ≡ true)

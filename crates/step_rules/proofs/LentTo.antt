@@ -1,4 +1,4 @@
--- Who a frame is lent to is one of the processors. Serves `frames_are_lent_to_processors`, `frames_pass_in_visits`,
+-- Who a frame is lent to is one of the CPUs. Serves `frames_are_lent_to_cpus`, `frames_pass_in_visits`,
 -- `beginnings_are_legal`.
 use Rattle.std.proofs.Common.{◌≡◌, ℕ, ◌^◌, ◌==◌, Bool, true, false, Some, None, refl, sym, ◌∙◌, ap, subst, inl, inr, cond}
 use Rattle.std.proofs.lemmas.Bool.{or_right, or_cases}
@@ -16,7 +16,7 @@ use Rattle.step_rules.specs.Phases.{at_stage, stage_after_last, passed_back, col
 use Rattle.step_rules.specs.State.{Zone, State, at_boot, with_at, is_cpu, is_held_by, visits}
 use Rattle.step_rules.specs.Legal.{Allows, IsMade}
 use Rattle.step_rules.specs.After.{after, state_of, placed_phase, with_block, unit_size, without_unit}
-use Rattle.step_rules.specs.Lent.{lent_to, FramesAreLentToProcessors, FramesPassInVisits, BeginningsAreLegal}
+use Rattle.step_rules.specs.Lent.{lent_to, FramesAreLentToCpus, FramesPassInVisits, BeginningsAreLegal}
 use Rattle.step_rules.proofs.LegalTests.{credit_tests, pass_out_tests, take_in_tests}
 use Rattle.step_rules.proofs.Basics.{at_each}
 use Rattle.step_rules.proofs.Sound.{IsSound}
@@ -29,7 +29,7 @@ use Rattle.step_rules.proofs.LocalLaws.{no_illegal}
 use Rattle.step_rules.proofs.Placed.{zone_kept}
 use Rattle.step_rules.proofs.Freeing.{zone_of_run}
 
--- no processor has it
+-- no CPU has it
 never : (x : Phase) → lent_to x ≡ None → (p : ℕ) → lent_to x ≡ Some p → ⊥
 never x none p e = none_some p (sym none ∙ e)
 
@@ -61,7 +61,7 @@ placed g b f = by_head (f == b.at)
     by_head true = refl
     by_head false = refl
 
--- each frame is lent to a processor, if it is lent
+-- each frame is lent to a CPU, if it is lent
 abbrev AreLent : Zone → (ℕ → Phase) → Type 0
 AreLent zone phases = (f p : ℕ) → lent_to (phases f) ≡ Some p → is_cpu zone p ≡ true
 
@@ -123,7 +123,7 @@ lent_allowed s seat action answer sound both ok =
       )
     ]
 
-pub frames_are_lent : FramesAreLentToProcessors
+pub frames_are_lent : FramesAreLentToCpus
 frames_are_lent zone run legal f p e =
     let start : IsLentWell (at_boot zone) = (homes_boot zone, λ n q d. absurd (none_some q d)) in
     let kept = kept_along (λ (x : ℕ) (d : Step × Answer). x) (λ s x. IsLentWell s)

@@ -22,7 +22,7 @@ pub mod Returning
 pub mod Granting
 pub mod SmallRuns
 pub mod Breaking
-pub mod Sighting
+pub mod ShownStates
 pub mod GroupRuns
 pub mod LocalRuns
 pub mod Homes

@@ -1,4 +1,4 @@
--- What a processor sees while it holds the lock goes on by its own steps, and by no other's.
+-- What a CPU sees while it holds the lock goes on by its own steps, and by no other's.
 use Rattle.std.proofs.Common.{◌≡◌, ℕ, Bool, true, false, refl, sym, ◌∙◌, ap, subst, inl, inr, eq-eqb}
 use Rattle.std.specs.Prelude.{◌||◌, ◌==◌}
 use Rattle.std.proofs.lemmas.Bool.{false≢true, true≢false, or_left}

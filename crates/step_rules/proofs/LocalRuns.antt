@@ -12,7 +12,7 @@ use Rattle.step_rules.specs.Examples.{small_zone, lock_taken, vain_visit, with_p
 use Rattle.step_rules.proofs.SmallRuns.{legal_each}
 use Rattle.step_rules.proofs.Interleaving.{local_runs_interleave}
 
--- what processor 1 sees with the lock
+-- what CPU 1 sees with the lock
 abbrev seen : State
 seen = hide 1 (state_of small_zone lock_taken)
 

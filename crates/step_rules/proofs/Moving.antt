@@ -109,7 +109,7 @@ frames_stay groups phases n m f y e =
     sum_same n (λ i. kept_one groups m (with_at phases f y i)) (λ i. kept_one groups m (phases i))
     (λ i below. at_each phases f y (λ k x. kept_one groups m x ≡ kept_one groups m (phases k)) (ap (λ o. one_if (is_below groups m o)) e) (λ k ne. refl) i)
 
--- a processor's stock changes
+-- a CPU's stock changes
 pub prepaid_moves : (groups : List Group) (parts : ℕ → Part) (cpus m p : ℕ) (part : Part) → p < cpus + 1 →
     pages_prepaid groups (with_at parts p part) cpus m + stock_below groups m (parts p) ≡ pages_prepaid groups parts cpus m + stock_below groups m part
 prepaid_moves groups parts cpus m p part below = sum_at (cpus + 1) (stock_below groups m) parts p part below

@@ -1,4 +1,4 @@
--- Steps of another processor, under p's cover.
+-- Steps of another CPU, under p's cover.
 use Rattle.std.proofs.Common.{◌≡◌, ℕ, ◌+◌, ◌-◌, ◌≤◌, ◌||◌, ◌==◌, Bool, true, false, length, refl, sym, ◌∙◌, ap, arith, eq-eqb}
 use Rattle.std.specs.Prelude.{nat_le, not}
 use Rattle.std.proofs.lemmas.Bool.{ne_eqb, false≢true, and_parts, leb-true, cond-false}
@@ -93,7 +93,7 @@ credit_hidden s p q f sound other has =
     same_state s (covered_phase p s.phases f (Lent q OnList) (sym (ap (hide_phase p) is.1 ∙ other_fresh is.0 p q other))) refl
     (other_changed p s.parts q (credited (s.parts q) f) other part)
 
--- a legal step of another processor leaves what p sees as it is
+-- a legal step of another CPU leaves what p sees as it is
 pub other_after : (s : State) (p q : ℕ) (action : Action) (answer : Answer) → IsSound s → (q ≡ 0 → ⊥) → (q ≡ p → ⊥) → holds_lock p s.hold ≡ true →
     is_legal s q action ≡ true → IsAnswer s q action answer → hide p (after s q action answer) ≡ hide p s
 other_after s p q Lock Done sound ne other holds legal ok =

@@ -57,7 +57,7 @@ cpu_own : (zone : Zone) (p seat : ℕ) → IsOwn p seat → is_cpu zone seat ≡
 cpu_own zone p seat (inl none) cpu = absurd (let range = cpu_range zone seat cpu in let low = range.0 in omega arith)
 cpu_own zone p seat (inr own) cpu = own
 
--- a test of a processor's seat need only be the same where the seat is p
+-- a test of a CPU's seat need only be the same where the seat is p
 at_cpu : (zone : Zone) (p seat : ℕ) (a b : Bool) → IsOwn p seat → (seat ≡ p → a ≡ b) → (is_cpu zone seat && a) ≡ (is_cpu zone seat && b)
 at_cpu zone p seat a b own same =
     elim (cases_Bool (is_cpu zone seat)) [

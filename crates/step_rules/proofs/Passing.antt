@@ -78,7 +78,7 @@ booked_back s f p sound =
     let c : times f (s.parts p).fresh ≡ one_if (has_as FreshFrame p (s.phases f)) = sound.lists p FreshFrame f in
     omega arith
 
--- a frame of the processor's list, its fresh or its back frames is passed back
+-- a frame of the CPU's list, its fresh or its back frames is passed back
 sound_sent : (s : State) (f p : ℕ) (x y : Phase) → IsSound s → f < s.zone.frames → s.hold ≡ Visiting p → s.phases f ≡ x → passed_back x ≡ y →
     is_live x ≡ false →
     ((q : ℕ) → passes_out q y ≡ true → q ≡ p) → ((q : ℕ) → passes_back q y ≡ true → q ≡ p) → PhasePaid s.zone.cpus (groups_in s.parts) y →

@@ -84,7 +84,7 @@ returning_is killed (Head u Ended) e = AsEnded u refl
 returning_is killed (Head u Collected) e = AsDrop u refl e
 returning_is killed x e = absurd (false≢true e)
 
--- no processor but p has the frame
+-- no CPU but p has the frame
 abbrev pub IsOnlyAt : ℕ → Phase → Type 0
 IsOnlyAt p x = (q : ℕ) (kind : Kind) → (q ≡ p → ⊥) → has_as kind q x ≡ false
 
@@ -97,7 +97,7 @@ only_fresh u p q kind ne = by_kind (λ k. has_as k q (Head u (FreshAt p)) ≡ fa
 pub only_back : (u : ChargedUnit) (p : ℕ) → IsOnlyAt p (Head u (BackAt p))
 only_back u p q kind ne = by_kind (λ k. has_as k q (Head u (BackAt p)) ≡ false) refl refl (ne_eqb p q (λ e. ne (sym e))) kind
 
--- the phases in which no processor has the frame, nor does it pass or have references
+-- the phases in which no CPU has the frame, nor does it pass or have references
 abbrev pub is_quiet_stage : Stage → Bool
 is_quiet_stage Collected = true
 is_quiet_stage Bare = true

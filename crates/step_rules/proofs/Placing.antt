@@ -47,7 +47,7 @@ quiet_paid cpus groups (Head u Ended) e = tt
 quiet_paid cpus groups (Tail g) e = tt
 quiet_paid cpus groups x e = absurd (false≢true e)
 
--- one phase gives way to another, and no processor has either
+-- one phase gives way to another, and no CPU has either
 pub record IsQuietly (zone : Zone) (f : ℕ) (x y : Phase) : Type 0 where
   pub before : is_quiet x ≡ true
   pub after : is_quiet y ≡ true
@@ -240,7 +240,7 @@ not_parts false false e = (refl, refl)
 not_parts true b e = absurd (false≢true e)
 not_parts false true e = absurd (false≢true e)
 
--- nothing passes for the processor that is visited
+-- nothing passes for the CPU that is visited
 pub visit_rests : (s : State) (p : ℕ) → IsSound s → s.hold ≡ Visiting p → nothing_passes s p ≡ true → (f q : ℕ) → s.hold ≡ Visiting q →
     (passes_out q (s.phases f) ≡ false) × (passes_back q (s.phases f) ≡ false)
 visit_rests s p sound visit rest f q at =
@@ -292,7 +292,7 @@ nothing_fresh s p sound none f =
     zero_test true e = absurd (omega arith)
     zero_test false e = refl
 
--- what is fresh stays paid where the stock of a processor with nothing fresh changes its group
+-- what is fresh stays paid where the stock of a CPU with nothing fresh changes its group
 still_paid : (cpus : ℕ) (parts : ℕ → Part) (p : ℕ) (part : Part) (x : Phase) → has_as FreshFrame p x ≡ false → PhasePaid cpus (groups_in parts) x →
     PhasePaid cpus (groups_in (with_at parts p part)) x
 still_paid cpus parts p part (Head u (FreshAt q)) not_here paid =

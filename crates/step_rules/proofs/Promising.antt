@@ -49,13 +49,13 @@ use Rattle.step_rules.proofs.Runs.{legal_from, sound_run}
 use Rattle.step_rules.proofs.Freeing.{zone_of_run}
 use Rattle.step_rules.proofs.Settling.{nothing_pends}
 use Rattle.step_rules.proofs.Returning.{every_frame_returns_once}
-use Rattle.step_rules.proofs.Telling.{groups_are_told, parts_are_told}
+use Rattle.step_rules.proofs.Telling.{groups_follow_the_run, parts_follow_the_run}
 use Rattle.step_rules.proofs.Keeping.{keepers_are_there}
 use Rattle.step_rules.proofs.Counting.{references_are_counted}
 use Rattle.step_rules.proofs.Living.{live_are_referred}
 use Rattle.step_rules.proofs.LentTo.{frames_are_lent}
 use Rattle.step_rules.proofs.Booking.{parts_are_booked}
-use Rattle.step_rules.proofs.Uniting.{units_are_told}
+use Rattle.step_rules.proofs.Uniting.{units_follow_the_run}
 use Rattle.step_rules.proofs.Heads.{heads_run}
 use Rattle.step_rules.proofs.Charging.{groups_in_run, charged_is_usage}
 
@@ -79,7 +79,7 @@ module _ (zone : Zone) (run : Run) (legal : IsLegalRun zone run) where
   in_unit_kept f g in_it =
       let s = state_of zone run in
       let sound = sound_run zone run legal in
-      let unit : unit_of (s.phases in_it.0) ≡ Some (record { group = g; order = in_it.1 }) = (units_are_told zone run legal in_it.0).unit ∙ in_it.2 in
+      let unit : unit_of (s.phases in_it.0) ≡ Some (record { group = g; order = in_it.1 }) = (units_follow_the_run zone run legal in_it.0).unit ∙ in_it.2 in
       let from = in_it.3.from in
       elim (cases_eq f in_it.0) [
         | inl e ↦ ap (λ (m : ℕ). keeper_of (s.phases m)) e ∙ unit_keeper (s.phases in_it.0) g in_it.1 unit
@@ -93,13 +93,13 @@ module _ (zone : Zone) (run : Run) (legal : IsLegalRun zone run) where
       let some = pow_pos u.order in
       let same : Some u ≡ Some (record { group = g; order = u.order }) =
       ap (λ (h : ℕ). Some (record { group = h; order = u.order })) (some_group u.group g kept) in
-      (f, u.order, sym (units_are_told zone run legal f).unit ∙ ap unit_of was ∙ same, record { from = omega arith; before = omega arith })
+      (f, u.order, sym (units_follow_the_run zone run legal f).unit ∙ ap unit_of was ∙ same, record { from = omega arith; before = omega arith })
   kept_in_unit f g (Tail h) was kept =
       let head = heads_run zone run legal f h was in
       let low = head.4 in
       let same : Some head.1 ≡ Some (record { group = g; order = head.1.order }) =
       ap (λ (k : ℕ). Some (record { group = k; order = head.1.order })) (head.3 ∙ some_group h g kept) in
-      (head.0, head.1.order, sym (units_are_told zone run legal head.0).unit ∙ head.2 ∙ same, record { from = omega arith; before = head.5 })
+      (head.0, head.1.order, sym (units_follow_the_run zone run legal head.0).unit ∙ head.2 ∙ same, record { from = omega arith; before = head.5 })
 
   no_reference : (f : ℕ) → is_live ((state_of zone run).phases f) ≡ false → HasNoReference run f
   no_reference f dead = λ seat.
@@ -116,10 +116,10 @@ module _ (zone : Zone) (run : Run) (legal : IsLegalRun zone run) where
   )
 
   unit_told : (f : ℕ) (u : ChargedUnit) {stage : Stage} → (state_of zone run).phases f ≡ Head u stage → is_some ((units_of run).unit f) ≡ true
-  unit_told f u was = sym (ap is_some (units_are_told zone run legal f).unit) ∙ ap (λ y. is_some (unit_of y)) was
+  unit_told f u was = sym (ap is_some (units_follow_the_run zone run legal f).unit) ∙ ap (λ y. is_some (unit_of y)) was
 
   same_hand : (p : ℕ) → is_cpu zone p ≡ true → ((units_of run).hands p).list ≡ ((state_of zone run).parts p).list
-  same_hand p cpu = ap (λ (h : InHand). h.list) ((units_are_told zone run legal 0).hands p) ∙ sym (parts_are_told zone run legal p cpu).list
+  same_hand p cpu = ap (λ (h : InHand). h.list) ((units_follow_the_run zone run legal 0).hands p) ∙ sym (parts_follow_the_run zone run legal p cpu).list
 
   is_of_zone : (p : ℕ) → is_cpu (state_of zone run).zone p ≡ true → is_cpu zone p ≡ true
   is_of_zone p cpu = ap (λ (z : Zone). is_cpu z p) (sym (zone_of_run zone run)) ∙ cpu
@@ -267,7 +267,7 @@ limits_kept zone run legal seat (Grant g n) Granted ok = (
   λ m below.
       let s = state_of zone run in
       let on_path : in_subtree s.groups m g ≡ true = ap (λ (gs : List Group). in_subtree gs m g) (groups_in_run zone run legal) ∙ below in
-      let limit : limit_given run m ≡ limit_of s.groups m = sym ((groups_are_told zone run legal m).limit (in_subtree-above s.groups m g on_path)) in
+      let limit : limit_given run m ≡ limit_of s.groups m = sym ((groups_follow_the_run zone run legal m).limit (in_subtree-above s.groups m g on_path)) in
       let usage = charged_is_usage zone run legal m in
       let room : fits_limit (limit_of s.groups m) (usage_of s m + n) ≡ true = ok.answered m on_path in
       (λ i. fits_limit (limit i) (usage i + n)) ∙ room,
@@ -276,7 +276,7 @@ limits_kept zone run legal seat (Grant g n) Granted ok = (
     alive : was_killed run g ≡ false
     alive =
         let not_killed : not ((state_of zone run).killed g) ≡ true = (grant_tests (state_of zone run) seat g n ok.legal).2 in
-        sym (groups_are_told zone run legal g).killed ∙ not_true ((state_of zone run).killed g) not_killed
+        sym (groups_follow_the_run zone run legal g).killed ∙ not_true ((state_of zone run).killed g) not_killed
       where
         not_true : (b : Bool) → not b ≡ true → b ≡ false
         not_true true e = absurd (false≢true e)
@@ -321,8 +321,8 @@ returns_kept zone run legal seat (Credit f) Back ok =
     let cpu : is_cpu s.zone seat ≡ true = (credit_tests (state_of zone run) seat f ok.legal).0 in
     let fresh : has_as FreshFrame seat (s.phases f) ≡ true = (credit_tests (state_of zone run) seat f ok.legal).2 in
     let is = fresh_is seat (s.phases f) fresh in (
-      ap (λ (h : InHand). times_in f h.fresh) ((units_are_told zone run legal f).hands seat)
-          ∙ ap (times_in f) (sym (parts_are_told zone run legal seat (is_of_zone zone run legal seat cpu)).fresh)
+      ap (λ (h : InHand). times_in f h.fresh) ((units_follow_the_run zone run legal f).hands seat)
+          ∙ ap (times_in f) (sym (parts_follow_the_run zone run legal seat (is_of_zone zone run legal seat cpu)).fresh)
           ∙ (parts_are_booked zone run legal seat).fresh f ∙ ap one_if fresh,
       no_reference zone run legal f (ap is_live is.1),
     )

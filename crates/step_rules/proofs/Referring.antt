@@ -135,7 +135,7 @@ sound_frozen s f n sound below some holds all =
     subst (λ (k : ℕ). IsSound (with_phase (with_references s 0 f k) f (at_stage Ended (s.phases f)))) none
     (sound_ended s f sound below (omega arith) (omega arith))
 
--- the last put of a processor
+-- the last put of a CPU
 sound_backed : (s : State) (p f : ℕ) → IsSound s → f < s.zone.frames → p ≤ s.zone.cpus → 1 ≤ s.references p f → live_references s f ≤ s.references p f →
     Sound s.zone s.hold (with_at s.phases f (at_stage (BackAt p) (s.phases f))) (changed s.references p f 0) (with_at s.parts p (with_back (s.parts p) f))
 sound_backed s p f sound below there some all =

@@ -25,8 +25,8 @@ use Rattle.step_rules.specs.Legal.{is_legal, IsAnswer, IsMade, Allows}
 use Rattle.step_rules.specs.After.{Run, after, state_of, IsLegalRun, is_within, placed_phase, with_block, unit_size, without_unit, consumed}
 use Rattle.step_rules.specs.Folds.{was_killed}
 use Rattle.step_rules.specs.Units.{units_of, fresh_group}
-use Rattle.step_rules.specs.Returns.{is_open, is_drop_stage, is_drop_phase, is_drop, is_killed_group, gone_after, is_gone, uses_ended, uses_closed, counted_beside}
-use Rattle.step_rules.specs.Returns.{counted_along, EveryFrameReturnsOnce}
+use Rattle.step_rules.specs.Returns.{is_open, is_drop_stage, is_drop_phase, is_drop, is_killed_group, gone_after, is_gone, uses_ended, uses_closed, counted_with_state}
+use Rattle.step_rules.specs.Returns.{counted_with_run, EveryFrameReturnsOnce}
 use Rattle.step_rules.proofs.LegalTests.{collect_tests, consume_tests, credit_tests, freeze_tests, pass_out_tests, put_tests}
 use Rattle.step_rules.proofs.LegalTests.{return_tests, take_in_tests, unfreeze_tests}
 use Rattle.step_rules.proofs.Basics.{at_same, at_other}
@@ -38,8 +38,8 @@ use Rattle.step_rules.proofs.Passing.{front_listed}
 use Rattle.step_rules.proofs.Placing.{within_cases, block_free, in_block, off_block, in_unit, off_unit}
 use Rattle.step_rules.proofs.Runs.{after_illegal, allowed, kept_along, sound_boot, sound_run, state_more, legal_more}
 use Rattle.step_rules.proofs.LocalLaws.{no_illegal}
-use Rattle.step_rules.proofs.Telling.{told_run, groups_are_told}
-use Rattle.step_rules.proofs.Uniting.{units_are_told}
+use Rattle.step_rules.proofs.Telling.{told_run, groups_follow_the_run}
+use Rattle.step_rules.proofs.Uniting.{units_follow_the_run}
 
 abbrev Count : Type 0
 Count = State → ℕ → Action → Answer → ℕ
@@ -71,7 +71,7 @@ record Tells (F : State → ℕ) (s : State) (t : Told) : Type 0 where
 pub counted_so : (gain loss : Count) (F : State → ℕ) → ((zone : Zone) → F (at_boot zone) ≡ 0) →
     ((s : State) (seat : ℕ) (action : Action) (answer : Answer) → IsSound s → Allows s seat action answer →
     F s + gain s seat action answer ≡ F (after s seat action answer) + loss s seat action answer) →
-    (zone : Zone) (run : Run) → IsLegalRun zone run → counted_beside gain zone run ≡ F (state_of zone run) + counted_beside loss zone run
+    (zone : Zone) (run : Run) → IsLegalRun zone run → counted_with_state gain zone run ≡ F (state_of zone run) + counted_with_state loss zone run
 unfolding tell_both tell_one
 counted_so gain loss F boot each zone run legal =
     let start : Told = (at_boot zone, (0, 0)) in
@@ -400,7 +400,7 @@ record Counts (zone : Zone) (F : State → ℕ) (s : State) (t : Counted) : Type
 pub counted_so_along : (gain loss : Along) (F : State → ℕ) (zone : Zone) → F (at_boot zone) ≡ 0 →
     ((run : Run) (seat : ℕ) (action : Action) (answer : Answer) → IsLegalRun zone run → Allows (state_of zone run) seat action answer →
     F (state_of zone run) + gain run seat action answer ≡ F (after (state_of zone run) seat action answer) + loss run seat action answer) →
-    (run : Run) → IsLegalRun zone run → counted_along gain run ≡ F (state_of zone run) + counted_along loss run
+    (run : Run) → IsLegalRun zone run → counted_with_run gain run ≡ F (state_of zone run) + counted_with_run loss run
 unfolding count_both count_one
 counted_so_along gain loss F zone boot each run legal =
     let start : Counted = ([], (0, 0)) in
@@ -435,8 +435,8 @@ pub drop_is_told : (zone : Zone) (run : Run) → IsLegalRun zone run → (f : �
     is_drop run f ≡ is_drop_phase (state_of zone run).killed ((state_of zone run).phases f)
 drop_is_told zone run legal f may =
     let s = state_of zone run in
-    killed_group_same (was_killed run) s.killed (λ g. sym (groups_are_told zone run legal g).killed) ((units_of run).fresh_for f)
-    ∙ ap (is_killed_group s.killed) (sym (units_are_told zone run legal f).fresh)
+    killed_group_same (was_killed run) s.killed (λ g. sym (groups_follow_the_run zone run legal g).killed) ((units_of run).fresh_for f)
+    ∙ ap (is_killed_group s.killed) (sym (units_follow_the_run zone run legal f).fresh)
     ∙ fresh_drop s.killed (s.phases f) (returning_is s.killed (s.phases f) may)
 
 ends_same : (f : ℕ) (zone : Zone) (run : Run) (seat : ℕ) (action : Action) (answer : Answer) → IsLegalRun zone run → IsMade (state_of zone run) seat action answer →

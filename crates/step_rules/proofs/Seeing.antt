@@ -1,4 +1,4 @@
--- What a processor sees tells which steps are legal. Serves `legality_is_seen`, `the_lock_is_passed_on`, `all_is_seen`.
+-- What a CPU sees tells which steps are legal. Serves `legality_is_seen`, `the_lock_is_passed_on`, `all_is_seen`.
 use Rattle.std.proofs.Common.{◌≡◌, ℕ, ◌&&◌, true, false, refl, sym, ◌∙◌, ap, subst, arith, inl, inr, eq-eqb, ◌==◌}
 use Rattle.std.specs.Prelude.{◌⊎◌, not}
 use Rattle.std.proofs.lemmas.Bool.{or_left, cases_Bool, ne_eqb, cond-false}
@@ -8,7 +8,7 @@ use Rattle.step_rules.specs.declared.step.Action.TheVariants.{Lock, Unlock}
 use Rattle.step_rules.specs.declared.step.Answer.TheVariants.{Done}
 use Rattle.step_rules.specs.Phases.{is_passing}
 use Rattle.step_rules.specs.State.{Part, State, is_unheld, is_cpu, is_held_by, visits}
-use Rattle.step_rules.specs.Legal.{is_legal, is_settled, no_frame_passes}
+use Rattle.step_rules.specs.Legal.{is_legal, no_page_pends, no_frame_passes}
 use Rattle.step_rules.specs.After.{state_of}
 use Rattle.step_rules.specs.Cover.{hide, hide_phase, hide_part, hide_parts, holds_lock}
 use Rattle.step_rules.specs.Seen.{AllLegalityIsSeen, LockIsPassedOn, SeesAll, AllIsSeen}
@@ -33,7 +33,7 @@ still_seen s p = all_same s.zone.frames (λ f. not (is_passing (hide_phase p (s.
 any_legal : (s : State) (p seat : ℕ) (action : Action) → IsSound s → (seat ≡ 0) ⊎ (seat ≡ p) → holds_lock p s.hold ≡ true →
     is_legal (hide p s) seat action ≡ is_legal s seat action
 any_legal s p seat Lock sound own holds = refl
-any_legal s p seat Unlock sound own holds = ap (λ b. is_cpu s.zone seat && is_held_by seat s.hold && is_settled s && b) (still_seen s p)
+any_legal s p seat Unlock sound own holds = ap (λ b. is_cpu s.zone seat && is_held_by seat s.hold && no_page_pends s && b) (still_seen s p)
 any_legal s p seat action sound own holds = own_legal s p seat action sound own refl holds
 
 pub legality_is_seen : AllLegalityIsSeen
@@ -64,7 +64,7 @@ the_lock_is_passed_on = record {
       };
 }
 
--- of another processor p sees the book, and as its stock the same
+-- of another CPU p sees the book, and as its stock the same
 covered_stock : (s : State) (p q : ℕ) → IsSound s → IsHomed s → holds_lock p s.hold ≡ true → (q ≡ p → ⊥) →
     (hide_parts p s.parts q).stock.pages ≡ (s.parts q).book
 covered_stock s p q sound homed holds ne =

@@ -17,7 +17,7 @@ use Rattle.step_rules.specs.declared.step.Answer.TheVariants.{Illegal, Done, Pag
 use Rattle.step_rules.specs.Phases.{ListFrame, has_as, passes_out, passes_back, is_passing}
 use Rattle.step_rules.specs.State.{Zone, State, at_boot, all_to, one_if, is_unheld, may_zone_act}
 use Rattle.step_rules.specs.Usage.{pages_pending}
-use Rattle.step_rules.specs.Legal.{is_legal, Allows, is_settled}
+use Rattle.step_rules.specs.Legal.{is_legal, Allows, no_page_pends}
 use Rattle.step_rules.specs.Places.{is_same_frame_place, place_in}
 use Rattle.step_rules.specs.After.{after, state_of}
 use Rattle.step_rules.specs.Returns.{times_in, IsAllPlaced, NothingPendsWhileTheLockIsFree}
@@ -35,7 +35,7 @@ not_free hold seat may free = true≢false (sym (and_parts (seat == 0) (not (is_
 
 -- nothing is pending where the lock is free
 abbrev IsQuit : State → Type 0
-IsQuit s = is_unheld s.hold ≡ true → is_settled s ≡ true
+IsQuit s = is_unheld s.hold ≡ true → no_page_pends s ≡ true
 
 quit_made : (s : State) (seat : ℕ) (action : Action) (answer : Answer) → IsQuit s → is_legal s seat action ≡ true → IsQuit (after s seat action answer)
 quit_made s seat action Illegal quit legal = subst IsQuit (sym (after_illegal s seat action)) quit
@@ -90,7 +90,7 @@ times_are f (x ∷ xs) =
       | inr ne ↦ rw (ne_eqb x f ne) (let a = times_are f xs in omega arith)
     ]
 
-all_placed : (s : State) → IsSound s → IsHomed s → is_unheld s.hold ≡ true → is_settled s ≡ true → IsAllPlaced s
+all_placed : (s : State) → IsSound s → IsHomed s → is_unheld s.hold ≡ true → no_page_pends s ≡ true → IsAllPlaced s
 all_placed s sound homed free settled =
     let rests : (f : ℕ) → is_passing (s.phases f) ≡ false = λ f.
     still_phase (s.phases f) (λ q out. unheld_visit s.hold q free ((sound.frames f).out q out))

@@ -13,7 +13,7 @@ use Rattle.step_rules.specs.State.{Zone, Part, State, with_at, one_if, without, 
 use Rattle.step_rules.proofs.Basics.{at_other, at_each, at_itself}
 use Rattle.step_rules.proofs.Lists.{times, times_same, times_other, times_last, times_without, times_without_other}
 
--- a fresh frame is one that a processor paid from a stock of its group
+-- a fresh frame is one that a CPU paid from a stock of its group
 pub record IsPaid (cpus : ℕ) (groups : ℕ → Option ℕ) (unit : ChargedUnit) (q : ℕ) : Type 0 where
   pub group : groups q ≡ Some unit.group
   pub order : unit.order ≡ 0
@@ -46,7 +46,7 @@ groups_in parts q = (parts q).stock.group
 abbrev pub AreUnits : (ℕ → Phase) → Type 0
 AreUnits phases = (f : ℕ) (unit : ChargedUnit) → unit_of (phases f) ≡ Some unit → (x : ℕ) → f < x → x < f + 2 ^ unit.order → phases x ≡ Tail unit.group
 
--- a processor's book is the pages of its stock, its fresh frames, and what it passed back and isn't absorbed
+-- a CPU's book is the pages of its stock, its fresh frames, and what it passed back and isn't absorbed
 abbrev pub IsBooked : Part → Type 0
 IsBooked part = part.book ≡ part.stock.pages + length part.fresh + part.unreported + part.reported
 

@@ -1,4 +1,4 @@
--- What the state has is what a run says, folded apart. Serves `groups_are_told`, `the_lock_is_told`, `parts_are_told`.
+-- What the state has is what a run says, folded apart. Serves `groups_follow_the_run`, `the_lock_follows_the_run`, `parts_follow_the_run`.
 use Rattle.std.proofs.Common.{◌≡◌, ℕ, ◌==◌, Bool, true, false, Option, Some, None, [], ◌∷◌, refl, sym, ◌∙◌, ap, subst, arith, inl, inr}
 use Rattle.std.proofs.Common.{cond, if◌then◌else◌, eq-eqb}
 use Rattle.std.specs.Prelude.{is_some}
@@ -22,8 +22,8 @@ use Rattle.step_rules.specs.declared.step.Answer.TheVariants.{Illegal, Done, Las
 use Rattle.step_rules.specs.State.{Zone, Part, State, at_boot, with_at, without, with_last, front_of, is_unheld, is_held_by, visits}
 use Rattle.step_rules.specs.Legal.{IsMade, Allows}
 use Rattle.step_rules.specs.After.{Run, after, state_of, with_back, without_frame, paid, credited, filled, drained, IsLegalRun}
-use Rattle.step_rules.specs.Folds.{limit_after, flag_after, killed_after, AllGroupsAreTold, holder_after, open_after, hold_of, TheLockIsTold, InHand}
-use Rattle.step_rules.specs.Folds.{hand_after, LastFill, fill_after, last_fill, AllPartsAreTold}
+use Rattle.step_rules.specs.Folds.{limit_after, flag_after, killed_after, AllGroupsFollowRun, holder_after, open_after, hold_of, TheLockFollowsRun, InHand}
+use Rattle.step_rules.specs.Folds.{hand_after, LastFill, fill_after, last_fill, AllPartsFollowRun}
 use Rattle.step_rules.proofs.LegalTests.{lock_tests, open_visit_tests, shut_visit_tests, unlock_tests}
 use Rattle.step_rules.proofs.Sound.{IsSound}
 use Rattle.step_rules.proofs.PhaseLemmas.{equal_test, none_some}
@@ -140,8 +140,8 @@ limit_boot g = by_number (0 == g)
     by_number true = refl
     by_number false = refl
 
-pub groups_are_told : AllGroupsAreTold
-groups_are_told zone run legal g = record {
+pub groups_follow_the_run : AllGroupsFollowRun
+groups_follow_the_run zone run legal g = record {
   limit = told_run (λ x seat action answer. limit_after g x action answer) (HasLimit g) (limit_still g)
       (λ s x seat action answer sound. limit_made g s x seat action answer) zone None (λ there. limit_boot g) run legal;
   flag = told_run (λ x seat action answer. flag_after g x action answer) (HasFlag g) (flag_still g)
@@ -211,8 +211,8 @@ second_alone : (run : Run) (x : Option ℕ × Bool) →
 second_alone [] x = refl
 second_alone (e ∷ run) x = second_alone run (tell_hold x e.0.seat e.0.action e.1)
 
-pub the_lock_is_told : TheLockIsTold
-the_lock_is_told zone run legal =
+pub the_lock_follows_the_run : TheLockFollowsRun
+the_lock_follows_the_run zone run legal =
     let told = told_run tell_hold HasHold hold_still (λ s x seat action answer sound. hold_made s x seat action answer) zone (None, false)
     (refl, λ e. refl) run legal in
     let a = first_alone run (None, false) in
@@ -222,7 +222,7 @@ the_lock_is_told zone run legal =
       free = λ e. sym b ∙ told.1 (a ∙ e);
     }
 
--- ---- a processor's part
+-- ---- a CPU's part
 module _ {Y : Type 0} (H : Part → Y) (parts : ℕ → Part) (p : ℕ) (x : Y) (holds : H (parts p) ≡ x) where
   at_part : (k : ℕ) (part : Part) (F : Y → Y) → H part ≡ F (H (parts k)) → H (with_at parts k part p) ≡ cond (p == k) (F x) x
   at_part k part F e = elim (cases_eq p k) [
@@ -236,7 +236,7 @@ module _ {Y : Type 0} (H : Part → Y) (parts : ℕ → Part) (p : ℕ) (x : Y) 
     | inr ne ↦ rw (ne_eqb p k ne) holds
   ]
 
-  -- a last put changes the part of a processor alone
+  -- a last put changes the part of a CPU alone
   last_part : (p ≡ 0 → ⊥) → (seat : ℕ) (part : Part) (F : Y → Y) → H part ≡ F (H (parts seat)) →
       H (cond (seat == 0) parts (with_at parts seat part) p) ≡ cond (p == seat) (F x) x
   last_part some seat part F e = elim (cases_eq seat 0) [
@@ -320,8 +320,8 @@ fill_is_told zone run legal p =
     (λ s x seat action answer sound. fill_made p s x seat action answer) zone (record { group = None; is_drained = false }) refl run legal in
     (ap (λ (h : LastFill). h.group) fill, ap (λ (h : LastFill). h.is_drained) fill)
 
-pub parts_are_told : AllPartsAreTold
-parts_are_told zone run legal p cpu =
+pub parts_follow_the_run : AllPartsFollowRun
+parts_follow_the_run zone run legal p cpu =
     let some : p ≡ 0 → ⊥ = λ e. (let low = (cpu_range zone p cpu).0 in omega arith) in
     let hand = told_run (hand_after p) (HasHand p) (hand_still p) (λ s x seat action answer sound. hand_made p some s x seat action answer) zone
     (record { list = []; fresh = []; back = [] }) refl run legal in

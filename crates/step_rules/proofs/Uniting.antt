@@ -1,4 +1,4 @@
--- The units of the state are those that a run says. Serves `units_are_told`.
+-- The units of the state are those that a run says. Serves `units_follow_the_run`.
 use Rattle.std.proofs.Common.{◌≡◌, ℕ, ◌+◌, ◌^◌, ◌<◌, ◌≤◌, ◌==◌, Bool, true, false, Option, Some, None, [], ◌∷◌, refl, sym, ◌∙◌, ap, arith}
 use Rattle.std.proofs.Common.{inl, inr, cond, eq-eqb}
 use Rattle.std.specs.Prelude.{nat_le}
@@ -22,7 +22,7 @@ use Rattle.step_rules.specs.State.{Zone, State, at_boot, with_at, front_of, is_c
 use Rattle.step_rules.specs.Legal.{IsMade}
 use Rattle.step_rules.specs.After.{Run, IsLegalRun, after, state_of, placed_phase, with_block, unit_size, without_unit, consumed}
 use Rattle.step_rules.specs.Folds.{InHand, hand_after}
-use Rattle.step_rules.specs.Units.{Units, unit_after, fresh_after, units_after, no_units, units_of, fresh_group, AllUnitsAreTold}
+use Rattle.step_rules.specs.Units.{Units, unit_after, fresh_after, units_after, no_units, units_of, fresh_group, AllUnitsFollowRun}
 use Rattle.step_rules.proofs.LegalTests.{collect_tests, consume_tests, freeze_tests, pass_out_tests, put_tests, return_tests}
 use Rattle.step_rules.proofs.LegalTests.{take_in_tests, unfreeze_tests}
 use Rattle.step_rules.proofs.Basics.{at_same, at_other, at_each}
@@ -201,7 +201,7 @@ marks_made f front s x seat (Return g) Done sound holds at made =
 marks_made f front s x seat Lock answer sound holds at made = holds
 marks_made f front s x seat action answer sound holds at made = holds
 
--- the state has the hands of the processors, and the marks of each frame
+-- the state has the hands of the CPUs, and the marks of each frame
 pub record HasUnits (s : State) (u : Units) : Type 0 where
   pub hands : (p : ℕ) → (p ≡ 0 → ⊥) → hand_in (s.parts p) ≡ u.hands p
   pub marked : (f : ℕ) → marks (s.phases f) ≡ (u.unit f, u.fresh_for f)
@@ -233,8 +233,8 @@ hands_alone (e ∷ run) u p = hands_alone run (units_after u e.0.seat e.0.action
 pub units_in : (zone : Zone) (run : Run) → IsLegalRun zone run → HasUnits (state_of zone run) (units_of run)
 units_in zone run legal = told_run units_after HasUnits units_still units_made zone no_units (units_boot zone) run legal
 
-pub units_are_told : AllUnitsAreTold
-units_are_told zone run legal f =
+pub units_follow_the_run : AllUnitsFollowRun
+units_follow_the_run zone run legal f =
     let has = units_in zone run legal in
     record {
       unit = ap (λ (m : Marks). m.0) (has.marked f);

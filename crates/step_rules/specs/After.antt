@@ -1,6 +1,6 @@
 -- What a step changes, and the state that a list of steps leads to.
-use Rattle.std.specs.Prelude.{ℕ, ◌+◌, ◌-◌, ◌^◌, ◌==◌, ◌&&◌, nat_le, nat_lt, Bool, true, false, Option, Some, None, is_some, List, take, slice_get, IfSome}
-use Rattle.std.specs.Prelude.{fold, if◌then◌else◌}
+use Rattle.std.specs.Prelude.{ℕ, ◌+◌, ◌-◌, ◌^◌, ◌==◌, ◌&&◌, nat_le, nat_lt, Bool, true, false, Option, Some, None}
+use Rattle.std.specs.Prelude.{is_some, List, take, slice_get, IfSome, fold, if◌then◌else◌}
 use Rattle.zone_blocks.specs.declared.block.Block.{Block}
 use Rattle.group_tree.specs.Groups.{with_group, with_limit, with_oom_group, without_group}
 use Rattle.step_rules.specs.declared.phase.ChargedUnit.{ChargedUnit}
@@ -11,11 +11,13 @@ use Rattle.step_rules.specs.declared.phase.Phase.{Phase}
 use Rattle.step_rules.specs.declared.phase.Phase.TheVariants.{InZone, Lent, Head, Tail}
 use Rattle.step_rules.specs.declared.step.Step.{Step}
 use Rattle.step_rules.specs.declared.step.Action.{Action}
-use Rattle.step_rules.specs.declared.step.Action.TheVariants.{Lock, Unlock, OpenVisit, ShutVisit, Get, Put, Freeze, Unfreeze, PassOut, TakeIn, PassBack}
-use Rattle.step_rules.specs.declared.step.Action.TheVariants.{Collect, Consume, Credit, Report, Absorb, Fill, DrainStock, Grant, Ungrant, PlaceBlock}
-use Rattle.step_rules.specs.declared.step.Action.TheVariants.{Return, SetMax, SetFlag, Make, Remove, Kill}
+use Rattle.step_rules.specs.declared.step.Action.TheVariants.{Lock, Unlock, OpenVisit, ShutVisit, Get, Put, Freeze}
+use Rattle.step_rules.specs.declared.step.Action.TheVariants.{Unfreeze, PassOut, TakeIn, PassBack, Collect, Consume}
+use Rattle.step_rules.specs.declared.step.Action.TheVariants.{Credit, Report, Absorb, Fill, DrainStock, Grant, Ungrant}
+use Rattle.step_rules.specs.declared.step.Action.TheVariants.{PlaceBlock, Return, SetMax, SetFlag, Make, Remove, Kill}
 use Rattle.step_rules.specs.declared.step.Answer.{Answer}
-use Rattle.step_rules.specs.declared.step.Answer.TheVariants.{Done, Held, Left, Last, Took, Back, Pages, Granted, Placed, Number}
+use Rattle.step_rules.specs.declared.step.Answer.TheVariants.{Done, Held, Left, Last, Took, Back, Pages, Granted}
+use Rattle.step_rules.specs.declared.step.Answer.TheVariants.{Placed, Number}
 use Rattle.step_rules.specs.Phases.{FreshFrame, has_as, unit_of, at_stage, stage_after_last, passed_back, collected}
 use Rattle.step_rules.specs.State.{Zone, Part, State, at_boot, with_at, one_if, without, with_last, front_of}
 use Rattle.step_rules.specs.Legal.{Allows}
@@ -26,7 +28,7 @@ with_phase s f phase = record s { phases = with_at s.phases f phase }
 
 -- one CPU gets another part
 abbrev pub with_part : State → ℕ → Part → State
-with_part s p part = record s { parts = with_at s.parts p part }
+with_part s cpu part = record s { parts = with_at s.parts cpu part }
 
 -- the seat gets this many references on the frame
 abbrev pub with_references : State → ℕ → ℕ → ℕ → State
@@ -72,7 +74,7 @@ taken_off part f was_fresh = record part {
 
 -- the part without a frame that it passes back; if that one was fresh, one more page is unreported
 abbrev pub without_frame : Part → Phase → ℕ → ℕ → Part
-without_frame part phase p f = taken_off part f (has_as FreshFrame p phase)
+without_frame part phase cpu f = taken_off part f (has_as FreshFrame cpu phase)
 
 -- the part with n of its unreported pages reported
 abbrev pub with_report : Part → ℕ → Part
@@ -108,7 +110,11 @@ filled part g n = record part { stock = record { group = Some g; pages = n; is_d
 
 -- the part with n pages drained from its stock
 abbrev pub drained : Part → ℕ → Part
-drained part n = record part { stock = record (part.stock) { pages = part.stock.pages - n; is_drained = is_some part.stock.group }; book = part.book - n }
+drained part n = record part {
+  stock =
+      record (part.stock) { pages = part.stock.pages - n; is_drained = is_some part.stock.group };
+  book = part.book - n;
+}
 
 -- the pending pages, with n more for a group, if there is one
 abbrev pub with_more : (ℕ → ℕ) → Option ℕ → ℕ → ℕ → ℕ
@@ -117,7 +123,7 @@ with_more pending (Some g) n = with_at pending g (pending g + n)
 
 -- the front of the list becomes fresh: a unit of one frame, of the group that paid
 abbrev pub consumed : ℕ → ℕ → Phase
-consumed p g = Head (record { group = g; order = 0 }) (FreshAt p)
+consumed cpu g = Head (record { group = g; order = 0 }) (FreshAt cpu)
 
 -- the state after a last put by the seat; if a CPU made it, the frame joins its back frames
 abbrev pub after_last : State → ℕ → ℕ → State
@@ -131,30 +137,37 @@ after_last s seat f = record s {
 abbrev pub after : State → ℕ → Action → Answer → State
 after s seat Lock Done = record s { hold = HeldBy seat }
 after s seat Unlock Done = record s { hold = Unheld }
-after s seat (OpenVisit p) Done = record s { hold = Visiting p }
-after s seat (ShutVisit p) Done = record s { hold = HeldBy p }
+after s seat (OpenVisit cpu) Done = record s { hold = Visiting cpu }
+after s seat (ShutVisit cpu) Done = record s { hold = HeldBy cpu }
 after s seat (Get f) Held = with_references s seat f (s.references seat f + 1)
 after s seat (Put f) (Left n) = with_references s seat f (s.references seat f - 1)
 after s seat (Put f) Last = after_last s seat f
-after s seat (Freeze f n) Done = with_phase (with_references s 0 f (s.references 0 f - n)) f (at_stage Ended (s.phases f))
-after s seat (Unfreeze f n) Done = with_phase (with_references s 0 f (s.references 0 f + n)) f (at_stage Live (s.phases f))
-after s seat (PassOut f p) Done = with_phase s f (Lent p PassingOut)
+after s seat (Freeze f n) Done = with_phase (with_references s 0 f (s.references 0 f - n)) f
+    (at_stage Ended (s.phases f))
+after s seat (Unfreeze f n) Done = with_phase (with_references s 0 f (s.references 0 f + n)) f
+    (at_stage Live (s.phases f))
+after s seat (PassOut f cpu) Done = with_phase s f (Lent cpu PassingOut)
 after s seat (TakeIn f) Done = with_part (with_phase s f (Lent seat OnList)) seat (with_listed (s.parts seat) f)
-after s seat (PassBack f) Done = with_part (with_phase s f (passed_back (s.phases f))) seat (without_frame (s.parts seat) (s.phases f) seat f)
-after s seat (Collect f p) Done = with_phase s f (collected (s.phases f))
-after s seat (Consume g) Took = with_part (with_phase s (front_of (s.parts seat).list) (consumed seat g)) seat (paid (s.parts seat))
+after s seat (PassBack f) Done = with_part (with_phase s f (passed_back (s.phases f))) seat
+    (without_frame (s.parts seat) (s.phases f) seat f)
+after s seat (Collect f cpu) Done = with_phase s f (collected (s.phases f))
+after s seat (Consume g) Took = with_part (with_phase s (front_of (s.parts seat).list) (consumed seat g)) seat
+    (paid (s.parts seat))
 after s seat (Credit f) Back = with_part (with_phase s f (Lent seat OnList)) seat (credited (s.parts seat) f)
 after s seat (Report n) Done = with_part s seat (with_report (s.parts seat) n)
-after s seat (Absorb p) (Pages n) = with_part s p (absorbed (s.parts p) n)
-after s seat (Fill p g n) Done = with_part (with_pending s g (s.pending g - n)) p (filled (s.parts p) g n)
-after s seat (DrainStock p) (Pages n) = record (with_part s p (drained (s.parts p) n)) { pending = with_more s.pending (s.parts p).stock.group n }
+after s seat (Absorb cpu) (Pages n) = with_part s cpu (absorbed (s.parts cpu) n)
+after s seat (Fill cpu g n) Done = with_part (with_pending s g (s.pending g - n)) cpu (filled (s.parts cpu) g n)
+after s seat (DrainStock cpu) (Pages n) =
+    record (with_part s cpu (drained (s.parts cpu) n)) { pending = with_more s.pending (s.parts cpu).stock.group n }
 after s seat (Grant g n) Granted = with_pending s g (s.pending g + n)
 after s seat (Ungrant g n) Done = with_pending s g (s.pending g - n)
-after s seat (PlaceBlock g k) (Placed b) = record (with_pending s g (s.pending g - 2 ^ k)) { phases = with_block s.phases g b }
+after s seat (PlaceBlock g k) (Placed b) =
+    record (with_pending s g (s.pending g - 2 ^ k)) { phases = with_block s.phases g b }
 after s seat (Return f) Done = record s { phases = without_unit s.phases f }
 after s seat (SetMax g limit) Done = record s { groups = with_limit s.groups g limit }
 after s seat (SetFlag g flag) Done = record s { groups = with_oom_group s.groups g flag }
-after s seat (Make path) (Number n) = record s { groups = with_group s.groups n path; killed = with_at s.killed n false }
+after s seat (Make path) (Number n) =
+    record s { groups = with_group s.groups n path; killed = with_at s.killed n false }
 after s seat (Remove g) Done = record s { groups = without_group s.groups g }
 after s seat (Kill g) Done = record s { killed = with_at s.killed g true }
 after s seat action answer = s
@@ -167,6 +180,11 @@ Run = List (Step × Answer)
 abbrev pub state_of : Zone → Run → State
 state_of zone run = fold (λ s e. after s e.0.seat e.0.action e.1) (at_boot zone) run
 
+-- what a CPU has after a run: its lists, its stock and its book
+abbrev pub part_after : Zone → Run → ℕ → Part
+part_after zone run cpu = (state_of zone run).parts cpu
+
 -- each answer is allowed after the beginning before it
 abbrev pub IsLegalRun : Zone → Run → Type 0
-IsLegalRun zone run = (k : ℕ) → IfSome (slice_get run k) (λ e. Allows (state_of zone (take k run)) e.0.seat e.0.action e.1)
+IsLegalRun zone run = (k : ℕ) → IfSome (slice_get run k)
+    (λ e. Allows (state_of zone (take k run)) e.0.seat e.0.action e.1)

@@ -21,7 +21,8 @@ IsPlacing answer = (b : Block) × (answer ≡ Placed b)
 
 -- after every legal run any two allowed answers of a step are the same, or both place a block
 abbrev pub AnswersAreDetermined : Type 0
-AnswersAreDetermined = (zone : Zone) (run : Run) → IsLegalRun zone run → (seat : ℕ) (action : Action) (one other : Answer) →
+AnswersAreDetermined = (zone : Zone) (run : Run) → IsLegalRun zone run
+    → (seat : ℕ) (action : Action) (one other : Answer) →
     Allows (state_of zone run) seat action one → Allows (state_of zone run) seat action other →
     (one ≡ other) ⊎ (IsPlacing one × IsPlacing other)
 

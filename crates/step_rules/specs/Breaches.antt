@@ -2,7 +2,8 @@
 -- something. One shown state keeps the promise.
 use Rattle.std.specs.Prelude.{ℕ, ◌==◌, false, Some, None, List, [], ◌∷◌, ◌++◌, codes, if◌then◌else◌}
 use Rattle.group_tree.specs.Groups.{initial_groups}
-use Rattle.step_rules.specs.declared.step.Action.TheVariants.{Lock, Get, Put, Freeze, Unfreeze, TakeIn, Consume, Credit, Grant, PlaceBlock, Return, SetMax, Make, Kill}
+use Rattle.step_rules.specs.declared.step.Action.TheVariants.{Lock, Get, Put, Freeze, Unfreeze, TakeIn, Consume, Credit}
+use Rattle.step_rules.specs.declared.step.Action.TheVariants.{Grant, PlaceBlock, Return, SetMax, Make, Kill}
 use Rattle.step_rules.specs.declared.step.Answer.TheVariants.{Done, Held, Last, Took, Back, Granted, Placed, Number}
 use Rattle.step_rules.specs.State.{no_stock}
 use Rattle.step_rules.specs.After.{Run}
@@ -17,7 +18,8 @@ BreaksPromise run = (shown : Shown) → ¬ Promise small_zone run shown
 -- two pages are granted, one by one, to a group whose parent has a limit of one
 abbrev pub past_a_limit : Run
 past_a_limit =
-    made 1 Lock Done ∷ made 0 (Make (codes "/a")) (Number 1) ∷ made 0 (Make (codes "/a/b")) (Number 2) ∷ made 0 (SetMax 1 (Some 1)) Done ∷
+    made 1 Lock Done ∷ made 0 (Make (codes "/a")) (Number 1) ∷ made 0 (Make (codes "/a/b")) (Number 2)
+    ∷ made 0 (SetMax 1 (Some 1)) Done ∷
     made 0 (Grant 2 1) Granted ∷ made 0 (Grant 2 1) Granted ∷ []
 
 -- a page is granted to a killed group
@@ -47,7 +49,8 @@ returned_in_no_unit = ended ++ made 0 (Return 0) Done ∷ []
 
 -- a unit is returned twice for one end
 abbrev pub returned_again : Run
-returned_again = placed ++ made 0 (Unfreeze 0 1) Done ∷ made 0 (Freeze 0 1) Done ∷ made 0 (Return 0) Done ∷ made 0 (Return 0) Done ∷ []
+returned_again = placed ++ made 0 (Unfreeze 0 1) Done ∷ made 0 (Freeze 0 1) Done ∷ made 0 (Return 0) Done
+    ∷ made 0 (Return 0) Done ∷ []
 
 -- a fresh frame is credited twice
 abbrev pub credited_again : Run
@@ -68,7 +71,8 @@ consumed_in_a_unit = placed ++ made 1 (TakeIn 0) Done ∷ made 1 (Consume 0) Too
 -- a block is placed on the second frame of a unit
 abbrev pub placed_on_a_tail : Run
 placed_on_a_tail =
-    made 0 (PlaceBlock 0 1) (Placed (record { at = 0; order = 1 })) ∷ made 0 (PlaceBlock 0 0) (Placed (record { at = 1; order = 0 })) ∷ []
+    made 0 (PlaceBlock 0 1) (Placed (record { at = 0; order = 1 }))
+    ∷ made 0 (PlaceBlock 0 0) (Placed (record { at = 1; order = 0 })) ∷ []
 
 -- a block of another order than asked for is placed
 abbrev pub placed_smaller : Run
@@ -112,69 +116,72 @@ abbrev pub kept_run : Run
 kept_run = first_visit ++ hand_over
 
 -- what is shown after that run and keeps the promise
-abbrev pub right_sight : Shown
-right_sight = record {
+abbrev pub shown_rightly : Shown
+shown_rightly = record {
   areas = record { at = 1; order = 0 } ∷ [];
-  lists = λ p. [];
+  lists = λ cpu. [];
   keeper = λ f. if f == 0 then Some 0 else None;
   groups = initial_groups;
-  stocks = λ p. if p == 1 then record { group = Some 0; pages = 1; is_drained = false } else no_stock;
+  stocks = λ cpu. if cpu == 1 then record { group = Some 0; pages = 1; is_drained = false } else no_stock;
   current = λ g. 2;
 }
 
 -- one CPU has these frames on its list, the others none
 abbrev pub at_list : ℕ → List ℕ → ℕ → List ℕ
-at_list q frames p = if p == q then frames else []
+at_list other frames cpu = if cpu == other then frames else []
 
 -- what is shown after that run breaks the promise
-abbrev pub IsWrongSight : Shown → Type 0
-IsWrongSight shown = ¬ Promise small_zone kept_run shown
+abbrev pub IsShownWrongly : Shown → Type 0
+IsShownWrongly shown = ¬ Promise small_zone kept_run shown
 
 -- frame 1 is shown nowhere
 abbrev pub seen_nowhere : Shown
-seen_nowhere = record right_sight { areas = [] }
+seen_nowhere = record shown_rightly { areas = [] }
 
 -- frame 1 is shown in the free areas and on a list
 abbrev pub seen_twice : Shown
-seen_twice = record right_sight { lists = at_list 1 (1 ∷ []) }
+seen_twice = record shown_rightly { lists = at_list 1 (1 ∷ []) }
 
 -- frame 1 is shown twice on a list
 abbrev pub listed_twice : Shown
-listed_twice = record right_sight { areas = []; lists = at_list 1 (1 ∷ 1 ∷ []) }
+listed_twice = record shown_rightly { areas = []; lists = at_list 1 (1 ∷ 1 ∷ []) }
 
 -- frame 1 is shown on the list of a CPU that doesn't exist
 abbrev pub listed_by_nobody : Shown
-listed_by_nobody = record right_sight { areas = []; lists = at_list 3 (1 ∷ []) }
+listed_by_nobody = record shown_rightly { areas = []; lists = at_list 3 (1 ∷ []) }
 
 -- frame 1 is shown as kept by the root, without a unit
 abbrev pub kept_in_no_unit : Shown
-kept_in_no_unit = record right_sight { areas = []; keeper = λ f. Some 0 }
+kept_in_no_unit = record shown_rightly { areas = []; keeper = λ f. Some 0 }
 
 -- a frame is shown that the zone doesn't have
 abbrev pub seen_beyond : Shown
-seen_beyond = record right_sight { lists = at_list 1 (2 ∷ []) }
+seen_beyond = record shown_rightly { lists = at_list 1 (2 ∷ []) }
 
 -- a page is shown as prepaid for no group
 abbrev pub prepaid_for_nobody : Shown
-prepaid_for_nobody = record right_sight { stocks = λ p. if p == 1 then record { group = None; pages = 1; is_drained = false } else no_stock }
+prepaid_for_nobody = record shown_rightly {
+  stocks = λ cpu. if cpu == 1 then record { group = None; pages = 1; is_drained = false }
+      else no_stock;
+}
 
 -- the root's memory.current leaves out the page in the stock
 abbrev pub prepaid_left_out : Shown
-prepaid_left_out = record right_sight { current = λ g. 1 }
+prepaid_left_out = record shown_rightly { current = λ g. 1 }
 
 -- no group is shown
 abbrev pub no_group_seen : Shown
-no_group_seen = record right_sight { groups = [] }
+no_group_seen = record shown_rightly { groups = [] }
 
 -- ---- what is shown of free frames alone
 -- what is shown if both frames are free and nothing is charged
-abbrev pub free_sight : Shown
-free_sight = record {
+abbrev pub shown_free : Shown
+shown_free = record {
   areas = record { at = 0; order = 1 } ∷ [];
-  lists = λ p. [];
+  lists = λ cpu. [];
   keeper = λ f. None;
   groups = initial_groups;
-  stocks = λ p. no_stock;
+  stocks = λ cpu. no_stock;
   current = λ g. 0;
 }
 
@@ -184,15 +191,21 @@ IsWrongAfter run shown = ¬ Promise small_zone run shown
 
 -- the two frames are shown as two blocks
 abbrev pub parted_areas : Shown
-parted_areas = record free_sight { areas = record { at = 0; order = 0 } ∷ record { at = 1; order = 0 } ∷ [] }
+parted_areas = record shown_free { areas = record { at = 0; order = 0 } ∷ record { at = 1; order = 0 } ∷ [] }
 
 -- a page is shown in the stock of a CPU that doesn't exist
 abbrev pub prepaid_by_nobody : Shown
-prepaid_by_nobody = record free_sight { stocks = λ p. if p == 3 then record { group = Some 0; pages = 1; is_drained = false } else no_stock }
+prepaid_by_nobody = record shown_free {
+  stocks = λ cpu. if cpu == 3 then record { group = Some 0; pages = 1; is_drained = false }
+      else no_stock;
+}
 
 -- a page is shown as prepaid for a group that doesn't exist
 abbrev pub prepaid_for_no_group : Shown
-prepaid_for_no_group = record free_sight { stocks = λ p. if p == 1 then record { group = Some 5; pages = 1; is_drained = false } else no_stock }
+prepaid_for_no_group = record shown_free {
+  stocks = λ cpu. if cpu == 1 then record { group = Some 5; pages = 1; is_drained = false }
+      else no_stock;
+}
 
 -- a page was granted and is neither in a stock nor kept: the memory.current shown for the root may not leave it out
 abbrev pub granted_and_lost : Run
@@ -200,4 +213,4 @@ granted_and_lost = made 0 (Grant 0 1) Granted ∷ []
 
 -- nor may that memory.current count it, without a stock or a frame for it
 abbrev pub lost_in_number : Shown
-lost_in_number = record free_sight { current = λ g. 1 }
+lost_in_number = record shown_free { current = λ g. 1 }

@@ -10,7 +10,7 @@ use Rattle.step_rules.specs.declared.step.Answer.{Answer}
 use Rattle.step_rules.specs.declared.step.Answer.TheVariants.{Done, Granted, Number}
 use Rattle.step_rules.specs.After.{Run}
 use Rattle.step_rules.specs.Units.{units_of}
-use Rattle.step_rules.specs.Returns.{counted_along}
+use Rattle.step_rules.specs.Returns.{counted_with_run}
 
 -- the groups after one more step
 abbrev pub groups_after : List Group → Action → Answer → List Group
@@ -43,4 +43,5 @@ charged_out test run seat action answer = 0
 -- the pages charged to the group and those below it
 abbrev pub charged_below : Run → ℕ → ℕ
 charged_below run g =
-    counted_along (charged_in (in_subtree (groups_of run) g)) run - counted_along (charged_out (in_subtree (groups_of run) g)) run
+    counted_with_run (charged_in (in_subtree (groups_of run) g)) run
+    - counted_with_run (charged_out (in_subtree (groups_of run) g)) run

@@ -1,11 +1,12 @@
 -- What a run says of references, stocks and books, counted over its pairs alone.
 use Rattle.std.specs.Prelude.{◌≡◌, ℕ, ◌+◌, ◌==◌, ◌&&◌, sum_by, if◌then◌else◌}
 use Rattle.step_rules.specs.declared.step.Action.{Action}
-use Rattle.step_rules.specs.declared.step.Action.TheVariants.{Get, Put, Freeze, Unfreeze, Consume, Credit, Absorb, Fill, DrainStock}
+use Rattle.step_rules.specs.declared.step.Action.TheVariants.{Get, Put, Freeze, Unfreeze, Consume, Credit, Absorb, Fill}
+use Rattle.step_rules.specs.declared.step.Action.TheVariants.{DrainStock}
 use Rattle.step_rules.specs.declared.step.Answer.{Answer}
 use Rattle.step_rules.specs.declared.step.Answer.TheVariants.{Done, Held, Left, Last, Took, Back, Pages}
 use Rattle.step_rules.specs.State.{Zone}
-use Rattle.step_rules.specs.After.{Run, state_of, IsLegalRun}
+use Rattle.step_rules.specs.After.{Run, state_of, part_after, IsLegalRun}
 
 -- n if both numbers match, else 0
 abbrev pub count_at : ℕ → ℕ → ℕ → ℕ → ℕ → ℕ
@@ -24,45 +25,46 @@ references_out k m seat (Put f) Last = count_at seat f k m 1
 references_out k m seat (Freeze f n) Done = count_at 0 f k m n
 references_out k m seat action answer = 0
 
--- the pages that a step puts into the stock of CPU p: filled or credited
+-- the pages that a step puts into the stock of the CPU: filled or credited
 abbrev pub stock_in : ℕ → ℕ → Action → Answer → ℕ
-stock_in p seat (Fill q g n) Done = if q == p then n else 0
-stock_in p seat (Credit f) Back = if seat == p then 1 else 0
-stock_in p seat action answer = 0
+stock_in cpu seat (Fill other g n) Done = if other == cpu then n else 0
+stock_in cpu seat (Credit f) Back = if seat == cpu then 1 else 0
+stock_in cpu seat action answer = 0
 
--- the pages that a step takes from the stock of CPU p: consumed or drained
+-- the pages that a step takes from the stock of the CPU: consumed or drained
 abbrev pub stock_out : ℕ → ℕ → Action → Answer → ℕ
-stock_out p seat (Consume g) Took = if seat == p then 1 else 0
-stock_out p seat (DrainStock q) (Pages n) = if q == p then n else 0
-stock_out p seat action answer = 0
+stock_out cpu seat (Consume g) Took = if seat == cpu then 1 else 0
+stock_out cpu seat (DrainStock other) (Pages n) = if other == cpu then n else 0
+stock_out cpu seat action answer = 0
 
--- the pages that a step adds to the book of CPU p: filled
+-- the pages that a step adds to the book of the CPU: filled
 abbrev pub book_in : ℕ → ℕ → Action → Answer → ℕ
-book_in p seat (Fill q g n) Done = if q == p then n else 0
-book_in p seat action answer = 0
+book_in cpu seat (Fill other g n) Done = if other == cpu then n else 0
+book_in cpu seat action answer = 0
 
--- the pages that a step takes off the book of CPU p: drained or absorbed
+-- the pages that a step takes off the book of the CPU: drained or absorbed
 abbrev pub book_out : ℕ → ℕ → Action → Answer → ℕ
-book_out p seat (DrainStock q) (Pages n) = if q == p then n else 0
-book_out p seat (Absorb q) (Pages n) = if q == p then n else 0
-book_out p seat action answer = 0
+book_out cpu seat (DrainStock other) (Pages n) = if other == cpu then n else 0
+book_out cpu seat (Absorb other) (Pages n) = if other == cpu then n else 0
+book_out cpu seat action answer = 0
 
 -- the sum of what each step of a run counts
-abbrev pub counted_over : (ℕ → Action → Answer → ℕ) → Run → ℕ
-counted_over count run = sum_by (λ e. count e.0.seat e.0.action e.1) run
+abbrev pub counted : (ℕ → Action → Answer → ℕ) → Run → ℕ
+counted count run = sum_by (λ e. count e.0.seat e.0.action e.1) run
 
 -- After every legal run a seat's references on a frame are those it was given less those it gave up. It is given one by
 -- a get that was Held, and the count of an unfreeze. It gives up one by a put, and the count of a freeze that was Done.
 abbrev pub ReferencesAreCounted : Type 0
 ReferencesAreCounted = (zone : Zone) (run : Run) → IsLegalRun zone run → (seat f : ℕ) →
-    counted_over (references_in seat f) run ≡ (state_of zone run).references seat f + counted_over (references_out seat f) run
+    counted (references_in seat f) run
+    ≡ (state_of zone run).references seat f + counted (references_out seat f) run
 
 -- after every legal run the pages of a stock are those filled and credited, less those consumed and drained
 abbrev pub StocksAreCounted : Type 0
-StocksAreCounted = (zone : Zone) (run : Run) → IsLegalRun zone run → (p : ℕ) →
-    counted_over (stock_in p) run ≡ ((state_of zone run).parts p).stock.pages + counted_over (stock_out p) run
+StocksAreCounted = (zone : Zone) (run : Run) → IsLegalRun zone run → (cpu : ℕ) →
+    counted (stock_in cpu) run ≡ (part_after zone run cpu).stock.pages + counted (stock_out cpu) run
 
 -- after every legal run a book is the pages filled, less those drained and absorbed
 abbrev pub BooksAreCounted : Type 0
-BooksAreCounted = (zone : Zone) (run : Run) → IsLegalRun zone run → (p : ℕ) →
-    counted_over (book_in p) run ≡ ((state_of zone run).parts p).book + counted_over (book_out p) run
+BooksAreCounted = (zone : Zone) (run : Run) → IsLegalRun zone run → (cpu : ℕ) →
+    counted (book_in cpu) run ≡ (part_after zone run cpu).book + counted (book_out cpu) run

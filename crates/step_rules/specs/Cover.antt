@@ -5,50 +5,56 @@ use Rattle.step_rules.specs.declared.phase.Hold.{Hold}
 use Rattle.step_rules.specs.declared.phase.Way.TheVariants.{OnList}
 use Rattle.step_rules.specs.declared.phase.ChargedUnit.{ChargedUnit}
 use Rattle.step_rules.specs.declared.phase.Stage.{Stage}
-use Rattle.step_rules.specs.declared.phase.Stage.TheVariants.{FreshAt, FreshPassing, Collected, Bare, Live, BackAt, BackPassing, Ended}
+use Rattle.step_rules.specs.declared.phase.Stage.TheVariants.{FreshAt, FreshPassing, Collected, Bare, Live, BackAt}
+use Rattle.step_rules.specs.declared.phase.Stage.TheVariants.{BackPassing, Ended}
 use Rattle.step_rules.specs.declared.phase.Phase.{Phase}
 use Rattle.step_rules.specs.declared.phase.Phase.TheVariants.{InZone, Lent, Head, Tail}
 use Rattle.step_rules.specs.State.{State, Part, is_held_by, visits}
 
--- the head of a unit as p sees it: another CPU's fresh frame is on that CPU's list, and another CPU's back frame has
--- references
+-- the head of a unit as the CPU sees it: another CPU's fresh frame is on that CPU's list, and another CPU's back frame
+-- has references
 abbrev pub hide_stage : ℕ → ChargedUnit → Stage → Phase
-hide_stage p unit (FreshAt q) = if q == p then Head unit (FreshAt q) else Lent q OnList
-hide_stage p unit (BackAt q) = if q == p then Head unit (BackAt q) else Head unit Live
-hide_stage p unit (FreshPassing q) = Head unit (FreshPassing q)
-hide_stage p unit Collected = Head unit Collected
-hide_stage p unit Bare = Head unit Bare
-hide_stage p unit Live = Head unit Live
-hide_stage p unit (BackPassing q) = Head unit (BackPassing q)
-hide_stage p unit Ended = Head unit Ended
+hide_stage cpu unit (FreshAt other) = if other == cpu then Head unit (FreshAt other) else Lent other OnList
+hide_stage cpu unit (BackAt other) = if other == cpu then Head unit (BackAt other) else Head unit Live
+hide_stage cpu unit (FreshPassing other) = Head unit (FreshPassing other)
+hide_stage cpu unit Collected = Head unit Collected
+hide_stage cpu unit Bare = Head unit Bare
+hide_stage cpu unit Live = Head unit Live
+hide_stage cpu unit (BackPassing other) = Head unit (BackPassing other)
+hide_stage cpu unit Ended = Head unit Ended
 
--- the phase of a frame as p sees it
+-- the phase of a frame as the CPU sees it
 abbrev pub hide_phase : ℕ → Phase → Phase
-hide_phase p (Head unit stage) = hide_stage p unit stage
-hide_phase p InZone = InZone
-hide_phase p (Lent q way) = Lent q way
-hide_phase p (Tail g) = Tail g
+hide_phase cpu (Head unit stage) = hide_stage cpu unit stage
+hide_phase cpu InZone = InZone
+hide_phase cpu (Lent other way) = Lent other way
+hide_phase cpu (Tail g) = Tail g
 
--- another CPU's part as p sees it: no lists, and the pages of the fresh frames in the stock
+-- another CPU's part as a CPU sees it: no lists, and the pages of the fresh frames in the stock
 abbrev pub hide_part : Part → Part
-hide_part part = record part { list = []; fresh = []; back = []; stock = record (part.stock) { pages = part.stock.pages + length part.fresh } }
+hide_part part = record part {
+  list = [];
+  fresh = [];
+  back = [];
+  stock = record (part.stock) { pages = part.stock.pages + length part.fresh };
+}
 
--- the parts as p sees them: its own as it is
+-- the parts as the CPU sees them: its own as it is
 abbrev pub hide_parts : ℕ → (ℕ → Part) → ℕ → Part
-hide_parts p parts q = if q == p then parts q else hide_part (parts q)
+hide_parts cpu parts other = if other == cpu then parts other else hide_part (parts other)
 
--- the references as p sees them: its own and the zone's
+-- the references as the CPU sees them: its own and the zone's
 abbrev pub hide_references : ℕ → (ℕ → ℕ → ℕ) → ℕ → ℕ → ℕ
-hide_references p references seat f = if seat == 0 || seat == p then references seat f else 0
+hide_references cpu references seat f = if seat == 0 || seat == cpu then references seat f else 0
 
--- the state as p sees it
+-- the state as the CPU sees it
 abbrev pub hide : ℕ → State → State
-hide p s = record s {
-  phases = λ f. hide_phase p (s.phases f);
-  references = hide_references p s.references;
-  parts = hide_parts p s.parts;
+hide cpu s = record s {
+  phases = λ f. hide_phase cpu (s.phases f);
+  references = hide_references cpu s.references;
+  parts = hide_parts cpu s.parts;
 }
 
 -- the CPU holds the lock
 abbrev pub holds_lock : ℕ → Hold → Bool
-holds_lock p hold = is_held_by p hold || visits p hold
+holds_lock cpu hold = is_held_by cpu hold || visits cpu hold

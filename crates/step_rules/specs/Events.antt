@@ -48,8 +48,11 @@ makes_group g step answer = false
 
 -- the state after one more pair, and how many steps have passed the test since g was made
 abbrev pub with_passed : (List Group → Action → Answer → Bool) → ℕ → State × ℕ → Step × Answer → State × ℕ
-with_passed test g t e =
-    (after t.0 e.0.seat e.0.action e.1, if makes_group g e.0.action e.1 then 0 else t.1 + one_if (test t.0.groups e.0.action e.1))
+with_passed test g t e = (
+  after t.0 e.0.seat e.0.action e.1,
+  if makes_group g e.0.action e.1 then 0 else t.1
+      + one_if (test t.0.groups e.0.action e.1),
+)
 
 -- how many steps of the run passed the test since g was made, each tested with the groups at that step
 abbrev pub passed_since_made : (List Group → Action → Answer → Bool) → ℕ → Zone → Run → ℕ
@@ -70,13 +73,17 @@ count_after test g groups step answer count =
     if makes_group g step answer then 0 else (if test groups step answer then one_more count else count)
 
 -- how one more step changes both counts of each kind, for each group
-pub record EventsFollow (zone : Zone) (run : Run) (step : Step) (answer : Answer) (key : EventKey) (g : ℕ) : Type 0 where
-  pub below : events_of key zone (pushed run step answer) g ≡ count_after (is_noted_below key g) g (state_of zone run).groups step.action answer
+pub record EventsFollow (zone : Zone) (run : Run) (step : Step) (answer : Answer) (key : EventKey)
+    (g : ℕ) : Type 0 where
+  pub below : events_of key zone (pushed run step answer) g
+      ≡ count_after (is_noted_below key g) g (state_of zone run).groups step.action answer
       (events_of key zone run g)
   pub local : events_local_of key zone (pushed run step answer) g
       ≡ count_after (is_noted_at key g) g (state_of zone run).groups step.action answer (events_local_of key zone run g)
 
 -- at boot each count is 0, and each step changes the counts as `count_after` says
 pub record EventsAreCounted : Type 0 where
-  pub boot : (zone : Zone) (key : EventKey) (g : ℕ) → (events_of key zone [] g ≡ 0) × (events_local_of key zone [] g ≡ 0)
-  pub step : (zone : Zone) (run : Run) (step : Step) (answer : Answer) (key : EventKey) (g : ℕ) → EventsFollow zone run step answer key g
+  pub boot : (zone : Zone) (key : EventKey) (g : ℕ)
+      → (events_of key zone [] g ≡ 0) × (events_local_of key zone [] g ≡ 0)
+  pub step : (zone : Zone) (run : Run) (step : Step) (answer : Answer) (key : EventKey) (g : ℕ)
+      → EventsFollow zone run step answer key g

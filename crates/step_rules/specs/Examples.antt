@@ -4,12 +4,15 @@
 use Rattle.std.specs.Prelude.{ℕ, ◌==◌, true, Some, [], ◌∷◌, ◌++◌, codes, replicate, if◌then◌else◌}
 use Rattle.step_rules.specs.declared.step.Step.{Step}
 use Rattle.step_rules.specs.declared.step.Action.{Action}
-use Rattle.step_rules.specs.declared.step.Action.TheVariants.{Lock, Unlock, OpenVisit, ShutVisit, Get, Put, Freeze, Unfreeze, PassOut, TakeIn, PassBack}
-use Rattle.step_rules.specs.declared.step.Action.TheVariants.{Collect, Consume, Credit, Report, Absorb, Fill, DrainStock, Grant, Ungrant, PlaceBlock}
-use Rattle.step_rules.specs.declared.step.Action.TheVariants.{Publish, Return, NoteMax, NoteOom, NoteGroupKill, SetMax, SetFlag, Make, Remove, Kill}
+use Rattle.step_rules.specs.declared.step.Action.TheVariants.{Lock, Unlock, OpenVisit, ShutVisit, Get, Put, Freeze}
+use Rattle.step_rules.specs.declared.step.Action.TheVariants.{Unfreeze, PassOut, TakeIn, PassBack, Collect, Consume}
+use Rattle.step_rules.specs.declared.step.Action.TheVariants.{Credit, Report, Absorb, Fill, DrainStock, Grant, Ungrant}
+use Rattle.step_rules.specs.declared.step.Action.TheVariants.{PlaceBlock, Publish, Return, NoteMax, NoteOom}
+use Rattle.step_rules.specs.declared.step.Action.TheVariants.{NoteGroupKill, SetMax, SetFlag, Make, Remove, Kill}
 use Rattle.step_rules.specs.declared.step.Answer.{Answer}
-use Rattle.step_rules.specs.declared.step.Answer.TheVariants.{Illegal, Done, Held, Zero, Full, Left, Last, Missed, Took, Empty, OtherGroup, Drained, Back}
-use Rattle.step_rules.specs.declared.step.Answer.TheVariants.{Pages, Granted, Over, Placed, NoFreeBlock, Number}
+use Rattle.step_rules.specs.declared.step.Answer.TheVariants.{Illegal, Done, Held, Zero, Full, Left, Last, Missed, Took}
+use Rattle.step_rules.specs.declared.step.Answer.TheVariants.{Empty, OtherGroup, Drained, Back, Pages, Granted, Over}
+use Rattle.step_rules.specs.declared.step.Answer.TheVariants.{Placed, NoFreeBlock, Number}
 use Rattle.step_rules.specs.State.{Zone, State, at_boot, no_part}
 use Rattle.step_rules.specs.After.{Run}
 
@@ -31,7 +34,8 @@ first_visit =
 abbrev pub hand_over : Run
 hand_over =
     made 1 (Consume 0) Took ∷ made 1 (PassBack 0) Done ∷ made 0 (Collect 0 1) Done ∷ made 0 (Unfreeze 0 1) Done ∷
-    made 0 (Publish 0) Done ∷ made 1 (Report 1) Done ∷ made 0 (Absorb 1) (Pages 1) ∷ made 0 (ShutVisit 1) Done ∷ made 1 Unlock Done ∷ []
+    made 0 (Publish 0) Done ∷ made 1 (Report 1) Done ∷ made 0 (Absorb 1) (Pages 1) ∷ made 0 (ShutVisit 1) Done
+    ∷ made 1 Unlock Done ∷ []
 
 -- CPU 2 pins the frame, the zone gives up its reference, and CPU 2 makes the last put
 abbrev pub last_put : Run
@@ -41,7 +45,8 @@ last_put =
 -- CPU 2 hands the back frame over, it is returned, and the stock is drained
 abbrev pub second_visit : Run
 second_visit =
-    made 2 Lock Done ∷ made 0 (OpenVisit 2) Done ∷ made 2 (PassBack 0) Done ∷ made 0 (Collect 0 2) Done ∷ made 0 (Return 0) Done ∷
+    made 2 Lock Done ∷ made 0 (OpenVisit 2) Done ∷ made 2 (PassBack 0) Done ∷ made 0 (Collect 0 2) Done
+    ∷ made 0 (Return 0) Done ∷
     made 0 (ShutVisit 2) Done ∷ made 0 (DrainStock 1) (Pages 1) ∷ made 0 (Ungrant 0 1) Done ∷ made 2 Unlock Done ∷ []
 
 -- the life of a frame
@@ -55,8 +60,10 @@ credited_twice = first_visit ++ made 1 (Consume 0) Took ∷ made 1 (Credit 0) Ba
 -- a frame is placed, frozen, returned and placed again
 abbrev pub placed_again : Run
 placed_again =
-    made 1 Lock Done ∷ made 0 (Grant 0 2) Granted ∷ made 0 (PlaceBlock 0 0) (Placed (record { at = 0; order = 0 })) ∷ made 0 (Unfreeze 0 1) Done ∷
-    made 0 (Freeze 0 1) Done ∷ made 0 (Return 0) Done ∷ made 0 (PlaceBlock 0 0) (Placed (record { at = 0; order = 0 })) ∷ []
+    made 1 Lock Done ∷ made 0 (Grant 0 2) Granted ∷ made 0 (PlaceBlock 0 0) (Placed (record { at = 0; order = 0 }))
+    ∷ made 0 (Unfreeze 0 1) Done ∷
+    made 0 (Freeze 0 1) Done ∷ made 0 (Return 0) Done ∷ made 0 (PlaceBlock 0 0) (Placed (record { at = 0; order = 0 }))
+    ∷ []
 
 -- the unit is returned a second time for one end
 abbrev pub returned_twice : Run
@@ -69,7 +76,8 @@ unlocked_too_soon = made 1 Lock Done ∷ made 0 (Grant 0 2) Granted ∷ made 1 U
 -- a fresh frame that the zone collected is returned only after its group, here the root, is killed
 abbrev pub returned_when_killed : Run
 returned_when_killed =
-    first_visit ++ made 1 (Consume 0) Took ∷ made 1 (PassBack 0) Done ∷ made 0 (Collect 0 1) Done ∷ made 0 (Return 0) Illegal ∷
+    first_visit ++ made 1 (Consume 0) Took ∷ made 1 (PassBack 0) Done ∷ made 0 (Collect 0 1) Done
+    ∷ made 0 (Return 0) Illegal ∷
     made 0 (Kill 0) Done ∷ made 0 (Return 0) Done ∷ []
 
 -- A frame gets at most 255 references, and none is given on one that has none. A freeze takes all references or none.
@@ -77,39 +85,48 @@ returned_when_killed =
 abbrev pub at_the_borders : Run
 at_the_borders =
     made 1 Lock Done ∷ made 0 (SetMax 0 (Some 5)) Illegal ∷ made 0 (Grant 0 1) Granted ∷
-    made 0 (PlaceBlock 0 0) (Placed (record { at = 0; order = 0 })) ∷ made 0 (Unfreeze 0 256) Illegal ∷ made 0 (Unfreeze 0 255) Done ∷
-    made 1 (Get 0) Full ∷ made 0 (Put 0) (Left 254) ∷ made 1 (Get 0) Held ∷ made 1 (Get 1) Zero ∷ made 0 (Freeze 0 254) Missed ∷
+    made 0 (PlaceBlock 0 0) (Placed (record { at = 0; order = 0 })) ∷ made 0 (Unfreeze 0 256) Illegal
+    ∷ made 0 (Unfreeze 0 255) Done ∷
+    made 1 (Get 0) Full ∷ made 0 (Put 0) (Left 254) ∷ made 1 (Get 0) Held ∷ made 1 (Get 1) Zero
+    ∷ made 0 (Freeze 0 254) Missed ∷
     made 0 (Kill 0) Done ∷ made 0 (Grant 0 1) Illegal ∷ made 0 (Kill 0) Illegal ∷ []
 
 -- A CPU with two frames on its list passes the first back, and not the second. A frame that only a CPU refers to isn't
 -- published.
 abbrev pub in_line : Run
 in_line =
-    made 1 Lock Done ∷ made 0 (OpenVisit 1) Done ∷ made 0 (PassOut 0 1) Done ∷ made 1 (TakeIn 0) Done ∷ made 0 (PassOut 1 1) Done ∷
-    made 1 (TakeIn 1) Done ∷ made 1 (PassBack 1) Illegal ∷ made 1 (PassBack 0) Done ∷ made 0 (Collect 0 1) Done ∷ made 0 (Grant 0 1) Granted ∷
+    made 1 Lock Done ∷ made 0 (OpenVisit 1) Done ∷ made 0 (PassOut 0 1) Done ∷ made 1 (TakeIn 0) Done
+    ∷ made 0 (PassOut 1 1) Done ∷
+    made 1 (TakeIn 1) Done ∷ made 1 (PassBack 1) Illegal ∷ made 1 (PassBack 0) Done ∷ made 0 (Collect 0 1) Done
+    ∷ made 0 (Grant 0 1) Granted ∷
     made 0 (PlaceBlock 0 0) (Placed (record { at = 0; order = 0 })) ∷ made 0 (Unfreeze 0 1) Done ∷ made 2 (Get 0) Held ∷
     made 0 (Publish 0) Done ∷ made 0 (Put 0) (Left 1) ∷ made 0 (Publish 0) Illegal ∷ []
 
 -- three kinds of events are noted at the root, once, twice and once
 abbrev pub noted : Run
-noted = made 1 Lock Done ∷ made 0 (NoteMax 0) Done ∷ made 0 (NoteOom 0) Done ∷ made 0 (NoteOom 0) Done ∷ made 0 (Kill 0) Done ∷ []
+noted = made 1 Lock Done ∷ made 0 (NoteMax 0) Done ∷ made 0 (NoteOom 0) Done ∷ made 0 (NoteOom 0) Done
+    ∷ made 0 (Kill 0) Done ∷ []
 
 -- Two groups are made, one below the other, and the upper one gets a limit of one page. A grant of two pages to the
 -- lower one is over it, a grant of one isn't. Then the limit may be set below the usage. A frame is kept for that page,
 -- and has references.
 abbrev pub group_in_use : Run
 group_in_use =
-    made 1 Lock Done ∷ made 0 (Make (codes "/a")) (Number 1) ∷ made 0 (Make (codes "/a/b")) (Number 2) ∷ made 0 (SetMax 1 (Some 1)) Done ∷
+    made 1 Lock Done ∷ made 0 (Make (codes "/a")) (Number 1) ∷ made 0 (Make (codes "/a/b")) (Number 2)
+    ∷ made 0 (SetMax 1 (Some 1)) Done ∷
     made 0 (Grant 2 2) (Over 1) ∷ made 0 (Grant 2 1) Granted ∷ made 0 (SetMax 1 (Some 0)) Done ∷
-    made 0 (PlaceBlock 2 0) (Placed (record { at = 0; order = 0 })) ∷ made 0 (Unfreeze 0 1) Done ∷ made 1 (Get 0) Held ∷ made 1 (Get 0) Held ∷
+    made 0 (PlaceBlock 2 0) (Placed (record { at = 0; order = 0 })) ∷ made 0 (Unfreeze 0 1) Done ∷ made 1 (Get 0) Held
+    ∷ made 1 (Get 0) Held ∷
     made 1 (Put 0) (Left 2) ∷ made 1 (Put 0) (Left 1) ∷ []
 
 -- A group isn't removed while it has a child or usage. The lower one is killed, its frame is returned all the same, and
 -- the group is removed. A new one gets its number, not killed, and is below the same limit.
 abbrev pub group_comes_and_goes : Run
 group_comes_and_goes =
-    group_in_use ++ made 0 (Remove 1) Illegal ∷ made 0 (Remove 2) Illegal ∷ made 0 (NoteOom 2) Done ∷ made 0 (Kill 2) Done ∷
-    made 0 (Freeze 0 1) Done ∷ made 0 (Return 0) Done ∷ made 0 (Remove 2) Done ∷ made 0 (Make (codes "/a/b")) (Number 2) ∷
+    group_in_use ++ made 0 (Remove 1) Illegal ∷ made 0 (Remove 2) Illegal ∷ made 0 (NoteOom 2) Done
+    ∷ made 0 (Kill 2) Done ∷
+    made 0 (Freeze 0 1) Done ∷ made 0 (Return 0) Done ∷ made 0 (Remove 2) Done ∷ made 0 (Make (codes "/a/b")) (Number 2)
+    ∷
     made 0 (NoteMax 2) Done ∷ made 0 (Grant 2 1) (Over 1) ∷ made 1 Unlock Done ∷ []
 
 -- Two pages are granted to a group, and it is killed. It gets no more pages, but of these one is placed and one
@@ -117,37 +134,46 @@ group_comes_and_goes =
 -- and removed, and then it is removed itself.
 abbrev pub killed_group_ends : Run
 killed_group_ends =
-    made 1 Lock Done ∷ made 0 (Make (codes "/a")) (Number 1) ∷ made 0 (Grant 1 2) Granted ∷ made 0 (Kill 1) Done ∷ made 0 (Grant 1 1) Illegal ∷
-    made 0 (NoteMax 1) Done ∷ made 0 (NoteOom 1) Done ∷ made 0 (SetMax 1 (Some 0)) Done ∷ made 0 (PlaceBlock 1 0) (Placed (record { at = 0; order = 0 })) ∷
-    made 0 (Ungrant 1 1) Done ∷ made 0 (Unfreeze 0 1) Done ∷ made 0 (Publish 0) Done ∷ made 0 (Freeze 0 1) Done ∷ made 0 (Return 0) Done ∷
+    made 1 Lock Done ∷ made 0 (Make (codes "/a")) (Number 1) ∷ made 0 (Grant 1 2) Granted ∷ made 0 (Kill 1) Done
+    ∷ made 0 (Grant 1 1) Illegal ∷
+    made 0 (NoteMax 1) Done ∷ made 0 (NoteOom 1) Done ∷ made 0 (SetMax 1 (Some 0)) Done
+    ∷ made 0 (PlaceBlock 1 0) (Placed (record { at = 0; order = 0 })) ∷
+    made 0 (Ungrant 1 1) Done ∷ made 0 (Unfreeze 0 1) Done ∷ made 0 (Publish 0) Done ∷ made 0 (Freeze 0 1) Done
+    ∷ made 0 (Return 0) Done ∷
     made 0 (Make (codes "/a/b")) (Number 2) ∷ made 0 (Remove 2) Done ∷ made 0 (Remove 1) Done ∷ made 1 Unlock Done ∷ []
 
 -- Two groups are made, one below the other, and the flag of the upper one is set. The flag of the root can't be set,
 -- nor that of a group that doesn't exist.
 abbrev pub group_with_flag : Run
 group_with_flag =
-    made 1 Lock Done ∷ made 0 (Make (codes "/a")) (Number 1) ∷ made 0 (Make (codes "/a/b")) (Number 2) ∷ made 0 (SetFlag 0 true) Illegal ∷
+    made 1 Lock Done ∷ made 0 (Make (codes "/a")) (Number 1) ∷ made 0 (Make (codes "/a/b")) (Number 2)
+    ∷ made 0 (SetFlag 0 true) Illegal ∷
     made 0 (SetFlag 3 true) Illegal ∷ made 0 (SetFlag 1 true) Done ∷ []
 
 -- Both groups are killed, and that is noted once, at the upper one. It can't be noted at the root or at a group that
 -- doesn't exist.
 abbrev pub group_killed_whole : Run
 group_killed_whole =
-    group_with_flag ++ made 0 (Kill 1) Done ∷ made 0 (Kill 2) Done ∷ made 0 (NoteGroupKill 0) Illegal ∷ made 0 (NoteGroupKill 3) Illegal ∷
+    group_with_flag ++ made 0 (Kill 1) Done ∷ made 0 (Kill 2) Done ∷ made 0 (NoteGroupKill 0) Illegal
+    ∷ made 0 (NoteGroupKill 3) Illegal ∷
     made 0 (NoteGroupKill 1) Done ∷ []
 
 -- both groups are removed, and a new group gets the number of the upper one
 abbrev pub group_dies_whole : Run
 group_dies_whole =
-    group_killed_whole ++ made 0 (Remove 2) Done ∷ made 0 (Remove 1) Done ∷ made 0 (Make (codes "/a")) (Number 1) ∷ made 1 Unlock Done ∷ []
+    group_killed_whole ++ made 0 (Remove 2) Done ∷ made 0 (Remove 1) Done ∷ made 0 (Make (codes "/a")) (Number 1)
+    ∷ made 1 Unlock Done ∷ []
 
 -- A CPU's stock has one page, and its list has both frames, so that none is free. The stock pays only for its group,
 -- and for one frame. Once it is drained it pays for none, and no page is credited to it.
 abbrev pub stock_without_a_page : Run
 stock_without_a_page =
-    made 1 Lock Done ∷ made 0 (OpenVisit 1) Done ∷ made 0 (PassOut 0 1) Done ∷ made 1 (TakeIn 0) Done ∷ made 0 (PassOut 1 1) Done ∷
-    made 1 (TakeIn 1) Done ∷ made 0 (Grant 0 1) Granted ∷ made 0 (PlaceBlock 0 0) NoFreeBlock ∷ made 0 (Fill 1 0 1) Done ∷
-    made 1 (Consume 5) OtherGroup ∷ made 1 (Consume 0) Took ∷ made 1 (Consume 0) Empty ∷ made 0 (DrainStock 1) (Pages 0) ∷
+    made 1 Lock Done ∷ made 0 (OpenVisit 1) Done ∷ made 0 (PassOut 0 1) Done ∷ made 1 (TakeIn 0) Done
+    ∷ made 0 (PassOut 1 1) Done ∷
+    made 1 (TakeIn 1) Done ∷ made 0 (Grant 0 1) Granted ∷ made 0 (PlaceBlock 0 0) NoFreeBlock ∷ made 0 (Fill 1 0 1) Done
+    ∷
+    made 1 (Consume 5) OtherGroup ∷ made 1 (Consume 0) Took ∷ made 1 (Consume 0) Empty ∷ made 0 (DrainStock 1) (Pages 0)
+    ∷
     made 1 (Consume 0) Drained ∷ made 1 (Credit 0) Drained ∷ []
 
 -- CPU 1 takes the lock
@@ -165,8 +191,11 @@ with_pins n = record (at_boot small_zone) { references = λ seat f. if f == 0 th
 
 -- each CPU has this many back frames
 abbrev pub with_back_frames : ℕ → State
-with_back_frames n = record (at_boot small_zone) { parts = λ p. record no_part { back = replicate n 0 } }
+with_back_frames n = record (at_boot small_zone) { parts = λ cpu. record no_part { back = replicate n 0 } }
 
 -- each CPU has this many fresh frames, and one frame on its list
 abbrev pub with_fresh_frames : ℕ → State
-with_fresh_frames n = record (at_boot small_zone) { parts = λ p. record no_part { list = 1 ∷ []; fresh = replicate n 0 } }
+with_fresh_frames n = record (at_boot small_zone) {
+  parts = λ cpu.
+      record no_part { list = 1 ∷ []; fresh = replicate n 0 };
+}

@@ -13,10 +13,11 @@ abbrev pub free_frames : Zone → Run → List Bool
 free_frames zone run = map (λ f. places_of zone run f Free) (range_with_len 0 zone.frames)
 
 -- the frames that are free by their phases are those with the place Free, and they have one list of maximal free blocks
-pub record AreasAreTold (zone : Zone) (run : Run) : Type 0 where
+pub record AreasFollowRun (zone : Zone) (run : Run) : Type 0 where
   pub same : free_in (state_of zone run).zone (state_of zone run).phases ≡ free_frames zone run
-  pub one : (a b : List Block) → AreMaximalBlocks (free_frames zone run) a → AreMaximalBlocks (free_frames zone run) b → a ≡ b
+  pub one : (a b : List Block) → AreMaximalBlocks (free_frames zone run) a → AreMaximalBlocks (free_frames zone run) b
+      → a ≡ b
 
 -- after every legal run the free frames and their one list of blocks are those of the run
-abbrev pub AllAreasAreTold : Type 0
-AllAreasAreTold = (zone : Zone) (run : Run) → IsLegalRun zone run → AreasAreTold zone run
+abbrev pub AllAreasFollowRun : Type 0
+AllAreasFollowRun = (zone : Zone) (run : Run) → IsLegalRun zone run → AreasFollowRun zone run

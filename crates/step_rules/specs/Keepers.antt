@@ -4,23 +4,24 @@ use Rattle.group_tree.specs.Bounds.{most_groups}
 use Rattle.group_tree.specs.Groups.{has_group, parent_of, AreGroups}
 use Rattle.step_rules.specs.Phases.{keeper_of}
 use Rattle.step_rules.specs.State.{Zone, State, is_cpu, visits}
-use Rattle.step_rules.specs.Legal.{is_settled}
+use Rattle.step_rules.specs.Legal.{no_page_pends}
 use Rattle.step_rules.specs.After.{Run, state_of, IsLegalRun}
 use Rattle.step_rules.specs.Cover.{holds_lock}
 
 -- The group of a CPU's stock exists if the stock has a page, or if the book has pages beyond those unreported and
 -- reported. A stock that was never filled has no page and no book, and isn't drained. A drained stock has no page.
 -- Pages are in the stocks of CPUs alone, and are unreported or reported only in an open visit.
-pub record StockIsKept (s : State) (p : ℕ) : Type 0 where
-  pub stock : (g : ℕ) → (s.parts p).stock.group ≡ Some g → 1 ≤ (s.parts p).stock.pages → has_group s.groups g ≡ true
-  pub book : (g : ℕ) → (s.parts p).stock.group ≡ Some g → (s.parts p).unreported + (s.parts p).reported < (s.parts p).book → has_group s.groups g ≡ true
-  pub no_group : (s.parts p).stock.group ≡ None → (s.parts p).stock.pages ≡ 0
-  pub no_book : (s.parts p).stock.group ≡ None → (s.parts p).book ≡ 0
-  pub not_drained : (s.parts p).stock.group ≡ None → (s.parts p).stock.is_drained ≡ false
-  pub drained : (s.parts p).stock.is_drained ≡ true → (s.parts p).stock.pages ≡ 0
-  pub no_cpu : is_cpu s.zone p ≡ false → (s.parts p).stock.pages ≡ 0
-  pub unreported : visits p s.hold ≡ false → (s.parts p).unreported ≡ 0
-  pub reported : visits p s.hold ≡ false → (s.parts p).reported ≡ 0
+pub record StockIsKept (s : State) (cpu : ℕ) : Type 0 where
+  pub stock : (g : ℕ) → (s.parts cpu).stock.group ≡ Some g → 1 ≤ (s.parts cpu).stock.pages → has_group s.groups g ≡ true
+  pub book : (g : ℕ) → (s.parts cpu).stock.group ≡ Some g
+      → (s.parts cpu).unreported + (s.parts cpu).reported < (s.parts cpu).book → has_group s.groups g ≡ true
+  pub no_group : (s.parts cpu).stock.group ≡ None → (s.parts cpu).stock.pages ≡ 0
+  pub no_book : (s.parts cpu).stock.group ≡ None → (s.parts cpu).book ≡ 0
+  pub not_drained : (s.parts cpu).stock.group ≡ None → (s.parts cpu).stock.is_drained ≡ false
+  pub drained : (s.parts cpu).stock.is_drained ≡ true → (s.parts cpu).stock.pages ≡ 0
+  pub no_cpu : is_cpu s.zone cpu ≡ false → (s.parts cpu).stock.pages ≡ 0
+  pub unreported : visits cpu s.hold ≡ false → (s.parts cpu).unreported ≡ 0
+  pub reported : visits cpu s.hold ≡ false → (s.parts cpu).reported ≡ 0
 
 -- The groups are those of a tree, with numbers below `most_groups`. Each that keeps a frame or a page, or has children,
 -- exists, killed or not. If no number below that has pending pages, no number has. The holder of the lock is a CPU.
@@ -29,10 +30,10 @@ pub record KeepersAreThere (s : State) : Type 0 where
   pub numbers : (g : ℕ) → has_group s.groups g ≡ true → g < most_groups
   pub parents : (g h : ℕ) → parent_of s.groups g ≡ Some h → has_group s.groups h ≡ true
   pub frames : (f g : ℕ) → keeper_of (s.phases f) ≡ Some g → has_group s.groups g ≡ true
-  pub parts : (p : ℕ) → StockIsKept s p
+  pub parts : (cpu : ℕ) → StockIsKept s cpu
   pub pending : (g : ℕ) → has_group s.groups g ≡ false → s.pending g ≡ 0
-  pub settled : is_settled s ≡ true → (g : ℕ) → s.pending g ≡ 0
-  pub holder : (p : ℕ) → holds_lock p s.hold ≡ true → is_cpu s.zone p ≡ true
+  pub settled : no_page_pends s ≡ true → (g : ℕ) → s.pending g ≡ 0
+  pub holder : (cpu : ℕ) → holds_lock cpu s.hold ≡ true → is_cpu s.zone cpu ≡ true
 
 -- after every legal run each group that keeps a frame or a page exists
 abbrev pub AllKeepersAreThere : Type 0

@@ -22,7 +22,8 @@ is_published run f = fold (λ old e. published_after f old e.0.action e.1) false
 -- a published frame heads a charged unit, which is at the stage Live or has an open end
 pub record PublishedIsKept (zone : Zone) (run : Run) (f : ℕ) : Type 0 where
   pub head : is_published run f ≡ true → is_head ((state_of zone run).phases f) ≡ true
-  pub used_or_ended : is_published run f ≡ true → (is_live ((state_of zone run).phases f) || is_open ((state_of zone run).phases f)) ≡ true
+  pub used_or_ended : is_published run f ≡ true
+      → (is_live ((state_of zone run).phases f) || is_open ((state_of zone run).phases f)) ≡ true
 
 -- after every legal run each published frame heads a charged unit, live or with an open end
 abbrev pub AllPublishedIsKept : Type 0

@@ -22,7 +22,8 @@ UsageMoves s seat action answer = (m : ℕ) → usage_of (after s seat action an
 
 -- after every legal run only a grant raises usage
 abbrev pub OnlyGrantsRaiseUsage : Type 0
-OnlyGrantsRaiseUsage = (zone : Zone) (run : Run) → IsLegalRun zone run → (seat : ℕ) (action : Action) (answer : Answer) →
+OnlyGrantsRaiseUsage = (zone : Zone) (run : Run) → IsLegalRun zone run → (seat : ℕ) (action : Action) (answer : Answer)
+    →
     Allows (state_of zone run) seat action answer → UsageMoves (state_of zone run) seat action answer
 
 -- the group has existed in every beginning from the k-th on
@@ -47,9 +48,12 @@ peak_follows t action answer m peak = peak
 -- A group has one peak, and at boot the root's is 0. A step moves the peak of each group that exists after it as
 -- `peak_follows` says. For a group that didn't exist before, any number may be taken as the old peak.
 pub record PeaksAreKept : Type 0 where
-  pub one : (zone : Zone) (run : Run) (g peak other : ℕ) → IsPeak zone run g peak → IsPeak zone run g other → peak ≡ other
+  pub one : (zone : Zone) (run : Run) (g peak other : ℕ) → IsPeak zone run g peak → IsPeak zone run g other
+      → peak ≡ other
   pub boot : (zone : Zone) → IsPeak zone [] 0 0
-  pub step : (zone : Zone) (run : Run) (step : Step) (answer : Answer) → IsLegalRun zone run → Allows (state_of zone run) step.seat step.action answer →
+  pub step : (zone : Zone) (run : Run) (step : Step) (answer : Answer) → IsLegalRun zone run
+      → Allows (state_of zone run) step.seat step.action answer →
       (m peak : ℕ) → has_group (state_of zone (pushed run step answer)).groups m ≡ true →
       (has_group (state_of zone run).groups m ≡ true → IsPeak zone run m peak) →
-      IsPeak zone (pushed run step answer) m (peak_follows (state_of zone (pushed run step answer)) step.action answer m peak)
+      IsPeak zone (pushed run step answer) m
+      (peak_follows (state_of zone (pushed run step answer)) step.action answer m peak)

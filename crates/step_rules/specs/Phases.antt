@@ -4,7 +4,8 @@ use Rattle.step_rules.specs.declared.phase.ChargedUnit.{ChargedUnit}
 use Rattle.step_rules.specs.declared.phase.Way.{Way}
 use Rattle.step_rules.specs.declared.phase.Way.TheVariants.{PassingOut, OnList, PassingBack}
 use Rattle.step_rules.specs.declared.phase.Stage.{Stage}
-use Rattle.step_rules.specs.declared.phase.Stage.TheVariants.{FreshAt, FreshPassing, Collected, Bare, Live, BackAt, BackPassing, Ended}
+use Rattle.step_rules.specs.declared.phase.Stage.TheVariants.{FreshAt, FreshPassing, Collected, Bare, Live, BackAt}
+use Rattle.step_rules.specs.declared.phase.Stage.TheVariants.{BackPassing, Ended}
 use Rattle.step_rules.specs.declared.phase.Phase.{Phase}
 use Rattle.step_rules.specs.declared.phase.Phase.TheVariants.{InZone, Lent, Head, Tail}
 
@@ -47,19 +48,19 @@ is_live _ = false
 
 -- the CPU has the unit's head as a frame of this kind
 abbrev pub has_stage : Kind → ℕ → Stage → Bool
-has_stage FreshFrame p (FreshAt q) = q == p
-has_stage BackFrame p (BackAt q) = q == p
+has_stage FreshFrame cpu (FreshAt other) = other == cpu
+has_stage BackFrame cpu (BackAt other) = other == cpu
 has_stage _ _ _ = false
 
 -- the lent frame is on the CPU's list
 abbrev pub has_lent : Kind → ℕ → ℕ → Way → Bool
-has_lent ListFrame p q OnList = q == p
+has_lent ListFrame cpu other OnList = other == cpu
 has_lent _ _ _ _ = false
 
 -- the CPU has the frame as one of this kind
 abbrev pub has_as : Kind → ℕ → Phase → Bool
-has_as kind p (Lent q way) = has_lent kind p q way
-has_as kind p (Head unit stage) = has_stage kind p stage
+has_as kind cpu (Lent other way) = has_lent kind cpu other way
+has_as kind cpu (Head unit stage) = has_stage kind cpu stage
 has_as _ _ _ = false
 
 -- the lent frame is in transit to the CPU
@@ -69,7 +70,7 @@ is_out _ = false
 
 -- the frame is in transit to this CPU
 abbrev pub passes_out : ℕ → Phase → Bool
-passes_out p (Lent q way) = is_out way && q == p
+passes_out cpu (Lent other way) = is_out way && other == cpu
 passes_out _ _ = false
 
 -- the lent frame is in transit back to the zone
@@ -79,25 +80,25 @@ is_returning _ = false
 
 -- the unit's head is in transit back from this CPU
 abbrev pub stage_passes_back : ℕ → Stage → Bool
-stage_passes_back p (FreshPassing q) = q == p
-stage_passes_back p (BackPassing q) = q == p
+stage_passes_back cpu (FreshPassing other) = other == cpu
+stage_passes_back cpu (BackPassing other) = other == cpu
 stage_passes_back _ _ = false
 
 -- the frame is in transit back from this CPU
 abbrev pub passes_back : ℕ → Phase → Bool
-passes_back p (Lent q way) = is_returning way && q == p
-passes_back p (Head unit stage) = stage_passes_back p stage
+passes_back cpu (Lent other way) = is_returning way && other == cpu
+passes_back cpu (Head unit stage) = stage_passes_back cpu stage
 passes_back _ _ = false
 
 -- the unit's head is in transit
 abbrev pub is_stage_passing : Stage → Bool
-is_stage_passing (FreshPassing p) = true
-is_stage_passing (BackPassing p) = true
+is_stage_passing (FreshPassing cpu) = true
+is_stage_passing (BackPassing cpu) = true
 is_stage_passing _ = false
 
 -- the frame is in transit between the zone and a CPU
 abbrev pub is_passing : Phase → Bool
-is_passing (Lent q way) = is_out way || is_returning way
+is_passing (Lent other way) = is_out way || is_returning way
 is_passing (Head unit stage) = is_stage_passing stage
 is_passing _ = false
 
@@ -128,7 +129,7 @@ may_return killed _ = false
 abbrev pub at_stage : Stage → Phase → Phase
 at_stage stage (Head unit old) = Head unit stage
 at_stage stage InZone = InZone
-at_stage stage (Lent q way) = Lent q way
+at_stage stage (Lent other way) = Lent other way
 at_stage stage (Tail g) = Tail g
 
 -- the stage after a last put: the head is a CPU's back frame, or in the zone's hand
@@ -137,36 +138,36 @@ stage_after_last seat = if seat == 0 then Ended else BackAt seat
 
 -- the stage of a unit whose head is passed back
 abbrev pub stage_passed_back : Stage → Stage
-stage_passed_back (FreshAt p) = FreshPassing p
-stage_passed_back (BackAt p) = BackPassing p
-stage_passed_back (FreshPassing p) = FreshPassing p
+stage_passed_back (FreshAt cpu) = FreshPassing cpu
+stage_passed_back (BackAt cpu) = BackPassing cpu
+stage_passed_back (FreshPassing cpu) = FreshPassing cpu
 stage_passed_back Collected = Collected
 stage_passed_back Bare = Bare
 stage_passed_back Live = Live
-stage_passed_back (BackPassing p) = BackPassing p
+stage_passed_back (BackPassing cpu) = BackPassing cpu
 stage_passed_back Ended = Ended
 
 -- the phase of a frame that is passed back
 abbrev pub passed_back : Phase → Phase
-passed_back (Lent p way) = Lent p PassingBack
+passed_back (Lent cpu way) = Lent cpu PassingBack
 passed_back (Head unit stage) = Head unit (stage_passed_back stage)
 passed_back InZone = InZone
 passed_back (Tail g) = Tail g
 
 -- the stage of a unit whose head is collected
 abbrev pub stage_collected : Stage → Stage
-stage_collected (FreshPassing p) = Collected
-stage_collected (BackPassing p) = Ended
-stage_collected (FreshAt p) = FreshAt p
+stage_collected (FreshPassing cpu) = Collected
+stage_collected (BackPassing cpu) = Ended
+stage_collected (FreshAt cpu) = FreshAt cpu
 stage_collected Collected = Collected
 stage_collected Bare = Bare
 stage_collected Live = Live
-stage_collected (BackAt p) = BackAt p
+stage_collected (BackAt cpu) = BackAt cpu
 stage_collected Ended = Ended
 
 -- the phase of a frame that is collected: a frame of the list is free again
 abbrev pub collected : Phase → Phase
-collected (Lent p way) = InZone
+collected (Lent cpu way) = InZone
 collected (Head unit stage) = Head unit (stage_collected stage)
 collected InZone = InZone
 collected (Tail g) = Tail g

@@ -1,6 +1,7 @@
 -- Where the frames are after a run: a set of pairs of a frame and a place, folded over the run's pairs alone. A step
 -- that moves a frame adds its new pair and removes only the old pair that it names.
-use Rattle.std.specs.Prelude.{◌≡◌, ℕ, ◌^◌, ◌<◌, ◌==◌, ◌&&◌, ◌||◌, not, Bool, true, false, Option, Some, None, fold, if◌then◌else◌}
+use Rattle.std.specs.Prelude.{◌≡◌, ℕ, ◌^◌, ◌<◌, ◌==◌, ◌&&◌, ◌||◌, not, Bool, true, false, Option, Some, None, fold}
+use Rattle.std.specs.Prelude.{if◌then◌else◌}
 use Rattle.step_rules.specs.declared.phase.ChargedUnit.{ChargedUnit}
 use Rattle.step_rules.specs.declared.phase.Phase.{Phase}
 use Rattle.step_rules.specs.declared.phase.Phase.TheVariants.{InZone, Lent, Head, Tail}
@@ -22,7 +23,7 @@ Places = ℕ → FramePlace → Bool
 -- the two places are the same
 abbrev pub is_same_frame_place : FramePlace → FramePlace → Bool
 is_same_frame_place Free Free = true
-is_same_frame_place (Listed p) (Listed q) = p == q
+is_same_frame_place (Listed cpu) (Listed other) = cpu == other
 is_same_frame_place (Charged g) (Charged h) = g == h
 is_same_frame_place _ _ = false
 
@@ -33,7 +34,8 @@ places_at_boot zone f p = is_frame zone f && is_same_frame_place p Free
 -- each of n frames from this one on gains its new place and loses the named old one, and no other
 abbrev pub moved : Places → ℕ → ℕ → FramePlace → FramePlace → Places
 moved places at n old new f p =
-    if is_within at n f then is_same_frame_place p new || (places f p && not (is_same_frame_place p old)) else places f p
+    if is_within at n f then is_same_frame_place p new
+    || (places f p && not (is_same_frame_place p old)) else places f p
 
 -- the frames of a unit that is returned lose the place at its group and gain Free
 abbrev pub returned : Places → ℕ → Option ChargedUnit → Places
@@ -42,16 +44,18 @@ returned places f (Some unit) = moved places f (2 ^ unit.order) (Charged unit.gr
 
 -- a fresh frame that is credited loses the place at its group and gains that on the CPU's list
 abbrev pub credited_place : Places → ℕ → ℕ → Option ChargedUnit → Places
-credited_place places p f None = places
-credited_place places p f (Some unit) = moved places f 1 (Charged unit.group) (Listed p)
+credited_place places cpu f None = places
+credited_place places cpu f (Some unit) = moved places f 1 (Charged unit.group) (Listed cpu)
 
 -- The places after one more step. A frame passed out goes from Free to Listed; a listed frame that is collected goes
 -- back to Free. A consume moves the front of the list to the group that pays, a credit moves it back. A placed block
 -- goes from Free to its group, a returned unit from there to Free.
 abbrev pub places_after : Units → Places → ℕ → Action → Answer → Places
-places_after units places seat (PassOut f p) Done = moved places f 1 Free (Listed p)
-places_after units places seat (Collect f p) Done = if places f (Listed p) then moved places f 1 (Listed p) Free else places
-places_after units places seat (Consume g) Took = moved places (front_of (units.hands seat).list) 1 (Listed seat) (Charged g)
+places_after units places seat (PassOut f cpu) Done = moved places f 1 Free (Listed cpu)
+places_after units places seat (Collect f cpu) Done = if places f (Listed cpu) then moved places f 1 (Listed cpu)
+    Free else places
+places_after units places seat (Consume g) Took = moved places (front_of (units.hands seat).list) 1 (Listed seat)
+    (Charged g)
 places_after units places seat (Credit f) Back = credited_place places seat f (units.unit f)
 places_after units places seat (PlaceBlock g k) (Placed b) = moved places b.at (2 ^ k) Free (Charged g)
 places_after units places seat (Return f) Done = returned places f (units.unit f)
@@ -74,15 +78,16 @@ pub record HasOnePlace (places : Places) (f : ℕ) : Type 0 where
 -- the place of a frame in this phase
 abbrev pub place_in : Phase → FramePlace
 place_in InZone = Free
-place_in (Lent p way) = Listed p
+place_in (Lent cpu way) = Listed cpu
 place_in (Head unit stage) = Charged unit.group
 place_in (Tail g) = Charged g
 
 -- after the run each frame of the zone has exactly one place, that of its phase, and no other frame has any
-pub record PlacesAreTold (zone : Zone) (run : Run) : Type 0 where
+pub record PlacesFollowRun (zone : Zone) (run : Run) : Type 0 where
   pub one : (f : ℕ) → f < zone.frames → HasOnePlace (places_of zone run) f
-  pub told : (f : ℕ) (p : FramePlace) → places_of zone run f p ≡ (is_frame zone f && is_same_frame_place p (place_in ((state_of zone run).phases f)))
+  pub told : (f : ℕ) (p : FramePlace)
+      → places_of zone run f p ≡ (is_frame zone f && is_same_frame_place p (place_in ((state_of zone run).phases f)))
 
 -- after every legal run each frame of the zone has exactly one place, that of its phase
 abbrev pub EveryFrameHasOnePlace : Type 0
-EveryFrameHasOnePlace = (zone : Zone) (run : Run) → IsLegalRun zone run → PlacesAreTold zone run
+EveryFrameHasOnePlace = (zone : Zone) (run : Run) → IsLegalRun zone run → PlacesFollowRun zone run

@@ -2,7 +2,8 @@
 -- maximal free blocks (Knuth, The Art of Computer Programming, 2.5; Gorman, Understanding the Linux Virtual Memory
 -- Manager, chapter 6). Each frame is in one place. Each memory.current is right, and no grant passed memory.max
 -- (cgroup-v2.rst). No frame was returned twice for one use.
-use Rattle.std.specs.Prelude.{◌≡◌, ◌⊎◌, ◌↔◌, ℕ, ◌+◌, ◌<◌, ◌≤◌, Bool, true, false, Option, Some, is_some, List, length, take, slice_get, IfSome, if◌then◌else◌}
+use Rattle.std.specs.Prelude.{◌≡◌, ◌⊎◌, ◌↔◌, ℕ, ◌+◌, ◌<◌, ◌≤◌, Bool, true, false, Option, Some, is_some, List, length}
+use Rattle.std.specs.Prelude.{take, slice_get, IfSome, if◌then◌else◌}
 use Rattle.std.specs.List.{Contains}
 use Rattle.zone_blocks.specs.declared.block.Block.{Block}
 use Rattle.zone_blocks.specs.Block.{Covers}
@@ -13,7 +14,8 @@ use Rattle.group_tree.specs.Groups.{has_group, in_subtree}
 use Rattle.step_rules.specs.declared.step.FramePlace.{FramePlace}
 use Rattle.step_rules.specs.declared.step.FramePlace.TheVariants.{Free, Listed, Charged}
 use Rattle.step_rules.specs.declared.step.Action.{Action}
-use Rattle.step_rules.specs.declared.step.Action.TheVariants.{Get, Put, Freeze, Unfreeze, Consume, Credit, Grant, PlaceBlock, Return}
+use Rattle.step_rules.specs.declared.step.Action.TheVariants.{Get, Put, Freeze, Unfreeze, Consume, Credit, Grant}
+use Rattle.step_rules.specs.declared.step.Action.TheVariants.{PlaceBlock, Return}
 use Rattle.step_rules.specs.declared.step.Answer.{Answer}
 use Rattle.step_rules.specs.declared.step.Answer.TheVariants.{Done, Held, Last, Took, Back, Granted, Placed}
 use Rattle.step_rules.specs.Phases.{keeper_of}
@@ -23,7 +25,7 @@ use Rattle.step_rules.specs.Usage.{is_below, usage_of}
 use Rattle.step_rules.specs.After.{Run, state_of, IsLegalRun}
 use Rattle.step_rules.specs.Folds.{limit_given, was_killed}
 use Rattle.step_rules.specs.Units.{units_of}
-use Rattle.step_rules.specs.Counts.{references_in, references_out, counted_over}
+use Rattle.step_rules.specs.Counts.{references_in, references_out, counted}
 use Rattle.step_rules.specs.Returns.{is_gone, is_drop, times_in}
 use Rattle.step_rules.specs.Charges.{groups_of, charged_below}
 
@@ -42,29 +44,30 @@ pub record Shown : Type 0 where
 -- usage, and all else is the same.
 pub record IsShown (s : State) (shown : Shown) : Type 0 where
   pub areas : AreMaximalBlocks (free_in s.zone s.phases) shown.areas
-  pub lists : (p : ℕ) → shown.lists p ≡ (s.parts p).list
+  pub lists : (cpu : ℕ) → shown.lists cpu ≡ (s.parts cpu).list
   pub keeper : (f : ℕ) → shown.keeper f ≡ keeper_of (s.phases f)
   pub groups : shown.groups ≡ s.groups
-  pub stocks : (p : ℕ) → shown.stocks p ≡ (s.parts p).stock
+  pub stocks : (cpu : ℕ) → shown.stocks cpu ≡ (s.parts cpu).stock
   pub current : (g : ℕ) → has_group s.groups g ≡ true → shown.current g ≡ usage_of s g
 
 -- ---- each frame is in one place
 -- the frame is shown at the place: in a block of the free areas, on the CPU's list, or kept by the group
 abbrev pub Has : Shown → ℕ → FramePlace → Type 0
 Has shown f Free = (b : Block) × Contains shown.areas b × Covers b f
-Has shown f (Listed p) = 1 ≤ times_in f (shown.lists p)
+Has shown f (Listed cpu) = 1 ≤ times_in f (shown.lists cpu)
 Has shown f (Charged g) = shown.keeper f ≡ Some g
 
 -- the frame is shown at the place once: in one block alone, once on the list of a CPU, or kept by a group that exists
 abbrev pub HasOnce : Zone → Shown → ℕ → FramePlace → Type 0
 HasOnce zone shown f Free = IsInOneBlock shown.areas f
-HasOnce zone shown f (Listed p) = (is_cpu zone p ≡ true) × (times_in f (shown.lists p) ≡ 1)
+HasOnce zone shown f (Listed cpu) = (is_cpu zone cpu ≡ true) × (times_in f (shown.lists cpu) ≡ 1)
 HasOnce zone shown f (Charged g) = (has_group shown.groups g ≡ true) × (shown.keeper f ≡ Some g)
 
 -- by the run a unit of this group has the frame: that of a head h, of 2^k frames
 abbrev pub IsInUnit : Run → ℕ → ℕ → Type 0
 IsInUnit run g f =
-    (h : ℕ) × (k : ℕ) × ((units_of run).unit h ≡ Some (record { group = g; order = k })) × Covers (record { at = h; order = k }) f
+    (h : ℕ) × (k : ℕ) × ((units_of run).unit h ≡ Some (record { group = g; order = k }))
+    × Covers (record { at = h; order = k }) f
 
 -- The frame is shown once at one place, and at no other. A group keeps it exactly if a unit of that group has it.
 pub record IsInOnePlace (zone : Zone) (run : Run) (shown : Shown) (f : ℕ) : Type 0 where
@@ -76,7 +79,8 @@ pub record IsInOnePlace (zone : Zone) (run : Run) (shown : Shown) (f : ℕ) : Ty
 -- ---- each usage is right
 -- the stock is that of a CPU, for a group that exists
 abbrev pub IsPrepaid : Zone → Shown → ℕ → Type 0
-IsPrepaid zone shown p = (is_cpu zone p ≡ true) × ((g : ℕ) × ((shown.stocks p).group ≡ Some g) × (has_group shown.groups g ≡ true))
+IsPrepaid zone shown cpu = (is_cpu zone cpu ≡ true)
+    × ((g : ℕ) × ((shown.stocks cpu).group ≡ Some g) × (has_group shown.groups g ≡ true))
 
 -- how many of the first n frames the group and its descendants keep
 abbrev pub kept_below : Shown → ℕ → ℕ → ℕ
@@ -85,20 +89,22 @@ kept_below shown frames g = sum_to frames (λ f. one_if (is_below shown.groups g
 -- the pages prepaid for them in the stocks of the CPUs, which have the numbers from 1 on
 abbrev pub prepaid_below : Shown → ℕ → ℕ → ℕ
 prepaid_below shown cpus g =
-    sum_to cpus (λ p. if is_below shown.groups g (shown.stocks (p + 1)).group then (shown.stocks (p + 1)).pages else 0)
+    sum_to cpus (λ cpu. if is_below shown.groups g (shown.stocks (cpu + 1)).group
+    then (shown.stocks (cpu + 1)).pages else 0)
 
 -- ---- no grant passed a limit
 -- A grant is for a group that isn't killed. With it, the pages charged to the group and to each ancestor are at most
 -- the limit last given there, if any.
 abbrev pub KeepsLimits : Run → Action → Answer → Type 0
 KeepsLimits run (Grant g n) Granted = (was_killed run g ≡ false)
-    × ((m : ℕ) → in_subtree (groups_of run) m g ≡ true → fits_limit (limit_given run m) (charged_below run m + n) ≡ true)
+    × ((m : ℕ) → in_subtree (groups_of run) m g ≡ true
+    → fits_limit (limit_given run m) (charged_below run m + n) ≡ true)
 KeepsLimits run action answer = Unit {0}
 
 -- ---- no frame is returned twice for one use
 -- no seat has a reference on the frame: each gave up as many as it was given
 abbrev pub HasNoReference : Run → ℕ → Type 0
-HasNoReference run f = (seat : ℕ) → counted_over (references_in seat f) run ≡ counted_over (references_out seat f) run
+HasNoReference run f = (seat : ℕ) → counted (references_in seat f) run ≡ counted (references_out seat f) run
 
 -- the frame is in no use: no unit has it, no seat refers to it, and no return of it is due after a last reference
 abbrev pub IsUnused : Run → ℕ → Type 0
@@ -133,13 +139,15 @@ pub record Promise (zone : Zone) (run : Run) (shown : Shown) : Type 0 where
   pub areas : (free : List Bool) × (length free ≡ zone.frames) × AreMaximalBlocks free shown.areas
   pub frames : (f : ℕ) → f < zone.frames → IsInOnePlace zone run shown f
   pub beyond : (f : ℕ) → zone.frames ≤ f → (p : FramePlace) → ¬ Has shown f p
-  pub stocks : (p : ℕ) → 1 ≤ (shown.stocks p).pages → IsPrepaid zone shown p
+  pub stocks : (cpu : ℕ) → 1 ≤ (shown.stocks cpu).pages → IsPrepaid zone shown cpu
   pub current : (g : ℕ) → has_group shown.groups g ≡ true →
-      (shown.current g ≡ kept_below shown zone.frames g + prepaid_below shown zone.cpus g) × (shown.current g ≡ charged_below run g)
+      (shown.current g ≡ kept_below shown zone.frames g + prepaid_below shown zone.cpus g)
+      × (shown.current g ≡ charged_below run g)
   pub limits : (k : ℕ) → IfSome (slice_get run k) (λ e. KeepsLimits (take k run) e.0.action e.1)
   pub returns : (k : ℕ) → IfSome (slice_get run k) (λ e. ComesBackOnce (take k run) e.0.seat e.0.action e.1)
 
 -- every legal run that leaves the lock free keeps the promise, for whatever shows its state
 abbrev pub ThePromiseIsKept : Type 0
-ThePromiseIsKept = (zone : Zone) (run : Run) (shown : Shown) → IsLegalRun zone run → is_unheld (state_of zone run).hold ≡ true →
+ThePromiseIsKept = (zone : Zone) (run : Run) (shown : Shown) → IsLegalRun zone run
+    → is_unheld (state_of zone run).hold ≡ true →
     IsShown (state_of zone run) shown → Promise zone run shown

@@ -1,5 +1,6 @@
 -- How each use of a frame ends and is closed, and that nothing is pending while the lock is free.
-use Rattle.std.specs.Prelude.{◌≡◌, ℕ, ◌+◌, ◌==◌, ◌++◌, Bool, true, false, Option, Some, None, List, [], ◌∷◌, fold, filter, length, if◌then◌else◌}
+use Rattle.std.specs.Prelude.{◌≡◌, ℕ, ◌+◌, ◌==◌, ◌++◌, Bool, true, false, Option, Some, None, List, [], ◌∷◌, fold}
+use Rattle.std.specs.Prelude.{filter, length, if◌then◌else◌}
 use Rattle.step_rules.specs.declared.phase.Stage.{Stage}
 use Rattle.step_rules.specs.declared.phase.Stage.TheVariants.{Collected, BackAt, BackPassing, Ended}
 use Rattle.step_rules.specs.declared.phase.Phase.{Phase}
@@ -20,8 +21,8 @@ use Rattle.step_rules.specs.Places.{is_same_frame_place, place_in}
 
 -- the stage of a unit whose last reference was dropped and that wasn't returned since
 abbrev pub is_open_stage : Stage → Bool
-is_open_stage (BackAt p) = true
-is_open_stage (BackPassing p) = true
+is_open_stage (BackAt cpu) = true
+is_open_stage (BackPassing cpu) = true
 is_open_stage Ended = true
 is_open_stage _ = false
 
@@ -83,27 +84,30 @@ abbrev pub with_counted : (Run → ℕ → Action → Answer → ℕ) → Run ×
 with_counted count t e = (t.0 ++ e ∷ [], t.1 + count t.0 e.0.seat e.0.action e.1)
 
 -- the sum of what each step of a run counts, each counted with the run before it
-abbrev pub counted_along : (Run → ℕ → Action → Answer → ℕ) → Run → ℕ
-counted_along count run = (fold (with_counted count) ([], 0) run).1
+abbrev pub counted_with_run : (Run → ℕ → Action → Answer → ℕ) → Run → ℕ
+counted_with_run count run = (fold (with_counted count) ([], 0) run).1
 
 -- the state and what was counted with it, after one more pair
 abbrev pub with_count : (State → ℕ → Action → Answer → ℕ) → State × ℕ → Step × Answer → State × ℕ
 with_count count t e = (after t.0 e.0.seat e.0.action e.1, t.1 + count t.0 e.0.seat e.0.action e.1)
 
 -- the sum of what each step of a run counts, each counted with the state before it
-abbrev pub counted_beside : (State → ℕ → Action → Answer → ℕ) → Zone → Run → ℕ
-counted_beside count zone run = (fold (with_count count) (at_boot zone, 0) run).1
+abbrev pub counted_with_state : (State → ℕ → Action → Answer → ℕ) → Zone → Run → ℕ
+counted_with_state count zone run = (fold (with_count count) (at_boot zone, 0) run).1
 
 -- Each use of the frame that ended is closed by a return or a credit, or undone by an unfreeze, except one that is
 -- open. No use ends while one is open, so a return that closes no open end is a drop. Open ends and drops are the same
 -- in the state as by the run.
 pub record ReturnsOnce (zone : Zone) (run : Run) (f : ℕ) : Type 0 where
-  pub once : counted_along (uses_ended f) run ≡ one_if (is_open ((state_of zone run).phases f)) + counted_along (uses_closed f) run
+  pub once : counted_with_run (uses_ended f) run
+      ≡ one_if (is_open ((state_of zone run).phases f)) + counted_with_run (uses_closed f) run
   pub gone : is_gone run f ≡ is_open ((state_of zone run).phases f)
   pub drop : (seat : ℕ) → is_legal (state_of zone run) seat (Return f) ≡ true →
       is_drop run f ≡ is_drop_phase (state_of zone run).killed ((state_of zone run).phases f)
-  pub none_open_at_put : (seat : ℕ) → IsMade (state_of zone run) seat (Put f) Last → is_open ((state_of zone run).phases f) ≡ false
-  pub none_open_at_freeze : (seat n : ℕ) → IsMade (state_of zone run) seat (Freeze f n) Done → is_open ((state_of zone run).phases f) ≡ false
+  pub none_open_at_put : (seat : ℕ) → IsMade (state_of zone run) seat (Put f) Last
+      → is_open ((state_of zone run).phases f) ≡ false
+  pub none_open_at_freeze : (seat n : ℕ) → IsMade (state_of zone run) seat (Freeze f n) Done
+      → is_open ((state_of zone run).phases f) ≡ false
 
 -- after every legal run each use of a frame that ended is closed, except one that is open
 abbrev pub EveryFrameReturnsOnce : Type 0
@@ -117,10 +121,13 @@ times_in f frames = length (filter (λ x. x == f) frames)
 -- transit. A frame that is lent is once on the list of its CPU, and no frame is on any other list.
 pub record IsAllPlaced (s : State) : Type 0 where
   pub pending : (g : ℕ) → s.pending g ≡ 0
-  pub usage : (g : ℕ) → usage_of s g ≡ frames_kept s.groups s.phases s.zone.frames g + pages_prepaid s.groups s.parts s.zone.cpus g
+  pub usage : (g : ℕ) → usage_of s g
+      ≡ frames_kept s.groups s.phases s.zone.frames g + pages_prepaid s.groups s.parts s.zone.cpus g
   pub still : no_frame_passes s ≡ true
-  pub listed : (f p : ℕ) → times_in f (s.parts p).list ≡ one_if (is_same_frame_place (place_in (s.phases f)) (Listed p))
+  pub listed : (f cpu : ℕ) → times_in f (s.parts cpu).list
+      ≡ one_if (is_same_frame_place (place_in (s.phases f)) (Listed cpu))
 
 -- after every legal run that leaves the lock free nothing is pending or in transit
 abbrev pub NothingPendsWhileTheLockIsFree : Type 0
-NothingPendsWhileTheLockIsFree = (zone : Zone) (run : Run) → IsLegalRun zone run → is_unheld (state_of zone run).hold ≡ true → IsAllPlaced (state_of zone run)
+NothingPendsWhileTheLockIsFree = (zone : Zone) (run : Run) → IsLegalRun zone run
+    → is_unheld (state_of zone run).hold ≡ true → IsAllPlaced (state_of zone run)

@@ -1,6 +1,6 @@
 -- The state after a list of steps.
-use Rattle.std.specs.Prelude.{ℕ, ◌+◌, ◌==◌, ◌&&◌, ◌++◌, not, nat_le, nat_lt, zero, suc, Bool, true, false, Option, None, List, [], ◌∷◌, map, filter}
-use Rattle.std.specs.Prelude.{if◌then◌else◌}
+use Rattle.std.specs.Prelude.{ℕ, ◌+◌, ◌==◌, ◌&&◌, ◌++◌, not, nat_le, nat_lt, zero, suc, Bool, true, false, Option, None}
+use Rattle.std.specs.Prelude.{List, [], ◌∷◌, map, filter, if◌then◌else◌}
 use Rattle.std.specs.List.{range_with_len, slice_index_or}
 use Rattle.group_tree.specs.declared.group.Group.{Group}
 use Rattle.group_tree.specs.Groups.{initial_groups}
@@ -62,7 +62,7 @@ at_boot zone = record {
   killed = λ g. false;
   phases = λ f. InZone;
   references = λ seat f. 0;
-  parts = λ p. no_part;
+  parts = λ cpu. no_part;
   pending = λ g. 0;
 }
 
@@ -110,7 +110,7 @@ frames_of part BackFrame = part.back
 
 -- the seat is a CPU's
 abbrev pub is_cpu : Zone → ℕ → Bool
-is_cpu zone p = nat_le 1 p && nat_le p zone.cpus
+is_cpu zone cpu = nat_le 1 cpu && nat_le cpu zone.cpus
 
 -- the frame is one of the zone
 abbrev pub is_frame : Zone → ℕ → Bool
@@ -123,13 +123,13 @@ is_unheld _ = false
 
 -- the CPU holds the lock, and its visit isn't open
 abbrev pub is_held_by : ℕ → Hold → Bool
-is_held_by p (HeldBy q) = q == p
-is_held_by p _ = false
+is_held_by cpu (HeldBy other) = other == cpu
+is_held_by cpu _ = false
 
 -- the CPU holds the lock, and its visit is open
 abbrev pub visits : ℕ → Hold → Bool
-visits p (Visiting q) = q == p
-visits p _ = false
+visits cpu (Visiting other) = other == cpu
+visits cpu _ = false
 
 -- the seat is the zone's own, and a CPU holds the lock
 abbrev pub may_zone_act : Hold → ℕ → Bool

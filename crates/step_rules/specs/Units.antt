@@ -1,4 +1,5 @@
--- What a run says of charged units, folded over its pairs alone: which frame heads which unit, and which frames are fresh.
+-- What a run says of charged units, folded over its pairs alone: which frame heads which unit, and which frames are
+-- fresh.
 use Rattle.std.specs.Prelude.{◌≡◌, ℕ, ◌==◌, Bool, true, false, Option, Some, None, [], fold, if◌then◌else◌}
 use Rattle.step_rules.specs.declared.phase.ChargedUnit.{ChargedUnit}
 use Rattle.step_rules.specs.declared.phase.Stage.{Stage}
@@ -42,14 +43,18 @@ fresh_after f front old action answer = old
 -- all three after one more step
 abbrev pub units_after : Units → ℕ → Action → Answer → Units
 units_after old seat action answer = record {
-  hands = λ p. hand_after p (old.hands p) seat action answer;
+  hands = λ cpu. hand_after cpu (old.hands cpu) seat action answer;
   unit = λ f. unit_after f (front_of (old.hands seat).list) (old.unit f) action answer;
   fresh_for = λ f. fresh_after f (front_of (old.hands seat).list) (old.fresh_for f) action answer;
 }
 
 -- before the first step there are no units, and no CPU has a frame
 abbrev pub no_units : Units
-no_units = record { hands = λ p. record { list = []; fresh = []; back = [] }; unit = λ f. None; fresh_for = λ f. None }
+no_units = record {
+  hands = λ cpu. record { list = []; fresh = []; back = [] };
+  unit = λ f. None;
+  fresh_for = λ f. None;
+}
 
 -- the units after a run
 abbrev pub units_of : Run → Units
@@ -57,8 +62,8 @@ units_of run = fold (λ old e. units_after old e.0.seat e.0.action e.1) no_units
 
 -- the stage of a unit that a consume paid for and that had no reference
 abbrev pub is_fresh_stage : Stage → Bool
-is_fresh_stage (FreshAt p) = true
-is_fresh_stage (FreshPassing p) = true
+is_fresh_stage (FreshAt cpu) = true
+is_fresh_stage (FreshPassing cpu) = true
 is_fresh_stage Collected = true
 is_fresh_stage _ = false
 
@@ -69,11 +74,11 @@ fresh_group _ = None
 
 -- the unit in the state is that of the run, and the frame is fresh in the state exactly if it is by the run, for the
 -- same group
-pub record UnitsAreTold (zone : Zone) (run : Run) (f : ℕ) : Type 0 where
+pub record UnitsFollowRun (zone : Zone) (run : Run) (f : ℕ) : Type 0 where
   pub unit : unit_of ((state_of zone run).phases f) ≡ (units_of run).unit f
   pub fresh : fresh_group ((state_of zone run).phases f) ≡ (units_of run).fresh_for f
-  pub hands : (p : ℕ) → (units_of run).hands p ≡ hand_of run p
+  pub hands : (cpu : ℕ) → (units_of run).hands cpu ≡ hand_of run cpu
 
 -- after every legal run the units and the fresh frames are those of the run
-abbrev pub AllUnitsAreTold : Type 0
-AllUnitsAreTold = (zone : Zone) (run : Run) → IsLegalRun zone run → (f : ℕ) → UnitsAreTold zone run f
+abbrev pub AllUnitsFollowRun : Type 0
+AllUnitsFollowRun = (zone : Zone) (run : Run) → IsLegalRun zone run → (f : ℕ) → UnitsFollowRun zone run f

@@ -22,7 +22,7 @@ stock_below groups g part = if is_below groups g part.stock.group then part.stoc
 
 -- the pages in the stocks of the subtree's groups
 abbrev pub pages_prepaid : List Group → (ℕ → Part) → ℕ → ℕ → ℕ
-pages_prepaid groups parts cpus g = sum_to (cpus + 1) (λ p. stock_below groups g (parts p))
+pages_prepaid groups parts cpus g = sum_to (cpus + 1) (λ cpu. stock_below groups g (parts cpu))
 
 -- the pages that are pending for the subtree's groups
 abbrev pub pages_pending : List Group → (ℕ → ℕ) → ℕ → ℕ
@@ -31,4 +31,5 @@ pages_pending groups pending g = sum_to most_groups (λ h. if in_subtree groups 
 -- The memory now used by the group and its descendants, in pages: the frames that they keep, the pages prepaid for them
 -- and those pending.
 abbrev pub usage_of : State → ℕ → ℕ
-usage_of s g = frames_kept s.groups s.phases s.zone.frames g + pages_prepaid s.groups s.parts s.zone.cpus g + pages_pending s.groups s.pending g
+usage_of s g = frames_kept s.groups s.phases s.zone.frames g + pages_prepaid s.groups s.parts s.zone.cpus g
+    + pages_pending s.groups s.pending g

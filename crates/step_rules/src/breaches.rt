@@ -5,13 +5,16 @@ ghost use Rattle.std.specs.Prelude.{[]};
 ghost use Rattle.step_rules.specs.After.{IsLegalRun, state_of};
 ghost use Rattle.step_rules.specs.Examples.{small_zone};
 ghost use Rattle.step_rules.specs.Promise.{IsShown, Promise};
-ghost use Rattle.step_rules.specs.Breaches.{BreaksPromise, past_a_limit, granted_when_killed};
-ghost use Rattle.step_rules.specs.Breaches.{returned_unused, returned_in_use, returned_in_no_unit, returned_again, credited_again, credited_in_use};
-ghost use Rattle.step_rules.specs.Breaches.{consumed_nothing, consumed_in_a_unit, placed_on_a_tail, placed_smaller, placed_in_use, placed_ended, placed_for_nobody};
-ghost use Rattle.step_rules.specs.Breaches.{given_after_the_last, put_after_the_last, frozen_after_the_last, unfrozen_in_no_unit, unfrozen_in_use};
-ghost use Rattle.step_rules.specs.Breaches.{kept_run, right_sight, IsWrongSight, seen_nowhere, seen_twice, listed_twice, listed_by_nobody};
-ghost use Rattle.step_rules.specs.Breaches.{kept_in_no_unit, seen_beyond, prepaid_for_nobody, prepaid_left_out, no_group_seen};
-ghost use Rattle.step_rules.specs.Breaches.{IsWrongAfter, free_sight, parted_areas, prepaid_by_nobody, prepaid_for_no_group, granted_and_lost, lost_in_number};
+ghost use Rattle.step_rules.specs.Breaches.{BreaksPromise, past_a_limit, granted_when_killed, returned_unused};
+ghost use Rattle.step_rules.specs.Breaches.{returned_in_use, returned_in_no_unit, returned_again, credited_again};
+ghost use Rattle.step_rules.specs.Breaches.{credited_in_use, consumed_nothing, consumed_in_a_unit, placed_on_a_tail};
+ghost use Rattle.step_rules.specs.Breaches.{placed_smaller, placed_in_use, placed_ended, placed_for_nobody};
+ghost use Rattle.step_rules.specs.Breaches.{given_after_the_last, put_after_the_last, frozen_after_the_last};
+ghost use Rattle.step_rules.specs.Breaches.{unfrozen_in_no_unit, unfrozen_in_use, kept_run, shown_rightly};
+ghost use Rattle.step_rules.specs.Breaches.{IsShownWrongly, seen_nowhere, seen_twice, listed_twice, listed_by_nobody};
+ghost use Rattle.step_rules.specs.Breaches.{kept_in_no_unit, seen_beyond, prepaid_for_nobody, prepaid_left_out};
+ghost use Rattle.step_rules.specs.Breaches.{no_group_seen, IsWrongAfter, shown_free, parted_areas, prepaid_by_nobody};
+ghost use Rattle.step_rules.specs.Breaches.{prepaid_for_no_group, granted_and_lost, lost_in_number};
 
 /// A grant that passes the limit of an ancestor breaks the promise. A grant to a killed group breaks it too.
 pub fn a_grant_past_a_limit_breaks_the_promise()
@@ -54,34 +57,34 @@ pub fn a_reference_after_the_last_breaks_the_promise()
 {}
 
 /// What is shown after a small run keeps the promise: one frame kept, one free, and one page in a stock.
-pub fn a_right_sight_keeps_the_promise()
+pub fn what_is_shown_rightly_keeps_the_promise()
     ensures legal { IsLegalRun small_zone kept_run }
-    ensures shown { IsShown (state_of small_zone kept_run) right_sight }
-    ensures kept { Promise small_zone kept_run right_sight }
+    ensures shown { IsShown (state_of small_zone kept_run) shown_rightly }
+    ensures kept { Promise small_zone kept_run shown_rightly }
 {}
 
 /// Shown states that are wrong in one thing break the promise. A frame is nowhere, in two places, twice on a list, on
 /// the list of no CPU, kept without a unit, or not of the zone. A page is prepaid for no group, or left out. No group
 /// is shown.
-pub fn a_wrong_sight_breaks_the_promise()
-    ensures nowhere { IsWrongSight seen_nowhere }
-    ensures twice { IsWrongSight seen_twice }
-    ensures listed_twice { IsWrongSight listed_twice }
-    ensures by_nobody { IsWrongSight listed_by_nobody }
-    ensures in_no_unit { IsWrongSight kept_in_no_unit }
-    ensures beyond { IsWrongSight seen_beyond }
-    ensures for_nobody { IsWrongSight prepaid_for_nobody }
-    ensures left_out { IsWrongSight prepaid_left_out }
-    ensures no_group { IsWrongSight no_group_seen }
+pub fn what_is_shown_wrongly_breaks_the_promise()
+    ensures nowhere { IsShownWrongly seen_nowhere }
+    ensures twice { IsShownWrongly seen_twice }
+    ensures listed_twice { IsShownWrongly listed_twice }
+    ensures by_nobody { IsShownWrongly listed_by_nobody }
+    ensures in_no_unit { IsShownWrongly kept_in_no_unit }
+    ensures beyond { IsShownWrongly seen_beyond }
+    ensures for_nobody { IsShownWrongly prepaid_for_nobody }
+    ensures left_out { IsShownWrongly prepaid_left_out }
+    ensures no_group { IsShownWrongly no_group_seen }
 {}
 
 /// Shown states with only free frames break the promise if one block is shown as two, or if a page is prepaid by no CPU
 /// or for a group that doesn't exist. They also do if a granted page is nowhere, whether memory.current counts it or
 /// not.
-pub fn a_wrong_free_sight_breaks_the_promise()
+pub fn what_is_shown_free_wrongly_breaks_the_promise()
     ensures parted { IsWrongAfter [] parted_areas }
     ensures by_nobody { IsWrongAfter [] prepaid_by_nobody }
     ensures for_no_group { IsWrongAfter [] prepaid_for_no_group }
-    ensures lost { IsWrongAfter granted_and_lost free_sight }
+    ensures lost { IsWrongAfter granted_and_lost shown_free }
     ensures lost_in_number { IsWrongAfter granted_and_lost lost_in_number }
 {}

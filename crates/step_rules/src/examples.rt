@@ -2,8 +2,11 @@
 
 ghost use Rattle.std.specs.Prelude.{◌≡◌, ◌++◌, true, false, Some};
 ghost use Rattle.step_rules.specs.After.{IsLegalRun, state_of};
-ghost use Rattle.step_rules.specs.Examples.{small_zone, life_of_a_frame, credited_twice, returned_twice, unlocked_too_soon, returned_when_killed, at_the_borders, in_line, noted, group_comes_and_goes, killed_group_ends, group_killed_whole, group_dies_whole, stock_without_a_page};
-ghost use Rattle.step_rules.specs.Examples.{first_visit, hand_over, last_put, lock_taken, vain_visit, with_pins, with_back_frames, with_fresh_frames};
+ghost use Rattle.step_rules.specs.Examples.{small_zone, life_of_a_frame, credited_twice, returned_twice};
+ghost use Rattle.step_rules.specs.Examples.{unlocked_too_soon, returned_when_killed, at_the_borders, in_line, noted};
+ghost use Rattle.step_rules.specs.Examples.{group_comes_and_goes, killed_group_ends, group_killed_whole};
+ghost use Rattle.step_rules.specs.Examples.{group_dies_whole, stock_without_a_page, first_visit, hand_over, last_put};
+ghost use Rattle.step_rules.specs.Examples.{lock_taken, vain_visit, with_pins, with_back_frames, with_fresh_frames};
 ghost use Rattle.step_rules.specs.Legal.{is_legal};
 ghost use Rattle.step_rules.specs.Cover.{hide};
 ghost use Rattle.step_rules.specs.Laws.{ShowsLocal};
@@ -51,12 +54,12 @@ pub fn a_killed_groups_fresh_frame_comes_back()
 
 /// A frame gets at most 255 references, and none is given on one that has none. A freeze takes all references or none.
 /// The root gets no limit, a killed group gets no page, and a group is killed once.
-pub fn the_borders_are_kept()
+pub fn counts_and_kills_stop_at_their_borders()
     ensures { IsLegalRun small_zone at_the_borders }
 {}
 
 /// A CPU passes back only the front of its list, and the zone publishes only a frame that it has a reference on.
-pub fn the_line_is_kept()
+pub fn only_the_front_passes_back()
     ensures { IsLegalRun small_zone in_line }
 {}
 
@@ -74,9 +77,12 @@ pub fn notes_are_counted()
 pub fn a_group_comes_and_goes()
     ensures legal { IsLegalRun small_zone group_comes_and_goes }
     ensures killed { was_killed group_comes_and_goes 2 ≡ false }
-    ensures above { (events_of Oom small_zone group_comes_and_goes 1 ≡ 1) × (events_local_of Oom small_zone group_comes_and_goes 1 ≡ 0) }
-    ensures anew { (events_of Oom small_zone group_comes_and_goes 2 ≡ 0) × (events_of OomKill small_zone group_comes_and_goes 2 ≡ 0) }
-    ensures noted { (events_of Max small_zone group_comes_and_goes 0 ≡ 1) × (events_local_of Max small_zone group_comes_and_goes 2 ≡ 1) }
+    ensures above { (events_of Oom small_zone group_comes_and_goes 1 ≡ 1)
+        × (events_local_of Oom small_zone group_comes_and_goes 1 ≡ 0) }
+    ensures anew { (events_of Oom small_zone group_comes_and_goes 2 ≡ 0)
+        × (events_of OomKill small_zone group_comes_and_goes 2 ≡ 0) }
+    ensures noted { (events_of Max small_zone group_comes_and_goes 0 ≡ 1)
+        × (events_local_of Max small_zone group_comes_and_goes 2 ≡ 1) }
 {}
 
 /// A killed group gets no more pages, and those pending for it are placed or ungranted. Events are noted at it and its
@@ -90,9 +96,12 @@ pub fn a_killed_group_ends()
 pub fn a_group_dies_whole()
     ensures legal { IsLegalRun small_zone group_dies_whole }
     ensures flag { (flag_given group_killed_whole 1 ≡ true) × (flag_given group_killed_whole 2 ≡ false) }
-    ensures at_group { (events_local_of OomGroupKill small_zone group_killed_whole 1 ≡ 1) × (events_local_of OomGroupKill small_zone group_killed_whole 2 ≡ 0) }
-    ensures above { (events_of OomGroupKill small_zone group_killed_whole 0 ≡ 1) × (events_of OomKill small_zone group_killed_whole 0 ≡ 2) }
-    ensures anew { (flag_given group_dies_whole 1 ≡ false) × (events_local_of OomGroupKill small_zone group_dies_whole 1 ≡ 0) }
+    ensures at_group { (events_local_of OomGroupKill small_zone group_killed_whole 1 ≡ 1)
+        × (events_local_of OomGroupKill small_zone group_killed_whole 2 ≡ 0) }
+    ensures above { (events_of OomGroupKill small_zone group_killed_whole 0 ≡ 1)
+        × (events_of OomKill small_zone group_killed_whole 0 ≡ 2) }
+    ensures anew { (flag_given group_dies_whole 1 ≡ false)
+        × (events_local_of OomGroupKill small_zone group_dies_whole 1 ≡ 0) }
 {}
 
 /// A stock pays only for its own group, for as many frames as it has pages, and for none once it is drained. If no
@@ -114,15 +123,18 @@ pub fn the_life_of_a_frame_is_told()
 /// shown to that CPU as if it and the zone had been alone.
 pub fn a_visit_is_local()
     ensures before { ShowsLocal small_zone lock_taken 1 (hide 1 (state_of small_zone lock_taken)) }
-    ensures local { IsLocalRun 1 (hide 1 (state_of small_zone lock_taken)) (own_steps 1 vain_visit) (hide 1 (state_of small_zone lock_taken)) }
+    ensures local { IsLocalRun 1 (hide 1 (state_of small_zone lock_taken)) (own_steps 1 vain_visit)
+        (hide 1 (state_of small_zone lock_taken)) }
     ensures between { IsInterleaved small_zone lock_taken 1 vain_visit }
     ensures after { ShowsLocal small_zone (lock_taken ++ vain_visit) 1 (hide 1 (state_of small_zone lock_taken)) }
 {}
 
 /// A CPU gets a reference only if its pins and back frames are below 256. It pays for a frame only if fewer than 32 are
 /// fresh.
-pub fn the_bounds_are_kept()
+pub fn pins_and_fresh_frames_are_bounded()
     ensures pins { (is_legal (with_pins 255) 1 (Get 1) ≡ true) × (is_legal (with_pins 256) 1 (Get 1) ≡ false) }
-    ensures back { (is_legal (with_back_frames 255) 1 (Get 1) ≡ true) × (is_legal (with_back_frames 256) 1 (Get 1) ≡ false) }
-    ensures fresh { (is_legal (with_fresh_frames 31) 1 (Consume 0) ≡ true) × (is_legal (with_fresh_frames 32) 1 (Consume 0) ≡ false) }
+    ensures back { (is_legal (with_back_frames 255) 1 (Get 1) ≡ true)
+        × (is_legal (with_back_frames 256) 1 (Get 1) ≡ false) }
+    ensures fresh { (is_legal (with_fresh_frames 31) 1 (Consume 0) ≡ true)
+        × (is_legal (with_fresh_frames 32) 1 (Consume 0) ≡ false) }
 {}

@@ -6,18 +6,18 @@ ghost use Rattle.step_rules.specs.Seen.{AllLegalityIsSeen, LockIsPassedOn, AllIs
 ghost use Rattle.step_rules.specs.Reaches.{LocalRunsInterleave, LocalRunsCompose};
 ghost use Rattle.step_rules.specs.Places.{EveryFrameHasOnePlace};
 ghost use Rattle.step_rules.specs.Returns.{EveryFrameReturnsOnce, NothingPendsWhileTheLockIsFree};
-ghost use Rattle.step_rules.specs.Units.{AllUnitsAreTold};
+ghost use Rattle.step_rules.specs.Units.{AllUnitsFollowRun};
 ghost use Rattle.step_rules.specs.Live.{AllLiveAreReferred};
 ghost use Rattle.step_rules.specs.Booked.{AllPartsAreBooked};
-ghost use Rattle.step_rules.specs.Lent.{FramesAreLentToProcessors, FramesPassInVisits, BeginningsAreLegal};
+ghost use Rattle.step_rules.specs.Lent.{FramesAreLentToCpus, FramesPassInVisits, BeginningsAreLegal};
 ghost use Rattle.step_rules.specs.Keepers.{AllKeepersAreThere};
 ghost use Rattle.step_rules.specs.Peaks.{OnlyGrantsRaiseUsage, PeaksAreKept};
 ghost use Rattle.step_rules.specs.Events.{EventsAreCounted};
 ghost use Rattle.step_rules.specs.Grants.{NoGrantPassesALimit, PendingIsCounted};
-ghost use Rattle.step_rules.specs.Folds.{AllGroupsAreTold, TheLockIsTold, AllPartsAreTold};
+ghost use Rattle.step_rules.specs.Folds.{AllGroupsFollowRun, TheLockFollowsRun, AllPartsFollowRun};
 ghost use Rattle.step_rules.specs.Kept.{AllPublishedIsKept};
-ghost use Rattle.step_rules.specs.FreeAreas.{AllAreasAreTold};
-ghost use Rattle.step_rules.specs.Current.{AllCurrentIsTold};
+ghost use Rattle.step_rules.specs.FreeAreas.{AllAreasFollowRun};
+ghost use Rattle.step_rules.specs.Current.{AllCurrentFollowsRun};
 ghost use Rattle.step_rules.specs.Answers.{AnswersAreDetermined, EveryStepIsAnswered, OnlySeatsAct};
 ghost use Rattle.step_rules.specs.Counts.{ReferencesAreCounted, StocksAreCounted, BooksAreCounted};
 
@@ -28,9 +28,9 @@ pub fn the_promise_is_kept()
     ensures { ThePromiseIsKept }
 {}
 
-/// While CPU p holds the lock, let p or the zone's seat make a step other than Lock and Unlock. If what p sees makes
-/// the step legal and its answer allowed, and the answer agrees with others' counts, then the step is legal. Afterwards
-/// p sees what the step makes of what it saw.
+/// While a CPU holds the lock, let it or the zone's seat make a step other than Lock and Unlock. If what the CPU sees
+/// makes the step legal and its answer allowed, and the answer agrees with others' counts, then the step is legal.
+/// Afterwards the CPU sees what the step makes of what it saw.
 pub fn own_step()
     ensures { OwnStepIsLegal }
 {}
@@ -160,20 +160,20 @@ pub fn books_are_counted()
 
 /// After every legal run the limit and the flag of each existing group are the last that it was given since it was
 /// made, if any. A group is killed if it was killed since it was made.
-pub fn groups_are_told()
-    ensures { AllGroupsAreTold }
+pub fn groups_follow_the_run()
+    ensures { AllGroupsFollowRun }
 {}
 
 /// After every legal run the holder of the lock is the CPU that took it last and hasn't released it. A visit is open if
 /// the last one that was opened hasn't been shut.
-pub fn the_lock_is_told()
-    ensures { TheLockIsTold }
+pub fn the_lock_follows_the_run()
+    ensures { TheLockFollowsRun }
 {}
 
 /// After every legal run a CPU's list, fresh frames and back frames are those that its steps say, in their order. Its
 /// stock is of the group of its last fill, and is drained exactly if a drain followed that fill.
-pub fn parts_are_told()
-    ensures { AllPartsAreTold }
+pub fn parts_follow_the_run()
+    ensures { AllPartsFollowRun }
 {}
 
 /// After every legal run a frame that was published and not returned since heads a charged unit. The unit is at the
@@ -184,22 +184,22 @@ pub fn published_is_kept()
 
 /// After every legal run the frames that are free by their phases are those with the place Free. They have one list of
 /// maximal free blocks.
-pub fn areas_are_told()
-    ensures { AllAreasAreTold }
+pub fn areas_follow_the_run()
+    ensures { AllAreasFollowRun }
 {}
 
 /// After every legal run a group's usage is the sum of three parts, each counted over the run. These are the frames
 /// placed in its subtree; the pages that went into stocks last filled for its subtree, less those that left them; and
 /// its pending pages.
-pub fn current_is_told()
-    ensures { AllCurrentIsTold }
+pub fn current_follows_the_run()
+    ensures { AllCurrentFollowsRun }
 {}
 
 /// After every legal run the unit that a frame heads is the one that the run says. A consume makes a unit of one frame,
 /// a placed block is a unit of its order, and a credit or a return ends it. A frame is fresh exactly if the run says
 /// so.
-pub fn units_are_told()
-    ensures { AllUnitsAreTold }
+pub fn units_follow_the_run()
+    ensures { AllUnitsFollowRun }
 {}
 
 /// After every legal run a frame that isn't live has no reference, and a live one has 1 to 255.
@@ -215,8 +215,8 @@ pub fn parts_are_booked()
 {}
 
 /// After every legal run a lent frame is lent to a CPU of the zone.
-pub fn frames_are_lent_to_processors()
-    ensures { FramesAreLentToProcessors }
+pub fn frames_are_lent_to_cpus()
+    ensures { FramesAreLentToCpus }
 {}
 
 /// After every legal run a frame is in transit between the zone and a CPU only while that CPU's visit is open.

@@ -4,7 +4,7 @@ use group_tree::group::GroupId;
 use zone_blocks::order::Order;
 
 /// Who holds the zone's lock.
-#[derive(Clone, Copy, Debug, PartialEq, Eq)]
+#[derive(Clone, Copy, PartialEq, Eq)]
 pub enum Hold {
     /// Nobody: the lock is free.
     Unheld,
@@ -15,7 +15,7 @@ pub enum Hold {
 }
 
 /// What was charged at once: a block of one or more frames, and the group that keeps it.
-#[derive(Clone, Copy, Debug, PartialEq, Eq)]
+#[derive(Clone, Copy, PartialEq, Eq)]
 pub struct ChargedUnit {
     /// The group that keeps the frames.
     pub group: GroupId,
@@ -24,7 +24,7 @@ pub struct ChargedUnit {
 }
 
 /// Where a frame that is lent to a CPU is: in transit, or on the list.
-#[derive(Clone, Copy, Debug, PartialEq, Eq)]
+#[derive(Clone, Copy, PartialEq, Eq)]
 pub enum Way {
     /// The zone passed it, and the CPU hasn't taken it in.
     PassingOut,
@@ -35,7 +35,7 @@ pub enum Way {
 }
 
 /// The stage of a charged unit, by its head.
-#[derive(Clone, Copy, Debug, PartialEq, Eq)]
+#[derive(Clone, Copy, PartialEq, Eq)]
 pub enum Stage {
     /// Fresh at this CPU: the CPU paid a page for the frame, which has had no reference since.
     FreshAt(u32),
@@ -56,7 +56,7 @@ pub enum Stage {
 }
 
 /// The phase of a frame.
-#[derive(Clone, Copy, Debug, PartialEq, Eq)]
+#[derive(Clone, Copy, PartialEq, Eq)]
 pub enum Phase {
     /// In the zone's free areas.
     InZone,

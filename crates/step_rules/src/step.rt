@@ -6,7 +6,7 @@ use zone_blocks::block::Block;
 use zone_blocks::order::Order;
 
 /// Where a frame is.
-#[derive(Clone, Copy, Debug, PartialEq, Eq)]
+#[derive(Clone, Copy, PartialEq, Eq)]
 pub enum FramePlace {
     /// In the zone's free areas.
     Free,
@@ -18,7 +18,7 @@ pub enum FramePlace {
 
 /// One step of the core, and the seat that makes it. Seat 0 is the zone's own, which acts only while a CPU holds the
 /// lock. Seats from 1 on are those of the CPUs.
-#[derive(Clone, Copy, Debug, PartialEq, Eq)]
+#[derive(Clone, Copy)]
 pub struct Step {
     /// The seat's number. A number that isn't a seat's makes the step illegal.
     pub seat: u32,
@@ -28,7 +28,7 @@ pub struct Step {
 
 /// What a step does. A step that names a frame or CPU that doesn't exist is illegal. So is one, other than Consume,
 /// that names a group that doesn't exist.
-#[derive(Clone, Copy, Debug, PartialEq, Eq)]
+#[derive(Clone, Copy)]
 pub enum Action {
     /// A CPU takes the zone's lock, which is free.
     Lock,
@@ -168,7 +168,7 @@ pub enum Action {
 }
 
 /// What a step is answered.
-#[derive(Clone, Copy, Debug, PartialEq, Eq)]
+#[derive(Clone, Copy, PartialEq, Eq)]
 pub enum Answer {
     /// The step is not legal, and changed nothing.
     Illegal,

@@ -7,7 +7,7 @@ use Rattle.step_rules.specs.declared.step.Step.{Step}
 use Rattle.step_rules.specs.State.{Zone, State, at_boot}
 use Rattle.step_rules.specs.Legal.{Allows}
 use Rattle.step_rules.specs.After.{Run, after, state_of, IsLegalRun}
-use Rattle.mem_core.specs.Shown.{CoreState, state_in}
+use Rattle.mem_core.specs.Shown.{CoreState, state_shown}
 use Rattle.mem_core.specs.Checked.{Leads}
 use Rattle.mem_core.specs.Promise.{AlwaysKeepsPromise}
 use Rattle.log_lines.specs.Line.{entry_text}
@@ -38,7 +38,7 @@ has_failed watch = is_some watch.core && not watch.is_on
 -- the state of the rules that a checker has reached; without a checker, that of a zone without frames and CPUs
 abbrev pub state_reached : Option CoreState → State
 state_reached None = at_boot (record { frames = 0; cpus = 0 })
-state_reached (Some core) = state_in core
+state_reached (Some core) = state_shown core
 
 -- the state of the rules that the watch saw its steps lead to
 abbrev pub state_seen : KnownWatch → State
@@ -88,7 +88,7 @@ steps_text steps = flat_map (λ made. entry_text made.0 made.1 ++ 10 ∷ []) ste
 abbrev pub Accepts : Option CoreState → Step → Answer → Option CoreState → Type 0
 Accepts None step answer None = ⊤
 Accepts (Some old) step answer (Some new) =
-    Leads (state_in old) step answer (state_in new) × (new.steps ≡ old.steps + 1)
+    Leads (state_shown old) step answer (state_shown new) × (new.steps ≡ old.steps + 1)
 Accepts old step answer new = ⊥
 
 -- if there is a log, the line of the step is added to it

@@ -4,7 +4,7 @@ ghost use Rattle.std.specs.Prelude.{◌≡◌, ◌∷◌, [], ◌+◌, ◌++◌,
 ghost use Rattle.step_rules.specs.declared.step.Action.TheVariants.{Make};
 ghost use Rattle.step_rules.specs.declared.step.Answer.TheVariants.{Number};
 ghost use Rattle.log_lines.specs.Line.{entry_text};
-ghost use Rattle.mem_core.specs.Shown.{state_in, zone_of};
+ghost use Rattle.mem_core.specs.Shown.{state_shown, zone_of};
 ghost use Rattle.mem_core.specs.Checked.{Leads};
 ghost use Rattle.step_watch.specs.Watched.{Accepts, Adds, IsNewLog, IsNewWatch, Watches, has_failed, has_legal_steps};
 ghost use Rattle.step_watch.specs.Watched.{has_whole_log, known_log, log_text, steps_seen, watch_off, zone_makes};
@@ -41,7 +41,7 @@ impl Model for Watch {
 
 // Whether the checker accepts this answer. It counts its steps in 64 bits, and takes no step beyond them.
 fn accepts(checker: &mut Checker, step: &Step, answer: &Answer) -> bool
-    ensures leads { IsTrue result → Leads (state_in checker.old) step.now answer.now (state_in checker.new) }
+    ensures leads { IsTrue result → Leads (state_shown checker.old) step.now answer.now (state_shown checker.new) }
     ensures count { IsTrue result → checker.new.steps ≡ checker.old.steps + 1 }
 {
     if checker.steps() == u64::MAX {

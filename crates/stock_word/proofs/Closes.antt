@@ -8,7 +8,7 @@ use lib.ListN.{get_elem?}
 use Rattle.seat_sums.specs.Totals.{sum_over, total_over}
 use Rattle.seat_sums.proofs.Totals.{sum_same, sum_plus, sum_one, total_whole}
 use Rattle.stock_word.specs.declared.view.StockView.{StockView}
-use Rattle.stock_word.specs.Stock.{Seated, Gathers, view_in, views_of}
+use Rattle.stock_word.specs.Stock.{KnownStockSeat, Gathers, view_in, views_of}
 use Rattle.stock_word.specs.StockRule.{at_seat, IsOnly, IsStockOf, StockRule}
 use Rattle.stock_word.proofs.Alike.{alike_view}
 use Rattle.stock_word.proofs.Only.{at_mine, at_other}
@@ -18,16 +18,16 @@ use Rattle.stock_word.proofs.Only.{at_mine, at_other}
 one : StockView → ℕ
 one v = 1
 
-seat_below : (f : StockView → ℕ) (seats : List Seated) (k : ℕ) → k < length seats → f (view_in seats k) ≤ sum_over f (views_of seats)
+seat_below : (f : StockView → ℕ) (seats : List KnownStockSeat) (k : ℕ) → k < length seats → f (view_in seats k) ≤ sum_over f (views_of seats)
 seat_below f [] k below = absurd (omega arith)
 seat_below f (seat ∷ seats) zero below = omega arith
 seat_below f (seat ∷ seats) (suc k) below = let rest = seat_below f seats k (omega arith) in omega arith
 
-count_seats : (seats : List Seated) → sum_over (λ (v : StockView). 1) (views_of seats) ≡ length seats
+count_seats : (seats : List KnownStockSeat) → sum_over (λ (v : StockView). 1) (views_of seats) ≡ length seats
 count_seats [] = refl
 count_seats (seat ∷ seats) = let rest = count_seats seats in omega arith
 
-seat_of : (q : ℕ) (seats : List Seated) → 0 < sum_over (at_seat q one) (views_of seats) → (k : ℕ) × (k < length seats) × ((view_in seats k).number ≡ q)
+seat_of : (q : ℕ) (seats : List KnownStockSeat) → 0 < sum_over (at_seat q one) (views_of seats) → (k : ℕ) × (k < length seats) × ((view_in seats k).number ≡ q)
 seat_of q [] more = absurd (omega arith)
 seat_of q (seat ∷ seats) more = dite (ℕ_discrete seat.view.number q)
     (λ e. (0, omega arith, e))
@@ -73,7 +73,7 @@ upto_count views (suc n) cpus few each =
 
 module _ (cpus id : ℕ) (words : List ℕ) (all : List (List StockView)) (rule : StockRule cpus words all) (views : List StockView)
     (at : get_elem? all id ≡ some views)
-    (m : StockView) (zeroth : m.number ≡ 0) (seats : List Seated) (gathered : Gathers m seats views) (enough : length seats ≡ cpus) where
+    (m : StockView) (zeroth : m.number ≡ 0) (seats : List KnownStockSeat) (gathered : Gathers m seats views) (enough : length seats ≡ cpus) where
   -- they are all views
   every : (f : StockView → ℕ) → f m + sum_over f (views_of seats) ≡ total_over f all
   every f =
@@ -97,10 +97,10 @@ module _ (cpus id : ℕ) (words : List ℕ) (all : List (List StockView)) (rule 
   one_among : (q : ℕ) → q ≤ cpus → sum_over (at_seat q one) views ≡ 1
   one_among q high = let a = gathered (at_seat q one) in let b = every (at_seat q one) in let c = one_each q high in omega arith
 
-  machine_is : rule.machine ≡ m
-  machine_is = sym (below_is m rule.machine (λ f. let a = only_sum 0 rule.machine rule.only f in let b = at_mine 0 f m zeroth in omega arith))
+  zone_is : rule.zone ≡ m
+  zone_is = sym (below_is m rule.zone (λ f. let a = only_sum 0 rule.zone rule.only f in let b = at_mine 0 f m zeroth in omega arith))
 
-  -- a number above those of the processors would be one view too many
+  -- a number above those of the CPUs would be one view too many
   low_number : (k : ℕ) → k < length seats → (view_in seats k).number ≤ cpus
   unfolding one
   low_number k below =
@@ -120,7 +120,7 @@ module _ (cpus id : ℕ) (words : List ℕ) (all : List (List StockView)) (rule 
   some_number : (k : ℕ) → k < length seats → 0 < (view_in seats k).number
   unfolding one
   some_number k below =
-      let a = only_sum 0 rule.machine rule.only one in
+      let a = only_sum 0 rule.zone rule.only one in
       let b = at_mine 0 one m zeroth in
       let c = seat_below (at_seat 0 one) seats k below in
       dite (ℕ_discrete (view_in seats k).number 0) (λ e. let d = at_mine 0 one (view_in seats k) e in absurd (omega arith)) (λ ne. omega (arith, ne))
@@ -144,7 +144,7 @@ module _ (cpus id : ℕ) (words : List ℕ) (all : List (List StockView)) (rule 
       let a = only_sum v.number h.view h.only f in
       let b = seat_below (at_seat v.number f) seats k below in
       let c = at_mine v.number f v refl in omega arith) in
-      subst (λ (u : StockView). IsStockOf words v.number m u) (sym is) (subst (λ (u : StockView). IsStockOf words v.number u h.view) machine_is h.stock)
+      subst (λ (u : StockView). IsStockOf words v.number m u) (sym is) (subst (λ (u : StockView). IsStockOf words v.number u h.view) zone_is h.stock)
 
   pub closed_stocks : (final : List ℕ) → words ≡ final → (k : ℕ) → k < length seats → IsStockOf final (view_in seats k).number m (view_in seats k)
   closed_stocks final same k below = subst (λ (w : List ℕ). IsStockOf w (view_in seats k).number m (view_in seats k)) same (stock_at k below)

@@ -1,10 +1,10 @@
--- Seats are split off the first one, processor by processor. Serves new and deal.
+-- Seats are split off the first one, CPU by CPU. Serves new and deal.
 use Rattle.std.proofs.Common.{◌≡◌, ℕ, zero, suc, ◌+◌, ◌-◌, ◌<◌, ◌≤◌, List, [], ◌∷◌, ◌++◌, append_assoc, length, refl, subst, ap, sym, ◌∙◌, arith}
 use Rattle.std.proofs.lemmas.List.{append-nil}
 use Rattle.atomic_table.specs.Seated.{TableId}
 use Rattle.stock_word.specs.declared.view.StockView.{StockView}
 use Rattle.stock_word.specs.Kinds.{IsAlone}
-use Rattle.stock_word.specs.Stock.{Seated, first_zone_stock, first_processor, first_processors, first_seats, first_of, view_in, AreOf}
+use Rattle.stock_word.specs.Stock.{KnownStockSeat, first_zone_stock, first_cpu_stock, first_cpu_stocks, first_seats, first_of, view_in, AreOf}
 use Rattle.stock_word.specs.Stock.{without_second, second_alone}
 
 -- one more of a count that is left
@@ -14,20 +14,20 @@ one_more cpus p h = omega arith
 pub none_more : (cpus p : ℕ) → cpus + 1 ≤ p → cpus + 1 - p ≡ 0
 none_more cpus p h = omega arith
 
-pub next_views : (views : List StockView) (p n k : ℕ) → views ≡ first_zone_stock ∷ first_processors p n → n ≡ suc k
-    → views ≡ first_zone_stock ∷ first_processor p ∷ first_processors (p + 1) k
-next_views views p n k is more = is ∙ (λ i. first_zone_stock ∷ first_processors p (more i))
+pub next_views : (views : List StockView) (p n k : ℕ) → views ≡ first_zone_stock ∷ first_cpu_stocks p n → n ≡ suc k
+    → views ≡ first_zone_stock ∷ first_cpu_stock p ∷ first_cpu_stocks (p + 1) k
+next_views views p n k is more = is ∙ (λ i. first_zone_stock ∷ first_cpu_stocks p (more i))
 
-pub last_views : (views : List StockView) (p n : ℕ) → views ≡ first_zone_stock ∷ first_processors p n → n ≡ 0 → views ≡ first_zone_stock ∷ []
-last_views views p n is more = is ∙ (λ i. first_zone_stock ∷ first_processors p (more i))
+pub last_views : (views : List StockView) (p n : ℕ) → views ≡ first_zone_stock ∷ first_cpu_stocks p n → n ≡ 0 → views ≡ first_zone_stock ∷ []
+last_views views p n is more = is ∙ (λ i. first_zone_stock ∷ first_cpu_stocks p (more i))
 
 -- what is split off, and what stays
-pub split_off : (views off : List StockView) (p k : ℕ) → views ≡ first_zone_stock ∷ first_processor p ∷ first_processors (p + 1) k → off ≡ second_alone views
-    → off ≡ first_processor p ∷ []
+pub split_off : (views off : List StockView) (p k : ℕ) → views ≡ first_zone_stock ∷ first_cpu_stock p ∷ first_cpu_stocks (p + 1) k → off ≡ second_alone views
+    → off ≡ first_cpu_stock p ∷ []
 split_off views off p k is cut = cut ∙ ap second_alone is
 
-pub split_rest : (views rest : List StockView) (p k : ℕ) → views ≡ first_zone_stock ∷ first_processor p ∷ first_processors (p + 1) k → rest ≡ without_second views
-    → rest ≡ first_zone_stock ∷ first_processors (p + 1) k
+pub split_rest : (views rest : List StockView) (p k : ℕ) → views ≡ first_zone_stock ∷ first_cpu_stock p ∷ first_cpu_stocks (p + 1) k → rest ≡ without_second views
+    → rest ≡ first_zone_stock ∷ first_cpu_stocks (p + 1) k
 split_rest views rest p k is cut = cut ∙ ap without_second is
 
 pub one_view_is : (views : List StockView) (v : StockView) → views ≡ v ∷ [] → IsAlone views
@@ -37,28 +37,28 @@ pub first_is : (views : List StockView) (v : StockView) → views ≡ v ∷ [] �
 first_is views v is = ap first_of is
 
 -- the seat of p stands behind those before it
-pub next_seats : (table : TableId) (p n k : ℕ) (seats seats' all : List Seated) (seat : Seated)
-    → seats ++ first_seats table p n ≡ all → n ≡ suc k → seat ≡ record { table = table; view = first_processor p }
+pub next_seats : (table : TableId) (p n k : ℕ) (seats seats' all : List KnownStockSeat) (seat : KnownStockSeat)
+    → seats ++ first_seats table p n ≡ all → n ≡ suc k → seat ≡ record { table = table; view = first_cpu_stock p }
     → seats' ≡ seats ++ seat ∷ []
     → seats' ++ first_seats table (p + 1) k ≡ all
 next_seats table p n k seats seats' all seat is more same pushed =
     ap (λ l. l ++ first_seats table (p + 1) k) pushed
     ∙ append_assoc seats (seat ∷ []) (first_seats table (p + 1) k)
-    ∙ ap (λ (s : Seated). seats ++ s ∷ first_seats table (p + 1) k) same
+    ∙ ap (λ (s : KnownStockSeat). seats ++ s ∷ first_seats table (p + 1) k) same
     ∙ ap (λ c. seats ++ first_seats table p c) (sym more)
     ∙ is
 
-pub last_seats : (table : TableId) (p n : ℕ) (seats all : List Seated) → seats ++ first_seats table p n ≡ all → n ≡ 0 → seats ≡ all
+pub last_seats : (table : TableId) (p n : ℕ) (seats all : List KnownStockSeat) → seats ++ first_seats table p n ≡ all → n ≡ 0 → seats ≡ all
 last_seats table p n seats all is more = sym (append-nil seats) ∙ ap (λ c. seats ++ first_seats table p c) (sym more) ∙ is
 
 pub all_left : (cpus : ℕ) → cpus ≡ cpus + 1 - 1
 all_left cpus = omega arith
 
-pub first_views : (views : List StockView) (cpus : ℕ) → views ≡ first_zone_stock ∷ first_processors 1 cpus
-    → views ≡ first_zone_stock ∷ first_processors 1 (cpus + 1 - 1)
-first_views views cpus is = is ∙ (λ i. first_zone_stock ∷ first_processors 1 (all_left cpus i))
+pub first_views : (views : List StockView) (cpus : ℕ) → views ≡ first_zone_stock ∷ first_cpu_stocks 1 cpus
+    → views ≡ first_zone_stock ∷ first_cpu_stocks 1 (cpus + 1 - 1)
+first_views views cpus is = is ∙ (λ i. first_zone_stock ∷ first_cpu_stocks 1 (all_left cpus i))
 
-pub no_seats : (table : TableId) (cpus : ℕ) (seats : List Seated) → seats ≡ [] → seats ++ first_seats table 1 (cpus + 1 - 1) ≡ first_seats table 1 cpus
+pub no_seats : (table : TableId) (cpus : ℕ) (seats : List KnownStockSeat) → seats ≡ [] → seats ++ first_seats table 1 (cpus + 1 - 1) ≡ first_seats table 1 cpus
 no_seats table cpus seats is = (λ i. is i ++ first_seats table 1 (sym (all_left cpus) i))
 
 -- ---- the seats at first: how many, of which table, and of which numbers
@@ -76,13 +76,13 @@ numbers_first table p zero k below = absurd (omega arith)
 numbers_first table p (suc n) zero below = omega arith
 numbers_first table p (suc n) (suc k) below = let rest = numbers_first table (p + 1) n k (omega arith) in omega arith
 
-pub new_count : (table : TableId) (cpus : ℕ) (seats : List Seated) → seats ≡ first_seats table 1 cpus → length seats ≡ cpus
+pub new_count : (table : TableId) (cpus : ℕ) (seats : List KnownStockSeat) → seats ≡ first_seats table 1 cpus → length seats ≡ cpus
 new_count table cpus seats is = ap length is ∙ count_first table 1 cpus
 
-pub new_tables : (table : TableId) (cpus : ℕ) (seats : List Seated) → seats ≡ first_seats table 1 cpus → AreOf table seats
+pub new_tables : (table : TableId) (cpus : ℕ) (seats : List KnownStockSeat) → seats ≡ first_seats table 1 cpus → AreOf table seats
 new_tables table cpus seats is = subst (AreOf table) (sym is) (tables_first table 1 cpus)
 
-pub new_numbers : (table : TableId) (cpus : ℕ) (seats : List Seated) → seats ≡ first_seats table 1 cpus → (k : ℕ) → k < cpus → (view_in seats k).number ≡ k + 1
+pub new_numbers : (table : TableId) (cpus : ℕ) (seats : List KnownStockSeat) → seats ≡ first_seats table 1 cpus → (k : ℕ) → k < cpus → (view_in seats k).number ≡ k + 1
 new_numbers table cpus seats is k below =
     let first = numbers_first table 1 cpus k below in
-    ap (λ (l : List Seated). (view_in l k).number) is ∙ omega (arith, first)
+    ap (λ (l : List KnownStockSeat). (view_in l k).number) is ∙ omega (arith, first)

@@ -9,4 +9,4 @@ pub mod Deals
 pub mod Opens
 pub mod Gathers
 pub mod Closes
-pub mod Places
+pub mod RawSeats

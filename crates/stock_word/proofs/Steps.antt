@@ -13,21 +13,21 @@ use Rattle.stock_word.specs.declared.view.Stock.TheVariants.{HeldBy, DrainedOf}
 use Rattle.stock_word.specs.declared.view.Account.{Account}
 use Rattle.stock_word.specs.declared.view.StockView.{StockView}
 use Rattle.stock_word.specs.Stock.{word_of, pages_of, group_of, account_of, with_account, first_of, without_second, second_alone}
-use Rattle.stock_word.specs.StockRule.{stock_place, report_place, IsStock, StockRule}
+use Rattle.stock_word.specs.StockRule.{stock_index, report_index, IsStock, StockRule}
 use Rattle.stock_word.specs.Kinds.{after_took, after_back, after_drained, after_report, noting, filling, after_fill, draining, absorbing, with_steps}
 use Rattle.stock_word.specs.Kinds.{Drains, DrainsNone, LooksAt, Absorbs, Fills, Alone, Joined, consuming, crediting, looking, draining_step}
 use Rattle.stock_word.specs.Kinds.{absorbing_step, reporting_step, consuming_held, filling_step, seeing_stock}
 use Rattle.stock_word.proofs.Stocks.{left_of, took, back, now_drained, sees_drained, last_group, reported, held_by_books, nothing_booked}
 use Rattle.stock_word.proofs.Stocks.{filled, drained, drained_none, of_some_group, absorbed}
 use Rattle.stock_word.proofs.CallerLemmas.{account_of-with_account, account_of-with_account_other}
-use Rattle.stock_word.proofs.Keeps.{leaves_stock, leaves_report, processor_stock, processor_keeps, machine_stock, machine_keeps}
+use Rattle.stock_word.proofs.Keeps.{leaves_stock, leaves_report, cpu_stock, cpu_keeps, zone_stock, zone_keeps}
 use Rattle.stock_word.proofs.Keeps.{joined_stock, joined_keeps, split_keeps}
 
-same_stock_place : (p q : ℕ) → stock_place p ≡ stock_place q → p ≡ q
-same_stock_place p q e = omega (arith, e)
+same_stock_index : (p q : ℕ) → stock_index p ≡ stock_index q → p ≡ q
+same_stock_index p q e = omega (arith, e)
 
-same_report_place : (p q : ℕ) → report_place p ≡ report_place q → p ≡ q
-same_report_place p q e = omega (arith, e)
+same_report_index : (p q : ℕ) → report_index p ≡ report_index q → p ≡ q
+same_report_index p q e = omega (arith, e)
 
 small_mod : (x : ℕ) → x < 2 ^ 64 → x % 2 ^ 64 ≡ x
 small_mod x h = omega arith
@@ -63,26 +63,26 @@ module _ {S : Type 0} (cpus slots id : ℕ) where
       × then (slice_index s.words i) (w, carried_after me.1 a)
 
   module _ (v : StockView) (low : 0 < v.number) (high : v.number ≤ cpus) where
-    -- a step of a processor's seat that leaves its view as w and its stock word as x
-    processor_owes : (s : State S (List StockView)) (rule : holds s) → get_elem? s.views id ≡ some (v ∷ [])
+    -- a step of a CPU's seat that leaves its view as w and its stock word as x
+    cpu_owes : (s : State S (List StockView)) (rule : holds s) → get_elem? s.views id ≡ some (v ∷ [])
         → (then : ℕ → Me S (List StockView) → Type 0) (x : ℕ) (w : StockView)
-        → StockRule cpus (set s.words (stock_place v.number) x) (set s.views id (w ∷ []))
-        → then (slice_index s.words (stock_place v.number)) (w ∷ [], []) → Owes s (v ∷ [], []) (stock_place v.number) then x
-    processor_owes s rule at then x w kept told = (w ∷ [], keeps, tt, kept, told)
+        → StockRule cpus (set s.words (stock_index v.number) x) (set s.views id (w ∷ []))
+        → then (slice_index s.words (stock_index v.number)) (w ∷ [], []) → Owes s (v ∷ [], []) (stock_index v.number) then x
+    cpu_owes s rule at then x w kept told = (w ∷ [], keeps, tt, kept, told)
 
     consume_allowed_at : (g n : ℕ) → v.last ≡ HeldBy g (n + 1)
-        → Allows holds slots id (v ∷ [], []) (stock_place v.number) (λ x. either (eqb x (word_of (HeldBy g (n + 1)))) (word_of (HeldBy g n)) x)
-        (Alone consuming (step slots (stock_place v.number) (word_of (HeldBy g (n + 1))) (word_of (HeldBy g n)) none) (v ∷ [], []))
+        → Allows holds slots id (v ∷ [], []) (stock_index v.number) (λ x. either (eqb x (word_of (HeldBy g (n + 1)))) (word_of (HeldBy g n)) x)
+        (Alone consuming (step slots (stock_index v.number) (word_of (HeldBy g (n + 1))) (word_of (HeldBy g n)) none) (v ∷ [], []))
     consume_allowed_at g n last s rule homes at fits =
         let old = word_of (HeldBy g (n + 1)) in
         let new = word_of (HeldBy g n) in
-        let place = stock_place v.number in
-        let found = slice_index s.words place in
-        let stock = processor_stock cpus s.words s.views rule s.words id v at low high in
-        let then = Alone consuming (step slots place old new none) (v ∷ [], []) in
-        exchanged found old new (Owes s (v ∷ [], []) place then)
-        (λ hit. processor_owes s rule at then new (after_took v g n)
-        (processor_keeps cpus s.words s.views rule (set s.words place new) id v at low high new _
+        let index = stock_index v.number in
+        let found = slice_index s.words index in
+        let stock = cpu_stock cpus s.words s.views rule s.words id v at low high in
+        let then = Alone consuming (step slots index old new none) (v ∷ [], []) in
+        exchanged found old new (Owes s (v ∷ [], []) index then)
+        (λ hit. cpu_owes s rule at then new (after_took v g n)
+        (cpu_keeps cpus s.words s.views rule (set s.words index new) id v at low high new _
         (leaves_stock cpus s.words v.number new rule.rows high) (after_took v g n) refl (took _ _ _ v g n stock last hit)) (
           after_took v g n,
           refl,
@@ -102,8 +102,8 @@ module _ {S : Type 0} (cpus slots id : ℕ) where
         ))
         (λ miss.
         let other : found ≢ word_of v.last = (λ e. miss (e ∙ ap word_of last)) in
-        processor_owes s rule at then found (after_drained v)
-        (processor_keeps cpus s.words s.views rule (set s.words place found) id v at low high found _
+        cpu_owes s rule at then found (after_drained v)
+        (cpu_keeps cpus s.words s.views rule (set s.words index found) id v at low high found _
         (leaves_stock cpus s.words v.number found rule.rows high) (after_drained v) refl (sees_drained _ _ _ v stock other)) (
           after_drained v,
           refl,
@@ -120,20 +120,20 @@ module _ {S : Type 0} (cpus slots id : ℕ) where
         ))
 
     credit_allowed_at : (g n : ℕ) → v.last ≡ HeldBy g n → 0 < v.fresh
-        → Allows holds slots id (v ∷ [], []) (stock_place v.number) (λ x. either (eqb x (word_of (HeldBy g n))) (word_of (HeldBy g (n + 1))) x)
-        (Alone crediting (step slots (stock_place v.number) (word_of (HeldBy g n)) (word_of (HeldBy g (n + 1))) none) (v ∷ [], []))
+        → Allows holds slots id (v ∷ [], []) (stock_index v.number) (λ x. either (eqb x (word_of (HeldBy g n))) (word_of (HeldBy g (n + 1))) x)
+        (Alone crediting (step slots (stock_index v.number) (word_of (HeldBy g n)) (word_of (HeldBy g (n + 1))) none) (v ∷ [], []))
     credit_allowed_at g n last fresh s rule homes at fits =
         let old = word_of (HeldBy g n) in
         let new = word_of (HeldBy g (n + 1)) in
-        let place = stock_place v.number in
-        let found = slice_index s.words place in
-        let stock = processor_stock cpus s.words s.views rule s.words id v at low high in
-        let then = Alone crediting (step slots place old new none) (v ∷ [], []) in
-        exchanged found old new (Owes s (v ∷ [], []) place then)
+        let index = stock_index v.number in
+        let found = slice_index s.words index in
+        let stock = cpu_stock cpus s.words s.views rule s.words id v at low high in
+        let then = Alone crediting (step slots index old new none) (v ∷ [], []) in
+        exchanged found old new (Owes s (v ∷ [], []) index then)
         (λ hit.
         let after = back _ _ _ v g n stock fresh last hit in
-        processor_owes s rule at then new (after_back v g (n + 1))
-        (processor_keeps cpus s.words s.views rule (set s.words place new) id v at low high new _
+        cpu_owes s rule at then new (after_back v g (n + 1))
+        (cpu_keeps cpus s.words s.views rule (set s.words index new) id v at low high new _
         (leaves_stock cpus s.words v.number new rule.rows high) (after_back v g (n + 1)) refl after) (
           after_back v g (n + 1),
           refl,
@@ -154,8 +154,8 @@ module _ {S : Type 0} (cpus slots id : ℕ) where
         ))
         (λ miss.
         let other : found ≢ word_of v.last = (λ e. miss (e ∙ ap word_of last)) in
-        processor_owes s rule at then found (after_drained v)
-        (processor_keeps cpus s.words s.views rule (set s.words place found) id v at low high found _
+        cpu_owes s rule at then found (after_drained v)
+        (cpu_keeps cpus s.words s.views rule (set s.words index found) id v at low high found _
         (leaves_stock cpus s.words v.number found rule.rows high) (after_drained v) refl (sees_drained _ _ _ v stock other)) (
           after_drained v,
           refl,
@@ -171,62 +171,62 @@ module _ {S : Type 0} (cpus slots id : ℕ) where
           ),
         ))
 
-  -- ---- the machine's seat
+  -- ---- the zone's seat
 
   module _ (m : StockView) (zeroth : m.number ≡ 0) (p : ℕ) (low : 0 < p) (high : p
       ≤ cpus) (s : State S (List StockView)) (rule : holds s) (at : get_elem? s.views id ≡ some (m ∷ [])) where
-    -- a step of the machine's seat that leaves the account a of p, its stock word as x or its report word as y
+    -- a step of the zone's seat that leaves the account a of p, its stock word as x or its report word as y
     stock_owes : (x : ℕ) (a : Account) (then : ℕ → Me S (List StockView) → Type 0)
-        → IsStock x (slice_index s.words (report_place p)) a (rule.each p low high).view
-        → then (slice_index s.words (stock_place p)) (with_steps 1 (with_account m p a) ∷ [], []) → Owes s (m ∷ [], []) (stock_place p) then x
+        → IsStock x (slice_index s.words (report_index p)) a (rule.each p low high).view
+        → then (slice_index s.words (stock_index p)) (with_steps 1 (with_account m p a) ∷ [], []) → Owes s (m ∷ [], []) (stock_index p) then x
     stock_owes x a then kept told = (
       with_steps 1 (with_account m p a) ∷ [],
       keeps,
       tt,
-      machine_keeps cpus s.words s.views rule (set s.words (stock_place p) x) id m at zeroth p x _ low high
+      zone_keeps cpus s.words s.views rule (set s.words (stock_index p) x) id m at zeroth p x _ low high
           (leaves_stock cpus s.words p x rule.rows high) (with_steps 1 (with_account m p a)) zeroth
           (λ q ne. account_of-with_account_other m p q a ne)
-          (subst (λ (b : Account). IsStock x (slice_index s.words (report_place p)) b (rule.each p low high).view) (sym (account_of-with_account m p a)) kept),
+          (subst (λ (b : Account). IsStock x (slice_index s.words (report_index p)) b (rule.each p low high).view) (sym (account_of-with_account m p a)) kept),
       told,
     )
 
     report_owes : (y : ℕ) (a : Account) (then : ℕ → Me S (List StockView) → Type 0)
-        → IsStock (slice_index s.words (stock_place p)) y a (rule.each p low high).view
-        → then (slice_index s.words (report_place p)) (with_steps 1 (with_account m p a) ∷ [], []) → Owes s (m ∷ [], []) (report_place p) then y
+        → IsStock (slice_index s.words (stock_index p)) y a (rule.each p low high).view
+        → then (slice_index s.words (report_index p)) (with_steps 1 (with_account m p a) ∷ [], []) → Owes s (m ∷ [], []) (report_index p) then y
     report_owes y a then kept told = (
       with_steps 1 (with_account m p a) ∷ [],
       keeps,
       tt,
-      machine_keeps cpus s.words s.views rule (set s.words (report_place p) y) id m at zeroth p _ y low high
+      zone_keeps cpus s.words s.views rule (set s.words (report_index p) y) id m at zeroth p _ y low high
           (leaves_report cpus s.words p y rule.rows high) (with_steps 1 (with_account m p a)) zeroth
           (λ q ne. account_of-with_account_other m p q a ne)
-          (subst (λ (b : Account). IsStock (slice_index s.words (stock_place p)) y b (rule.each p low high).view) (sym (account_of-with_account m p a)) kept),
+          (subst (λ (b : Account). IsStock (slice_index s.words (stock_index p)) y b (rule.each p low high).view) (sym (account_of-with_account m p a)) kept),
       told,
     )
 
-    -- a look at the stock word that leaves the machine's view but for its steps
-    look_owes : (then : ℕ → Me S (List StockView) → Type 0) → then (slice_index s.words (stock_place p)) (with_steps 1 m ∷ [], [])
-        → Owes s (m ∷ [], []) (stock_place p) then (slice_index s.words (stock_place p))
+    -- a look at the stock word that leaves the zone's view but for its steps
+    look_owes : (then : ℕ → Me S (List StockView) → Type 0) → then (slice_index s.words (stock_index p)) (with_steps 1 m ∷ [], [])
+        → Owes s (m ∷ [], []) (stock_index p) then (slice_index s.words (stock_index p))
     look_owes then told = (
       with_steps 1 m ∷ [],
       keeps,
       tt,
-      machine_keeps cpus s.words s.views rule (set s.words (stock_place p) (slice_index s.words (stock_place p))) id m at zeroth p
+      zone_keeps cpus s.words s.views rule (set s.words (stock_index p) (slice_index s.words (stock_index p))) id m at zeroth p
           _ _ low high (leaves_stock cpus s.words p _ rule.rows high) (with_steps 1 m) zeroth
           (λ q ne. refl)
-          (machine_stock cpus s.words s.views rule s.words id m at zeroth p low high),
+          (zone_stock cpus s.words s.views rule s.words id m at zeroth p low high),
       told,
     )
 
   module _ (m : StockView) (zeroth : m.number ≡ 0) (p : ℕ) (low : 0 < p) (high : p ≤ cpus) where
     -- the look of a drain
-    looking_allowed_at : Allows holds slots id (m ∷ [], []) (stock_place p) (λ x. x) (Alone looking (step slots (stock_place p) 0 0 none) (m ∷ [], []))
+    looking_allowed_at : Allows holds slots id (m ∷ [], []) (stock_index p) (λ x. x) (Alone looking (step slots (stock_index p) 0 0 none) (m ∷ [], []))
     looking_allowed_at s rule homes at fits =
-        let place = stock_place p in
-        let found = slice_index s.words place in
+        let index = stock_index p in
+        let found = slice_index s.words index in
         let view = (rule.each p low high).view in
-        let stock = machine_stock cpus s.words s.views rule s.words id m at zeroth p low high in
-        let then = Alone looking (step slots place 0 0 none) (m ∷ [], []) in
+        let stock = zone_stock cpus s.words s.views rule s.words id m at zeroth p low high in
+        let then = Alone looking (step slots index 0 0 none) (m ∷ [], []) in
         dite (ℕ_discrete found 0)
         (λ zero_word.
         let none_filled = drained_none _ _ (account_of m p) view stock zero_word in
@@ -235,8 +235,8 @@ module _ {S : Type 0} (cpus slots id : ℕ) where
           with_steps 1 (draining m p 0),
           refl,
           (λ q is. (
-            (λ _. subst (λ (n : ℕ). DrainsNone n place found found m (with_steps 1 (draining m p 0))) (same_stock_place p q is)
-                (record { at_stock = refl; word_before = zero_word; word_after = zero_word; never_filled = none_filled.0; machine_after = refl })),
+            (λ _. subst (λ (n : ℕ). DrainsNone n index found found m (with_steps 1 (draining m p 0))) (same_stock_index p q is)
+                (record { at_stock = refl; word_before = zero_word; word_after = zero_word; never_filled = none_filled.0; zone_after = refl })),
             (λ ne. absurd (ne zero_word)),
           )),
         ))
@@ -247,7 +247,7 @@ module _ {S : Type 0} (cpus slots id : ℕ) where
           refl,
           (λ q is. (
             (λ zero_word. absurd (some_word zero_word)),
-            (λ _. subst (λ (n : ℕ). LooksAt n place found found m (with_steps 1 m)) (same_stock_place p q is) (record {
+            (λ _. subst (λ (n : ℕ). LooksAt n index found found m (with_steps 1 m)) (same_stock_index p q is) (record {
               stock =
                   stock.stock;
               group = group.0;
@@ -258,21 +258,21 @@ module _ {S : Type 0} (cpus slots id : ℕ) where
                   stock.encoded;
               word_after = refl;
               filled_for = sym stock.of_group ∙ group.1;
-              machine_after = refl;
+              zone_after = refl;
             })),
           )),
         ))
 
     -- the swap of a drain
     draining_allowed_at : (g : ℕ) → (account_of m p).group ≡ Some g
-        → Allows holds slots id (m ∷ [], []) (stock_place p) (λ x. word_of (DrainedOf g))
-        (Alone draining_step (step slots (stock_place p) (word_of (DrainedOf g)) 0 none) (m ∷ [], []))
+        → Allows holds slots id (m ∷ [], []) (stock_index p) (λ x. word_of (DrainedOf g))
+        (Alone draining_step (step slots (stock_index p) (word_of (DrainedOf g)) 0 none) (m ∷ [], []))
     draining_allowed_at g booked s rule homes at fits =
-        let place = stock_place p in
-        let found = slice_index s.words place in
+        let index = stock_index p in
+        let found = slice_index s.words index in
         let view = (rule.each p low high).view in
-        let stock = machine_stock cpus s.words s.views rule s.words id m at zeroth p low high in
-        let then = Alone draining_step (step slots place (word_of (DrainedOf g)) 0 none) (m ∷ [], []) in
+        let stock = zone_stock cpus s.words s.views rule s.words id m at zeroth p low high in
+        let then = Alone draining_step (step slots index (word_of (DrainedOf g)) 0 none) (m ∷ [], []) in
         let group : group_of stock.stock ≡ Some g = stock.of_group ∙ booked in
         let a = account_of m p in
         stock_owes m zeroth p low high s rule at (word_of (DrainedOf g)) (record a {
@@ -283,8 +283,8 @@ module _ {S : Type 0} (cpus slots id : ℕ) where
           with_steps 1 (draining m p (pages_of stock.stock)),
           refl,
           (λ q k is of.
-              subst (λ (y : ℕ × ℕ). Drains y.0 y.1 place found (word_of (DrainedOf g)) m (with_steps 1 (draining m p (pages_of stock.stock))))
-              (λ i. (same_stock_place p q is i, same_some g k (sym booked ∙ ap (λ (n : ℕ). (account_of m n).group) (same_stock_place p q is) ∙ of) i))
+              subst (λ (y : ℕ × ℕ). Drains y.0 y.1 index found (word_of (DrainedOf g)) m (with_steps 1 (draining m p (pages_of stock.stock))))
+              (λ i. (same_stock_index p q is i, same_some g k (sym booked ∙ ap (λ (n : ℕ). (account_of m n).group) (same_stock_index p q is) ∙ of) i))
               (record {
                 stock = stock.stock;
                 at_stock = refl;
@@ -295,7 +295,7 @@ module _ {S : Type 0} (cpus slots id : ℕ) where
                 word_after = refl;
                 enough = omega (arith, stock.balanced);
                 was_held = stock.held;
-                machine_after = refl;
+                zone_after = refl;
               })),
         )
 
@@ -303,19 +303,19 @@ module _ {S : Type 0} (cpus slots id : ℕ) where
     absorbing_allowed_at : Allows holds slots id (
       m ∷ [],
       [],
-    ) (report_place p) (λ x. 0) (Alone absorbing_step (step slots (report_place p) 0 0 none) (m ∷ [], []))
+    ) (report_index p) (λ x. 0) (Alone absorbing_step (step slots (report_index p) 0 0 none) (m ∷ [], []))
     absorbing_allowed_at s rule homes at fits =
-        let place = report_place p in
-        let found = slice_index s.words place in
+        let index = report_index p in
+        let found = slice_index s.words index in
         let view = (rule.each p low high).view in
-        let stock = machine_stock cpus s.words s.views rule s.words id m at zeroth p low high in
-        let then = Alone absorbing_step (step slots place 0 0 none) (m ∷ [], []) in
+        let stock = zone_stock cpus s.words s.views rule s.words id m at zeroth p low high in
+        let then = Alone absorbing_step (step slots index 0 0 none) (m ∷ [], []) in
         let a = account_of m p in
         report_owes m zeroth p low high s rule at 0 (record a { book = a.book - a.unabsorbed; unabsorbed = 0 }) then (absorbed _ _ a view stock) (
           with_steps 1 (absorbing m p),
           refl,
           (λ q is.
-              subst (λ (n : ℕ). Absorbs n place found 0 m (with_steps 1 (absorbing m p))) (same_report_place p q is)
+              subst (λ (n : ℕ). Absorbs n index found 0 m (with_steps 1 (absorbing m p))) (same_report_index p q is)
               (record {
                 at_report = refl;
                 word_before = stock.reported;
@@ -323,40 +323,40 @@ module _ {S : Type 0} (cpus slots id : ℕ) where
                 enough =
                     omega (arith, stock.balanced, stock.reported);
                 bounded = stock.bounded;
-                machine_after = refl;
+                zone_after = refl;
               })),
         )
 
-  -- ---- the machine's seat, joined with a processor's
+  -- ---- the zone's seat, joined with a CPU's
 
   module _ (m v : StockView) (zeroth : m.number ≡ 0) (low : 0 < v.number) (high : v.number ≤ cpus) where
     joined_report_owes : (s : State S (List StockView)) (rule : holds s) (at : get_elem? s.views id
         ≡ some (m ∷ v ∷ [])) (y : ℕ) (a : Account) (v' : StockView) (then : ℕ → Me S (List StockView) → Type 0) → v'.number ≡ v.number
-        → IsStock (slice_index s.words (stock_place v.number)) y a v'
-        → then (slice_index s.words (report_place v.number)) (with_account m v.number a ∷ v' ∷ [], []) → Owes s (m ∷ v ∷ [], []) (report_place v.number) then y
+        → IsStock (slice_index s.words (stock_index v.number)) y a v'
+        → then (slice_index s.words (report_index v.number)) (with_account m v.number a ∷ v' ∷ [], []) → Owes s (m ∷ v ∷ [], []) (report_index v.number) then y
     joined_report_owes s rule at y a v' then named kept told = (
       with_account m v.number a ∷ v' ∷ [],
       keeps,
       tt,
-      joined_keeps cpus s.words s.views rule (set s.words (report_place v.number) y) id m v at zeroth low high _ y
+      joined_keeps cpus s.words s.views rule (set s.words (report_index v.number) y) id m v at zeroth low high _ y
           (leaves_report cpus s.words v.number y rule.rows high) (with_account m v.number a) v' zeroth named
           (λ q ne. account_of-with_account_other m v.number q a ne)
-          (subst (λ (b : Account). IsStock (slice_index s.words (stock_place v.number)) y b v') (sym (account_of-with_account m v.number a)) kept),
+          (subst (λ (b : Account). IsStock (slice_index s.words (stock_index v.number)) y b v') (sym (account_of-with_account m v.number a)) kept),
       told,
     )
 
     joined_stock_owes : (s : State S (List StockView)) (rule : holds s) (at : get_elem? s.views id
         ≡ some (m ∷ v ∷ [])) (x : ℕ) (a : Account) (v' : StockView) (then : ℕ → Me S (List StockView) → Type 0) → v'.number ≡ v.number
-        → IsStock x (slice_index s.words (report_place v.number)) a v'
-        → then (slice_index s.words (stock_place v.number)) (with_account m v.number a ∷ v' ∷ [], []) → Owes s (m ∷ v ∷ [], []) (stock_place v.number) then x
+        → IsStock x (slice_index s.words (report_index v.number)) a v'
+        → then (slice_index s.words (stock_index v.number)) (with_account m v.number a ∷ v' ∷ [], []) → Owes s (m ∷ v ∷ [], []) (stock_index v.number) then x
     joined_stock_owes s rule at x a v' then named kept told = (
       with_account m v.number a ∷ v' ∷ [],
       keeps,
       tt,
-      joined_keeps cpus s.words s.views rule (set s.words (stock_place v.number) x) id m v at zeroth low high x _
+      joined_keeps cpus s.words s.views rule (set s.words (stock_index v.number) x) id m v at zeroth low high x _
           (leaves_stock cpus s.words v.number x rule.rows high) (with_account m v.number a) v' zeroth named
           (λ q ne. account_of-with_account_other m v.number q a ne)
-          (subst (λ (b : Account). IsStock x (slice_index s.words (report_place v.number)) b v') (sym (account_of-with_account m v.number a)) kept),
+          (subst (λ (b : Account). IsStock x (slice_index s.words (report_index v.number)) b v') (sym (account_of-with_account m v.number a)) kept),
       told,
     )
 
@@ -364,15 +364,15 @@ module _ {S : Type 0} (cpus slots id : ℕ) where
     reporting_allowed_at : (n : ℕ) → n ≤ v.fresh → Allows holds slots id (
       m ∷ v ∷ [],
       [],
-    ) (report_place v.number) (λ x. (x + n) % 2 ^ 64) (Joined reporting_step (step slots (report_place v.number) n 0 none) (m ∷ v ∷ [], []))
+    ) (report_index v.number) (λ x. (x + n) % 2 ^ 64) (Joined reporting_step (step slots (report_index v.number) n 0 none) (m ∷ v ∷ [], []))
     reporting_allowed_at n fresh s rule homes at fits =
-        let place = report_place v.number in
-        let found = slice_index s.words place in
+        let index = report_index v.number in
+        let found = slice_index s.words index in
         let stock = joined_stock cpus s.words s.views rule s.words id m v at zeroth low high in
-        let then = Joined reporting_step (step slots place n 0 none) (m ∷ v ∷ [], []) in
+        let then = Joined reporting_step (step slots index n 0 none) (m ∷ v ∷ [], []) in
         let a = account_of m v.number in
         let sum : (found + n) % 2 ^ 64 ≡ found + n = small_mod (found + n) (omega (arith, stock.balanced, stock.bounded, fresh)) in
-        subst (λ (x : ℕ). Owes s (m ∷ v ∷ [], []) place then x) (sym sum)
+        subst (λ (x : ℕ). Owes s (m ∷ v ∷ [], []) index then x) (sym sum)
         (joined_report_owes s rule at (found + n) (record a { unabsorbed = a.unabsorbed + n }) (after_report v n) then refl (reported _ _ a v n stock fresh) (
           noting m v.number n,
           after_report v n,
@@ -382,22 +382,22 @@ module _ {S : Type 0} (cpus slots id : ℕ) where
             word_after = refl;
             of_group = last_group _ _ a v stock;
             enough = omega (arith, stock.balanced, stock.reported);
-            machine_after = refl;
+            zone_after = refl;
             view_after = refl;
           },
         ))
 
     -- the look
-    seeing_allowed_at : Allows holds slots id (m ∷ v ∷ [], []) (stock_place v.number) (λ x. x)
-        (Joined seeing_stock (step slots (stock_place v.number) 0 0 none) (m ∷ v ∷ [], []))
+    seeing_allowed_at : Allows holds slots id (m ∷ v ∷ [], []) (stock_index v.number) (λ x. x)
+        (Joined seeing_stock (step slots (stock_index v.number) 0 0 none) (m ∷ v ∷ [], []))
     seeing_allowed_at s rule homes at fits =
-        let place = stock_place v.number in
-        let found = slice_index s.words place in
+        let index = stock_index v.number in
+        let found = slice_index s.words index in
         let stock = joined_stock cpus s.words s.views rule s.words id m v at zeroth low high in (
           with_steps 1 m ∷ v ∷ [],
           keeps,
           tt,
-          joined_keeps cpus s.words s.views rule (set s.words place found) id m v at zeroth low high _ _
+          joined_keeps cpus s.words s.views rule (set s.words index found) id m v at zeroth low high _ _
               (leaves_stock cpus s.words v.number found rule.rows high)
               (with_steps 1 m) v zeroth refl (λ q ne. refl) stock,
           (
@@ -415,7 +415,7 @@ module _ {S : Type 0} (cpus slots id : ℕ) where
               of_group = stock.of_group;
               held = stock.held;
               last_seen = stock.last_seen;
-              machine_after = refl;
+              zone_after = refl;
               view_after = refl;
             },
           ),
@@ -423,10 +423,10 @@ module _ {S : Type 0} (cpus slots id : ℕ) where
 
     -- the store of a fill
     filling_allowed_at : (g n : ℕ) → g < 64 → n < 65536 → (account_of m v.number).filled ≡ false → v.fresh ≡ 0 → (account_of m v.number).unabsorbed ≡ 0
-        → Allows holds slots id (m ∷ v ∷ [], []) (stock_place v.number) (λ x. word_of (HeldBy g n))
-        (λ x. Joined filling_step (step slots (stock_place v.number) (word_of (HeldBy g n)) 0 none) (m ∷ v ∷ [], []) (word_of (HeldBy g n)))
+        → Allows holds slots id (m ∷ v ∷ [], []) (stock_index v.number) (λ x. word_of (HeldBy g n))
+        (λ x. Joined filling_step (step slots (stock_index v.number) (word_of (HeldBy g n)) 0 none) (m ∷ v ∷ [], []) (word_of (HeldBy g n)))
     filling_allowed_at g n group few off fresh noted s rule homes at fits =
-        let place = stock_place v.number in
+        let index = stock_index v.number in
         let new = word_of (HeldBy g n) in
         let stock = joined_stock cpus s.words s.views rule s.words id m v at zeroth low high in
         let a = account_of m v.number in
@@ -435,33 +435,33 @@ module _ {S : Type 0} (cpus slots id : ℕ) where
           group = Some g;
           filled =
               true;
-        }) (after_fill v g n) (λ x. Joined filling_step (step slots place new 0 none) (m ∷ v ∷ [], []) new) refl
+        }) (after_fill v g n) (λ x. Joined filling_step (step slots index new 0 none) (m ∷ v ∷ [], []) new) refl
         (filled _ _ a v g n stock group few off fresh noted) (
           filling m v.number g n,
           after_fill v g n,
           refl,
           (λ k j fit is.
-              subst (λ (y : ℕ × ℕ). Fills y.0 y.1 place new m v (filling m v.number g n) (after_fill v g n))
+              subst (λ (y : ℕ × ℕ). Fills y.0 y.1 index new m v (filling m v.number g n) (after_fill v g n))
               (λ i. (same_held_group g n k j few fit is i, same_held_pages g n k j few fit is i))
               (record {
                 at_stock = refl;
                 word_after = refl;
                 book_before =
                     nothing_booked _ _ a v stock off fresh noted;
-                machine_after = refl;
+                zone_after = refl;
                 view_after = refl;
               })),
         )
 
     -- the subtraction of a consume that always takes
     consuming_held_allowed_at : (g : ℕ) → (account_of m v.number).group ≡ Some g → v.fresh + (account_of m v.number).unabsorbed < (account_of m v.number).book
-        → Allows holds slots id (m ∷ v ∷ [], []) (stock_place v.number) (λ x. (x + (2 ^ 64 - 1)) % 2 ^ 64)
-        (Joined consuming_held (step slots (stock_place v.number) 1 0 none) (m ∷ v ∷ [], []))
+        → Allows holds slots id (m ∷ v ∷ [], []) (stock_index v.number) (λ x. (x + (2 ^ 64 - 1)) % 2 ^ 64)
+        (Joined consuming_held (step slots (stock_index v.number) 1 0 none) (m ∷ v ∷ [], []))
     consuming_held_allowed_at g booked more s rule homes at fits =
-        let place = stock_place v.number in
-        let found = slice_index s.words place in
+        let index = stock_index v.number in
+        let found = slice_index s.words index in
         let stock = joined_stock cpus s.words s.views rule s.words id m v at zeroth low high in
-        let then = Joined consuming_held (step slots place 1 0 none) (m ∷ v ∷ [], []) in
+        let then = Joined consuming_held (step slots index 1 0 none) (m ∷ v ∷ [], []) in
         let a = account_of m v.number in
         let n = left_of a v - 1 in
         let books = held_by_books _ _ a v g stock booked more in
@@ -470,11 +470,11 @@ module _ {S : Type 0} (cpus slots id : ℕ) where
         let is : found ≡ word_of (HeldBy g (n + 1)) = books.1 ∙ ap (λ k. word_of (HeldBy g k)) pages in
         let kept = took _ _ a v g n stock last is in
         let left : (found + (2 ^ 64 - 1)) % 2 ^ 64 ≡ word_of (HeldBy g n) = one_less found (word_of (HeldBy g n)) (is ∙ held_more g n) fits in
-        subst (λ (x : ℕ). Owes s (m ∷ v ∷ [], []) place then x) (sym left) (
+        subst (λ (x : ℕ). Owes s (m ∷ v ∷ [], []) index then x) (sym left) (
           m ∷ after_took v g n ∷ [],
           keeps,
           tt,
-          joined_keeps cpus s.words s.views rule (set s.words place (word_of (HeldBy g n))) id m v at zeroth low high _ _
+          joined_keeps cpus s.words s.views rule (set s.words index (word_of (HeldBy g n))) id m v at zeroth low high _ _
               (leaves_stock cpus s.words v.number _ rule.rows high) m (after_took v g n) zeroth refl (λ q ne. refl) kept,
           (
             m,
@@ -494,7 +494,7 @@ module _ {S : Type 0} (cpus slots id : ℕ) where
               of_group = booked;
               has_word = kept.last_word;
               exact = exact_books a v (ap pages_of books.0) more;
-              machine_after = refl;
+              zone_after = refl;
             },
           ),
         )
@@ -504,124 +504,124 @@ module _ {S : Type 0} (cpus slots id : ℕ) where
 pub consume_allowed : {S : Type 0} (cpus slots id : ℕ) (me : Me S (List StockView)) (g n : ℕ)
     → me ≡ (first_of me.0 ∷ [], []) → 0 < (first_of me.0).number → (first_of me.0).number ≤ cpus
     → (first_of me.0).last ≡ HeldBy g (n + 1)
-    → (place old new : ℕ) → place ≡ stock_place (first_of me.0).number → old ≡ word_of (HeldBy g (n + 1)) → new ≡ word_of (HeldBy g n)
-    → Allows (λ (s : State S (List StockView)). StockRule cpus s.words s.views) slots id me place (λ x. either (eqb x old) new x)
-    (Alone consuming (step slots place old new none) me)
-consume_allowed {S} cpus slots id me g n is low high last place old new at_place at_old at_new =
+    → (index old new : ℕ) → index ≡ stock_index (first_of me.0).number → old ≡ word_of (HeldBy g (n + 1)) → new ≡ word_of (HeldBy g n)
+    → Allows (λ (s : State S (List StockView)). StockRule cpus s.words s.views) slots id me index (λ x. either (eqb x old) new x)
+    (Alone consuming (step slots index old new none) me)
+consume_allowed {S} cpus slots id me g n is low high last index old new at_index at_old at_new =
     subst (λ (z : Me S (List StockView)). Allows (λ (s : State S (List StockView)). StockRule cpus s.words s.views) slots id z
-    place (λ x. either (eqb x old) new x) (Alone consuming (step slots place old new none) z)) (sym is)
+    index (λ x. either (eqb x old) new x) (Alone consuming (step slots index old new none) z)) (sym is)
     (subst (λ (y : ℕ × ℕ × ℕ). Allows (λ (s : State S (List StockView)). StockRule cpus s.words s.views) slots id
     (first_of me.0 ∷ [], []) y.0 (λ x. either (eqb x y.1) y.2 x)
-    (Alone consuming (step slots y.0 y.1 y.2 none) (first_of me.0 ∷ [], []))) (λ i. (sym at_place i, sym at_old i, sym at_new i))
+    (Alone consuming (step slots y.0 y.1 y.2 none) (first_of me.0 ∷ [], []))) (λ i. (sym at_index i, sym at_old i, sym at_new i))
     (consume_allowed_at cpus slots id (first_of me.0) low high g n last))
 
 pub credit_allowed : {S : Type 0} (cpus slots id : ℕ) (me : Me S (List StockView)) (g n : ℕ)
     → me ≡ (first_of me.0 ∷ [], []) → 0 < (first_of me.0).number → (first_of me.0).number ≤ cpus
     → (first_of me.0).last ≡ HeldBy g n → 0 < (first_of me.0).fresh
-    → (place old new : ℕ) → place ≡ stock_place (first_of me.0).number → old ≡ word_of (HeldBy g n) → new ≡ word_of (HeldBy g (n + 1))
-    → Allows (λ (s : State S (List StockView)). StockRule cpus s.words s.views) slots id me place (λ x. either (eqb x old) new x)
-    (Alone crediting (step slots place old new none) me)
-credit_allowed {S} cpus slots id me g n is low high last fresh place old new at_place at_old at_new =
+    → (index old new : ℕ) → index ≡ stock_index (first_of me.0).number → old ≡ word_of (HeldBy g n) → new ≡ word_of (HeldBy g (n + 1))
+    → Allows (λ (s : State S (List StockView)). StockRule cpus s.words s.views) slots id me index (λ x. either (eqb x old) new x)
+    (Alone crediting (step slots index old new none) me)
+credit_allowed {S} cpus slots id me g n is low high last fresh index old new at_index at_old at_new =
     subst (λ (z : Me S (List StockView)). Allows (λ (s : State S (List StockView)). StockRule cpus s.words s.views) slots id z
-    place (λ x. either (eqb x old) new x) (Alone crediting (step slots place old new none) z)) (sym is)
+    index (λ x. either (eqb x old) new x) (Alone crediting (step slots index old new none) z)) (sym is)
     (subst (λ (y : ℕ × ℕ × ℕ). Allows (λ (s : State S (List StockView)). StockRule cpus s.words s.views) slots id
     (first_of me.0 ∷ [], []) y.0 (λ x. either (eqb x y.1) y.2 x)
-    (Alone crediting (step slots y.0 y.1 y.2 none) (first_of me.0 ∷ [], []))) (λ i. (sym at_place i, sym at_old i, sym at_new i))
+    (Alone crediting (step slots y.0 y.1 y.2 none) (first_of me.0 ∷ [], []))) (λ i. (sym at_index i, sym at_old i, sym at_new i))
     (credit_allowed_at cpus slots id (first_of me.0) low high g n last fresh))
 
 pub looking_allowed : {S : Type 0} (cpus slots id : ℕ) (me : Me S (List StockView)) (p : ℕ)
-    → me ≡ (first_of me.0 ∷ [], []) → (first_of me.0).number ≡ 0 → 0 < p → p ≤ cpus → (place : ℕ)
-    → place ≡ stock_place p
-    → Allows (λ (s : State S (List StockView)). StockRule cpus s.words s.views) slots id me place (λ x. x) (Alone looking (step slots place 0 0 none) me)
-looking_allowed {S} cpus slots id me p is zeroth low high place at_place =
+    → me ≡ (first_of me.0 ∷ [], []) → (first_of me.0).number ≡ 0 → 0 < p → p ≤ cpus → (index : ℕ)
+    → index ≡ stock_index p
+    → Allows (λ (s : State S (List StockView)). StockRule cpus s.words s.views) slots id me index (λ x. x) (Alone looking (step slots index 0 0 none) me)
+looking_allowed {S} cpus slots id me p is zeroth low high index at_index =
     subst (λ (z : Me S (List StockView)). Allows (λ (s : State S (List StockView)). StockRule cpus s.words s.views) slots id z
-    place (λ x. x) (Alone looking (step slots place 0 0 none) z)) (sym is)
+    index (λ x. x) (Alone looking (step slots index 0 0 none) z)) (sym is)
     (subst (λ (y : ℕ). Allows (λ (s : State S (List StockView)). StockRule cpus s.words s.views) slots id (
       first_of me.0 ∷ [],
       [],
-    ) y (λ x. x) (Alone looking (step slots y 0 0 none) (first_of me.0 ∷ [], []))) (sym at_place)
+    ) y (λ x. x) (Alone looking (step slots y 0 0 none) (first_of me.0 ∷ [], []))) (sym at_index)
     (looking_allowed_at cpus slots id (first_of me.0) zeroth p low high))
 
 pub draining_allowed : {S : Type 0} (cpus slots id : ℕ) (me : Me S (List StockView)) (p g : ℕ)
     → me ≡ (first_of me.0 ∷ [], []) → (first_of me.0).number ≡ 0 → 0 < p → p ≤ cpus
     → (account_of (first_of me.0) p).group ≡ Some g
-    → (place new : ℕ) → place ≡ stock_place p → new ≡ word_of (DrainedOf g)
-    → Allows (λ (s : State S (List StockView)). StockRule cpus s.words s.views) slots id me place (λ x. new)
-    (Alone draining_step (step slots place new 0 none) me)
-draining_allowed {S} cpus slots id me p g is zeroth low high group place new at_place at_new =
+    → (index new : ℕ) → index ≡ stock_index p → new ≡ word_of (DrainedOf g)
+    → Allows (λ (s : State S (List StockView)). StockRule cpus s.words s.views) slots id me index (λ x. new)
+    (Alone draining_step (step slots index new 0 none) me)
+draining_allowed {S} cpus slots id me p g is zeroth low high group index new at_index at_new =
     subst (λ (z : Me S (List StockView)). Allows (λ (s : State S (List StockView)). StockRule cpus s.words s.views) slots id z
-    place (λ x. new) (Alone draining_step (step slots place new 0 none) z)) (sym is)
+    index (λ x. new) (Alone draining_step (step slots index new 0 none) z)) (sym is)
     (subst (λ (y : ℕ × ℕ). Allows (λ (s : State S (List StockView)). StockRule cpus s.words s.views) slots id (
       first_of me.0 ∷ [],
       [],
-    ) y.0 (λ x. y.1) (Alone draining_step (step slots y.0 y.1 0 none) (first_of me.0 ∷ [], []))) (λ i. (sym at_place i, sym at_new i))
+    ) y.0 (λ x. y.1) (Alone draining_step (step slots y.0 y.1 0 none) (first_of me.0 ∷ [], []))) (λ i. (sym at_index i, sym at_new i))
     (draining_allowed_at cpus slots id (first_of me.0) zeroth p low high g group))
 
 pub absorbing_allowed : {S : Type 0} (cpus slots id : ℕ) (me : Me S (List StockView)) (p : ℕ)
-    → me ≡ (first_of me.0 ∷ [], []) → (first_of me.0).number ≡ 0 → 0 < p → p ≤ cpus → (place : ℕ)
-    → place ≡ report_place p
-    → Allows (λ (s : State S (List StockView)). StockRule cpus s.words s.views) slots id me place (λ x. 0) (Alone absorbing_step (step slots place 0 0 none) me)
-absorbing_allowed {S} cpus slots id me p is zeroth low high place at_place =
+    → me ≡ (first_of me.0 ∷ [], []) → (first_of me.0).number ≡ 0 → 0 < p → p ≤ cpus → (index : ℕ)
+    → index ≡ report_index p
+    → Allows (λ (s : State S (List StockView)). StockRule cpus s.words s.views) slots id me index (λ x. 0) (Alone absorbing_step (step slots index 0 0 none) me)
+absorbing_allowed {S} cpus slots id me p is zeroth low high index at_index =
     subst (λ (z : Me S (List StockView)). Allows (λ (s : State S (List StockView)). StockRule cpus s.words s.views) slots id z
-    place (λ x. 0) (Alone absorbing_step (step slots place 0 0 none) z)) (sym is)
+    index (λ x. 0) (Alone absorbing_step (step slots index 0 0 none) z)) (sym is)
     (subst (λ (y : ℕ). Allows (λ (s : State S (List StockView)). StockRule cpus s.words s.views) slots id (
       first_of me.0 ∷ [],
       [],
-    ) y (λ x. 0) (Alone absorbing_step (step slots y 0 0 none) (first_of me.0 ∷ [], []))) (sym at_place)
+    ) y (λ x. 0) (Alone absorbing_step (step slots y 0 0 none) (first_of me.0 ∷ [], []))) (sym at_index)
     (absorbing_allowed_at cpus slots id (first_of me.0) zeroth p low high))
 
 pub reporting_allowed : {S : Type 0} (cpus slots id : ℕ) (me : Me S (List StockView)) (m v : StockView) (n : ℕ)
-    → me ≡ (m ∷ v ∷ [], []) → m.number ≡ 0 → 0 < v.number → v.number ≤ cpus → n ≤ v.fresh → (place : ℕ)
-    → place ≡ report_place v.number
-    → Allows (λ (s : State S (List StockView)). StockRule cpus s.words s.views) slots id me place (λ x. (x + n) % 2 ^ 64)
-    (Joined reporting_step (step slots place n 0 none) me)
-reporting_allowed {S} cpus slots id me m v n is zeroth low high fresh place at_place =
+    → me ≡ (m ∷ v ∷ [], []) → m.number ≡ 0 → 0 < v.number → v.number ≤ cpus → n ≤ v.fresh → (index : ℕ)
+    → index ≡ report_index v.number
+    → Allows (λ (s : State S (List StockView)). StockRule cpus s.words s.views) slots id me index (λ x. (x + n) % 2 ^ 64)
+    (Joined reporting_step (step slots index n 0 none) me)
+reporting_allowed {S} cpus slots id me m v n is zeroth low high fresh index at_index =
     subst (λ (z : Me S (List StockView)). Allows (λ (s : State S (List StockView)). StockRule cpus s.words s.views) slots id z
-    place (λ x. (x + n) % 2 ^ 64) (Joined reporting_step (step slots place n 0 none) z)) (sym is)
+    index (λ x. (x + n) % 2 ^ 64) (Joined reporting_step (step slots index n 0 none) z)) (sym is)
     (subst (λ (y : ℕ). Allows (λ (s : State S (List StockView)). StockRule cpus s.words s.views) slots id (
       m ∷ v ∷ [],
       [],
-    ) y (λ x. (x + n) % 2 ^ 64) (Joined reporting_step (step slots y n 0 none) (m ∷ v ∷ [], []))) (sym at_place)
+    ) y (λ x. (x + n) % 2 ^ 64) (Joined reporting_step (step slots y n 0 none) (m ∷ v ∷ [], []))) (sym at_index)
     (reporting_allowed_at cpus slots id m v zeroth low high n fresh))
 
 pub filling_allowed : {S : Type 0} (cpus slots id : ℕ) (me : Me S (List StockView)) (m v : StockView) (g n : ℕ)
     → me ≡ (m ∷ v ∷ [], []) → m.number ≡ 0 → 0 < v.number → v.number ≤ cpus → g < 64 → n < 65536
-    → (account_of m v.number).filled ≡ false → v.fresh ≡ 0 → (account_of m v.number).unabsorbed ≡ 0 → (place new : ℕ) → place
-    ≡ stock_place v.number → new ≡ word_of (HeldBy g n)
-    → Allows (λ (s : State S (List StockView)). StockRule cpus s.words s.views) slots id me place (λ x. new)
-    (λ x. Joined filling_step (step slots place new 0 none) me new)
-filling_allowed {S} cpus slots id me m v g n is zeroth low high group few off fresh noted place new at_place at_new =
+    → (account_of m v.number).filled ≡ false → v.fresh ≡ 0 → (account_of m v.number).unabsorbed ≡ 0 → (index new : ℕ) → index
+    ≡ stock_index v.number → new ≡ word_of (HeldBy g n)
+    → Allows (λ (s : State S (List StockView)). StockRule cpus s.words s.views) slots id me index (λ x. new)
+    (λ x. Joined filling_step (step slots index new 0 none) me new)
+filling_allowed {S} cpus slots id me m v g n is zeroth low high group few off fresh noted index new at_index at_new =
     subst (λ (z : Me S (List StockView)). Allows (λ (s : State S (List StockView)). StockRule cpus s.words s.views) slots id z
-    place (λ x. new) (λ x. Joined filling_step (step slots place new 0 none) z new)) (sym is)
+    index (λ x. new) (λ x. Joined filling_step (step slots index new 0 none) z new)) (sym is)
     (subst (λ (y : ℕ × ℕ). Allows (λ (s : State S (List StockView)). StockRule cpus s.words s.views) slots id (
       m ∷ v ∷ [],
       [],
-    ) y.0 (λ x. y.1) (λ x. Joined filling_step (step slots y.0 y.1 0 none) (m ∷ v ∷ [], []) y.1)) (λ i. (sym at_place i, sym at_new i))
+    ) y.0 (λ x. y.1) (λ x. Joined filling_step (step slots y.0 y.1 0 none) (m ∷ v ∷ [], []) y.1)) (λ i. (sym at_index i, sym at_new i))
     (filling_allowed_at cpus slots id m v zeroth low high g n group few off fresh noted))
 
 pub seeing_allowed : {S : Type 0} (cpus slots id : ℕ) (me : Me S (List StockView)) (m v : StockView) → me ≡ (m ∷ v ∷ [], []) → m.number ≡ 0
-    → 0 < v.number → v.number ≤ cpus → (place : ℕ) → place ≡ stock_place v.number
-    → Allows (λ (s : State S (List StockView)). StockRule cpus s.words s.views) slots id me place (λ x. x) (Joined seeing_stock (step slots place 0 0 none) me)
-seeing_allowed {S} cpus slots id me m v is zeroth low high place at_place =
-    subst (λ (z : Me S (List StockView)). Allows (λ (s : State S (List StockView)). StockRule cpus s.words s.views) slots id z place (λ x. x)
-    (Joined seeing_stock (step slots place 0 0 none) z)) (sym is)
+    → 0 < v.number → v.number ≤ cpus → (index : ℕ) → index ≡ stock_index v.number
+    → Allows (λ (s : State S (List StockView)). StockRule cpus s.words s.views) slots id me index (λ x. x) (Joined seeing_stock (step slots index 0 0 none) me)
+seeing_allowed {S} cpus slots id me m v is zeroth low high index at_index =
+    subst (λ (z : Me S (List StockView)). Allows (λ (s : State S (List StockView)). StockRule cpus s.words s.views) slots id z index (λ x. x)
+    (Joined seeing_stock (step slots index 0 0 none) z)) (sym is)
     (subst (λ (y : ℕ). Allows (λ (s : State S (List StockView)). StockRule cpus s.words s.views) slots id (m ∷ v ∷ [], []) y (λ x. x)
-    (Joined seeing_stock (step slots y 0 0 none) (m ∷ v ∷ [], []))) (sym at_place)
+    (Joined seeing_stock (step slots y 0 0 none) (m ∷ v ∷ [], []))) (sym at_index)
     (seeing_allowed_at cpus slots id m v zeroth low high))
 
 pub consuming_held_allowed : {S : Type 0} (cpus slots id : ℕ) (me : Me S (List StockView)) (m v : StockView) (g : ℕ)
     → me ≡ (m ∷ v ∷ [], []) → m.number ≡ 0 → 0 < v.number → v.number ≤ cpus
     → (account_of m v.number).group ≡ Some g → v.fresh + (account_of m v.number).unabsorbed < (account_of m v.number).book
-    → (place : ℕ) → place ≡ stock_place v.number
-    → Allows (λ (s : State S (List StockView)). StockRule cpus s.words s.views) slots id me place
-    (λ x. (x + (2 ^ 64 - 1)) % 2 ^ 64) (Joined consuming_held (step slots place 1 0 none) me)
-consuming_held_allowed {S} cpus slots id me m v g is zeroth low high group more place at_place =
+    → (index : ℕ) → index ≡ stock_index v.number
+    → Allows (λ (s : State S (List StockView)). StockRule cpus s.words s.views) slots id me index
+    (λ x. (x + (2 ^ 64 - 1)) % 2 ^ 64) (Joined consuming_held (step slots index 1 0 none) me)
+consuming_held_allowed {S} cpus slots id me m v g is zeroth low high group more index at_index =
     subst (λ (z : Me S (List StockView)). Allows (λ (s : State S (List StockView)). StockRule cpus s.words s.views) slots id z
-    place (λ x. (x + (2 ^ 64 - 1)) % 2 ^ 64) (Joined consuming_held (step slots place 1 0 none) z)) (sym is)
+    index (λ x. (x + (2 ^ 64 - 1)) % 2 ^ 64) (Joined consuming_held (step slots index 1 0 none) z)) (sym is)
     (subst (λ (y : ℕ). Allows (λ (s : State S (List StockView)). StockRule cpus s.words s.views) slots id (
       m ∷ v ∷ [],
       [],
-    ) y (λ x. (x + (2 ^ 64 - 1)) % 2 ^ 64) (Joined consuming_held (step slots y 1 0 none) (m ∷ v ∷ [], []))) (sym at_place)
+    ) y (λ x. (x + (2 ^ 64 - 1)) % 2 ^ 64) (Joined consuming_held (step slots y 1 0 none) (m ∷ v ∷ [], []))) (sym at_index)
     (consuming_held_allowed_at cpus slots id m v zeroth low high g group more))
 
 -- ---- splits and joins

@@ -1,4 +1,4 @@
--- What each kind of step leaves of one processor's words, account and view. Serves Steps.antt.
+-- What each kind of step leaves of one CPU's words, account and view. Serves Steps.antt.
 use Rattle.std.proofs.Common.{◌≡◌, ◌≢◌, ℕ, ◌+◌, ◌-◌, ◌*◌, ◌<◌, ◌≤◌, true, false, true≢false, Some, None, refl, ap, sym, ◌∙◌, subst, inl, inr, ⊎_elim, arith}
 use Rattle.stock_word.specs.declared.view.Stock.{Stock}
 use Rattle.stock_word.specs.declared.view.Stock.TheVariants.{NoGroup, HeldBy, DrainedOf}
@@ -20,7 +20,7 @@ drained_has_word NoGroup h = tt
 drained_has_word (HeldBy g n) h = h.0
 drained_has_word (DrainedOf g) h = h
 
--- the stock of a processor that finds the word that it saw last, held by g with n
+-- the stock of a CPU that finds the word that it saw last, held by g with n
 pub stock_held : (word report : ℕ) (a : Account) (v : StockView) (g n : ℕ) (h : IsStock word report a v)
     → v.last ≡ HeldBy g n → word ≡ word_of (HeldBy g n) → h.stock ≡ HeldBy g n
 stock_held word report a v g n h last is =
@@ -51,7 +51,7 @@ took word report a v g n h last is =
       last_word = (fits.0, fewer);
     }
 
--- a credit, of a processor with a fresh page
+-- a credit, of a CPU with a fresh page
 pub back : (word report : ℕ) (a : Account) (v : StockView) (g n : ℕ) → IsStock word report a v → 0 < v.fresh
     → v.last ≡ HeldBy g n → word ≡ word_of (HeldBy g n)
     → IsStock (word_of (HeldBy g (n + 1))) report a (after_back v g (n + 1))
@@ -75,7 +75,7 @@ back word report a v g n h fresh last is =
       last_word = (fits.0, more);
     }
 
--- a word other than the one that the processor saw last is drained, of the same group
+-- a word other than the one that the CPU saw last is drained, of the same group
 pub now_drained : (word report : ℕ) (a : Account) (v : StockView) (h : IsStock word report a v) → word ≢ word_of v.last → h.stock ≡ drained_of v.last
 now_drained word report a v h ne =
     ⊎_elim (λ (e : h.stock ≡ v.last). absurd (ne (h.encoded ∙ ap word_of e))) (λ (e : h.stock ≡ drained_of v.last). e) h.last_seen
@@ -95,7 +95,7 @@ sees_drained word report a v h ne = record {
   last_word = drained_has_word v.last h.last_word;
 }
 
--- the stock that the processor saw last is of the group of the last fill
+-- the stock that the CPU saw last is of the group of the last fill
 drained_same_group : (s : Stock) → group_of (drained_of s) ≡ group_of s
 drained_same_group NoGroup = refl
 drained_same_group (HeldBy g n) = refl
@@ -138,7 +138,7 @@ not_held NoGroup = refl
 not_held (HeldBy g n) = refl
 not_held (DrainedOf g) = refl
 
--- where the books say that the stock has a page, the processor saw it last
+-- where the books say that the stock has a page, the CPU saw it last
 pub held_by_books : (word report : ℕ) (a : Account) (v : StockView) (g : ℕ) (h : IsStock word report a v) → a.group ≡ Some g → v.fresh + a.unabsorbed < a.book
     → (v.last ≡ HeldBy g (left_of a v)) × (word ≡ word_of (HeldBy g (left_of a v)))
 held_by_books word report a v g h group more =
@@ -155,7 +155,7 @@ no_pages NoGroup e = refl
 no_pages (HeldBy g n) e = absurd (true≢false e)
 no_pages (DrainedOf g) e = refl
 
--- nothing is booked to a stock that is drained, of a processor with no fresh and no reported page
+-- nothing is booked to a stock that is drained, of a CPU with no fresh and no reported page
 pub nothing_booked : (word report : ℕ) (a : Account) (v : StockView) → IsStock word report a v → a.filled ≡ false → v.fresh ≡ 0 → a.unabsorbed ≡ 0 → a.book ≡ 0
 nothing_booked word report a v h off fresh noted = let pages = no_pages h.stock (h.held ∙ off) in omega (arith, h.balanced, h.reported, pages, fresh, noted)
 

@@ -5,33 +5,33 @@ use native.Mathlib.Decide.{ℕ_discrete}
 use Rattle.stock_word.specs.declared.view.Stock.{Stock}
 use Rattle.stock_word.specs.declared.view.Stock.TheVariants.{NoGroup, HeldBy, DrainedOf}
 use Rattle.stock_word.specs.declared.view.StockView.{StockView}
-use Rattle.stock_word.specs.Stock.{Seated, KnownRawSeat, word_of, HasWord, pages_of, is_held, group_of, account_of, first_of}
+use Rattle.stock_word.specs.Stock.{KnownStockSeat, KnownRawSeat, word_of, HasWord, pages_of, is_held, group_of, account_of, first_of}
 use Rattle.stock_word.specs.Kinds.{Drains, DrainsNone, LooksAt, with_steps, draining}
 use Rattle.stock_word.specs.Calls.{with_view, after_look, steps_of_drain}
 
 -- the seat that the caller has afterwards
-pub seat_after : (place : KnownRawSeat) (before : Seated) (u : StockView) → place.table ≡ before.table → first_of place.views ≡ u
-    → record { table = place.table; view = first_of place.views } ≡ with_view before u
-seat_after place before u table_is same = λ i. record { table = table_is i; view = same i }
+pub seat_after : (index : KnownRawSeat) (before : KnownStockSeat) (u : StockView) → index.table ≡ before.table → first_of index.views ≡ u
+    → record { table = index.table; view = first_of index.views } ≡ with_view before u
+seat_after index before u table_is same = λ i. record { table = table_is i; view = same i }
 
 -- ---- drain
 
 -- what the look told, by the stock r that its word decodes to
 abbrev Looked : ℕ → ℕ → ℕ → StockView → StockView → Type 0
-Looked p place found m w = (found ≡ 0 → DrainsNone p place found found m w) × (found ≢ 0 → LooksAt p place found found m w)
+Looked p index found m w = (found ≡ 0 → DrainsNone p index found found m w) × (found ≢ 0 → LooksAt p index found found m w)
 
 abbrev Decodes : ℕ → Stock → Type 0
 Decodes found r = (stock : Stock) → HasWord stock → found ≡ word_of stock → r ≡ stock
 
-looked_none : (p place found : ℕ) (m w : StockView) (r : Stock) → Looked p place found m w → Decodes found r
-    → r ≡ NoGroup → Dec (found ≡ 0) → DrainsNone p place found found m w
-looked_none p place found m w r told decodes is (yes e) = told.0 e
-looked_none p place found m w r told decodes is (no ne) = let kind = told.1 ne in let same = decodes kind.stock kind.has_word kind.word_before in
+looked_none : (p index found : ℕ) (m w : StockView) (r : Stock) → Looked p index found m w → Decodes found r
+    → r ≡ NoGroup → Dec (found ≡ 0) → DrainsNone p index found found m w
+looked_none p index found m w r told decodes is (yes e) = told.0 e
+looked_none p index found m w r told decodes is (no ne) = let kind = told.1 ne in let same = decodes kind.stock kind.has_word kind.word_before in
     let impossible : None ≡ Some kind.group = ap group_of (sym is ∙ same) ∙ kind.of_group in absurd (cc)
 
-pub found_none : (p place found : ℕ) (m w : StockView) (r : Stock) → Looked p place found m w → Decodes found r
-    → r ≡ NoGroup → DrainsNone p place found found m w
-found_none p place found m w r told decodes is = looked_none p place found m w r told decodes is (ℕ_discrete found 0)
+pub found_none : (p index found : ℕ) (m w : StockView) (r : Stock) → Looked p index found m w → Decodes found r
+    → r ≡ NoGroup → DrainsNone p index found found m w
+found_none p index found m w r told decodes is = looked_none p index found m w r told decodes is (ℕ_discrete found 0)
 
 some_word : (found g : ℕ) (r : Stock) → Decodes found r → group_of r ≡ Some g → found ≢ 0
 some_word found g r decodes group e = let is : r ≡ NoGroup = decodes NoGroup tt e in
@@ -43,13 +43,13 @@ group_fits (HeldBy k n) g fits group = let same : k ≡ g = cc in subst (λ (x :
 group_fits (DrainedOf k) g fits group = let same : k ≡ g = cc in subst (λ (x : ℕ). x < 64) same fits
 
 -- it saw the group to drain
-pub found_group : (p place found g : ℕ) (m w : StockView) (r : Stock) → Looked p place found m w → Decodes found r → group_of r ≡ Some g
+pub found_group : (p index found g : ℕ) (m w : StockView) (r : Stock) → Looked p index found m w → Decodes found r → group_of r ≡ Some g
     → ((account_of m p).group ≡ Some g) × (w ≡ with_steps 1 m) × (g < 64)
-found_group p place found g m w r told decodes group =
+found_group p index found g m w r told decodes group =
     let kind = told.1 (some_word found g r decodes group) in
     let same = decodes kind.stock kind.has_word kind.word_before in (
       kind.filled_for ∙ sym kind.of_group ∙ sym (ap group_of same) ∙ group,
-      kind.machine_after,
+      kind.zone_after,
       group_fits kind.stock g kind.has_word (sym (ap group_of same) ∙ group),
     )
 
@@ -62,19 +62,19 @@ looked_and_drained m p g n group =
     ap (λ (k : ℕ). record (draining m p n) { steps = k }) count
 
 -- the swap took the pages of the stock that it found
-pub drained_booked : (before : StockView) (p g place found new pages : ℕ) (m w : StockView) → m ≡ before
-    → (kind : Drains p g place found new m w) → pages ≡ pages_of kind.stock → pages ≤ (account_of before p).book
-drained_booked before p g place found new pages m w e kind many = let b = ap (λ (v : StockView). (account_of v p).book) e in omega (arith, kind.enough, b)
+pub drained_booked : (before : StockView) (p g index found new pages : ℕ) (m w : StockView) → m ≡ before
+    → (kind : Drains p g index found new m w) → pages ≡ pages_of kind.stock → pages ≤ (account_of before p).book
+drained_booked before p g index found new pages m w e kind many = let b = ap (λ (v : StockView). (account_of v p).book) e in omega (arith, kind.enough, b)
 
 unheld_pages : (s : Stock) → is_held s ≡ false → pages_of s ≡ 0
 unheld_pages NoGroup e = refl
 unheld_pages (HeldBy g n) e = absurd (true≢false e)
 unheld_pages (DrainedOf g) e = refl
 
-pub drained_before : (before : StockView) (p g place found new pages : ℕ) (m w : StockView) → m ≡ before
-    → (kind : Drains p g place found new m w) → pages ≡ pages_of kind.stock → (account_of before p).filled ≡ false
+pub drained_before : (before : StockView) (p g index found new pages : ℕ) (m w : StockView) → m ≡ before
+    → (kind : Drains p g index found new m w) → pages ≡ pages_of kind.stock → (account_of before p).filled ≡ false
     → pages ≡ 0
-drained_before before p g place found new pages m w e kind many off =
+drained_before before p g index found new pages m w e kind many off =
     many ∙ unheld_pages kind.stock (kind.was_held ∙ ap (λ (v : StockView). (account_of v p).filled) e ∙ off)
 
 pub either_group : (r : Stock) (g : ℕ) → ((n : ℕ) × (r ≡ HeldBy g n)) ⊎ (r ≡ DrainedOf g) → group_of r ≡ Some g
@@ -84,15 +84,15 @@ either_group r g h = ⊎_elim (λ (x : (n : ℕ) × (r ≡ HeldBy g n)). ap grou
 
 -- ---- group
 
--- the look told the group, or that there is none, and what it left of the machine's view
-pub group_told : (p place found : ℕ) (m w : StockView) (r : Stock) (told : Option ℕ) → Looked p place found m w → Decodes found r → told ≡ group_of r
+-- the look told the group, or that there is none, and what it left of the zone's view
+pub group_told : (p index found : ℕ) (m w : StockView) (r : Stock) (told : Option ℕ) → Looked p index found m w → Decodes found r → told ≡ group_of r
     → (told ≡ (account_of m p).group) × IfSome told (λ g. g < 64) × (w ≡ with_steps 1 (after_look m p told))
-group_told p place found m w NoGroup told looked decodes is =
-    let kind = found_none p place found m w NoGroup looked decodes refl in
-    (is ∙ sym kind.never_filled, subst (λ (o : Option ℕ). IfSome o (λ g. g < 64)) (sym is) tt, kind.machine_after ∙ ap (λ (o : Option ℕ). with_steps 1 (after_look m p o)) (sym is))
-group_told p place found m w (HeldBy g n) told looked decodes is =
-    let seen = found_group p place found g m w (HeldBy g n) looked decodes refl in
+group_told p index found m w NoGroup told looked decodes is =
+    let kind = found_none p index found m w NoGroup looked decodes refl in
+    (is ∙ sym kind.never_filled, subst (λ (o : Option ℕ). IfSome o (λ g. g < 64)) (sym is) tt, kind.zone_after ∙ ap (λ (o : Option ℕ). with_steps 1 (after_look m p o)) (sym is))
+group_told p index found m w (HeldBy g n) told looked decodes is =
+    let seen = found_group p index found g m w (HeldBy g n) looked decodes refl in
     (is ∙ sym seen.0, subst (λ (o : Option ℕ). IfSome o (λ h. h < 64)) (sym is) seen.2, seen.1 ∙ ap (λ (o : Option ℕ). with_steps 1 (after_look m p o)) (sym is))
-group_told p place found m w (DrainedOf g) told looked decodes is =
-    let seen = found_group p place found g m w (DrainedOf g) looked decodes refl in
+group_told p index found m w (DrainedOf g) told looked decodes is =
+    let seen = found_group p index found g m w (DrainedOf g) looked decodes refl in
     (is ∙ sym seen.0, subst (λ (o : Option ℕ). IfSome o (λ h. h < 64)) (sym is) seen.2, seen.1 ∙ ap (λ (o : Option ℕ). with_steps 1 (after_look m p o)) (sym is))

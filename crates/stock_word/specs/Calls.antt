@@ -6,11 +6,11 @@ use Rattle.stock_word.specs.declared.words.Consume.{Consume}
 use Rattle.stock_word.specs.declared.words.Consume.TheVariants.{Took, Empty, OtherGroup, Drained}
 use Rattle.stock_word.specs.declared.words.Credit.{Credit}
 use Rattle.stock_word.specs.declared.words.Credit.TheVariants as credit
-use Rattle.stock_word.specs.Stock.{Seated, group_of, is_held, drained_of}
+use Rattle.stock_word.specs.Stock.{KnownStockSeat, group_of, is_held, drained_of}
 use Rattle.stock_word.specs.Kinds.{after_took, after_back, draining}
 
 -- the seat with another view
-abbrev pub with_view : Seated → StockView → Seated
+abbrev pub with_view : KnownStockSeat → StockView → KnownStockSeat
 with_view seat view = record { table = seat.table; view = view }
 
 -- The CPU's view after it got the answer Drained. If it saw its stock held last, that took one step; if it saw it
@@ -38,8 +38,8 @@ abbrev pub steps_of_drain : Option ℕ → ℕ
 steps_of_drain None = 1
 steps_of_drain (Some g) = 2
 
--- What the machine's seat knows after it looked which group p's stock is of, without counting that step. A stock of no
--- group counts as drained of no page.
+-- What the zone's seat knows after it looked which group this CPU's stock is of, without counting that step. A stock of
+-- no group counts as drained of no page.
 abbrev pub after_look : StockView → ℕ → Option ℕ → StockView
-after_look m p None = draining m p 0
-after_look m p (Some g) = m
+after_look z cpu None = draining z cpu 0
+after_look z cpu (Some g) = z

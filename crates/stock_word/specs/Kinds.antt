@@ -1,5 +1,5 @@
 -- The kinds of atomic step. This file and src/kinds.rt are the table of kinds, a definition to be read as one. Each
--- kind is a relation of the place of the word, the word before and after, and the views before and after of the seats
+-- kind is a relation of the index of the word, the word before and after, and the views before and after of the seats
 -- that make the step. A step changes one word and the views of its own seats. What isn't named here is unchanged.
 use Rattle.std.specs.Prelude.{◌≡◌, ◌≢◌, ℕ, ◌+◌, ◌-◌, ◌<◌, ◌≤◌, ◌⊎◌, false, true, List, [], ◌∷◌, Some, None}
 use mathlib.Core.Option.{some}
@@ -8,11 +8,12 @@ use Rattle.atomic_table.specs.Table.{Me, Step}
 use Rattle.stock_word.specs.declared.view.Stock.{Stock}
 use Rattle.stock_word.specs.declared.view.Stock.TheVariants.{HeldBy, DrainedOf}
 use Rattle.stock_word.specs.declared.view.StockView.{StockView}
-use Rattle.stock_word.specs.Stock.{word_of, HasWord, pages_of, group_of, is_held, drained_of, account_of, with_account, first_of, second_of}
-use Rattle.stock_word.specs.StockRule.{stock_place, report_place, StockRule}
+use Rattle.stock_word.specs.Stock.{word_of, HasWord, pages_of, group_of, is_held, drained_of, account_of, with_account}
+use Rattle.stock_word.specs.Stock.{first_of, second_of}
+use Rattle.stock_word.specs.StockRule.{stock_index, report_index, StockRule}
 
 -- ---- the views after each kind: a step counts once, at the CPU's seat if that made it, alone or joined, else at the
--- ---- machine's; a look always counts at the machine's
+-- ---- zone's; a look always counts at the zone's
 
 -- the view with n steps more
 abbrev pub with_steps : ℕ → StockView → StockView
@@ -34,198 +35,208 @@ after_drained v = record v { last = drained_of v.last; steps = v.steps + 1 }
 abbrev pub after_report : StockView → ℕ → StockView
 after_report v n = record v { fresh = v.fresh - n; steps = v.steps + 1 }
 
--- the machine's view with n more pages noted as reported by CPU p
+-- the zone's view with n more pages noted as reported by the CPU
 abbrev pub noting : StockView → ℕ → ℕ → StockView
-noting m p n = let a = account_of m p in with_account m p (record a { unabsorbed = a.unabsorbed + n })
+noting z cpu n = let a = account_of z cpu in with_account z cpu (record a { unabsorbed = a.unabsorbed + n })
 
--- the machine's view after p's stock was filled for g with n pages
+-- the zone's view after the CPU's stock was filled for g with n pages
 abbrev pub filling : StockView → ℕ → ℕ → ℕ → StockView
-filling m p g n = let a = account_of m p in with_account m p (record a { book = a.book + n; group = Some g; filled = true })
+filling z cpu g n = let a = account_of z cpu in with_account z cpu
+    (record a { book = a.book + n; group = Some g; filled = true })
 
 -- the CPU's view after a fill: the stock that it saw last is held by g with n pages
 abbrev pub after_fill : StockView → ℕ → ℕ → StockView
 after_fill v g n = record v { last = HeldBy g n; steps = v.steps + 1 }
 
--- the machine's view after n pages were drained from p's stock, steps not counted
+-- the zone's view after n pages were drained from the CPU's stock, steps not counted
 abbrev pub draining : StockView → ℕ → ℕ → StockView
-draining m p n = let a = account_of m p in with_account m p (record a { book = a.book - n; filled = false })
+draining z cpu n = let a = account_of z cpu in with_account z cpu (record a { book = a.book - n; filled = false })
 
--- the machine's view after p's report was absorbed, steps not counted
+-- the zone's view after the CPU's report was absorbed, steps not counted
 abbrev pub absorbing : StockView → ℕ → StockView
-absorbing m p = let a = account_of m p in with_account m p (record a { book = a.book - a.unabsorbed; unabsorbed = 0 })
+absorbing z cpu = let a = account_of z cpu in with_account z cpu
+    (record a { book = a.book - a.unabsorbed; unabsorbed = 0 })
 
 -- ---- the table of kinds
 
--- consume, by CPU p: its stock word goes from n + 1 pages held by g to n; one more page is fresh
-pub record Consumes (place before after : ℕ) (v w : StockView) : Type 0 where
+-- consume, by the CPU: its stock word goes from n + 1 pages held by g to n; one more page is fresh
+pub record Consumes (index before after : ℕ) (v w : StockView) : Type 0 where
   pub group : ℕ
   pub pages : ℕ
-  pub at_stock : place ≡ stock_place v.number
+  pub at_stock : index ≡ stock_index v.number
   pub from_held : v.last ≡ HeldBy group (pages + 1)
   pub word_before : before ≡ word_of (HeldBy group (pages + 1))
   pub word_after : after ≡ word_of (HeldBy group pages)
   pub view_after : w ≡ after_took v group pages
 
--- credit, by CPU p: its stock word goes from n pages held by g to n + 1; one page less is fresh
-pub record Credits (place before after : ℕ) (v w : StockView) : Type 0 where
+-- credit, by the CPU: its stock word goes from n pages held by g to n + 1; one page less is fresh
+pub record Credits (index before after : ℕ) (v w : StockView) : Type 0 where
   pub group : ℕ
   pub pages : ℕ
-  pub at_stock : place ≡ stock_place v.number
+  pub at_stock : index ≡ stock_index v.number
   pub from_held : v.last ≡ HeldBy group pages
   pub word_before : before ≡ word_of (HeldBy group pages)
   pub word_after : after ≡ word_of (HeldBy group (pages + 1))
   pub has_word : HasWord (HeldBy group (pages + 1))
   pub view_after : w ≡ after_back v group (pages + 1)
 
--- a consume or credit of CPU p whose exchange failed: its stock word is drained of the group that it saw last, and is
+-- a consume or credit of the CPU whose exchange failed: its stock word is drained of the group that it saw last, and is
 -- unchanged
-pub record SeesDrained (place before after : ℕ) (v w : StockView) : Type 0 where
-  pub at_stock : place ≡ stock_place v.number
+pub record SeesDrained (index before after : ℕ) (v w : StockView) : Type 0 where
+  pub at_stock : index ≡ stock_index v.number
   pub word_before : before ≡ word_of (drained_of v.last)
   pub word_after : after ≡ before
   pub view_after : w ≡ after_drained v
 
--- report, by the joined seats of the machine (m) and of CPU p (v): p's report word goes from r to r + n; n pages less
--- are fresh, and n more are noted
-pub record Reports (n place before after : ℕ) (m v m' v' : StockView) : Type 0 where
-  pub at_report : place ≡ report_place v.number
+-- report, by the joined seats of the zone (z) and of the CPU (v): the CPU's report word goes from r to r + n; n pages
+-- less are fresh, and n more are noted
+pub record Reports (n index before after : ℕ) (z v z' v' : StockView) : Type 0 where
+  pub at_report : index ≡ report_index v.number
   pub word_after : after ≡ before + n
-  pub of_group : group_of v.last ≡ (account_of m v.number).group
-  pub enough : v.fresh + (account_of m v.number).unabsorbed ≤ (account_of m v.number).book
-  pub machine_after : m' ≡ noting m v.number n
+  pub of_group : group_of v.last ≡ (account_of z v.number).group
+  pub enough : v.fresh + (account_of z v.number).unabsorbed ≤ (account_of z v.number).book
+  pub zone_after : z' ≡ noting z v.number n
   pub view_after : v' ≡ after_report v n
 
 -- a consume that always takes, by the joined seats: the stock has exactly the booked pages that are neither fresh nor
 -- reported
-pub record ConsumesHeld (place before after : ℕ) (m v m' v' : StockView) : Type 0 where
-  pub consumes : Consumes place before after v v'
-  pub of_group : (account_of m v.number).group ≡ Some consumes.group
+pub record ConsumesHeld (index before after : ℕ) (z v z' v' : StockView) : Type 0 where
+  pub consumes : Consumes index before after v v'
+  pub of_group : (account_of z v.number).group ≡ Some consumes.group
   pub has_word : HasWord (HeldBy consumes.group consumes.pages)
-  pub exact : (account_of m v.number).book ≡ pages_of v.last + v.fresh + (account_of m v.number).unabsorbed
-  pub machine_after : m' ≡ m
+  pub exact : (account_of z v.number).book ≡ pages_of v.last + v.fresh + (account_of z v.number).unabsorbed
+  pub zone_after : z' ≡ z
 
--- fill, by the joined seats: p's stock word becomes held by g with n pages; the book was 0 and is n
-pub record Fills (group pages place after : ℕ) (m v m' v' : StockView) : Type 0 where
-  pub at_stock : place ≡ stock_place v.number
+-- fill, by the joined seats: the CPU's stock word becomes held by g with n pages; the book was 0 and is n
+pub record Fills (group pages index after : ℕ) (z v z' v' : StockView) : Type 0 where
+  pub at_stock : index ≡ stock_index v.number
   pub word_after : after ≡ word_of (HeldBy group pages)
-  pub book_before : (account_of m v.number).book ≡ 0
-  pub machine_after : m' ≡ filling m v.number group pages
+  pub book_before : (account_of z v.number).book ≡ 0
+  pub zone_after : z' ≡ filling z v.number group pages
   pub view_after : v' ≡ after_fill v group pages
 
--- drain, by the machine's seat: p's stock word, held by g with n pages or drained of g, becomes drained of g; the book
--- is n less
-pub record Drains (p group place before after : ℕ) (m m' : StockView) : Type 0 where
+-- drain, by the zone's seat: the CPU's stock word, held by g with n pages or drained of g, becomes drained of g; the
+-- book is n less
+pub record Drains (cpu group index before after : ℕ) (z z' : StockView) : Type 0 where
   pub stock : Stock
-  pub at_stock : place ≡ stock_place p
+  pub at_stock : index ≡ stock_index cpu
   pub of_group : group_of stock ≡ Some group
   pub has_word : HasWord stock
   pub word_before : before ≡ word_of stock
   pub word_after : after ≡ word_of (DrainedOf group)
-  pub enough : pages_of stock ≤ (account_of m p).book
-  pub was_held : is_held stock ≡ (account_of m p).filled
-  pub machine_after : m' ≡ with_steps 1 (draining m p (pages_of stock))
+  pub enough : pages_of stock ≤ (account_of z cpu).book
+  pub was_held : is_held stock ≡ (account_of z cpu).filled
+  pub zone_after : z' ≡ with_steps 1 (draining z cpu (pages_of stock))
 
--- the drain of a stock that was never filled, by the machine's seat: p's stock word is 0 and is unchanged
-pub record DrainsNone (p place before after : ℕ) (m m' : StockView) : Type 0 where
-  pub at_stock : place ≡ stock_place p
+-- the drain of a stock that was never filled, by the zone's seat: the CPU's stock word is 0 and is unchanged
+pub record DrainsNone (cpu index before after : ℕ) (z z' : StockView) : Type 0 where
+  pub at_stock : index ≡ stock_index cpu
   pub word_before : before ≡ 0
   pub word_after : after ≡ 0
-  pub never_filled : (account_of m p).group ≡ None
-  pub machine_after : m' ≡ with_steps 1 (draining m p 0)
+  pub never_filled : (account_of z cpu).group ≡ None
+  pub zone_after : z' ≡ with_steps 1 (draining z cpu 0)
 
--- the look of a drain, by the machine's seat: p's stock word is of the group of the last fill, and is unchanged
-pub record LooksAt (p place before after : ℕ) (m m' : StockView) : Type 0 where
+-- the look of a drain, by the zone's seat: the CPU's stock word is of the group of the last fill, and is unchanged
+pub record LooksAt (cpu index before after : ℕ) (z z' : StockView) : Type 0 where
   pub stock : Stock
   pub group : ℕ
-  pub at_stock : place ≡ stock_place p
+  pub at_stock : index ≡ stock_index cpu
   pub of_group : group_of stock ≡ Some group
   pub has_word : HasWord stock
   pub word_before : before ≡ word_of stock
   pub word_after : after ≡ before
-  pub filled_for : (account_of m p).group ≡ Some group
-  pub machine_after : m' ≡ with_steps 1 m
+  pub filled_for : (account_of z cpu).group ≡ Some group
+  pub zone_after : z' ≡ with_steps 1 z
 
--- a look by the joined seats: p's stock word is that of the stock that the book gives, and is unchanged
-pub record SeesStock (place before after : ℕ) (m v m' v' : StockView) : Type 0 where
+-- a look by the joined seats: the CPU's stock word is that of the stock that the book gives, and is unchanged
+pub record SeesStock (index before after : ℕ) (z v z' v' : StockView) : Type 0 where
   pub stock : Stock
-  pub at_stock : place ≡ stock_place v.number
+  pub at_stock : index ≡ stock_index v.number
   pub has_word : HasWord stock
   pub word_before : before ≡ word_of stock
   pub word_after : after ≡ before
-  pub balanced : (account_of m v.number).book ≡ pages_of stock + v.fresh + (account_of m v.number).unabsorbed
-  pub bounded : (account_of m v.number).book < 65536
-  pub of_group : group_of stock ≡ (account_of m v.number).group
-  pub held : is_held stock ≡ (account_of m v.number).filled
+  pub balanced : (account_of z v.number).book ≡ pages_of stock + v.fresh + (account_of z v.number).unabsorbed
+  pub bounded : (account_of z v.number).book < 65536
+  pub of_group : group_of stock ≡ (account_of z v.number).group
+  pub held : is_held stock ≡ (account_of z v.number).filled
   pub last_seen : (stock ≡ v.last) ⊎ (stock ≡ drained_of v.last)
-  pub machine_after : m' ≡ with_steps 1 m
+  pub zone_after : z' ≡ with_steps 1 z
   pub view_after : v' ≡ v
 
--- absorb, by the machine's seat: p's report word, which is the number noted, becomes 0; the book is that much less
-pub record Absorbs (p place before after : ℕ) (m m' : StockView) : Type 0 where
-  pub at_report : place ≡ report_place p
-  pub word_before : before ≡ (account_of m p).unabsorbed
+-- absorb, by the zone's seat: the CPU's report word, which is the number noted, becomes 0; the book is that much less
+pub record Absorbs (cpu index before after : ℕ) (z z' : StockView) : Type 0 where
+  pub at_report : index ≡ report_index cpu
+  pub word_before : before ≡ (account_of z cpu).unabsorbed
   pub word_after : after ≡ 0
-  pub enough : (account_of m p).unabsorbed ≤ (account_of m p).book
-  pub bounded : (account_of m p).book < 65536
-  pub machine_after : m' ≡ with_steps 1 (absorbing m p)
+  pub enough : (account_of z cpu).unabsorbed ≤ (account_of z cpu).book
+  pub bounded : (account_of z cpu).book < 65536
+  pub zone_after : z' ≡ with_steps 1 (absorbing z cpu)
 
--- ---- the views of a place, and the end
+-- ---- the views of a raw seat, and the end
 
--- a seat's place has one view
+-- a raw seat has one view
 abbrev pub IsAlone : List StockView → Type 0
 IsAlone views = views ≡ first_of views ∷ []
 
--- the machine's place has taken in a CPU's: it has its own view, then that one
+-- the zone's raw seat has taken in a CPU's: it has its own view, then that one
 abbrev pub IsPair : List StockView → Type 0
 IsPair views = views ≡ first_of views ∷ second_of views ∷ []
 
 -- the final words of a table of which one seat has these views: the rule holds of them and of all seats' views
 abbrev pub Ends : ℕ → List ℕ → List StockView → Type 0
-Ends cpus words views = (seats : List (List StockView)) × (id : ℕ) × (get_elem? seats id ≡ some views) × StockRule cpus words seats
+Ends cpus words views = (seats : List (List StockView)) × (id : ℕ) × (get_elem? seats id ≡ some views)
+    × StockRule cpus words seats
 
 -- ---- how the steps of a table are read as kinds
 
 -- a step by one seat, with one view
-abbrev pub Alone : {S : Type 0} → (Step S → ℕ → StockView → StockView → Type 0) → Step S → Me S (List StockView) → ℕ → Me S (List StockView) → Type 0
+abbrev pub Alone : {S : Type 0} → (Step S → ℕ → StockView → StockView → Type 0) → Step S → Me S (List StockView) → ℕ
+    → Me S (List StockView) → Type 0
 Alone kind s me found next = (w : StockView) × (next ≡ (w ∷ [], me.1)) × kind s found (first_of me.0) w
 
--- a step by the machine's seat, joined with a CPU's
+-- a step by the zone's seat, joined with a CPU's
 abbrev pub Joined : {S : Type 0} → (Step S → ℕ → StockView → StockView → StockView → StockView → Type 0) → Step S
     → Me S (List StockView) → ℕ → Me S (List StockView) → Type 0
-Joined kind s me found next = (m : StockView) × (v : StockView) × (next ≡ (m ∷ v ∷ [], me.1)) × kind s found (first_of me.0) (second_of me.0) m v
+Joined kind s me found next = (z : StockView) × (v : StockView) × (next ≡ (z ∷ v ∷ [], me.1))
+    × kind s found (first_of me.0) (second_of me.0) z v
 
 -- the exchange of a consume: it took a page, or found the stock drained
 abbrev pub consuming : {S : Type 0} → Step S → ℕ → StockView → StockView → Type 0
-consuming s found v w = (found ≡ s.first → Consumes s.word found s.second v w) × (found ≢ s.first → SeesDrained s.word found found v w)
+consuming s found v w = (found ≡ s.first → Consumes s.word found s.second v w)
+    × (found ≢ s.first → SeesDrained s.word found found v w)
 
 -- the exchange of a credit: it put the page back, or found the stock drained
 abbrev pub crediting : {S : Type 0} → Step S → ℕ → StockView → StockView → Type 0
-crediting s found v w = (found ≡ s.first → Credits s.word found s.second v w) × (found ≢ s.first → SeesDrained s.word found found v w)
+crediting s found v w = (found ≡ s.first → Credits s.word found s.second v w)
+    × (found ≢ s.first → SeesDrained s.word found found v w)
 
 -- the look of a drain: it drained nothing, or saw which group to drain
 abbrev pub looking : {S : Type 0} → Step S → ℕ → StockView → StockView → Type 0
-looking s found m m' = (p : ℕ) → s.word ≡ stock_place p → (found ≡ 0 → DrainsNone p s.word found found m m') × (found ≢ 0 → LooksAt p s.word found found m m')
+looking s found z z' = (cpu : ℕ) → s.word ≡ stock_index cpu
+    → (found ≡ 0 → DrainsNone cpu s.word found found z z') × (found ≢ 0 → LooksAt cpu s.word found found z z')
 
 -- the swap of a drain
 abbrev pub draining_step : {S : Type 0} → Step S → ℕ → StockView → StockView → Type 0
-draining_step s found m m' = (p group : ℕ) → s.word ≡ stock_place p → (account_of m p).group ≡ Some group → Drains p group s.word found s.first m m'
+draining_step s found z z' = (cpu group : ℕ) → s.word ≡ stock_index cpu → (account_of z cpu).group ≡ Some group
+    → Drains cpu group s.word found s.first z z'
 
 -- the swap of an absorb
 abbrev pub absorbing_step : {S : Type 0} → Step S → ℕ → StockView → StockView → Type 0
-absorbing_step s found m m' = (p : ℕ) → s.word ≡ report_place p → Absorbs p s.word found s.first m m'
+absorbing_step s found z z' = (cpu : ℕ) → s.word ≡ report_index cpu → Absorbs cpu s.word found s.first z z'
 
 -- the addition of a report
 abbrev pub reporting_step : {S : Type 0} → Step S → ℕ → StockView → StockView → StockView → StockView → Type 0
-reporting_step s found m v m' v' = Reports s.first s.word found (found + s.first) m v m' v'
+reporting_step s found z v z' v' = Reports s.first s.word found (found + s.first) z v z' v'
 
 -- the look of the joined seats
 abbrev pub seeing_stock : {S : Type 0} → Step S → ℕ → StockView → StockView → StockView → StockView → Type 0
-seeing_stock s found m v m' v' = SeesStock s.word found found m v m' v'
+seeing_stock s found z v z' v' = SeesStock s.word found found z v z' v'
 
 -- the subtraction of a consume that always takes
 abbrev pub consuming_held : {S : Type 0} → Step S → ℕ → StockView → StockView → StockView → StockView → Type 0
-consuming_held s found m v m' v' = ConsumesHeld s.word found (found - s.first) m v m' v'
+consuming_held s found z v z' v' = ConsumesHeld s.word found (found - s.first) z v z' v'
 
 -- the store of a fill
 abbrev pub filling_step : {S : Type 0} → Step S → ℕ → StockView → StockView → StockView → StockView → Type 0
-filling_step s found m v m' v' = (group pages : ℕ) → pages < 65536 → s.first ≡ word_of (HeldBy group pages) → Fills group pages s.word s.first m v m' v'
+filling_step s found z v z' v' = (group pages : ℕ) → pages < 65536 → s.first ≡ word_of (HeldBy group pages)
+    → Fills group pages s.word s.first z v z' v'

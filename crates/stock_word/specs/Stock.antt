@@ -1,5 +1,6 @@
 -- What a stock word says, its encoding, and what a seat knows of the stocks.
-use Rattle.std.specs.Prelude.{◌≡◌, ℕ, zero, suc, ◌+◌, ◌-◌, ◌*◌, ◌<◌, ◌≤◌, Bool, true, false, List, [], ◌∷◌, Option, Some, None}
+use Rattle.std.specs.Prelude.{◌≡◌, ℕ, zero, suc, ◌+◌, ◌-◌, ◌*◌, ◌<◌, ◌≤◌, Bool, true, false, List, [], ◌∷◌, Option}
+use Rattle.std.specs.Prelude.{Some, None}
 use Rattle.atomic_table.specs.Seated.{TableId}
 use Rattle.seat_sums.specs.Totals.{sum_over}
 use Rattle.stock_word.specs.declared.view.Stock.{Stock}
@@ -47,21 +48,21 @@ drained_of (DrainedOf g) = DrainedOf g
 abbrev pub no_account : Account
 no_account = record { book = 0; group = None; filled = false; unabsorbed = 0 }
 
--- the account at p; past the end, that of a CPU whose stock was never filled
+-- the account of this CPU; past the end, that of a CPU whose stock was never filled
 abbrev pub account_at : List Account → ℕ → Account
-account_at [] p = no_account
+account_at [] cpu = no_account
 account_at (a ∷ accounts) zero = a
-account_at (a ∷ accounts) (suc p) = account_at accounts p
+account_at (a ∷ accounts) (suc cpu) = account_at accounts cpu
 
--- the accounts, with this one at p
+-- the accounts, with this one for the CPU
 abbrev pub with_account_at : List Account → ℕ → Account → List Account
 with_account_at [] zero b = b ∷ []
-with_account_at [] (suc p) b = no_account ∷ with_account_at [] p b
+with_account_at [] (suc cpu) b = no_account ∷ with_account_at [] cpu b
 with_account_at (a ∷ accounts) zero b = b ∷ accounts
-with_account_at (a ∷ accounts) (suc p) b = a ∷ with_account_at accounts p b
+with_account_at (a ∷ accounts) (suc cpu) b = a ∷ with_account_at accounts cpu b
 
 -- a seat as contracts see it: its table, and what it knows
-pub record Seated : Type 0 where
+pub record KnownStockSeat : Type 0 where
   pub table : TableId
   pub view : StockView
 
@@ -69,29 +70,29 @@ pub record Seated : Type 0 where
 abbrev pub IsSized : TableId → ℕ → Type 0
 IsSized table cpus = (table.words ≡ 16 * (cpus + 1)) × (table.slots ≡ 0) × (1 ≤ cpus) × (cpus ≤ 64)
 
--- a seat's place at the table: which table, and the views that it has: one, two if it is joined, none if it is empty
+-- a raw seat as contracts see it: which table, and the views that it has: one, two if it is joined, none if it is empty
 pub record KnownRawSeat : Type 0 where
   pub table : TableId
   pub views : List StockView
 
--- the machine's account of CPU p
+-- the zone's account of the CPU
 abbrev pub account_of : StockView → ℕ → Account
-account_of machine p = account_at machine.accounts p
+account_of zone cpu = account_at zone.accounts cpu
 
--- the machine's view with another account of CPU p
+-- the zone's view with another account of the CPU
 abbrev pub with_account : StockView → ℕ → Account → StockView
-with_account machine p account = record machine { accounts = with_account_at machine.accounts p account }
+with_account zone cpu account = record zone { accounts = with_account_at zone.accounts cpu account }
 
--- what the machine's seat knows at first
+-- what the zone's seat knows at first
 abbrev pub first_zone_stock : StockView
 first_zone_stock = record { number = 0; fresh = 0; last = NoGroup; accounts = []; steps = 0 }
 
--- what the seat of CPU p knows at first
-abbrev pub first_processor : ℕ → StockView
-first_processor p = record { number = p; fresh = 0; last = NoGroup; accounts = []; steps = 0 }
+-- what the seat of the CPU knows at first
+abbrev pub first_cpu_stock : ℕ → StockView
+first_cpu_stock cpu = record { number = cpu; fresh = 0; last = NoGroup; accounts = []; steps = 0 }
 
 -- a table as contracts see it: which one it is, and how many CPUs it has
-pub record Words : Type 0 where
+pub record KnownStockTable : Type 0 where
   pub table : TableId
   pub cpus : ℕ
 
@@ -107,51 +108,52 @@ second_alone [] = []
 second_alone (v ∷ []) = []
 second_alone (v ∷ w ∷ views) = w ∷ []
 
--- the CPUs' views at first: `count` of them, from number p on
-abbrev pub first_processors : ℕ → ℕ → List StockView
-first_processors p zero = []
-first_processors p (suc count) = first_processor p ∷ first_processors (p + 1) count
+-- the CPUs' views at first: `count` of them, from this number on
+abbrev pub first_cpu_stocks : ℕ → ℕ → List StockView
+first_cpu_stocks cpu zero = []
+first_cpu_stocks cpu (suc count) = first_cpu_stock cpu ∷ first_cpu_stocks (cpu + 1) count
 
--- the CPUs' seats at first: `count` of them, from number p on
-abbrev pub first_seats : TableId → ℕ → ℕ → List Seated
-first_seats table p zero = []
-first_seats table p (suc count) = record { table = table; view = first_processor p } ∷ first_seats table (p + 1) count
+-- the CPUs' seats at first: `count` of them, from this number on
+abbrev pub first_seats : TableId → ℕ → ℕ → List KnownStockSeat
+first_seats table cpu zero = []
+first_seats table cpu (suc count) = record { table = table; view = first_cpu_stock cpu }
+    ∷ first_seats table (cpu + 1) count
 
 -- the seats are all of this table
-abbrev pub AreOf : TableId → List Seated → Type 0
+abbrev pub AreOf : TableId → List KnownStockSeat → Type 0
 AreOf table [] = Unit {0}
 AreOf table (seat ∷ seats) = (seat.table ≡ table) × AreOf table seats
 
--- the view of the seat at place k of a list
-abbrev pub view_in : List Seated → ℕ → StockView
+-- the view of the seat at index k of a list
+abbrev pub view_in : List KnownStockSeat → ℕ → StockView
 view_in [] k = first_zone_stock
 view_in (seat ∷ seats) zero = seat.view
 view_in (seat ∷ seats) (suc k) = view_in seats k
 
 -- the views of a list of seats
-abbrev pub views_of : List Seated → List StockView
+abbrev pub views_of : List KnownStockSeat → List StockView
 views_of [] = []
 views_of (seat ∷ seats) = seat.view ∷ views_of seats
 
--- the first of a seat's views; if there is none, what the machine's seat knows at first
+-- the first of a seat's views; if there is none, what the zone's seat knows at first
 abbrev pub first_of : List StockView → StockView
 first_of [] = first_zone_stock
 first_of (v ∷ views) = v
 
--- the second view of joined seats; if there is none, what the machine's seat knows at first
+-- the second view of joined seats; if there is none, what the zone's seat knows at first
 abbrev pub second_of : List StockView → StockView
 second_of [] = first_zone_stock
 second_of (v ∷ views) = first_of views
 
--- the machine's account of the CPU that has this view
+-- the zone's account of the CPU that has this view
 abbrev pub account_for : StockView → StockView → Account
-account_for machine view = account_of machine view.number
+account_for zone view = account_of zone view.number
 
 -- the pages that the CPU's stock has by the book: those that are neither fresh nor reported
 abbrev pub stocked : StockView → StockView → ℕ
-stocked machine view = (account_for machine view).book - view.fresh - (account_for machine view).unabsorbed
+stocked zone view = (account_for zone view).book - view.fresh - (account_for zone view).unabsorbed
 
--- What a seat stores beside its place in the table: the number and the last stock of its one view. A CPU that never saw
+-- What a seat stores beside its raw seat: the number and the last stock of its one view. A CPU that never saw
 -- a stock has no fresh page.
 pub record IsKept (views : List StockView) (number : ℕ) (last : Stock) : Type 0 where
   pub one_view : views ≡ first_of views ∷ []
@@ -161,8 +163,8 @@ pub record IsKept (views : List StockView) (number : ℕ) (last : Stock) : Type 
   pub none_fresh : last ≡ NoGroup → (first_of views).fresh ≡ 0
 
 -- the view is that of a seat of one of these CPUs
-abbrev pub IsProcessor : Words → StockView → Type 0
-IsProcessor words view = (0 < view.number) × (view.number ≤ words.cpus)
+abbrev pub IsCpuStock : KnownStockTable → StockView → Type 0
+IsCpuStock words view = (0 < view.number) × (view.number ≤ words.cpus)
 
 -- the view is that of the zone's seat, whose number is 0
 abbrev pub IsZoneStock : StockView → Type 0
@@ -172,12 +174,13 @@ IsZoneStock view = view.number ≡ 0
 abbrev pub StartsAs : ℕ → StockView → Type 0
 StartsAs number view = (view.number ≡ number) × (view.last ≡ NoGroup) × (view.fresh ≡ 0)
 
--- these views are the machine's and those of the seats, in any order: any function of one view has the same sum over
+-- these views are the zone's and those of the seats, in any order: any function of one view has the same sum over
 -- both
-abbrev pub Gathers : StockView → List Seated → List StockView → Type 0
-Gathers machine seats views = (f : StockView → ℕ) → sum_over f views ≡ f machine + sum_over f (views_of seats)
+abbrev pub Gathers : StockView → List KnownStockSeat → List StockView → Type 0
+Gathers zone seats views = (f : StockView → ℕ) → sum_over f views ≡ f zone + sum_over f (views_of seats)
 
 -- The stock of a CPU may be filled: it was never filled or was drained since, and the CPU has no fresh page and no
 -- reported page that isn't absorbed.
 abbrev pub IsSettled : StockView → StockView → Type 0
-IsSettled machine view = ((account_of machine view.number).filled ≡ false) × (view.fresh ≡ 0) × ((account_of machine view.number).unabsorbed ≡ 0)
+IsSettled zone view = ((account_of zone view.number).filled ≡ false) × (view.fresh ≡ 0)
+    × ((account_of zone view.number).unabsorbed ≡ 0)

@@ -6,13 +6,13 @@ use Rattle.stock_word.specs.declared.view.Account.{Account}
 use Rattle.stock_word.specs.declared.view.StockView.{StockView}
 use Rattle.stock_word.specs.Stock.{word_of, HasWord, pages_of, group_of, is_held, drained_of, account_of}
 
--- the place of CPU p's stock word
-abbrev pub stock_place : ℕ → ℕ
-stock_place p = 16 * p
+-- the index of the CPU's stock word
+abbrev pub stock_index : ℕ → ℕ
+stock_index cpu = 16 * cpu
 
--- the place of CPU p's report word, next to its stock word
-abbrev pub report_place : ℕ → ℕ
-report_place p = 16 * p + 1
+-- the index of the CPU's report word, next to its stock word
+abbrev pub report_index : ℕ → ℕ
+report_index cpu = 16 * cpu + 1
 
 -- f of a view of seat number q, and 0 for any other view
 abbrev pub at_seat : ℕ → (StockView → ℕ) → StockView → ℕ
@@ -23,7 +23,7 @@ at_seat q f view = cond (view.number == q) (f view) 0
 abbrev pub IsOnly : List (List StockView) → ℕ → StockView → Type 0
 IsOnly seats q view = (f : StockView → ℕ) → total_over (at_seat q f) seats ≡ f view
 
--- what holds of a CPU's stock word and report word, the machine's account of it, and the CPU's view
+-- what holds of a CPU's stock word and report word, the zone's account of it, and the CPU's view
 pub record IsStock (word report : ℕ) (account : Account) (view : StockView) : Type 0 where
   pub stock : Stock
   pub encoded : word ≡ word_of stock
@@ -42,20 +42,21 @@ pub record IsStock (word report : ℕ) (account : Account) (view : StockView) : 
   pub last_seen : (stock ≡ view.last) ⊎ (stock ≡ drained_of view.last)
   pub last_word : HasWord view.last
 
--- the words of CPU p agree with the machine's view and the CPU's
+-- the words of the CPU agree with the zone's view and the CPU's
 abbrev pub IsStockOf : List ℕ → ℕ → StockView → StockView → Type 0
-IsStockOf words p machine view = IsStock (slice_index words (stock_place p)) (slice_index words (report_place p)) (account_of machine p) view
+IsStockOf words cpu zone view = IsStock (slice_index words (stock_index cpu)) (slice_index words (report_index cpu))
+    (account_of zone cpu) view
 
--- CPU p has one seat, whose view agrees with its words, together with the machine's
-pub record HoldsAt (words : List ℕ) (seats : List (List StockView)) (machine : StockView) (p : ℕ) : Type 0 where
+-- the CPU has one seat, whose view agrees with its words, together with the zone's
+pub record HoldsAt (words : List ℕ) (seats : List (List StockView)) (zone : StockView) (cpu : ℕ) : Type 0 where
   pub view : StockView
-  pub only : IsOnly seats p view
-  pub stock : IsStockOf words p machine view
+  pub only : IsOnly seats cpu view
+  pub stock : IsStockOf words cpu zone view
 
--- each CPU and the machine have one view, there is no other, and the views agree with the words
+-- each CPU and the zone have one view, there is no other, and the views agree with the words
 pub record StockRule (cpus : ℕ) (words : List ℕ) (seats : List (List StockView)) : Type 0 where
   pub rows : length words ≡ 16 * (cpus + 1)
-  pub machine : StockView
-  pub only : IsOnly seats 0 machine
-  pub each : (p : ℕ) → 0 < p → p ≤ cpus → HoldsAt words seats machine p
+  pub zone : StockView
+  pub only : IsOnly seats 0 zone
+  pub each : (cpu : ℕ) → 0 < cpu → cpu ≤ cpus → HoldsAt words seats zone cpu
   pub no_more : total_over (λ (v : StockView). 1) seats ≡ cpus + 1

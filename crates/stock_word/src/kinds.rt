@@ -1,5 +1,5 @@
 //! The table of kinds: every atomic step that this crate can make. This file and `specs/Kinds.antt` are a definition,
-//! read as one. The table's words and a seat's place at it are private to this file. It has one function for each kind
+//! read as one. The table's words and its seats are private to this file. It has one function for each kind
 //! of step, and a reader of the size. So `consume`, `credit`, `report`, `fill`, `drain`, `absorb` and `close` are made
 //! of these, and no code outside can make a step of another kind.
 //!
@@ -10,13 +10,15 @@
 ghost use Rattle.std.specs.Prelude.{◌≡◌, ◌≢◌, ◌*◌, ◌+◌, ◌-◌, ◌<◌, ◌≤◌, false, [], ◌∷◌, ◌++◌, Some, IfOk};
 ghost use Rattle.std.specs.Mem.Slots.{slots_items, slots_len, IsFull};
 ghost use Rattle.stock_word.specs.declared.view.Stock.TheVariants.{HeldBy, DrainedOf};
-ghost use Rattle.stock_word.specs.Stock.{Words, KnownRawSeat, IsSized, HasWord, word_of, IsProcessor, IsZoneStock, account_of, account_for, stocked, IsSettled};
-ghost use Rattle.stock_word.specs.Stock.{first_of, second_of, first_zone_stock, first_processors, without_second, second_alone};
-ghost use Rattle.stock_word.specs.Kinds.{IsAlone, IsPair, Ends, Consumes, Credits, SeesDrained, Reports, ConsumesHeld, Fills, SeesStock};
-ghost use Rattle.stock_word.specs.Kinds.{DrainsNone, LooksAt, Drains, Absorbs, Alone, Joined, consuming, crediting, looking, draining_step};
-ghost use Rattle.stock_word.specs.Kinds.{absorbing_step, reporting_step, consuming_held, filling_step, seeing_stock};
+ghost use Rattle.stock_word.specs.Stock.{KnownStockTable, KnownRawSeat, IsSized, HasWord, word_of, IsCpuStock};
+ghost use Rattle.stock_word.specs.Stock.{IsZoneStock, account_of, account_for, stocked, IsSettled, first_of, second_of};
+ghost use Rattle.stock_word.specs.Stock.{first_zone_stock, first_cpu_stocks, without_second, second_alone};
+ghost use Rattle.stock_word.specs.Kinds.{IsAlone, IsPair, Ends, Consumes, Credits, SeesDrained, Reports, ConsumesHeld};
+ghost use Rattle.stock_word.specs.Kinds.{Fills, SeesStock, DrainsNone, LooksAt, Drains, Absorbs, Alone, Joined};
+ghost use Rattle.stock_word.specs.Kinds.{consuming, crediting, looking, draining_step, absorbing_step, reporting_step};
+ghost use Rattle.stock_word.specs.Kinds.{consuming_held, filling_step, seeing_stock};
 ghost use Rattle.stock_word.specs.StockRule as rule;
-ghost use Rattle.stock_word.specs.StockRule.{stock_place as place_of_stock, report_place as place_of_report};
+ghost use Rattle.stock_word.specs.StockRule.{stock_index as index_of_stock, report_index as index_of_report};
 
 use crate::view::{Stock, StockView};
 use atomic_table::{Closed, Join, Play, Seat, Split, Table, TableRule};
@@ -33,7 +35,7 @@ pub struct StockRule;
 impl TableRule<(), Views, u32> for StockRule {
     ghost holds = { λ cpus s. rule.StockRule cpus s.words s.views };
 
-    ghost first = { λ cpus. first_zone_stock ∷ first_processors 1 cpus };
+    ghost first = { λ cpus. first_zone_stock ∷ first_cpu_stocks 1 cpus };
 }
 
 /// The stock words and report words of all CPUs, which are numbered from 1. A contract sees which table it is and the
@@ -44,14 +46,15 @@ pub struct StockWords {
 }
 
 impl Model for StockWords {
-    ghost Value = { Words };
+    ghost Value = { KnownStockTable };
 
     ghost view = { λ t. record { table = t.table.shared.table_id; cpus = t.table.shared.key } };
 
     ghost invariant = { λ t. IsSized t.table.shared.table_id t.table.shared.key };
 }
 
-/// A seat's place at the table. A contract sees the table that it belongs to and its views.
+/// A seat of the table, without what a `StockSeat` stores beside it. A contract sees the table that it belongs to and
+/// its views.
 #[derive(Drop)]
 pub(crate) struct RawSeat {
     seat: Seat<(), Views>,
@@ -60,23 +63,23 @@ pub(crate) struct RawSeat {
 impl Model for RawSeat {
     ghost Value = { KnownRawSeat };
 
-    ghost view = { λ p. record { table = p.seat.table_id; views = p.seat.me.0 } };
+    ghost view = { λ raw. record { table = raw.seat.table_id; views = raw.seat.me.0 } };
 
-    ghost invariant = { λ p. p.seat.me.1 ≡ [] };
+    ghost invariant = { λ raw. raw.seat.me.1 ≡ [] };
 }
 
-/// The place of a CPU's stock word: word 0 of its row of sixteen.
-pub(crate) fn stock_place(number: u32) -> usize
-    ensures { result ≡ 16 * number }
+/// The index of a CPU's stock word: word 0 of its row of sixteen.
+pub(crate) fn stock_index(cpu: u32) -> usize
+    ensures { result ≡ 16 * cpu }
 {
-    16 * number as usize
+    16 * cpu as usize
 }
 
-/// The place of a CPU's report word: word 1 of its row of sixteen.
-pub(crate) fn report_place(number: u32) -> usize
-    ensures { result ≡ 16 * number + 1 }
+/// The index of a CPU's report word: word 1 of its row of sixteen.
+pub(crate) fn report_index(cpu: u32) -> usize
+    ensures { result ≡ 16 * cpu + 1 }
 {
-    stock_place(number) + 1
+    stock_index(cpu) + 1
 }
 
 // ---- what each step learns
@@ -176,201 +179,198 @@ impl StockWords {
 
 impl StockWords {
     /// Consume: the stock word of the CPU goes from the stock that it saw last to one page less, or is found drained.
-    pub(crate) fn step_consume(
-        &self,
-        place: &mut RawSeat,
-        number: u32,
-        group: u32,
-        pages: u32,
-    ) -> u64
-        requires table { place.old.table ≡ self.now.table }
-        requires alone { IsAlone place.old.views }
-        requires number { number ≡ (first_of place.old.views).number }
-        requires processor { IsProcessor self.now (first_of place.old.views) }
-        requires last { (first_of place.old.views).last ≡ HeldBy group pages }
+    pub(crate) fn step_consume(&self, raw: &mut RawSeat, cpu: u32, group: u32, pages: u32) -> u64
+        requires table { raw.old.table ≡ self.now.table }
+        requires alone { IsAlone raw.old.views }
+        requires number { cpu ≡ (first_of raw.old.views).number }
+        requires cpu { IsCpuStock self.now (first_of raw.old.views) }
+        requires last { (first_of raw.old.views).last ≡ HeldBy group pages }
         requires page { 0 < pages }
         requires has_word { HasWord (HeldBy group pages) }
-        ensures table { place.new.table ≡ place.old.table }
-        ensures alone { IsAlone place.new.views }
+        ensures table { raw.new.table ≡ raw.old.table }
+        ensures alone { IsAlone raw.new.views }
         ensures took { result ≡ word_of (HeldBy group pages)
-            → Consumes (place_of_stock number) result (word_of (HeldBy group (pages - 1))) (first_of place.old.views) (first_of place.new.views) }
+            → Consumes (index_of_stock cpu) result (word_of (HeldBy group (pages - 1))) (first_of raw.old.views)
+            (first_of raw.new.views) }
         ensures drained { result ≢ word_of (HeldBy group pages)
-            → SeesDrained (place_of_stock number) result result (first_of place.old.views) (first_of place.new.views) }
+            → SeesDrained (index_of_stock cpu) result result (first_of raw.old.views) (first_of raw.new.views) }
     {
         let word = Stock::HeldBy { group, pages }.word();
         let left = Stock::HeldBy {
             group,
             pages: pages - 1,
         };
-        let at = stock_place(number);
+        let at = stock_index(cpu);
         self.table
             .shared
-            .compare_exchange::<Consuming>(&mut place.seat, at, word, left.word())
+            .compare_exchange::<Consuming>(&mut raw.seat, at, word, left.word())
     }
 
     /// Credit: the stock word of the CPU goes from the stock that it saw last to one page more, or is found drained.
-    pub(crate) fn step_credit(
-        &self,
-        place: &mut RawSeat,
-        number: u32,
-        group: u32,
-        pages: u32,
-    ) -> u64
-        requires table { place.old.table ≡ self.now.table }
-        requires alone { IsAlone place.old.views }
-        requires number { number ≡ (first_of place.old.views).number }
-        requires processor { IsProcessor self.now (first_of place.old.views) }
-        requires last { (first_of place.old.views).last ≡ HeldBy group pages }
-        requires fresh { 0 < (first_of place.old.views).fresh }
+    pub(crate) fn step_credit(&self, raw: &mut RawSeat, cpu: u32, group: u32, pages: u32) -> u64
+        requires table { raw.old.table ≡ self.now.table }
+        requires alone { IsAlone raw.old.views }
+        requires number { cpu ≡ (first_of raw.old.views).number }
+        requires cpu { IsCpuStock self.now (first_of raw.old.views) }
+        requires last { (first_of raw.old.views).last ≡ HeldBy group pages }
+        requires fresh { 0 < (first_of raw.old.views).fresh }
         requires has_word { HasWord (HeldBy group pages) }
-        ensures table { place.new.table ≡ place.old.table }
-        ensures alone { IsAlone place.new.views }
+        ensures table { raw.new.table ≡ raw.old.table }
+        ensures alone { IsAlone raw.new.views }
         ensures back { result ≡ word_of (HeldBy group pages)
-            → Credits (place_of_stock number) result (word_of (HeldBy group (pages + 1))) (first_of place.old.views) (first_of place.new.views) }
+            → Credits (index_of_stock cpu) result (word_of (HeldBy group (pages + 1))) (first_of raw.old.views)
+            (first_of raw.new.views) }
         ensures drained { result ≢ word_of (HeldBy group pages)
-            → SeesDrained (place_of_stock number) result result (first_of place.old.views) (first_of place.new.views) }
+            → SeesDrained (index_of_stock cpu) result result (first_of raw.old.views) (first_of raw.new.views) }
     {
         let word = Stock::HeldBy { group, pages }.word();
         let more = Stock::HeldBy {
             group,
             pages: pages + 1,
         };
-        let at = stock_place(number);
+        let at = stock_index(cpu);
         self.table
             .shared
-            .compare_exchange::<Crediting>(&mut place.seat, at, word, more.word())
+            .compare_exchange::<Crediting>(&mut raw.seat, at, word, more.word())
     }
 }
 
-// ---- the machine's steps
+// ---- the zone's steps
 
 impl StockWords {
     /// The look of a drain: the stock was never filled, or is of the group of its last fill.
-    pub(crate) fn step_look(&self, place: &mut RawSeat, p: u32) -> u64
-        requires table { place.old.table ≡ self.now.table }
-        requires alone { IsAlone place.old.views }
-        requires machine { IsZoneStock (first_of place.old.views) }
-        requires processor { (0 < p) × (p ≤ self.now.cpus) }
-        ensures table { place.new.table ≡ place.old.table }
-        ensures alone { IsAlone place.new.views }
-        ensures none { result ≡ 0 → DrainsNone p (place_of_stock p) result result (first_of place.old.views) (first_of place.new.views) }
-        ensures some { result ≢ 0 → LooksAt p (place_of_stock p) result result (first_of place.old.views) (first_of place.new.views) }
+    pub(crate) fn step_look(&self, raw: &mut RawSeat, cpu: u32) -> u64
+        requires table { raw.old.table ≡ self.now.table }
+        requires alone { IsAlone raw.old.views }
+        requires zone { IsZoneStock (first_of raw.old.views) }
+        requires cpu { (0 < cpu) × (cpu ≤ self.now.cpus) }
+        ensures table { raw.new.table ≡ raw.old.table }
+        ensures alone { IsAlone raw.new.views }
+        ensures none { result ≡ 0 → DrainsNone cpu (index_of_stock cpu) result result (first_of raw.old.views)
+            (first_of raw.new.views) }
+        ensures some { result ≢ 0 → LooksAt cpu (index_of_stock cpu) result result (first_of raw.old.views)
+            (first_of raw.new.views) }
     {
-        let at = stock_place(p);
-        self.table.shared.load::<Looking>(&mut place.seat, at)
+        let at = stock_index(cpu);
+        self.table.shared.load::<Looking>(&mut raw.seat, at)
     }
 
     /// Drain: the stock word, whatever it is, becomes drained of the group of the last fill.
-    pub(crate) fn step_drain(&self, place: &mut RawSeat, p: u32, group: u32) -> u64
-        requires table { place.old.table ≡ self.now.table }
-        requires alone { IsAlone place.old.views }
-        requires machine { IsZoneStock (first_of place.old.views) }
-        requires processor { (0 < p) × (p ≤ self.now.cpus) }
-        requires group { (account_of (first_of place.old.views) p).group ≡ Some group }
+    pub(crate) fn step_drain(&self, raw: &mut RawSeat, cpu: u32, group: u32) -> u64
+        requires table { raw.old.table ≡ self.now.table }
+        requires alone { IsAlone raw.old.views }
+        requires zone { IsZoneStock (first_of raw.old.views) }
+        requires cpu { (0 < cpu) × (cpu ≤ self.now.cpus) }
+        requires group { (account_of (first_of raw.old.views) cpu).group ≡ Some group }
         requires fits { group < 64 }
-        ensures table { place.new.table ≡ place.old.table }
-        ensures alone { IsAlone place.new.views }
-        ensures kind { Drains p group (place_of_stock p) result (word_of (DrainedOf group)) (first_of place.old.views) (first_of place.new.views) }
+        ensures table { raw.new.table ≡ raw.old.table }
+        ensures alone { IsAlone raw.new.views }
+        ensures kind { Drains cpu group (index_of_stock cpu) result (word_of (DrainedOf group)) (first_of raw.old.views)
+            (first_of raw.new.views) }
     {
         let drained = Stock::DrainedOf { group };
-        let at = stock_place(p);
+        let at = stock_index(cpu);
         self.table
             .shared
-            .swap::<Draining>(&mut place.seat, at, drained.word())
+            .swap::<Draining>(&mut raw.seat, at, drained.word())
     }
 
     /// Absorb: the report word becomes 0.
-    pub(crate) fn step_absorb(&self, place: &mut RawSeat, p: u32) -> u64
-        requires table { place.old.table ≡ self.now.table }
-        requires alone { IsAlone place.old.views }
-        requires machine { IsZoneStock (first_of place.old.views) }
-        requires processor { (0 < p) × (p ≤ self.now.cpus) }
-        ensures table { place.new.table ≡ place.old.table }
-        ensures alone { IsAlone place.new.views }
-        ensures kind { Absorbs p (place_of_report p) result 0 (first_of place.old.views) (first_of place.new.views) }
+    pub(crate) fn step_absorb(&self, raw: &mut RawSeat, cpu: u32) -> u64
+        requires table { raw.old.table ≡ self.now.table }
+        requires alone { IsAlone raw.old.views }
+        requires zone { IsZoneStock (first_of raw.old.views) }
+        requires cpu { (0 < cpu) × (cpu ≤ self.now.cpus) }
+        ensures table { raw.new.table ≡ raw.old.table }
+        ensures alone { IsAlone raw.new.views }
+        ensures kind { Absorbs cpu (index_of_report cpu) result 0 (first_of raw.old.views) (first_of raw.new.views) }
     {
-        let at = report_place(p);
-        self.table.shared.swap::<Absorbing>(&mut place.seat, at, 0)
+        let at = report_index(cpu);
+        self.table.shared.swap::<Absorbing>(&mut raw.seat, at, 0)
     }
 }
 
-// ---- the steps of the machine's seat, joined with the seat of CPU `number`
+// ---- the steps of the zone's seat, joined with the seat of CPU `cpu`
 
 impl StockWords {
-    /// Report: `n` pages more in the report word.
-    pub(crate) fn step_report(&self, place: &mut RawSeat, number: u32, n: u32) -> u64
-        requires table { place.old.table ≡ self.now.table }
-        requires pair { IsPair place.old.views }
-        requires number { number ≡ (second_of place.old.views).number }
-        requires machine { IsZoneStock (first_of place.old.views) }
-        requires processor { IsProcessor self.now (second_of place.old.views) }
-        requires fresh { n ≤ (second_of place.old.views).fresh }
-        ensures table { place.new.table ≡ place.old.table }
-        ensures pair { IsPair place.new.views }
-        ensures kind { Reports n (place_of_report number) result (result + n)
-            (first_of place.old.views) (second_of place.old.views) (first_of place.new.views) (second_of place.new.views) }
+    /// Report: this many pages more in the report word.
+    pub(crate) fn step_report(&self, raw: &mut RawSeat, cpu: u32, pages: u32) -> u64
+        requires table { raw.old.table ≡ self.now.table }
+        requires pair { IsPair raw.old.views }
+        requires number { cpu ≡ (second_of raw.old.views).number }
+        requires zone { IsZoneStock (first_of raw.old.views) }
+        requires cpu { IsCpuStock self.now (second_of raw.old.views) }
+        requires fresh { pages ≤ (second_of raw.old.views).fresh }
+        ensures table { raw.new.table ≡ raw.old.table }
+        ensures pair { IsPair raw.new.views }
+        ensures kind { Reports pages (index_of_report cpu) result (result + pages)
+            (first_of raw.old.views) (second_of raw.old.views) (first_of raw.new.views)
+            (second_of raw.new.views) }
     {
-        let at = report_place(number);
+        let at = report_index(cpu);
         self.table
             .shared
-            .fetch_add::<Reporting>(&mut place.seat, at, u64::from(n))
+            .fetch_add::<Reporting>(&mut raw.seat, at, u64::from(pages))
     }
 
     /// A consume that always takes: one page less in the stock word.
-    pub(crate) fn step_consume_held(&self, place: &mut RawSeat, number: u32, group: u32) -> u64
-        requires table { place.old.table ≡ self.now.table }
-        requires pair { IsPair place.old.views }
-        requires number { number ≡ (second_of place.old.views).number }
-        requires machine { IsZoneStock (first_of place.old.views) }
-        requires processor { IsProcessor self.now (second_of place.old.views) }
-        requires group { (account_for (first_of place.old.views) (second_of place.old.views)).group ≡ Some group }
-        requires page { 0 < stocked (first_of place.old.views) (second_of place.old.views) }
-        ensures table { place.new.table ≡ place.old.table }
-        ensures pair { IsPair place.new.views }
-        ensures kind { ConsumesHeld (place_of_stock number) result (result - 1)
-            (first_of place.old.views) (second_of place.old.views) (first_of place.new.views) (second_of place.new.views) }
+    pub(crate) fn step_consume_held(&self, raw: &mut RawSeat, cpu: u32, group: u32) -> u64
+        requires table { raw.old.table ≡ self.now.table }
+        requires pair { IsPair raw.old.views }
+        requires number { cpu ≡ (second_of raw.old.views).number }
+        requires zone { IsZoneStock (first_of raw.old.views) }
+        requires cpu { IsCpuStock self.now (second_of raw.old.views) }
+        requires group { (account_for (first_of raw.old.views) (second_of raw.old.views)).group ≡ Some group }
+        requires page { 0 < stocked (first_of raw.old.views) (second_of raw.old.views) }
+        ensures table { raw.new.table ≡ raw.old.table }
+        ensures pair { IsPair raw.new.views }
+        ensures kind { ConsumesHeld (index_of_stock cpu) result (result - 1)
+            (first_of raw.old.views) (second_of raw.old.views) (first_of raw.new.views)
+            (second_of raw.new.views) }
     {
-        let at = stock_place(number);
+        let at = stock_index(cpu);
         self.table
             .shared
-            .fetch_sub::<ConsumingHeld>(&mut place.seat, at, 1)
+            .fetch_sub::<ConsumingHeld>(&mut raw.seat, at, 1)
     }
 
     /// Fill: the stock word, whose stock has no page, becomes held by `group` with `pages`.
-    pub(crate) fn step_fill(&self, place: &mut RawSeat, number: u32, group: u32, pages: u32)
-        requires table { place.old.table ≡ self.now.table }
-        requires pair { IsPair place.old.views }
-        requires number { number ≡ (second_of place.old.views).number }
-        requires machine { IsZoneStock (first_of place.old.views) }
-        requires processor { IsProcessor self.now (second_of place.old.views) }
+    pub(crate) fn step_fill(&self, raw: &mut RawSeat, cpu: u32, group: u32, pages: u32)
+        requires table { raw.old.table ≡ self.now.table }
+        requires pair { IsPair raw.old.views }
+        requires number { cpu ≡ (second_of raw.old.views).number }
+        requires zone { IsZoneStock (first_of raw.old.views) }
+        requires cpu { IsCpuStock self.now (second_of raw.old.views) }
         requires has_word { HasWord (HeldBy group pages) }
-        requires settled { IsSettled (first_of place.old.views) (second_of place.old.views) }
-        ensures table { place.new.table ≡ place.old.table }
-        ensures pair { IsPair place.new.views }
-        ensures kind { Fills group pages (place_of_stock number) (word_of (HeldBy group pages))
-            (first_of place.old.views) (second_of place.old.views) (first_of place.new.views) (second_of place.new.views) }
+        requires settled { IsSettled (first_of raw.old.views) (second_of raw.old.views) }
+        ensures table { raw.new.table ≡ raw.old.table }
+        ensures pair { IsPair raw.new.views }
+        ensures kind { Fills group pages (index_of_stock cpu) (word_of (HeldBy group pages))
+            (first_of raw.old.views) (second_of raw.old.views) (first_of raw.new.views)
+            (second_of raw.new.views) }
     {
         let held = Stock::HeldBy { group, pages };
-        let at = stock_place(number);
+        let at = stock_index(cpu);
         self.table
             .shared
-            .store::<Filling>(&mut place.seat, at, held.word());
+            .store::<Filling>(&mut raw.seat, at, held.word());
     }
 
     /// A look: the stock word is that of the stock that the book gives.
-    pub(crate) fn step_see(&self, place: &mut RawSeat, number: u32) -> u64
-        requires table { place.old.table ≡ self.now.table }
-        requires pair { IsPair place.old.views }
-        requires number { number ≡ (second_of place.old.views).number }
-        requires machine { IsZoneStock (first_of place.old.views) }
-        requires processor { IsProcessor self.now (second_of place.old.views) }
-        ensures table { place.new.table ≡ place.old.table }
-        ensures pair { IsPair place.new.views }
-        ensures kind { SeesStock (place_of_stock number) result result
-            (first_of place.old.views) (second_of place.old.views) (first_of place.new.views) (second_of place.new.views) }
+    pub(crate) fn step_see(&self, raw: &mut RawSeat, cpu: u32) -> u64
+        requires table { raw.old.table ≡ self.now.table }
+        requires pair { IsPair raw.old.views }
+        requires number { cpu ≡ (second_of raw.old.views).number }
+        requires zone { IsZoneStock (first_of raw.old.views) }
+        requires cpu { IsCpuStock self.now (second_of raw.old.views) }
+        ensures table { raw.new.table ≡ raw.old.table }
+        ensures pair { IsPair raw.new.views }
+        ensures kind { SeesStock (index_of_stock cpu) result result
+            (first_of raw.old.views) (second_of raw.old.views) (first_of raw.new.views)
+            (second_of raw.new.views) }
     {
-        let at = stock_place(number);
-        self.table.shared.load::<SeeingStock>(&mut place.seat, at)
+        let at = stock_index(cpu);
+        self.table.shared.load::<SeeingStock>(&mut raw.seat, at)
     }
 }
 
@@ -381,7 +381,8 @@ impl StockWords {
     pub(crate) fn begin(alloc: Global, cpus: u32) -> Result<(StockWords, RawSeat), AllocError>
         requires { (1 ≤ cpus) × (cpus ≤ 64) }
         ensures cpus { IfOk result (λ r. r.0.cpus ≡ cpus) }
-        ensures all { IfOk result (λ r. r.1 ≡ record { table = r.0.table; views = first_zone_stock ∷ first_processors 1 cpus }) }
+        ensures all { IfOk result (λ r. r.1
+            ≡ record { table = r.0.table; views = first_zone_stock ∷ first_cpu_stocks 1 cpus }) }
     {
         let words = vec![in alloc; 0u64; 16 * (cpus as usize + 1)]?;
         let (table, seat) = Table::of_words(alloc, words.as_slice(), &cpus)?;
@@ -389,44 +390,44 @@ impl StockWords {
     }
 
     /// Ends the table. The rule holds of its words and all views, those of this seat among them.
-    pub(crate) fn end(self, place: RawSeat) -> Closed<(), Global>
-        requires table { place.table ≡ self.table }
+    pub(crate) fn end(self, raw: RawSeat) -> Closed<(), Global>
+        requires table { raw.table ≡ self.table }
         ensures full { IsFull result.words × (slots_len result.slots ≡ 0) }
-        ensures rule { Ends self.cpus (slots_items result.words) place.views }
+        ensures rule { Ends self.cpus (slots_items result.words) raw.views }
     {
         let StockWords { table } = self;
-        let RawSeat { seat } = place;
+        let RawSeat { seat } = raw;
         table.close_with(seat)
     }
 
     /// An empty seat, split off a seat that keeps its views.
-    pub(crate) fn split_empty(&self, place: &mut RawSeat) -> RawSeat
-        requires table { place.old.table ≡ self.now.table }
-        ensures kept { place.new ≡ place.old }
+    pub(crate) fn split_empty(&self, raw: &mut RawSeat) -> RawSeat
+        requires table { raw.old.table ≡ self.now.table }
+        ensures kept { raw.new ≡ raw.old }
         ensures empty { result ≡ record { table = self.now.table; views = [] } }
     {
         RawSeat {
-            seat: self.table.shared.split_seat::<Nothing>(&mut place.seat),
+            seat: self.table.shared.split_seat::<Nothing>(&mut raw.seat),
         }
     }
 
     /// The seat's second view, split off into a seat of its own.
-    pub(crate) fn split_second(&self, place: &mut RawSeat) -> RawSeat
-        requires table { place.old.table ≡ self.now.table }
-        ensures rest { place.new ≡ record { table = self.now.table; views = without_second place.old.views } }
-        ensures second { result ≡ record { table = self.now.table; views = second_alone place.old.views } }
+    pub(crate) fn split_second(&self, raw: &mut RawSeat) -> RawSeat
+        requires table { raw.old.table ≡ self.now.table }
+        ensures rest { raw.new ≡ record { table = self.now.table; views = without_second raw.old.views } }
+        ensures second { result ≡ record { table = self.now.table; views = second_alone raw.old.views } }
     {
         RawSeat {
-            seat: self.table.shared.split_seat::<Second>(&mut place.seat),
+            seat: self.table.shared.split_seat::<Second>(&mut raw.seat),
         }
     }
 
     /// The seat takes in the views of another one.
-    pub(crate) fn join_place(&self, place: &mut RawSeat, other: RawSeat)
-        requires tables { (place.old.table ≡ self.now.table) × (other.table ≡ self.now.table) }
-        ensures both { place.new ≡ record { table = self.now.table; views = place.old.views ++ other.views } }
+    pub(crate) fn join_raw(&self, raw: &mut RawSeat, other: RawSeat)
+        requires tables { (raw.old.table ≡ self.now.table) × (other.table ≡ self.now.table) }
+        ensures both { raw.new ≡ record { table = self.now.table; views = raw.old.views ++ other.views } }
     {
         let RawSeat { seat } = other;
-        self.table.shared.join_seat::<Both>(&mut place.seat, seat);
+        self.table.shared.join_seat::<Both>(&mut raw.seat, seat);
     }
 }

@@ -1,8 +1,8 @@
 //! Pages prepaid for a CPU: a stock word and a report word for each, changed by single atomic steps. The CPU pays from
-//! its stock without a lock. The machine's seat fills it, drains it and absorbs what the CPU reports.
+//! its stock without a lock. The zone's seat fills it, drains it and absorbs what the CPU reports.
 //!
-//! Row p of sixteen words is CPU p's: word 0 is its stock word, word 1 its report word. The others keep a distance, so
-//! that no two CPUs write to one cache line. Row 0 is unused.
+//! Each CPU has the row of its number, of sixteen words: word 0 is its stock word, word 1 its report word. The others
+//! keep a distance, so that no two CPUs write to one cache line. Row 0 is unused.
 //!
 //! | stock word | value |
 //! | --- | --- |
@@ -20,11 +20,11 @@
 
 mod closed;
 mod kinds;
-mod machine_seat;
 mod make;
 mod seat;
 mod view;
 mod words;
+mod zone_seat;
 
 pub use closed::ClosedWords;
 pub use kinds::{StockRule, StockWords};

@@ -5,33 +5,33 @@ use crate::kinds::RawSeat;
 use crate::view::Stock;
 use std::marker::Model;
 
-/// The right to make steps for the machine (number 0) or for a CPU (its number). A contract sees the table that it
+/// The right to make steps for the zone (number 0) or for a CPU (its number). A contract sees the table that it
 /// belongs to and what it knows. It takes a few bytes and no lock.
 #[derive(Drop)]
 pub struct StockSeat {
-    pub(crate) place: RawSeat,
+    pub(crate) raw: RawSeat,
     pub(crate) number: u32,
     // The stock that a CPU's seat saw last.
     pub(crate) last: Stock,
 }
 
 impl Model for StockSeat {
-    ghost use Rattle.stock_word.specs.Stock.{Seated};
+    ghost use Rattle.stock_word.specs.Stock.{KnownStockSeat};
 
-    ghost Value = { Seated };
+    ghost Value = { KnownStockSeat };
 
     ghost use Rattle.stock_word.specs.Stock.{first_of, IsKept};
 
-    ghost view = { λ s. record { table = s.place.table; view = first_of s.place.views } };
+    ghost view = { λ s. record { table = s.raw.table; view = first_of s.raw.views } };
 
-    ghost invariant = { λ s. IsKept s.place.views s.number s.last };
+    ghost invariant = { λ s. IsKept s.raw.views s.number s.last };
 }
 
 impl StockSeat {
     ghost use Rattle.stock_word.specs.declared.view.Stock.TheVariants.{NoGroup};
     ghost use Rattle.stock_word.specs.Stock.{HasWord};
 
-    /// 0 for the machine's seat, else the CPU's number.
+    /// 0 for the zone's seat, else the CPU's number.
     pub fn number(&self) -> u32
         ensures { result ≡ self.now.view.number }
     {

@@ -69,7 +69,7 @@ impl Stock {
     }
 }
 
-/// What the machine's seat knows of one CPU. No value of it is made.
+/// What the zone's seat knows of one CPU. No value of it is made.
 pub struct Account {
     /// Pages charged through this CPU's stock: prepaid, fresh and reported ones.
     pub book: u64,
@@ -81,16 +81,16 @@ pub struct Account {
     pub unabsorbed: u64,
 }
 
-/// What a seat knows. Seat 0 is the machine's, the others the CPUs'. No value of it is made.
+/// What a seat knows. Seat 0 is the zone's, the others the CPUs'. No value of it is made.
 pub struct StockView {
-    /// 0 at the machine's seat, else the CPU's number.
+    /// 0 at the zone's seat, else the CPU's number.
     pub number: u32,
     /// Pages that the CPU took and has neither credited nor reported.
     pub fresh: u64,
     /// The stock that the CPU saw last. Its fresh pages are of that group.
     pub last: Stock,
-    /// The machine's account of each CPU, by its number. Place 0 is unused.
+    /// The zone's account of each CPU, by its number. Entry 0 is unused.
     pub accounts: LinkedList<Account>,
-    /// Atomic steps that the seat made. A step of two joined seats counts at the CPU's, a look at the machine's.
+    /// Atomic steps that the seat made. A step of two joined seats counts at the CPU's, a look at the zone's.
     pub steps: u64,
 }

@@ -1,6 +1,6 @@
 //! The calls that a CPU makes alone.
 ghost use Rattle.std.specs.Prelude.{◌≡◌, ◌<◌};
-ghost use Rattle.stock_word.specs.Stock.{IsProcessor};
+ghost use Rattle.stock_word.specs.Stock.{IsCpuStock};
 ghost use Rattle.stock_word.specs.Calls.{Consumed, Credited};
 
 use crate::kinds::StockWords;
@@ -30,34 +30,34 @@ pub enum Credit {
 }
 
 impl StockWords {
-    /// Takes a page of group `g` (0 to 63) from the CPU's stock, by one exchange. `Empty` and `OtherGroup` are said of
+    /// Takes a page of `group` (0 to 63) from the CPU's stock, by one exchange. `Empty` and `OtherGroup` are said of
     /// the stock that the CPU saw last, without a step. Apart from its CPU only a drain changes a stock, so an exchange
     /// that fails is `Drained`.
-    pub fn consume(&self, seat: &mut StockSeat, g: u32) -> Consume
+    pub fn consume(&self, seat: &mut StockSeat, group: u32) -> Consume
         requires table { seat.old.table ≡ self.now.table }
-        requires processor { IsProcessor self.now seat.old.view }
-        requires group { g < 64 }
-        ensures answer { Consumed g result seat.old.view seat.new.view }
+        requires cpu { IsCpuStock self.now seat.old.view }
+        requires group { group < 64 }
+        ensures answer { Consumed group result seat.old.view seat.new.view }
         ensures table { seat.new.table ≡ seat.old.table }
     {
         match seat.last {
-            Stock::HeldBy { group, pages } if group == g => {
+            Stock::HeldBy { group: held, pages } if held == group => {
                 if pages == 0 {
                     return Consume::Empty;
                 }
-                let found = self.step_consume(&mut seat.place, seat.number, group, pages);
+                let found = self.step_consume(&mut seat.raw, seat.number, held, pages);
                 if found == seat.last.word() {
                     seat.last = Stock::HeldBy {
-                        group,
+                        group: held,
                         pages: pages - 1,
                     };
                     Consume::Took
                 } else {
-                    seat.last = Stock::DrainedOf { group };
+                    seat.last = Stock::DrainedOf { group: held };
                     Consume::Drained
                 }
             }
-            Stock::DrainedOf { group } if group == g => Consume::Drained,
+            Stock::DrainedOf { group: held } if held == group => Consume::Drained,
             _ => Consume::OtherGroup,
         }
     }
@@ -66,14 +66,14 @@ impl StockWords {
     /// stock is drained. A fresh page is of the group of the stock that the CPU saw last.
     pub fn credit(&self, seat: &mut StockSeat) -> Credit
         requires table { seat.old.table ≡ self.now.table }
-        requires processor { IsProcessor self.now seat.old.view }
+        requires cpu { IsCpuStock self.now seat.old.view }
         requires fresh { 0 < seat.old.view.fresh }
         ensures answer { Credited result seat.old.view seat.new.view }
         ensures table { seat.new.table ≡ seat.old.table }
     {
         match seat.last {
             Stock::HeldBy { group, pages } => {
-                let found = self.step_credit(&mut seat.place, seat.number, group, pages);
+                let found = self.step_credit(&mut seat.raw, seat.number, group, pages);
                 if found == seat.last.word() {
                     seat.last = Stock::HeldBy {
                         group,

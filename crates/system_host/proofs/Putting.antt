@@ -1,4 +1,4 @@
--- The references of processors, put one after the other.
+-- The references of CPUs, put one after the other.
 use Rattle.std.proofs.Common.{◌≡◌, ℕ, ◌+◌, ◌<◌, ◌≤◌, List, [], ◌∷◌, length, take, sym, ap, subst, arith}
 use Rattle.std.specs.Prelude.{slice_set}
 use Rattle.std.proofs.lemmas.List.{take_all, take_more_set}
@@ -15,7 +15,7 @@ pub fewer_pins : (f : ℕ) (answer : Put) (c d : KnownCpu) → UnpinAnswers f an
 fewer_pins f (Left n) c d one = let parted = length_parted f c.pins d.pins one.0 in omega arith
 fewer_pins f Last c d one = let parted = length_parted f c.pins d.pins one.0 in omega arith
 
--- one processor more has none
+-- one CPU more has none
 pub none_more : (i : ℕ) (cpus : List KnownCpu) (d : KnownCpu) → pins_of (take i cpus) ≡ 0 → i < length cpus → d.pins ≡ []
     → pins_of (take (i + 1) (slice_set cpus i d)) ≡ 0
 none_more i cpus d so_far inside none =

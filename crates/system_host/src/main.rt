@@ -45,17 +45,17 @@ fn live<N: BootName, R: Wait>(rt: &R, alloc: Global, boot: Boot, text: &mut Stri
     Ok(audit)
 }
 
-// CPU 1 makes a group with a limit and allocates two frames for it, the second without the lock. CPU 2 takes a reference
-// on the first, so that frame outlives its release. Then an allocation reaches the limit, once even the second frame was
-// reclaimed, and a file is read.
+// CPU 1 makes a group with a limit and allocates two frames for it, the second without the lock. CPU 2 takes a
+// reference on the first, so that frame outlives its release. Then an allocation reaches the limit, once even the
+// second frame was reclaimed, and a file is read.
 fn share<N: BootName, R: Wait>(
     rt: &R,
     system: &System<N>,
     cpus: &mut [Cpu<N>],
     text: &mut String,
 ) -> Result<()> {
-    let (first, others) = cpus.split_first_mut().context("no processor")?;
-    let second = others.first_mut().context("no second processor")?;
+    let (first, others) = cpus.split_first_mut().context("no cpu")?;
+    let second = others.first_mut().context("no second cpu")?;
     let tables = system.tables();
     let (path, file, value): (&[u8], &[u8], &[u8]) = (b"/web", b"memory.max", b"32K");
     let Reply::Group(group) = system.visit(rt, first, &Cmd::Mkdir { path }) else {

@@ -1,2 +1,4 @@
+pub mod Crossing
 pub mod Numbers
 pub mod Refusing
+pub mod Showing

@@ -12,11 +12,11 @@ use Rattle.tempolemon_c.specs.Handles.{LiveBoot, OnBoot, live_boot}
 use Rattle.tempolemon_c.specs.Statuses.{bad_cpu, bad_frame, not_live}
 use Rattle.tempolemon_c.specs.Words.{nothing_told}
 
-module _ (processor : ℕ) (asked : Call) (buffer : List ℕ) where
+module _ (cpu : ℕ) (asked : Call) (buffer : List ℕ) where
   -- there is no boot
-  pub none_called : (before : Option LiveBoot) → before ≡ None → CallsInto processor asked before before not_live nothing_told buffer buffer
+  pub none_called : (before : Option LiveBoot) → before ≡ None → CallsInto cpu asked before before not_live nothing_told buffer buffer
   none_called before none = record {
-    statuses = inr (2, omega arith, refl);
+    statuses = inr (0, omega arith, refl);
     none_live = (λ e. none, λ e. refl);
     served = λ low. absurd (omega (arith, low));
     no_cpu = λ e. absurd (omega (arith, e));
@@ -36,25 +36,25 @@ module _ (processor : ℕ) (asked : Call) (buffer : List ℕ) where
   there is_missing before after refuses none = none-some _ (sym none ∙ refuses.was)
 
   -- there is no such CPU
-  pub no_cpu_called : (before after : Option LiveBoot) → RefusesHost (λ from. ¬ IsCpu from.sizes.cpus processor) before after
-      → CallsInto processor asked before after bad_cpu nothing_told buffer buffer
+  pub no_cpu_called : (before after : Option LiveBoot) → RefusesHost (λ from. ¬ IsCpu from.sizes.cpus cpu) before after
+      → CallsInto cpu asked before after bad_cpu nothing_told buffer buffer
   no_cpu_called before after refuses = record {
-    statuses = inr (3, omega arith, refl);
-    none_live = (λ e. absurd (omega (arith, e)), λ none. absurd (there (λ from. ¬ IsCpu from.sizes.cpus processor) before after refuses none));
+    statuses = inr (1, omega arith, refl);
+    none_live = (λ e. absurd (omega (arith, e)), λ none. absurd (there (λ from. ¬ IsCpu from.sizes.cpus cpu) before after refuses none));
     served = λ low. absurd (omega (arith, low));
     no_cpu = λ e. refuses;
     no_frame = λ e. absurd (omega (arith, e));
     no_group = λ e. absurd (omega (arith, e));
-    stays = λ high. still (λ from. ¬ IsCpu from.sizes.cpus processor) before after refuses;
+    stays = λ high. still (λ from. ¬ IsCpu from.sizes.cpus cpu) before after refuses;
     no_word = λ high. refl;
     buffer_stays = λ high. refl;
   }
 
   -- there is no such frame
   pub no_frame_called : (before after : Option LiveBoot) → RefusesHost (λ from. NamesNoFrame from.sizes.frames asked) before after
-      → CallsInto processor asked before after bad_frame nothing_told buffer buffer
+      → CallsInto cpu asked before after bad_frame nothing_told buffer buffer
   no_frame_called before after refuses = record {
-    statuses = inr (4, omega arith, refl);
+    statuses = inr (2, omega arith, refl);
     none_live = (λ e. absurd (omega (arith, e)), λ none. absurd (there (λ from. NamesNoFrame from.sizes.frames asked) before after refuses none));
     served = λ low. absurd (omega (arith, low));
     no_cpu = λ e. absurd (omega (arith, e));

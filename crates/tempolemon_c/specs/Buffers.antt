@@ -1,8 +1,8 @@
 -- What a buffer of the host gets of a text.
 use Rattle.std.specs.Prelude.{◌≡◌, ℕ, ◌<◌, ◌≤◌, List, ◌++◌, drop, length}
 
--- A text of which `is_it` holds was written at the start of a buffer that has room for all of it. The rest of the buffer
--- is as before
+-- A text of which `is_it` holds was written at the start of a buffer that has room for all of it. The rest of the
+-- buffer is as before
 pub record FillsBuffer (is_it : List ℕ → Type 0) (before after : List ℕ) (written : ℕ) : Type 0 where
   pub text : List ℕ
   pub is : is_it text

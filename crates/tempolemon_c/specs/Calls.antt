@@ -1,34 +1,51 @@
 -- What a typed call does to the boot behind a handle, and what the host is told.
 use Rattle.std.specs.Prelude.{◌≡◌, ◌⊎◌, ◌↔◌, ℕ, ◌<◌, ◌≤◌, List, [], ◌++◌, Option, None, drop, length}
 use Rattle.frame_word.specs.Seats.{KnownTable}
-use Rattle.stock_word.specs.Stock.{Words}
+use Rattle.stock_word.specs.Stock.{KnownStockTable}
 use Rattle.mem_system.specs.declared.command.Reply.{Reply}
 use Rattle.mem_system.specs.declared.command.Reply.TheVariants as reply
+use Rattle.mem_system.specs.declared.outcome.Outcome.{Outcome}
+use Rattle.mem_system.specs.declared.outcome.Outcome.TheVariants as outcome
 use Rattle.reply_texts.specs.Answer.{Answer}
 use Rattle.reply_texts.specs.Answer as answer
 use Rattle.control_files.specs.Text.{longest_text}
 use Rattle.script_lines.specs.declared.line.Command.{Command}
 use Rattle.handles.specs.declared.calls.Call.{Call}
 use Rattle.handles.specs.declared.calls.Call.TheVariants as call
-use Rattle.handles.specs.Calls.{IsCpu, Means, NamesNoFrame, NamesNoGroup, RefusesCall, ServesCommand}
+use Rattle.control_files.specs.declared.file.File.{File}
+use Rattle.handles.specs.Calls.{HasFile, IsCpu, Means, NamesNoFrame, NamesNoGroup, RefusesCall, ServesCommand}
 use Rattle.handles.specs.Known.{KnownLive}
+use Rattle.script_replay.specs.Typed.{SaysItsGroups, answer_of}
+use Rattle.script_replay.specs.declared.said.Said.{Said}
+use Rattle.script_replay.specs.declared.said.Said.TheVariants as said
 use Rattle.tempolemon_c.specs.declared.told.Told.{Told}
 use Rattle.tempolemon_c.specs.Handles.{LiveBoot, OnBoot}
-use Rattle.tempolemon_c.specs.Statuses.{IsHostStatus, bad_cpu, bad_frame, bad_group, most_refusal, no_memory}
+use Rattle.tempolemon_c.specs.Statuses.{IsHostStatus, bad_cpu, bad_frame, bad_group, most_refusal}
 use Rattle.tempolemon_c.specs.Statuses.{not_live, small_buffer}
 use Rattle.tempolemon_c.specs.Words.{nothing_told, status_of, told_of}
 
 -- the call was served as the command of a script that it means, with this answer
-pub record AnswersCall (frames : KnownTable) (stocks : Words) (processor : ℕ) (asked : Call) (from to : KnownLive)
+pub record AnswersCall (frames : KnownTable) (stock_table : KnownStockTable) (cpu : ℕ) (asked : Call)
+    (from to : KnownLive)
     (answer : Answer) : Type 0 where
   pub command : Command
   pub means : Means from.state.locked.machine.ledger.groups asked command
-  pub serves : ServesCommand frames stocks processor command from to answer
+  pub serves : ServesCommand frames stock_table cpu command from to answer
 
 -- the same of the boot behind a handle
-abbrev pub AnswersHost : (processor : ℕ) → Call → (before after : Option LiveBoot) → Answer → Type 0
-AnswersHost processor asked before after answer =
-    OnBoot (λ frames stocks from to. AnswersCall frames stocks processor asked from to answer) before after
+abbrev pub AnswersHost : (cpu : ℕ) → Call → (before after : Option LiveBoot) → Answer → Type 0
+AnswersHost cpu asked before after answer =
+    OnBoot (λ frames stock_table from to. AnswersCall frames stock_table cpu asked from to answer) before after
+
+-- the outcome isn't a text
+abbrev pub IsPlainOutcome : Outcome → Type 0
+IsPlainOutcome (outcome.Text group file) = ⊥
+IsPlainOutcome other = Unit {0}
+
+-- the answer isn't a text
+abbrev pub IsPlain : Said → Type 0
+IsPlain (said.Served outcome) = IsPlainOutcome outcome
+IsPlain other = Unit {0}
 
 -- a text was written at the start of a buffer that has room for it; one without room stays
 pub record PutsText (text : List ℕ) (old new : List ℕ) : Type 0 where
@@ -45,11 +62,30 @@ abbrev pub PutsAnswer : Answer → (old new : List ℕ) → Type 0
 PutsAnswer (answer.Served reply) old new = PutsReply reply old new
 PutsAnswer other old new = new ≡ old
 
+-- the status, what is told, and what the buffer gets are those of this answer
+pub record TellsAnswer (said : Answer) (status : ℕ) (told : Told) (old new : List ℕ) : Type 0 where
+  pub status_is : status ≡ status_of said
+  pub told_is : told ≡ told_of said
+  pub buffer : PutsAnswer said old new
+
+-- the same of what is said, with the texts that the boot gives it
+abbrev pub TellsSaid : Said → (status : ℕ) → Told → (old new : List ℕ) → LiveBoot → Type 0
+TellsSaid said status told old new boot =
+    TellsAnswer (answer_of boot.live.state.locked.machine.ledger said) status told old new
+
+-- the boot has the groups whose paths or files are said
+abbrev pub HasSaid : Said → LiveBoot → Type 0
+HasSaid said boot = SaysItsGroups boot.live.state.locked.machine.ledger said
+
+-- the boot behind the handle has the group, and it isn't the root, which has no files
+abbrev pub HasFileBehind : (group : ℕ) → File → LiveBoot → Type 0
+HasFileBehind group file boot = HasFile group file boot.live
+
 -- the call was served: the status, what is told, and what the buffer gets are those of its answer
-pub record ServesHost (processor : ℕ) (asked : Call) (before after : Option LiveBoot) (status : ℕ) (told : Told)
+pub record ServesHost (cpu : ℕ) (asked : Call) (before after : Option LiveBoot) (status : ℕ) (told : Told)
     (old new : List ℕ) : Type 0 where
   pub answer : Answer
-  pub answers : AnswersHost processor asked before after answer
+  pub answers : AnswersHost cpu asked before after answer
   pub status_is : status ≡ status_of answer
   pub told_is : told ≡ told_of answer
   pub buffer : PutsAnswer answer old new
@@ -57,16 +93,16 @@ pub record ServesHost (processor : ℕ) (asked : Call) (before after : Option Li
 -- the call names what the boot doesn't have, and nothing is done
 abbrev pub RefusesHost : (is_missing : KnownLive → Type 0) → (before after : Option LiveBoot) → Type 0
 RefusesHost is_missing before after =
-    OnBoot (λ frames stocks from to. RefusesCall (is_missing from) from to) before after
+    OnBoot (λ frames stock_table from to. RefusesCall (is_missing from) from to) before after
 
 -- What a call with a buffer does, by its status. Up to the greatest number of a refusal it was served; above, nothing
 -- was done
-pub record CallsInto (processor : ℕ) (asked : Call) (before after : Option LiveBoot) (status : ℕ) (told : Told)
+pub record CallsInto (cpu : ℕ) (asked : Call) (before after : Option LiveBoot) (status : ℕ) (told : Told)
     (old new : List ℕ) : Type 0 where
   pub statuses : (status ≤ most_refusal) ⊎ IsHostStatus status
   pub none_live : (status ≡ not_live) ↔ (before ≡ None)
-  pub served : status ≤ most_refusal → ServesHost processor asked before after status told old new
-  pub no_cpu : status ≡ bad_cpu → RefusesHost (λ from. ¬ IsCpu from.sizes.cpus processor) before after
+  pub served : status ≤ most_refusal → ServesHost cpu asked before after status told old new
+  pub no_cpu : status ≡ bad_cpu → RefusesHost (λ from. ¬ IsCpu from.sizes.cpus cpu) before after
   pub no_frame : status ≡ bad_frame → RefusesHost (λ from. NamesNoFrame from.sizes.frames asked) before after
   pub no_group : status ≡ bad_group
       → RefusesHost (λ from. NamesNoGroup from.state.locked.machine.ledger.groups asked) before after
@@ -75,55 +111,43 @@ pub record CallsInto (processor : ℕ) (asked : Call) (before after : Option Liv
   pub buffer_stays : most_refusal < status → new ≡ old
 
 -- what a call without a buffer does, by its status
-abbrev pub CallsHost : (processor : ℕ) → Call → (before after : Option LiveBoot) (status : ℕ) (told : Told) → Type 0
-CallsHost processor asked before after status told = CallsInto processor asked before after status told [] []
+abbrev pub CallsHost : (cpu : ℕ) → Call → (before after : Option LiveBoot) (status : ℕ) (told : Told) → Type 0
+CallsHost cpu asked before after status told = CallsInto cpu asked before after status told [] []
 
 -- the call makes the group of this path
 abbrev pub IsMkdir : (path : List ℕ) → Call → Type 0
-IsMkdir path (call.Mkdir named) = named.items ≡ path
+IsMkdir path (call.Mkdir named) = named.now ≡ path
 IsMkdir path other = ⊥
 
 -- the call removes the group of this path
 abbrev pub IsRmdir : (path : List ℕ) → Call → Type 0
-IsRmdir path (call.Rmdir named) = named.items ≡ path
+IsRmdir path (call.Rmdir named) = named.now ≡ path
 IsRmdir path other = ⊥
 
 -- the call writes this value to this file of the group of this path
 abbrev pub IsWrite : (path file value : List ℕ) → Call → Type 0
 IsWrite path file value (call.Write named in_file text) =
-    (named.items ≡ path) × ((in_file.items ≡ file) × (text.items ≡ value))
+    (named.now ≡ path) × ((in_file.now ≡ file) × (text.now ≡ value))
 IsWrite path file value other = ⊥
 
 -- the call reads this file of the group of this path
 abbrev pub IsRead : (path file : List ℕ) → Call → Type 0
-IsRead path file (call.Read named in_file) = (named.items ≡ path) × (in_file.items ≡ file)
+IsRead path file (call.Read named in_file) = (named.now ≡ path) × (in_file.now ≡ file)
 IsRead path file other = ⊥
 
 -- a call with these texts was made
-pub record AsksHost (is_asked : Call → Type 0) (processor : ℕ) (before after : Option LiveBoot) (status : ℕ)
-    (told : Told) : Type 0 where
+pub record CallsPath (is_asked : Call → Type 0) (cpu : ℕ) (before after : Option LiveBoot) (status : ℕ) (told : Told)
+    : Type 0 where
   pub asked : Call
   pub is : is_asked asked
-  pub calls : CallsHost processor asked before after status told
-
--- memory ran out for a copy of a text, and nothing was done
-pub record RunsOutHost (before after : Option LiveBoot) (status : ℕ) (told : Told) : Type 0 where
-  pub status_is : status ≡ no_memory
-  pub stays : after ≡ before
-  pub told_is : told ≡ nothing_told
-
--- a call with these texts was made, or memory ran out for a copy of one
-abbrev pub CallsPath : (is_asked : Call → Type 0) (processor : ℕ) (before after : Option LiveBoot) (status : ℕ)
-    (told : Told) → Type 0
-CallsPath is_asked processor before after status told =
-    AsksHost is_asked processor before after status told ⊎ RunsOutHost before after status told
+  pub calls : CallsHost cpu asked before after status told
 
 -- a read with these texts was made, and the buffer gets the text
-pub record ReadsHost (is_asked : Call → Type 0) (processor : ℕ) (before after : Option LiveBoot) (status : ℕ)
+pub record ReadsHost (is_asked : Call → Type 0) (cpu : ℕ) (before after : Option LiveBoot) (status : ℕ)
     (told : Told) (old new : List ℕ) : Type 0 where
   pub asked : Call
   pub is : is_asked asked
-  pub calls : CallsInto processor asked before after status told old new
+  pub calls : CallsInto cpu asked before after status told old new
 
 -- the buffer is too small for the longest text of a file, and nothing was done
 pub record IsTooSmall (before after : Option LiveBoot) (status : ℕ) (told : Told) (old new : List ℕ) : Type 0 where
@@ -134,9 +158,8 @@ pub record IsTooSmall (before after : Option LiveBoot) (status : ℕ) (told : To
   pub buffer_stays : new ≡ old
 
 -- what a read of a file does
-abbrev pub Reads : (path file : List ℕ) (processor : ℕ) (before after : Option LiveBoot) (status : ℕ) (told : Told)
+abbrev pub Reads : (path file : List ℕ) (cpu : ℕ) (before after : Option LiveBoot) (status : ℕ) (told : Told)
     (old new : List ℕ) → Type 0
-Reads path file processor before after status told old new =
-    ReadsHost (IsRead path file) processor before after status told old new
-    ⊎ (IsTooSmall before after status told old new
-    ⊎ (RunsOutHost before after status told × (new ≡ old)))
+Reads path file cpu before after status told old new =
+    ReadsHost (IsRead path file) cpu before after status told old new
+    ⊎ IsTooSmall before after status told old new

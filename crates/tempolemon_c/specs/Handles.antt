@@ -1,7 +1,7 @@
 -- What contracts see of a host's handle, and what the calls do to the boot behind it.
 use Rattle.std.specs.Prelude.{◌≡◌, ℕ, Bool, List, Option, None, Some}
 use Rattle.frame_word.specs.Seats.{KnownTable}
-use Rattle.stock_word.specs.Stock.{Words}
+use Rattle.stock_word.specs.Stock.{KnownStockTable}
 use Rattle.zone_sizes.specs.declared.config.Config.{Config}
 use Rattle.zone_sizes.specs.Config.{IsValidConfig}
 use Rattle.load_run.specs.Answers.{StandsAtFirst}
@@ -14,15 +14,15 @@ use Rattle.tempolemon_c.specs.declared.report.Report.{Report}
 -- a boot behind a handle: its tables, and what stands between the calls
 pub record LiveBoot : Type 0 where
   pub frames : KnownTable
-  pub stocks : Words
+  pub stocks : KnownStockTable
   pub live : KnownLive
 
 -- the boot with these tables
-abbrev pub live_boot : KnownTable → Words → KnownLive → LiveBoot
+abbrev pub live_boot : KnownTable → KnownStockTable → KnownLive → LiveBoot
 live_boot frames stocks live = record { frames = frames; stocks = stocks; live = live }
 
 -- the boot behind a handle, if there is one; tables without a boot don't matter
-abbrev pub boot_of : KnownTable → Words → Option KnownLive → Option LiveBoot
+abbrev pub boot_of : KnownTable → KnownStockTable → Option KnownLive → Option LiveBoot
 boot_of frames stocks None = None
 boot_of frames stocks (Some live) = Some (live_boot frames stocks live)
 
@@ -35,10 +35,11 @@ pub record BootsNew (sizes : Config) (after : Option LiveBoot) : Type 0 where
   pub sizes_are : boot.live.sizes ≡ sizes
 
 -- a boot stands behind the handle before and after a call, and under its tables `does` leads from one to the other
-pub record OnBoot (does : KnownTable → Words → (from to : KnownLive) → Type 0) (before after : Option LiveBoot)
+pub record OnBoot (does : KnownTable → KnownStockTable → (from to : KnownLive) → Type 0)
+    (before after : Option LiveBoot)
     : Type 0 where
   pub frames : KnownTable
-  pub stocks : Words
+  pub stocks : KnownStockTable
   pub from : KnownLive
   pub to : KnownLive
   pub was : before ≡ Some (live_boot frames stocks from)

@@ -20,12 +20,13 @@ config_of sizes = record {
 }
 
 -- the sizes are in their ranges, and the text is what the program's `replay` answers to the script: what a new boot of
--- these sizes answers to its lines, with why groups were killed and the report of the end if these are asked for
+-- these sizes answers to its lines, with explanations and the report of the end if these are asked for
 pub record IsAnswered (sizes : Config) (is_explained is_audited : Bool) (script text : List ℕ) : Type 0 where
   pub valid : IsValidConfig sizes
   pub lines : List Line
   pub script_is : IsScript sizes script lines
-  pub answers : AreReplayAnswers sizes (record { is_explained = is_explained; is_numbered = false }) is_audited lines text
+  pub answers : AreReplayAnswers sizes (record { is_explained = is_explained; is_numbered = false }) is_audited lines
+      text
 
 -- the sizes are in their ranges, and this is the number of the first bad line of the script
 pub record IsBadAt (sizes : Config) (script : List ℕ) (number : ℕ) : Type 0 where

@@ -71,4 +71,4 @@ IsAnswerStatus status = Contains (done ∷ small_buffer ∷ not_live ∷ []) sta
 
 -- the statuses above the refusals' numbers with which a call is answered
 abbrev pub IsHostStatus : ℕ → Type 0
-IsHostStatus status = Contains (no_memory ∷ small_buffer ∷ not_live ∷ bad_cpu ∷ bad_frame ∷ bad_group ∷ []) status
+IsHostStatus status = Contains (not_live ∷ bad_cpu ∷ bad_frame ∷ bad_group ∷ []) status

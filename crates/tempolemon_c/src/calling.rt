@@ -1,40 +1,47 @@
 //! How a typed call is served.
 
-ghost use Rattle.std.specs.Prelude.{◌≡◌};
+ghost use Rattle.std.specs.Prelude.{◌≡◌, IfSome, IsSomeAnd};
+ghost use Rattle.mem_system.specs.declared.outcome.Outcome.TheVariants.{Text};
+ghost use Rattle.script_replay.specs.declared.said.Said.TheVariants.{Served};
 ghost use Rattle.tempolemon_c.specs.Behind.{behind};
-ghost use Rattle.tempolemon_c.specs.Calls.{CallsHost, CallsInto};
+ghost use Rattle.tempolemon_c.specs.Calls.{CallsHost, CallsInto, HasFileBehind, HasSaid, TellsSaid};
 
 use crate::buffers::put_answers;
 use crate::handle::Handle;
 use crate::status::{BAD_CPU, BAD_FRAME, BAD_GROUP, DONE, NOT_LIVE};
 use crate::told::{Told, tell};
-use crate::words::{NOTHING, TEXT};
-use handles::calls::{Call, Told as Said};
+use crate::words::{NOTHING, REFUSED, TEXT};
+use control_files::file::File;
+use group_tree::group::GroupId;
+use handles::calls::{Call, Shown, Told as Said};
+use mem_system::Outcome;
+use script_replay::Said as Answer;
 use std::alloc::Global;
 
 /// Serves a call of the CPU of this number, and tells the host.
 pub(crate) fn serve_call(
     alloc: Global,
     handle: &mut Handle,
-    processor: u32,
-    call: Call,
+    cpu: u32,
+    call: &Call<'_>,
     told: &mut Told,
 ) -> u8
-    ensures { CallsHost processor call (behind handle.old) (behind handle.new) result told.new }
+    ensures { CallsHost cpu call.now (behind handle.old) (behind handle.new) result told.new }
 {
-    serve_into(alloc, handle, processor, call, &mut [], told)
+    serve_into(alloc, handle, cpu, call, &mut [], told)
 }
 
 /// Serves a call as `serve_call` does, and writes the text of a file into the buffer, if that has room for it.
+#[tactic(auto, using(crate::proofs::Showing::said_there, crate::proofs::Showing::said_called))]
 pub(crate) fn serve_into(
     alloc: Global,
     handle: &mut Handle,
-    processor: u32,
-    call: Call,
+    cpu: u32,
+    call: &Call<'_>,
     buffer: &mut [u8],
     told: &mut Told,
 ) -> u8
-    ensures { CallsInto processor call (behind handle.old) (behind handle.new) result told.new buffer.old buffer.new }
+    ensures { CallsInto cpu call.now (behind handle.old) (behind handle.new) result told.new buffer.old buffer.new }
 {
     *told = Told {
         number: 0,
@@ -43,13 +50,57 @@ pub(crate) fn serve_into(
     if !handle.is_live() {
         return NOT_LIVE;
     }
-    match handle.call(alloc, processor, call) {
-        Said::Said(said) => {
-            let answered = tell(&said);
+    match handle.call(alloc, cpu, call) {
+        Said::Said(said) => tell_said(alloc, handle, &said, buffer, told),
+        Said::NoCpu => BAD_CPU,
+        Said::NoFrame => BAD_FRAME,
+        Said::NoGroup => BAD_GROUP,
+    }
+}
+
+// Tells what is said, and writes the text of a file into the buffer, if that has room for it.
+#[tactic(auto, using(crate::proofs::Showing::plain_told))]
+fn tell_said(
+    alloc: Global,
+    handle: &mut Handle,
+    said: &Answer,
+    buffer: &mut [u8],
+    told: &mut Told,
+) -> u8
+    requires there { IsSomeAnd (behind handle.old) (HasSaid said.now) }
+    ensures stays { behind handle.new ≡ behind handle.old }
+    ensures told { IfSome (behind handle.old) (TellsSaid said.now result told.new buffer.old buffer.new) }
+{
+    match *said {
+        Answer::Served(Outcome::Text(group, file)) => {
+            tell_file(alloc, handle, group, file, buffer, told)
+        }
+        _ => {
+            let answered = tell(said);
             *told = answered.told;
             answered.status
         }
-        Said::Text(text) => {
+    }
+}
+
+// Tells what a file shows, and writes its text into the buffer, if that has room for it. Here alone there is room for
+// a text, so that no other call clears that room.
+#[tactic(auto, using(crate::proofs::Numbers::number_low, crate::proofs::Showing::stays, crate::proofs::Showing::tells))]
+fn tell_file(
+    alloc: Global,
+    handle: &mut Handle,
+    group: GroupId,
+    file: File,
+    buffer: &mut [u8],
+    told: &mut Told,
+) -> u8
+    requires there { IsSomeAnd (behind handle.old) (HasFileBehind group file) }
+    ensures stays { behind handle.new ≡ behind handle.old }
+    ensures told { IfSome (behind handle.old)
+        (TellsSaid (Served (Text group file)) result told.new buffer.old buffer.new) }
+{
+    match handle.show(alloc, group, file) {
+        Shown::Text(text) => {
             let text = text.as_bytes();
             let _fits = put_answers(text, buffer);
             *told = Told {
@@ -58,8 +109,12 @@ pub(crate) fn serve_into(
             };
             DONE
         }
-        Said::NoCpu => BAD_CPU,
-        Said::NoFrame => BAD_FRAME,
-        Said::NoGroup => BAD_GROUP,
+        Shown::Refused(fault) => {
+            *told = Told {
+                number: 0,
+                word: REFUSED,
+            };
+            fault.number() as u8
+        }
     }
 }

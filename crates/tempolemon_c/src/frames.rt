@@ -23,7 +23,7 @@ pub extern "C" fn tempolemon_alloc(
 ) -> u8
     ensures { CallsHost cpu (Alloc group order) (behind handle.old) (behind handle.new) result told.new }
 {
-    serve_call(alloc, handle, cpu, Call::Alloc { group, order }, told)
+    serve_call(alloc, handle, cpu, &Call::Alloc { group, order }, told)
 }
 
 /// Releases the unit that this frame heads: a fresh frame of the CPU is listed again, or the zone's reference is put.
@@ -38,7 +38,7 @@ pub extern "C" fn tempolemon_release(
     ensures { CallsHost cpu (AtFrame frame at.Release) (behind handle.old) (behind handle.new) result told.new }
 {
     let what = FrameCall::Release;
-    serve_call(alloc, handle, cpu, Call::AtFrame { frame, what }, told)
+    serve_call(alloc, handle, cpu, &Call::AtFrame { frame, what }, told)
 }
 
 /// Pins this frame for the CPU, without the lock.
@@ -53,7 +53,7 @@ pub extern "C" fn tempolemon_get(
     ensures { CallsHost cpu (AtFrame frame at.Get) (behind handle.old) (behind handle.new) result told.new }
 {
     let what = FrameCall::Get;
-    serve_call(alloc, handle, cpu, Call::AtFrame { frame, what }, told)
+    serve_call(alloc, handle, cpu, &Call::AtFrame { frame, what }, told)
 }
 
 /// Puts a pin of the CPU on this frame, without the lock.
@@ -68,7 +68,7 @@ pub extern "C" fn tempolemon_put(
     ensures { CallsHost cpu (AtFrame frame at.Put) (behind handle.old) (behind handle.new) result told.new }
 {
     let what = FrameCall::Put;
-    serve_call(alloc, handle, cpu, Call::AtFrame { frame, what }, told)
+    serve_call(alloc, handle, cpu, &Call::AtFrame { frame, what }, told)
 }
 
 /// Notes that the unit that this frame heads was used.
@@ -83,7 +83,7 @@ pub extern "C" fn tempolemon_touch(
     ensures { CallsHost cpu (AtFrame frame at.Touch) (behind handle.old) (behind handle.new) result told.new }
 {
     let what = FrameCall::Touch;
-    serve_call(alloc, handle, cpu, Call::AtFrame { frame, what }, told)
+    serve_call(alloc, handle, cpu, &Call::AtFrame { frame, what }, told)
 }
 
 /// Notes that the unit that this frame heads is dirty.
@@ -98,7 +98,7 @@ pub extern "C" fn tempolemon_dirty(
     ensures { CallsHost cpu (AtFrame frame at.Dirty) (behind handle.old) (behind handle.new) result told.new }
 {
     let what = FrameCall::Dirty;
-    serve_call(alloc, handle, cpu, Call::AtFrame { frame, what }, told)
+    serve_call(alloc, handle, cpu, &Call::AtFrame { frame, what }, told)
 }
 
 /// Notes that the unit that this frame heads is clean.
@@ -113,7 +113,7 @@ pub extern "C" fn tempolemon_clean(
     ensures { CallsHost cpu (AtFrame frame at.Clean) (behind handle.old) (behind handle.new) result told.new }
 {
     let what = FrameCall::Clean;
-    serve_call(alloc, handle, cpu, Call::AtFrame { frame, what }, told)
+    serve_call(alloc, handle, cpu, &Call::AtFrame { frame, what }, told)
 }
 
 /// Tells the place of this frame.
@@ -128,7 +128,7 @@ pub extern "C" fn tempolemon_owner(
     ensures { CallsHost cpu (AtFrame frame at.Owner) (behind handle.old) (behind handle.new) result told.new }
 {
     let what = FrameCall::Owner;
-    serve_call(alloc, handle, cpu, Call::AtFrame { frame, what }, told)
+    serve_call(alloc, handle, cpu, &Call::AtFrame { frame, what }, told)
 }
 
 /// Settles the CPU.
@@ -141,5 +141,5 @@ pub extern "C" fn tempolemon_settle(
 ) -> u8
     ensures { CallsHost cpu Settle (behind handle.old) (behind handle.new) result told.new }
 {
-    serve_call(alloc, handle, cpu, Call::Settle, told)
+    serve_call(alloc, handle, cpu, &Call::Settle, told)
 }

@@ -1,16 +1,19 @@
 //! What is done with the boot behind a handle.
 
-ghost use Rattle.std.specs.Prelude.{◌≡◌, ◌↔◌, IsSome, IsTrue, MatchBool, None, Some};
+ghost use Rattle.std.specs.Prelude.{◌≡◌, ◌↔◌, IsSome, IsSomeAnd, IsTrue, MatchBool, None, Some};
 ghost use Rattle.zone_sizes.specs.Config.{IsValidConfig};
-ghost use Rattle.handles.specs.Calls.{Calls};
+ghost use Rattle.handles.specs.Calls.{Calls, ShowsFile};
 ghost use Rattle.tempolemon_c.specs.Behind.{behind};
 ghost use Rattle.tempolemon_c.specs.Asking.{IsAsk, ServesBoot};
+ghost use Rattle.tempolemon_c.specs.Calls.{HasFileBehind};
 ghost use Rattle.tempolemon_c.specs.Handles.{BootsNew, EndsBoot, OnBoot};
 
 use crate::handle::Handle;
 use crate::report::Report;
-use handles::calls::{Call, Told};
-use handles::raw::{Raw, serve_raw};
+use control_files::file::File;
+use group_tree::group::GroupId;
+use handles::calls::{Call, Shown, Told};
+use handles::raw::{Raw, call_raw, serve_raw, show_raw};
 use handles::requests::{Answer, Request};
 use mem_system::Boot;
 use std::alloc::Global;
@@ -52,15 +55,29 @@ impl Handle {
     }
 
     /// Serves a call of the CPU of this number.
-    pub(crate) fn call(&mut self, alloc: Global, processor: u32, call: Call) -> Told
+    #[tactic(auto, using(crate::proofs::Crossing::crossed, crate::proofs::Crossing::some_behind))]
+    pub(crate) fn call(&mut self, alloc: Global, cpu: u32, call: &Call<'_>) -> Told
         requires live { IsSome (behind self.old) }
-        ensures { OnBoot (λ frames stocks from to. Calls frames stocks processor call from to result)
+        ensures { OnBoot (λ frames stocks from to. Calls frames stocks cpu call.now from to result)
             (behind self.old) (behind self.new) }
     {
-        match self.ask(alloc, Request::Call { processor, call }) {
-            Answer::Told(told) => told,
-            _ => unreachable!(),
-        }
+        let raw = std::mem::replace(&mut self.raw, Raw::none(alloc));
+        let (raw, told) = call_raw(raw, cpu, call);
+        self.raw = raw;
+        told
+    }
+
+    /// What a file of a group shows. The group exists, and isn't the root, which has no files.
+    #[tactic(auto, using(crate::proofs::Crossing::crossed, crate::proofs::Crossing::file_behind))]
+    pub(crate) fn show(&mut self, alloc: Global, group: GroupId, file: File) -> Shown
+        requires there { IsSomeAnd (behind self.old) (HasFileBehind group file) }
+        ensures { OnBoot (λ frames stocks from to. ShowsFile group file from to result)
+            (behind self.old) (behind self.new) }
+    {
+        let raw = std::mem::replace(&mut self.raw, Raw::none(alloc));
+        let (raw, shown) = show_raw(raw, group, file);
+        self.raw = raw;
+        shown
     }
 
     /// Ends the boot.

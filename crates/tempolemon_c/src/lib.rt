@@ -36,8 +36,8 @@ use std::alloc::Global;
 /// Boots a zone of these sizes, replays the script on it, and ends the boot. The answers are those of the program's
 /// `replay`, byte for byte.
 ///
-/// The sizes are judged first, then the script. A buffer that is too small gets nothing: `written` is the length that it
-/// needs, and the call can be made again. Nothing of the boot stays, whatever the status.
+/// The sizes are judged first, then the script. A buffer that is too small gets nothing: `written` is the length that
+/// it needs, and the call can be made again. Nothing of the boot stays, whatever the status.
 #[unsafe(no_mangle)]
 pub extern "C" fn tempolemon_replay(
     alloc: Global,

@@ -14,8 +14,8 @@ use std::alloc::Global;
 use std::marker::Brand;
 use zone_sizes::config::Config;
 
-/// The answers of a new boot of these sizes to the script, with why groups were killed and the report of the end if these
-/// are asked for. The sizes are judged before the script. The boot has ended when the call returns.
+/// The answers of a new boot of these sizes to the script, with explanations and the report of the end if these are
+/// asked for. The sizes are judged before the script. The boot has ended when the call returns.
 pub fn answer_script(
     alloc: Global,
     sizes: Config,

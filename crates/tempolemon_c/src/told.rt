@@ -2,10 +2,9 @@
 
 ghost use Rattle.std.specs.Prelude.{◌≡◌, List, ℕ};
 ghost use Rattle.group_charge.specs.Charges.{Ledger};
-ghost use Rattle.handles.specs.Calls.{IsPlain, IsPlainOutcome};
 ghost use Rattle.mem_system.specs.Outcomes.{reply_of};
 ghost use Rattle.script_replay.specs.Typed.{answer_of};
-ghost use Rattle.tempolemon_c.specs.Calls.{PutsAnswer, PutsReply};
+ghost use Rattle.tempolemon_c.specs.Calls.{IsPlain, IsPlainOutcome, PutsAnswer, PutsReply};
 ghost use Rattle.tempolemon_c.specs.Words.{fast_told, get_told, put_told, reply_status, reply_told, status_of};
 ghost use Rattle.tempolemon_c.specs.Words.{told, told_of};
 

@@ -1,7 +1,7 @@
 -- The sizes of a boot under its name. Serves `live_by_threads`.
 use Rattle.std.proofs.Common.{◌≡◌, ℕ, List, All, sym, ◌∙◌, subst}
 use Rattle.frame_word.specs.Seats.{KnownTable}
-use Rattle.stock_word.specs.Stock.{Words}
+use Rattle.stock_word.specs.Stock.{KnownStockTable}
 use Rattle.zone_sizes.specs.declared.config.Config.{Config}
 use Rattle.mem_system.specs.Boots.{IsSizedAs}
 use Rattle.script_lines.specs.declared.line.Line.{Line}
@@ -9,7 +9,7 @@ use Rattle.script_replay.specs.Ranges.{LineIsThere}
 use Rattle.load_run.proofs.Answering.{sized_as}
 
 -- what lines name is in range, for as many parts as the boot name has CPUs
-pub lines_there : (sizes : Config) (f t : KnownTable) (s w : Words) (n : ℕ) (lines : List Line) → IsSizedAs sizes f s → (f ≡ t) × (s ≡ w)
+pub lines_there : (sizes : Config) (f t : KnownTable) (s w : KnownStockTable) (n : ℕ) (lines : List Line) → IsSizedAs sizes f s → (f ≡ t) × (s ≡ w)
     → n ≡ t.cpus → All (LineIsThere sizes.frames sizes.cpus) lines → All (LineIsThere t.frames n) lines
 lines_there sizes f t s w n lines sized names long there =
     let as_named = sized_as sizes f t s w sized names in

@@ -1,14 +1,23 @@
-//! Tests of scripts for two and for four CPUs, each in a thread. This crate has nothing but tests.
+//! Tests of the words that CPUs share, and of scripts for two and for four CPUs, each in a thread. This crate has
+//! nothing but tests.
 #![tactic(auto)]
 
 #[cfg(test)]
+mod frames;
+#[cfg(test)]
 mod gates;
 #[cfg(test)]
+mod parts;
+#[cfg(test)]
 mod races;
+#[cfg(test)]
+mod rows;
 #[cfg(test)]
 mod scripts;
 #[cfg(test)]
 mod second;
+#[cfg(test)]
+mod stocks;
 #[cfg(test)]
 mod storms;
 #[cfg(test)]

@@ -18,7 +18,7 @@ go
 ";
 
 #[test]
-fn a_processor_goes_on_while_another_is_inside(rt: HostRuntime) {
+fn a_cpu_goes_on_while_another_is_inside(rt: HostRuntime) {
     let gate = HeldVisit::until(3);
     let told = run_script(&rt, TWO_PROCESSORS, BESIDE_A_VISIT, "1 release 0\n", &gate);
     let told = told.expect(&rt, "a run");

@@ -162,7 +162,7 @@ fn ask_after_the_storm(rt: &(impl Abort + AllocGlobal)) -> String {
 // The references that remain by the CPUs' answers: of each CPU, and on each frame.
 #[derive(Drop)]
 struct PinsLeft {
-    of_processors: [u64; 4],
+    of_cpus: [u64; 4],
     on_frames: [u64; 64],
 }
 
@@ -181,7 +181,7 @@ impl PinsLeft {
             Command::Put { frame } if answer != "refused 21 NotPinned" => (*frame, u64::MAX),
             _ => return,
         };
-        add_pins(&mut self.of_processors, cpu.wrapping_sub(1), change);
+        add_pins(&mut self.of_cpus, cpu.wrapping_sub(1), change);
         add_pins(&mut self.on_frames, frame, change);
     }
 }
@@ -189,7 +189,7 @@ impl PinsLeft {
 // Computes the remaining references from the threads' answers.
 fn read_pins_left(lines: &[Line<'_>], by_threads: &str) -> PinsLeft {
     let mut pins = PinsLeft {
-        of_processors: [0; 4],
+        of_cpus: [0; 4],
         on_frames: [0; 64],
     };
     let mut cpu = 0u32;
@@ -209,10 +209,10 @@ fn next_own_command<'a>(lines: &mut Iter<'a, Line<'a>>, cpu: u32) -> Option<&'a 
     for line in lines {
         match line {
             Line::At {
-                processor,
+                cpu: line_cpu,
                 command,
                 ..
-            } if *processor == cpu => return Some(command),
+            } if *line_cpu == cpu => return Some(command),
             _ => (),
         }
     }
@@ -339,7 +339,7 @@ fn what_threads_leave_adds_up(rt: HostRuntime) {
     );
     let told = told.expect(&rt, "a run");
     let pins = pins_after(&rt, script.as_str(), &told.by_threads);
-    holds(&rt, told.pins_left == pins.of_processors);
+    holds(&rt, told.pins_left == pins.of_cpus);
     the_storm_adds_up(&rt, &told.after_threads, &pins);
     holds(&rt, told.audit.frames == FRAMES);
     holds(

@@ -45,7 +45,8 @@ Overlaps blocks b = (c : Block) × Contains blocks c × ((f : ℕ) × Covers c f
 
 -- exactly one of the block and its buddy is in the list
 abbrev pub IsOneOfPair : List Block → Block → Type 0
-IsOneOfPair blocks b = (Contains blocks b × ¬ Contains blocks (buddy b)) ⊎ ((¬ Contains blocks b) × Contains blocks (buddy b))
+IsOneOfPair blocks b = (Contains blocks b × ¬ Contains blocks (buddy b))
+    ⊎ ((¬ Contains blocks b) × Contains blocks (buddy b))
 
 -- no block is of exactly this order
 abbrev pub HasNoneOf : List Block → ℕ → Type 0

@@ -20,7 +20,10 @@ enclosing b = record { at = b.at - b.at % 2 ^ (b.order + 1); order = b.order + 1
 
 -- the buddy of the block at x is at x + 2 ^ k if x is a multiple of 2 ^ (k + 1), else at x - 2 ^ k
 abbrev pub buddy : Block → Block
-buddy b = record { at = if b.at % 2 ^ (b.order + 1) == 0 then b.at + 2 ^ b.order else b.at - 2 ^ b.order; order = b.order }
+buddy b = record {
+  at = if b.at % 2 ^ (b.order + 1) == 0 then b.at + 2 ^ b.order else b.at - 2 ^ b.order;
+  order = b.order;
+}
 
 -- the block and its buddy are blocks of the zone, of an order below 10, so that the pair has a bit (Gorman, chapter 6)
 pub record HasPairBit (frames : ℕ) (b : Block) : Type 0 where

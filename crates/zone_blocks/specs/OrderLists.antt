@@ -1,6 +1,6 @@
 -- How the free areas are stored: for each order the set of its blocks, and the list that links them by address.
-use Rattle.std.specs.Prelude.{◌≡◌, ℕ, ◌+◌, ◌*◌, ◌/◌, ◌^◌, ◌<◌, ◌≤◌, ◌⊎◌, ◌&&◌, ◌||◌, Bool, false, Option, None, Some, nat_eq, nat_lt}
-use Rattle.std.specs.Prelude.{nat_le, List, [], length, map, slice_index_or, slice_set}
+use Rattle.std.specs.Prelude.{◌≡◌, ℕ, ◌+◌, ◌*◌, ◌/◌, ◌^◌, ◌<◌, ◌≤◌, ◌⊎◌, ◌&&◌, ◌||◌, Bool, false, Option, None, Some}
+use Rattle.std.specs.Prelude.{nat_eq, nat_lt, nat_le, List, [], length, map, slice_index_or, slice_set}
 use Rattle.std.specs.List.{AllPairs, Contains, flat_map, filter, range_with_len}
 use Rattle.bit_levels.specs.Sets.{IsIn, HasNoneIn, IsLastIn}
 use Rattle.zone_blocks.specs.declared.block.Block.{Block}
@@ -27,7 +27,8 @@ with_bit bits order number value = slice_set bits order (slice_set (slice_index_
 
 -- the blocks of one order that a zone can have, by address
 abbrev pub blocks_of_order : ℕ → ℕ → List Block
-blocks_of_order frames order = map (λ i. record { at = i * 2 ^ order; order = order }) (range_with_len 0 (frames / 2 ^ order))
+blocks_of_order frames order = map (λ i. record { at = i * 2 ^ order; order = order })
+    (range_with_len 0 (frames / 2 ^ order))
 
 -- the blocks of all orders that a zone can have, in walk order
 abbrev pub blocks_of_zone : ℕ → List Block
@@ -94,12 +95,14 @@ pub record AreOrderLists (frames : ℕ) (bits : List (List Bool)) (links : List 
 -- The node before a block's number by the bits of an order: the last block below it, or the head.
 abbrev pub IsNodeBelow : ℕ → List Bool → ℕ → ℕ → ℕ → Type 0
 IsNodeBelow frames bits order number node =
-    (HasNoneIn bits 0 number × (node ≡ head_of frames order)) ⊎ ((i : ℕ) × IsLastIn bits 0 number i × (node ≡ i * 2 ^ order))
+    (HasNoneIn bits 0 number × (node ≡ head_of frames order))
+    ⊎ ((i : ℕ) × IsLastIn bits 0 number i × (node ≡ i * 2 ^ order))
 
 -- the node before a block: the head if the block begins before the first of its order, else by the bits
 abbrev pub IsNodeBefore : ℕ → List Link → List Bool → Block → ℕ → Type 0
 IsNodeBefore frames links bits b node =
-    ((node ≡ head_of frames b.order) × (b.at < next_of links (head_of frames b.order))) ⊎ IsNodeBelow frames bits b.order (b.at / 2 ^ b.order) node
+    ((node ≡ head_of frames b.order) × (b.at < next_of links (head_of frames b.order)))
+    ⊎ IsNodeBelow frames bits b.order (b.at / 2 ^ b.order) node
 
 -- ---- the walk
 
@@ -128,5 +131,6 @@ blocks_from blocks (Some b) = filter (is_from b) blocks
 pub record AreMaximalUpTo (free : List Bool) (order i : ℕ) (blocks : List Block) : Type 0 where
   pub each : (b : Block) → Contains blocks b → IsMaximalBlock free b
   pub before : (b : Block) → Contains blocks b → (b.order < order) ⊎ ((b.order ≡ order) × (b.at < i * 2 ^ order))
-  pub all : (b : Block) → IsMaximalBlock free b → (b.order < order) ⊎ ((b.order ≡ order) × (b.at < i * 2 ^ order)) → Contains blocks b
+  pub all : (b : Block) → IsMaximalBlock free b → (b.order < order) ⊎ ((b.order ≡ order) × (b.at < i * 2 ^ order))
+      → Contains blocks b
   pub ordered : AllPairs Precedes blocks

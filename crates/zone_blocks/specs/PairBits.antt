@@ -1,5 +1,6 @@
 -- How the free areas are stored: for each order below 10 one bit for each pair of buddies, as in Gorman, chapter 6.
-use Rattle.std.specs.Prelude.{◌≡◌, ◌≢◌, ℕ, ◌+◌, ◌⊎◌, ◌/◌, ◌^◌, ◌<◌, ◌↔◌, Bool, false, not, List, [], length, slice_index_or, slice_set}
+use Rattle.std.specs.Prelude.{◌≡◌, ◌≢◌, ℕ, ◌+◌, ◌⊎◌, ◌/◌, ◌^◌, ◌<◌, ◌↔◌, Bool, false, not, List, [], length}
+use Rattle.std.specs.Prelude.{slice_index_or, slice_set}
 use Rattle.std.specs.List.{Contains}
 use Rattle.bit_levels.specs.Sets.{IsIn}
 use Rattle.zone_blocks.specs.declared.block.Block.{Block}
@@ -18,7 +19,8 @@ pub record AreBitLists (frames : ℕ) (pairs : List (List Bool)) : Type 0 where
 -- the bit of each pair is 1 exactly if exactly one of the two is in the areas
 pub record ArePairBits (frames : ℕ) (blocks : List Block) (pairs : List (List Bool)) : Type 0 where
   pub lists : AreBitLists frames pairs
-  pub bits : (b : Block) → HasPairBit frames b → IsIn (slice_index_or pairs b.order []) (pair_of b) ↔ IsOneOfPair blocks b
+  pub bits : (b : Block) → HasPairBit frames b → IsIn (slice_index_or pairs b.order []) (pair_of b)
+      ↔ IsOneOfPair blocks b
 
 -- the bit of the block's pair
 abbrev pub bit_of : List (List Bool) → Block → Bool
@@ -26,7 +28,8 @@ bit_of pairs b = slice_index_or (slice_index_or pairs b.order []) (pair_of b) fa
 
 -- the bits with that of the block's pair toggled
 abbrev pub toggled : List (List Bool) → Block → List (List Bool)
-toggled pairs b = slice_set pairs b.order (slice_set (slice_index_or pairs b.order []) (pair_of b) (not (bit_of pairs b)))
+toggled pairs b = slice_set pairs b.order
+    (slice_set (slice_index_or pairs b.order []) (pair_of b) (not (bit_of pairs b)))
 
 -- one block was inserted or removed, and every other is as before
 pub record ChangesOne (old new : List Block) (c : Block) : Type 0 where

@@ -44,7 +44,8 @@ impl Model for FreeAreas {
 
     ghost view = { λ a. record { frames = a.frames; blocks = blocks_of a.frames a.bits.items } };
 
-    ghost invariant = { λ a. AreOrderLists a.frames a.bits.items a.links × ArePairBits a.frames (blocks_of a.frames a.bits.items) a.pairs.items };
+    ghost invariant = { λ a. AreOrderLists a.frames a.bits.items a.links
+        × ArePairBits a.frames (blocks_of a.frames a.bits.items) a.pairs.items };
 }
 
 impl FreeAreas {
@@ -197,7 +198,8 @@ impl FreeAreas {
     // The same for an exponent, from which on there may be no order.
     pub(crate) fn first_from(&self, exponent: u32) -> Option<Block>
         ensures apart { AreBlocksApart self.now.frames self.now.blocks }
-        ensures smallest { MatchOption result (HasNoneFrom self.now.blocks exponent) (IsSmallestFrom self.now.blocks exponent) }
+        ensures smallest { MatchOption result (HasNoneFrom self.now.blocks exponent)
+            (IsSmallestFrom self.now.blocks exponent) }
     {
         for each in exponent..Order::COUNT {
             let order = Order::of(each).unwrap();
@@ -212,7 +214,8 @@ impl FreeAreas {
     pub(crate) fn after(&self, block: &Block) -> Option<Block>
         requires { Contains self.now.blocks block.now }
         ensures apart { AreBlocksApart self.now.frames self.now.blocks }
-        ensures next { MatchOption result (HasNoneAfter self.now.blocks block.now) (IsNextAfter self.now.blocks block.now) }
+        ensures next { MatchOption result (HasNoneAfter self.now.blocks block.now)
+            (IsNextAfter self.now.blocks block.now) }
     {
         let order = block.order;
         let node = self.links.next(block.at as usize);

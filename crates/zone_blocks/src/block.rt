@@ -29,7 +29,8 @@ impl Block {
     /// The buddy, with which the block may be merged (Knuth). None exactly if the order is 10, or one of the two isn't
     /// a block of a zone of this many frames.
     pub fn buddy_in(&self, frames: u32) -> Option<Block>
-        ensures { MatchOption result (¬ HasPairBit frames self.now) (λ other. HasPairBit frames self.now × (other ≡ buddy self.now)) }
+        ensures { MatchOption result (¬ HasPairBit frames self.now)
+            (λ other. HasPairBit frames self.now × (other ≡ buddy self.now)) }
     {
         let order = self.order;
         let _next = Order::of(order.exponent() + 1)?;

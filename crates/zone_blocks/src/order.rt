@@ -4,8 +4,8 @@ ghost use Rattle.std.specs.Prelude.{◌≡◌, ◌^◌, ◌≤◌, ◌<◌, Matc
 
 use std::marker::Model;
 
-/// The order of a block, 0 to 10: a block of order k has 2^k frames. A contract sees the number. It takes one byte, since
-/// the record of a frame may hold one.
+/// The order of a block, 0 to 10: a block of order k has 2^k frames. A contract sees the number. It takes one byte,
+/// since the record of a frame may hold one.
 #[derive(Clone, Copy, Debug, PartialEq, Eq, PartialOrd, Ord)]
 pub struct Order {
     exponent: u8,

@@ -1,6 +1,7 @@
 //! The bits of the pairs of buddies.
 
-ghost use Rattle.std.specs.Prelude.{◌≡◌, ◌<◌, ◌+◌, ◌/◌, ◌^◌, ◌↔◌, ℕ, List, [], IfOk, MatchOption, length, slice_index_or};
+ghost use Rattle.std.specs.Prelude.{◌≡◌, ◌<◌, ◌+◌, ◌/◌, ◌^◌, ◌↔◌, ℕ, List, [], IfOk, MatchOption, length};
+ghost use Rattle.std.specs.Prelude.{slice_index_or};
 ghost use Rattle.zone_blocks.specs.declared.block.Block.{Block};
 ghost use Rattle.zone_blocks.specs.Block.{IsBlock, HasPairBit};
 ghost use Rattle.zone_blocks.specs.PairBits.{AreBitLists, ArePairBits, ChangesOne, bit_of, pair_of};
@@ -25,7 +26,8 @@ pub fn new_pairs(alloc: Global, frames: u32) -> Result<Vec<Bits>, AllocError>
 /// The number of a block's pair. None exactly if the pair has no bit.
 fn pair_number(frames: u32, block: &Block) -> Option<usize>
     requires { IsBlock frames block.now }
-    ensures { MatchOption result (¬ HasPairBit frames block.now) (λ number. HasPairBit frames block.now × (number ≡ pair_of block.now)) }
+    ensures { MatchOption result (¬ HasPairBit frames block.now)
+        (λ number. HasPairBit frames block.now × (number ≡ pair_of block.now)) }
 {
     let next = Order::of(block.order.exponent() + 1)?;
     let exponent = next.exponent();
@@ -42,7 +44,8 @@ pub fn toggle_pair(pairs: &mut Vec<Bits>, frames: u32, block: &Block)
     requires pairs { AreBitLists frames pairs.old.items }
     requires block { IsBlock frames block.now }
     ensures lists { AreBitLists frames pairs.new.items }
-    ensures bits { (old new : List Block) → ArePairBits frames old pairs.old.items → ChangesOne old new block.now → ArePairBits frames new pairs.new.items }
+    ensures bits { (old new : List Block) → ArePairBits frames old pairs.old.items → ChangesOne old new block.now
+        → ArePairBits frames new pairs.new.items }
 {
     if let Some(number) = pair_number(frames, block) {
         pairs[block.order.exponent() as usize].toggle(number);
@@ -52,7 +55,8 @@ pub fn toggle_pair(pairs: &mut Vec<Bits>, frames: u32, block: &Block)
 /// The bit of a block's pair. None exactly if it has none.
 pub fn read_pair(pairs: &Vec<Bits>, frames: u32, block: &Block) -> Option<bool>
     requires { AreBitLists frames pairs.now.items }
-    ensures { MatchOption result (¬ HasPairBit frames block.now) (λ bit. HasPairBit frames block.now × (bit ≡ bit_of pairs.now.items block.now)) }
+    ensures { MatchOption result (¬ HasPairBit frames block.now)
+        (λ bit. HasPairBit frames block.now × (bit ≡ bit_of pairs.now.items block.now)) }
 {
     if !block.is_block_of(frames) {
         return None;

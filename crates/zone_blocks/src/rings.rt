@@ -4,7 +4,8 @@ ghost use Rattle.std.specs.Prelude.{◌≡◌, ◌≤◌, ◌<◌, ◌+◌, ◌*
 ghost use Rattle.zone_blocks.specs.declared.block.Block.{Block};
 ghost use Rattle.zone_blocks.specs.Links.{next_of};
 ghost use Rattle.zone_blocks.specs.Block.{IsBlock};
-ghost use Rattle.zone_blocks.specs.OrderLists.{AreBlockBits, AreRings, MeetsRange, IsNodeBelow, IsNodeBefore, blocks_of};
+ghost use Rattle.zone_blocks.specs.OrderLists.{AreBlockBits, AreRings, MeetsRange, IsNodeBelow, IsNodeBefore};
+ghost use Rattle.zone_blocks.specs.OrderLists.{blocks_of};
 
 use crate::block::Block;
 use crate::links::Links;
@@ -47,7 +48,8 @@ pub fn head_of(frames: u32, order: Order) -> usize
 
 /// The block of this order that begins at a node, unless that is a head.
 pub fn block_at(frames: u32, order: Order, node: usize) -> Option<Block>
-    ensures { MatchOption result (frames ≤ node) (λ block. (node < frames) × (block ≡ record { at = node; order = order })) }
+    ensures { MatchOption result (frames ≤ node)
+        (λ block. (node < frames) × (block ≡ record { at = node; order = order })) }
 {
     if node < frames as usize {
         Some(Block {
@@ -64,7 +66,8 @@ pub fn first_of(links: &Links, frames: u32, order: Order) -> Option<Block>
     requires { length links.now ≡ frames + 11 }
     ensures order { order ≤ 10 }
     ensures first { MatchOption result (frames ≤ next_of links.now (frames + order))
-        (λ block. (next_of links.now (frames + order) < frames) × (block ≡ record { at = next_of links.now (frames + order); order = order })) }
+        (λ block. (next_of links.now (frames + order) < frames)
+        × (block ≡ record { at = next_of links.now (frames + order); order = order })) }
 {
     block_at(frames, order, links.next(head_of(frames, order)))
 }

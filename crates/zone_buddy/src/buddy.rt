@@ -47,7 +47,8 @@ impl Buddy {
     /// Takes a block of this order: the front of the block with the least address of the least sufficient order. None,
     /// and nothing changed, exactly if there is no free block of that order or above.
     pub fn take(&mut self, order: Order) -> Option<Block>
-        ensures taken { MatchOption result (HasNoneFrom self.old.blocks order) (IsFrontOfSmallest self.old.blocks order) }
+        ensures taken { MatchOption result (HasNoneFrom self.old.blocks order)
+            (IsFrontOfSmallest self.old.blocks order) }
         ensures none { IfNone result (self.new ≡ self.old) }
         ensures frames { IfSome result (λ block. TakesFrames self.old.free block self.new.free) }
         ensures areas { AreMaximalBlocks self.new.free self.new.blocks }

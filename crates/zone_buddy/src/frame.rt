@@ -13,7 +13,8 @@ use zone_blocks::order::Order;
 /// The free block that has this frame, by one look for each order.
 pub fn block_with(areas: &FreeAreas, frame: u32) -> Option<Block>
     requires { AreKept areas.now }
-    ensures { MatchOption result (HasNoBlockWith areas.now.blocks frame) (λ block. Contains areas.now.blocks block × Covers block frame) }
+    ensures { MatchOption result (HasNoBlockWith areas.now.blocks frame)
+        (λ block. Contains areas.now.blocks block × Covers block frame) }
 {
     for exponent in 0..Order::COUNT {
         let order = Order::of(exponent).unwrap();
@@ -34,7 +35,8 @@ pub fn free_other_halves(areas: &mut FreeAreas, block: &Block, frame: u32)
     requires frame { Covers block.now frame }
     ensures kept { AreKept areas.new }
     ensures frames { areas.new.frames ≡ areas.old.frames }
-    ensures in_use { (free : List Bool) → TakesFrames free block.now (set_of areas.old) → TakesFrames free (block_at frame 0) (set_of areas.new) }
+    ensures in_use { (free : List Bool) → TakesFrames free block.now (set_of areas.old)
+        → TakesFrames free (block_at frame 0) (set_of areas.new) }
 {
     let mut exponent = block.order.exponent();
     let mut at = block.at;

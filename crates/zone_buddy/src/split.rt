@@ -18,7 +18,8 @@ pub fn free_upper_halves(areas: &mut FreeAreas, block: &Block, order: Order)
     requires enough { order ≤ block.now.order }
     ensures kept { AreKept areas.new }
     ensures frames { areas.new.frames ≡ areas.old.frames }
-    ensures in_use { (free : List Bool) → TakesFrames free block.now (set_of areas.old) → TakesFrames free (block_at block.now.at order) (set_of areas.new) }
+    ensures in_use { (free : List Bool) → TakesFrames free block.now (set_of areas.old)
+        → TakesFrames free (block_at block.now.at order) (set_of areas.new) }
 {
     let mut exponent = block.order.exponent();
     while exponent > order.exponent() {

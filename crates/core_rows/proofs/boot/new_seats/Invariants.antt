@@ -3,9 +3,9 @@ use Rattle.std.proofs.Common.{◌≡◌, ◌+◌, All, vec_len, vec_capacity}
 use Rattle.core_rows.specs.Rooms.{HasRoom, IsNewSeat}
 use Rattle.core_rows.proofs.boot.new_seats.Given as goal
 
-abbrev pub invariant-loop-number : goal.invariant-loop-number
-invariant-loop-number l = record {
-  size : vec_len l.seats ≡ l.number;
+abbrev pub invariant-loop-cpu : goal.invariant-loop-cpu
+invariant-loop-cpu l = record {
+  size : vec_len l.seats ≡ l.cpu;
   room : vec_capacity l.seats ≡ l.fn.cpus + 1;
   rooms : All (HasRoom l.frames) l.seats.items;
   none : All (IsNewSeat l.frames) l.seats.items;

@@ -7,10 +7,10 @@ use Rattle.core_steps.proofs.Serving.{unreported_few}
 use Rattle.step_rules.specs.Phases.{has_as, FreshFrame, passed_back}
 use Rattle.core_steps.proofs.hand_over.pass_back.Goals as goal
 
-pub take_from_lists-requires-clause-few : goal.take_from_lists-requires-clause-few
-take_from_lists-requires-clause-few c =
+pub unlist_frame-requires-clause-few : goal.unlist_frame-requires-clause-few
+unlist_frame-requires-clause-few c =
     subst (λ (t : State). (t.parts c.args.seat).unreported < 2 ^ 100) (sym c.set_phase.ensures.state)
-    (unreported_few (state_in c.args.rows.now) c.args.seat c.requires.few)
+    (unreported_few (state_in c.args.rows.now) c.args.seat c.requires.bounded)
 
 pub returns : goal.returns
 returns c =
@@ -30,7 +30,7 @@ returns c =
       made = record {
         answered = tt;
         counted = tt;
-        state = c.take_from_lists.ensures.state ∙ (λ i. left (mid i) (fresh i));
-        fits = c.take_from_lists.ensures.fits;
+        state = c.unlist_frame.ensures.state ∙ (λ i. left (mid i) (fresh i));
+        fits = c.unlist_frame.ensures.fits;
       };
     }

@@ -6,20 +6,20 @@ use Rattle.core_rows.specs.Shown.{state_in}
 use Rattle.core_steps.proofs.Serving.{take_in_room}
 use Rattle.core_steps.proofs.hand_over.take_in.Goals as goal
 
-pub put_on_list-requires-clause-room : goal.put_on_list-requires-clause-room
-put_on_list-requires-clause-room c =
+pub list_frame-requires-clause-room : goal.list_frame-requires-clause-room
+list_frame-requires-clause-room c =
     subst (λ (t : State). length (t.parts c.args.seat).list < t.zone.frames) (sym c.set_phase.ensures.state)
-    (take_in_room (state_in c.args.rows.now) c.args.seat c.args.frame c.requires.few c.requires.legal)
+    (take_in_room (state_in c.args.rows.now) c.args.seat c.args.frame c.requires.bounded c.requires.legal)
 
 pub returns : goal.returns
 returns c = record {
   made = record {
     answered = tt;
     counted = tt;
-    state = c.put_on_list.ensures.state ∙ ap (λ (t : State). with_part t c.args.seat (record (t.parts c.args.seat) {
+    state = c.list_frame.ensures.state ∙ ap (λ (t : State). with_part t c.args.seat (record (t.parts c.args.seat) {
       list =
           with_last (t.parts c.args.seat).list c.args.frame;
     })) c.set_phase.ensures.state;
-    fits = c.put_on_list.ensures.fits;
+    fits = c.list_frame.ensures.fits;
   };
 }

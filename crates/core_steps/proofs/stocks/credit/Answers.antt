@@ -7,22 +7,22 @@ use Rattle.core_steps.proofs.Serving.{credit_room, pages_few}
 use Rattle.step_rules.specs.After.{credited}
 use Rattle.core_steps.proofs.stocks.credit.Goals as goal
 
-pub take_credit-requires-clause-room : goal.take_credit-requires-clause-room
-take_credit-requires-clause-room c =
+pub credit-requires-clause-room : goal.credit-requires-clause-room
+credit-requires-clause-room c =
     subst (λ (t : State). length (t.parts c.args.seat).list < t.zone.frames) (sym c.set_phase.ensures.state)
-    (credit_room (state_in c.args.rows.now) c.args.seat c.args.frame c.requires.few c.requires.legal)
+    (credit_room (state_in c.args.rows.now) c.args.seat c.args.frame c.requires.bounded c.requires.legal)
 
-pub take_credit-requires-clause-few : goal.take_credit-requires-clause-few
-take_credit-requires-clause-few c =
+pub credit-requires-clause-few : goal.credit-requires-clause-few
+credit-requires-clause-few c =
     subst (λ (t : State). (t.parts c.args.seat).stock.pages < 2 ^ 100) (sym c.set_phase.ensures.state)
-    (pages_few (state_in c.args.rows.now) c.args.seat c.requires.few)
+    (pages_few (state_in c.args.rows.now) c.args.seat c.requires.bounded)
 
 pub returns : goal.returns
 returns c = record {
   made = record {
     answered = sym c.is_drained.ensures ∙ c.if-is_drained.false;
     counted = tt;
-    state = c.take_credit.ensures.state ∙ ap (λ (t : State). with_part t c.args.seat (credited (t.parts c.args.seat) c.args.frame)) c.set_phase.ensures.state;
-    fits = c.take_credit.ensures.fits;
+    state = c.credit.ensures.state ∙ ap (λ (t : State). with_part t c.args.seat (credited (t.parts c.args.seat) c.args.frame)) c.set_phase.ensures.state;
+    fits = c.credit.ensures.fits;
   };
 }

@@ -7,15 +7,15 @@ use Rattle.step_rules.specs.After.{drained, with_more}
 use Rattle.core_steps.proofs.stocks.drain_stock.Goals as goal
 
 pub add_pending-requires-clause-few : goal.add_pending-requires-clause-few
-add_pending-requires-clause-few c = subst (λ (t : State). (g : ℕ) → t.pending g ≤ 2 ^ 96) (sym c.empty_stock-pages.ensures.state) c.requires.few.pending
+add_pending-requires-clause-few c = subst (λ (t : State). (g : ℕ) → t.pending g ≤ 2 ^ 96) (sym c.drain_stock-pages.ensures.state) c.requires.bounded.pending
 
 pub returns : goal.returns
 returns c =
     let s = state_in c.args.rows.now in
     let p = c.args.cpu in
-    let n = c.empty_stock-pages.result in
-    let pages : n ≡ (s.parts p).stock.pages = c.empty_stock-pages.ensures.pages in
-    let mid : state_in c.empty_stock-pages.new.self ≡ with_part s p (drained (s.parts p) n) = c.empty_stock-pages.ensures.state
+    let n = c.drain_stock-pages.result in
+    let pages : n ≡ (s.parts p).stock.pages = c.drain_stock-pages.ensures.pages in
+    let mid : state_in c.drain_stock-pages.new.self ≡ with_part s p (drained (s.parts p) n) = c.drain_stock-pages.ensures.state
     ∙ ap (λ k. with_part s p (drained (s.parts p) k)) (sym pages) in
     let of : c.stock_group-of.result ≡ (s.parts p).stock.group = c.stock_group-of.ensures in
     record {

@@ -7,9 +7,9 @@ use Rattle.core_steps.proofs.Serving.{book_few}
 use Rattle.step_rules.specs.After.{filled}
 use Rattle.core_steps.proofs.stocks.fill.Goals as goal
 
-pub put_in_stock-requires-clause-few : goal.put_in_stock-requires-clause-few
-put_in_stock-requires-clause-few c =
-    subst (λ (t : State). (t.parts c.args.cpu).book < 2 ^ 100) (sym c.set_pending.ensures.state) (book_few (state_in c.args.rows.now) c.args.cpu c.requires.few)
+pub fill_stock-requires-clause-few : goal.fill_stock-requires-clause-few
+fill_stock-requires-clause-few c =
+    subst (λ (t : State). (t.parts c.args.cpu).book < 2 ^ 100) (sym c.set_pending.ensures.state) (book_few (state_in c.args.rows.now) c.args.cpu c.requires.bounded)
 
 pub returns : goal.returns
 returns c =
@@ -19,8 +19,8 @@ returns c =
       made = record {
         answered = tt;
         counted = tt;
-        state = c.put_in_stock.ensures.state ∙ ap (λ (t : State). with_part t c.args.cpu
+        state = c.fill_stock.ensures.state ∙ ap (λ (t : State). with_part t c.args.cpu
             (filled (t.parts c.args.cpu) c.args.group c.args.pages)) (c.set_pending.ensures.state ∙ ap (with_pending s c.args.group) left);
-        fits = c.put_in_stock.ensures.fits;
+        fits = c.fill_stock.ensures.fits;
       };
     }

@@ -43,15 +43,14 @@ use Rattle.std_heap.specs.contracts.Global as Heap
 use Rattle.std.specs.Prelude.{Option, None, Some}
 use Rattle.std.specs.Global.{Global}
 use Rattle.frame_word.specs.Seats.{KnownTable}
-use Rattle.stock_word.specs.Stock.{Words}
+use Rattle.stock_word.specs.Stock.{KnownStockTable}
 use Rattle.core.specs.contracts.marker.Brand as Brand
 use Rattle.core.proofs.marker.Brand.TheLaws as brand_row
 use Rattle.handles.proofs.Moves.{word, ptr_typed, word_typed, both, and_tt, parts_out, parts_in, row_tells}
 use Rattle.handles.specs.Owned.{brand, marker, live_owns}
 use Rattle.handles.specs.Serving.{IsAsked, IsFit, IsNamed, Serves, frames_of, stocks_of}
 use Rattle.handles.specs.Known.{KnownLive}
-use Rattle.handles.specs.declared.calls.Call.TheVariants as call
-use Rattle.handles.specs.declared.requests.Request.TheVariants.{Start, Command, Call, Keep, Recall, End}
+use Rattle.handles.specs.declared.requests.Request.TheVariants.{Start, Command, Keep, Recall, End}
 use Rattle.cpu_part.specs.declared.boot_name.BootName.{Ghosts}
 use Rattle.handles.specs.contracts.raw.Raw as Raw
 use Rattle.handles.specs.contracts.hold.Hold as Hold
@@ -80,21 +79,19 @@ abbrev args : Args
 args = bounded (a_type ∷ []) (brand, tt) (dcons none dnil)
 
 -- the name is that of the request, if it brings a boot
-named : (f : KnownTable) (s : Words) (q : Request.the_row.Denot) → IsNamed (frames_of f q) (stocks_of s q) q
+named : (f : KnownTable) (s : KnownStockTable) (q : Request.the_row.Denot) → IsNamed (frames_of f q) (stocks_of s q) q
 named f s (Start alloc boot sizes) = (refl, refl)
 named f s (Command alloc text is_explained) = tt
-named f s (Call processor call) = tt
 named f s (Keep text) = tt
 named f s (Recall alloc) = tt
 named f s (End alloc) = tt
 
 -- what is owned under the name that is remembered is owned under the one that is picked
-same : (a : Global) (p : Ptr) (f : KnownTable) (s : Words) (o : Option KnownLive) (q : Request.the_row.Denot) → IsFit o q
+same : (a : Global) (p : Ptr) (f : KnownTable) (s : KnownStockTable) (o : Option KnownLive) (q : Request.the_row.Denot) → IsFit o q
     → live_owns marker f s a p o ≡ live_owns marker (frames_of f q) (stocks_of s q) a p o
 same a p f s None q fit = refl
 same a p f s (Some live) (Start alloc boot sizes) fit = absurd fit
 same a p f s (Some live) (Command alloc text is_explained) fit = refl
-same a p f s (Some live) (Call processor call) fit = refl
 same a p f s (Some live) (Keep text) fit = refl
 same a p f s (Some live) (Recall alloc) fit = refl
 same a p f s (Some live) (End alloc) fit = refl
@@ -109,13 +106,6 @@ Asked = plain (λ _. Request.the_row)
 asked_blank : (x : Request.the_row.Denot) (f : Last (Request.the_row.exit yes) x) → T (blank (left (Request.the_row.exit yes) x f))
 asked_blank (Start alloc boot sizes) f = tt
 asked_blank (Command alloc text is_explained) f = tt
-asked_blank (Call processor (call.Mkdir path)) f = tt
-asked_blank (Call processor (call.Rmdir path)) f = tt
-asked_blank (Call processor (call.Write path file value)) f = tt
-asked_blank (Call processor (call.Read path file)) f = tt
-asked_blank (Call processor (call.Alloc group order)) f = tt
-asked_blank (Call processor (call.AtFrame frame what)) f = tt
-asked_blank (Call processor call.Settle) f = tt
 asked_blank (Keep text) f = tt
 asked_blank (Recall alloc) f = tt
 asked_blank (End alloc) f = tt

@@ -1,72 +1,24 @@
-use Rattle.std.proofs.Common.{◌≡◌, ℕ, ◌^◌, ◌<◌, refl, ◌∙◌, subst}
-use Rattle.mem_machine.specs.Blocks.{taken_steps, unplaced_steps}
-use Rattle.mem_reclaim.specs.Moves.{Leads}
-use Rattle.mem_reclaim.specs.Passes.{Reclaims}
-use Rattle.mem_reclaim.specs.Staying.{MissedAll}
+use Rattle.std.proofs.Common.{◌∙◌, ap, sym, subst}
+use Rattle.kill_notes.specs.declared.note.Note.TheVariants.{Zone}
+use Rattle.mem_machine.specs.Machines.{KnownMachine, Visits, with_note}
 use Rattle.mem_machine.specs.Local.{visit_state}
-use Rattle.mem_alloc.specs.Stepping.{transition}
-use Rattle.mem_alloc.specs.Blocks.{FindsNoBlock, TakesFreeBlock}
-use Rattle.mem_alloc.proofs.Rounding.{rounds_none, rounds_done, rounds_succeed, rounds_end, rounds_more}
-use Rattle.mem_alloc.proofs.Taking.{is_none, by_none, none_spares}
+use Rattle.mem_alloc.specs.Blocks.{MakesTakeRounds, MayHaveBlock}
+use Rattle.mem_alloc.proofs.Rounding.{noted_visit, zone_noted}
+use Rattle.mem_alloc.proofs.Taking.{noted_room}
 use Rattle.mem_alloc.proofs.blocks.take_in_rounds.Goals as goal
 
-pub loop-round-init : goal.loop-round-init
-loop-round-init g c =
-    rounds_none g.N.BootName.frames (2 ^ c.args.order) (FindsNoBlock c.args.group c.args.order) (TakesFreeBlock c.args.group c.args.order)
-    c.args.machine.now c.args.cpu.now
+pub make_take_rounds-requires-clause-visit : goal.make_take_rounds-requires-clause-visit
+make_take_rounds-requires-clause-visit g c =
+    subst (λ (x : KnownMachine). Visits g.N.BootName.frames (visit_state x c.args.cpu.now)) (sym c.note.ensures)
+    (noted_visit g.N.BootName.frames c.args.machine.now c.args.cpu.now _ c.requires.visit)
 
-pub returns-in-Ok-clause-takes : goal.returns-in-Ok-clause-takes
-returns-in-Ok-clause-takes g c =
-    let t = g.N.BootName.frames in
-    let given = c.reclaim_anywhere-given.result in
-    let x = c.reclaim_anywhere-given.new.machine in
-    let wants : c.from.result ≡ 2 ^ c.args.order = c.from.ensures ∙ c.frames-pages.ensures.frames in
-    let reclaims = subst (λ (w : ℕ). Leads t given c.loop-round.machine x (Reclaims 0 w)) wants
-    c.reclaim_anywhere-given.ensures.reclaims in
-    let missed = subst (λ (w : ℕ). given < w → MissedAll 0 c.loop-round.machine x) wants c.reclaim_anywhere-given.ensures.missed in
-    rounds_succeed t (2 ^ c.args.order) (FindsNoBlock c.args.group c.args.order) (TakesFreeBlock c.args.group c.args.order) c.args.machine.now
-    c.args.cpu.now c.loop-round._round c.loop-round.machine c.loop-round.cpu c.loop-round.invariant c.loop-round-test.true given x reclaims
-    missed c.reclaim_anywhere-given.ensures.keeps c.take_block.new.self c.take_block.new.cpu (taken_steps c.args.group c.args.order c.in-Ok.head)
-    c.in-Ok.ensures.steps c.in-Ok.head (record { takes = c.in-Ok.ensures.takes; cpu = c.in-Ok.ensures.cpu; steps_are = refl })
-
-pub returns-in-Err-NoBlock-clause-takes : goal.returns-in-Err-NoBlock-clause-takes
-returns-in-Err-NoBlock-clause-takes g c =
-    let t = g.N.BootName.frames in
-    let given = c.reclaim_anywhere-given.result in
-    let x = c.reclaim_anywhere-given.new.machine in
-    let wants : c.from.result ≡ 2 ^ c.args.order = c.from.ensures ∙ c.frames-pages.ensures.frames in
-    let reclaims = subst (λ (w : ℕ). Leads t given c.loop-round.machine x (Reclaims 0 w)) wants
-    c.reclaim_anywhere-given.ensures.reclaims in
-    let missed = subst (λ (w : ℕ). given < w → MissedAll 0 c.loop-round.machine x) wants c.reclaim_anywhere-given.ensures.missed in
-    let none = is_none _ _ c.args.group c.args.order c.in-Err-NoBlock.field-0 c.in-Err-NoBlock.field-0-is c.in-Err-NoBlock.ensures.refuses in
-    let vain = by_none _ c.args.group c.args.order _ _ c.in-Err-NoBlock.field-0 c.in-Err-NoBlock.field-0-is c.in-Err-NoBlock.ensures.steps in
-    rounds_end t (2 ^ c.args.order) (FindsNoBlock c.args.group c.args.order) (TakesFreeBlock c.args.group c.args.order) c.args.machine.now
-    c.args.cpu.now c.loop-round._round c.loop-round.machine c.loop-round.cpu c.loop-round.invariant c.loop-round-test.true given x reclaims
-    missed c.reclaim_anywhere-given.ensures.keeps c.take_block.new.self c.take_block.new.cpu (unplaced_steps c.args.group c.args.order) vain
-    (record { none = none; cpu = c.in-Err-NoBlock.ensures.cpu; steps_are = refl }) c.if-given-eq0.true
-
-pub loop-round-preserved : goal.loop-round-preserved
-loop-round-preserved g c =
-    let t = g.N.BootName.frames in
-    let given = c.reclaim_anywhere-given.result in
-    let x = c.reclaim_anywhere-given.new.machine in
-    let wants : c.from.result ≡ 2 ^ c.args.order = c.from.ensures ∙ c.frames-pages.ensures.frames in
-    let reclaims = subst (λ (w : ℕ). Leads t given c.loop-round.machine x (Reclaims 0 w)) wants
-    c.reclaim_anywhere-given.ensures.reclaims in
-    let missed = subst (λ (w : ℕ). given < w → MissedAll 0 c.loop-round.machine x) wants c.reclaim_anywhere-given.ensures.missed in
-    let none = is_none _ _ c.args.group c.args.order c.in-Err-NoBlock.field-0 c.in-Err-NoBlock.field-0-is c.in-Err-NoBlock.ensures.refuses in
-    let vain = by_none _ c.args.group c.args.order _ _ c.in-Err-NoBlock.field-0 c.in-Err-NoBlock.field-0-is c.in-Err-NoBlock.ensures.steps in
-    let does : FindsNoBlock c.args.group c.args.order (transition t (visit_state x c.loop-round.cpu) (unplaced_steps c.args.group c.args.order)
-    (visit_state c.take_block.new.self c.take_block.new.cpu)) = record { none = none; cpu = c.in-Err-NoBlock.ensures.cpu; steps_are = refl } in
-    rounds_more t (2 ^ c.args.order) (FindsNoBlock c.args.group c.args.order) (TakesFreeBlock c.args.group c.args.order) c.args.machine.now
-    c.args.cpu.now c.loop-round._round c.loop-round.machine c.loop-round.cpu c.loop-round.invariant c.loop-round-test.true given x reclaims
-    missed c.reclaim_anywhere-given.ensures.keeps c.take_block.new.self c.take_block.new.cpu (unplaced_steps c.args.group c.args.order) vain
-    does c.if-given-eq0.false
-    (none_spares t c.args.group c.args.order x c.take_block.new.self c.loop-round.cpu c.take_block.new.cpu
-    (unplaced_steps c.args.group c.args.order) does)
+pub make_take_rounds-requires-clause-room : goal.make_take_rounds-requires-clause-room
+make_take_rounds-requires-clause-room g c =
+    subst (λ (x : KnownMachine). MayHaveBlock x c.args.group c.args.order) (sym c.note.ensures)
+    (noted_room c.args.machine.now _ c.args.group c.args.order c.requires.room)
 
 pub returns-clause-takes : goal.returns-clause-takes
 returns-clause-takes g c =
-    rounds_done g.N.BootName.frames (2 ^ c.args.order) (FindsNoBlock c.args.group c.args.order) (TakesFreeBlock c.args.group c.args.order)
-    c.args.machine.now c.args.cpu.now c.loop-round._round c.loop-round.machine c.loop-round.cpu c.loop-round.invariant
-    c.loop-round-test.false
+    zone_noted g.N.BootName.frames c.args.order (MakesTakeRounds c.args.group c.args.order c.make_take_rounds.result) c.args.machine.now c.note.new.self
+    c.args.cpu.now (visit_state c.make_take_rounds.new.machine c.make_take_rounds.new.cpu)
+    (c.note.ensures ∙ ap (λ k. with_note c.args.machine.now (Zone k)) c.exponent.ensures.exponent) c.make_take_rounds.ensures.takes

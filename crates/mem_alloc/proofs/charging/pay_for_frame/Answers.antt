@@ -20,26 +20,26 @@ returns-then-holds_page g c =
 pub charge_frame-requires-clause-visit : goal.charge_frame-requires-clause-visit
 charge_frame-requires-clause-visit g c =
     let t = g.N.BootName.frames in
-    emptied_visits _ _ _ _ _ c.number-number.ensures.number c.drain_stock.ensures.drains t _
+    emptied_visits _ _ _ _ _ c.number-cpu_number.ensures.number c.drain_stock.ensures.drains t _
     (looked_visit t _ _ _ _ c.holds_page.ensures.machine c.holds_page.ensures.cpu c.requires.visit)
 
 pub charge_frame-requires-clause-there : goal.charge_frame-requires-clause-there
 charge_frame-requires-clause-there g c =
-    emptied_has _ _ _ _ _ c.number-number.ensures.number c.drain_stock.ensures.drains c.args.group
+    emptied_has _ _ _ _ _ c.number-cpu_number.ensures.number c.drain_stock.ensures.drains c.args.group
     (ap (λ (x : KnownMachine). has_group x.ledger.groups c.args.group) c.holds_page.ensures.machine ∙ c.requires.there)
 
 pub charge_frame-requires-clause-alive : goal.charge_frame-requires-clause-alive
 charge_frame-requires-clause-alive g c =
-    emptied_alive _ _ _ _ _ c.number-number.ensures.number c.drain_stock.ensures.drains c.args.group
+    emptied_alive _ _ _ _ _ c.number-cpu_number.ensures.number c.drain_stock.ensures.drains c.args.group
     (ap (λ (x : KnownMachine). is_killed x.killed c.args.group) c.holds_page.ensures.machine ∙ c.requires.alive)
 
 pub charge_frame-requires-clause-drained : goal.charge_frame-requires-clause-drained
-charge_frame-requires-clause-drained g c = emptied_drained _ _ _ _ _ c.number-number.ensures.number c.drain_stock.ensures.drains
+charge_frame-requires-clause-drained g c = emptied_drained _ _ _ _ _ c.number-cpu_number.ensures.number c.drain_stock.ensures.drains
 
 pub returns-clause-pays : goal.returns-clause-pays
 returns-clause-pays g c =
-    pays_anew g.N.BootName.frames c.drain_stock.result c.number-number.result _ _ _ _ _ c.holds_page.ensures.machine
-    c.holds_page.ensures.cpu c.number-number.ensures.number c.drain_stock.ensures.drains c.drain_stock.ensures.steps c.args.sizes c.args.group _ _ _ refl
+    pays_anew g.N.BootName.frames c.drain_stock.result c.number-cpu_number.result _ _ _ _ _ c.holds_page.ensures.machine
+    c.holds_page.ensures.cpu c.number-cpu_number.ensures.number c.drain_stock.ensures.drains c.drain_stock.ensures.steps c.args.sizes c.args.group _ _ _ refl
     (λ page. false≢true (sym c.if-holds_page.false ∙ c.holds_page.ensures.holds.1 page)) c.charge_frame.result c.charge_frame.ensures.charges
 
 pub returns-clause-page : goal.returns-clause-page

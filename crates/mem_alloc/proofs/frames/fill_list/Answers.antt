@@ -78,7 +78,7 @@ returns-clause-fills g c =
     no_frame t c.args.sizes c.args.machine.now c.refill.new.self c.refill_in_rounds.new.machine c.drain_stock.new.self
     c.args.cpu.now c.refill.new.cpu c.refill_in_rounds.new.cpu
     (nil_from_length c.args.cpu.now.list (omega (arith, c.list_len.ensures.count))) first c.drain_stock.result
-    c.number-number.result c.if-refill_in_rounds.ensures.refills c.number-number.ensures.number c.drain_stock.ensures.drains
+    c.number-cpu_number.result c.if-refill_in_rounds.ensures.refills c.number-cpu_number.ensures.number c.drain_stock.ensures.drains
     c.drain_stock.ensures.steps
 
 pub returns-then-list_len-gt0-clause-fills : goal.returns-then-list_len-gt0-clause-fills

@@ -7,7 +7,7 @@ use Rattle.mem_reclaim.specs.declared.sets.Killed.{Killed}
 use Rattle.mem_reclaim.specs.Killing.{IsKilledBy, KillsVictim, victim_of, with_all_killed}
 use Rattle.mem_reclaim.specs.Sets.{kill_set}
 use Rattle.mem_reclaim.specs.Victim.{IsVictim}
-use Rattle.mem_alloc.specs.Kills.{KillsFor, has_room_at}
+use Rattle.mem_alloc.specs.Kills.{KillsForRoom, has_room_at}
 use Rattle.mem_alloc.specs.Stepping.{ByStepsOfAny}
 use Rattle.mem_alloc.proofs.Killing.{enough_room, fewer_alive, kills_end, so_far_killed, so_far_nobody, so_far_there}
 use Rattle.mem_alloc.proofs.kills.kill_for.Goals as goal
@@ -42,7 +42,7 @@ returns-in_default g c =
     let none = subst (λ (o : Option Killed). IsVictim c.kills.machine c.args.limited (victim_of o)) c.in_default.is c.kill.ensures.victim in
     let same : c.kill.new.machine ≡ c.kills.machine =
     subst (λ (o : Option Killed). KillsVictim t c.args.limited o c.kills.machine c.kill.new.machine) c.in_default.is c.kill.ensures.kills in
-    subst (λ (y : KnownMachine). ByStepsOfAny t (KillsFor c.args.requester c.args.limited c.args.pages) c.args.machine.now y) (sym same)
+    subst (λ (y : KnownMachine). ByStepsOfAny t (KillsForRoom c.args.requester c.args.limited c.args.pages) c.args.machine.now y) (sym same)
     (kills_end c.args.requester t c.args.limited c.args.pages c.args.machine.now c.kills.machine over c.kills.invariant (λ wanting. none))
 
 pub kills-smaller : goal.kills-smaller

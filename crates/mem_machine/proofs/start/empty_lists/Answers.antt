@@ -5,4 +5,4 @@ pub loop-owner-init : goal.loop-owner-init
 loop-owner-init c = empty_none _ c.in_ok-lists.ensures.items
 
 pub loop-owner-preserved : goal.loop-owner-preserved
-loop-owner-preserved c = empty_pushed _ _ _ c.new.result c.loop-owner.invariant c.new.ensures.owner c.new.ensures.stands c.in_ok-push.ensures.items
+loop-owner-preserved c = empty_pushed _ _ _ c.new.result c.loop-owner.invariant c.new.ensures.owner c.new.ensures.linked c.in_ok-push.ensures.items

@@ -1,4 +1,4 @@
-use Rattle.mem_reclaim.specs.Killing.{KillsAll}
+use Rattle.mem_reclaim.specs.Killing.{KillsGroups}
 use Rattle.mem_reclaim.specs.Sets.{alive_below}
 use Rattle.mem_reclaim.proofs.KillSets.{KilledSo, subtree_killed}
 use Rattle.mem_reclaim.proofs.kills.kill_subtree.Goals as goal
@@ -7,7 +7,7 @@ pub returns : goal.returns
 returns g c =
     let t = g.N.BootName.frames in
     let e = c.kill_below.ensures in
-    let below : KilledSo t (alive_below c.note_subtree.new.machine c.args.head) (KillsAll t c.args.limited (alive_below c.note_subtree.new.machine c.args.head))
+    let below : KilledSo t (alive_below c.note_subtree.new.machine c.args.head) (KillsGroups t c.args.limited (alive_below c.note_subtree.new.machine c.args.head))
     c.note_subtree.new.machine c.kill_below.new.machine =
     record { kills = e.kills; marked = e.marked; drained = e.drained; stocks = e.stocks; none_kept = e.none_kept; keeps = e.keeps } in
     let so = subtree_killed t c.args.limited c.args.head c.args.machine.now c.note_subtree.new.machine c.kill_below.new.machine c.note_group_kill.new.self

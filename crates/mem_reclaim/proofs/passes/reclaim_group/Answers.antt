@@ -2,7 +2,7 @@ use Rattle.std.proofs.Common.{◌≡◌, Bool, true, sym, ap, ◌∙◌, subst}
 use Rattle.group_tree.specs.Groups.{in_subtree}
 use Rattle.group_tree.proofs.CallerLemmas.{in_subtree-below}
 use Rattle.group_charge.specs.Charges.{Ledger}
-use Rattle.mem_reclaim.specs.Moves.{Leads}
+use Rattle.mem_reclaim.specs.Moves.{FreesBySteps}
 use Rattle.mem_reclaim.specs.Passes.{ReclaimsGroup}
 use Rattle.mem_reclaim.proofs.Passing.{turn_first, turn_none, turn_second}
 use Rattle.mem_reclaim.proofs.passes.reclaim_group.Goals as goal
@@ -17,7 +17,7 @@ returns-then-is_first-clause-turns g c =
     let t = g.N.BootName.frames in
     let inside : in_subtree c.args.machine.now.ledger.groups c.args.group c.args.turn ≡ true =
     ap (λ (l : Ledger). in_subtree l.groups c.args.group c.args.turn) (sym c.charges.ensures) ∙ sym c.is_below.ensures ∙ c.if-not-is_below.false in
-    subst (λ (first : Bool). Leads t c.age_and_scan.result c.args.machine.now c.age_and_scan.new.machine (ReclaimsGroup first c.args.group c.args.turn c.args.want))
+    subst (λ (first : Bool). FreesBySteps t c.age_and_scan.result c.args.machine.now c.age_and_scan.new.machine (ReclaimsGroup first c.args.group c.args.turn c.args.want))
     (sym c.if-is_first.true)
     (turn_first t c.args.group c.args.turn c.args.want c.age_and_scan.result c.args.machine.now c.age_and_scan.new.machine inside
     c.age_and_scan.ensures.passes)
@@ -32,7 +32,7 @@ returns-else-is_first-clause-turns g c =
     let t = g.N.BootName.frames in
     let inside : in_subtree c.args.machine.now.ledger.groups c.args.group c.args.turn ≡ true =
     ap (λ (l : Ledger). in_subtree l.groups c.args.group c.args.turn) (sym c.charges.ensures) ∙ sym c.is_below.ensures ∙ c.if-not-is_below.false in
-    subst (λ (first : Bool). Leads t c.scan_both.result c.args.machine.now c.scan_both.new.machine (ReclaimsGroup first c.args.group c.args.turn c.args.want))
+    subst (λ (first : Bool). FreesBySteps t c.scan_both.result c.args.machine.now c.scan_both.new.machine (ReclaimsGroup first c.args.group c.args.turn c.args.want))
     (sym c.if-is_first.false)
     (turn_second t c.args.group c.args.turn c.args.want c.scan_both.result c.args.machine.now c.scan_both.new.machine inside c.scan_both.ensures.passes)
 

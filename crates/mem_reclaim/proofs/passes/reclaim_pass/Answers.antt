@@ -5,26 +5,26 @@ use Rattle.mem_reclaim.proofs.passes.reclaim_pass.Goals as goal
 pub loop-number-init : goal.loop-number-init
 loop-number-init g c = pass_none g.N.BootName.frames c.args.is_first c.args.group c.args.want c.args.machine.now
 
-pub returns-then-want-given-clause-passes : goal.returns-then-want-given-clause-passes
-returns-then-want-given-clause-passes g c =
-    (pass_enough g.N.BootName.frames c.args.is_first c.args.group c.args.want c.args.machine.now c.loop-number.number c.loop-number.given c.loop-number.machine
-    c.loop-number.invariant c.if-want-given.true).passes
+pub returns-then-want-freed-clause-passes : goal.returns-then-want-freed-clause-passes
+returns-then-want-freed-clause-passes g c =
+    (pass_enough g.N.BootName.frames c.args.is_first c.args.group c.args.want c.args.machine.now c.loop-number.number c.loop-number.freed c.loop-number.machine
+    c.loop-number.invariant c.if-want-freed.true).passes
 
 pub loop-number-preserved : goal.loop-number-preserved
 loop-number-preserved g c =
-    let e = c.reclaim_group-given.ensures in
-    pass_more g.N.BootName.frames c.args.is_first c.args.group c.args.want c.args.machine.now c.loop-number.number c.loop-number.given c.loop-number.machine
-    c.loop-number.invariant c.loop-number-test.true c.if-want-given.false c.in-Some.turn c.in-Some.ensures.1 c.reclaim_group-given.result
-    c.reclaim_group-given.new.machine e.turns e.keeps e.usage e.few e.leaves e.missed
+    let e = c.reclaim_group-freed.ensures in
+    pass_more g.N.BootName.frames c.args.is_first c.args.group c.args.want c.args.machine.now c.loop-number.number c.loop-number.freed c.loop-number.machine
+    c.loop-number.invariant c.loop-number-test.true c.if-want-freed.false c.in-Some.turn c.in-Some.ensures.1 c.reclaim_group-freed.result
+    c.reclaim_group-freed.new.machine e.turns e.keeps e.usage e.few e.leaves e.missed
 
 pub returns : goal.returns
 returns g c =
-    let all = pass_done g.N.BootName.frames g.N.BootName.stocks c.args.is_first c.args.group c.args.want c.args.machine.now c.loop-number.number c.loop-number.given
+    let all = pass_done g.N.BootName.frames g.N.BootName.stocks c.args.is_first c.args.group c.args.want c.args.machine.now c.loop-number.number c.loop-number.freed
     c.loop-number.machine c.frame_states-frame_states.ensures.consistent c.loop-number.invariant c.loop-number-test.false in
     record { passes = all.passes; keeps = search rules; usage = search rules; few = search rules; leaves = search rules; missed = all.missed }
 
-pub returns-then-want-given-clause-few : goal.returns-then-want-given-clause-few
-returns-then-want-given-clause-few g c = search rules
+pub returns-then-want-freed-clause-few : goal.returns-then-want-freed-clause-few
+returns-then-want-freed-clause-few g c = search rules
 
-pub returns-then-want-given-clause-missed : goal.returns-then-want-given-clause-missed
-returns-then-want-given-clause-missed g c = search rules
+pub returns-then-want-freed-clause-missed : goal.returns-then-want-freed-clause-missed
+returns-then-want-freed-clause-missed g c = search rules

@@ -7,7 +7,7 @@ use Rattle.mem_reclaim.proofs.rounds.reclaim_round.Goals as goal
 pub returns-clause-makes : goal.returns-clause-makes
 returns-clause-makes g c =
     let x = c.reclaim-reclaimed.new.machine in
-    let given = c.reclaim-reclaimed.result.pages in
-    let noted : c.note.new.self ≡ with_note x (round_note c.args.group c.args.number given c.args.machine.now x) = search rules in
-    (round_noted g.N.BootName.frames c.args.group c.args.number c.args.want c.args.machine.now given x c.note.new.self c.reclaim-reclaimed.ensures.reclaims
+    let freed = c.reclaim-reclaimed.result.pages in
+    let noted : c.note.new.self ≡ with_note x (round_note c.args.group c.args.number freed c.args.machine.now x) = search rules in
+    (round_noted g.N.BootName.frames c.args.group c.args.number c.args.want c.args.machine.now freed x c.note.new.self c.reclaim-reclaimed.ensures.reclaims
     c.reclaim-reclaimed.ensures.keeps noted).makes

@@ -9,30 +9,30 @@ use Rattle.mem_reclaim.proofs.scan.scan.Goals as goal
 pub loop-met-init : goal.loop-met-init
 loop-met-init g c =
     let fits : c.args.group < 64 = search rules in
-    scan_first g.N.BootName.frames g.N.BootName.stocks c.args.machine.now c.frame_states-records.ensures.consistent c.args.marks_count c.args.group fits c.args.list
+    scan_first g.N.BootName.frames g.N.BootName.stocks c.args.machine.now c.frame_states-frame_states.ensures.consistent c.args.marks_count c.args.group fits c.args.list
     c.args.want c.oldest-next.result c.oldest-next.ensures
 
-pub returns-then-want-given-clause-scans : goal.returns-then-want-given-clause-scans
-returns-then-want-given-clause-scans g c =
-    (scan_enough g.N.BootName.frames c.args.marks_count c.args.group c.args.list c.args.want c.args.machine.now c.loop-met._met c.loop-met.given c.loop-met.next
-    c.loop-met.machine c.loop-met.invariant c.if-want-given.true).scans
+pub returns-then-want-freed-clause-scans : goal.returns-then-want-freed-clause-scans
+returns-then-want-freed-clause-scans g c =
+    (scan_enough g.N.BootName.frames c.args.marks_count c.args.group c.args.list c.args.want c.args.machine.now c.loop-met._met c.loop-met.freed c.loop-met.next
+    c.loop-met.machine c.loop-met.invariant c.if-want-freed.true).scans
 
 pub unreachable-requires-in_default-frame : goal.unreachable-requires-in_default-frame
 unreachable-requires-in_default-frame g c =
     let fits : c.args.group < 64 = search rules in
     let h = scan_here g.N.BootName.frames g.N.BootName.stocks c.args.marks_count c.args.group fits c.args.list c.args.want c.args.machine.now
-    c.loop-met._met c.loop-met.given c.loop-met.next c.loop-met.machine c.frame_states-frame_states.ensures.consistent c.loop-met.invariant c.listed-units.result
+    c.loop-met._met c.loop-met.freed c.loop-met.next c.loop-met.machine c.frame_states-frame_states-in-loop-met.ensures.consistent c.loop-met.invariant c.listed-units.result
     c.listed-units.ensures c.loop-met-test.true c.in-Some.unit c.in-Some.is in
     let lt = h.inside in
     let le : c.args.tables.now.frames.frames ≤ c.in-Some.unit.number = c.in_default-frame.ensures {u = tt} in
     let tie = ap (λ (x : KnownTable). x.frames) c.args.tables.now.frames_are in
     omega (arith, lt, le, tie)
 
-pub newer-next-requires-clause-stands : goal.newer-next-requires-clause-stands
-newer-next-requires-clause-stands g c =
+pub newer-next-requires-clause-home : goal.newer-next-requires-clause-home
+newer-next-requires-clause-home g c =
     let fits : c.args.group < 64 = search rules in
     let h = scan_here g.N.BootName.frames g.N.BootName.stocks c.args.marks_count c.args.group fits c.args.list c.args.want c.args.machine.now
-    c.loop-met._met c.loop-met.given c.loop-met.next c.loop-met.machine c.frame_states-frame_states.ensures.consistent c.loop-met.invariant c.listed-units.result
+    c.loop-met._met c.loop-met.freed c.loop-met.next c.loop-met.machine c.frame_states-frame_states-in-loop-met.ensures.consistent c.loop-met.invariant c.listed-units.result
     c.listed-units.ensures c.loop-met-test.true c.in-Some.unit c.in-Some.is in
     ap (home_of c.loop-met.machine.links) c.in-Some-frame.ensures.0 ∙ h.home
 
@@ -40,15 +40,15 @@ pub try_reclaim-requires-clause-unit : goal.try_reclaim-requires-clause-unit
 try_reclaim-requires-clause-unit g c =
     let fits : c.args.group < 64 = search rules in
     let h = scan_here g.N.BootName.frames g.N.BootName.stocks c.args.marks_count c.args.group fits c.args.list c.args.want c.args.machine.now
-    c.loop-met._met c.loop-met.given c.loop-met.next c.loop-met.machine c.frame_states-frame_states.ensures.consistent c.loop-met.invariant c.listed-units.result
+    c.loop-met._met c.loop-met.freed c.loop-met.next c.loop-met.machine c.frame_states-frame_states-in-loop-met.ensures.consistent c.loop-met.invariant c.listed-units.result
     c.listed-units.ensures c.loop-met-test.true c.in-Some.unit c.in-Some.is in
     h.read ∙ ap (entry_of c.loop-met.machine.links) (sym c.in-Some-frame.ensures.0)
 
-pub try_reclaim-requires-clause-stands : goal.try_reclaim-requires-clause-stands
-try_reclaim-requires-clause-stands g c =
+pub try_reclaim-requires-clause-home : goal.try_reclaim-requires-clause-home
+try_reclaim-requires-clause-home g c =
     let fits : c.args.group < 64 = search rules in
     let h = scan_here g.N.BootName.frames g.N.BootName.stocks c.args.marks_count c.args.group fits c.args.list c.args.want c.args.machine.now
-    c.loop-met._met c.loop-met.given c.loop-met.next c.loop-met.machine c.frame_states-frame_states.ensures.consistent c.loop-met.invariant c.listed-units.result
+    c.loop-met._met c.loop-met.freed c.loop-met.next c.loop-met.machine c.frame_states-frame_states-in-loop-met.ensures.consistent c.loop-met.invariant c.listed-units.result
     c.listed-units.ensures c.loop-met-test.true c.in-Some.unit c.in-Some.is in
     ap (home_of c.loop-met.machine.links) c.in-Some-frame.ensures.0 ∙ h.home
 
@@ -56,31 +56,31 @@ pub loop-met-preserved : goal.loop-met-preserved
 loop-met-preserved g c =
     let fits : c.args.group < 64 = search rules in
     let small = c.try_reclaim.type_inv in
-    let e = c.from-given.ensures in
+    let e = c.from-freed.ensures in
     rw e
     (scan_more g.N.BootName.frames g.N.BootName.stocks c.args.marks_count c.args.group fits c.args.list c.args.want c.args.machine.now
-    c.loop-met._met c.loop-met.given c.loop-met.next c.loop-met.machine c.frame_states-frame_states.ensures.consistent c.loop-met.invariant c.listed-units.result
-    c.listed-units.ensures c.loop-met-test.true c.in-Some.unit c.in-Some.is c.try_reclaim.result c.try_reclaim.new.machine c.requires.inactive c.if-want-given.false
+    c.loop-met._met c.loop-met.freed c.loop-met.next c.loop-met.machine c.frame_states-frame_states-in-loop-met.ensures.consistent c.loop-met.invariant c.listed-units.result
+    c.listed-units.ensures c.loop-met-test.true c.in-Some.unit c.in-Some.is c.try_reclaim.result c.try_reclaim.new.machine c.requires.inactive c.if-want-freed.false
     (omega (arith, small)) c.try_reclaim.ensures.attempts c.try_reclaim.ensures.keeps c.try_reclaim.ensures.usage c.newer-next.result c.in-Some-frame.frame c.in-Some-frame.ensures.0
     c.newer-next.ensures)
 
 pub returns : goal.returns
 returns g c =
-    let all = scan_done g.N.BootName.frames c.args.marks_count c.args.group c.args.list c.args.want c.args.machine.now c.loop-met._met c.loop-met.given c.loop-met.next
+    let all = scan_done g.N.BootName.frames c.args.marks_count c.args.group c.args.list c.args.want c.args.machine.now c.loop-met._met c.loop-met.freed c.loop-met.next
     c.loop-met.machine c.loop-met.invariant c.listed-units.result c.listed-units.ensures c.loop-met-test.false in
     record { scans = all.scans; keeps = search rules; usage = search rules; few = search rules; leaves = search rules; missed = all.missed }
 
-pub returns-then-want-given-clause-few : goal.returns-then-want-given-clause-few
-returns-then-want-given-clause-few g c = search rules
+pub returns-then-want-freed-clause-few : goal.returns-then-want-freed-clause-few
+returns-then-want-freed-clause-few g c = search rules
 
-pub returns-then-want-given-clause-missed : goal.returns-then-want-given-clause-missed
-returns-then-want-given-clause-missed g c = search rules
+pub returns-then-want-freed-clause-missed : goal.returns-then-want-freed-clause-missed
+returns-then-want-freed-clause-missed g c = search rules
 
-pub overflow_add-given : goal.overflow_add-given
-overflow_add-given g c =
+pub overflow_add-freed : goal.overflow_add-freed
+overflow_add-freed g c =
     let usage = c.loop-met.invariant.usage c.args.group (in_subtree-refl c.args.machine.now.ledger.groups c.args.group c.requires.there) in
     let is = c.current-usage.ensures in
     let fits = c.current-usage.type_inv in
-    let more = c.from-given.ensures in
+    let more = c.from-freed.ensures in
     let small = c.try_reclaim.type_inv in
     omega (arith, usage, is, fits, more, small)

@@ -5,7 +5,7 @@ use Rattle.mem_system.proofs.files.write_reclaim.Goals as goal
 
 pub returns-in-Ok-clause-written : goal.returns-in-Ok-clause-written
 returns-in-Ok-clause-written g c =
-    c.reclaim_amount.ensures.written c.args.value.now ((c.in-Ok.ensures.ok c.in-Ok.asked).0 refl)
+    c.reclaim_asked.ensures.written c.args.value.now ((c.in-Ok.ensures.ok c.in-Ok.asked).0 refl)
 
 pub returns-in-Err-clause-written : goal.returns-in-Err-clause-written
 returns-in-Err-clause-written g c =

@@ -8,7 +8,7 @@ empty_cpu-requires-clause-shut g c = shut_seen c.args.machine.now c.take_step.ne
 pub returns-clause-empties : goal.returns-clause-empties
 returns-clause-empties g c =
     locked_visit g.N.BootName.frames Empties c.args.machine.now c.take_step.new.self c.empty_cpu.new.machine c.take_step-2.new.self c.args.cpu.now
-    c.empty_cpu.new.cpu c.number-number.result c.number-number.ensures.number c.take_step.ensures.machine c.take_step.ensures.watched c.empty_cpu.ensures.empties
+    c.empty_cpu.new.cpu c.number-cpu_number.result c.number-cpu_number.ensures.number c.take_step.ensures.machine c.take_step.ensures.watched c.empty_cpu.ensures.empties
     c.take_step-2.ensures.machine c.take_step-2.ensures.watched
 
 pub returns-clause-shut : goal.returns-clause-shut

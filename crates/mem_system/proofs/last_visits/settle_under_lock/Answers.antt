@@ -8,7 +8,7 @@ settle_cpu-requires-clause-shut g c = shut_seen c.args.machine.now c.take_step.n
 pub returns-clause-settles : goal.returns-clause-settles
 returns-clause-settles g c =
     locked_visit g.N.BootName.frames SettlesInVisit c.args.machine.now c.take_step.new.self c.settle_cpu.new.machine c.take_step-2.new.self c.args.cpu.now
-    c.settle_cpu.new.cpu c.number-number.result c.number-number.ensures.number c.take_step.ensures.machine c.take_step.ensures.watched c.settle_cpu.ensures.settles
+    c.settle_cpu.new.cpu c.number-cpu_number.result c.number-cpu_number.ensures.number c.take_step.ensures.machine c.take_step.ensures.watched c.settle_cpu.ensures.settles
     c.take_step-2.ensures.machine c.take_step-2.ensures.watched
 
 pub returns-clause-shut : goal.returns-clause-shut

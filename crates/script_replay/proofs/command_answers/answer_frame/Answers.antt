@@ -32,17 +32,17 @@ returns-in_default g c = record {
   added = c.write_refusal.ensures;
 }
 
-pub serve_frame-requires : goal.serve_frame-requires
-serve_frame-requires g c = record { there = found_there _ _ _ (sym c.in-Some.ensures.found) }
+pub answer_frame_under_lock-requires : goal.answer_frame_under_lock-requires
+answer_frame_under_lock-requires g c = record { there = found_there _ _ _ (sym c.in-Some.ensures.found) }
 
 pub returns-in-Got : goal.returns-in-Got
 returns-in-Got g c =
     let f = c.in-Got.frame in
     let group = c.in-Some.group in
     let made : OnlyWatched (fast_steps c.args.cpu.now.number group (Got f)) c.args.locked.now c.watch_fast.new.locked =
-    subst (λ (n : ℕ). OnlyWatched (fast_steps n group (Got f)) c.args.locked.now c.watch_fast.new.locked) c.number-processor.ensures.number
-    (subst (λ (h : ℕ). OnlyWatched (fast_steps c.number-processor.result h (Got f)) c.args.locked.now c.watch_fast.new.locked)
-    c.number-number.ensures.value c.watch_fast.ensures) in record {
+    subst (λ (n : ℕ). OnlyWatched (fast_steps n group (Got f)) c.args.locked.now c.watch_fast.new.locked) c.number-cpu_number.ensures.number
+    (subst (λ (h : ℕ). OnlyWatched (fast_steps c.number-cpu_number.result h (Got f)) c.args.locked.now c.watch_fast.new.locked)
+    c.number-group_number.ensures.value c.watch_fast.ensures) in record {
       text = answer_text (answer.Fast (Got f));
       so = record {
         steps = fast_steps c.args.cpu.now.number group (Got f);
@@ -50,7 +50,7 @@ returns-in-Got g c =
           gets = record {
             group = group;
             found = sym c.in-Some.ensures.found;
-            got = subst (λ (h : ℕ). FastAnswers h (Got f) c.args.cpu.now c.alloc_fast.new.self) c.number-number.ensures.value c.in-Got.ensures.answer;
+            got = subst (λ (h : ℕ). FastAnswers h (Got f) c.args.cpu.now c.alloc_fast.new.self) c.number-group_number.ensures.value c.in-Got.ensures.answer;
           };
           alone = record { locked = made; steps_are = refl };
         });
@@ -63,13 +63,13 @@ returns-in_default-alloc_fast g c =
     let on = terms g.N.BootName.frames g.N.BootName.stocks c.args.is_explained in
     let l = c.args.locked.now in
     let seen = c.alloc_fast.new.self in
-    let after = locked_state c.serve_frame.new.locked c.serve_frame.new.cpu in
+    let after = locked_state c.answer_frame_under_lock.new.locked c.answer_frame_under_lock.new.cpu in
     let none : GetsNoneFast c.args.path.now (locked_state l c.args.cpu.now) seen = record {
       group = c.in-Some.group;
       found = sym c.in-Some.ensures.found;
       fast = c.alloc_fast.result;
-      answers = subst (λ (g : ℕ). FastAnswers g c.alloc_fast.result c.args.cpu.now c.alloc_fast.new.self) c.number-number.ensures.value c.alloc_fast.ensures.answer;
+      answers = subst (λ (g : ℕ). FastAnswers g c.alloc_fast.result c.args.cpu.now c.alloc_fast.new.self) c.number-group_number.ensures.value c.alloc_fast.ensures.answer;
       none = c.in_default-alloc_fast.not-Got;
     } in
-    added_as _ _ c.args.text.now c.serve_frame.new.text c.serve_frame.result (served_after on l c.args.cpu.now seen after c.args.path none)
-    (c.serve_frame.ensures.answered c.args.path (sym c.in-Some.ensures.found))
+    added_as _ _ c.args.text.now c.answer_frame_under_lock.new.text c.answer_frame_under_lock.result (served_after on l c.args.cpu.now seen after c.args.path none)
+    (c.answer_frame_under_lock.ensures.answered c.args.path (sym c.in-Some.ensures.found))

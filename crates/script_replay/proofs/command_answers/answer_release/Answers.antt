@@ -13,13 +13,13 @@ use Rattle.script_replay.proofs.command_answers.answer_release.Goals as goal
 
 pub returns-then-try_list : goal.returns-then-try_list
 returns-then-try_list g c =
-    let made : OnlyWatched (cpu_makes c.args.cpu.now.number (step.Credit c.args.number) says.Back ∷ []) c.args.locked.now c.watch_credit.new.locked =
-    subst (λ (n : ℕ). OnlyWatched (cpu_makes n (step.Credit c.args.number) says.Back ∷ []) c.args.locked.now c.watch_credit.new.locked)
-    c.number-processor.ensures.number c.watch_credit.ensures in record {
+    let made : OnlyWatched (cpu_makes c.args.cpu.now.number (step.Credit c.args.frame) says.Back ∷ []) c.args.locked.now c.watch_credit.new.locked =
+    subst (λ (n : ℕ). OnlyWatched (cpu_makes n (step.Credit c.args.frame) says.Back ∷ []) c.args.locked.now c.watch_credit.new.locked)
+    c.number-cpu_number.ensures.number c.watch_credit.ensures in record {
       answered = record {
         text = answer_text Listed;
         so = record {
-          steps = cpu_makes c.args.cpu.now.number (step.Credit c.args.number) says.Back ∷ [];
+          steps = cpu_makes c.args.cpu.now.number (step.Credit c.args.frame) says.Back ∷ [];
           writes = alone _ _ _ Listed (search rules, record { locked = made; steps_are = refl });
         };
         added = c.write_listed.ensures;
@@ -29,7 +29,7 @@ returns-then-try_list g c =
 pub returns : goal.returns
 returns g c =
     let on = terms g.N.BootName.frames g.N.BootName.stocks c.args.is_explained in
-    let after = locked_state c.serve_command.new.locked c.serve_command.new.cpu in record {
-      answered = added_as _ _ c.args.text.now c.serve_command.new.text c.serve_command.result
-          (released_after on c.args.locked.now c.args.cpu.now c.try_list.new.cpu after c.args.number (search rules)) c.serve_command.ensures.answered;
+    let after = locked_state c.answer_command.new.locked c.answer_command.new.cpu in record {
+      answered = added_as _ _ c.args.text.now c.answer_command.new.text c.answer_command.result
+          (released_after on c.args.locked.now c.args.cpu.now c.try_list.new.cpu after c.args.frame (search rules)) c.answer_command.ensures.answered;
     }

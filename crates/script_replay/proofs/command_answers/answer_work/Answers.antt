@@ -8,23 +8,23 @@ use Rattle.script_replay.proofs.command_answers.answer_work.Goals as goal
 
 pub returns-in-Fast : goal.returns-in-Fast
 returns-in-Fast g c = record {
-  answered = subst (λ (work : Work). AddsText c.serve_fast.result c.args.text.now c.serve_fast.new.text
-      (ServesWork (terms g.N.BootName.frames g.N.BootName.stocks c.args.is_explained) work (locked_state c.args.locked.now c.args.cpu.now) (locked_state c.serve_fast.new.locked c.serve_fast.new.cpu)))
-      (sym c.in-Fast.is) (c.serve_fast.ensures.answered c.args.is_explained);
+  answered = subst (λ (work : Work). AddsText c.answer_fast.result c.args.text.now c.answer_fast.new.text
+      (ServesWork (terms g.N.BootName.frames g.N.BootName.stocks c.args.is_explained) work (locked_state c.args.locked.now c.args.cpu.now) (locked_state c.answer_fast.new.locked c.answer_fast.new.cpu)))
+      (sym c.in-Fast.is) (c.answer_fast.ensures.answered c.args.is_explained);
 }
 
 pub returns-in-Get : goal.returns-in-Get
 returns-in-Get g c = record {
-  answered = subst (λ (work : Work). AddsText c.serve_get.result c.args.text.now c.serve_get.new.text
-      (ServesWork (terms g.N.BootName.frames g.N.BootName.stocks c.args.is_explained) work (locked_state c.args.locked.now c.args.cpu.now) (locked_state c.serve_get.new.locked c.serve_get.new.cpu)))
-      (sym c.in-Get.is) (c.serve_get.ensures.answered c.args.is_explained);
+  answered = subst (λ (work : Work). AddsText c.answer_get.result c.args.text.now c.answer_get.new.text
+      (ServesWork (terms g.N.BootName.frames g.N.BootName.stocks c.args.is_explained) work (locked_state c.args.locked.now c.args.cpu.now) (locked_state c.answer_get.new.locked c.answer_get.new.cpu)))
+      (sym c.in-Get.is) (c.answer_get.ensures.answered c.args.is_explained);
 }
 
 pub returns-in-Put : goal.returns-in-Put
 returns-in-Put g c = record {
-  answered = subst (λ (work : Work). AddsText c.serve_put.result c.args.text.now c.serve_put.new.text
-      (ServesWork (terms g.N.BootName.frames g.N.BootName.stocks c.args.is_explained) work (locked_state c.args.locked.now c.args.cpu.now) (locked_state c.serve_put.new.locked c.serve_put.new.cpu)))
-      (sym c.in-Put.is) (c.serve_put.ensures.answered c.args.is_explained);
+  answered = subst (λ (work : Work). AddsText c.answer_put.result c.args.text.now c.answer_put.new.text
+      (ServesWork (terms g.N.BootName.frames g.N.BootName.stocks c.args.is_explained) work (locked_state c.args.locked.now c.args.cpu.now) (locked_state c.answer_put.new.locked c.answer_put.new.cpu)))
+      (sym c.in-Put.is) (c.answer_put.ensures.answered c.args.is_explained);
 }
 
 pub returns-in-Settle : goal.returns-in-Settle
@@ -51,6 +51,28 @@ returns-in-Show g c = record {
   answered = subst (λ (work : Work). AddsText c.answer_show.result c.args.text.now c.answer_show.new.text
       (ServesWork (terms g.N.BootName.frames g.N.BootName.stocks c.args.is_explained) work (locked_state c.args.locked.now c.args.cpu.now) (locked_state c.answer_show.new.locked c.answer_show.new.cpu)))
       (sym c.in-Show.is) (let told = c.answer_show.ensures.answered in record {
+        text = told.text;
+        so = record { steps = told.so.steps; writes = told.so.writes };
+        added = told.added;
+      });
+}
+
+pub returns-in-Stock : goal.returns-in-Stock
+returns-in-Stock g c = record {
+  answered = subst (λ (work : Work). AddsText c.answer_stock.result c.args.text.now c.answer_stock.new.text
+      (ServesWork (terms g.N.BootName.frames g.N.BootName.stocks c.args.is_explained) work (locked_state c.args.locked.now c.args.cpu.now) (locked_state c.answer_stock.new.locked c.answer_stock.new.cpu)))
+      (sym c.in-Stock.is) (let told = c.answer_stock.ensures.answered in record {
+        text = told.text;
+        so = record { steps = told.so.steps; writes = told.so.writes };
+        added = told.added;
+      });
+}
+
+pub returns-in-Units : goal.returns-in-Units
+returns-in-Units g c = record {
+  answered = subst (λ (work : Work). AddsText c.answer_units.result c.args.text.now c.answer_units.new.text
+      (ServesWork (terms g.N.BootName.frames g.N.BootName.stocks c.args.is_explained) work (locked_state c.args.locked.now c.args.cpu.now) (locked_state c.answer_units.new.locked c.answer_units.new.cpu)))
+      (sym c.in-Units.is) (let told = c.answer_units.ensures.answered in record {
         text = told.text;
         so = record { steps = told.so.steps; writes = told.so.writes };
         added = told.added;

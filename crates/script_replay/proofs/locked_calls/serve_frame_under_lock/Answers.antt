@@ -20,9 +20,9 @@ returns g c =
     let before = c.args.locked.now in
     let after = c.unlock.new.locked in
     let groups = ap (λ (l : KnownLocked). l.machine.ledger.groups) c.lock.ensures.locked in record {
-      served = λ path at. outcome_locked t (Alloc path 0) before found served.new.locked after c.args.cpu.now served.new.cpu c.number-number.result
-          c.number-number.ensures.number c.lock.ensures c.unlock.ensures served.result
+      served = λ path at. outcome_locked t c.args.is_explained (Alloc path 0) before found served.new.locked after c.args.cpu.now served.new.cpu c.number-cpu_number.result
+          c.number-cpu_number.ensures.number c.lock.ensures c.unlock.ensures served.result
           (served.ensures.served path (ap (λ (gs : List Group). number_at gs path.now) groups ∙ at));
-      groups = groups_locked t Settle before found served.new.locked after c.args.cpu.now served.new.cpu c.number-number.result
-          c.number-number.ensures.number c.lock.ensures c.unlock.ensures served.result served.ensures.groups;
+      groups = groups_locked t c.args.is_explained Settle before found served.new.locked after c.args.cpu.now served.new.cpu c.number-cpu_number.result
+          c.number-cpu_number.ensures.number c.lock.ensures c.unlock.ensures served.result served.ensures.groups;
     }

@@ -8,8 +8,8 @@ returns g c =
     let served = c.serve_outcome-outcome in
     let before = c.args.locked.now in
     let after = c.unlock.new.locked in record {
-      served = outcome_locked t c.args.cmd.now before found served.new.locked after c.args.cpu.now served.new.cpu c.number-number.result
-          c.number-number.ensures.number c.lock.ensures c.unlock.ensures served.result served.ensures.served;
-      groups = groups_locked t c.args.cmd.now before found served.new.locked after c.args.cpu.now served.new.cpu c.number-number.result
-          c.number-number.ensures.number c.lock.ensures c.unlock.ensures served.result served.ensures.groups;
+      served = outcome_locked t c.args.is_explained c.args.cmd.now before found served.new.locked after c.args.cpu.now served.new.cpu c.number-cpu_number.result
+          c.number-cpu_number.ensures.number c.lock.ensures c.unlock.ensures served.result served.ensures.served;
+      groups = groups_locked t c.args.is_explained c.args.cmd.now before found served.new.locked after c.args.cpu.now served.new.cpu c.number-cpu_number.result
+          c.number-cpu_number.ensures.number c.lock.ensures c.unlock.ensures served.result served.ensures.groups;
     }

@@ -1,3 +1,4 @@
+use Rattle.std.proofs.Common.{false}
 use Rattle.mem_system.specs.declared.command.Cmd.TheVariants.{Settle}
 use Rattle.mem_system.specs.declared.command.Reply.TheVariants.{Done}
 use Rattle.script_replay.proofs.UnderLock.{served_locked}
@@ -6,6 +7,6 @@ use Rattle.script_replay.proofs.locked_calls.settle_under_lock.Goals as goal
 pub returns : goal.returns
 returns g c =
     let settled = c.settle in record {
-      served = served_locked g.N.BootName.frames Settle c.args.locked.now c.lock.new.locked settled.new.locked c.unlock.new.locked c.args.cpu.now
-          settled.new.cpu c.number-number.result c.number-number.ensures.number c.lock.ensures c.unlock.ensures Done settled.ensures.served;
+      served = served_locked g.N.BootName.frames false Settle c.args.locked.now c.lock.new.locked settled.new.locked c.unlock.new.locked c.args.cpu.now
+          settled.new.cpu c.number-cpu_number.result c.number-cpu_number.ensures.number c.lock.ensures c.unlock.ensures Done settled.ensures.served;
     }

@@ -6,4 +6,4 @@ use Rattle.script_threads.proofs.own_lines.serve_own.Given as goal
 
 abbrev pub invariant-loop-line : goal.invariant-loop-line
 invariant-loop-line g l =
-    ServesOwn (boot_tables g.N.BootName.frames g.N.BootName.stocks) (worker l.number l.initial.cpu (take l.line-index l.lines) l.is_numbered) l.cpu (string_bytes l.text)
+    ServesOwn (boot_tables g.N.BootName.frames g.N.BootName.stocks) (worker l.cpu_number l.initial.cpu (take l.line-index l.lines) l.is_numbered) l.cpu (string_bytes l.text)

@@ -18,7 +18,7 @@ has_room-requires c =
     let test : ℕ → Bool = λ m. has_room r.tree (usage_of (state_in r)) m c.args.pages in
     record {
       fits = c.requires.fits;
-      few = c.requires.few;
+      bounded = c.requires.bounded;
       there =
           (left_turn r.tree test c.args.group c.in-Some.above c.loop-above.above-iterator c.next.new.self c.groups.ensures.legal
           c.loop-above.invariant c.in-Some.ensures.steps).there;

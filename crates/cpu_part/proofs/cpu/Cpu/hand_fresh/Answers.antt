@@ -25,15 +25,15 @@ invariant_of-self g c =
     let front = front_removed c.remove-frame.result c.self.inside.fresh.items c.remove-frame.new.self.items some c.remove-frame.ensures.value
     c.remove-frame.ensures.items in (
       tied_fresh_handed _ _ _ c.self.invariant.0 c.remove-frame.result c.pass_back.new.cpu c.report_passed.new.stock c.remove-frame.new.self.items
-          c.pass_back.ensures.cpu c.report_passed.ensures.processor front,
+          c.pass_back.ensures.cpu c.report_passed.ensures.cpu front,
       search rules,
     )
 
 pub returns-clause-answer : goal.returns-clause-answer
 returns-clause-answer g c = search rules
 
-pub returns-clause-machine : goal.returns-clause-machine
-returns-clause-machine g c = search rules
+pub returns-clause-zone_stock : goal.returns-clause-zone_stock
+returns-clause-zone_stock g c = search rules
 
 pub returns-clause-zone : goal.returns-clause-zone
 returns-clause-zone g c = search rules

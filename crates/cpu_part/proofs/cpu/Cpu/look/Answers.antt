@@ -13,8 +13,8 @@ returns-clause-held g c = search rules
 pub returns-clause-last : goal.returns-clause-last
 returns-clause-last g c = search rules
 
-pub returns-clause-machine : goal.returns-clause-machine
-returns-clause-machine g c = search rules
+pub returns-clause-zone_stock : goal.returns-clause-zone_stock
+returns-clause-zone_stock g c = search rules
 
 pub returns-clause-cpu : goal.returns-clause-cpu
 returns-clause-cpu g c = search rules

@@ -8,5 +8,5 @@ returns-clause-frame g c = front_inside _ _ _ c.self.invariant.0 c.freshen.resul
 pub returns-clause-cpu : goal.returns-clause-cpu
 returns-clause-cpu g c = search rules
 
-pub returns-clause-machine : goal.returns-clause-machine
-returns-clause-machine g c = search rules
+pub returns-clause-zone_stock : goal.returns-clause-zone_stock
+returns-clause-zone_stock g c = search rules

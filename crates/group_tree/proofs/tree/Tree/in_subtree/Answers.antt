@@ -10,4 +10,4 @@ returns c =
     any_from_yields_List (λ m. m == c.args.g) _ _ _ c.any.ensures.ran
     (YieldsList-from_first (λ x. x) (λ rest. rest) (ancestors_of c.args.self.now c.args.h) c.ancestors.ensures.value)
     (λ x b q k. search (rules, tests))
-    ∙ ancestors_of-subtree c.args.self.now c.args.g c.args.h c.groups.ensures.legal c.requires.below
+    ∙ ancestors_of-subtree c.args.self.now c.args.g c.args.h c.groups-groups.ensures.legal c.requires.below

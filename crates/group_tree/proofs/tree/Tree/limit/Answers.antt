@@ -1,10 +1,10 @@
 use Rattle.std.proofs.Common.{ap, ◌∙◌, subst}
-use Rattle.group_tree.specs.Links.{AreLinks}
-use Rattle.group_tree.proofs.LinkLemmas.{limit-link, link_read}
+use Rattle.group_tree.specs.Slots.{AreSlots}
+use Rattle.group_tree.proofs.SlotLemmas.{limit-slot, slot_read}
 use Rattle.group_tree.proofs.tree.Tree.limit.Goals as goal
 
 pub returns : goal.returns
 returns c =
-    let links = subst (λ rows. AreLinks rows c.self.inside.links) c.self.view_is c.self.invariant.2 in
-    let same = link_read c.self.inside.links c.number.result c.args.g c.index-self-number.result links.size c.number.ensures.below c.number.ensures.value in
-    ap (λ l. l.limit) same ∙ limit-link c.args.self.now c.self.inside.links c.args.g links c.requires
+    let slots = subst (λ rows. AreSlots rows c.self.inside.slots) c.self.view_is c.self.invariant.2 in
+    let same = slot_read c.self.inside.slots c.number.result c.args.g c.index-self-number.result slots.size c.number.ensures.below c.number.ensures.value in
+    ap (λ l. l.limit) same ∙ limit-slot c.args.self.now c.self.inside.slots c.args.g slots c.requires

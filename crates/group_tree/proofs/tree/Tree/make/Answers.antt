@@ -2,8 +2,8 @@ use Rattle.std.proofs.Common.{◌≡◌, ◌∷◌, [], sym, ap, ◌∙◌, subs
 use Rattle.std.proofs.lemmas.Slice.{pushed}
 use Rattle.group_tree.specs.Path.{depth_of}
 use Rattle.group_tree.specs.Groups.{AreGroups, has_group, new_row, number_at, with_group}
-use Rattle.group_tree.specs.Links.{AreLinks}
-use Rattle.group_tree.proofs.LinkLemmas.{AreLinks-with}
+use Rattle.group_tree.specs.Slots.{AreSlots}
+use Rattle.group_tree.proofs.SlotLemmas.{AreSlots-with}
 use Rattle.group_tree.proofs.GroupLemmas.{AreGroups-with, can_make}
 use Rattle.group_tree.proofs.CallerLemmas.{has_group-with_kept, has_group-with_new}
 use Rattle.group_tree.proofs.tree.Tree.make.Goals as goal
@@ -33,15 +33,15 @@ invariant_of-self c =
     c.least_free-number.ensures.number.free in (
       subst AreGroups (sym (rows ∙ ap (with_group c.args.self.now c.least_free-number.result) path)) new,
       search (rules, c.self.invariant.1),
-      subst (λ r. AreLinks r (set c.self.inside.links c.number.result
+      subst (λ r. AreSlots r (set c.self.inside.slots c.number.result
           (record { is_there = true; parent = c.unwrap-parent.result; depth = c.depth-depth.result; limit = None })))
           (sym (rows ∙ ap (with_group c.args.self.now c.least_free-number.result) path))
-          (subst (AreLinks (with_group c.args.self.now c.least_free-number.result c.args.path.now))
-          (ap (λ n. set c.self.inside.links n (record { is_there = true; parent = c.unwrap-parent.result; depth = depth_of c.args.path.now; limit = None }))
+          (subst (AreSlots (with_group c.args.self.now c.least_free-number.result c.args.path.now))
+          (ap (λ n. set c.self.inside.slots n (record { is_there = true; parent = c.unwrap-parent.result; depth = depth_of c.args.path.now; limit = None }))
           (sym c.number.ensures.value)
-          ∙ ap (λ d. set c.self.inside.links c.number.result (record { is_there = true; parent = c.unwrap-parent.result; depth = d; limit = None })) (sym c.depth-depth.ensures))
-          (AreLinks-with c.args.self.now c.self.inside.links c.least_free-number.result c.unwrap-parent.result c.args.path.now old
-          (subst (λ r. AreLinks r c.self.inside.links) c.self.view_is c.self.invariant.2) can c.least_free-number.ensures.below
+          ∙ ap (λ d. set c.self.inside.slots c.number.result (record { is_there = true; parent = c.unwrap-parent.result; depth = d; limit = None })) (sym c.depth-depth.ensures))
+          (AreSlots-with c.args.self.now c.self.inside.slots c.least_free-number.result c.unwrap-parent.result c.args.path.now old
+          (subst (λ r. AreSlots r c.self.inside.slots) c.self.view_is c.self.invariant.2) can c.least_free-number.ensures.below
           c.least_free-number.ensures.number.free (sym (ap (number_at c.args.self.now) c.parent_path.ensures) ∙ sym c.find.ensures ∙ c.unwrap-parent.ensures))),
     )
 

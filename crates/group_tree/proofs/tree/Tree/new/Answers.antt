@@ -2,8 +2,8 @@ use Rattle.std.proofs.Common.{◌≡◌, ◌∷◌, [], sym, ap, ◌∙◌, subs
 use Rattle.std.proofs.lemmas.Slice.{pushed}
 use Rattle.group_tree.specs.Groups.{AreGroups, initial_groups}
 use Rattle.group_tree.proofs.GroupLemmas.{AreGroups-initial}
-use Rattle.group_tree.specs.Links.{AreLinks}
-use Rattle.group_tree.proofs.LinkLemmas.{AreLinks-initial}
+use Rattle.group_tree.specs.Slots.{AreSlots}
+use Rattle.group_tree.proofs.SlotLemmas.{AreSlots-initial}
 use Rattle.group_tree.proofs.tree.Tree.new.Goals as goal
 
 pub invariant_of-result : goal.invariant_of-result
@@ -13,6 +13,6 @@ invariant_of-result c =
       subst AreGroups (sym rows) AreGroups-initial,
       search (rules, c.in_ok-rows.ensures),
       subst
-          (λ r. AreLinks r (set (replicate 64 c.no_link-links.result) 0 (record (get_or (replicate 64 c.no_link-links.result) 0 c.index-links-0.result) { is_there = true })))
-          (sym rows) (AreLinks-initial _ (search rules)),
+          (λ r. AreSlots r (set (replicate 64 c.free_slot-slots.result) 0 (record (get_or (replicate 64 c.free_slot-slots.result) 0 c.index-slots-0.result) { is_there = true })))
+          (sym rows) (AreSlots-initial _ (search rules)),
     )

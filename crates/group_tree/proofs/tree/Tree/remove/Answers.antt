@@ -2,8 +2,8 @@ use Rattle.std.proofs.Common.{◌==◌, ◌<◌, not, set, sym, ap, ◌∙◌, s
 use Rattle.std.proofs.lemmas.Fn.{filter_same}
 use Rattle.group_tree.specs.Groups.{Group, AreGroups, without_group}
 use Rattle.group_tree.proofs.GroupLemmas.{AreGroups-without}
-use Rattle.group_tree.specs.Links.{AreLinks, no_link}
-use Rattle.group_tree.proofs.LinkLemmas.{AreLinks-without}
+use Rattle.group_tree.specs.Slots.{AreSlots, free_slot}
+use Rattle.group_tree.proofs.SlotLemmas.{AreSlots-without}
 use Rattle.group_tree.proofs.tree.Tree.remove.Goals as goal
 
 pub returns : goal.returns
@@ -17,9 +17,9 @@ invariant_of-self c =
       subst AreGroups (sym (returns c)) (AreGroups-without c.args.self.now c.args.g old c.requires.leaf c.requires.below_root),
       search
           (rules, c.self.invariant.1),
-      subst (λ rows. AreLinks rows (set c.self.inside.links c.number-number.result c.no_link.result)) (sym (returns c))
-          (subst (AreLinks (without_group c.args.self.now c.args.g)) (ap (λ n. set c.self.inside.links n no_link) (sym c.number-number.ensures.value)
-          ∙ ap (set c.self.inside.links c.number-number.result) (sym c.no_link.ensures))
-          (AreLinks-without c.args.self.now c.self.inside.links c.args.g (subst (λ n. n < 64) c.number-number.ensures.value c.number-number.ensures.below)
-          (subst (λ rows. AreLinks rows c.self.inside.links) c.self.view_is c.self.invariant.2))),
+      subst (λ rows. AreSlots rows (set c.self.inside.slots c.number-number.result c.free_slot.result)) (sym (returns c))
+          (subst (AreSlots (without_group c.args.self.now c.args.g)) (ap (λ n. set c.self.inside.slots n free_slot) (sym c.number-number.ensures.value)
+          ∙ ap (set c.self.inside.slots c.number-number.result) (sym c.free_slot.ensures))
+          (AreSlots-without c.args.self.now c.self.inside.slots c.args.g (subst (λ n. n < 64) c.number-number.ensures.value c.number-number.ensures.below)
+          (subst (λ rows. AreSlots rows c.self.inside.slots) c.self.view_is c.self.invariant.2))),
     )

@@ -1,8 +1,8 @@
 use Rattle.std.proofs.Common.{◌≡◌, ◌++◌, take, drop, length, sym, ap, ◌∙◌, subst, rules}
 use Rattle.group_tree.specs.Groups.{AreGroups, with_oom_group}
 use Rattle.group_tree.proofs.GroupLemmas.{AreGroups-flagged, length-flagged, take_new}
-use Rattle.group_tree.specs.Links.{AreLinks}
-use Rattle.group_tree.proofs.LinkLemmas.{AreLinks-flagged}
+use Rattle.group_tree.specs.Slots.{AreSlots}
+use Rattle.group_tree.proofs.SlotLemmas.{AreSlots-flagged}
 use Rattle.group_tree.proofs.tree.Tree.set_oom_group.Goals as goal
 
 pub invariant_of-self : goal.invariant_of-self
@@ -15,5 +15,5 @@ invariant_of-self c =
     take_new c.self.inside.rows.len old c.set_flag.new.rows size (search rules) in (
       subst AreGroups (sym (whole ∙ new)) (AreGroups-flagged old c.args.g c.args.oom_group c.self.invariant.0 c.requires.below_root),
       c.self.invariant.1,
-      subst (λ rows. AreLinks rows c.self.inside.links) (sym (whole ∙ new)) (AreLinks-flagged old c.self.inside.links c.args.g c.args.oom_group c.self.invariant.2),
+      subst (λ rows. AreSlots rows c.self.inside.slots) (sym (whole ∙ new)) (AreSlots-flagged old c.self.inside.slots c.args.g c.args.oom_group c.self.invariant.2),
     )

@@ -11,7 +11,7 @@ loop-self-smaller c =
     let d = c.demote.ensures in
     let inv = c.loop-self.invariant in
     let e1 : c.demote.new.self.active.length ≡ length (active_of c.demote.new.links c.demote.new.self) = len_is c.demote.new.links c.demote.new.self
-    d.stands Active in
+    d.linked Active in
     let e2 : c.loop-self.self.active.length ≡ length (active_of c.loop-self.links c.loop-self.self) = len_is c.loop-self.links c.loop-self.self
     inv.stands Active in
     let e3 : length (active_of c.demote.new.links c.demote.new.self) ≡ length (active_of c.loop-self.links c.loop-self.self) - 1 =
@@ -38,7 +38,7 @@ loop-self-preserved c =
     ∙ ap (λ (n : ℕ). length (inactive_of c.args.links.now c.args.self.now) + n)
     (length-map (take k a0) (marked false) ∙ length-take-le k a0 (let le : k ≤ length a0 = omega arith in le)) in
     record {
-      stands = d.stands;
+      stands = d.linked;
       owner = d.owner ∙ inv.owner;
       keeps = keeps_both c.args.links.now c.loop-self.links c.demote.new.links c.args.self.now.owner inv.keeps
           (rw (← inv.owner) d.keeps);

@@ -1,5 +1,5 @@
 use Rattle.std.proofs.Common.{◌≡◌, ◌<◌, ◌+◌, ◌-◌, ◌++◌, ℕ, false, length, map, take, drop}
-use Rattle.lru_lists.specs.Lists.{StandsIn, KeepsUnits, SameOwners, inactive_of, active_of, marked}
+use Rattle.lru_lists.specs.Lists.{AreLinked, KeepsUnits, SameOwners, inactive_of, active_of, marked}
 use Rattle.lru_lists.proofs.lru.Lru.age.Given as goal
 
 abbrev pub decreases-loop-self : goal.decreases-loop-self
@@ -7,7 +7,7 @@ decreases-loop-self l = l.self.active.length
 
 abbrev pub invariant-loop-self : goal.invariant-loop-self
 invariant-loop-self l = record {
-  stands : StandsIn l.links l.self;
+  stands : AreLinked l.links l.self;
   owner : l.self.owner ≡ l.fn.self.owner;
   keeps : KeepsUnits l.fn.links l.links l.fn.self.owner;
   owners : SameOwners l.fn.links l.links;

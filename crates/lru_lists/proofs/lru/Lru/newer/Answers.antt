@@ -9,12 +9,12 @@ pub entry-requires : goal.entry-requires
 entry-requires c =
     let p = some_list (list_of c.args.links.now c.args.self.now.owner c.args.unit) c.requires.on in
     rw c.link.ensures
-    (newer_frame c.args.links.now (home_of c.args.self.now p.0) (queue_of c.args.self.now p.0) c.args.unit (c.requires.stands p.0)
+    (newer_frame c.args.links.now (home_of c.args.self.now p.0) (queue_of c.args.self.now p.0) c.args.unit (c.requires.linked p.0)
     (home_of_list (link_at c.args.links.now c.args.unit).home c.args.self.now p.0 p.1))
 
 pub returns : goal.returns
 returns c list h =
     let there = home_of_list (link_at c.args.links.now c.args.unit).home c.args.self.now list h in
-    let l = c.requires.stands list in
+    let l = c.requires.linked list in
     let e = l.newer c.args.unit (l.at_home c.args.unit there) in
     c.entry.ensures ∙ rw (c.link.ensures, e) (after_read c.args.links.now c.args.unit (units_of c.args.links.now (queue_of c.args.self.now list)))

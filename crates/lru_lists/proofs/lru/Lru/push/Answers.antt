@@ -1,12 +1,12 @@
 use Rattle.lru_lists.proofs.Pairs.{AfterPush, after_push_is}
 use Rattle.lru_lists.proofs.lru.Lru.push.Goals as goal
 
-pub returns-clause-stands : goal.returns-clause-stands
-returns-clause-stands c =
+pub returns-clause-linked : goal.returns-clause-linked
+returns-clause-linked c =
     let p = c.push_newest.ensures in
     let all : AfterPush c.args.links.now c.push_newest.new.self c.args.self.now c.args.list c.push_newest.new.queue c.args.unit =
     after_push_is c.args.links.now c.push_newest.new.self c.args.self.now c.args.list c.push_newest.new.queue c.args.unit c.home.result
-    c.queue-queue.result c.queue-queue.result.newest c.requires.stands c.requires.away c.home.ensures c.queue-queue.ensures
+    c.queue-queue.result c.queue-queue.result.newest c.requires.linked c.requires.away c.home.ensures c.queue-queue.ensures
     p.units p.linked p.unit p.others p.used in
     rw c.set_queue.ensures all.stands
 
@@ -15,7 +15,7 @@ returns-clause-entries c =
     let p = c.push_newest.ensures in
     let all : AfterPush c.args.links.now c.push_newest.new.self c.args.self.now c.args.list c.push_newest.new.queue c.args.unit =
     after_push_is c.args.links.now c.push_newest.new.self c.args.self.now c.args.list c.push_newest.new.queue c.args.unit c.home.result
-    c.queue-queue.result c.queue-queue.result.newest c.requires.stands c.requires.away c.home.ensures c.queue-queue.ensures
+    c.queue-queue.result c.queue-queue.result.newest c.requires.linked c.requires.away c.home.ensures c.queue-queue.ensures
     p.units p.linked p.unit p.others p.used in
     rw c.set_queue.ensures all.entries
 
@@ -24,7 +24,7 @@ returns-clause-other c =
     let p = c.push_newest.ensures in
     let all : AfterPush c.args.links.now c.push_newest.new.self c.args.self.now c.args.list c.push_newest.new.queue c.args.unit =
     after_push_is c.args.links.now c.push_newest.new.self c.args.self.now c.args.list c.push_newest.new.queue c.args.unit c.home.result
-    c.queue-queue.result c.queue-queue.result.newest c.requires.stands c.requires.away c.home.ensures c.queue-queue.ensures
+    c.queue-queue.result c.queue-queue.result.newest c.requires.linked c.requires.away c.home.ensures c.queue-queue.ensures
     p.units p.linked p.unit p.others p.used in
     rw c.set_queue.ensures all.other
 
@@ -33,6 +33,6 @@ returns-clause-moves c =
     let p = c.push_newest.ensures in
     let all : AfterPush c.args.links.now c.push_newest.new.self c.args.self.now c.args.list c.push_newest.new.queue c.args.unit =
     after_push_is c.args.links.now c.push_newest.new.self c.args.self.now c.args.list c.push_newest.new.queue c.args.unit c.home.result
-    c.queue-queue.result c.queue-queue.result.newest c.requires.stands c.requires.away c.home.ensures c.queue-queue.ensures
+    c.queue-queue.result c.queue-queue.result.newest c.requires.linked c.requires.away c.home.ensures c.queue-queue.ensures
     p.units p.linked p.unit p.others p.used in
     all.moves

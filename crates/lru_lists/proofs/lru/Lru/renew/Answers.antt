@@ -15,4 +15,4 @@ returns-clause-active c =
     let away : (link_at c.args.links.now c.args.unit).home ≢ Some (home_of c.args.self.now Active) =
     λ h. let k : Some (home_of c.args.self.now Inactive) ≡ Some (home_of c.args.self.now Active) = sym there ∙ h in
     homes_differ c.args.self.now Inactive Active ne (let w : home_of c.args.self.now Inactive ≡ home_of c.args.self.now Active = cc in w) in
-    c.move_to.ensures.lost Active ne ∙ other_lacks c.args.links.now c.args.self.now Active c.args.unit c.requires.stands away
+    c.move_to.ensures.lost Active ne ∙ other_lacks c.args.links.now c.args.self.now Active c.args.unit c.requires.linked away

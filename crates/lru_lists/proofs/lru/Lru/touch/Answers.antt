@@ -5,10 +5,10 @@ use Rattle.lru_lists.specs.Lists.{list_of, marked}
 use Rattle.lru_lists.proofs.Pairs.{remarked_stands, remarked_entries, other_unchanged, home_of_list, marks_true, marks_false, marked_owners}
 use Rattle.lru_lists.proofs.lru.Lru.touch.Goals as goal
 
-pub returns-then-is_marked_by_touch-clause-stands : goal.returns-then-is_marked_by_touch-clause-stands
-returns-then-is_marked_by_touch-clause-stands c =
+pub returns-then-is_marked_by_touch-clause-linked : goal.returns-then-is_marked_by_touch-clause-linked
+returns-then-is_marked_by_touch-clause-linked c =
     rw c.mark.ensures (remarked_stands c.args.links.now c.args.self.now c.args.unit
-    (record (link_at c.args.links.now c.args.unit) { is_marked = true }) c.requires.stands (refl, refl, refl))
+    (record (link_at c.args.links.now c.args.unit) { is_marked = true }) c.requires.linked (refl, refl, refl))
 
 pub returns-then-is_marked_by_touch-clause-touches : goal.returns-then-is_marked_by_touch-clause-touches
 returns-then-is_marked_by_touch-clause-touches c =
@@ -17,14 +17,14 @@ returns-then-is_marked_by_touch-clause-touches c =
     let there = home_of_list (link_at c.args.links.now c.args.unit).home c.args.self.now Inactive m.0 in
     let ne : Active ≢ Inactive = λ e. cc in
     let each = remarked_entries c.args.links.now c.args.self.now c.args.unit (record (link_at c.args.links.now c.args.unit) { is_marked = true })
-    (marked true) c.requires.stands
+    (marked true) c.requires.linked
     (refl, refl, refl) c.requires.frame refl in
     rw c.mark.ensures (
       m.0,
       m.1,
       each Inactive,
       each Active ∙ other_unchanged c.args.links.now c.args.self.now Inactive Active c.args.unit
-          (marked true) c.requires.stands there ne,
+          (marked true) c.requires.linked there ne,
     )
 
 pub returns-else-is_marked_by_touch-clause-touches : goal.returns-else-is_marked_by_touch-clause-touches

@@ -6,15 +6,15 @@ use Rattle.step_rules.specs.Legal.{Allows}
 use Rattle.core_rows.specs.Shown as rows
 use Rattle.core_rows.specs.Rooms.{pages_asked}
 use Rattle.core_rows.proofs.Bounding.{IsBounded}
-use Rattle.mem_core.specs.Shown.{CoreState, state_in}
+use Rattle.mem_core.specs.Shown.{CoreState, state_shown}
 use Rattle.mem_core.specs.Checked.{Leads}
 use Rattle.mem_core.specs.Ready.{checker_state}
 use Rattle.mem_core.proofs.Linking.{rows_are, ready}
 use Rattle.mem_core.proofs.Checking.{led, kept}
 use Rattle.mem_core.proofs.checker.Checker.accept.Goals as goal
 
-pub take-requires-clause-few : goal.take-requires-clause-few
-take-requires-clause-few c =
+pub take-requires-clause-bounded : goal.take-requires-clause-bounded
+take-requires-clause-bounded c =
     let few = c.self.invariant.few in
     ready c.self.inside.rows (c.self.inside.steps * 2 ^ 32) (omega arith) c.self.invariant.fits c.self.invariant.sound c.self.invariant.bounded
 
@@ -39,10 +39,10 @@ invariant_of-self c =
     }
 
 -- what the checker shows is what its rows show, before and after
-before : (c : goal.After-take) → rows.state_in c.self.inside.rows ≡ state_in c.args.self.now
-before c = sym (rows_are c.self.inside.rows [] [] c.self.inside.steps) ∙ ap state_in c.self.view_is
+before : (c : goal.After-take) → rows.state_in c.self.inside.rows ≡ state_shown c.args.self.now
+before c = sym (rows_are c.self.inside.rows [] [] c.self.inside.steps) ∙ ap state_shown c.self.view_is
 
-later : (c : goal.After-take) → rows.state_in c.take.new.rows ≡ state_in (checker_state (record {
+later : (c : goal.After-take) → rows.state_in c.take.new.rows ≡ state_shown (checker_state (record {
   rows = c.take.new.rows;
   free = c.take.new.free;
   areas = c.take.new.areas;
@@ -52,13 +52,13 @@ later c = sym (rows_are c.take.new.rows [] [] (c.self.inside.steps + 1))
 
 pub returns-clause-accepted : goal.returns-clause-accepted
 returns-clause-accepted c =
-    subst (λ (t : State). OnOk c.take.result (Leads (state_in c.args.self.now) c.args.step.now c.args.answer.now t)) (later c)
+    subst (λ (t : State). OnOk c.take.result (Leads (state_shown c.args.self.now) c.args.step.now c.args.answer.now t)) (later c)
     (subst (λ (s : State). OnOk c.take.result (Leads s c.args.step.now c.args.answer.now (rows.state_in c.take.new.rows))) (before c)
     c.take.ensures.accepted)
 
 pub returns-clause-refused : goal.returns-clause-refused
 returns-clause-refused c =
-    subst (λ (t : State). IfErr c.take.result (λ expected. Leads (state_in c.args.self.now) c.args.step.now expected t)) (later c)
+    subst (λ (t : State). IfErr c.take.result (λ expected. Leads (state_shown c.args.self.now) c.args.step.now expected t)) (later c)
     (subst (λ (s : State). IfErr c.take.result (λ expected. Leads s c.args.step.now expected (rows.state_in c.take.new.rows))) (before c)
     c.take.ensures.refused)
 

@@ -6,20 +6,20 @@ use Rattle.mem_machine.proofs.machine.Machine.drain_if_below.Goals as goal
 
 pub invariant_of-self : goal.invariant_of-self
 invariant_of-self g c = record {
-  consistent = (never_drained g.N.BootName.frames g.N.BootName.stocks _ _ c.self.view_is c.self.invariant.consistent c.args.processor c.requires.processor.0 c.requires.processor.1
+  consistent = (never_drained g.N.BootName.frames g.N.BootName.stocks _ _ c.self.view_is c.self.invariant.consistent c.args.cpu c.requires.cpu.0 c.requires.cpu.1
       c.in-None.ensures.group _ c.in-None.ensures.seat).consistent;
   free = c.self.invariant.free;
 }
 
 pub returns-in-None : goal.returns-in-None
-returns-in-None g c = looked_never g.N.BootName.frames _ _ c.self.view_is (of_subtree c.args.group) c.args.processor c.in-None.ensures.group refl _ c.in-None.ensures.seat
+returns-in-None g c = looked_never g.N.BootName.frames _ _ c.self.view_is (of_subtree c.args.group) c.args.cpu c.in-None.ensures.group refl _ c.in-None.ensures.seat
 
 pub returns-in-Some : goal.returns-in-Some
 returns-in-Some g c =
-    looked_own g.N.BootName.frames _ _ c.self.view_is _ c.in-Some.ensures.seat (of_subtree c.args.group) c.args.processor c.in-Some.owner c.drain_noted.result _
+    looked_own g.N.BootName.frames _ _ c.self.view_is _ c.in-Some.ensures.seat (of_subtree c.args.group) c.args.cpu c.in-Some.owner c.drain_noted.result _
     c.in-Some.ensures.group (sym c.is_below.ensures ∙ c.if-is_below.true) c.drain_noted.ensures.drains c.drain_noted.ensures.steps
 
 pub returns-in-Some-2 : goal.returns-in-Some-2
 returns-in-Some-2 g c =
-    looked_other g.N.BootName.frames _ _ c.self.view_is (of_subtree c.args.group) c.args.processor c.in-Some.owner c.in-Some.ensures.group
+    looked_other g.N.BootName.frames _ _ c.self.view_is (of_subtree c.args.group) c.args.cpu c.in-Some.owner c.in-Some.ensures.group
     (sym c.is_below.ensures ∙ c.if-is_below.false) _ c.in-Some.ensures.seat

@@ -14,20 +14,20 @@ pub uncharge-requires-clause-there : goal.uncharge-requires-clause-there
 uncharge-requires-clause-there g c =
     let some : 1 ≤ c.drain-pages.result = search rules in
     (drained_within g.N.BootName.frames g.N.BootName.stocks _ _ c.self.view_is c.self.invariant.consistent c.tree-tree.ensures.legal _ _
-    c.requires.processor.1 c.drain-pages.ensures.booked
+    c.requires.cpu.1 c.drain-pages.ensures.booked
     _ c.requires.group some _ refl).0
 
 pub uncharge-requires-clause-charged : goal.uncharge-requires-clause-charged
 uncharge-requires-clause-charged g c =
     let some : 1 ≤ c.drain-pages.result = search rules in
     (drained_within g.N.BootName.frames g.N.BootName.stocks _ _ c.self.view_is c.self.invariant.consistent c.tree-tree.ensures.legal _ _
-    c.requires.processor.1 c.drain-pages.ensures.booked
+    c.requires.cpu.1 c.drain-pages.ensures.booked
     _ c.requires.group some _ refl).1
 
 pub invariant_of-self : goal.invariant_of-self
 invariant_of-self g c = record {
   consistent = consistent_still _ _ _ _ (drained_all g.N.BootName.frames g.N.BootName.stocks _ _ 2 _ _ c.self.view_is c.self.invariant.consistent
-      (λ some. c.tree-tree.ensures.legal) c.requires.processor.0 c.requires.processor.1
+      (λ some. c.tree-tree.ensures.legal) c.requires.cpu.0 c.requires.cpu.1
       c.drain-pages.ensures.booked c.drain-pages.ensures.drained_before (Some c.args.group) c.requires.group (some_not_none _ _) _ _
       c.uncharge.ensures.uncharged
       c.drain-pages.ensures.seat).consistent;
@@ -38,7 +38,7 @@ pub invariant_of-self-else-pages-gt0 : goal.invariant_of-self-else-pages-gt0
 invariant_of-self-else-pages-gt0 g c =
     let none : c.drain-pages.result ≡ 0 = search rules in record {
       consistent = consistent_still _ _ _ _ (drained_all g.N.BootName.frames g.N.BootName.stocks _ _ 2 _ _ c.self.view_is c.self.invariant.consistent
-          (λ some. c.tree-tree.ensures.legal) c.requires.processor.0 c.requires.processor.1
+          (λ some. c.tree-tree.ensures.legal) c.requires.cpu.0 c.requires.cpu.1
           c.drain-pages.ensures.booked c.drain-pages.ensures.drained_before (Some c.args.group) c.requires.group (some_not_none _ _) _ _
           (drained_none c.self.inside.charges (Some c.args.group) _ none) c.drain-pages.ensures.seat).consistent;
       free = c.self.invariant.free;
@@ -47,29 +47,29 @@ invariant_of-self-else-pages-gt0 g c =
 pub returns-then-pages-gt0-clause-steps : goal.returns-then-pages-gt0-clause-steps
 returns-then-pages-gt0-clause-steps g c =
     let some : 1 ≤ c.drain-pages.result = search rules in
-    let took = subst (λ (r : Run). Watches c.self.inside.watch (zone_makes (DrainStock c.args.processor) (Pages c.drain-pages.result) ∷ r) c.ungranted.new.self)
+    let took = subst (λ (r : Run). Watches c.self.inside.watch (zone_makes (DrainStock c.args.cpu) (Pages c.drain-pages.result) ∷ r) c.ungranted.new.self)
     (sym (ungrants_some c.args.group c.drain-pages.result some))
     (watches_both _ _ _ _ _ c.drained.ensures c.ungranted.ensures) in
     let all = drained_all g.N.BootName.frames g.N.BootName.stocks _ _ 2 _ _ c.self.view_is c.self.invariant.consistent
-    (λ some. c.tree-tree.ensures.legal) c.requires.processor.0 c.requires.processor.1
+    (λ some. c.tree-tree.ensures.legal) c.requires.cpu.0 c.requires.cpu.1
     c.drain-pages.ensures.booked c.drain-pages.ensures.drained_before (Some c.args.group) c.requires.group (some_not_none _ _) _ _
     c.uncharge.ensures.uncharged c.drain-pages.ensures.seat in
     λ cpu. makes_watched _ _ _ _ c.self.view_is cpu cpu _ _ (all.steps cpu) _
-    (subst (λ (o : Option ℕ). Watches c.self.inside.watch (drain_steps c.args.processor o c.drain-pages.result) c.ungranted.new.self) (sym c.requires.group) took)
+    (subst (λ (o : Option ℕ). Watches c.self.inside.watch (drain_steps c.args.cpu o c.drain-pages.result) c.ungranted.new.self) (sym c.requires.group) took)
 
 pub returns-else-pages-gt0 : goal.returns-else-pages-gt0
 returns-else-pages-gt0 g c =
     let none : c.drain-pages.result ≡ 0 = search rules in
     let all = drained_all g.N.BootName.frames g.N.BootName.stocks _ _ 2 _ _ c.self.view_is c.self.invariant.consistent
-    (λ some. c.tree-tree.ensures.legal) c.requires.processor.0 c.requires.processor.1
+    (λ some. c.tree-tree.ensures.legal) c.requires.cpu.0 c.requires.cpu.1
     c.drain-pages.ensures.booked c.drain-pages.ensures.drained_before (Some c.args.group) c.requires.group (some_not_none _ _) _ _
     (drained_none c.self.inside.charges (Some c.args.group) _ none) c.drain-pages.ensures.seat in
-    let took = subst (λ (r : Run). Watches c.self.inside.watch (zone_makes (DrainStock c.args.processor) (Pages c.drain-pages.result) ∷ r) c.drained.new.self)
+    let took = subst (λ (r : Run). Watches c.self.inside.watch (zone_makes (DrainStock c.args.cpu) (Pages c.drain-pages.result) ∷ r) c.drained.new.self)
     (sym (ungrants_none c.args.group c.drain-pages.result none)) c.drained.ensures in
     record {
       drains = drains_still _ _ _ _ _ _ all.drains;
       steps = λ cpu. makes_watched _ _ _ _ c.self.view_is cpu cpu _ _ (all.steps cpu) _
-          (subst (λ (o : Option ℕ). Watches c.self.inside.watch (drain_steps c.args.processor o c.drain-pages.result) c.drained.new.self)
+          (subst (λ (o : Option ℕ). Watches c.self.inside.watch (drain_steps c.args.cpu o c.drain-pages.result) c.drained.new.self)
           (sym c.requires.group) took);
     }
 

@@ -14,7 +14,7 @@ free_unit-requires-clause-in_use g c =
     let e = c.collect_fresh-frame.ensures in
     let was = was_fresh g.N.BootName.frames g.N.BootName.stocks _ c.args.cpu.now _ c.args.group e.known.inside e.known.nothing e.known.lent
     e.known.booked e.known.group c.requires.group fits in
-    drop_in_use g.N.BootName.frames g.N.BootName.stocks _ c.args.cpu.now c.number-number.ensures.tied c.self.invariant.consistent _ _ c.args.group _
+    drop_in_use g.N.BootName.frames g.N.BootName.stocks _ c.args.cpu.now c.number-cpu_number.ensures.tied c.self.invariant.consistent _ _ c.args.group _
     c.unwrap-order.result c.self.invariant.free was c.number-at.ensures k0
 
 pub free_unit-requires-clause-charged : goal.free_unit-requires-clause-charged
@@ -24,7 +24,7 @@ free_unit-requires-clause-charged g c =
     let e = c.collect_fresh-frame.ensures in
     let was = was_fresh g.N.BootName.frames g.N.BootName.stocks _ c.args.cpu.now _ c.args.group e.known.inside e.known.nothing e.known.lent
     e.known.booked e.known.group c.requires.group fits in
-    drop_charged g.N.BootName.frames g.N.BootName.stocks _ c.args.cpu.now c.number-number.ensures.tied c.self.invariant.consistent _ c.args.group was
+    drop_charged g.N.BootName.frames g.N.BootName.stocks _ c.args.cpu.now c.number-cpu_number.ensures.tied c.self.invariant.consistent _ c.args.group was
     c.unwrap-order.result k0
 
 pub invariant_of-self : goal.invariant_of-self
@@ -35,7 +35,7 @@ invariant_of-self g c =
     let was = was_fresh g.N.BootName.frames g.N.BootName.stocks _ c.args.cpu.now _ c.args.group e.known.inside e.known.nothing e.known.lent
     e.known.booked e.known.group c.requires.group fits in
     let u = c.free_unit.ensures in
-    let all = (drop_all g.N.BootName.frames g.N.BootName.stocks _ _ c.self.view_is c.args.cpu.now _ c.number-number.ensures.tied c.self.invariant.consistent
+    let all = (drop_all g.N.BootName.frames g.N.BootName.stocks _ _ c.self.view_is c.args.cpu.now _ c.number-cpu_number.ensures.tied c.self.invariant.consistent
     c.requires.visit _ _ c.self.invariant.free _ c.args.group was c.requires.killed e.cpu _ c.unwrap-order.result c.number-at.ensures k0 _ e.zone _ e.seat
     _ u.frame_states _ u.frames u.areas _ u.charges _
     c.with_drop-self-inside.ensures) in
@@ -49,12 +49,12 @@ returns g c =
     let was = was_fresh g.N.BootName.frames g.N.BootName.stocks _ c.args.cpu.now _ c.args.group e.known.inside e.known.nothing e.known.lent
     e.known.booked e.known.group c.requires.group fits in
     let u = c.free_unit.ensures in
-    let all = drop_all g.N.BootName.frames g.N.BootName.stocks _ _ c.self.view_is c.args.cpu.now _ c.number-number.ensures.tied c.self.invariant.consistent
+    let all = drop_all g.N.BootName.frames g.N.BootName.stocks _ _ c.self.view_is c.args.cpu.now _ c.number-cpu_number.ensures.tied c.self.invariant.consistent
     c.requires.visit _ _ c.self.invariant.free _ c.args.group was c.requires.killed e.cpu _ c.unwrap-order.result c.number-at.ensures k0 _ e.zone _ e.seat
     _ u.frame_states _ u.frames u.areas _ u.charges _
     c.with_drop-self-inside.ensures in
     let took = subst (λ (x : ℕ × ℕ). Watches c.self.inside.watch (drop_steps x.0 x.1) c.returned.new.self)
-    (λ i. (c.number-number.ensures.number i, c.number-at.ensures i)) (watches_both _ _ _ _ _ c.take_collected.ensures c.returned.ensures) in
+    (λ i. (c.number-cpu_number.ensures.number i, c.number-at.ensures i)) (watches_both _ _ _ _ _ c.take_collected.ensures c.returned.ensures) in
     record {
       drops = drops_still _ _ _ _ _ _ all.drops;
       visit = visits_still _ _ _ _ all.visit;

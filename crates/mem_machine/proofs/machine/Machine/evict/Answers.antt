@@ -51,9 +51,9 @@ invariant_of-self-2 g c =
     c.index.ensures c.in-Head.is in
     let all = evicted_all g.N.BootName.frames g.N.BootName.stocks _ _ c.self.view_is c.self.invariant.consistent c.args.head _
     c.requires.frame c.number-at.ensures c.requires.kept _ _ c.leave_list.ensures.leaves c.leave_list.ensures.lists.stand c.leave_list.ensures.frames
-    c.leave_list.ensures.lists.groups _ c.if-not-freeze.ensures.answer c.in-Head.unit head _ _ _ _ _ _ _ c.self.invariant.free c.free_unit.ensures.frame_states
+    c.leave_list.ensures.lists.groups _ c.if-not-freeze.ensures.answer c.in-Head.unit head _ _ _ _ _ _ _ _ c.note_unit.ensures c.self.invariant.free c.free_unit.ensures.frame_states
     c.free_unit.ensures.frames c.free_unit.ensures.areas c.free_unit.ensures.charges c.free_unit.ensures.usage
-    c.with_freeze-self-inside.ensures c.frames.ensures.frames in
+    c.with_freeze-self-inside.ensures c.frames-pages.ensures.frames in
     record { consistent = consistent_still _ _ _ _ all.consistent; free = all.free_is }
 
 pub returns : goal.returns
@@ -62,10 +62,10 @@ returns g c =
     c.index.ensures c.in-Head.is in
     let all = evicted_all g.N.BootName.frames g.N.BootName.stocks _ _ c.self.view_is c.self.invariant.consistent c.args.head _
     c.requires.frame c.number-at.ensures c.requires.kept _ _ c.leave_list.ensures.leaves c.leave_list.ensures.lists.stand c.leave_list.ensures.frames
-    c.leave_list.ensures.lists.groups _ c.if-not-freeze.ensures.answer c.in-Head.unit head _ _ _ _ _ _ _ c.self.invariant.free c.free_unit.ensures.frame_states
+    c.leave_list.ensures.lists.groups _ c.if-not-freeze.ensures.answer c.in-Head.unit head _ _ _ _ _ _ _ _ c.note_unit.ensures c.self.invariant.free c.free_unit.ensures.frame_states
     c.free_unit.ensures.frames c.free_unit.ensures.areas c.free_unit.ensures.charges c.free_unit.ensures.usage
-    c.with_freeze-self-inside.ensures c.frames.ensures.frames in
-    let took = subst (λ (x : ℕ). Watches c.self.inside.watch (evict_steps x (Some c.frames.result)) c.returned.new.self)
+    c.with_freeze-self-inside.ensures c.frames-pages.ensures.frames in
+    let took = subst (λ (x : ℕ). Watches c.self.inside.watch (evict_steps x (Some c.frames-pages.result)) c.returned.new.self)
     c.number-at.ensures (watches_both _ _ _ _ _ c.froze.ensures c.returned.ensures) in
     record {
       evicts = evicts_still _ _ _ _ _ all.evicts;

@@ -21,7 +21,7 @@ fill-requires-clause-fits g c =
 pub invariant_of-self-2 : goal.invariant_of-self-2
 invariant_of-self-2 g c = record {
   consistent = consistent_still _ _ _ _ (filled_all g.N.BootName.frames g.N.BootName.stocks _ _ c.args.cpu.now c.args.group c.args.pages c.self.view_is c.self.invariant.consistent c.tree-tree.ensures.legal
-      c.number-number.ensures.tied c.requires.visit c.requires.none_fresh c.requires.pages.1 c.requires.charges.there c.requires.charges.alive
+      c.number-cpu_number.ensures.tied c.requires.visit c.requires.none_fresh c.requires.pages.1 c.requires.charges.there c.requires.charges.alive
       c.fill.ensures.nothing_booked (c.in_default.ensures.granted.0 refl)
       _ _ _ _ refl c.in_default.ensures.charged c.fill.ensures.seat c.fill.ensures.cpu).consistent;
   free = c.self.invariant.free;
@@ -30,11 +30,11 @@ invariant_of-self-2 g c = record {
 pub returns-clause-steps : goal.returns-clause-steps
 returns-clause-steps g c =
     let all = filled_all g.N.BootName.frames g.N.BootName.stocks _ _ c.args.cpu.now c.args.group c.args.pages c.self.view_is c.self.invariant.consistent c.tree-tree.ensures.legal
-    c.number-number.ensures.tied c.requires.visit c.requires.none_fresh c.requires.pages.1 c.requires.charges.there c.requires.charges.alive
+    c.number-cpu_number.ensures.tied c.requires.visit c.requires.none_fresh c.requires.pages.1 c.requires.charges.there c.requires.charges.alive
     c.fill.ensures.nothing_booked (c.in_default.ensures.granted.0 refl)
     _ _ _ _ refl c.in_default.ensures.charged c.fill.ensures.seat c.fill.ensures.cpu in
     makes_watched _ _ _ _ c.self.view_is _ _ _ _ all.steps _
-    (subst (λ (n : ℕ). Watches c.self.inside.watch (fill_steps n c.args.group c.args.pages) c.filled.new.self) c.number-number.ensures.number
+    (subst (λ (n : ℕ). Watches c.self.inside.watch (fill_steps n c.args.group c.args.pages) c.filled.new.self) c.number-cpu_number.ensures.number
     (watches_both _ _ _ _ _ c.granted.ensures c.filled.ensures))
 
 pub returns-in-Err-clause-refused : goal.returns-in-Err-clause-refused
@@ -47,7 +47,7 @@ returns-in-Err-clause-refused g c =
     let refused = subst (λ (x : KnownMachine). LeadsAs t c.args.cpu.now.number (visit_state m c.args.cpu.now) (over_steps c.args.group c.args.pages over)
     (visit_state x c.args.cpu.now)) (sym same)
     (refused_all t g.N.BootName.stocks _ _ c.self.view_is c.args.cpu.now c.args.group c.args.pages over c.self.invariant.consistent c.tree-tree.ensures.legal
-    c.number-number.ensures.tied c.requires.visit c.requires.none_fresh c.requires.charges.there c.requires.charges.alive low) in
+    c.number-cpu_number.ensures.tied c.requires.visit c.requires.none_fresh c.requires.charges.there c.requires.charges.alive low) in
     makes_watched _ _ _ _ c.self.view_is _ _ _ _ refused _ c.refused.ensures
 
 pub invariant_of-self : goal.invariant_of-self

@@ -18,7 +18,7 @@ invariant_of-self g c =
     let was = was_fresh g.N.BootName.frames g.N.BootName.stocks _ c.args.cpu.now _ c.args.group e.known.inside e.known.nothing e.known.lent
     e.known.booked e.known.group c.requires.group fits in
     let a = c.join_list.ensures in
-    let all = (keep_all g.N.BootName.frames g.N.BootName.stocks _ _ c.self.view_is c.args.cpu.now _ c.number-number.ensures.tied c.self.invariant.consistent
+    let all = (keep_all g.N.BootName.frames g.N.BootName.stocks _ _ c.self.view_is c.args.cpu.now _ c.number-cpu_number.ensures.tied c.self.invariant.consistent
     c.requires.visit _ c.self.invariant.free _ c.args.group was e.cpu _ c.unwrap-order.result c.number-at.ensures k0 _ _
     e.zone c.unfreeze.ensures.seat _ e.seat _ _
     (record { joins = a.joins; stand = a.lists.stand; frames = a.frames; groups = a.lists.groups })) in
@@ -32,12 +32,12 @@ returns g c =
     let was = was_fresh g.N.BootName.frames g.N.BootName.stocks _ c.args.cpu.now _ c.args.group e.known.inside e.known.nothing e.known.lent
     e.known.booked e.known.group c.requires.group fits in
     let a = c.join_list.ensures in
-    let all = keep_all g.N.BootName.frames g.N.BootName.stocks _ _ c.self.view_is c.args.cpu.now _ c.number-number.ensures.tied c.self.invariant.consistent
+    let all = keep_all g.N.BootName.frames g.N.BootName.stocks _ _ c.self.view_is c.args.cpu.now _ c.number-cpu_number.ensures.tied c.self.invariant.consistent
     c.requires.visit _ c.self.invariant.free _ c.args.group was e.cpu _ c.unwrap-order.result c.number-at.ensures k0 _ _
     e.zone c.unfreeze.ensures.seat _ e.seat _ _
     (record { joins = a.joins; stand = a.lists.stand; frames = a.frames; groups = a.lists.groups }) in
     let took = subst (λ (x : ℕ × ℕ). Watches c.self.inside.watch (keep_steps x.0 x.1) c.published.new.self)
-    (λ i. (c.number-number.ensures.number i, c.number-at.ensures i)) (watches_both _ _ _ _ _ c.take_collected.ensures (watches_both _ _ _ _ _ c.unfroze.ensures c.published.ensures)) in
+    (λ i. (c.number-cpu_number.ensures.number i, c.number-at.ensures i)) (watches_both _ _ _ _ _ c.take_collected.ensures (watches_both _ _ _ _ _ c.unfroze.ensures c.published.ensures)) in
     record {
       keeps = keeps_still _ _ _ _ _ _ all.keeps;
       visit = visits_still _ _ _ _ all.visit;

@@ -22,31 +22,31 @@ pass_out-requires-clause-hand g c =
 pub accept-requires-clause-passes : goal.accept-requires-clause-passes
 accept-requires-clause-passes g c =
     let inside : c.in-Some-frame.frame < g.N.BootName.frames.frames = search rules in
-    passes_to _ _ _ _ c.self.view_is c.args.cpu.now c.number-number.ensures.tied c.requires.visit _ _ _ inside c.number-number.ensures.number
+    passes_to _ _ _ _ c.self.view_is c.args.cpu.now c.number-cpu_number.ensures.tied c.requires.visit _ _ _ inside c.number-cpu_number.ensures.number
     c.pass_out.ensures.zone
 
 pub accept-requires-clause-lent : goal.accept-requires-clause-lent
-accept-requires-clause-lent g c = lent_to_it _ _ _ _ _ c.number-number.ensures.number c.pass_out.ensures.zone
+accept-requires-clause-lent g c = lent_to_it _ _ _ _ _ c.number-cpu_number.ensures.number c.pass_out.ensures.zone
 
 pub invariant_of-self-2 : goal.invariant_of-self-2
 invariant_of-self-2 g c =
     let k0 : c.unwrap.result ≡ 0 = search rules in
-    let all = (lend_all g.N.BootName.frames g.N.BootName.stocks _ _ c.self.view_is c.args.cpu.now _ c.number-number.ensures.tied c.self.invariant.consistent
+    let all = (lend_all g.N.BootName.frames g.N.BootName.stocks _ _ c.self.view_is c.args.cpu.now _ c.number-cpu_number.ensures.tied c.self.invariant.consistent
     c.requires.visit _ _
-    c.unwrap.result c.in-Some.block _ c.in-Some-frame.frame _ c.number-number.result _ _ c.self.invariant.free k0 c.in-Some.ensures.taken c.in-Some.ensures.frames
-    c.in-Some.ensures.areas c.in-Some-frame.ensures.0 c.number-at.ensures c.number-number.ensures.number c.pass_out.ensures.zone c.accept.ensures.zone
+    c.unwrap.result c.in-Some.block _ c.in-Some-frame.frame _ c.number-cpu_number.result _ _ c.self.invariant.free k0 c.in-Some.ensures.taken c.in-Some.ensures.frames
+    c.in-Some.ensures.areas c.in-Some-frame.ensures.0 c.number-at.ensures c.number-cpu_number.ensures.number c.pass_out.ensures.zone c.accept.ensures.zone
     c.accept.ensures.cpu c.accept.ensures.nothing.1.1) in
     record { consistent = consistent_still _ _ _ _ all.consistent; free = all.free_is }
 
 pub returns : goal.returns
 returns g c =
     let k0 : c.unwrap.result ≡ 0 = search rules in
-    let all = lend_all g.N.BootName.frames g.N.BootName.stocks _ _ c.self.view_is c.args.cpu.now _ c.number-number.ensures.tied c.self.invariant.consistent c.requires.visit _ _
-    c.unwrap.result c.in-Some.block _ c.in-Some-frame.frame _ c.number-number.result _ _ c.self.invariant.free k0 c.in-Some.ensures.taken c.in-Some.ensures.frames
-    c.in-Some.ensures.areas c.in-Some-frame.ensures.0 c.number-at.ensures c.number-number.ensures.number c.pass_out.ensures.zone c.accept.ensures.zone
+    let all = lend_all g.N.BootName.frames g.N.BootName.stocks _ _ c.self.view_is c.args.cpu.now _ c.number-cpu_number.ensures.tied c.self.invariant.consistent c.requires.visit _ _
+    c.unwrap.result c.in-Some.block _ c.in-Some-frame.frame _ c.number-cpu_number.result _ _ c.self.invariant.free k0 c.in-Some.ensures.taken c.in-Some.ensures.frames
+    c.in-Some.ensures.areas c.in-Some-frame.ensures.0 c.number-at.ensures c.number-cpu_number.ensures.number c.pass_out.ensures.zone c.accept.ensures.zone
     c.accept.ensures.cpu c.accept.ensures.nothing.1.1 in
     let took = subst (λ (x : ℕ × ℕ). Watches c.self.inside.watch (lend_steps x.0 x.1) c.took_in.new.self)
-    (λ i. (c.number-number.ensures.number i, c.number-at.ensures i))
+    (λ i. (c.number-cpu_number.ensures.number i, c.number-at.ensures i))
     (watches_both _ _ _ _ _ c.passed_out.ensures c.took_in.ensures) in
     record {
       lends = record {

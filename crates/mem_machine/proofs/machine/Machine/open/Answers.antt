@@ -16,7 +16,7 @@ returns-clause-visits g c = record {
 pub returns-clause-steps : goal.returns-clause-steps
 returns-clause-steps g c = makes_watched _ _ _ _ c.self.view_is _ _ _ _
     (opens g.N.BootName.frames _ _ c.self.view_is _ _ c.open.ensures.cpu _ c.open.ensures.zone c.requires) _
-    (subst (λ (n : ℕ). Watches c.self.inside.watch (open_steps n) c.visit_opened.new.self) c.number-number.ensures.number c.visit_opened.ensures)
+    (subst (λ (n : ℕ). Watches c.self.inside.watch (open_steps n) c.visit_opened.new.self) c.number-cpu_number.ensures.number c.visit_opened.ensures)
 
 pub invariant_of-self : goal.invariant_of-self
 invariant_of-self g c = search rules

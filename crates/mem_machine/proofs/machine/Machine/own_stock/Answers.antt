@@ -4,7 +4,7 @@ use Rattle.mem_machine.proofs.machine.Machine.own_stock.Goals as goal
 
 pub returns-clause-stock : goal.returns-clause-stock
 returns-clause-stock g c =
-    own_is g.N.BootName.frames g.N.BootName.stocks _ _ c.self.view_is c.args.cpu.now c.look.result c.number-number.ensures.tied c.self.invariant.consistent
+    own_is g.N.BootName.frames g.N.BootName.stocks _ _ c.self.view_is c.args.cpu.now c.look.result c.number-cpu_number.ensures.tied c.self.invariant.consistent
     c.look.ensures.balanced c.look.ensures.group c.look.ensures.held
 
 pub invariant_of-self : goal.invariant_of-self

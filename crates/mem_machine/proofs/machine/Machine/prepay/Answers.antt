@@ -8,7 +8,7 @@ use Rattle.mem_machine.proofs.machine.Machine.prepay.Goals as goal
 
 pub fill_stock-requires-clause-charges : goal.fill_stock-requires-clause-charges
 fill_stock-requires-clause-charges g c =
-    let fits = emptied_fits _ _ _ _ _ c.number-number.ensures.number c.drain_stock.ensures.drains c.args.pages c.requires.charges.fits in
+    let fits = emptied_fits _ _ _ _ _ c.number-cpu_number.ensures.number c.drain_stock.ensures.drains c.args.pages c.requires.charges.fits in
     record {
       there = search rules;
       alive = search rules;
@@ -19,11 +19,11 @@ pub fill_stock-requires-clause-drained : goal.fill_stock-requires-clause-drained
 fill_stock-requires-clause-drained g c =
     subst (λ (z : KnownMachine × KnownCpu). (account_of z.0.stock_seat.view z.1.number).filled ≡ false)
     (λ i. (sym c.own_stock-emptied.ensures.machine i, sym c.own_stock-emptied.ensures.cpu i))
-    (emptied_drained _ _ _ _ _ c.number-number.ensures.number c.drain_stock.ensures.drains)
+    (emptied_drained _ _ _ _ _ c.number-cpu_number.ensures.number c.drain_stock.ensures.drains)
 
 pub returns-clause-prepays : goal.returns-clause-prepays
 returns-clause-prepays g c =
-    let number = c.number-number.ensures.number in
+    let number = c.number-cpu_number.ensures.number in
     let drains = c.drain_stock.ensures.drains in
     let whole = emptied_whole _ _ _ _ _ number drains c.args.cpu.now _ _ refl refl c.requires.none_fresh c.own_stock-emptied.ensures.stock in
     let steps = c.drain_stock.ensures.steps c.args.cpu.now in
@@ -34,7 +34,7 @@ returns-clause-prepays g c =
 
 pub returns-clause-steps : goal.returns-clause-steps
 returns-clause-steps g c =
-    let number = c.number-number.ensures.number in
+    let number = c.number-cpu_number.ensures.number in
     let drains = c.drain_stock.ensures.drains in
     let whole = emptied_whole _ _ _ _ _ number drains c.args.cpu.now _ _ refl refl c.requires.none_fresh c.own_stock-emptied.ensures.stock in
     let steps = c.drain_stock.ensures.steps c.args.cpu.now in
@@ -45,7 +45,7 @@ returns-clause-steps g c =
 
 pub returns-clause-over : goal.returns-clause-over
 returns-clause-over g c =
-    let number = c.number-number.ensures.number in
+    let number = c.number-cpu_number.ensures.number in
     let drains = c.drain_stock.ensures.drains in
     let whole = emptied_whole _ _ _ _ _ number drains c.args.cpu.now _ _ refl refl c.requires.none_fresh c.own_stock-emptied.ensures.stock in
     let steps = c.drain_stock.ensures.steps c.args.cpu.now in
@@ -56,7 +56,7 @@ returns-clause-over g c =
 
 pub returns-clause-refused : goal.returns-clause-refused
 returns-clause-refused g c =
-    let number = c.number-number.ensures.number in
+    let number = c.number-cpu_number.ensures.number in
     let drains = c.drain_stock.ensures.drains in
     let whole = emptied_whole _ _ _ _ _ number drains c.args.cpu.now _ _ refl refl c.requires.none_fresh c.own_stock-emptied.ensures.stock in
     let steps = c.drain_stock.ensures.steps c.args.cpu.now in

@@ -13,7 +13,7 @@ use Rattle.mem_machine.proofs.machine.Machine.return_one.Goals as goal
 pub collect-requires-clause-passes : goal.collect-requires-clause-passes
 collect-requires-clause-passes g c =
     let inside : c.in-Some.frame < g.N.BootName.frames.frames = search rules in
-    back_passes g.N.BootName.frames g.N.BootName.stocks _ _ c.self.view_is c.args.cpu.now _ c.number-number.ensures.tied c.requires _ _ inside
+    back_passes g.N.BootName.frames g.N.BootName.stocks _ _ c.self.view_is c.args.cpu.now _ c.number-cpu_number.ensures.tied c.requires _ _ inside
     c.in-Some.ensures.answer
     c.in-Some.ensures.zone
 
@@ -50,7 +50,7 @@ invariant_of-self-2 g c =
     let collected = c.collect.ensures.zone ∙ ap (λ (s : KnownSeat). seat_with s c.in-Some.frame
     (collected_from c.hand_back.new.self.number)) c.in-Some.ensures.zone in
     let u = c.free_unit.ensures in
-    let all = (return_all g.N.BootName.frames g.N.BootName.stocks _ _ c.self.view_is c.args.cpu.now c.hand_back.new.self _ c.number-number.ensures.tied
+    let all = (return_all g.N.BootName.frames g.N.BootName.stocks _ _ c.self.view_is c.args.cpu.now c.hand_back.new.self _ c.number-cpu_number.ensures.tied
     c.self.invariant.consistent c.requires _ _ c.self.invariant.free _ was c.in-Some.ensures.answer c.collect.ensures.cpu _ c.number-at.ensures _ heads _ collected
     _ u.frame_states _ u.frames u.areas _ u.charges _
     c.with_last_put-self-inside.ensures) in
@@ -65,12 +65,12 @@ returns g c =
     let collected = c.collect.ensures.zone ∙ ap (λ (s : KnownSeat). seat_with s c.in-Some.frame
     (collected_from c.hand_back.new.self.number)) c.in-Some.ensures.zone in
     let u = c.free_unit.ensures in
-    let all = return_all g.N.BootName.frames g.N.BootName.stocks _ _ c.self.view_is c.args.cpu.now c.hand_back.new.self _ c.number-number.ensures.tied
+    let all = return_all g.N.BootName.frames g.N.BootName.stocks _ _ c.self.view_is c.args.cpu.now c.hand_back.new.self _ c.number-cpu_number.ensures.tied
     c.self.invariant.consistent c.requires _ _ c.self.invariant.free _ was c.in-Some.ensures.answer c.collect.ensures.cpu _ c.number-at.ensures _ heads _ collected
     _ u.frame_states _ u.frames u.areas _ u.charges _
     c.with_last_put-self-inside.ensures in
     let took = subst (λ (x : ℕ × ℕ). Watches c.self.inside.watch (return_steps x.0 x.1) c.returned.new.self)
-    (λ i. (c.number-number.ensures.number i, c.number-at.ensures i)) (watches_both _ _ _ _ _ c.passed_back.ensures (watches_both _ _ _ _ _ c.collected.ensures c.returned.ensures)) in
+    (λ i. (c.number-cpu_number.ensures.number i, c.number-at.ensures i)) (watches_both _ _ _ _ _ c.passed_back.ensures (watches_both _ _ _ _ _ c.collected.ensures c.returned.ensures)) in
     record {
       returns = returns_still _ _ _ _ _ all.returns;
       visit = visits_still _ _ _ _ all.visit;

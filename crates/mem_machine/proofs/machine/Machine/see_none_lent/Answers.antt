@@ -8,4 +8,4 @@ returns g c =
     let t = g.N.BootName.frames in
     let w = g.N.BootName.stocks in
     let ok = subst (λ (k : KnownMachine). IsConsistent t w k) c.self.view_is c.self.invariant.consistent in
-    none_lent t w c.args.self.now c.args.cpu.now ok c.number-number.ensures.tied c.requires.lent c.requires.none_listed c.requires.none_fresh
+    none_lent t w c.args.self.now c.args.cpu.now ok c.number-cpu_number.ensures.tied c.requires.lent c.requires.none_listed c.requires.none_fresh

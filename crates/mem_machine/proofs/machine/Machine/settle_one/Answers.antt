@@ -9,7 +9,7 @@ use Rattle.mem_machine.proofs.machine.Machine.settle_one.Goals as goal
 pub returns-then-index-clause-steps : goal.returns-then-index-clause-steps
 returns-then-index-clause-steps g c =
     let of_group : group_of c.args.cpu.now.stock_seat.view.last ≡ Some c.unwrap-group.result = search rules in
-    let same : c.in-Some.number ≡ c.unwrap-group.result = search rules in
+    let same : c.in-Some.group_number ≡ c.unwrap-group.result = search rules in
     let few : c.unwrap-group.result < most_groups = search rules in
     let killed : is_killed c.args.self.now.killed c.unwrap-group.result ≡ true =
     ap (λ (m : KnownMachine). is_killed m.killed c.unwrap-group.result) (sym c.self.view_is)
@@ -31,7 +31,7 @@ returns-else-index-clause-settles g c =
 pub returns-then-index-clause-settles : goal.returns-then-index-clause-settles
 returns-then-index-clause-settles g c =
     let of_group : group_of c.args.cpu.now.stock_seat.view.last ≡ Some c.unwrap-group.result = search rules in
-    let same : c.in-Some.number ≡ c.unwrap-group.result = search rules in
+    let same : c.in-Some.group_number ≡ c.unwrap-group.result = search rules in
     let few : c.unwrap-group.result < most_groups = search rules in
     let killed : is_killed c.args.self.now.killed c.unwrap-group.result ≡ true =
     ap (λ (m : KnownMachine). is_killed m.killed c.unwrap-group.result) (sym c.self.view_is)

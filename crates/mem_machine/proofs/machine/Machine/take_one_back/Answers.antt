@@ -12,7 +12,7 @@ use Rattle.mem_machine.proofs.machine.Machine.take_one_back.Goals as goal
 pub collect-requires-clause-passes : goal.collect-requires-clause-passes
 collect-requires-clause-passes g c =
     let inside : c.in-Some.frame < g.N.BootName.frames.frames = search rules in
-    passes_back_to g.N.BootName.frames g.N.BootName.stocks _ _ c.self.view_is c.args.cpu.now _ c.number-number.ensures.tied c.requires _ _ inside
+    passes_back_to g.N.BootName.frames g.N.BootName.stocks _ _ c.self.view_is c.args.cpu.now _ c.number-cpu_number.ensures.tied c.requires _ _ inside
     c.in-Some.ensures.answer
     c.in-Some.ensures.zone
 
@@ -20,7 +20,7 @@ pub give-requires : goal.give-requires
 give-requires g c =
     let k0 : c.unwrap.result ≡ 0 = search rules in
     let inside : c.in-Some.frame < g.N.BootName.frames.frames = search rules in
-    may_give g.N.BootName.frames g.N.BootName.stocks _ c.args.cpu.now c.number-number.ensures.tied c.self.invariant.consistent _ c.in-Some.frame _
+    may_give g.N.BootName.frames g.N.BootName.stocks _ c.args.cpu.now c.number-cpu_number.ensures.tied c.self.invariant.consistent _ c.in-Some.frame _
     c.unwrap.result c.self.invariant.free inside c.in-Some.ensures.borrowed.1 c.number-at.ensures k0
 
 pub invariant_of-self-2 : goal.invariant_of-self-2
@@ -30,7 +30,7 @@ invariant_of-self-2 g c =
     let collected = c.collect.ensures.zone ∙ ap (λ (s : KnownSeat). seat_with s c.in-Some.frame
     (collected_from c.hand_front.new.self.number)) c.in-Some.ensures.zone in
     let all = (take_all g.N.BootName.frames g.N.BootName.stocks _ _ c.self.view_is c.args.cpu.now c.hand_front.new.self _
-    c.number-number.ensures.tied c.self.invariant.consistent
+    c.number-cpu_number.ensures.tied c.self.invariant.consistent
     c.requires _ _ c.unwrap.result _ c.in-Some.frame _ _ c.self.invariant.free k0 c.give.ensures.frames c.give.ensures.areas inside c.in-Some.ensures.borrowed.1
     c.number-at.ensures c.in-Some.ensures.answer collected c.collect.ensures.cpu) in
     record { consistent = consistent_still _ _ _ _ all.consistent; free = all.free_is }
@@ -41,11 +41,11 @@ returns g c =
     let inside : c.in-Some.frame < g.N.BootName.frames.frames = search rules in
     let collected = c.collect.ensures.zone ∙ ap (λ (s : KnownSeat). seat_with s c.in-Some.frame
     (collected_from c.hand_front.new.self.number)) c.in-Some.ensures.zone in
-    let all = take_all g.N.BootName.frames g.N.BootName.stocks _ _ c.self.view_is c.args.cpu.now c.hand_front.new.self _ c.number-number.ensures.tied c.self.invariant.consistent
+    let all = take_all g.N.BootName.frames g.N.BootName.stocks _ _ c.self.view_is c.args.cpu.now c.hand_front.new.self _ c.number-cpu_number.ensures.tied c.self.invariant.consistent
     c.requires _ _ c.unwrap.result _ c.in-Some.frame _ _ c.self.invariant.free k0 c.give.ensures.frames c.give.ensures.areas inside c.in-Some.ensures.borrowed.1
     c.number-at.ensures c.in-Some.ensures.answer collected c.collect.ensures.cpu in
     let took = subst (λ (x : ℕ × ℕ). Watches c.self.inside.watch (unlist_steps x.0 x.1) c.collected.new.self)
-    (λ i. (c.number-number.ensures.number i, c.number-at.ensures i))
+    (λ i. (c.number-cpu_number.ensures.number i, c.number-at.ensures i))
     (watches_both _ _ _ _ _ c.passed_back.ensures c.collected.ensures) in
     record {
       takes = record {

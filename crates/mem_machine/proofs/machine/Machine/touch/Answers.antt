@@ -8,9 +8,9 @@ unreachable-requires g c = has_home _ _ c.self.view_is c.args.head _ c.number-at
 pub invariant_of-self : goal.invariant_of-self
 invariant_of-self g c = record {
   consistent = (touch_all g.N.BootName.frames g.N.BootName.stocks _ _ c.self.view_is c.self.invariant.consistent c.args.head _ c.requires.frame c.number-at.ensures c.in-Some.home
-      c.in-Some.ensures _ c.index.ensures _ _ c.touch-touched.result c.touch-touched.ensures.stands c.touch-touched.ensures.owner
+      c.in-Some.ensures _ c.index.ensures _ _ c.touch-touched.result c.touch-touched.ensures.linked c.touch-touched.ensures.owner
       c.touch-touched.ensures.touches
-      c.touch-touched.ensures.others c.others_stand.ensures c.one_of_all_changes.ensures).consistent;
+      c.touch-touched.ensures.others c.others_stay_linked.ensures c.one_of_all_changes.ensures).consistent;
   free = c.self.invariant.free;
 }
 
@@ -18,6 +18,6 @@ pub returns : goal.returns
 returns g c =
     let all = touch_all g.N.BootName.frames g.N.BootName.stocks _ _ c.self.view_is c.self.invariant.consistent c.args.head _ c.requires.frame c.number-at.ensures
     c.in-Some.home
-    c.in-Some.ensures _ c.index.ensures _ _ c.touch-touched.result c.touch-touched.ensures.stands c.touch-touched.ensures.owner c.touch-touched.ensures.touches
-    c.touch-touched.ensures.others c.others_stand.ensures c.one_of_all_changes.ensures in
+    c.in-Some.ensures _ c.index.ensures _ _ c.touch-touched.result c.touch-touched.ensures.linked c.touch-touched.ensures.owner c.touch-touched.ensures.touches
+    c.touch-touched.ensures.others c.others_stay_linked.ensures c.one_of_all_changes.ensures in
     record { touches = all.touches; steps = all.steps }

@@ -1,5 +1,5 @@
 use Rattle.std.proofs.Common.{◌≡◌, ℕ, Option, Some, refl, sym, ap, ◌∙◌}
-use Rattle.stock_word.specs.Stock.{Seated, account_of}
+use Rattle.stock_word.specs.Stock.{KnownStockSeat, account_of}
 use Rattle.stock_word.specs.Kinds.{draining, with_steps}
 use Rattle.stock_word.specs.Calls.{steps_of_drain, with_view}
 use Rattle.mem_machine.proofs.Booking.{after_drain, within_count}
@@ -7,24 +7,24 @@ use Rattle.mem_machine.proofs.stock_ledger.StockLedger.drain.Goals as goal
 
 pub overflow_sub-self : goal.overflow_sub-self
 overflow_sub-self g c =
-    let group : (account_of c.self.inside.seat.view c.args.processor).group ≡ Some c.number-number.result =
-    ap (λ (x : Seated). (account_of x.view c.args.processor).group) c.self.view_is ∙ c.requires.group ∙ ap Some (sym c.number-number.ensures.value) in
-    within_count g.N.BootName.frames g.N.BootName.stocks _ _ c.self.invariant c.args.processor c.number-number.result _ c.requires.processor.1
+    let group : (account_of c.self.inside.seat.view c.args.cpu).group ≡ Some c.number-number.result =
+    ap (λ (x : KnownStockSeat). (account_of x.view c.args.cpu).group) c.self.view_is ∙ c.requires.group ∙ ap Some (sym c.number-number.ensures.value) in
+    within_count g.N.BootName.frames g.N.BootName.stocks _ _ c.self.invariant c.args.cpu c.number-number.result _ c.requires.cpu.1
     c.number-number.ensures.below group
     _ refl c.drain-pages.ensures.booked
 
 pub invariant_of-self : goal.invariant_of-self
 invariant_of-self g c =
-    let group : (account_of c.self.inside.seat.view c.args.processor).group ≡ Some c.number-number.result =
-    ap (λ (x : Seated). (account_of x.view c.args.processor).group) c.self.view_is ∙ c.requires.group ∙ ap Some (sym c.number-number.ensures.value) in
-    after_drain g.N.BootName.frames g.N.BootName.stocks _ _ c.self.invariant c.args.processor c.number-number.result _ c.requires.processor.1
+    let group : (account_of c.self.inside.seat.view c.args.cpu).group ≡ Some c.number-number.result =
+    ap (λ (x : KnownStockSeat). (account_of x.view c.args.cpu).group) c.self.view_is ∙ c.requires.group ∙ ap Some (sym c.number-number.ensures.value) in
+    after_drain g.N.BootName.frames g.N.BootName.stocks _ _ c.self.invariant c.args.cpu c.number-number.result _ c.requires.cpu.1
     c.number-number.ensures.below group
-    _ refl c.drain-pages.ensures.booked _ _ c.drain-pages.ensures.machine
+    _ refl c.drain-pages.ensures.booked _ _ c.drain-pages.ensures.zone
 
 pub returns-clause-seat : goal.returns-clause-seat
 returns-clause-seat g c =
-    let group : (account_of c.self.inside.seat.view c.args.processor).group ≡ Some c.args.group =
-    ap (λ (x : Seated). (account_of x.view c.args.processor).group) c.self.view_is ∙ c.requires.group in
-    c.drain-pages.ensures.machine
-    ∙ ap (λ (o : Option ℕ). with_view c.self.inside.seat (with_steps (steps_of_drain o) (draining c.self.inside.seat.view c.args.processor c.drain-pages.result))) group
-    ∙ ap (λ (x : Seated). with_view x (with_steps 2 (draining x.view c.args.processor c.drain-pages.result))) c.self.view_is
+    let group : (account_of c.self.inside.seat.view c.args.cpu).group ≡ Some c.args.group =
+    ap (λ (x : KnownStockSeat). (account_of x.view c.args.cpu).group) c.self.view_is ∙ c.requires.group in
+    c.drain-pages.ensures.zone
+    ∙ ap (λ (o : Option ℕ). with_view c.self.inside.seat (with_steps (steps_of_drain o) (draining c.self.inside.seat.view c.args.cpu c.drain-pages.result))) group
+    ∙ ap (λ (x : KnownStockSeat). with_view x (with_steps 2 (draining x.view c.args.cpu c.drain-pages.result))) c.self.view_is

@@ -3,4 +3,4 @@ use Rattle.mem_machine.proofs.stock_ledger.StockLedger.group.Goals as goal
 
 pub invariant_of-self : goal.invariant_of-self
 invariant_of-self g c =
-    after_group g.N.BootName.frames g.N.BootName.stocks _ _ c.self.invariant c.args.processor c.requires.processor.1 c.group.result _ c.group.ensures.machine
+    after_group g.N.BootName.frames g.N.BootName.stocks _ _ c.self.invariant c.args.cpu c.requires.cpu.1 c.group.result _ c.group.ensures.zone

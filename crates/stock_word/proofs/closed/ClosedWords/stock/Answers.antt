@@ -7,5 +7,5 @@ use Rattle.stock_word.proofs.closed.ClosedWords.stock.Goals as goal
 pub returns : goal.returns
 returns c =
     (λ stock fits is. c.of_word.ensures stock fits
-    (sym (index_is (slots_items c.self.inside.closed.words) c.stock_place.result _ c.word.ensures)
-    ∙ (λ i. slice_index (c.self.view_is i) (c.stock_place.ensures i)) ∙ is))
+    (sym (index_is (slots_items c.self.inside.closed.words) c.stock_index.result _ c.word.ensures)
+    ∙ (λ i. slice_index (c.self.view_is i) (c.stock_index.ensures i)) ∙ is))

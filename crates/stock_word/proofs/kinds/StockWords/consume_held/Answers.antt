@@ -8,5 +8,5 @@ invariant_of-seat c =
     let stock = c.of_word-seat-inside.ensures (HeldBy kind.consumes.group kind.consumes.pages) kind.has_word kind.consumes.word_after in
     rw stock (search rules)
 
-pub returns-clause-machine : goal.returns-clause-machine
-returns-clause-machine c = search rules
+pub returns-clause-zone : goal.returns-clause-zone
+returns-clause-zone c = search rules

@@ -7,10 +7,10 @@ use Rattle.stock_word.proofs.kinds.StockWords.gather.Given as goal
 
 abbrev pub invariant-loop-seat : goal.invariant-loop-seat
 invariant-loop-seat l = record {
-  table : l.place0.table ≡ l.self.table;
+  table : l.zone.table ≡ l.self.table;
   seats : AreOf l.self.table l.seats.items;
-  all : (f : StockView → ℕ) → sum_over f l.place0.views + sum_over f (views_of l.seats.items)
-      ≡ f (first_of l.fn.place0.views) + sum_over f (views_of l.fn.seats.items);
+  all : (f : StockView → ℕ) → sum_over f l.zone.views + sum_over f (views_of l.seats.items)
+      ≡ f (first_of l.fn.zone.views) + sum_over f (views_of l.fn.seats.items);
 }
 
 abbrev pub decreases-loop-seat : goal.decreases-loop-seat

@@ -1,11 +1,11 @@
 use Rattle.std.proofs.Common.{rules}
 use Rattle.stock_word.proofs.kinds.StockWords.look.Goals as goal
 
-pub returns-clause-machine : goal.returns-clause-machine
-returns-clause-machine c = search rules
+pub returns-clause-zone : goal.returns-clause-zone
+returns-clause-zone c = search rules
 
-pub returns-clause-processor : goal.returns-clause-processor
-returns-clause-processor c = search rules
+pub returns-clause-cpu : goal.returns-clause-cpu
+returns-clause-cpu c = search rules
 
 pub returns-clause-has_word : goal.returns-clause-has_word
 returns-clause-has_word c = search rules

@@ -1,4 +1,0 @@
-use Rattle.bench.proofs.system.time_boot.Given as goal
-
-abbrev pub ghosts-start : goal.ghosts-start
-ghosts-start g a = record { frames = a.boot.frames; stocks = a.boot.stocks }

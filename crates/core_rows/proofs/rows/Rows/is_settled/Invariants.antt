@@ -1,7 +1,0 @@
--- What the loop of `is_settled` keeps.
-use Rattle.std.proofs.Common.{◌≡◌, ◌<◌, ◌==◌, ℕ, true}
-use Rattle.core_rows.specs.Shown.{state_in}
-use Rattle.core_rows.proofs.rows.Rows.is_settled.Given as goal
-
-abbrev pub invariant-loop-g : goal.invariant-loop-g
-invariant-loop-g l = (i : ℕ) → i < l.g → ((state_in l.self).pending i == 0) ≡ true

@@ -1,5 +1,0 @@
-use Rattle.lru_lists.proofs.Packing.{as_many}
-use Rattle.lru_lists.proofs.links.Links.unlink.Goals as goal
-
-pub unlink-requires-clause-frames : goal.unlink-requires-clause-frames
-unlink-requires-clause-frames c = as_many c.self.inside.records.items c.args.self.now 4294967296 c.self.view_is c.self.invariant

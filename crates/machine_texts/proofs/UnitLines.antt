@@ -1,0 +1,227 @@
+-- The lines of kept units, one after the other, and the looks at their words. Serves `write_list` and `write_units`.
+use Rattle.std.proofs.Common.{◌≡◌, ℕ, zero, suc, ◌+◌, ◌<◌, ◌≤◌, Option, Some, None, List, [], ◌∷◌, ◌++◌, All, length, map, refl, sym, ap, ◌∙◌, subst, arith}
+use Rattle.std.proofs.Common.{Result, Ok, Err, IfOk, IsOk}
+use Rattle.std.proofs.lemmas.List.Elements.{All-append}
+use Rattle.std.proofs.lemmas.List.{append-nil, append_assoc, length-append, length-map, map-append}
+use Rattle.frame_word.specs.ReferenceRule.{most_references}
+use Rattle.frame_word.specs.Seats.{KnownTable, KnownSeat}
+use Rattle.stock_word.specs.Stock.{KnownStockTable}
+use Rattle.lru_lists.specs.declared.record.Entry.{Entry}
+use Rattle.lru_lists.specs.declared.record.LruList.{LruList}
+use Rattle.lru_lists.specs.Lists.{entry_after, first_entry}
+use Rattle.mem_machine.specs.Machines.{KnownMachine, IsConsistent, home_of}
+use Rattle.mem_machine.specs.FrameStates.{frame_state_at, unit_of}
+use Rattle.mem_machine.specs.Showing.{ListedUnit, entries_in, listed, seat_with_look, seat_with_looks, units_in, with_look_at, with_looks_at}
+use Rattle.mem_machine.proofs.Listing.{IsListed, apart_mid, after_mid, has_mid, home_inside, listed_is}
+use Rattle.machine_texts.specs.Units.{LooksAtAll, TellsLines, TellsUnits, lines_text, order_at, unit_text, units_text}
+use Rattle.std.specs.Option.{option_map_or}
+use Rattle.lru_lists.specs.declared.record.LruList.TheVariants.{Inactive, Active}
+
+-- ---- some units and then others
+
+pub lines_append : (m : KnownMachine) (us vs : List ListedUnit) (ps qs : List ℕ) → length ps ≡ length us
+    → lines_text m (us ++ vs) (ps ++ qs) ≡ lines_text m us ps ++ lines_text m vs qs
+lines_append m [] vs [] qs same = refl
+lines_append m [] vs (p ∷ ps) qs same = absurd (omega (arith, same))
+lines_append m (u ∷ us) vs [] qs same = absurd (omega (arith, same))
+lines_append m (u ∷ us) vs (p ∷ ps) qs same =
+    let line : List ℕ = unit_text (order_at m u.entry.number) u p in
+    let s : length (p ∷ ps) ≡ length (u ∷ us) = same in
+    ap (λ (t : List ℕ). line ++ t) (lines_append m us vs ps qs (omega (arith, s))) ∙ sym (append_assoc line (lines_text m us ps) (lines_text m vs qs))
+
+looks_append : (s : KnownSeat) (us vs : List ListedUnit) (ps qs : List ℕ) → length ps ≡ length us
+    → seat_with_looks s (us ++ vs) (ps ++ qs) ≡ seat_with_looks (seat_with_looks s us ps) vs qs
+looks_append s [] vs [] qs same = refl
+looks_append s [] vs (p ∷ ps) qs same = absurd (omega (arith, same))
+looks_append s (u ∷ us) vs [] qs same = absurd (omega (arith, same))
+looks_append s (u ∷ us) vs (p ∷ ps) qs same =
+    let e : length (p ∷ ps) ≡ length (u ∷ us) = same in
+    looks_append (seat_with_look s u.entry.number p) us vs ps qs (omega (arith, e))
+
+pub looks_both : (us vs : List ListedUnit) (ps qs : List ℕ) (a b d : KnownMachine) → LooksAtAll us ps a b → LooksAtAll vs qs b d
+    → LooksAtAll (us ++ vs) (ps ++ qs) a d
+looks_both us vs ps qs a b d first second = record {
+  count =
+      let x = first.count in
+      let y = second.count in
+      let l = length-append ps qs in
+      let r = length-append us vs in
+      omega (arith, x, y, l, r);
+  most = All-append (λ found. found < most_references) ps qs first.most second.most;
+  machine = second.machine ∙ ap (λ (x : KnownMachine). with_looks_at x vs qs) first.machine
+      ∙ (λ i. record a { frame_seat = sym (looks_append a.frame_seat us vs ps qs first.count) i });
+}
+
+pub looks_none : (m : KnownMachine) → LooksAtAll [] [] m m
+looks_none m = record { count = refl; most = λ k d h. absurd (omega (arith, h)); machine = refl }
+
+-- one more look
+looks_one : (m n : KnownMachine) (u : ListedUnit) (p : ℕ) → p < most_references → n ≡ with_look_at m u.entry.number p → LooksAtAll (u ∷ []) (p ∷ []) m n
+looks_one m n u p few is = record { count = refl; most = one; machine = is }
+  where
+    one : All (λ found. found < most_references) (p ∷ [])
+    one zero d h = few
+    one (suc k) d h = absurd (omega (arith, h))
+
+-- ---- the walk over one list
+
+-- The units that were met have their lines, and the others are still to be met.
+pub record MetSoFar (g : ℕ) (list : LruList) (before : KnownMachine) (i : ℕ) (next : Option Entry) (now : KnownMachine)
+    (tells : List ℕ → Type 0) : Type 0 where
+  pub met : List Entry
+  pub todo : List Entry
+  pub are : entries_in before g list ≡ met ++ todo
+  pub count : length met ≡ i
+  pub next_is : next ≡ first_entry todo
+  pub pins : List ℕ
+  pub looks : LooksAtAll (map (listed list) met) pins before now
+  pub told : tells (lines_text before (map (listed list) met) pins)
+
+pub met_none : (g : ℕ) (list : LruList) (m : KnownMachine) (next : Option Entry) (tells : List ℕ → Type 0) → next ≡ first_entry (entries_in m g list)
+    → tells [] → MetSoFar g list m 0 next m tells
+met_none g list m next tells is none = record {
+  met = [];
+  todo = entries_in m g list;
+  are = refl;
+  count = refl;
+  next_is = is;
+  pins = [];
+  looks = looks_none m;
+  told = none;
+}
+
+-- the unit that is met next
+pub record IsMet (t : KnownTable) (g : ℕ) (list : LruList) (before now : KnownMachine) (met todo : List Entry) (u : Entry) : Type 0 where
+  pub rest : List Entry
+  pub ahead : todo ≡ u ∷ rest
+  pub home : home_of now.links u.number ≡ Some (record { owner = g; list = list })
+  pub inside : u.number < t.frames
+  pub newer : entry_after u.number (entries_in now g list) ≡ first_entry rest
+
+ahead_is : (next : Option Entry) (todo : List Entry) (u : Entry) → next ≡ first_entry todo → next ≡ Some u → (rest : List Entry) × (todo ≡ u ∷ rest)
+ahead_is next [] u is some = absurd (let e : None ≡ Some u = sym is ∙ some in cc)
+ahead_is next (e ∷ es) u is some = (es, let s : Some e ≡ Some u = sym is ∙ some in ap (λ (x : Entry). x ∷ es) (same e u s))
+  where
+    same : (a b : Entry) → Some a ≡ Some b → a ≡ b
+    same a b e = cc
+
+module _ (t : KnownTable) (w : KnownStockTable) (g : ℕ) (fits : g < 64) (list : LruList) (before : KnownMachine) (i : ℕ) (next : Option Entry) (now : KnownMachine)
+    (tells : List ℕ → Type 0) (ok : IsConsistent t w now) (s : MetSoFar g list before i next now tells) where
+  -- there is one, as long as not all were met
+  pub some_next : (units : ℕ) → units ≡ length (entries_in before g list) → i < units → next ≡ None → ⊥
+  some_next units counted left none = go s.todo s.next_is (ap (λ (l : List Entry). length l) s.are ∙ length-append s.met s.todo)
+    where
+      go : (todo : List Entry) → next ≡ first_entry todo → length (entries_in before g list) ≡ length s.met + length todo → ⊥
+      go [] is all = let c = s.count in omega (arith, all, counted, left, c)
+      go (e ∷ es) is all = let k : Some e ≡ None = sym is ∙ none in cc
+
+  same_entries : entries_in now g list ≡ entries_in before g list
+  same_entries = ap (λ (x : KnownMachine). entries_in x g list) s.looks.machine
+
+  pub is_met : (u : Entry) → next ≡ Some u → IsMet t g list before now s.met s.todo u
+  is_met u some =
+      let a = ahead_is next s.todo u s.next_is some in
+      let are : entries_in now g list ≡ s.met ++ u ∷ a.0 = same_entries ∙ s.are ∙ ap (λ (l : List Entry). s.met ++ l) a.1 in
+      let is : IsListed now g list (s.met ++ u ∷ a.0) = subst (IsListed now g list) are (listed_is t w now ok g fits list) in
+      let home = is.homes u.number (has_mid s.met a.0 u u.number refl) in
+      record {
+        rest = a.0;
+        ahead = a.1;
+        home = home;
+        inside = home_inside t w now ok u.number (record { owner = g; list = list }) home;
+        newer = ap (λ (l : List Entry). entry_after u.number l) are ∙ after_mid s.met a.0 u (apart_mid s.met a.0 u is.apart);
+      }
+
+  pub met_more : (u : Entry) (some : next ≡ Some u) (newer : Option Entry) → newer ≡ entry_after u.number (entries_in now g list) → (pins : ℕ) → pins < most_references
+      → (n : KnownMachine) → n ≡ with_look_at now u.number pins → (more : List ℕ → Type 0)
+      → ((text : List ℕ) → tells text → more (text ++ unit_text (order_at now u.number) (listed list u) pins)) → MetSoFar g list before (i + 1) newer n more
+  met_more u some newer is pins few n looked more line =
+      let h = is_met u some in
+      let units : List ListedUnit = map (listed list) s.met in
+      let both : map (listed list) (s.met ++ u ∷ []) ≡ units ++ listed list u ∷ [] = map-append (listed list) s.met (u ∷ []) in
+      let looks : LooksAtAll (units ++ listed list u ∷ []) (s.pins ++ pins ∷ []) before n =
+      looks_both units (listed list u ∷ []) s.pins (pins ∷ []) before now n s.looks (looks_one now n (listed list u) pins few looked) in
+      let order : order_at now u.number ≡ order_at before u.number = ap (λ (x : KnownMachine). order_at x u.number) s.looks.machine in
+      let lines : lines_text before units s.pins ++ unit_text (order_at now u.number) (listed list u) pins
+      ≡ lines_text before (units ++ listed list u ∷ []) (s.pins ++ pins ∷ []) =
+      ap (λ (k : ℕ). lines_text before units s.pins ++ unit_text k (listed list u) pins) order
+      ∙ ap (λ (l : List ℕ). lines_text before units s.pins ++ l) (sym (append-nil (unit_text (order_at before u.number) (listed list u) pins)))
+      ∙ sym (lines_append before units (listed list u ∷ []) s.pins (pins ∷ []) s.looks.count) in
+      record {
+        met = s.met ++ u ∷ [];
+        todo = h.rest;
+        are = s.are ∙ ap (λ (l : List Entry). s.met ++ l) h.ahead ∙ sym (append_assoc s.met (u ∷ []) h.rest);
+        count = let c = s.count in let l = length-append s.met (u ∷ []) in omega (arith, c, l);
+        next_is = is ∙ h.newer;
+        pins = s.pins ++ pins ∷ [];
+        looks = subst (λ (l : List ListedUnit). LooksAtAll l (s.pins ++ pins ∷ []) before n) (sym both) looks;
+        told = subst (λ (l : List ListedUnit). more (lines_text before l (s.pins ++ pins ∷ []))) (sym both)
+            (subst more lines (line (lines_text before units s.pins) s.told));
+      }
+
+-- all were met
+pub all_met : (g : ℕ) (list : LruList) (before : KnownMachine) (i : ℕ) (next : Option Entry) (now : KnownMachine) (tells : List ℕ → Type 0)
+    → (s : MetSoFar g list before i next now tells) → (units : ℕ) → units ≡ length (entries_in before g list) → units ≤ i → s.met ≡ entries_in before g list
+all_met g list before i next now tells s units counted all =
+    go s.todo s.are (ap (λ (l : List Entry). length l) s.are ∙ length-append s.met s.todo)
+  where
+    go : (todo : List Entry) → entries_in before g list ≡ s.met ++ todo → length (entries_in before g list) ≡ length s.met + length todo → s.met ≡ entries_in before g list
+    go [] are sum = sym (are ∙ append-nil s.met)
+    go (e ∷ es) are sum =
+        let c = s.count in
+        let l : length (entries_in before g list) ≡ length s.met + length (e ∷ es) = sum in
+        absurd (omega (arith, c, l, counted, all))
+
+-- ---- the text so far, and one more line
+
+-- both were added
+pub joined : {T E : Type 0} (r w l : Result T E) (start now new text line : List ℕ) → IfOk r (λ _. IsOk w) → IfOk r (λ _. IsOk l)
+    → IfOk w (λ _. now ≡ start ++ text) → IfOk l (λ _. new ≡ now ++ line) → IfOk r (λ _. new ≡ start ++ (text ++ line))
+joined (Err e) w l start now new text line a b told added = tt
+joined (Ok x) (Err e) l start now new text line a b told added = cc
+joined (Ok x) (Ok y) (Err e) start now new text line a b told added = cc
+joined (Ok x) (Ok y) (Ok z) start now new text line a b told added =
+    added ∙ ap (λ (t : List ℕ). t ++ line) told ∙ append_assoc start text line
+
+-- ---- both lists of a group
+
+lines_same : (m n : KnownMachine) → n.frame_states ≡ m.frame_states → (us : List ListedUnit) (ps : List ℕ) → lines_text n us ps ≡ lines_text m us ps
+lines_same m n same [] ps = refl
+lines_same m n same (u ∷ us) [] = refl
+lines_same m n same (u ∷ us) (p ∷ ps) = λ i.
+    unit_text (option_map_or (λ unit. unit.order) (unit_of (frame_state_at (same i) u.entry.number)) 0) u p ++ lines_same m n same us ps i
+
+has_lines : (m : KnownMachine) (us : List ListedUnit) (ps : List ℕ) → 0 < length us → units_text m us ps ≡ lines_text m us ps
+has_lines m [] ps some = absurd (omega (arith, some))
+has_lines m (u ∷ us) ps some = refl
+
+-- the lines of the inactive units and then those of the active ones
+pub both_lists : (g : ℕ) (m between n : KnownMachine) (first second all : List ℕ → Type 0) → 0 < length (units_in m g) → TellsLines g Inactive first m between
+    → TellsLines g Active second between n → ((one other : List ℕ) → first one → second other → all (one ++ other)) → TellsUnits g all m n
+both_lists g m between n first second all some inactive active together =
+    let one : List ListedUnit = map (listed Inactive) (entries_in m g Inactive) in
+    let other : List ListedUnit = map (listed Active) (entries_in m g Active) in
+    let same : entries_in between g Active ≡ entries_in m g Active = ap (λ (x : KnownMachine). entries_in x g Active) inactive.looks.machine in
+    let looks : LooksAtAll other active.pins between n = subst (λ (es : List Entry). LooksAtAll (map (listed Active) es) active.pins between n) same active.looks in
+    let told : second (lines_text m other active.pins) =
+    subst second (ap (λ (es : List Entry). lines_text between (map (listed Active) es) active.pins) same
+    ∙ lines_same m between (ap (λ (x : KnownMachine). x.frame_states) inactive.looks.machine) other active.pins) active.told in
+    record {
+      pins = inactive.pins ++ active.pins;
+      looks = looks_both one other inactive.pins active.pins m between n inactive.looks looks;
+      told = subst all (sym (lines_append m one other inactive.pins active.pins inactive.looks.count)
+          ∙ sym (has_lines m (one ++ other) (inactive.pins ++ active.pins) some)) (together _ _ inactive.told told);
+    }
+
+-- how many units a group keeps
+pub units_count : (m : KnownMachine) (g : ℕ) → length (units_in m g) ≡ length (entries_in m g Inactive) + length (entries_in m g Active)
+units_count m g =
+    let l = length-append (map (listed Inactive) (entries_in m g Inactive)) (map (listed Active) (entries_in m g Active)) in
+    let a = length-map (entries_in m g Inactive) (listed Inactive) in
+    let b = length-map (entries_in m g Active) (listed Active) in
+    omega (arith, l, a, b)
+
+-- two texts, one behind the other
+pub both_added : {T E : Type 0} (r w l : Result T E) (start now new : List ℕ) → IfOk r (λ _. IsOk w) → IfOk r (λ _. IsOk l)
+    → (text line : List ℕ) → IfOk w (λ _. now ≡ start ++ text) → IfOk l (λ _. new ≡ now ++ line) → IfOk r (λ _. new ≡ start ++ (text ++ line))
+both_added r w l start now new a b text line told added = joined r w l start now new text line a b told added

@@ -1,0 +1,52 @@
+use Rattle.std.proofs.Common.{arith}
+use Rattle.mem_machine.specs.Steps.{refill_steps}
+use Rattle.mem_alloc.specs.Frames.{LendsBatch, LendsNoFrame}
+use Rattle.mem_alloc.proofs.Rounding.{rounds_none, rounds_done, rounds_succeed, rounds_end, rounds_more}
+use Rattle.mem_alloc.proofs.Filling.{lent_none, lent_batch, no_frame_spares}
+use Rattle.mem_alloc.proofs.frames.make_refill_rounds.Goals as goal
+
+pub loop-round-init : goal.loop-round-init
+loop-round-init g c =
+    rounds_none g.N.BootName.frames 1 LendsNoFrame (λ _. LendsBatch c.args.batch) c.args.machine.now c.args.cpu.now
+
+pub returns-then-refill-gt0-clause-refills : goal.returns-then-refill-gt0-clause-refills
+returns-then-refill-gt0-clause-refills g c =
+    let t = g.N.BootName.frames in
+    let done = c.refill.ensures in
+    let many = c.if-refill-gt0.true in
+    rounds_succeed t 1 LendsNoFrame (λ _. LendsBatch c.args.batch) c.args.machine.now c.args.cpu.now c.loop-round.round
+    c.loop-round.machine c.loop-round.cpu c.loop-round.invariant c.loop-round-test.true c.reclaim_anywhere-freed.result
+    c.reclaim_anywhere-freed.new.machine c.reclaim_anywhere-freed.ensures.reclaims c.reclaim_anywhere-freed.ensures.missed
+    c.reclaim_anywhere-freed.ensures.keeps
+    c.refill.new.self c.refill.new.cpu (refill_steps c.loop-round.cpu.number done.refills.frames) done.refills.steps 0
+    (lent_batch t c.refill.result c.args.batch _ _ _ _ done.refills (omega (arith, many)) done.at_most done.fewer_only_at_the_end)
+
+pub returns-then-freed-eq0-clause-refills : goal.returns-then-freed-eq0-clause-refills
+returns-then-freed-eq0-clause-refills g c =
+    let t = g.N.BootName.frames in
+    let done = c.refill.ensures in
+    let none = lent_none t c.refill.result c.args.batch _ _ _ _ done.refills c.if-refill-gt0.false done.fewer_only_at_the_end
+    c.requires.some in
+    rounds_end t 1 LendsNoFrame (λ _. LendsBatch c.args.batch) c.args.machine.now c.args.cpu.now c.loop-round.round
+    c.loop-round.machine c.loop-round.cpu c.loop-round.invariant c.loop-round-test.true c.reclaim_anywhere-freed.result
+    c.reclaim_anywhere-freed.new.machine c.reclaim_anywhere-freed.ensures.reclaims c.reclaim_anywhere-freed.ensures.missed
+    c.reclaim_anywhere-freed.ensures.keeps
+    c.refill.new.self c.refill.new.cpu none.steps none.makes none.does c.if-freed-eq0.true
+
+pub loop-round-preserved : goal.loop-round-preserved
+loop-round-preserved g c =
+    let t = g.N.BootName.frames in
+    let done = c.refill.ensures in
+    let none = lent_none t c.refill.result c.args.batch _ _ _ _ done.refills c.if-refill-gt0.false done.fewer_only_at_the_end
+    c.requires.some in
+    rounds_more t 1 LendsNoFrame (λ _. LendsBatch c.args.batch) c.args.machine.now c.args.cpu.now c.loop-round.round
+    c.loop-round.machine c.loop-round.cpu c.loop-round.invariant c.loop-round-test.true c.reclaim_anywhere-freed.result
+    c.reclaim_anywhere-freed.new.machine c.reclaim_anywhere-freed.ensures.reclaims c.reclaim_anywhere-freed.ensures.missed
+    c.reclaim_anywhere-freed.ensures.keeps
+    c.refill.new.self c.refill.new.cpu none.steps none.makes none.does c.if-freed-eq0.false
+    (no_frame_spares t _ _ _ _ none.steps none.does)
+
+pub returns-clause-refills : goal.returns-clause-refills
+returns-clause-refills g c =
+    rounds_done g.N.BootName.frames 1 LendsNoFrame (λ _. LendsBatch c.args.batch) c.args.machine.now c.args.cpu.now
+    c.loop-round.round c.loop-round.machine c.loop-round.cpu c.loop-round.invariant c.loop-round-test.false

@@ -1,7 +1,0 @@
-use Rattle.mem_alloc.specs.Frames.{LendsBatch, LendsNoFrame}
-use Rattle.mem_alloc.proofs.Rounding.{RoundsSoFar}
-use Rattle.mem_alloc.proofs.frames.refill_in_rounds.Given as goal
-
-abbrev pub invariant-loop-round : goal.invariant-loop-round
-invariant-loop-round g l =
-    RoundsSoFar g.N.BootName.frames 1 LendsNoFrame (λ _. LendsBatch l.batch) l.fn.machine l.fn.cpu l._round l.machine l.cpu

@@ -1,0 +1,15 @@
+-- What the rows show holds of each run that the core shows.
+use Rattle.std.proofs.Common.{◌≡◌, sym, ◌∙◌, ap}
+use Rattle.step_rules.specs.State.{State}
+use Rattle.core_rows.specs.Shown as rows
+use Rattle.mem_core.specs.Shown.{state_shown}
+use Rattle.mem_core.proofs.Linking.{shown_is}
+use Rattle.mem_core.proofs.reading_core.Core.fresh.Goals as goal
+
+pub returns-clause-now : goal.returns-clause-now
+returns-clause-now c =
+    let link : state_shown c.args.self.now ≡ rows.state_in c.self.inside.rows = ap state_shown (sym c.self.view_is) ∙ shown_is c.self.inside in
+    c.fresh.ensures ∙ ap (λ (s : State). (s.parts c.args.cpu).fresh) (sym link)
+
+pub returns-clause-run : goal.returns-clause-run
+returns-clause-run c run shows = returns-clause-now c ∙ ap (λ (s : State). (s.parts c.args.cpu).fresh) shows.state

@@ -1,0 +1,26 @@
+use Rattle.mem_system.proofs.UnitsSeen.{units_shut}
+use Rattle.mem_system.proofs.shown.write_units_at.Goals as goal
+
+pub invariant_of-locked : goal.invariant_of-locked
+invariant_of-locked g c =
+    let q = c.locked.invariant.quiet in record {
+      quiet = record {
+        shut = units_shut c.in-Some.group _ c.locked.inside.machine c.write_units.new.machine c.write_units.ensures.units q.shut;
+        valid = q.valid;
+        sized = q.sized;
+      };
+      frame_seats = c.locked.invariant.frame_seats;
+      stock_seats = c.locked.invariant.stock_seats;
+    }
+
+pub invariant_of-locked-2 : goal.invariant_of-locked-2
+invariant_of-locked-2 g c =
+    let q = c.locked.invariant.quiet in record {
+      quiet = record {
+        shut = units_shut c.in-Some.group _ c.locked.inside.machine c.write_units.new.machine c.write_units.ensures.units q.shut;
+        valid = q.valid;
+        sized = q.sized;
+      };
+      frame_seats = c.locked.invariant.frame_seats;
+      stock_seats = c.locked.invariant.stock_seats;
+    }

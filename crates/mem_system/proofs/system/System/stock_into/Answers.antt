@@ -1,0 +1,36 @@
+use Rattle.std.proofs.Common.{◌≡◌, ◌++◌, IfOk, ap, subst, sym}
+use Rattle.std.specs.String.{string_bytes}
+use Rattle.cpu_part.specs.Cpus.{KnownCpu}
+use Rattle.machine_texts.specs.Stock.{stock_line_text}
+use Rattle.mem_machine.specs.Local.{visit_state}
+use Rattle.mem_system.specs.Locked.{KnownLocked}
+use Rattle.mem_system.specs.Shown.{SettlesCaller}
+use Rattle.mem_system.specs.Visits.{locked_state}
+use Rattle.mem_system.proofs.system.System.stock_into.Goals as goal
+
+pub returns-clause-told : goal.returns-clause-told
+returns-clause-told g c =
+    let found = c.deref_mut-locked.result.now in
+    let settled = c.settle.new.locked in
+    let line = c.write_own_stock-told in record {
+      found = found;
+      settled = settled;
+      left = line.new.locked;
+      sound_before = record {
+        quiet = c.see_quiet.ensures.quiet;
+        consistent = c.see_quiet.ensures.consistent;
+        charges = c.see_quiet.ensures.charges;
+      };
+      settles = subst (λ (x : KnownCpu). SettlesCaller g.N.BootName.frames (locked_state found c.args.cpu.now) (locked_state settled x))
+          (sym line.ensures.cpu) c.settle.ensures.served;
+      sound_after = record {
+        quiet = c.see_quiet-2.ensures.quiet;
+        consistent = c.see_quiet-2.ensures.consistent;
+        charges = c.see_quiet-2.ensures.charges;
+      };
+      told = (
+        subst (λ (x : KnownCpu). IfOk line.result (λ _. string_bytes line.new.text ≡ string_bytes c.args.text.now
+            ++ stock_line_text (visit_state settled.machine x))) (sym line.ensures.cpu) line.ensures.text,
+        ap (λ (l : KnownLocked). l.machine) line.ensures.locked,
+      );
+    }

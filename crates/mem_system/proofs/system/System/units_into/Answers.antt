@@ -1,0 +1,20 @@
+use Rattle.mem_system.proofs.system.System.units_into.Goals as goal
+
+pub returns-clause-told : goal.returns-clause-told
+returns-clause-told g c = record {
+  found = c.deref_mut-locked.result.now;
+  settled = c.settle.new.locked;
+  left = c.write_units_at-told.new.locked;
+  sound_before = record {
+    quiet = c.see_quiet.ensures.quiet;
+    consistent = c.see_quiet.ensures.consistent;
+    charges = c.see_quiet.ensures.charges;
+  };
+  settles = c.settle.ensures.served;
+  sound_after = record {
+    quiet = c.see_quiet-2.ensures.quiet;
+    consistent = c.see_quiet-2.ensures.consistent;
+    charges = c.see_quiet-2.ensures.charges;
+  };
+  told = c.write_units_at-told.ensures.units;
+}

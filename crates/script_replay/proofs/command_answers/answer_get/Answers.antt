@@ -1,0 +1,22 @@
+use Rattle.std.proofs.Common.{ℕ, refl, subst}
+use Rattle.reply_texts.specs.Answer.{Answer}
+use Rattle.reply_texts.specs.Answers.{answer_text}
+use Rattle.script_replay.specs.Answers.{OnlyWatched, get_steps, pin_answer}
+use Rattle.script_replay.proofs.Telling.{alone}
+use Rattle.script_replay.proofs.command_answers.answer_get.Goals as goal
+
+pub returns : goal.returns
+returns g c =
+    let said : Answer = pin_answer c.pin-got.result in
+    let watched : OnlyWatched (get_steps c.args.cpu.now.number c.args.frame said) c.args.locked.now c.watch_get.new.locked =
+    subst (λ (n : ℕ). OnlyWatched (get_steps n c.args.frame said) c.args.locked.now c.watch_get.new.locked) c.number-cpu_number.ensures.number
+    c.watch_get.ensures in record {
+      answered = λ is_explained. record {
+        text = answer_text said;
+        so = record {
+          steps = get_steps c.args.cpu.now.number c.args.frame said;
+          writes = alone _ _ _ said (c.pin-got.ensures, record { locked = watched; steps_are = refl });
+        };
+        added = c.write_pin.ensures;
+      };
+    }

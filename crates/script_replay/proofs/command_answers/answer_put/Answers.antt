@@ -1,0 +1,22 @@
+use Rattle.std.proofs.Common.{ℕ, refl, subst}
+use Rattle.reply_texts.specs.Answer.{Answer}
+use Rattle.reply_texts.specs.Answers.{answer_text}
+use Rattle.script_replay.specs.Answers.{OnlyWatched, put_steps, unpin_answer}
+use Rattle.script_replay.proofs.Telling.{alone}
+use Rattle.script_replay.proofs.command_answers.answer_put.Goals as goal
+
+pub returns : goal.returns
+returns g c =
+    let said : Answer = unpin_answer c.unpin-put.result in
+    let watched : OnlyWatched (put_steps c.args.cpu.now.number c.args.frame said) c.args.locked.now c.watch_put.new.locked =
+    subst (λ (n : ℕ). OnlyWatched (put_steps n c.args.frame said) c.args.locked.now c.watch_put.new.locked) c.number-cpu_number.ensures.number
+    c.watch_put.ensures in record {
+      answered = λ is_explained. record {
+        text = answer_text said;
+        so = record {
+          steps = put_steps c.args.cpu.now.number c.args.frame said;
+          writes = alone _ _ _ said (c.unpin-put.ensures.put, record { locked = watched; steps_are = refl });
+        };
+        added = c.write_unpin.ensures;
+      };
+    }

@@ -1,5 +1,0 @@
-use Rattle.step_rules.proofs.LocalRuns.{few_pins, few_back, few_fresh}
-use Rattle.step_rules.proofs.examples.the_bounds_are_kept.Goals as goal
-
-pub returns : goal.returns
-returns c = record { pins = few_pins; back = few_back; fresh = few_fresh }

@@ -1,5 +1,0 @@
-use Rattle.step_rules.proofs.LentTo.{frames_are_lent}
-use Rattle.step_rules.proofs.laws.frames_are_lent_to_processors.Goals as goal
-
-pub returns : goal.returns
-returns c = frames_are_lent

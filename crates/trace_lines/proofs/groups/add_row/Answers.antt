@@ -1,0 +1,12 @@
+use Rattle.std.proofs.Common.{◌∙◌, sym}
+use Rattle.trace_lines.proofs.Items.{adds_none, one_ok}
+use Rattle.trace_lines.proofs.Steps.{is_kept, not_kept}
+use Rattle.trace_lines.proofs.groups.add_row.Goals as goal
+
+pub returns-then-has_row : goal.returns-then-has_row
+returns-then-has_row c = adds_none _ _ _ _ _ (not_kept _ c.args.group.now (sym c.has_row.ensures ∙ c.if-has_row.true))
+
+pub returns : goal.returns
+returns c = one_ok _ _ _ _ _ _ _ _ c.args.group.now _
+    (is_kept _ c.args.group.now (sym c.has_row.ensures ∙ c.if-has_row.false))
+    c.in_ok-push_start.ensures.text c.in_ok-push_start.ensures.first c.write_row.ensures

@@ -1,0 +1,9 @@
+pub mod Places
+pub mod Shown
+pub mod Changes
+pub mod Strings
+pub mod Parts
+pub mod Writing
+pub mod Notes
+pub mod Objects
+pub mod Rebuilding

@@ -1,0 +1,32 @@
+-- What is shown of a state, as plain values.
+use Rattle.std.specs.Prelude.{ℕ, Option, List}
+use Rattle.trace_lines.specs.declared.place.Place.{Place}
+use Rattle.trace_lines.specs.declared.shown.Row.{Row}
+use Rattle.trace_lines.specs.declared.shown.Flags.{Flags}
+use Rattle.trace_lines.specs.declared.shown.ShownStock.{ShownStock}
+use Rattle.trace_lines.specs.declared.shown.Counts.{Counts}
+
+-- a group: its number, its path, its row, and its two lists of units, the oldest first
+pub record KnownGroup : Type 0 where
+  pub number : ℕ
+  pub path : List ℕ
+  pub row : Row
+  pub inactive : List ℕ
+  pub active : List ℕ
+
+-- What a CPU has: the frames on its list, its fresh frames, its units whose last reference it put, an entry for each of
+-- its pins, and its stock, if that was filled once.
+pub record KnownCpu : Type 0 where
+  pub list : List ℕ
+  pub fresh : List ℕ
+  pub back : List ℕ
+  pub pins : List ℕ
+  pub stock : Option ShownStock
+
+-- All that is shown: a place and flags for each frame, the groups, the CPUs from 1 on, and the counts.
+pub record KnownShown : Type 0 where
+  pub places : List Place
+  pub flags : List Flags
+  pub groups : List KnownGroup
+  pub cpus : List KnownCpu
+  pub counts : Counts

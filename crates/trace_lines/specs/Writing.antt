@@ -1,0 +1,83 @@
+-- How an optional part is written, an item at a time.
+use Rattle.std.specs.Prelude.{◌≡◌, ◌+◌, ◌≤◌, drop, length, ℕ, Bool, true, false, List, [], ◌∷◌, ◌++◌, codes}
+use Rattle.trace_lines.specs.Changes.{FlagChange, ListChange, PinChange, StockChange, came_of, left_of, pin_change}
+use Rattle.trace_lines.specs.Shown.{KnownGroup}
+use Rattle.trace_lines.specs.declared.frames.FrameRun.{FrameRun}
+use Rattle.std.specs.Fmt.{decimal}
+use Rattle.trace_lines.specs.Parts.{flag_change_text, frame_run_text, list_change_text, made_text, opening}
+use Rattle.trace_lines.specs.Parts.{pin_change_text, row_text, stock_change_text}
+
+-- before the first item the part is opened, before each other one there is a comma
+abbrev pub start_text : List ℕ → Bool → List ℕ
+start_text key true = opening key
+start_text key false = codes ","
+
+-- behind the last item the part is closed, if it was opened
+abbrev pub stop_text : Bool → List ℕ
+stop_text true = []
+stop_text false = codes "]"
+
+-- the texts of these items, each with what goes before it
+abbrev pub items_text : {X : Type 0} → List ℕ → (X → List ℕ) → Bool → List X → List ℕ
+items_text key text is_first [] = []
+items_text key text is_first (item ∷ items) = start_text key is_first ++ text item ++ items_text key text false items
+
+-- whether the next item is the first, after these items
+abbrev pub still_first : {X : Type 0} → Bool → List X → Bool
+still_first is_first [] = is_first
+still_first is_first (item ∷ items) = false
+
+-- Items were added to a part with this key: `before` and `after` say whether the next item is the first.
+pub record Adds {X : Type 0} (key : List ℕ) (text : X → List ℕ) (before after : Bool) (old new : List ℕ)
+    (items : List X) : Type 0 where
+  pub told : new ≡ old ++ items_text key text before items
+  pub first : after ≡ still_first before items
+
+-- groups that are gone were added
+abbrev pub AddsGone : (before after : Bool) (old new : List ℕ) → List ℕ → Type 0
+AddsGone before after old new items = Adds (codes "gone") decimal before after old new items
+
+-- groups that were made were added
+abbrev pub AddsMade : (before after : Bool) (old new : List ℕ) → List KnownGroup → Type 0
+AddsMade before after old new items = Adds (codes "made") made_text before after old new items
+
+-- runs of frames were added
+abbrev pub AddsFrames : (before after : Bool) (old new : List ℕ) → List FrameRun → Type 0
+AddsFrames before after old new items = Adds (codes "frames") frame_run_text before after old new items
+
+-- changes of lists were added
+abbrev pub AddsLists : (before after : Bool) (old new : List ℕ) → List ListChange → Type 0
+AddsLists before after old new items = Adds (codes "lists") list_change_text before after old new items
+
+-- changes of flags were added
+abbrev pub AddsFlags : (before after : Bool) (old new : List ℕ) → List FlagChange → Type 0
+AddsFlags before after old new items = Adds (codes "flags") flag_change_text before after old new items
+
+-- changes of pins were added
+abbrev pub AddsPins : (before after : Bool) (old new : List ℕ) → List PinChange → Type 0
+AddsPins before after old new items = Adds (codes "pins") pin_change_text before after old new items
+
+-- changes of stocks were added
+abbrev pub AddsStocks : (before after : Bool) (old new : List ℕ) → List StockChange → Type 0
+AddsStocks before after old new items = Adds (codes "stocks") stock_change_text before after old new items
+
+-- rows of groups were added
+abbrev pub AddsRows : (before after : Bool) (old new : List ℕ) → List KnownGroup → Type 0
+AddsRows before after old new items = Adds (codes "groups") row_text before after old new items
+
+-- texts of notes were added
+abbrev pub AddsNotes : (before after : Bool) (old new : List ℕ) → List (List ℕ) → Type 0
+AddsNotes before after old new items = Adds (codes "notes") (λ note. note) before after old new items
+
+-- One more entry of the old list was looked at: it is kept, so `now` is one more than `kept`, or it left.
+pub record KeepsOne (old : ℕ) (after : List ℕ) (kept : ℕ) (left new : List ℕ) (now : ℕ) : Type 0 where
+  pub within : now ≤ length after
+  pub left_are : (rest : List ℕ) → new ++ left_of rest (drop now after) ≡ left ++ left_of (old ∷ rest) (drop kept after)
+  pub came_are : (rest : List ℕ) → came_of rest (drop now after) ≡ came_of (old ∷ rest) (drop kept after)
+
+-- the frames from this one on whose number of pins changed
+abbrev pub count_changes : (cpu frame : ℕ) → (before after : List ℕ) → List PinChange
+count_changes cpu frame [] after = []
+count_changes cpu frame (old ∷ before) [] = []
+count_changes cpu frame (old ∷ before) (new ∷ after) = pin_change cpu frame old new
+    ++ count_changes cpu (frame + 1) before after

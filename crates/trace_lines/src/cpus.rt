@@ -1,0 +1,226 @@
+//! The pins and the stocks that changed.
+
+ghost use Rattle.std.specs.Prelude.{◌≡◌, ◌++◌, IfOk, codes, false, ℕ, ◌<◌, length, get_or};
+ghost use Rattle.std.specs.Option.{option_map_or};
+ghost use Rattle.std.specs.String.{string_bytes};
+ghost use Rattle.trace_lines.specs.Changes.{cpus_pin_changes, is_same_stock, pin_change, pin_changes, pins_on};
+ghost use Rattle.trace_lines.specs.Changes.{stock_change, stock_changes};
+ghost use Rattle.trace_lines.specs.Parts.{part_text, pin_change_text, stock_change_text};
+ghost use Rattle.trace_lines.specs.Writing.{AddsPins, AddsStocks, count_changes};
+ghost use Rattle.std.specs.Str.{bytes_eq};
+
+use crate::groups::is_same_limit;
+use crate::numbers::{push_count, write_number};
+use crate::parts::{push_start, push_stop};
+use crate::shown::{ShownCpu, ShownStock};
+use std::alloc::{AllocError, Global};
+
+// Adds the part that tells of pins on frames below this many.
+pub(crate) fn write_pins(
+    alloc: Global,
+    frames: usize,
+    before: &[ShownCpu],
+    after: &[ShownCpu],
+    text: &mut String,
+) -> Result<(), AllocError>
+    ensures { IfOk result (λ _. string_bytes text.new ≡ string_bytes text.old
+        ++ part_text (codes "pins") pin_change_text (cpus_pin_changes 1 frames before.now after.now)) }
+{
+    let mut is_first = true;
+    for index in 0..before.len().min(after.len()) {
+        let cpu = index + 1;
+        write_cpu_pins(
+            alloc,
+            cpu,
+            frames,
+            &before[index],
+            &after[index],
+            &mut is_first,
+            text,
+        )?;
+    }
+    push_stop(is_first, text)
+}
+
+// Adds the changes of one CPU's pins.
+fn write_cpu_pins(
+    alloc: Global,
+    cpu: usize,
+    frames: usize,
+    before: &ShownCpu,
+    after: &ShownCpu,
+    is_first: &mut bool,
+    text: &mut String,
+) -> Result<(), AllocError>
+    ensures { IfOk result (λ _. AddsPins is_first.old is_first.new (string_bytes text.old) (string_bytes text.new)
+        (pin_changes cpu frames before.now.pins after.now.pins)) }
+{
+    if have_same_pins(before, after) {
+        return Ok(());
+    }
+    let old = count_pins(alloc, frames, before.pins())?;
+    let new = count_pins(alloc, frames, after.pins())?;
+    add_counts(cpu, &old, &new, is_first, text)
+}
+
+// Whether the two have the same pins, in the same order.
+fn have_same_pins(one: &ShownCpu, other: &ShownCpu) -> bool
+    ensures { result ≡ bytes_eq one.now.pins other.now.pins }
+{
+    one.pins() == other.pins()
+}
+
+// Adds a CPU's pins on each frame, if their number changed.
+fn add_counts(
+    cpu: usize,
+    before: &[usize],
+    after: &[usize],
+    is_first: &mut bool,
+    text: &mut String,
+) -> Result<(), AllocError>
+    ensures { IfOk result (λ _. AddsPins is_first.old is_first.new (string_bytes text.old) (string_bytes text.new)
+        (count_changes cpu 0 before.now after.now)) }
+{
+    for frame in 0..before.len().min(after.len()) {
+        add_pins(cpu, frame, before[frame], after[frame], is_first, text)?;
+    }
+    Ok(())
+}
+
+// Adds a CPU's pins on one frame, if their number changed.
+fn add_pins(
+    cpu: usize,
+    frame: usize,
+    before: usize,
+    after: usize,
+    is_first: &mut bool,
+    text: &mut String,
+) -> Result<(), AllocError>
+    ensures { IfOk result (λ _. AddsPins is_first.old is_first.new (string_bytes text.old) (string_bytes text.new)
+        (pin_change cpu frame before after)) }
+{
+    if before == after {
+        return Ok(());
+    }
+    push_start("pins", is_first, text)?;
+    write_pin_change(cpu, frame, after, text)
+}
+
+// How many of the pins are on each of so many frames.
+fn count_pins(alloc: Global, frames: usize, pins: &[u32]) -> Result<Vec<usize>, AllocError>
+    ensures length { IfOk result (λ counts. length counts.items ≡ frames) }
+    ensures counts { IfOk result (λ counts. (frame : ℕ) → frame < frames
+        → get_or counts.items frame 0 ≡ pins_on frame pins.now) }
+{
+    let mut counts = vec![in alloc; 0; frames]?;
+    count_each(pins, &mut counts);
+    Ok(counts)
+}
+
+// Counts the pins on each frame, from 0 on.
+#[tactic(auto, using(crate::proofs::Steps::pins_on_most))]
+fn count_each(pins: &[u32], counts: &mut [usize])
+    requires { (frame : ℕ) → get_or counts.old frame 0 ≡ 0 }
+    ensures length { length counts.new ≡ length counts.old }
+    ensures counts { (frame : ℕ) → frame < length counts.old → get_or counts.new frame 0 ≡ pins_on frame pins.now }
+{
+    for &pin in pins {
+        let frame = pin as usize;
+        if frame < counts.len() {
+            counts[frame] += 1;
+        }
+    }
+}
+
+// Adds how many pins a CPU has on a frame.
+fn write_pin_change(
+    cpu: usize,
+    frame: usize,
+    pins: usize,
+    text: &mut String,
+) -> Result<(), AllocError>
+    ensures { IfOk result (λ _. string_bytes text.new
+        ≡ string_bytes text.old ++ pin_change_text (record { cpu = cpu; head = frame; pins = pins })) }
+{
+    write!(text, "[{cpu},{frame},{pins}]")
+}
+
+// Adds the part that tells of stocks.
+pub(crate) fn write_stocks(
+    before: &[ShownCpu],
+    after: &[ShownCpu],
+    text: &mut String,
+) -> Result<(), AllocError>
+    ensures { IfOk result (λ _. string_bytes text.new
+        ≡ string_bytes text.old ++ part_text (codes "stocks") stock_change_text
+        (stock_changes 1 before.now after.now)) }
+{
+    let mut is_first = true;
+    for index in 0..before.len().min(after.len()) {
+        write_cpu_stock(
+            index + 1,
+            &before[index],
+            &after[index],
+            &mut is_first,
+            text,
+        )?;
+    }
+    push_stop(is_first, text)
+}
+
+// Adds the change of one CPU's stock, if it changed.
+fn write_cpu_stock(
+    cpu: usize,
+    before: &ShownCpu,
+    after: &ShownCpu,
+    is_first: &mut bool,
+    text: &mut String,
+) -> Result<(), AllocError>
+    ensures { IfOk result (λ _. AddsStocks is_first.old is_first.new (string_bytes text.old) (string_bytes text.new)
+        (stock_change cpu before.now.stock after.now.stock)) }
+{
+    add_stock(cpu, before.stock(), after.stock(), is_first, text)
+}
+
+// Adds a stock, if it isn't the one before.
+fn add_stock(
+    cpu: usize,
+    before: Option<ShownStock>,
+    after: Option<ShownStock>,
+    is_first: &mut bool,
+    text: &mut String,
+) -> Result<(), AllocError>
+    ensures { IfOk result (λ _. AddsStocks is_first.old is_first.new (string_bytes text.old) (string_bytes text.new)
+        (stock_change cpu before after)) }
+{
+    let Some(stock) = after else {
+        return Ok(());
+    };
+    if is_stock(before, stock) {
+        return Ok(());
+    }
+    push_start("stocks", is_first, text)?;
+    write_stock_change(cpu, stock, text)
+}
+
+// Whether this is the stock.
+fn is_stock(before: Option<ShownStock>, stock: ShownStock) -> bool
+    ensures { result ≡ option_map_or (λ old. is_same_stock old stock) before false }
+{
+    match before {
+        None => false,
+        Some(old) => old.group == stock.group && is_same_limit(old.pages, stock.pages),
+    }
+}
+
+// Adds a CPU's stock.
+fn write_stock_change(cpu: usize, stock: ShownStock, text: &mut String) -> Result<(), AllocError>
+    ensures { IfOk result (λ _. string_bytes text.new
+        ≡ string_bytes text.old ++ stock_change_text (record { cpu = cpu; stock = stock })) }
+{
+    push_count("[", cpu as u64, text)?;
+    push_count(",", u64::from(stock.group), text)?;
+    text.push_str(",")?;
+    write_number(stock.pages, text)?;
+    text.push_str("]")
+}

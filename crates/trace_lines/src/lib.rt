@@ -1,0 +1,20 @@
+//! The lines of a trace: what a line of a script changed in the state that was shown before it. Nothing here knows the
+//! machine: a state is shown as plain values.
+#![tactic(auto)]
+
+mod cpus;
+mod flags;
+pub mod frames;
+mod groups;
+mod laws;
+pub mod lists;
+mod notes;
+pub mod numbers;
+mod objects;
+mod parts;
+pub mod place;
+pub mod shown;
+mod strings;
+
+pub use laws::changes_rebuild;
+pub use objects::{End, Header, LineFacts, Miss, write_end, write_header, write_object};

@@ -1,0 +1,288 @@
+//! The lists that changed.
+
+ghost use Rattle.std.specs.Prelude.{◌≡◌, ◌≤◌, ◌++◌, IfOk, None, codes, drop, length, max, ℕ};
+ghost use Rattle.std.specs.Option.{option_copied};
+ghost use Rattle.std.specs.String.{string_bytes};
+ghost use Rattle.trace_lines.specs.Changes.{active_of, came_of, changed_list, cpu_list_changes, cpus_list_changes};
+ghost use Rattle.trace_lines.specs.Changes.{group_list_changes, group_numbered, groups_list_changes, inactive_of};
+ghost use Rattle.trace_lines.specs.Changes.{left_of, list_change, list_changes};
+ghost use Rattle.trace_lines.specs.Parts.{list_change_text, name_text, part_text};
+ghost use Rattle.trace_lines.specs.Writing.{AddsLists, KeepsOne};
+
+use crate::numbers::write_runs;
+use crate::parts::{push_start, push_stop};
+use crate::shown::{Shown, ShownCpu, ShownGroup};
+use std::alloc::{AllocError, Global};
+
+// How many numbers groups have at most.
+const MAX_GROUPS: usize = 64;
+
+/// The name of a list.
+#[derive(Clone, Copy, Debug, PartialEq, Eq)]
+pub enum ListName {
+    /// The list of this CPU, which is 1 for the first.
+    Listed { cpu: usize },
+    /// The fresh frames of this CPU.
+    Fresh { cpu: usize },
+    /// The units of this CPU whose last reference it put.
+    Back { cpu: usize },
+    /// The inactive units of the group of this number.
+    Inactive { group: usize },
+    /// The active units of the group of this number.
+    Active { group: usize },
+}
+
+// Adds the part that tells which lists changed: first those of the CPUs, then those of the groups, by number.
+pub(crate) fn write_lists(
+    alloc: Global,
+    before: &Shown,
+    after: &Shown,
+    text: &mut String,
+) -> Result<(), AllocError>
+    ensures { IfOk result (λ _. string_bytes text.new ≡ string_bytes text.old
+        ++ part_text (codes "lists") list_change_text (list_changes before.now after.now)) }
+{
+    let mut is_first = true;
+    write_cpus_lists(alloc, before.cpus(), after.cpus(), &mut is_first, text)?;
+    write_groups_lists(alloc, before.groups(), after.groups(), &mut is_first, text)?;
+    push_stop(is_first, text)
+}
+
+// Adds the changes of the CPUs' lists.
+fn write_cpus_lists(
+    alloc: Global,
+    before: &[ShownCpu],
+    after: &[ShownCpu],
+    is_first: &mut bool,
+    text: &mut String,
+) -> Result<(), AllocError>
+    ensures { IfOk result (λ _. AddsLists is_first.old is_first.new (string_bytes text.old) (string_bytes text.new)
+        (cpus_list_changes 1 before.now after.now)) }
+{
+    for index in 0..before.len().min(after.len()) {
+        write_cpu_lists(
+            alloc,
+            index + 1,
+            &before[index],
+            &after[index],
+            is_first,
+            text,
+        )?;
+    }
+    Ok(())
+}
+
+// Adds the changes of the lists of one CPU.
+fn write_cpu_lists(
+    alloc: Global,
+    cpu: usize,
+    before: &ShownCpu,
+    after: &ShownCpu,
+    is_first: &mut bool,
+    text: &mut String,
+) -> Result<(), AllocError>
+    ensures { IfOk result (λ _. AddsLists is_first.old is_first.new (string_bytes text.old) (string_bytes text.new)
+        (cpu_list_changes cpu before.now after.now)) }
+{
+    let listed = ListName::Listed { cpu };
+    write_list(alloc, listed, before.list(), after.list(), is_first, text)?;
+    let fresh = ListName::Fresh { cpu };
+    write_list(alloc, fresh, before.fresh(), after.fresh(), is_first, text)?;
+    let back = ListName::Back { cpu };
+    write_list(alloc, back, before.back(), after.back(), is_first, text)
+}
+
+// Adds the changes of the groups' lists.
+fn write_groups_lists(
+    alloc: Global,
+    before: &[ShownGroup],
+    after: &[ShownGroup],
+    is_first: &mut bool,
+    text: &mut String,
+) -> Result<(), AllocError>
+    ensures { IfOk result (λ _. AddsLists is_first.old is_first.new (string_bytes text.old) (string_bytes text.new)
+        (groups_list_changes before.now after.now)) }
+{
+    let end = greater(numbers_end(before), numbers_end(after));
+    for number in 0..end.min(MAX_GROUPS) {
+        let old = group_numbered(before, number);
+        let new = group_numbered(after, number);
+        write_group_lists(alloc, number, old, new, is_first, text)?;
+    }
+    Ok(())
+}
+
+// A number that no group has, and no group has a greater one.
+fn numbers_end(groups: &[ShownGroup]) -> usize
+    ensures { (number : ℕ) → result ≤ number → group_numbered groups.now number ≡ None }
+{
+    let mut end = 0;
+    for group in groups {
+        end = greater(end, group.number as usize + 1);
+    }
+    end
+}
+
+// The greater of two numbers.
+fn greater(one: usize, other: usize) -> usize
+    ensures { result ≡ max one other }
+{
+    if one < other { other } else { one }
+}
+
+// The group of this number.
+fn group_numbered(groups: &[ShownGroup], number: usize) -> Option<&ShownGroup>
+    ensures { option_copied result ≡ group_numbered groups.now number }
+{
+    groups.iter().find(|group| group.number as usize == number)
+}
+
+// Adds the changes of the lists of one group.
+fn write_group_lists(
+    alloc: Global,
+    number: usize,
+    before: Option<&ShownGroup>,
+    after: Option<&ShownGroup>,
+    is_first: &mut bool,
+    text: &mut String,
+) -> Result<(), AllocError>
+    ensures { IfOk result (λ _. AddsLists is_first.old is_first.new (string_bytes text.old) (string_bytes text.new)
+        (group_list_changes number (option_copied before.entry) (option_copied after.entry))) }
+{
+    let inactive = ListName::Inactive { group: number };
+    write_list(
+        alloc,
+        inactive,
+        inactive_of(before),
+        inactive_of(after),
+        is_first,
+        text,
+    )?;
+    let active = ListName::Active { group: number };
+    write_list(
+        alloc,
+        active,
+        active_of(before),
+        active_of(after),
+        is_first,
+        text,
+    )
+}
+
+// A group's inactive units; none if there is no such group.
+fn inactive_of(group: Option<&ShownGroup>) -> &[u32]
+    ensures { result.now ≡ inactive_of (option_copied group.entry) }
+{
+    match group {
+        None => &[],
+        Some(group) => &group.inactive,
+    }
+}
+
+// A group's active units; none if there is no such group.
+fn active_of(group: Option<&ShownGroup>) -> &[u32]
+    ensures { result.now ≡ active_of (option_copied group.entry) }
+{
+    match group {
+        None => &[],
+        Some(group) => &group.active,
+    }
+}
+
+// Adds the change of one list, if it changed.
+fn write_list(
+    alloc: Global,
+    name: ListName,
+    before: &[u32],
+    after: &[u32],
+    is_first: &mut bool,
+    text: &mut String,
+) -> Result<(), AllocError>
+    ensures { IfOk result (λ _. AddsLists is_first.old is_first.new (string_bytes text.old) (string_bytes text.new)
+        (list_change name before.now after.now)) }
+{
+    let mut left = Vec::new(alloc);
+    let kept = keep(before, after, &mut left)?;
+    add_list(alloc, name, &left, &after[kept..], is_first, text)
+}
+
+// Adds the change of one list, unless nothing left it and nothing came.
+fn add_list(
+    alloc: Global,
+    name: ListName,
+    left: &[u32],
+    came: &[u32],
+    is_first: &mut bool,
+    text: &mut String,
+) -> Result<(), AllocError>
+    ensures { IfOk result (λ _. AddsLists is_first.old is_first.new (string_bytes text.old) (string_bytes text.new)
+        (changed_list (record { name = name; left = left.now; came = came.now }))) }
+{
+    if left.is_empty() && came.is_empty() {
+        return Ok(());
+    }
+    push_start("lists", is_first, text)?;
+    write_change(alloc, name, left, came, text)
+}
+
+// How many entries are kept; `left` gets what isn't.
+fn keep(before: &[u32], after: &[u32], left: &mut Vec<u32>) -> Result<usize, AllocError>
+    ensures left { IfOk result (λ _. left.new.items ≡ left.old.items ++ left_of before.now after.now) }
+    ensures kept { IfOk result (λ kept. (kept ≤ length after.now)
+        × (drop kept after.now ≡ came_of before.now after.now)) }
+{
+    let mut kept = 0;
+    for &old in before {
+        kept = keep_one(old, after, kept, left)?;
+    }
+    Ok(kept)
+}
+
+// How many entries are kept after one more, if so many were kept before it.
+fn keep_one(old: u32, after: &[u32], kept: usize, left: &mut Vec<u32>) -> Result<usize, AllocError>
+    requires { kept ≤ length after.now }
+    ensures { IfOk result (λ now. KeepsOne old after.now kept left.old.items left.new.items now) }
+{
+    if kept == after.len() {
+        left.push(old)?;
+        return Ok(kept);
+    }
+    if after[kept] == old {
+        return Ok(kept + 1);
+    }
+    left.push(old)?;
+    Ok(kept)
+}
+
+// Adds what left a list, and what came.
+fn write_change(
+    alloc: Global,
+    name: ListName,
+    left: &[u32],
+    came: &[u32],
+    text: &mut String,
+) -> Result<(), AllocError>
+    ensures { IfOk result (λ _. string_bytes text.new ≡ string_bytes text.old
+        ++ list_change_text (record { name = name; left = left.now; came = came.now })) }
+{
+    text.push_str("[\"")?;
+    write_name(name, text)?;
+    text.push_str("\",")?;
+    write_runs(alloc, left, text)?;
+    text.push_str(",")?;
+    write_runs(alloc, came, text)?;
+    text.push_str("]")
+}
+
+// Adds the name of a list.
+fn write_name(name: ListName, text: &mut String) -> Result<(), AllocError>
+    ensures { IfOk result (λ _. string_bytes text.new ≡ string_bytes text.old ++ name_text name) }
+{
+    match name {
+        ListName::Listed { cpu } => write!(text, "l{cpu}"),
+        ListName::Fresh { cpu } => write!(text, "n{cpu}"),
+        ListName::Back { cpu } => write!(text, "b{cpu}"),
+        ListName::Inactive { group } => write!(text, "i{group}"),
+        ListName::Active { group } => write!(text, "a{group}"),
+    }
+}

@@ -1,0 +1,87 @@
+//! Where a frame is.
+
+ghost use Rattle.std.specs.Prelude.{◌≡◌, IfOk};
+ghost use Rattle.trace_lines.specs.Places.{is_same_place, order_after, place_in, places_of};
+
+use std::alloc::{AllocError, Global};
+
+/// Where a frame is. A frame of a unit has the unit's order, so its first frame follows: a unit begins at a multiple of
+/// its size.
+#[derive(Clone, Copy, Debug, PartialEq, Eq)]
+pub enum Place {
+    /// In the zone's free areas.
+    Free,
+    /// On the list of this CPU, 1 to 64.
+    Lent { cpu: u32 },
+    /// In a unit of 2^order frames that is charged to this group. A fresh frame is a unit of order 0.
+    Charged { group: u32, order: u32 },
+}
+
+/// What a machine records of a frame: only the first frame of a unit has the unit's order.
+#[derive(Clone, Copy, Debug, PartialEq, Eq)]
+pub enum FrameRecord {
+    /// In the zone's free areas.
+    Free,
+    /// On the list of this CPU, 1 to 64.
+    Lent { cpu: u32 },
+    /// The first frame of a unit of 2^order frames that is charged to this group.
+    Head { group: u32, order: u32 },
+    /// A later frame of a unit that is charged to this group.
+    Tail { group: u32 },
+}
+
+// Whether the two places are the same.
+pub(crate) fn is_same_place(one: Place, other: Place) -> bool
+    ensures { result ≡ is_same_place one other }
+{
+    match (one, other) {
+        (Place::Free, Place::Free) => true,
+        (Place::Lent { cpu: one }, Place::Lent { cpu: other }) => one == other,
+        (
+            Place::Charged {
+                group: one,
+                order: one_order,
+            },
+            Place::Charged {
+                group: other,
+                order: other_order,
+            },
+        ) => one == other && one_order == other_order,
+        _ => false,
+    }
+}
+
+/// The place of a frame with this record, if `order` is the order of the last head before it.
+pub fn place_in(order: u32, frame: FrameRecord) -> Place
+    ensures { result ≡ place_in order frame }
+{
+    match frame {
+        FrameRecord::Free => Place::Free,
+        FrameRecord::Lent { cpu } => Place::Lent { cpu },
+        FrameRecord::Head { group, order } => Place::Charged { group, order },
+        FrameRecord::Tail { group } => Place::Charged { group, order },
+    }
+}
+
+/// The order of the last head up to a frame with this record, if `order` is that of the last head before it.
+pub fn order_after(order: u32, frame: FrameRecord) -> u32
+    ensures { result ≡ order_after order frame }
+{
+    match frame {
+        FrameRecord::Head { order, .. } => order,
+        _ => order,
+    }
+}
+
+/// The places of frames with these records. `AllocError` if memory runs out.
+pub fn places(alloc: Global, frames: &[FrameRecord]) -> Result<Vec<Place>, AllocError>
+    ensures { IfOk result (λ places. places.items ≡ places_of frames.now) }
+{
+    let mut places = Vec::with_capacity(alloc, frames.len())?;
+    let mut order = 0;
+    for &frame in frames {
+        places.push(place_in(order, frame))?;
+        order = order_after(order, frame);
+    }
+    Ok(places)
+}

@@ -1,0 +1,285 @@
+//! What is shown of a state.
+
+ghost use Rattle.std.specs.Prelude.{◌≡◌};
+ghost use Rattle.trace_lines.specs.Shown.{KnownShown, KnownGroup, KnownCpu};
+
+use crate::place::Place;
+use group_tree::path::PathText;
+use std::marker::Model;
+
+/// How often each kind of event was counted for a group.
+#[derive(Clone, Copy, Debug, PartialEq, Eq)]
+pub struct Events {
+    /// A charge was about to exceed the limit.
+    pub max: u64,
+    /// An allocation was about to fail at the limit.
+    pub oom: u64,
+    /// A group was killed.
+    pub oom_kill: u64,
+    /// A group was killed as a whole.
+    pub oom_group_kill: u64,
+}
+
+/// The numbers of a group. Sizes are in pages of 4,096 bytes.
+#[derive(Clone, Copy, Debug, PartialEq, Eq)]
+pub struct Row {
+    /// The limit of the group's usage, or None if it has no limit.
+    pub max: Option<u32>,
+    /// The usage of the group and of all groups below it.
+    pub current: u32,
+    /// The greatest usage since the group was made.
+    pub peak: u32,
+    /// The events of the group and of all groups below it.
+    pub events: Events,
+    /// The events of the group itself.
+    pub events_local: Events,
+    /// Whether the group was killed.
+    pub is_killed: bool,
+    /// memory.oom.group.
+    pub oom_group: bool,
+}
+
+/// What is kept of the use of a unit.
+#[derive(Clone, Copy, Debug, PartialEq, Eq)]
+pub struct Flags {
+    pub is_dirty: bool,
+    pub is_marked: bool,
+}
+
+/// The stock of a CPU that was filled.
+#[derive(Clone, Copy, Debug, PartialEq, Eq)]
+pub struct ShownStock {
+    /// The number of the group that its pages are charged to.
+    pub group: u32,
+    /// Its pages, or None if it was drained and not filled since.
+    pub pages: Option<u32>,
+}
+
+/// How many units ended, were freed, or were missed since the boot.
+#[derive(Clone, Copy, Debug, PartialEq, Eq)]
+pub struct Counts {
+    pub puts: u64,
+    pub freezes: u64,
+    pub drops: u64,
+    pub returns: u64,
+    pub misses: u64,
+}
+
+/// A group, and its two lists of units, the oldest first. A unit is named by its first frame.
+#[derive(Drop)]
+pub struct ShownGroup {
+    pub(crate) number: u32,
+    pub(crate) path: PathText,
+    pub(crate) row: Row,
+    pub(crate) inactive: Vec<u32>,
+    pub(crate) active: Vec<u32>,
+}
+
+impl Model for ShownGroup {
+    ghost Value = { KnownGroup };
+
+    ghost view = { λ g. record {
+      number = g.number;
+      path = g.path;
+      row = g.row;
+      inactive = g.inactive.items;
+      active = g.active.items;
+    } };
+}
+
+impl ShownGroup {
+    /// The group of this number and path, with these numbers and lists.
+    pub fn new(
+        number: u32,
+        path: PathText,
+        row: Row,
+        inactive: Vec<u32>,
+        active: Vec<u32>,
+    ) -> ShownGroup
+        ensures { result ≡ record {
+          number = number;
+          path = path;
+          row = row;
+          inactive = inactive.items;
+          active = active.items;
+        } }
+    {
+        ShownGroup {
+            number,
+            path,
+            row,
+            inactive,
+            active,
+        }
+    }
+}
+
+/// What a CPU has: the frames on its list, its fresh frames, its units whose last reference it put, an entry for each
+/// of its pins, and its stock, or None if that was never filled.
+#[derive(Drop)]
+pub struct ShownCpu {
+    pub(crate) list: Vec<u32>,
+    pub(crate) fresh: Vec<u32>,
+    pub(crate) back: Vec<u32>,
+    pub(crate) pins: Vec<u32>,
+    pub(crate) stock: Option<ShownStock>,
+}
+
+impl Model for ShownCpu {
+    ghost Value = { KnownCpu };
+
+    ghost view = { λ c. record {
+      list = c.list.items;
+      fresh = c.fresh.items;
+      back = c.back.items;
+      pins = c.pins.items;
+      stock = c.stock;
+    } };
+}
+
+impl ShownCpu {
+    /// The CPU with these lists, pins and stock.
+    pub fn new(
+        list: Vec<u32>,
+        fresh: Vec<u32>,
+        back: Vec<u32>,
+        pins: Vec<u32>,
+        stock: Option<ShownStock>,
+    ) -> ShownCpu
+        ensures { result ≡ record {
+          list = list.items;
+          fresh = fresh.items;
+          back = back.items;
+          pins = pins.items;
+          stock = stock;
+        } }
+    {
+        ShownCpu {
+            list,
+            fresh,
+            back,
+            pins,
+            stock,
+        }
+    }
+
+    // The frames on its list.
+    pub(crate) fn list(&self) -> &[u32]
+        ensures { result.now ≡ self.now.list }
+    {
+        &self.list
+    }
+
+    // The fresh frames.
+    pub(crate) fn fresh(&self) -> &[u32]
+        ensures { result.now ≡ self.now.fresh }
+    {
+        &self.fresh
+    }
+
+    // The units whose last reference it put.
+    pub(crate) fn back(&self) -> &[u32]
+        ensures { result.now ≡ self.now.back }
+    {
+        &self.back
+    }
+
+    // An entry for each of its pins.
+    pub(crate) fn pins(&self) -> &[u32]
+        ensures { result.now ≡ self.now.pins }
+    {
+        &self.pins
+    }
+
+    // The stock.
+    pub(crate) fn stock(&self) -> Option<ShownStock>
+        ensures { result ≡ self.now.stock }
+    {
+        self.stock
+    }
+}
+
+/// All that is shown of a state. There is a place and there are flags for each frame, those of the unit that begins
+/// there. The groups ascend by their numbers, and CPU 1 is the first of the CPUs.
+#[derive(Drop)]
+pub struct Shown {
+    pub(crate) places: Vec<Place>,
+    pub(crate) flags: Vec<Flags>,
+    pub(crate) groups: Vec<ShownGroup>,
+    pub(crate) cpus: Vec<ShownCpu>,
+    pub(crate) counts: Counts,
+}
+
+impl Model for Shown {
+    ghost Value = { KnownShown };
+
+    ghost view = { λ s. record {
+      places = s.places.items;
+      flags = s.flags.items;
+      groups = s.groups.items;
+      cpus = s.cpus.items;
+      counts = s.counts;
+    } };
+}
+
+impl Shown {
+    /// What is shown of a state with these parts.
+    pub fn new(
+        places: Vec<Place>,
+        flags: Vec<Flags>,
+        groups: Vec<ShownGroup>,
+        cpus: Vec<ShownCpu>,
+        counts: Counts,
+    ) -> Shown
+        ensures { result ≡ record {
+          places = places.items;
+          flags = flags.items;
+          groups = groups.items;
+          cpus = cpus.items;
+          counts = counts;
+        } }
+    {
+        Shown {
+            places,
+            flags,
+            groups,
+            cpus,
+            counts,
+        }
+    }
+
+    // The places of the frames.
+    pub(crate) fn places(&self) -> &[Place]
+        ensures { result.now ≡ self.now.places }
+    {
+        &self.places
+    }
+
+    // The flags of the frames.
+    pub(crate) fn flags(&self) -> &[Flags]
+        ensures { result.now ≡ self.now.flags }
+    {
+        &self.flags
+    }
+
+    // The groups.
+    pub(crate) fn groups(&self) -> &[ShownGroup]
+        ensures { result.now ≡ self.now.groups }
+    {
+        &self.groups
+    }
+
+    // The CPUs.
+    pub(crate) fn cpus(&self) -> &[ShownCpu]
+        ensures { result.now ≡ self.now.cpus }
+    {
+        &self.cpus
+    }
+
+    // The counts.
+    pub(crate) fn counts(&self) -> Counts
+        ensures { result ≡ self.now.counts }
+    {
+        self.counts
+    }
+}
