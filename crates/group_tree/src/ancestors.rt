@@ -46,15 +46,15 @@ impl Tree {
     /// The walk from an existing group up to the root: the group first, then each parent, the root last. It yields
     /// one group more than the group's path has names. It allocates nothing.
     #[inline]
-    pub fn ancestors(&self, g: GroupId) -> Ancestors<'_>
-        requires { IsTrue (has_group self.now g) }
-        ensures value { result ≡ ancestors_of self.now g }
-        ensures path { IsPathUp self.now g result }
+    pub fn ancestors(&self, group: GroupId) -> Ancestors<'_>
+        requires { IsTrue (has_group self.now group) }
+        ensures value { result ≡ ancestors_of self.now group }
+        ensures path { IsPathUp self.now group result }
     {
         let _groups = self.groups(); // Called for its contract.
         Ancestors {
             tree: self,
-            next: Some(g),
+            next: Some(group),
         }
     }
 }

@@ -77,18 +77,18 @@ impl Tree {
         self.rows.as_slice()
     }
 
-    fn row(&self, g: GroupId) -> Option<&Group>
-        ensures { option_copied result ≡ group_at self.now g }
+    fn row(&self, group: GroupId) -> Option<&Group>
+        ensures { option_copied result ≡ group_at self.now group }
     {
-        self.rows.iter().find(|row| row.number == g)
+        self.rows.iter().find(|row| row.number == group)
     }
 
     /// Whether a group of this number exists.
-    pub fn contains(&self, g: GroupId) -> bool
-        ensures { result ≡ has_group self.now g }
+    pub fn contains(&self, group: GroupId) -> bool
+        ensures { result ≡ has_group self.now group }
     {
         let _rows = &self.rows; // Borrowed for the invariant.
-        let slot = self.slots[g.number() as usize];
+        let slot = self.slots[group.number() as usize];
         slot.is_there
     }
 
@@ -106,87 +106,87 @@ impl Tree {
 
     /// The path of an existing group.
     #[tactic(auto, unfolding(crate::specs::Groups::has_group, crate::specs::Groups::path_of))]
-    pub fn path_of(&self, g: GroupId) -> &PathText
-        requires { IsTrue (has_group self.now g) }
-        ensures value { path_of self.now g ≡ Some result.now }
+    pub fn path_of(&self, group: GroupId) -> &PathText
+        requires { IsTrue (has_group self.now group) }
+        ensures value { path_of self.now group ≡ Some result.now }
         ensures formed { IsWellFormed result.now }
     {
         let _rows = &self.rows; // Borrowed for the invariant.
-        &self.row(g).unwrap().path
+        &self.row(group).unwrap().path
     }
 
     /// The limit of an existing group, in pages, or None if it has no limit.
     #[inline]
-    pub fn limit(&self, g: GroupId) -> Option<u32>
-        requires { IsTrue (has_group self.now g) }
-        ensures { result ≡ limit_of self.now g }
+    pub fn limit(&self, group: GroupId) -> Option<u32>
+        requires { IsTrue (has_group self.now group) }
+        ensures { result ≡ limit_of self.now group }
     {
         let _rows = &self.rows; // Borrowed for the invariant.
-        let slot = self.slots[g.number() as usize];
+        let slot = self.slots[group.number() as usize];
         slot.limit
     }
 
     /// Whether an existing group is killed as a whole (memory.oom.group); the root never is.
     #[tactic(auto, unfolding(crate::specs::Groups::has_group, crate::specs::Groups::is_oom_group))]
-    pub fn oom_group(&self, g: GroupId) -> bool
-        requires { IsTrue (has_group self.now g) }
-        ensures { result ≡ is_oom_group self.now g }
+    pub fn oom_group(&self, group: GroupId) -> bool
+        requires { IsTrue (has_group self.now group) }
+        ensures { result ≡ is_oom_group self.now group }
     {
         let _rows = &self.rows; // Borrowed for the invariant.
-        self.row(g).unwrap().oom_group
+        self.row(group).unwrap().oom_group
     }
 
     /// The parent of an existing group; None exactly for the root.
     #[inline]
-    pub fn parent(&self, g: GroupId) -> Option<GroupId>
-        requires { IsTrue (has_group self.now g) }
-        ensures value { result ≡ parent_of self.now g }
-        ensures root { IsNone result ↔ (g ≡ 0) }
+    pub fn parent(&self, group: GroupId) -> Option<GroupId>
+        requires { IsTrue (has_group self.now group) }
+        ensures value { result ≡ parent_of self.now group }
+        ensures root { IsNone result ↔ (group ≡ 0) }
     {
-        if g.number() == 0 {
+        if group.number() == 0 {
             return None;
         }
         let _rows = &self.rows; // Borrowed for the invariant.
-        let slot = self.slots[g.number() as usize];
+        let slot = self.slots[group.number() as usize];
         Some(slot.parent)
     }
 
     /// How many names the path of an existing group has: 0 exactly for the root, and at most 8.
-    pub fn depth(&self, g: GroupId) -> usize
-        requires { IsTrue (has_group self.now g) }
-        ensures { result ≡ depth_at self.now g }
+    pub fn depth(&self, group: GroupId) -> usize
+        requires { IsTrue (has_group self.now group) }
+        ensures { result ≡ depth_at self.now group }
     {
         let _rows = &self.rows; // Borrowed for the invariant.
-        let slot = self.slots[g.number() as usize];
+        let slot = self.slots[group.number() as usize];
         slot.depth
     }
 
     /// Whether the second of two existing groups is the first or lies below it.
-    pub fn in_subtree(&self, g: GroupId, h: GroupId) -> bool
-        requires above { IsTrue (has_group self.now g) }
-        requires below { IsTrue (has_group self.now h) }
-        ensures { result ≡ in_subtree self.now g h }
+    pub fn in_subtree(&self, group: GroupId, below: GroupId) -> bool
+        requires above { IsTrue (has_group self.now group) }
+        requires below { IsTrue (has_group self.now below) }
+        ensures { result ≡ in_subtree self.now group below }
     {
         let _groups = self.groups(); // Called for its contract.
-        self.ancestors(h).any(|above| above == g)
+        self.ancestors(below).any(|above| above == group)
     }
 
     // Whether the second group lies below the first and is not the first.
-    fn lies_below(&self, g: GroupId, h: GroupId) -> bool
-        requires above { IsTrue (has_group self.now g) }
-        requires below { IsTrue (has_group self.now h) }
-        ensures { result ≡ (not (h == g) && in_subtree self.now g h) }
+    fn lies_below(&self, group: GroupId, below: GroupId) -> bool
+        requires above { IsTrue (has_group self.now group) }
+        requires below { IsTrue (has_group self.now below) }
+        ensures { result ≡ (not (below == group) && in_subtree self.now group below) }
     {
-        h != g && self.in_subtree(g, h)
+        below != group && self.in_subtree(group, below)
     }
 
     /// Whether another group lies below an existing group.
-    pub fn has_child(&self, g: GroupId) -> bool
-        requires { IsTrue (has_group self.now g) }
-        ensures { result ≡ has_child self.now g }
+    pub fn has_child(&self, group: GroupId) -> bool
+        requires { IsTrue (has_group self.now group) }
+        ensures { result ≡ has_child self.now group }
     {
         for row in &self.rows {
-            if self.lies_below(g, row.number) {
+            if self.lies_below(group, row.number) {
                 return true;
             }
         }
@@ -267,31 +267,31 @@ impl Tree {
     }
 
     /// Sets the limit of an existing group, in pages; None removes the limit.
-    pub fn set_max(&mut self, g: GroupId, limit: Option<u32>)
-        requires { IsTrue (has_group self.old g) }
-        ensures { self.new ≡ with_limit self.old g limit }
+    pub fn set_max(&mut self, group: GroupId, limit: Option<u32>)
+        requires { IsTrue (has_group self.old group) }
+        ensures { self.new ≡ with_limit self.old group limit }
     {
-        set_limit(self.rows.as_mut_slice(), g, limit);
-        self.slots[g.number() as usize].limit = limit;
+        set_limit(self.rows.as_mut_slice(), group, limit);
+        self.slots[group.number() as usize].limit = limit;
     }
 
     /// Sets whether an existing group other than the root is killed as a whole.
-    pub fn set_oom_group(&mut self, g: GroupId, oom_group: bool)
-        requires there { IsTrue (has_group self.old g) }
-        requires below_root { g ≢ 0 }
-        ensures { self.new ≡ with_oom_group self.old g oom_group }
+    pub fn set_oom_group(&mut self, group: GroupId, oom_group: bool)
+        requires there { IsTrue (has_group self.old group) }
+        requires below_root { group ≢ 0 }
+        ensures { self.new ≡ with_oom_group self.old group oom_group }
     {
-        set_flag(self.rows.as_mut_slice(), g, oom_group);
+        set_flag(self.rows.as_mut_slice(), group, oom_group);
     }
 
     /// Removes an existing group that isn't the root and has no group below it. Its number is free afterwards.
-    pub fn remove(&mut self, g: GroupId)
-        requires there { IsTrue (has_group self.old g) }
-        requires leaf { has_child self.old g ≡ false }
-        requires below_root { g ≢ 0 }
-        ensures { self.new ≡ without_group self.old g }
+    pub fn remove(&mut self, group: GroupId)
+        requires there { IsTrue (has_group self.old group) }
+        requires leaf { has_child self.old group ≡ false }
+        requires below_root { group ≢ 0 }
+        ensures { self.new ≡ without_group self.old group }
     {
-        let number = g.number();
+        let number = group.number();
         self.rows.retain(|row| row.number.number() != number);
         self.slots[number as usize] = free_slot();
     }
@@ -320,34 +320,34 @@ fn free_slot() -> Slot
     }
 }
 
-fn set_limit(rows: &mut [Group], g: GroupId, limit: Option<u32>)
-    ensures { rows.new ≡ with_limit rows.old g limit }
+fn set_limit(rows: &mut [Group], group: GroupId, limit: Option<u32>)
+    ensures { rows.new ≡ with_limit rows.old group limit }
 {
     for row in rows.iter_mut() {
-        set_limit_of_row(row, g, limit);
+        set_limit_of_row(row, group, limit);
     }
 }
 
-fn set_limit_of_row(row: &mut Group, g: GroupId, limit: Option<u32>)
-    ensures { row.new ≡ limited g limit row.old }
+fn set_limit_of_row(row: &mut Group, group: GroupId, limit: Option<u32>)
+    ensures { row.new ≡ limited group limit row.old }
 {
-    if row.number == g {
+    if row.number == group {
         row.limit = limit;
     }
 }
 
-fn set_flag(rows: &mut [Group], g: GroupId, oom_group: bool)
-    ensures { rows.new ≡ with_oom_group rows.old g oom_group }
+fn set_flag(rows: &mut [Group], group: GroupId, oom_group: bool)
+    ensures { rows.new ≡ with_oom_group rows.old group oom_group }
 {
     for row in rows.iter_mut() {
-        set_flag_of_row(row, g, oom_group);
+        set_flag_of_row(row, group, oom_group);
     }
 }
 
-fn set_flag_of_row(row: &mut Group, g: GroupId, oom_group: bool)
-    ensures { row.new ≡ flagged g oom_group row.old }
+fn set_flag_of_row(row: &mut Group, group: GroupId, oom_group: bool)
+    ensures { row.new ≡ flagged group oom_group row.old }
 {
-    if row.number == g {
+    if row.number == group {
         row.oom_group = oom_group;
     }
 }

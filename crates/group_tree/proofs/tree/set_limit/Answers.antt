@@ -6,7 +6,7 @@ use Rattle.group_tree.proofs.tree.set_limit.Goals as goal
 
 pub loop-row-preserved : goal.loop-row-preserved
 loop-row-preserved c =
-    let new = limited c.args.g c.args.limit in
+    let new = limited c.args.group c.args.limit in
     let put = set c.loop-row.rows c.loop-row.row-index in
     ap put (c.set_limit_of_row.ensures ∙ ap new (sym c.row-item.is))
     ∙ map_over_more new c.args.rows.now c.loop-row.rows c.loop-row.row-index c.row-item.result c.loop-row-test.true c.loop-row.invariant c.row-item.is
@@ -14,7 +14,7 @@ loop-row-preserved c =
 pub returns : goal.returns
 unfolding with_limit
 returns c =
-    let new = limited c.args.g c.args.limit in
+    let new = limited c.args.group c.args.limit in
     let old = c.args.rows.now in
     c.loop-row.invariant
     ∙ ap (λ rows. map new rows ++ drop c.loop-row.row-index old) (take_all c.loop-row.row-index old c.loop-row-test.false)

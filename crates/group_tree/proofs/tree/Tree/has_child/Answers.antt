@@ -14,7 +14,7 @@ lies_below-requires-clause-below c =
 pub returns-then-lies_below : goal.returns-then-lies_below
 unfolding has_child
 returns-then-lies_below c =
-    let test : Group → Bool = λ h. not (h.number == c.args.g) && in_subtree c.args.self.now c.args.g h.number in
+    let test : Group → Bool = λ h. not (h.number == c.args.group) && in_subtree c.args.self.now c.args.group h.number in
     sym (any_contains test c.deref-row-items.result.now c.row-item.result (c.loop-row.row-index, c.loop-row-test.true, sym c.row-item.is)
     (sym c.lies_below.ensures ∙ c.if-lies_below.true))
     ∙ ap (list_any test) (c.deref-row-items.ensures.value ∙ c.self.view_is)
@@ -22,6 +22,6 @@ returns-then-lies_below c =
 pub returns : goal.returns
 unfolding has_child
 returns c =
-    let test : Group → Bool = λ h. not (h.number == c.args.g) && in_subtree c.args.self.now c.args.g h.number in
+    let test : Group → Bool = λ h. not (h.number == c.args.group) && in_subtree c.args.self.now c.args.group h.number in
     sym c.loop-row.invariant ∙ ap (list_any test) (take_all c.loop-row.row-index c.deref-row-items.result.now c.loop-row-test.false
     ∙ c.deref-row-items.ensures.value ∙ c.self.view_is)

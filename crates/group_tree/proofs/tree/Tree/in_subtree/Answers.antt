@@ -7,7 +7,7 @@ use Rattle.group_tree.proofs.tree.Tree.in_subtree.Goals as goal
 
 pub returns : goal.returns
 returns c =
-    any_from_yields_List (λ m. m == c.args.g) _ _ _ c.any.ensures.ran
-    (YieldsList-from_first (λ x. x) (λ rest. rest) (ancestors_of c.args.self.now c.args.h) c.ancestors.ensures.value)
+    any_from_yields_List (λ m. m == c.args.group) _ _ _ c.any.ensures.ran
+    (YieldsList-from_first (λ x. x) (λ rest. rest) (ancestors_of c.args.self.now c.args.below) c.ancestors.ensures.value)
     (λ x b q k. search (rules, tests))
-    ∙ ancestors_of-subtree c.args.self.now c.args.g c.args.h c.groups-groups.ensures.legal c.requires.below
+    ∙ ancestors_of-subtree c.args.self.now c.args.group c.args.below c.groups-groups.ensures.legal c.requires.below

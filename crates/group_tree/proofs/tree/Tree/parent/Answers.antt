@@ -8,16 +8,16 @@ use Rattle.group_tree.proofs.tree.Tree.parent.Goals as goal
 
 pub returns-then-number-eq0-clause-value : goal.returns-then-number-eq0-clause-value
 returns-then-number-eq0-clause-value c =
-    sym (parent_of-root c.args.self.now c.args.g (sym c.number.ensures.value ∙ c.if-number-eq0.true))
+    sym (parent_of-root c.args.self.now c.args.group (sym c.number.ensures.value ∙ c.if-number-eq0.true))
 
 pub returns-clause-value : goal.returns-clause-value
 returns-clause-value c =
     let groups = subst AreGroups c.self.view_is c.self.invariant.0 in
     let slots = subst (λ rows. AreSlots rows c.self.inside.slots) c.self.view_is c.self.invariant.2 in
-    let same = slot_read c.self.inside.slots c.number-2.result c.args.g c.index-self-number.result slots.size c.number-2.ensures.below
+    let same = slot_read c.self.inside.slots c.number-2.result c.args.group c.index-self-number.result slots.size c.number-2.ensures.below
     c.number-2.ensures.value in
     ap (λ l. Some l.parent) same
-    ∙ sym (parent-slot c.args.self.now c.self.inside.slots c.args.g groups slots c.requires (λ e. c.if-number-eq0.false (c.number.ensures.value ∙ e)))
+    ∙ sym (parent-slot c.args.self.now c.self.inside.slots c.args.group groups slots c.requires (λ e. c.if-number-eq0.false (c.number.ensures.value ∙ e)))
 
 pub returns-clause-root : goal.returns-clause-root
 returns-clause-root c = (λ none. absurd (true≢false none), λ e. absurd (c.if-number-eq0.false (c.number.ensures.value ∙ e)))

@@ -6,5 +6,5 @@ use Rattle.group_tree.proofs.tree.Tree.path_of.Goals as goal
 
 pub returns-clause-formed : goal.returns-clause-formed
 returns-clause-formed c =
-    group-formed c.args.self.now c.args.g c.unwrap.result.now (subst AreGroups c.self.view_is c.self.invariant.0) (sym c.row.ensures
+    group-formed c.args.self.now c.args.group c.unwrap.result.now (subst AreGroups c.self.view_is c.self.invariant.0) (sym c.row.ensures
     ∙ ap option_copied c.unwrap.ensures)

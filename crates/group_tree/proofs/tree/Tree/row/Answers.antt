@@ -7,5 +7,5 @@ use Rattle.group_tree.proofs.tree.Tree.row.Goals as goal
 pub returns : goal.returns
 unfolding group_at
 returns c =
-    find_from_yields_List (λ g. g.number == c.args.g) _ _ c.find.result c.find.ensures.ran (YieldsList-from_slice c.args.self.now cc)
+    find_from_yields_List (λ g. g.number == c.args.group) _ _ c.find.result c.find.ensures.ran (YieldsList-from_slice c.args.self.now cc)
     (λ x b q k. search (rules, tests))
