@@ -78,20 +78,20 @@ impl Charges {
         &self.tree
     }
 
-    /// Whether n more pages can be charged at all, as `try_charge` requires: the root's usage stays at most 2^32 - 1
-    /// pages.
-    pub fn fits(&self, n: u32) -> bool
-        ensures { IsTrue result ↔ (current_of self.now 0 + n < 2 ^ 32) }
+    /// Whether this many more pages can be charged at all, as `try_charge` requires: the root's usage stays at most
+    /// 2^32 - 1 pages.
+    pub fn fits(&self, pages: u32) -> bool
+        ensures { IsTrue result ↔ (current_of self.now 0 + pages < 2 ^ 32) }
     {
         let _ = self.tree();
-        self.current(GroupId::root()) <= u32::MAX - n
+        self.current(GroupId::root()) <= u32::MAX - pages
     }
 
-    fn account(&self, g: GroupId) -> &Account
-        requires { IsTrue (has_group self.now.groups g) }
-        ensures { account_at self.now g ≡ Some result.now }
+    fn account(&self, group: GroupId) -> &Account
+        requires { IsTrue (has_group self.now.groups group) }
+        ensures { account_at self.now group ≡ Some result.now }
     {
-        &self.accounts[g.number() as usize]
+        &self.accounts[group.number() as usize]
     }
 
     /// Makes a group, as `Tree::make` does. It has no page, peak 0 and all counts 0.
@@ -104,213 +104,213 @@ impl Charges {
         ensures there { IfOk result (λ n. IsTrue (has_group self.new.groups n)) }
         ensures kept { (m : ℕ) → IsTrue (has_group self.old.groups m) → IsTrue (has_group self.new.groups m) }
     {
-        let g = self.tree.make(path)?;
-        self.accounts[g.number() as usize] = new_account(g);
-        Ok(g)
+        let group = self.tree.make(path)?;
+        self.accounts[group.number() as usize] = new_account(group);
+        Ok(group)
     }
 
     /// Sets the limit of an existing group, in pages; None removes the limit. Only later charges are checked against
     /// it.
-    pub fn set_max(&mut self, g: GroupId, limit: Option<u32>)
-        requires { IsTrue (has_group self.old.groups g) }
-        ensures limited { self.new ≡ with_group_limit self.old g limit }
+    pub fn set_max(&mut self, group: GroupId, limit: Option<u32>)
+        requires { IsTrue (has_group self.old.groups group) }
+        ensures limited { self.new ≡ with_group_limit self.old group limit }
         ensures there { (m : ℕ) → has_group self.new.groups m ≡ has_group self.old.groups m }
         ensures pages { SamePages self.old self.new }
     {
-        self.tree.set_max(g, limit);
+        self.tree.set_max(group, limit);
     }
 
     /// Sets whether an existing group other than the root is killed as a whole.
-    pub fn set_oom_group(&mut self, g: GroupId, oom_group: bool)
-        requires there { IsTrue (has_group self.old.groups g) }
-        requires below_root { g ≢ 0 }
-        ensures flagged { self.new ≡ with_oom_flag self.old g oom_group }
+    pub fn set_oom_group(&mut self, group: GroupId, oom_group: bool)
+        requires there { IsTrue (has_group self.old.groups group) }
+        requires below_root { group ≢ 0 }
+        ensures flagged { self.new ≡ with_oom_flag self.old group oom_group }
         ensures there { (m : ℕ) → has_group self.new.groups m ≡ has_group self.old.groups m }
         ensures pages { SamePages self.old self.new }
     {
-        self.tree.set_oom_group(g, oom_group);
+        self.tree.set_oom_group(group, oom_group);
     }
 
     /// Removes an existing group that isn't the root, has no group below it and no page charged.
-    pub fn remove(&mut self, g: GroupId)
-        requires there { IsTrue (has_group self.old.groups g) }
-        requires leaf { has_child self.old.groups g ≡ false }
-        requires below_root { g ≢ 0 }
-        requires empty { current_of self.old g ≡ 0 }
-        ensures removed { self.new ≡ with_group_removed self.old g }
+    pub fn remove(&mut self, group: GroupId)
+        requires there { IsTrue (has_group self.old.groups group) }
+        requires leaf { has_child self.old.groups group ≡ false }
+        requires below_root { group ≢ 0 }
+        requires empty { current_of self.old group ≡ 0 }
+        ensures removed { self.new ≡ with_group_removed self.old group }
         ensures pages { SamePages self.old self.new }
     {
-        self.tree.remove(g);
+        self.tree.remove(group);
     }
 
     /// The usage of an existing group, in pages (memory.current): the pages charged to it and to all groups below it.
-    pub fn current(&self, g: GroupId) -> u32
-        requires { IsTrue (has_group self.now.groups g) }
-        ensures { result ≡ current_of self.now g }
+    pub fn current(&self, group: GroupId) -> u32
+        requires { IsTrue (has_group self.now.groups group) }
+        ensures { result ≡ current_of self.now group }
     {
-        self.usages[g.number() as usize]
+        self.usages[group.number() as usize]
     }
 
     /// The pages charged to the group itself.
     #[tactic(auto, unfolding(crate::specs::Charges::pages_of))]
-    pub fn pages(&self, g: GroupId) -> u32
-        requires { IsTrue (has_group self.now.groups g) }
-        ensures { result ≡ pages_of self.now g }
+    pub fn pages(&self, group: GroupId) -> u32
+        requires { IsTrue (has_group self.now.groups group) }
+        ensures { result ≡ pages_of self.now group }
     {
-        self.account(g).pages
+        self.account(group).pages
     }
 
     /// The greatest usage since the group was made, in pages (memory.peak).
     #[tactic(auto, unfolding(crate::specs::Charges::peak_of))]
-    pub fn peak(&self, g: GroupId) -> u32
-        requires { IsTrue (has_group self.now.groups g) }
-        ensures { result ≡ peak_of self.now g }
+    pub fn peak(&self, group: GroupId) -> u32
+        requires { IsTrue (has_group self.now.groups group) }
+        ensures { result ≡ peak_of self.now group }
     {
-        self.account(g).peak
+        self.account(group).peak
     }
 
     /// The limit of the group, in pages (memory.max), or None if it has no limit.
-    pub fn max(&self, g: GroupId) -> Option<u32>
-        requires { IsTrue (has_group self.now.groups g) }
-        ensures { result ≡ limit_of self.now.groups g }
+    pub fn max(&self, group: GroupId) -> Option<u32>
+        requires { IsTrue (has_group self.now.groups group) }
+        ensures { result ≡ limit_of self.now.groups group }
     {
-        self.tree.limit(g)
+        self.tree.limit(group)
     }
 
     /// Whether the group is killed as a whole (memory.oom.group).
-    pub fn oom_group(&self, g: GroupId) -> bool
-        requires { IsTrue (has_group self.now.groups g) }
-        ensures { result ≡ is_oom_group self.now.groups g }
+    pub fn oom_group(&self, group: GroupId) -> bool
+        requires { IsTrue (has_group self.now.groups group) }
+        ensures { result ≡ is_oom_group self.now.groups group }
     {
-        self.tree.oom_group(g)
+        self.tree.oom_group(group)
     }
 
     /// The events of the group and of all groups below it (memory.events).
     #[tactic(auto, unfolding(crate::specs::Charges::events_of))]
-    pub fn events(&self, g: GroupId) -> EventCounts
-        requires { IsTrue (has_group self.now.groups g) }
-        ensures { result ≡ events_of self.now g }
+    pub fn events(&self, group: GroupId) -> EventCounts
+        requires { IsTrue (has_group self.now.groups group) }
+        ensures { result ≡ events_of self.now group }
     {
-        self.account(g).events
+        self.account(group).events
     }
 
     /// The events of the group itself (memory.events.local).
     #[tactic(auto, unfolding(crate::specs::Charges::events_local_of))]
-    pub fn events_local(&self, g: GroupId) -> EventCounts
-        requires { IsTrue (has_group self.now.groups g) }
-        ensures { result ≡ events_local_of self.now g }
+    pub fn events_local(&self, group: GroupId) -> EventCounts
+        requires { IsTrue (has_group self.now.groups group) }
+        ensures { result ≡ events_local_of self.now group }
     {
-        let account = self.account(g);
+        let account = self.account(group);
         account.events_local
     }
 
-    /// Charges n pages to the group if the group and each ancestor has room for all of them. Otherwise the error
+    /// Charges the pages to the group if the group and each ancestor has room for all of them. Otherwise the error
     /// names the lowest one without room, and nothing changes, not even a peak.
-    pub fn try_charge(&mut self, g: GroupId, n: u32) -> Result<(), Over>
-        requires there { IsTrue (has_group self.old.groups g) }
-        requires fits { current_of self.old 0 + n < 2 ^ 32 }
-        ensures granted { IsOk result ↔ PathHasRoom self.old.groups (current_of self.old) g n }
-        ensures charged { OnOk result (self.new ≡ with_charge self.old g n) }
-        ensures usage { OnOk result (UsageRises self.old self.new g n) }
-        ensures pages { OnOk result (PagesRise self.old self.new g n) }
-        ensures peaks { OnOk result (PeaksRise self.old self.new g) }
+    pub fn try_charge(&mut self, group: GroupId, pages: u32) -> Result<(), Over>
+        requires there { IsTrue (has_group self.old.groups group) }
+        requires fits { current_of self.old 0 + pages < 2 ^ 32 }
+        ensures granted { IsOk result ↔ PathHasRoom self.old.groups (current_of self.old) group pages }
+        ensures charged { OnOk result (self.new ≡ with_charge self.old group pages) }
+        ensures usage { OnOk result (UsageRises self.old self.new group pages) }
+        ensures pages { OnOk result (PagesRise self.old self.new group pages) }
+        ensures peaks { OnOk result (PeaksRise self.old self.new group) }
         ensures events { OnOk result (SameEvents self.old self.new) }
-        ensures over { IfErr result (λ e. IsLowestOver self.old.groups (current_of self.old) g n e.group) }
+        ensures over { IfErr result (λ e. IsLowestOver self.old.groups (current_of self.old) group pages e.group) }
         ensures unchanged { OnErr result (self.new ≡ self.old) }
         ensures groups { self.new.groups ≡ self.old.groups }
     {
-        if let Some(group) = walks::add_until_over(&self.tree, &mut self.usages, g, n) {
-            walks::take_off(&self.tree, &mut self.usages, g, Some(group), n);
-            return Err(Over { group });
+        if let Some(over) = walks::add_until_over(&self.tree, &mut self.usages, group, pages) {
+            walks::take_off(&self.tree, &mut self.usages, group, Some(over), pages);
+            return Err(Over { group: over });
         }
-        self.accounts[g.number() as usize].pages += n;
-        walks::raise_peaks(&self.tree, &mut self.accounts, &self.usages, g);
+        self.accounts[group.number() as usize].pages += pages;
+        walks::raise_peaks(&self.tree, &mut self.accounts, &self.usages, group);
         Ok(())
     }
 
-    /// Uncharges n pages of the group itself. Its peak stays.
-    pub fn uncharge(&mut self, g: GroupId, n: u32)
-        requires there { IsTrue (has_group self.old.groups g) }
-        requires charged { n ≤ pages_of self.old g }
-        ensures uncharged { self.new ≡ with_uncharge self.old g n }
-        ensures usage { UsageRises self.new self.old g n }
+    /// Uncharges pages of the group itself. Its peak stays.
+    pub fn uncharge(&mut self, group: GroupId, pages: u32)
+        requires there { IsTrue (has_group self.old.groups group) }
+        requires charged { pages ≤ pages_of self.old group }
+        ensures uncharged { self.new ≡ with_uncharge self.old group pages }
+        ensures usage { UsageRises self.new self.old group pages }
         ensures groups { self.new.groups ≡ self.old.groups }
-        ensures pages { PagesRise self.new self.old g n }
+        ensures pages { PagesRise self.new self.old group pages }
         ensures peaks { SamePeaks self.old self.new }
         ensures events { SameEvents self.old self.new }
     {
-        self.accounts[g.number() as usize].pages -= n;
-        walks::take_off(&self.tree, &mut self.usages, g, None, n);
+        self.accounts[group.number() as usize].pages -= pages;
+        walks::take_off(&self.tree, &mut self.usages, group, None, pages);
     }
 
     // Counts one event of this key: for the group itself, and for it and each of its ancestors.
-    fn note(&mut self, key: EventKey, g: GroupId)
-        requires { IsTrue (has_group self.old.groups g) }
-        ensures noted { self.new ≡ with_noted key self.old g }
+    fn note(&mut self, key: EventKey, group: GroupId)
+        requires { IsTrue (has_group self.old.groups group) }
+        ensures noted { self.new ≡ with_noted key self.old group }
         ensures groups { self.new.groups ≡ self.old.groups }
-        ensures counts { CountsEvent key self.old self.new g }
+        ensures counts { CountsEvent key self.old self.new group }
         ensures usage { SameUsage self.old self.new }
         ensures pages { SamePages self.old self.new }
         ensures peaks { SamePeaks self.old self.new }
     {
-        walks::count_event(&self.tree, &mut self.accounts, key, g);
-        walks::count_local_event(&mut self.accounts, key, g);
+        walks::count_event(&self.tree, &mut self.accounts, key, group);
+        walks::count_local_event(&mut self.accounts, key, group);
     }
 
     /// Counts that a charge was about to exceed the group's limit: one more `max` for the group itself, and for it
     /// and each of its ancestors. A count that reaches 2^64 - 1 stays there.
-    pub fn note_max(&mut self, g: GroupId)
-        requires { IsTrue (has_group self.old.groups g) }
-        ensures noted { self.new ≡ with_max_noted self.old g }
+    pub fn note_max(&mut self, group: GroupId)
+        requires { IsTrue (has_group self.old.groups group) }
+        ensures noted { self.new ≡ with_max_noted self.old group }
         ensures groups { self.new.groups ≡ self.old.groups }
-        ensures counts { CountsMax self.old self.new g }
+        ensures counts { CountsMax self.old self.new group }
         ensures usage { SameUsage self.old self.new }
         ensures pages { SamePages self.old self.new }
         ensures peaks { SamePeaks self.old self.new }
     {
-        self.note(EventKey::Max, g);
+        self.note(EventKey::Max, group);
     }
 
     /// Counts that an allocation was about to fail at the group's limit and a kill was possible: one more `oom`,
     /// counted as in `note_max`.
-    pub fn note_oom(&mut self, g: GroupId)
-        requires { IsTrue (has_group self.old.groups g) }
-        ensures noted { self.new ≡ with_oom_noted self.old g }
+    pub fn note_oom(&mut self, group: GroupId)
+        requires { IsTrue (has_group self.old.groups group) }
+        ensures noted { self.new ≡ with_oom_noted self.old group }
         ensures groups { self.new.groups ≡ self.old.groups }
-        ensures counts { CountsOom self.old self.new g }
+        ensures counts { CountsOom self.old self.new group }
         ensures usage { SameUsage self.old self.new }
         ensures pages { SamePages self.old self.new }
         ensures peaks { SamePeaks self.old self.new }
     {
-        self.note(EventKey::Oom, g);
+        self.note(EventKey::Oom, group);
     }
 
     /// Counts that the group was killed: one more `oom_kill`, counted as in `note_max`.
-    pub fn note_kill(&mut self, g: GroupId)
-        requires { IsTrue (has_group self.old.groups g) }
-        ensures noted { self.new ≡ with_kill_noted self.old g }
+    pub fn note_kill(&mut self, group: GroupId)
+        requires { IsTrue (has_group self.old.groups group) }
+        ensures noted { self.new ≡ with_kill_noted self.old group }
         ensures groups { self.new.groups ≡ self.old.groups }
-        ensures counts { CountsKill self.old self.new g }
+        ensures counts { CountsKill self.old self.new group }
         ensures usage { SameUsage self.old self.new }
         ensures pages { SamePages self.old self.new }
         ensures peaks { SamePeaks self.old self.new }
     {
-        self.note(EventKey::OomKill, g);
+        self.note(EventKey::OomKill, group);
     }
 
     /// Counts that the group, which isn't the root, was killed as a whole: one more `oom_group_kill`, counted as in
     /// `note_max`.
-    pub fn note_group_kill(&mut self, g: GroupId)
-        requires there { IsTrue (has_group self.old.groups g) }
-        requires below_root { g ≢ 0 }
-        ensures noted { self.new ≡ with_group_kill_noted self.old g }
+    pub fn note_group_kill(&mut self, group: GroupId)
+        requires there { IsTrue (has_group self.old.groups group) }
+        requires below_root { group ≢ 0 }
+        ensures noted { self.new ≡ with_group_kill_noted self.old group }
         ensures groups { self.new.groups ≡ self.old.groups }
-        ensures counts { CountsGroupKill self.old self.new g }
+        ensures counts { CountsGroupKill self.old self.new group }
         ensures usage { SameUsage self.old self.new }
         ensures pages { SamePages self.old self.new }
         ensures peaks { SamePeaks self.old self.new }
     {
-        self.note(EventKey::OomGroupKill, g);
+        self.note(EventKey::OomGroupKill, group);
     }
 }
 

@@ -23,83 +23,88 @@ fn fits_limit(limit: Option<u32>, pages: u32) -> bool
     }
 }
 
-/// Adds n pages to the usage of the group and of each group above it, until one would exceed its limit. Returns that
+/// Adds the pages to the usage of the group and of each group above it, until one would exceed its limit. Returns that
 /// group, to which it adds nothing.
-pub fn add_until_over(tree: &Tree, usages: &mut [u32], g: GroupId, n: u32) -> Option<GroupId>
+pub fn add_until_over(
+    tree: &Tree,
+    usages: &mut [u32],
+    group: GroupId,
+    pages: u32,
+) -> Option<GroupId>
     requires legal { AreGroups tree.now }
-    requires there { IsTrue (has_group tree.now g) }
+    requires there { IsTrue (has_group tree.now group) }
     requires size { length usages.old ≡ most_groups }
-    requires fits { (m : ℕ) → usage_by usages.old m + n < 2 ^ 32 }
-    ensures room { MatchOption result (PathHasRoom tree.now (usage_by usages.old) g n)
-        (IsLowestOver tree.now (usage_by usages.old) g n) }
-    ensures added { UsagesPassed tree.now g result (λ pages. pages + n) usages.old usages.new }
+    requires fits { (m : ℕ) → usage_by usages.old m + pages < 2 ^ 32 }
+    ensures room { MatchOption result (PathHasRoom tree.now (usage_by usages.old) group pages)
+        (IsLowestOver tree.now (usage_by usages.old) group pages) }
+    ensures added { UsagesPassed tree.now group result (λ usage. usage + pages) usages.old usages.new }
     ensures size { length usages.new ≡ most_groups }
 {
-    for m in tree.ancestors(g) {
-        let number = m.number() as usize;
-        let pages = usages[number] + n;
-        if !fits_limit(tree.limit(m), pages) {
-            return Some(m);
+    for ancestor in tree.ancestors(group) {
+        let number = ancestor.number() as usize;
+        let usage = usages[number] + pages;
+        if !fits_limit(tree.limit(ancestor), usage) {
+            return Some(ancestor);
         }
-        usages[number] = pages;
+        usages[number] = usage;
     }
     None
 }
 
-/// Subtracts n pages from the usage of the group and of each group above it. If an end is given, the walk stops
+/// Subtracts the pages from the usage of the group and of each group above it. If an end is given, the walk stops
 /// there: that group and those above it keep their usage.
-pub fn take_off(tree: &Tree, usages: &mut [u32], g: GroupId, end: Option<GroupId>, n: u32)
+pub fn take_off(tree: &Tree, usages: &mut [u32], group: GroupId, end: Option<GroupId>, pages: u32)
     requires legal { AreGroups tree.now }
-    requires there { IsTrue (has_group tree.now g) }
+    requires there { IsTrue (has_group tree.now group) }
     requires size { length usages.old ≡ most_groups }
-    requires on_path { IfSome end (λ m. IsTrue (in_subtree tree.now m g)) }
-    requires enough { (m : ℕ) → IsTrue (is_passed tree.now g end m) → n ≤ usage_by usages.old m }
-    ensures taken { UsagesPassed tree.now g end (λ pages. pages - n) usages.old usages.new }
+    requires on_path { IfSome end (λ m. IsTrue (in_subtree tree.now m group)) }
+    requires enough { (m : ℕ) → IsTrue (is_passed tree.now group end m) → pages ≤ usage_by usages.old m }
+    ensures taken { UsagesPassed tree.now group end (λ usage. usage - pages) usages.old usages.new }
     ensures size { length usages.new ≡ most_groups }
 {
-    for m in tree.ancestors(g) {
-        if end == Some(m) {
+    for ancestor in tree.ancestors(group) {
+        if end == Some(ancestor) {
             return;
         }
-        usages[m.number() as usize] -= n;
+        usages[ancestor.number() as usize] -= pages;
     }
 }
 
 /// Raises the peaks of the group and of each group above it to their usage.
-pub fn raise_peaks(tree: &Tree, accounts: &mut [Account], usages: &[u32], g: GroupId)
+pub fn raise_peaks(tree: &Tree, accounts: &mut [Account], usages: &[u32], group: GroupId)
     requires legal { AreGroups tree.now }
-    requires there { IsTrue (has_group tree.now g) }
+    requires there { IsTrue (has_group tree.now group) }
     requires size { length accounts.old ≡ most_groups }
     requires usages { length usages.now ≡ most_groups }
-    ensures raised { AccountsOnPath tree.now g (with_usage_peak usages.now) accounts.old accounts.new }
+    ensures raised { AccountsOnPath tree.now group (with_usage_peak usages.now) accounts.old accounts.new }
     ensures size { length accounts.new ≡ most_groups }
 {
-    for m in tree.ancestors(g) {
-        let number = m.number() as usize;
+    for ancestor in tree.ancestors(group) {
+        let number = ancestor.number() as usize;
         let usage = usages[number];
         accounts[number].peak = accounts[number].peak.max(usage);
     }
 }
 
 /// Counts one more event of this key in the hierarchical counts of the group and of each group above it.
-pub fn count_event(tree: &Tree, accounts: &mut [Account], key: EventKey, g: GroupId)
+pub fn count_event(tree: &Tree, accounts: &mut [Account], key: EventKey, group: GroupId)
     requires legal { AreGroups tree.now }
-    requires there { IsTrue (has_group tree.now g) }
+    requires there { IsTrue (has_group tree.now group) }
     requires size { length accounts.old ≡ most_groups }
-    ensures counted { AccountsOnPath tree.now g (with_event key) accounts.old accounts.new }
+    ensures counted { AccountsOnPath tree.now group (with_event key) accounts.old accounts.new }
     ensures size { length accounts.new ≡ most_groups }
 {
-    for m in tree.ancestors(g) {
-        let at = m.number() as usize;
+    for ancestor in tree.ancestors(group) {
+        let at = ancestor.number() as usize;
         accounts[at].events = accounts[at].events.with_one_more(key);
     }
 }
 
 /// Counts one more event of this key in the local counts of the group.
-pub fn count_local_event(accounts: &mut [Account], key: EventKey, g: GroupId)
+pub fn count_local_event(accounts: &mut [Account], key: EventKey, group: GroupId)
     requires size { length accounts.old ≡ most_groups }
-    ensures counted { accounts.new ≡ with_local_event key g accounts.old }
+    ensures counted { accounts.new ≡ with_local_event key group accounts.old }
 {
-    let number = g.number() as usize;
+    let number = group.number() as usize;
     accounts[number].events_local = accounts[number].events_local.with_one_more(key);
 }

@@ -6,21 +6,21 @@ use Rattle.group_charge.specs.Kept.{usage_by}
 use Rattle.group_charge.proofs.WalkLemmas.{Walking, walking_all, walking_on, walking_start, walking_tested, walking_turn}
 use Rattle.group_charge.proofs.walks.add_until_over.Goals as goal
 
-pub loop-m-init : goal.loop-m-init
-loop-m-init c =
+pub loop-ancestor-init : goal.loop-ancestor-init
+loop-ancestor-init c =
     let old = c.args.usages.now in
-    walking_start ℕ 0 c.args.tree.now (λ m. has_room c.args.tree.now (usage_by old) m c.args.n) c.args.g
-    (λ _ pages. pages + c.args.n) old c.into_iter-m-iterator.result c.requires.there
-    (c.into_iter-m-iterator.ensures.into_iter_gives ∙ c.ancestors-m-items.ensures.value)
+    walking_start ℕ 0 c.args.tree.now (λ m. has_room c.args.tree.now (usage_by old) m c.args.pages) c.args.group
+    (λ _ usage. usage + c.args.pages) old c.into_iter-ancestor-iterator.result c.requires.there
+    (c.into_iter-ancestor-iterator.ensures.into_iter_gives ∙ c.ancestors-ancestor-items.ensures.value)
 
-pub overflow_add-pages : goal.overflow_add-pages
-overflow_add-pages c =
+pub overflow_add-usage : goal.overflow_add-usage
+overflow_add-usage c =
     let old = c.args.usages.now in
-    let now = c.loop-m.usages in
-    let m = c.in-Some.m in
-    let test : ℕ → Bool = λ k. has_room c.args.tree.now (usage_by old) k c.args.n in
-    let t = walking_turn ℕ 0 c.args.tree.now test c.args.g
-    (λ _ pages. pages + c.args.n) old m c.loop-m.m-iterator c.next.new.self now c.requires.legal c.loop-m.invariant c.in-Some.ensures.steps in
+    let now = c.loop-ancestor.usages in
+    let m = c.in-Some.ancestor in
+    let test : ℕ → Bool = λ k. has_room c.args.tree.now (usage_by old) k c.args.pages in
+    let t = walking_turn ℕ 0 c.args.tree.now test c.args.group
+    (λ _ usage. usage + c.args.pages) old m c.loop-ancestor.ancestor-iterator c.next.new.self now c.requires.legal c.loop-ancestor.invariant c.in-Some.ensures.steps in
     let here : usage_by now c.number-number.result ≡ usage_by old m = ap (usage_by now) c.number-number.ensures.value ∙ t.own in
     let fits = c.requires.fits m in
     omega (arith, here, fits)
@@ -28,9 +28,9 @@ overflow_add-pages c =
 pub limit-requires : goal.limit-requires
 limit-requires c =
     let old = c.args.usages.now in
-    let test : ℕ → Bool = λ k. has_room c.args.tree.now (usage_by old) k c.args.n in
-    let t = walking_turn ℕ 0 c.args.tree.now test c.args.g
-    (λ _ pages. pages + c.args.n) old c.in-Some.m c.loop-m.m-iterator c.next.new.self c.loop-m.usages c.requires.legal c.loop-m.invariant
+    let test : ℕ → Bool = λ k. has_room c.args.tree.now (usage_by old) k c.args.pages in
+    let t = walking_turn ℕ 0 c.args.tree.now test c.args.group
+    (λ _ usage. usage + c.args.pages) old c.in-Some.ancestor c.loop-ancestor.ancestor-iterator c.next.new.self c.loop-ancestor.usages c.requires.legal c.loop-ancestor.invariant
     c.in-Some.ensures.steps in
     t.turn.there
 
@@ -38,59 +38,59 @@ pub returns-then-not-fits_limit-clause-room : goal.returns-then-not-fits_limit-c
 returns-then-not-fits_limit-clause-room c =
     let groups = c.args.tree.now in
     let old = c.args.usages.now in
-    let now = c.loop-m.usages in
-    let m = c.in-Some.m in
-    let test : ℕ → Bool = λ k. has_room groups (usage_by old) k c.args.n in
-    let t = walking_turn ℕ 0 groups test c.args.g
-    (λ _ pages. pages + c.args.n) old m c.loop-m.m-iterator c.next.new.self now c.requires.legal c.loop-m.invariant c.in-Some.ensures.steps in
+    let now = c.loop-ancestor.usages in
+    let m = c.in-Some.ancestor in
+    let test : ℕ → Bool = λ k. has_room groups (usage_by old) k c.args.pages in
+    let t = walking_turn ℕ 0 groups test c.args.group
+    (λ _ usage. usage + c.args.pages) old m c.loop-ancestor.ancestor-iterator c.next.new.self now c.requires.legal c.loop-ancestor.invariant c.in-Some.ensures.steps in
     let here : usage_by now c.number-number.result ≡ usage_by old m = ap (usage_by now) c.number-number.ensures.value ∙ t.own in
-    let room : c.fits_limit.result ≡ has_room groups (usage_by old) m c.args.n =
-    c.fits_limit.ensures ∙ ap (λ o. fits_limit o (usage_by now c.number-number.result + c.args.n)) c.limit.ensures
-    ∙ ap (λ u. fits_limit (limit_of groups m) (u + c.args.n)) here in
+    let room : c.fits_limit.result ≡ has_room groups (usage_by old) m c.args.pages =
+    c.fits_limit.ensures ∙ ap (λ o. fits_limit o (usage_by now c.number-number.result + c.args.pages)) c.limit.ensures
+    ∙ ap (λ u. fits_limit (limit_of groups m) (u + c.args.pages)) here in
     record {
       on_path = t.turn.walked.on_path;
       over = sym room ∙ c.if-not-fits_limit.true;
-      lowest = walked_lowest groups test c.args.g m t.turn.walked;
+      lowest = walked_lowest groups test c.args.group m t.turn.walked;
     }
 
 pub returns-then-not-fits_limit-clause-added : goal.returns-then-not-fits_limit-clause-added
 returns-then-not-fits_limit-clause-added c =
     let old = c.args.usages.now in
-    let test : ℕ → Bool = λ k. has_room c.args.tree.now (usage_by old) k c.args.n in
-    let t = walking_turn ℕ 0 c.args.tree.now test c.args.g
-    (λ _ pages. pages + c.args.n) old c.in-Some.m c.loop-m.m-iterator c.next.new.self c.loop-m.usages c.requires.legal c.loop-m.invariant
+    let test : ℕ → Bool = λ k. has_room c.args.tree.now (usage_by old) k c.args.pages in
+    let t = walking_turn ℕ 0 c.args.tree.now test c.args.group
+    (λ _ usage. usage + c.args.pages) old c.in-Some.ancestor c.loop-ancestor.ancestor-iterator c.next.new.self c.loop-ancestor.usages c.requires.legal c.loop-ancestor.invariant
     c.in-Some.ensures.steps in
     t.changed
 
-pub loop-m-preserved : goal.loop-m-preserved
-loop-m-preserved c =
+pub loop-ancestor-preserved : goal.loop-ancestor-preserved
+loop-ancestor-preserved c =
     let groups = c.args.tree.now in
     let old = c.args.usages.now in
-    let now = c.loop-m.usages in
-    let m = c.in-Some.m in
-    let test : ℕ → Bool = λ k. has_room groups (usage_by old) k c.args.n in
-    let t = walking_turn ℕ 0 groups test c.args.g
-    (λ _ pages. pages + c.args.n) old m c.loop-m.m-iterator c.next.new.self now c.requires.legal c.loop-m.invariant c.in-Some.ensures.steps in
+    let now = c.loop-ancestor.usages in
+    let m = c.in-Some.ancestor in
+    let test : ℕ → Bool = λ k. has_room groups (usage_by old) k c.args.pages in
+    let t = walking_turn ℕ 0 groups test c.args.group
+    (λ _ usage. usage + c.args.pages) old m c.loop-ancestor.ancestor-iterator c.next.new.self now c.requires.legal c.loop-ancestor.invariant c.in-Some.ensures.steps in
     let here : usage_by now c.number-number.result ≡ usage_by old m = ap (usage_by now) c.number-number.ensures.value ∙ t.own in
-    let room : c.fits_limit.result ≡ has_room groups (usage_by old) m c.args.n =
-    c.fits_limit.ensures ∙ ap (λ o. fits_limit o (usage_by now c.number-number.result + c.args.n)) c.limit.ensures
-    ∙ ap (λ u. fits_limit (limit_of groups m) (u + c.args.n)) here in
-    let item = usage_by now c.number-number.result + c.args.n in
+    let room : c.fits_limit.result ≡ has_room groups (usage_by old) m c.args.pages =
+    c.fits_limit.ensures ∙ ap (λ o. fits_limit o (usage_by now c.number-number.result + c.args.pages)) c.limit.ensures
+    ∙ ap (λ u. fits_limit (limit_of groups m) (u + c.args.pages)) here in
+    let item = usage_by now c.number-number.result + c.args.pages in
     let within : m < length now = omega (arith, t.size, c.requires.size, c.number-number.ensures.below, c.number-number.ensures.value) in
-    subst (λ i. Walking ℕ 0 groups test c.args.g (λ _ pages. pages + c.args.n) old c.next.new.self (set now i item)) (sym c.number-number.ensures.value)
-    (walking_on ℕ 0 groups test c.args.g (λ _ pages. pages + c.args.n) old m c.next.new.self now item c.requires.legal t (sym room
-    ∙ c.if-not-fits_limit.false) within (ap (λ u. u + c.args.n) here))
+    subst (λ i. Walking ℕ 0 groups test c.args.group (λ _ usage. usage + c.args.pages) old c.next.new.self (set now i item)) (sym c.number-number.ensures.value)
+    (walking_on ℕ 0 groups test c.args.group (λ _ usage. usage + c.args.pages) old m c.next.new.self now item c.requires.legal t (sym room
+    ∙ c.if-not-fits_limit.false) within (ap (λ u. u + c.args.pages) here))
 
 pub returns-clause-room : goal.returns-clause-room
 returns-clause-room c =
     let old = c.args.usages.now in
-    let test : ℕ → Bool = λ k. has_room c.args.tree.now (usage_by old) k c.args.n in
-    walking_tested ℕ 0 c.args.tree.now test c.args.g
-    (λ _ pages. pages + c.args.n) old c.loop-m.m-iterator c.loop-m.usages c.requires.legal c.loop-m.invariant c.in-None.ensures.steps.0
+    let test : ℕ → Bool = λ k. has_room c.args.tree.now (usage_by old) k c.args.pages in
+    walking_tested ℕ 0 c.args.tree.now test c.args.group
+    (λ _ usage. usage + c.args.pages) old c.loop-ancestor.ancestor-iterator c.loop-ancestor.usages c.requires.legal c.loop-ancestor.invariant c.in-None.ensures.steps.0
 
 pub returns-clause-added : goal.returns-clause-added
 returns-clause-added c =
     let old = c.args.usages.now in
-    let test : ℕ → Bool = λ k. has_room c.args.tree.now (usage_by old) k c.args.n in
-    walking_all ℕ 0 c.args.tree.now test c.args.g
-    (λ _ pages. pages + c.args.n) old c.loop-m.m-iterator c.loop-m.usages c.requires.legal c.loop-m.invariant c.in-None.ensures.steps.0
+    let test : ℕ → Bool = λ k. has_room c.args.tree.now (usage_by old) k c.args.pages in
+    walking_all ℕ 0 c.args.tree.now test c.args.group
+    (λ _ usage. usage + c.args.pages) old c.loop-ancestor.ancestor-iterator c.loop-ancestor.usages c.requires.legal c.loop-ancestor.invariant c.in-None.ensures.steps.0

@@ -4,6 +4,6 @@ use Rattle.group_charge.specs.Kept.{usage_by}
 use Rattle.group_charge.proofs.WalkLemmas.{Walking}
 use Rattle.group_charge.proofs.walks.add_until_over.Given as goal
 
-abbrev pub invariant-loop-m : goal.invariant-loop-m
-invariant-loop-m l =
-    Walking ℕ 0 l.tree (λ m. has_room l.tree (usage_by l.initial.usages) m l.fn.n) l.fn.g (λ _ pages. pages + l.fn.n) l.initial.usages l.m-iterator l.usages
+abbrev pub invariant-loop-ancestor : goal.invariant-loop-ancestor
+invariant-loop-ancestor l =
+    Walking ℕ 0 l.tree (λ m. has_room l.tree (usage_by l.initial.usages) m l.fn.pages) l.fn.group (λ _ usage. usage + l.fn.pages) l.initial.usages l.ancestor-iterator l.usages

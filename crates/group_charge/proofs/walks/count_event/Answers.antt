@@ -6,33 +6,33 @@ use Rattle.group_charge.proofs.KeptLemmas.{read_at}
 use Rattle.group_charge.proofs.WalkLemmas.{Walking, walking_on, walking_path, walking_start, walking_turn}
 use Rattle.group_charge.proofs.walks.count_event.Goals as goal
 
-pub loop-m-init : goal.loop-m-init
-loop-m-init c =
-    walking_start Account (empty_account 0) c.args.tree.now (λ _. true) c.args.g (with_event c.args.key) c.args.accounts.now c.into_iter-m-iterator.result c.requires.there
-    (c.into_iter-m-iterator.ensures.into_iter_gives ∙ c.ancestors-m-items.ensures.value)
+pub loop-ancestor-init : goal.loop-ancestor-init
+loop-ancestor-init c =
+    walking_start Account (empty_account 0) c.args.tree.now (λ _. true) c.args.group (with_event c.args.key) c.args.accounts.now c.into_iter-ancestor-iterator.result c.requires.there
+    (c.into_iter-ancestor-iterator.ensures.into_iter_gives ∙ c.ancestors-ancestor-items.ensures.value)
 
-pub loop-m-preserved : goal.loop-m-preserved
-loop-m-preserved c =
+pub loop-ancestor-preserved : goal.loop-ancestor-preserved
+loop-ancestor-preserved c =
     let groups = c.args.tree.now in
     let old = c.args.accounts.now in
-    let now = c.loop-m.accounts in
-    let m = c.in-Some.m in
+    let now = c.loop-ancestor.accounts in
+    let m = c.in-Some.ancestor in
     let t = walking_turn Account (empty_account 0) groups
-    (λ _. true) c.args.g (with_event c.args.key) old m c.loop-m.m-iterator c.next.new.self now c.requires.legal c.loop-m.invariant c.in-Some.ensures.steps in
+    (λ _. true) c.args.group (with_event c.args.key) old m c.loop-ancestor.ancestor-iterator c.next.new.self now c.requires.legal c.loop-ancestor.invariant c.in-Some.ensures.steps in
     let size : length now ≡ 64 = t.size ∙ c.requires.size in
     let within : m < length now = omega (arith, size, c.number-at.ensures.below, c.number-at.ensures.value) in
     let also : c.number-at.result < length now = omega (arith, size, c.number-at.ensures.below) in
     let read : (d : Account) → get_or now c.number-at.result d ≡ account_by old m = λ d.
     read_at now c.number-at.result m d (empty_account 0) also c.number-at.ensures.value ∙ t.own in
-    let was : Account = get_or now c.number-at.result c.index-accounts-at-in-loop-m.result in
+    let was : Account = get_or now c.number-at.result c.index-accounts-at-in-loop-ancestor.result in
     let item : Account = record was { events = c.with_one_more.result } in
     let same : item ≡ with_event c.args.key m (account_by old m) =
     ap (λ (e : EventCounts). record was { events = e }) (c.with_one_more.ensures ∙ ap (λ (a : Account). with_one_more c.args.key a.events) (read _))
-    ∙ ap (λ (a : Account). record a { events = with_one_more c.args.key (account_by old m).events }) (read c.index-accounts-at-in-loop-m.result) in
-    subst (λ i. Walking Account (empty_account 0) groups (λ _. true) c.args.g (with_event c.args.key) old c.next.new.self (set now i item)) (sym c.number-at.ensures.value)
-    (walking_on Account (empty_account 0) groups (λ _. true) c.args.g (with_event c.args.key) old m c.next.new.self now item c.requires.legal t refl within same)
+    ∙ ap (λ (a : Account). record a { events = with_one_more c.args.key (account_by old m).events }) (read c.index-accounts-at-in-loop-ancestor.result) in
+    subst (λ i. Walking Account (empty_account 0) groups (λ _. true) c.args.group (with_event c.args.key) old c.next.new.self (set now i item)) (sym c.number-at.ensures.value)
+    (walking_on Account (empty_account 0) groups (λ _. true) c.args.group (with_event c.args.key) old m c.next.new.self now item c.requires.legal t refl within same)
 
 pub returns-clause-counted : goal.returns-clause-counted
 returns-clause-counted c =
     walking_path Account (empty_account 0) c.args.tree.now
-    (λ _. true) c.args.g (with_event c.args.key) c.args.accounts.now c.loop-m.m-iterator c.loop-m.accounts c.requires.legal c.loop-m.invariant c.in-None.ensures.steps.0
+    (λ _. true) c.args.group (with_event c.args.key) c.args.accounts.now c.loop-ancestor.ancestor-iterator c.loop-ancestor.accounts c.requires.legal c.loop-ancestor.invariant c.in-None.ensures.steps.0

@@ -9,7 +9,7 @@ pub returns : goal.returns
 returns c =
     let now = c.args.accounts.now in
     let i = c.number-number.result in
-    let g = c.args.g in
+    let g = c.args.group in
     let own : Account = account_by now g in
     let within : i < length now = omega (arith, c.requires, c.number-number.ensures.below) in
     let read : (d : Account) → get_or now i d ≡ own = λ d. read_at now i g d (empty_account 0) within c.number-number.ensures.value in

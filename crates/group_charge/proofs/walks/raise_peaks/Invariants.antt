@@ -4,6 +4,6 @@ use Rattle.group_charge.specs.Kept.{with_usage_peak}
 use Rattle.group_charge.proofs.WalkLemmas.{Walking}
 use Rattle.group_charge.proofs.walks.raise_peaks.Given as goal
 
-abbrev pub invariant-loop-m : goal.invariant-loop-m
-invariant-loop-m l =
-    Walking Account (empty_account 0) l.tree (λ _. true) l.fn.g (with_usage_peak l.usages) l.initial.accounts l.m-iterator l.accounts
+abbrev pub invariant-loop-ancestor : goal.invariant-loop-ancestor
+invariant-loop-ancestor l =
+    Walking Account (empty_account 0) l.tree (λ _. true) l.fn.group (with_usage_peak l.usages) l.initial.accounts l.ancestor-iterator l.accounts

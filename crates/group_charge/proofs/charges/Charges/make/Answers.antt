@@ -14,10 +14,10 @@ pub returns-clause-made : goal.returns-clause-made
 returns-clause-made c =
     let groups = c.self.inside.tree in
     let old = c.self.inside.accounts in
-    let g = c.in_ok-g.g in
-    let free = c.in_ok-g.ensures.least.free in
+    let g = c.in_ok-group.group in
+    let free = c.in_ok-group.ensures.least.free in
     let within : g < length old = omega (arith, c.self.invariant.size, c.number.ensures.below, c.number.ensures.value) in
-    ap (λ rows. ledger_of rows (set old c.number.result c.new_account.result)) c.in_ok-g.ensures.made
+    ap (λ rows. ledger_of rows (set old c.number.result c.new_account.result)) c.in_ok-group.ensures.made
     ∙ ap (λ n. ledger_of (with_group groups g c.args.path.now) (set old n c.new_account.result)) c.number.ensures.value
     ∙ ap (λ a. ledger_of (with_group groups g c.args.path.now) (set old g a)) c.new_account.ensures
     ∙ same_ledger _ _ _ _ refl (kept_new groups old g c.args.path.now free within)
@@ -26,12 +26,12 @@ returns-clause-made c =
 pub invariant_of-self-2 : goal.invariant_of-self-2
 invariant_of-self-2 c =
     let l = ledger_of c.self.inside.tree c.self.inside.accounts in
-    let g = c.in_ok-g.g in
-    let can = can_make c.self.inside.tree c.args.path.now (sym c.in_ok-g.ensures.refused) in
+    let g = c.in_ok-group.group in
+    let can = can_make c.self.inside.tree c.args.path.now (sym c.in_ok-group.ensures.refused) in
     let size = length-set c.self.inside.accounts c.number.result c.new_account.result ∙ c.self.invariant.size in
     kept_as _ _ _ (with_new_group l g c.args.path.now) (returns-clause-made c ∙ ap (λ k. with_new_group k g c.args.path.now) (sym c.self.view_is))
-    (AreCharges-new l g c.args.path.now c.self.invariant.charges can c.in_ok-g.ensures.least) size
-    (stored_new l c.self.inside.usages g c.args.path.now c.self.invariant.charges can c.in_ok-g.ensures.least.free c.self.invariant.usages_are)
+    (AreCharges-new l g c.args.path.now c.self.invariant.charges can c.in_ok-group.ensures.least) size
+    (stored_new l c.self.inside.usages g c.args.path.now c.self.invariant.charges can c.in_ok-group.ensures.least.free c.self.invariant.usages_are)
 
 pub returns-clause-pages : goal.returns-clause-pages
-returns-clause-pages c = subst (SamePages c.args.self.now) (sym (returns-clause-made c)) (new_pages c.args.self.now c.in_ok-g.g c.args.path.now)
+returns-clause-pages c = subst (SamePages c.args.self.now) (sym (returns-clause-made c)) (new_pages c.args.self.now c.in_ok-group.group c.args.path.now)

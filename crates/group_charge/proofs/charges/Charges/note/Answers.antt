@@ -15,35 +15,35 @@ pub returns-clause-noted : goal.returns-clause-noted
 returns-clause-noted c =
     let groups = c.self.inside.tree in
     let old = c.self.inside.accounts in
-    let there : IsTrue (has_group groups c.args.g) = subst (λ (l : Ledger). IsTrue (has_group l.groups c.args.g)) (sym c.self.view_is) c.requires in
-    let below = number_below groups c.args.g c.self.invariant.charges.groups there in
-    let same = kept_noted c.args.key groups old c.count_event.new.accounts c.args.g c.self.invariant.charges.numbers
+    let there : IsTrue (has_group groups c.args.group) = subst (λ (l : Ledger). IsTrue (has_group l.groups c.args.group)) (sym c.self.view_is) c.requires in
+    let below = number_below groups c.args.group c.self.invariant.charges.groups there in
+    let same = kept_noted c.args.key groups old c.count_event.new.accounts c.args.group c.self.invariant.charges.numbers
     (omega (arith, below, c.count_event.ensures.size)) c.count_event.ensures.counted in
-    same_ledger _ _ _ _ refl (ap (accounts_of groups) c.count_local_event.ensures.counted ∙ same) ∙ ap (λ l. with_noted c.args.key l c.args.g) c.self.view_is
+    same_ledger _ _ _ _ refl (ap (accounts_of groups) c.count_local_event.ensures.counted ∙ same) ∙ ap (λ l. with_noted c.args.key l c.args.group) c.self.view_is
 
 pub invariant_of-self : goal.invariant_of-self
 invariant_of-self c =
     let l = ledger_of c.self.inside.tree c.self.inside.accounts in
     let mid = c.count_event.new.accounts in
-    let a = account_by mid c.args.g in
-    let size = ap length c.count_local_event.ensures.counted ∙ length-set mid c.args.g (record a { events_local = with_one_more c.args.key a.events_local })
+    let a = account_by mid c.args.group in
+    let size = ap length c.count_local_event.ensures.counted ∙ length-set mid c.args.group (record a { events_local = with_one_more c.args.key a.events_local })
     ∙ c.count_event.ensures.size in
-    kept_as _ _ _ (with_noted c.args.key l c.args.g) (returns-clause-noted c ∙ ap (λ k. with_noted c.args.key k c.args.g) (sym c.self.view_is))
-    (AreCharges-noted c.args.key l c.args.g c.self.invariant.charges) size
-    (stored_noted c.args.key l c.self.inside.usages c.args.g c.self.invariant.usages_are)
+    kept_as _ _ _ (with_noted c.args.key l c.args.group) (returns-clause-noted c ∙ ap (λ k. with_noted c.args.key k c.args.group) (sym c.self.view_is))
+    (AreCharges-noted c.args.key l c.args.group c.self.invariant.charges) size
+    (stored_noted c.args.key l c.self.inside.usages c.args.group c.self.invariant.usages_are)
 
 pub returns-clause-counts : goal.returns-clause-counts
 returns-clause-counts c =
-    subst (λ l. CountsEvent c.args.key c.args.self.now l c.args.g) (sym (returns-clause-noted c))
-    (note_counts c.args.key c.args.self.now c.args.g (subst AreCharges c.self.view_is c.self.invariant.charges) c.requires)
+    subst (λ l. CountsEvent c.args.key c.args.self.now l c.args.group) (sym (returns-clause-noted c))
+    (note_counts c.args.key c.args.self.now c.args.group (subst AreCharges c.self.view_is c.self.invariant.charges) c.requires)
 
 pub returns-clause-usage : goal.returns-clause-usage
 returns-clause-usage c =
     subst (SameUsage c.args.self.now) (sym (returns-clause-noted c))
-    (λ m. usage-noted c.args.key c.args.self.now.groups c.args.self.now.accounts c.args.g m)
+    (λ m. usage-noted c.args.key c.args.self.now.groups c.args.self.now.accounts c.args.group m)
 
 pub returns-clause-pages : goal.returns-clause-pages
-returns-clause-pages c = subst (SamePages c.args.self.now) (sym (returns-clause-noted c)) (note_pages c.args.key c.args.self.now c.args.g)
+returns-clause-pages c = subst (SamePages c.args.self.now) (sym (returns-clause-noted c)) (note_pages c.args.key c.args.self.now c.args.group)
 
 pub returns-clause-peaks : goal.returns-clause-peaks
-returns-clause-peaks c = subst (SamePeaks c.args.self.now) (sym (returns-clause-noted c)) (note_peaks c.args.key c.args.self.now c.args.g)
+returns-clause-peaks c = subst (SamePeaks c.args.self.now) (sym (returns-clause-noted c)) (note_peaks c.args.key c.args.self.now c.args.group)

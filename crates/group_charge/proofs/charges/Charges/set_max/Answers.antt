@@ -12,20 +12,20 @@ use Rattle.group_charge.proofs.charges.Charges.set_max.Goals as goal
 pub returns-clause-limited : goal.returns-clause-limited
 returns-clause-limited c =
     ap (λ rows. ledger_of rows c.self.inside.accounts) c.set_max.ensures
-    ∙ same_ledger _ _ _ _ refl (kept_limited c.self.inside.tree c.self.inside.accounts c.args.g c.args.limit)
-    ∙ ap (λ l. with_group_limit l c.args.g c.args.limit) c.self.view_is
+    ∙ same_ledger _ _ _ _ refl (kept_limited c.self.inside.tree c.self.inside.accounts c.args.group c.args.limit)
+    ∙ ap (λ l. with_group_limit l c.args.group c.args.limit) c.self.view_is
 
 pub invariant_of-self : goal.invariant_of-self
 invariant_of-self c =
     let l = ledger_of c.self.inside.tree c.self.inside.accounts in
-    kept_as _ _ _ (with_group_limit l c.args.g c.args.limit) (returns-clause-limited c
-    ∙ ap (λ k. with_group_limit k c.args.g c.args.limit) (sym c.self.view_is))
-    (AreCharges-limited l c.args.g c.args.limit c.self.invariant.charges) c.self.invariant.size
-    (stored_limited l c.self.inside.usages c.args.g c.args.limit c.self.invariant.usages_are)
+    kept_as _ _ _ (with_group_limit l c.args.group c.args.limit) (returns-clause-limited c
+    ∙ ap (λ k. with_group_limit k c.args.group c.args.limit) (sym c.self.view_is))
+    (AreCharges-limited l c.args.group c.args.limit c.self.invariant.charges) c.self.invariant.size
+    (stored_limited l c.self.inside.usages c.args.group c.args.limit c.self.invariant.usages_are)
 
 pub returns-clause-pages : goal.returns-clause-pages
-returns-clause-pages c = subst (SamePages c.args.self.now) (sym (returns-clause-limited c)) (limit_pages c.args.self.now c.args.g c.args.limit)
+returns-clause-pages c = subst (SamePages c.args.self.now) (sym (returns-clause-limited c)) (limit_pages c.args.self.now c.args.group c.args.limit)
 
 pub returns-clause-there : goal.returns-clause-there
 returns-clause-there c = λ m.
-    ap (λ (l : Ledger). has_group l.groups m) (returns-clause-limited c) ∙ has_group-limited c.args.self.now.groups c.args.g m c.args.limit
+    ap (λ (l : Ledger). has_group l.groups m) (returns-clause-limited c) ∙ has_group-limited c.args.self.now.groups c.args.group m c.args.limit

@@ -11,7 +11,7 @@ use Rattle.group_charge.proofs.charges.Charges.try_charge.Goals as goal
 pub add_until_over-requires-clause-fits : goal.add_until_over-requires-clause-fits
 add_until_over-requires-clause-fits c = λ m.
     let l = ledger_of c.self.inside.tree c.self.inside.accounts in
-    let fits : current_of l 0 + c.args.n < 2 ^ 32 = subst (λ k. current_of k 0 + c.args.n < 2 ^ 32) (sym c.self.view_is) c.requires.fits in
+    let fits : current_of l 0 + c.args.pages < 2 ^ 32 = subst (λ k. current_of k 0 + c.args.pages < 2 ^ 32) (sym c.self.view_is) c.requires.fits in
     let low = usage-le-root l m c.self.invariant.charges in
     let stored = c.self.invariant.usages_are.sums m in
     omega arith
@@ -20,14 +20,14 @@ pub overflow_add-self : goal.overflow_add-self
 overflow_add-self c =
     let l = ledger_of c.self.inside.tree c.self.inside.accounts in
     let kept = c.self.inside.accounts in
-    let there : IsTrue (has_group l.groups c.args.g) = subst (λ (k : Ledger). IsTrue (has_group k.groups c.args.g)) (sym c.self.view_is) c.requires.there in
-    let fits : current_of l 0 + c.args.n < 2 ^ 32 = subst (λ k. current_of k 0 + c.args.n < 2 ^ 32) (sym c.self.view_is) c.requires.fits in
+    let there : IsTrue (has_group l.groups c.args.group) = subst (λ (k : Ledger). IsTrue (has_group k.groups c.args.group)) (sym c.self.view_is) c.requires.there in
+    let fits : current_of l 0 + c.args.pages < 2 ^ 32 = subst (λ k. current_of k 0 + c.args.pages < 2 ^ 32) (sym c.self.view_is) c.requires.fits in
     let within : c.number.result < length kept = omega (arith, c.self.invariant.size, c.number.ensures.below) in
-    let read : (get_or kept c.number.result c.index-self-number.result).pages ≡ (account_by kept c.args.g).pages =
-    ap (λ (a : Account). a.pages) (read_at kept c.number.result c.args.g c.index-self-number.result (empty_account 0) within c.number.ensures.value) in
-    let own = kept_pages c.self.inside.tree kept c.args.g c.self.invariant.charges there in
-    let part = pages-le-current l c.args.g there in
-    let low = usage-le-root l c.args.g c.self.invariant.charges in
+    let read : (get_or kept c.number.result c.index-self-number.result).pages ≡ (account_by kept c.args.group).pages =
+    ap (λ (a : Account). a.pages) (read_at kept c.number.result c.args.group c.index-self-number.result (empty_account 0) within c.number.ensures.value) in
+    let own = kept_pages c.self.inside.tree kept c.args.group c.self.invariant.charges there in
+    let part = pages-le-current l c.args.group there in
+    let low = usage-le-root l c.args.group c.self.invariant.charges in
     omega (arith, read, own, part, low, fits)
 
 pub returns-clause-charged : goal.returns-clause-charged
@@ -35,57 +35,57 @@ returns-clause-charged c =
     let groups = c.self.inside.tree in
     let kept = c.self.inside.accounts in
     let l = ledger_of groups kept in
-    let there : IsTrue (has_group groups c.args.g) = subst (λ (k : Ledger). IsTrue (has_group k.groups c.args.g)) (sym c.self.view_is) c.requires.there in
+    let there : IsTrue (has_group groups c.args.group) = subst (λ (k : Ledger). IsTrue (has_group k.groups c.args.group)) (sym c.self.view_is) c.requires.there in
     let within : c.number.result < length kept = omega (arith, c.self.invariant.size, c.number.ensures.below) in
-    let also : c.args.g < length kept = omega (arith, c.self.invariant.size, c.number.ensures.below, c.number.ensures.value) in
-    let more : (get_or kept c.number.result c.index-self-number.result).pages + c.args.n ≡ (account_by kept c.args.g).pages + c.args.n =
-    ap (λ (a : Account). a.pages + c.args.n)
-    (read_at kept c.number.result c.args.g c.index-self-number.result (empty_account 0) within c.number.ensures.value) in
+    let also : c.args.group < length kept = omega (arith, c.self.invariant.size, c.number.ensures.below, c.number.ensures.value) in
+    let more : (get_or kept c.number.result c.index-self-number.result).pages + c.args.pages ≡ (account_by kept c.args.group).pages + c.args.pages =
+    ap (λ (a : Account). a.pages + c.args.pages)
+    (read_at kept c.number.result c.args.group c.index-self-number.result (empty_account 0) within c.number.ensures.value) in
     let mid : set kept c.number.result (record (get_or kept c.number.result c.index-self-number-2.result) {
       pages =
-          (get_or kept c.number.result c.index-self-number.result).pages + c.args.n;
-    }) ≡ set kept c.args.g
-    (record (account_by kept c.args.g) { pages = (account_by kept c.args.g).pages + c.args.n }) =
+          (get_or kept c.number.result c.index-self-number.result).pages + c.args.pages;
+    }) ≡ set kept c.args.group
+    (record (account_by kept c.args.group) { pages = (account_by kept c.args.group).pages + c.args.pages }) =
     ap (λ k. set kept c.number.result (record (get_or kept c.number.result c.index-self-number-2.result) { pages = k })) more
-    ∙ set_pages kept c.number.result c.args.g ((account_by kept c.args.g).pages + c.args.n) c.index-self-number-2.result within c.number.ensures.value in
+    ∙ set_pages kept c.number.result c.args.group ((account_by kept c.args.group).pages + c.args.pages) c.index-self-number-2.result within c.number.ensures.value in
     let none : c.add_until_over.result ≡ None = c.in_default.is in
-    let added = subst (λ o. UsagesPassed groups c.args.g o (λ pages. pages + c.args.n) c.self.inside.usages c.add_until_over.new.usages) none c.add_until_over.ensures.added in
-    let are = stored_charged l c.self.inside.usages c.add_until_over.new.usages c.args.g c.args.n c.self.invariant.charges there c.self.invariant.usages_are
+    let added = subst (λ o. UsagesPassed groups c.args.group o (λ pages. pages + c.args.pages) c.self.inside.usages c.add_until_over.new.usages) none c.add_until_over.ensures.added in
+    let are = stored_charged l c.self.inside.usages c.add_until_over.new.usages c.args.group c.args.pages c.self.invariant.charges there c.self.invariant.usages_are
     c.add_until_over.ensures.size added in
-    same_ledger _ _ _ _ refl (kept_charged groups kept _ c.raise_peaks.new.accounts c.add_until_over.new.usages c.args.g c.args.n c.self.invariant.charges also
+    same_ledger _ _ _ _ refl (kept_charged groups kept _ c.raise_peaks.new.accounts c.add_until_over.new.usages c.args.group c.args.pages c.self.invariant.charges also
     mid are c.raise_peaks.ensures.raised)
-    ∙ ap (λ k. with_charge k c.args.g c.args.n) c.self.view_is
+    ∙ ap (λ k. with_charge k c.args.group c.args.pages) c.self.view_is
 
 pub invariant_of-self-2 : goal.invariant_of-self-2
 invariant_of-self-2 c =
     let groups = c.self.inside.tree in
     let l = ledger_of groups c.self.inside.accounts in
-    let there : IsTrue (has_group groups c.args.g) = subst (λ (k : Ledger). IsTrue (has_group k.groups c.args.g)) (sym c.self.view_is) c.requires.there in
-    let fits : current_of l 0 + c.args.n < 2 ^ 32 = subst (λ k. current_of k 0 + c.args.n < 2 ^ 32) (sym c.self.view_is) c.requires.fits in
+    let there : IsTrue (has_group groups c.args.group) = subst (λ (k : Ledger). IsTrue (has_group k.groups c.args.group)) (sym c.self.view_is) c.requires.there in
+    let fits : current_of l 0 + c.args.pages < 2 ^ 32 = subst (λ k. current_of k 0 + c.args.pages < 2 ^ 32) (sym c.self.view_is) c.requires.fits in
     let none : c.add_until_over.result ≡ None = c.in_default.is in
-    let added = subst (λ o. UsagesPassed groups c.args.g o (λ pages. pages + c.args.n) c.self.inside.usages c.add_until_over.new.usages) none c.add_until_over.ensures.added in
-    kept_as _ _ _ (with_charge l c.args.g c.args.n) (returns-clause-charged c ∙ ap (λ k. with_charge k c.args.g c.args.n) (sym c.self.view_is))
-    (AreCharges-charged l c.args.g c.args.n c.self.invariant.charges there fits) c.raise_peaks.ensures.size
-    (stored_charged l c.self.inside.usages c.add_until_over.new.usages c.args.g c.args.n c.self.invariant.charges there c.self.invariant.usages_are
+    let added = subst (λ o. UsagesPassed groups c.args.group o (λ pages. pages + c.args.pages) c.self.inside.usages c.add_until_over.new.usages) none c.add_until_over.ensures.added in
+    kept_as _ _ _ (with_charge l c.args.group c.args.pages) (returns-clause-charged c ∙ ap (λ k. with_charge k c.args.group c.args.pages) (sym c.self.view_is))
+    (AreCharges-charged l c.args.group c.args.pages c.self.invariant.charges there fits) c.raise_peaks.ensures.size
+    (stored_charged l c.self.inside.usages c.add_until_over.new.usages c.args.group c.args.pages c.self.invariant.charges there c.self.invariant.usages_are
     c.add_until_over.ensures.size added)
 
 pub returns-clause-usage : goal.returns-clause-usage
 returns-clause-usage c =
-    subst (λ l. UsageRises c.args.self.now l c.args.g c.args.n) (sym (returns-clause-charged c))
-    (charge_rises c.args.self.now c.args.g c.args.n (subst AreCharges c.self.view_is c.self.invariant.charges) c.requires.there)
+    subst (λ l. UsageRises c.args.self.now l c.args.group c.args.pages) (sym (returns-clause-charged c))
+    (charge_rises c.args.self.now c.args.group c.args.pages (subst AreCharges c.self.view_is c.self.invariant.charges) c.requires.there)
 
 pub returns-clause-pages : goal.returns-clause-pages
 returns-clause-pages c =
-    subst (λ l. PagesRise c.args.self.now l c.args.g c.args.n) (sym (returns-clause-charged c))
-    (charge_pages c.args.self.now c.args.g c.args.n (subst AreCharges c.self.view_is c.self.invariant.charges) c.requires.there)
+    subst (λ l. PagesRise c.args.self.now l c.args.group c.args.pages) (sym (returns-clause-charged c))
+    (charge_pages c.args.self.now c.args.group c.args.pages (subst AreCharges c.self.view_is c.self.invariant.charges) c.requires.there)
 
 pub returns-clause-peaks : goal.returns-clause-peaks
 returns-clause-peaks c =
-    subst (λ l. PeaksRise c.args.self.now l c.args.g) (sym (returns-clause-charged c))
-    (charge_peaks c.args.self.now c.args.g c.args.n (subst AreCharges c.self.view_is c.self.invariant.charges))
+    subst (λ l. PeaksRise c.args.self.now l c.args.group) (sym (returns-clause-charged c))
+    (charge_peaks c.args.self.now c.args.group c.args.pages (subst AreCharges c.self.view_is c.self.invariant.charges))
 
 pub returns-clause-events : goal.returns-clause-events
-returns-clause-events c = subst (SameEvents c.args.self.now) (sym (returns-clause-charged c)) (charge_events c.args.self.now c.args.g c.args.n)
+returns-clause-events c = subst (SameEvents c.args.self.now) (sym (returns-clause-charged c)) (charge_events c.args.self.now c.args.group c.args.pages)
 
 pub returns-in-Some-clause-over : goal.returns-in-Some-clause-over
 returns-in-Some-clause-over c = search rules

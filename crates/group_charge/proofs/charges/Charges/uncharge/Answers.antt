@@ -13,59 +13,59 @@ pub overflow_sub-self : goal.overflow_sub-self
 overflow_sub-self c =
     let groups = c.self.inside.tree in
     let kept = c.self.inside.accounts in
-    let there : IsTrue (has_group groups c.args.g) = subst (λ (l : Ledger). IsTrue (has_group l.groups c.args.g)) (sym c.self.view_is) c.requires.there in
-    let charged : c.args.n ≤ pages_of (ledger_of groups kept) c.args.g =
-    subst (λ (l : Ledger). c.args.n ≤ pages_of l c.args.g) (sym c.self.view_is) c.requires.charged in
+    let there : IsTrue (has_group groups c.args.group) = subst (λ (l : Ledger). IsTrue (has_group l.groups c.args.group)) (sym c.self.view_is) c.requires.there in
+    let charged : c.args.pages ≤ pages_of (ledger_of groups kept) c.args.group =
+    subst (λ (l : Ledger). c.args.pages ≤ pages_of l c.args.group) (sym c.self.view_is) c.requires.charged in
     let within : c.number.result < length kept = omega (arith, c.self.invariant.size, c.number.ensures.below) in
-    let own = kept_pages groups kept c.args.g c.self.invariant.charges there in
-    let read : (get_or kept c.number.result c.index-self-number.result).pages ≡ (account_by kept c.args.g).pages =
-    ap (λ (a : Account). a.pages) (read_at kept c.number.result c.args.g c.index-self-number.result (empty_account 0) within c.number.ensures.value) in
+    let own = kept_pages groups kept c.args.group c.self.invariant.charges there in
+    let read : (get_or kept c.number.result c.index-self-number.result).pages ≡ (account_by kept c.args.group).pages =
+    ap (λ (a : Account). a.pages) (read_at kept c.number.result c.args.group c.index-self-number.result (empty_account 0) within c.number.ensures.value) in
     omega (arith, own, read, charged)
 
 pub take_off-requires-clause-enough : goal.take_off-requires-clause-enough
 take_off-requires-clause-enough c = λ m passed.
     let l = ledger_of c.self.inside.tree c.self.inside.accounts in
-    let there : IsTrue (has_group l.groups c.args.g) = subst (λ (k : Ledger). IsTrue (has_group k.groups c.args.g)) (sym c.self.view_is) c.requires.there in
-    let charged : c.args.n ≤ pages_of l c.args.g = subst (λ k. c.args.n ≤ pages_of k c.args.g) (sym c.self.view_is) c.requires.charged in
-    enough_stored l c.self.inside.usages c.args.g c.args.n m c.self.invariant.charges there charged c.self.invariant.usages_are passed
+    let there : IsTrue (has_group l.groups c.args.group) = subst (λ (k : Ledger). IsTrue (has_group k.groups c.args.group)) (sym c.self.view_is) c.requires.there in
+    let charged : c.args.pages ≤ pages_of l c.args.group = subst (λ k. c.args.pages ≤ pages_of k c.args.group) (sym c.self.view_is) c.requires.charged in
+    enough_stored l c.self.inside.usages c.args.group c.args.pages m c.self.invariant.charges there charged c.self.invariant.usages_are passed
 
 pub returns-clause-uncharged : goal.returns-clause-uncharged
 returns-clause-uncharged c =
     let groups = c.self.inside.tree in
     let kept = c.self.inside.accounts in
     let within : c.number.result < length kept = omega (arith, c.self.invariant.size, c.number.ensures.below) in
-    let also : c.args.g < length kept = omega (arith, c.self.invariant.size, c.number.ensures.below, c.number.ensures.value) in
-    let less : (get_or kept c.number.result c.index-self-number.result).pages - c.args.n ≡ (account_by kept c.args.g).pages - c.args.n =
-    ap (λ (a : Account). a.pages - c.args.n)
-    (read_at kept c.number.result c.args.g c.index-self-number.result (empty_account 0) within c.number.ensures.value) in
+    let also : c.args.group < length kept = omega (arith, c.self.invariant.size, c.number.ensures.below, c.number.ensures.value) in
+    let less : (get_or kept c.number.result c.index-self-number.result).pages - c.args.pages ≡ (account_by kept c.args.group).pages - c.args.pages =
+    ap (λ (a : Account). a.pages - c.args.pages)
+    (read_at kept c.number.result c.args.group c.index-self-number.result (empty_account 0) within c.number.ensures.value) in
     ap (λ k. ledger_of groups (set kept c.number.result (record (get_or kept c.number.result c.index-self-number-2.result) { pages = k }))) less
-    ∙ ap (ledger_of groups) (set_pages kept c.number.result c.args.g
-    ((account_by kept c.args.g).pages - c.args.n) c.index-self-number-2.result within c.number.ensures.value)
-    ∙ same_ledger _ _ _ _ refl (kept_taken groups kept c.args.g c.args.n c.self.invariant.charges.numbers also)
-    ∙ ap (λ l. with_uncharge l c.args.g c.args.n) c.self.view_is
+    ∙ ap (ledger_of groups) (set_pages kept c.number.result c.args.group
+    ((account_by kept c.args.group).pages - c.args.pages) c.index-self-number-2.result within c.number.ensures.value)
+    ∙ same_ledger _ _ _ _ refl (kept_taken groups kept c.args.group c.args.pages c.self.invariant.charges.numbers also)
+    ∙ ap (λ l. with_uncharge l c.args.group c.args.pages) c.self.view_is
 
 pub invariant_of-self : goal.invariant_of-self
 invariant_of-self c =
     let l = ledger_of c.self.inside.tree c.self.inside.accounts in
-    let there : IsTrue (has_group l.groups c.args.g) = subst (λ (k : Ledger). IsTrue (has_group k.groups c.args.g)) (sym c.self.view_is) c.requires.there in
-    let charged : c.args.n ≤ pages_of l c.args.g = subst (λ k. c.args.n ≤ pages_of k c.args.g) (sym c.self.view_is) c.requires.charged in
-    kept_as _ _ _ (with_uncharge l c.args.g c.args.n) (returns-clause-uncharged c ∙ ap (λ k. with_uncharge k c.args.g c.args.n) (sym c.self.view_is))
-    (AreCharges-taken l c.args.g c.args.n c.self.invariant.charges) (length-set c.self.inside.accounts c.number.result _ ∙ c.self.invariant.size)
-    (stored_taken l c.self.inside.usages c.take_off.new.usages c.args.g c.args.n c.self.invariant.charges there charged c.self.invariant.usages_are
+    let there : IsTrue (has_group l.groups c.args.group) = subst (λ (k : Ledger). IsTrue (has_group k.groups c.args.group)) (sym c.self.view_is) c.requires.there in
+    let charged : c.args.pages ≤ pages_of l c.args.group = subst (λ k. c.args.pages ≤ pages_of k c.args.group) (sym c.self.view_is) c.requires.charged in
+    kept_as _ _ _ (with_uncharge l c.args.group c.args.pages) (returns-clause-uncharged c ∙ ap (λ k. with_uncharge k c.args.group c.args.pages) (sym c.self.view_is))
+    (AreCharges-taken l c.args.group c.args.pages c.self.invariant.charges) (length-set c.self.inside.accounts c.number.result _ ∙ c.self.invariant.size)
+    (stored_taken l c.self.inside.usages c.take_off.new.usages c.args.group c.args.pages c.self.invariant.charges there charged c.self.invariant.usages_are
     c.take_off.ensures.size c.take_off.ensures.taken)
 
 pub returns-clause-usage : goal.returns-clause-usage
 returns-clause-usage c =
-    subst (λ l. UsageRises l c.args.self.now c.args.g c.args.n) (sym (returns-clause-uncharged c))
-    (uncharge_falls c.args.self.now c.args.g c.args.n (subst AreCharges c.self.view_is c.self.invariant.charges) c.requires.there c.requires.charged)
+    subst (λ l. UsageRises l c.args.self.now c.args.group c.args.pages) (sym (returns-clause-uncharged c))
+    (uncharge_falls c.args.self.now c.args.group c.args.pages (subst AreCharges c.self.view_is c.self.invariant.charges) c.requires.there c.requires.charged)
 
 pub returns-clause-pages : goal.returns-clause-pages
 returns-clause-pages c =
-    subst (λ l. PagesRise l c.args.self.now c.args.g c.args.n) (sym (returns-clause-uncharged c))
-    (uncharge_pages c.args.self.now c.args.g c.args.n c.requires.charged)
+    subst (λ l. PagesRise l c.args.self.now c.args.group c.args.pages) (sym (returns-clause-uncharged c))
+    (uncharge_pages c.args.self.now c.args.group c.args.pages c.requires.charged)
 
 pub returns-clause-peaks : goal.returns-clause-peaks
-returns-clause-peaks c = subst (SamePeaks c.args.self.now) (sym (returns-clause-uncharged c)) (uncharge_peaks c.args.self.now c.args.g c.args.n)
+returns-clause-peaks c = subst (SamePeaks c.args.self.now) (sym (returns-clause-uncharged c)) (uncharge_peaks c.args.self.now c.args.group c.args.pages)
 
 pub returns-clause-events : goal.returns-clause-events
-returns-clause-events c = subst (SameEvents c.args.self.now) (sym (returns-clause-uncharged c)) (uncharge_events c.args.self.now c.args.g c.args.n)
+returns-clause-events c = subst (SameEvents c.args.self.now) (sym (returns-clause-uncharged c)) (uncharge_events c.args.self.now c.args.group c.args.pages)
