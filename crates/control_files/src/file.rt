@@ -88,21 +88,21 @@ impl File {
 
 /// The text of a file of a group that exists. `NoFile` for the root, which has no files; `WriteOnly` for
 /// memory.reclaim, which can't be read.
-pub fn file_text(charges: &Charges, g: GroupId, file: File) -> Result<ArrayText, Fault>
-    requires { IsTrue (has_group charges.now.groups g) }
-    ensures root { g ≡ 0 → result ≡ Err Fault.NoFile }
-    ensures text { g ≢ 0 → result ≡ file_text charges.now g file }
+pub fn file_text(charges: &Charges, group: GroupId, file: File) -> Result<ArrayText, Fault>
+    requires { IsTrue (has_group charges.now.groups group) }
+    ensures root { group ≡ 0 → result ≡ Err Fault.NoFile }
+    ensures text { group ≢ 0 → result ≡ file_text charges.now group file }
 {
-    if g == GroupId::root() {
+    if group == GroupId::root() {
         return Err(Fault::NoFile);
     }
     match file {
-        File::Current => Ok(pages_text(charges.current(g))),
-        File::Max => Ok(write_limit(charges.max(g))),
-        File::Peak => Ok(pages_text(charges.peak(g))),
-        File::Events => Ok(events_text(charges.events(g))),
-        File::EventsLocal => Ok(events_text(charges.events_local(g))),
-        File::OomGroup => Ok(write_flag(charges.oom_group(g))),
+        File::Current => Ok(pages_text(charges.current(group))),
+        File::Max => Ok(write_limit(charges.max(group))),
+        File::Peak => Ok(pages_text(charges.peak(group))),
+        File::Events => Ok(events_text(charges.events(group))),
+        File::EventsLocal => Ok(events_text(charges.events_local(group))),
+        File::OomGroup => Ok(write_flag(charges.oom_group(group))),
         File::Reclaim => Err(Fault::WriteOnly),
     }
 }
