@@ -14,23 +14,23 @@ pub fn groups_tell(rt: &impl Abort, is: bool) {
 }
 
 /// The group exists, or the test fails.
-pub fn group_stands(rt: &impl Abort, tree: &Tree, g: GroupId)
-    ensures { IsTrue (has_group tree.now g) }
+pub fn group_stands(rt: &impl Abort, tree: &Tree, group: GroupId)
+    ensures { IsTrue (has_group tree.now group) }
 {
-    assert!(rt; tree.contains(g));
+    assert!(rt; tree.contains(group));
 }
 
-/// Charges n pages to the group, with this answer. A refusal is noted at the group whose limit is exceeded.
+/// Charges the pages to the group, with this answer. A refusal is noted at the group whose limit is exceeded.
 pub fn charge_pages(
     rt: &impl Abort,
     charges: &mut Charges,
-    g: GroupId,
-    n: u32,
+    group: GroupId,
+    pages: u32,
     answer: Result<(), Over>,
 ) {
-    group_stands(rt, charges.tree(), g);
-    assert!(rt; charges.fits(n));
-    groups_tell(rt, charges.try_charge(g, n) == answer);
+    group_stands(rt, charges.tree(), group);
+    assert!(rt; charges.fits(pages));
+    groups_tell(rt, charges.try_charge(group, pages) == answer);
     if let Err(over) = answer {
         group_stands(rt, charges.tree(), over.group);
         charges.note_max(over.group);
