@@ -22,13 +22,14 @@ use zone_blocks::areas::FreeAreas;
 use zone_blocks::block::Block;
 use zone_blocks::order::Order;
 
-/// Sets the phases of n frames from `at` on.
-fn set_range(phases: &mut Vec<Phase>, at: usize, n: usize, phase: Phase)
-    requires { at + n ≤ vec_len phases.old }
-    ensures range { phases.new.items ≡ take at phases.old.items ++ replicate n phase ++ drop (at + n) phases.old.items }
+/// Sets the phases of this many frames from `at` on.
+fn set_range(phases: &mut Vec<Phase>, at: usize, count: usize, phase: Phase)
+    requires { at + count ≤ vec_len phases.old }
+    ensures range { phases.new.items
+        ≡ take at phases.old.items ++ replicate count phase ++ drop (at + count) phases.old.items }
     ensures size { vec_len phases.new ≡ vec_len phases.old }
 {
-    phases[at..at + n].fill(phase);
+    phases[at..at + count].fill(phase);
 }
 
 /// Makes the frames of a block a newly placed unit of a group: the first its head, the others its tails.
@@ -66,23 +67,28 @@ fn free_unit(rows: &mut Rows, frame: u32)
 {
     let left = rows.frames - frame;
     let size = unit_size(rows.phase(frame));
-    let n = size.min(left);
-    set_range(&mut rows.phases, frame as usize, n as usize, Phase::InZone);
+    let frames = size.min(left);
+    set_range(
+        &mut rows.phases,
+        frame as usize,
+        frames as usize,
+        Phase::InZone,
+    );
 }
 
 /// Places pending pages of a group on the front of the smallest sufficient free block, if there is one.
 pub(crate) fn place_block(
     rows: &mut Rows,
     areas: &FreeAreas,
-    _seat: u32,
+    seat: u32,
     group: GroupId,
     order: Order,
 ) -> Answer
     requires fits { FitsZone rows.old }
     requires bounded { IsBelowBounds (state_in rows.old) }
-    requires legal { is_legal (state_in rows.old) _seat (Action.PlaceBlock group order) ≡ true }
+    requires legal { is_legal (state_in rows.old) seat (Action.PlaceBlock group order) ≡ true }
     requires areas { AreMaximalBlocks (free_in (state_in rows.old).zone (state_in rows.old).phases) areas.now.blocks }
-    ensures made { Makes rows.old _seat (Action.PlaceBlock group order) result rows.new }
+    ensures made { Makes rows.old seat (Action.PlaceBlock group order) result rows.new }
     ensures front { PlacesFront areas.now.blocks (Action.PlaceBlock group order) result }
 {
     match free_block(rows, areas, order) {
@@ -122,11 +128,11 @@ pub(crate) fn charge_block(rows: &mut Rows, group: GroupId, block: &Block)
 }
 
 /// Returns the frames of a unit.
-pub(crate) fn return_unit(rows: &mut Rows, _seat: u32, frame: u32) -> Answer
+pub(crate) fn return_unit(rows: &mut Rows, seat: u32, frame: u32) -> Answer
     requires fits { FitsZone rows.old }
     requires bounded { IsBelowBounds (state_in rows.old) }
-    requires legal { is_legal (state_in rows.old) _seat (Action.Return frame) ≡ true }
-    ensures made { Makes rows.old _seat (Action.Return frame) result rows.new }
+    requires legal { is_legal (state_in rows.old) seat (Action.Return frame) ≡ true }
+    ensures made { Makes rows.old seat (Action.Return frame) result rows.new }
 {
     free_unit(rows, frame);
     Answer::Done

@@ -12,11 +12,11 @@ use step_rules::phase::{Phase, Way};
 use step_rules::step::Answer;
 
 /// The zone passes a free frame to the CPU.
-pub(crate) fn pass_out(rows: &mut Rows, _seat: u32, frame: u32, cpu: u32) -> Answer
+pub(crate) fn pass_out(rows: &mut Rows, seat: u32, frame: u32, cpu: u32) -> Answer
     requires fits { FitsZone rows.old }
     requires bounded { IsBelowBounds (state_in rows.old) }
-    requires legal { is_legal (state_in rows.old) _seat (Action.PassOut frame cpu) ≡ true }
-    ensures made { Makes rows.old _seat (Action.PassOut frame cpu) result rows.new }
+    requires legal { is_legal (state_in rows.old) seat (Action.PassOut frame cpu) ≡ true }
+    ensures made { Makes rows.old seat (Action.PassOut frame cpu) result rows.new }
 {
     rows.set_phase(
         frame,
@@ -61,11 +61,11 @@ pub(crate) fn pass_back(rows: &mut Rows, seat: u32, frame: u32) -> Answer
 }
 
 /// The zone takes a frame that was passed back.
-pub(crate) fn collect(rows: &mut Rows, _seat: u32, frame: u32, _cpu: u32) -> Answer
+pub(crate) fn collect(rows: &mut Rows, seat: u32, frame: u32, cpu: u32) -> Answer
     requires fits { FitsZone rows.old }
     requires bounded { IsBelowBounds (state_in rows.old) }
-    requires legal { is_legal (state_in rows.old) _seat (Action.Collect frame _cpu) ≡ true }
-    ensures made { Makes rows.old _seat (Action.Collect frame _cpu) result rows.new }
+    requires legal { is_legal (state_in rows.old) seat (Action.Collect frame cpu) ≡ true }
+    ensures made { Makes rows.old seat (Action.Collect frame cpu) result rows.new }
 {
     let phase = collected(rows.phase(frame));
     rows.set_phase(frame, phase);

@@ -220,14 +220,14 @@ fn may_note_group_kill(rows: &Rows, seat: u32, group: GroupId) -> bool
     may_change_group(rows, seat, group)
 }
 
-fn may_set_max(rows: &Rows, seat: u32, group: GroupId, _limit: Option<u32>) -> bool
-    ensures { result ≡ is_legal (state_in rows.now) seat (Action.SetMax group _limit) }
+fn may_set_max(rows: &Rows, seat: u32, group: GroupId, limit: Option<u32>) -> bool
+    ensures { result ≡ is_legal (state_in rows.now) seat (Action.SetMax group limit) }
 {
     may_change_group(rows, seat, group)
 }
 
-fn may_set_flag(rows: &Rows, seat: u32, group: GroupId, _oom_group: bool) -> bool
-    ensures { result ≡ is_legal (state_in rows.now) seat (Action.SetFlag group _oom_group) }
+fn may_set_flag(rows: &Rows, seat: u32, group: GroupId, oom_group: bool) -> bool
+    ensures { result ≡ is_legal (state_in rows.now) seat (Action.SetFlag group oom_group) }
 {
     may_change_group(rows, seat, group)
 }

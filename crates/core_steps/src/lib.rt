@@ -1,5 +1,5 @@
 //! The 31 actions of the rules over the rows of the core: which may be made, what each is answered, and what it
-//! changes.
+//! changes. Some functions use a parameter, such as the seat, in their contract alone.
 #![tactic(auto)]
 
 pub mod blocks;

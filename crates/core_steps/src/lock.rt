@@ -22,33 +22,33 @@ pub(crate) fn lock(rows: &mut Rows, seat: u32) -> Answer
 }
 
 /// The CPU releases the lock.
-pub(crate) fn unlock(rows: &mut Rows, _seat: u32) -> Answer
+pub(crate) fn unlock(rows: &mut Rows, seat: u32) -> Answer
     requires fits { FitsZone rows.old }
     requires bounded { IsBelowBounds (state_in rows.old) }
-    requires legal { is_legal (state_in rows.old) _seat Action.Unlock ≡ true }
-    ensures made { Makes rows.old _seat Action.Unlock result rows.new }
+    requires legal { is_legal (state_in rows.old) seat Action.Unlock ≡ true }
+    ensures made { Makes rows.old seat Action.Unlock result rows.new }
 {
     rows.set_hold(Hold::Unheld);
     Answer::Done
 }
 
 /// The zone opens a visit of the CPU.
-pub(crate) fn open_visit(rows: &mut Rows, _seat: u32, cpu: u32) -> Answer
+pub(crate) fn open_visit(rows: &mut Rows, seat: u32, cpu: u32) -> Answer
     requires fits { FitsZone rows.old }
     requires bounded { IsBelowBounds (state_in rows.old) }
-    requires legal { is_legal (state_in rows.old) _seat (Action.OpenVisit cpu) ≡ true }
-    ensures made { Makes rows.old _seat (Action.OpenVisit cpu) result rows.new }
+    requires legal { is_legal (state_in rows.old) seat (Action.OpenVisit cpu) ≡ true }
+    ensures made { Makes rows.old seat (Action.OpenVisit cpu) result rows.new }
 {
     rows.set_hold(Hold::Visiting(cpu));
     Answer::Done
 }
 
 /// The zone shuts the visit.
-pub(crate) fn shut_visit(rows: &mut Rows, _seat: u32, cpu: u32) -> Answer
+pub(crate) fn shut_visit(rows: &mut Rows, seat: u32, cpu: u32) -> Answer
     requires fits { FitsZone rows.old }
     requires bounded { IsBelowBounds (state_in rows.old) }
-    requires legal { is_legal (state_in rows.old) _seat (Action.ShutVisit cpu) ≡ true }
-    ensures made { Makes rows.old _seat (Action.ShutVisit cpu) result rows.new }
+    requires legal { is_legal (state_in rows.old) seat (Action.ShutVisit cpu) ≡ true }
+    ensures made { Makes rows.old seat (Action.ShutVisit cpu) result rows.new }
 {
     rows.set_hold(Hold::HeldBy(cpu));
     Answer::Done

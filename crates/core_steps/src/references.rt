@@ -53,13 +53,13 @@ pub(crate) fn put(rows: &mut Rows, seat: u32, frame: u32) -> Answer
 }
 
 /// The zone gives up the last reference.
-pub(crate) fn put_last(rows: &mut Rows, _seat: u32, frame: u32) -> Answer
+pub(crate) fn put_last(rows: &mut Rows, seat: u32, frame: u32) -> Answer
     requires fits { FitsZone rows.old }
     requires bounded { IsBelowBounds (state_in rows.old) }
-    requires legal { is_legal (state_in rows.old) _seat (Action.Put frame) ≡ true }
+    requires legal { is_legal (state_in rows.old) seat (Action.Put frame) ≡ true }
     requires last { live_references (state_in rows.old) frame ≡ 1 }
-    requires zone { _seat ≡ 0 }
-    ensures made { Makes rows.old _seat (Action.Put frame) result rows.new }
+    requires zone { seat ≡ 0 }
+    ensures made { Makes rows.old seat (Action.Put frame) result rows.new }
 {
     let count = rows.references(0, frame) - 1;
     let phase = at_stage(Stage::Ended, rows.phase(frame));
@@ -86,11 +86,11 @@ pub(crate) fn put_last_at(rows: &mut Rows, seat: u32, frame: u32) -> Answer
 }
 
 /// The zone removes all references on a frame, if they are exactly this many.
-pub(crate) fn freeze(rows: &mut Rows, _seat: u32, frame: u32, count: u32) -> Answer
+pub(crate) fn freeze(rows: &mut Rows, seat: u32, frame: u32, count: u32) -> Answer
     requires fits { FitsZone rows.old }
     requires bounded { IsBelowBounds (state_in rows.old) }
-    requires legal { is_legal (state_in rows.old) _seat (Action.Freeze frame count) ≡ true }
-    ensures made { Makes rows.old _seat (Action.Freeze frame count) result rows.new }
+    requires legal { is_legal (state_in rows.old) seat (Action.Freeze frame count) ≡ true }
+    ensures made { Makes rows.old seat (Action.Freeze frame count) result rows.new }
 {
     if rows.live_references(frame) != count {
         return Answer::Missed;
@@ -103,11 +103,11 @@ pub(crate) fn freeze(rows: &mut Rows, _seat: u32, frame: u32, count: u32) -> Ans
 }
 
 /// The zone puts references on the head of a unit.
-pub(crate) fn unfreeze(rows: &mut Rows, _seat: u32, frame: u32, count: u32) -> Answer
+pub(crate) fn unfreeze(rows: &mut Rows, seat: u32, frame: u32, count: u32) -> Answer
     requires fits { FitsZone rows.old }
     requires bounded { IsBelowBounds (state_in rows.old) }
-    requires legal { is_legal (state_in rows.old) _seat (Action.Unfreeze frame count) ≡ true }
-    ensures made { Makes rows.old _seat (Action.Unfreeze frame count) result rows.new }
+    requires legal { is_legal (state_in rows.old) seat (Action.Unfreeze frame count) ≡ true }
+    ensures made { Makes rows.old seat (Action.Unfreeze frame count) result rows.new }
 {
     let more = rows.references(0, frame) + count;
     let phase = at_stage(Stage::Live, rows.phase(frame));
@@ -117,11 +117,11 @@ pub(crate) fn unfreeze(rows: &mut Rows, _seat: u32, frame: u32, count: u32) -> A
 }
 
 /// The zone keeps the head of a unit; here that changes nothing.
-pub(crate) fn publish(rows: &mut Rows, _seat: u32, _frame: u32) -> Answer
+pub(crate) fn publish(rows: &mut Rows, seat: u32, frame: u32) -> Answer
     requires fits { FitsZone rows.old }
     requires bounded { IsBelowBounds (state_in rows.old) }
-    requires legal { is_legal (state_in rows.old) _seat (Action.Publish _frame) ≡ true }
-    ensures made { Makes rows.old _seat (Action.Publish _frame) result rows.new }
+    requires legal { is_legal (state_in rows.old) seat (Action.Publish frame) ≡ true }
+    ensures made { Makes rows.old seat (Action.Publish frame) result rows.new }
 {
     Answer::Done
 }

@@ -99,22 +99,22 @@ pub(crate) fn report(rows: &mut Rows, seat: u32, pages: u32) -> Answer
 }
 
 /// The zone takes what the visited CPU reported off the CPU's book.
-pub(crate) fn absorb(rows: &mut Rows, _seat: u32, cpu: u32) -> Answer
+pub(crate) fn absorb(rows: &mut Rows, seat: u32, cpu: u32) -> Answer
     requires fits { FitsZone rows.old }
     requires bounded { IsBelowBounds (state_in rows.old) }
-    requires legal { is_legal (state_in rows.old) _seat (Action.Absorb cpu) ≡ true }
-    ensures made { Makes rows.old _seat (Action.Absorb cpu) result rows.new }
+    requires legal { is_legal (state_in rows.old) seat (Action.Absorb cpu) ≡ true }
+    ensures made { Makes rows.old seat (Action.Absorb cpu) result rows.new }
 {
     let pages = rows.absorb_pages(cpu);
     Answer::Pages(pages)
 }
 
 /// The zone fills the visited CPU's stock with pending pages.
-pub(crate) fn fill(rows: &mut Rows, _seat: u32, cpu: u32, group: GroupId, pages: u32) -> Answer
+pub(crate) fn fill(rows: &mut Rows, seat: u32, cpu: u32, group: GroupId, pages: u32) -> Answer
     requires fits { FitsZone rows.old }
     requires bounded { IsBelowBounds (state_in rows.old) }
-    requires legal { is_legal (state_in rows.old) _seat (Action.Fill cpu group pages) ≡ true }
-    ensures made { Makes rows.old _seat (Action.Fill cpu group pages) result rows.new }
+    requires legal { is_legal (state_in rows.old) seat (Action.Fill cpu group pages) ≡ true }
+    ensures made { Makes rows.old seat (Action.Fill cpu group pages) result rows.new }
 {
     let left = rows.pending(group) - u128::from(pages);
     rows.set_pending(group, left);
@@ -123,11 +123,11 @@ pub(crate) fn fill(rows: &mut Rows, _seat: u32, cpu: u32, group: GroupId, pages:
 }
 
 /// The zone drains all pages from a CPU's stock; they are pending then.
-pub(crate) fn drain_stock(rows: &mut Rows, _seat: u32, cpu: u32) -> Answer
+pub(crate) fn drain_stock(rows: &mut Rows, seat: u32, cpu: u32) -> Answer
     requires fits { FitsZone rows.old }
     requires bounded { IsBelowBounds (state_in rows.old) }
-    requires legal { is_legal (state_in rows.old) _seat (Action.DrainStock cpu) ≡ true }
-    ensures made { Makes rows.old _seat (Action.DrainStock cpu) result rows.new }
+    requires legal { is_legal (state_in rows.old) seat (Action.DrainStock cpu) ≡ true }
+    ensures made { Makes rows.old seat (Action.DrainStock cpu) result rows.new }
 {
     let of = rows.stock_group(cpu);
     let pages = rows.drain_stock(cpu);
