@@ -8,7 +8,7 @@ use Rattle.step_rules.specs.declared.step.Action.TheVariants.{Put, Return}
 use Rattle.step_rules.specs.declared.step.Answer.TheVariants.{Done, Last}
 use Rattle.step_rules.specs.Phases.{at_stage, passed_back, collected}
 use Rattle.step_rules.specs.State.{State, with_at}
-use Rattle.step_rules.specs.Returns.{is_drop_phase}
+use Rattle.step_rules.specs.Returns.{is_killed_return_phase}
 use Rattle.step_rules.specs.After.{after}
 use Rattle.step_rules.proofs.Basics.{at_same}
 use Rattle.mem_machine.specs.declared.counts.Counts.{Counts}
@@ -33,16 +33,16 @@ module _ (s : State) (f : ℕ) (x : Phase) (is : s.phases f ≡ x) where
   collects_none other counts = sym (ap (λ (b : Bool). cond b (with_one_put_last counts) counts) (ap is_back_passing passed_at ∙ other))
 
   -- a unit whose head is passed back, collected and returned
-  pub comes_back : (is_back is_drop : Bool) → is_back_passing (passed_back x) ≡ is_back → is_drop_phase s.killed (collected (passed_back x)) ≡ is_drop → (counts : Counts)
-      → (let here = cond is_back (with_one_put_last counts) counts in cond is_drop (with_drop here) (with_one_returned here))
+  pub comes_back : (is_back is_killed_return : Bool) → is_back_passing (passed_back x) ≡ is_back → is_killed_return_phase s.killed (collected (passed_back x)) ≡ is_killed_return → (counts : Counts)
+      → (let here = cond is_back (with_one_put_last counts) counts in cond is_killed_return (with_drop here) (with_one_returned here))
       ≡ (let here = cond (is_back_passing (passed f)) (with_one_put_last counts) counts in
-      cond (is_drop_phase s.killed (with_at passed f (collected (passed f)) f)) (with_drop here) (with_one_returned here))
-  comes_back is_back is_drop back drop counts = λ i.
+      cond (is_killed_return_phase s.killed (with_at passed f (collected (passed f)) f)) (with_drop here) (with_one_returned here))
+  comes_back is_back is_killed_return back drop counts = λ i.
       let here = cond (sym (ap is_back_passing passed_at ∙ back) i) (with_one_put_last counts) counts in
-      cond (sym (ap (is_drop_phase s.killed) collected_at ∙ drop) i) (with_drop here) (with_one_returned here)
+      cond (sym (ap (is_killed_return_phase s.killed) collected_at ∙ drop) i) (with_drop here) (with_one_returned here)
 
 -- a unit that ended is no drop
-no_drop : (killed : ℕ → Bool) (x : Phase) → is_drop_phase killed (at_stage Ended x) ≡ false
+no_drop : (killed : ℕ → Bool) (x : Phase) → is_killed_return_phase killed (at_stage Ended x) ≡ false
 no_drop killed phase.InZone = refl
 no_drop killed (phase.Lent q way) = refl
 no_drop killed (phase.Head unit stage) = refl
@@ -51,4 +51,4 @@ no_drop killed (phase.Tail g) = refl
 -- the return of a unit of which the zone had the last reference
 pub returned_ended : (s : State) (f : ℕ) (counts : Counts) → counts_after (after s 0 (Put f) Last) 0 (Return f) Done counts ≡ with_one_returned counts
 returned_ended s f counts = ap (λ (b : Bool). cond b (with_drop counts) (with_one_returned counts))
-    (ap (is_drop_phase s.killed) (at_same s.phases f (at_stage Ended (s.phases f))) ∙ no_drop s.killed (s.phases f))
+    (ap (is_killed_return_phase s.killed) (at_same s.phases f (at_stage Ended (s.phases f))) ∙ no_drop s.killed (s.phases f))

@@ -10,7 +10,7 @@ use Rattle.step_rules.specs.declared.step.Action.TheVariants.{Put, Freeze, Colle
 use Rattle.step_rules.specs.declared.step.Answer.{Answer}
 use Rattle.step_rules.specs.declared.step.Answer.TheVariants.{Done, Last, Missed}
 use Rattle.step_rules.specs.State.{State}
-use Rattle.step_rules.specs.Returns.{is_drop_phase}
+use Rattle.step_rules.specs.Returns.{is_killed_return_phase}
 use Rattle.step_rules.specs.After.{Run, after}
 use Rattle.mem_machine.specs.declared.counts.Counts.{Counts}
 use Rattle.mem_machine.specs.Counts.{with_drop, with_miss}
@@ -47,7 +47,7 @@ counts_after state seat (Collect frame cpu) Done counts =
 counts_after state seat (Freeze frame references) Done counts = with_one_frozen counts
 counts_after state seat (Freeze frame references) Missed counts = with_miss counts
 counts_after state seat (Return frame) Done counts =
-    if is_drop_phase state.killed (state.phases frame) then with_drop counts else with_one_returned counts
+    if is_killed_return_phase state.killed (state.phases frame) then with_drop counts else with_one_returned counts
 counts_after state seat action answer counts = counts
 
 -- the counts after all steps of a list, the first of which is made in this state

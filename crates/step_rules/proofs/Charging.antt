@@ -31,7 +31,7 @@ use Rattle.step_rules.proofs.LegalTests.{place_block_tests, return_tests, take_i
 use Rattle.step_rules.proofs.Basics.{at_itself}
 use Rattle.step_rules.proofs.Sums.{sum_same, sum_none, sum_both}
 use Rattle.step_rules.proofs.Sound.{IsSound, PhasePaid, groups_in}
-use Rattle.step_rules.proofs.PhaseLemmas.{fresh_is, free_is, out_is, listed_is, returning_is, Returns, AsEnded, AsDrop, equal_test, none_some}
+use Rattle.step_rules.proofs.PhaseLemmas.{fresh_is, free_is, out_is, listed_is, returning_is, Returns, AsEnded, AsKilled, equal_test, none_some}
 use Rattle.step_rules.proofs.SoundSteps.{below_frames}
 use Rattle.step_rules.proofs.Passing.{front_listed, in_zone}
 use Rattle.step_rules.proofs.Placing.{within_cases, block_free, in_block, off_block, in_unit, off_unit}
@@ -191,7 +191,7 @@ any_unit_goes : (groups : List Group) (m : ℕ) (s : State) (f : ℕ) → IsSoun
     frames_kept groups s.phases s.zone.frames m
     ≡ frames_kept groups (without_unit s.phases f) s.zone.frames m + unit_pages (in_subtree groups m) (unit_of (s.phases f))
 any_unit_goes groups m s f sound (AsEnded u was) = unit_goes groups m s f u sound (ap unit_of was) (ap keeper_of was)
-any_unit_goes groups m s f sound (AsDrop u was killed) = unit_goes groups m s f u sound (ap unit_of was) (ap keeper_of was)
+any_unit_goes groups m s f sound (AsKilled u was killed) = unit_goes groups m s f u sound (ap unit_of was) (ap keeper_of was)
 
 -- a stock is drained
 drain_moves : (groups : List Group) (m : ℕ) (s : State) (p n : ℕ) → IsHomed s → n ≡ (s.parts p).stock.pages → (o : Option ℕ) → (s.parts p).stock.group ≡ o →

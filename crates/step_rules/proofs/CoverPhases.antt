@@ -15,7 +15,7 @@ use Rattle.step_rules.specs.After.{with_block, placed_phase, is_within, without_
 use Rattle.step_rules.specs.Cover.{hide_phase}
 use Rattle.step_rules.proofs.Basics.{at_through, cond-ap}
 use Rattle.step_rules.proofs.PhaseLemmas.{by_kind, InHand, WasCollected, WasBare, WasEnded, CameBack, FromList, FromFresh, FromBack}
-use Rattle.step_rules.proofs.PhaseLemmas.{Returns, AsEnded, AsDrop, listed_is, fresh_is, back_is}
+use Rattle.step_rules.proofs.PhaseLemmas.{Returns, AsEnded, AsKilled, listed_is, fresh_is, back_is}
 
 at_cond : {Y : Type 0} (T : Phase → Y) (b : Bool) (x y : Phase) → T y ≡ T x → T (cond b x y) ≡ T x
 at_cond T true x y e = refl
@@ -135,7 +135,7 @@ block_seen p phases g b = λ i. λ x. (cond-ap (hide_phase p) (is_within b.at (2
 
 returned_unit : (p : ℕ) (killed : ℕ → Bool) (x : Phase) → Returns killed x → unit_of (hide_phase p x) ≡ unit_of x
 returned_unit p killed x (AsEnded u e) = ap (λ y. unit_of (hide_phase p y)) e ∙ sym (ap unit_of e)
-returned_unit p killed x (AsDrop u e k) = ap (λ y. unit_of (hide_phase p y)) e ∙ sym (ap unit_of e)
+returned_unit p killed x (AsKilled u e k) = ap (λ y. unit_of (hide_phase p y)) e ∙ sym (ap unit_of e)
 
 pub unit_seen : (p : ℕ) (killed : ℕ → Bool) (phases : ℕ → Phase) (f : ℕ) → Returns killed (phases f) →
     (λ (x : ℕ). hide_phase p (without_unit phases f x)) ≡ without_unit (λ x. hide_phase p (phases x)) f

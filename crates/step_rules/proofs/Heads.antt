@@ -22,7 +22,7 @@ use Rattle.step_rules.specs.After.{Run, IsLegalRun, after, state_of, is_within, 
 use Rattle.step_rules.proofs.LegalTests.{consume_tests, credit_tests, pass_out_tests, return_tests, take_in_tests}
 use Rattle.step_rules.proofs.Basics.{at_same, at_other}
 use Rattle.step_rules.proofs.Sound.{IsSound, PhasePaid, groups_in}
-use Rattle.step_rules.proofs.PhaseLemmas.{free_is, out_is, listed_is, fresh_is, none_some, returning_is, Returns, AsEnded, AsDrop}
+use Rattle.step_rules.proofs.PhaseLemmas.{free_is, out_is, listed_is, fresh_is, none_some, returning_is, Returns, AsEnded, AsKilled}
 use Rattle.step_rules.proofs.Passing.{front_listed}
 use Rattle.step_rules.proofs.Placing.{within_cases, block_free, in_block, off_block, in_unit, off_unit}
 use Rattle.step_rules.proofs.LocalLaws.{no_illegal}
@@ -175,7 +175,7 @@ heads_returned s k u sound unit heads f g is =
 
 any_returned : (s : State) (k : ℕ) → IsSound s → Returns s.killed (s.phases k) → HaveHeads s.phases → HaveHeads (without_unit s.phases k)
 any_returned s k sound (AsEnded u was) = heads_returned s k u sound (ap unit_of was)
-any_returned s k sound (AsDrop u was killed) = heads_returned s k u sound (ap unit_of was)
+any_returned s k sound (AsKilled u was killed) = heads_returned s k u sound (ap unit_of was)
 
 heads_made : (s : State) (x : ℕ) (seat : ℕ) (action : Action) (answer : Answer) → IsSound s → HaveHeads s.phases → IsMade s seat action answer →
     HaveHeads (after s seat action answer).phases

@@ -77,11 +77,11 @@ in_hand x e = absurd (false≢true e)
 -- a unit that may come back is ended, or was collected fresh and its group is killed
 pub data Returns (killed : ℕ → Bool) (x : Phase) : Type 0 where
   AsEnded : (u : ChargedUnit) → x ≡ Head u Ended → Returns killed x
-  AsDrop : (u : ChargedUnit) → x ≡ Head u Collected → killed u.group ≡ true → Returns killed x
+  AsKilled : (u : ChargedUnit) → x ≡ Head u Collected → killed u.group ≡ true → Returns killed x
 
 pub returning_is : (killed : ℕ → Bool) (x : Phase) → may_return killed x ≡ true → Returns killed x
 returning_is killed (Head u Ended) e = AsEnded u refl
-returning_is killed (Head u Collected) e = AsDrop u refl e
+returning_is killed (Head u Collected) e = AsKilled u refl e
 returning_is killed x e = absurd (false≢true e)
 
 -- no CPU but p has the frame

@@ -27,7 +27,7 @@ use Rattle.step_rules.proofs.LegalTests.{collect_tests, consume_tests, credit_te
 use Rattle.step_rules.proofs.Basics.{at_same, at_other, at_each}
 use Rattle.step_rules.proofs.Sound.{IsSound}
 use Rattle.step_rules.proofs.PhaseLemmas.{free_is, out_is, listed_is, fresh_is, came_back, CameBack, FromList, FromFresh, FromBack}
-use Rattle.step_rules.proofs.PhaseLemmas.{returning_is, Returns, AsEnded, AsDrop}
+use Rattle.step_rules.proofs.PhaseLemmas.{returning_is, Returns, AsEnded, AsKilled}
 use Rattle.step_rules.proofs.Passing.{front_listed, in_zone}
 use Rattle.step_rules.proofs.Placing.{within_cases, block_free, in_block, off_block, in_unit, off_unit}
 use Rattle.step_rules.proofs.Runs.{after_illegal}
@@ -144,7 +144,7 @@ returns_told s places f u stage sound told was =
 any_return_told : (s : State) (places : Places) (f : ℕ) → IsSound s → AreTold s.zone s.phases places → Returns s.killed (s.phases f) →
     AreTold s.zone (without_unit s.phases f) (returned places f (unit_of (s.phases f)))
 any_return_told s places f sound told (AsEnded u was) = returns_told s places f u Ended sound told was
-any_return_told s places f sound told (AsDrop u was killed) = returns_told s places f u Collected sound told was
+any_return_told s places f sound told (AsKilled u was killed) = returns_told s places f u Collected sound told was
 
 placed_place : (g : ℕ) (b : Block) (x : ℕ) → place_in (placed_phase g b x) ≡ Charged g
 placed_place g b x = by_head (x == b.at)

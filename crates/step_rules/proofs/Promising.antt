@@ -31,7 +31,7 @@ use Rattle.step_rules.specs.After.{Run, state_of, IsLegalRun}
 use Rattle.step_rules.specs.Folds.{limit_given, was_killed, InHand}
 use Rattle.step_rules.specs.Units.{units_of}
 use Rattle.step_rules.specs.Places.{is_same_frame_place, place_in}
-use Rattle.step_rules.specs.Returns.{is_open, is_drop_phase, times_in, IsAllPlaced, ReturnsOnce}
+use Rattle.step_rules.specs.Returns.{is_open, is_killed_return_phase, times_in, IsAllPlaced, ReturnsOnce}
 use Rattle.step_rules.specs.Charges.{charged_below}
 use Rattle.step_rules.specs.Keepers.{StockIsKept}
 use Rattle.step_rules.specs.Lent.{lent_to}
@@ -39,7 +39,7 @@ use Rattle.step_rules.specs.Promise.{Shown, IsShown, Has, HasOnce, IsInUnit, IsI
 use Rattle.step_rules.specs.Promise.{HasNoReference, IsUnused, ComesBackOnce, ThePromiseIsKept}
 use Rattle.step_rules.proofs.LegalTests.{consume_tests, credit_tests, grant_tests, return_tests, unfreeze_tests}
 use Rattle.step_rules.proofs.Lists.{one_if_true}
-use Rattle.step_rules.proofs.PhaseLemmas.{free_is, live_is, listed_is, fresh_is, held_live, none_some, returning_is, Returns, AsEnded, AsDrop}
+use Rattle.step_rules.proofs.PhaseLemmas.{free_is, live_is, listed_is, fresh_is, held_live, none_some, returning_is, Returns, AsEnded, AsKilled}
 use Rattle.step_rules.proofs.PhaseLemmas.{in_hand, InHand as Hand, WasCollected, WasBare, WasEnded}
 use Rattle.step_rules.proofs.Referring.{live_from_references}
 use Rattle.step_rules.proofs.Passing.{front_listed}
@@ -311,8 +311,8 @@ returns_kept zone run legal seat (Return f) Done ok =
       unit_told zone run legal f u was,
       no_reference zone run legal f (ap is_live was),
     )
-    came_back back may (AsDrop u was killed) = (
-      inr (back.drop seat may ∙ ap (is_drop_phase (state_of zone run).killed) was ∙ killed),
+    came_back back may (AsKilled u was killed) = (
+      inr (back.killed_return seat may ∙ ap (is_killed_return_phase (state_of zone run).killed) was ∙ killed),
       unit_told zone run legal f u was,
       no_reference zone run legal f (ap is_live was),
     )

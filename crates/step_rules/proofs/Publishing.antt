@@ -21,7 +21,7 @@ use Rattle.step_rules.specs.Kept.{published_after, AllPublishedIsKept}
 use Rattle.step_rules.proofs.LegalTests.{consume_tests, credit_tests, pass_out_tests, publish_tests, return_tests, take_in_tests}
 use Rattle.step_rules.proofs.Basics.{at_each}
 use Rattle.step_rules.proofs.Sound.{IsSound}
-use Rattle.step_rules.proofs.PhaseLemmas.{Returns, AsEnded, AsDrop, free_is, out_is, listed_is, fresh_is, returning_is}
+use Rattle.step_rules.proofs.PhaseLemmas.{Returns, AsEnded, AsKilled, free_is, out_is, listed_is, fresh_is, returning_is}
 use Rattle.step_rules.proofs.Referring.{live_from_one}
 use Rattle.step_rules.proofs.Passing.{front_listed}
 use Rattle.step_rules.proofs.Placing.{within_cases, block_free, off_block, off_unit}
@@ -104,7 +104,7 @@ returned_used s g f u sound is ne used =
 
 unit_is : (killed : ℕ → Bool) (x : Phase) → Returns killed x → (u : ChargedUnit) × (unit_of x ≡ Some u)
 unit_is killed x (AsEnded u was) = (u, ap unit_of was)
-unit_is killed x (AsDrop u was dead) = (u, ap unit_of was)
+unit_is killed x (AsKilled u was dead) = (u, ap unit_of was)
 
 kept_made : (f : ℕ) (s : State) (x : Bool) (seat : ℕ) (action : Action) (answer : Answer) → IsSound s → IsKept f s x → IsMade s seat action answer →
     IsKept f (after s seat action answer) (published_after f x action answer)

@@ -25,14 +25,14 @@ use Rattle.step_rules.specs.Legal.{is_legal, IsAnswer, IsMade, Allows}
 use Rattle.step_rules.specs.After.{Run, after, state_of, IsLegalRun, is_within, placed_phase, with_block, unit_size, without_unit, consumed}
 use Rattle.step_rules.specs.Folds.{was_killed}
 use Rattle.step_rules.specs.Units.{units_of, fresh_group}
-use Rattle.step_rules.specs.Returns.{is_open, is_drop_stage, is_drop_phase, is_drop, is_killed_group, gone_after, is_gone, uses_ended, uses_closed, counted_with_state}
+use Rattle.step_rules.specs.Returns.{is_open, is_killed_return_stage, is_killed_return_phase, is_killed_return, is_killed_group, gone_after, is_gone, uses_ended, uses_closed, counted_with_state}
 use Rattle.step_rules.specs.Returns.{counted_with_run, EveryFrameReturnsOnce}
 use Rattle.step_rules.proofs.LegalTests.{collect_tests, consume_tests, credit_tests, freeze_tests, pass_out_tests, put_tests}
 use Rattle.step_rules.proofs.LegalTests.{return_tests, take_in_tests, unfreeze_tests}
 use Rattle.step_rules.proofs.Basics.{at_same, at_other}
 use Rattle.step_rules.proofs.Sound.{IsSound}
 use Rattle.step_rules.proofs.PhaseLemmas.{live_is, free_is, out_is, listed_is, fresh_is, in_hand, InHand, WasCollected, WasBare, WasEnded}
-use Rattle.step_rules.proofs.PhaseLemmas.{came_back, CameBack, FromList, FromFresh, FromBack, returning_is, Returns, AsEnded, AsDrop}
+use Rattle.step_rules.proofs.PhaseLemmas.{came_back, CameBack, FromList, FromFresh, FromBack, returning_is, Returns, AsEnded, AsKilled}
 use Rattle.step_rules.proofs.Referring.{live_from_one}
 use Rattle.step_rules.proofs.Passing.{front_listed}
 use Rattle.step_rules.proofs.Placing.{within_cases, block_free, in_block, off_block, in_unit, off_unit}
@@ -152,13 +152,13 @@ placed_opens g b m = by_head (m == b.at)
     by_head true = refl
     by_head false = refl
 
--- 1 where a return of the frame is a drop
-abbrev drops : State → ℕ → ℕ
-drops s f = one_if (is_drop_phase s.killed (s.phases f))
+-- 1 if a return of the frame is of a killed group's fresh frame
+abbrev killed_returns : State → ℕ → ℕ
+killed_returns s f = one_if (is_killed_return_phase s.killed (s.phases f))
 
 -- a unit comes back: its head closes its use, and its tails had none
-unit_closes : (s : State) (f m : ℕ) (u : ChargedUnit) (stage : Stage) → IsSound s → s.phases f ≡ Head u stage → opens (s.phases f) + drops s f ≡ 1 →
-    opens (s.phases m) + cond (f == m) (drops s f) 0 ≡ opens (without_unit s.phases f m) + cond (f == m) 1 0
+unit_closes : (s : State) (f m : ℕ) (u : ChargedUnit) (stage : Stage) → IsSound s → s.phases f ≡ Head u stage → opens (s.phases f) + killed_returns s f ≡ 1 →
+    opens (s.phases m) + cond (f == m) (killed_returns s f) 0 ≡ opens (without_unit s.phases f m) + cond (f == m) 1 0
 unit_closes s f m u stage sound was one =
     let unit : unit_of (s.phases f) ≡ Some u = ap unit_of was in
     let size : unit_size (unit_of (s.phases f)) ≡ 2 ^ u.order = ap unit_size unit in
@@ -185,14 +185,14 @@ unit_closes s f m u stage sound was one =
     self some = elim (within_cases f (unit_size (unit_of (s.phases f))) f) [ inl w ↦ w.0 | inr o ↦ absurd (o.1 (omega arith) (omega arith)) ]
 
 any_unit_closes : (s : State) (f m : ℕ) → IsSound s → Returns s.killed (s.phases f) →
-    opens (s.phases m) + cond (f == m) (drops s f) 0 ≡ opens (without_unit s.phases f m) + cond (f == m) 1 0
+    opens (s.phases m) + cond (f == m) (killed_returns s f) 0 ≡ opens (without_unit s.phases f m) + cond (f == m) 1 0
 any_unit_closes s f m sound (AsEnded u was) =
     let a : opens (s.phases f) ≡ 1 = ap opens was in
-    let b : drops s f ≡ 0 = ap (λ (x : Phase). one_if (is_drop_phase s.killed x)) was in
+    let b : killed_returns s f ≡ 0 = ap (λ (x : Phase). one_if (is_killed_return_phase s.killed x)) was in
     unit_closes s f m u Ended sound was (omega arith)
-any_unit_closes s f m sound (AsDrop u was killed) =
+any_unit_closes s f m sound (AsKilled u was killed) =
     let a : opens (s.phases f) ≡ 0 = ap opens was in
-    let b : drops s f ≡ 1 = ap (λ (x : Phase). one_if (is_drop_phase s.killed x)) was ∙ ap one_if killed in
+    let b : killed_returns s f ≡ 1 = ap (λ (x : Phase). one_if (is_killed_return_phase s.killed x)) was ∙ ap one_if killed in
     unit_closes s f m u Collected sound was (omega arith)
 
 block_stays : (s : State) (g : ℕ) (b : Block) (m : ℕ) → ((x : ℕ) → b.at ≤ x → x < b.at + 2 ^ b.order → is_free (s.phases x) ≡ true) →
@@ -211,7 +211,7 @@ abbrev pub ended_in : ℕ → State → ℕ → Action → Answer → ℕ
 ended_in f s seat (Put g) Last = if g == f then 1 else 0
 ended_in f s seat (Freeze g n) Done = if g == f then 1 else 0
 ended_in f s seat (Credit g) Back = if g == f then 1 else 0
-ended_in f s seat (Return g) Done = if g == f then one_if (is_drop_phase s.killed (s.phases g)) else 0
+ended_in f s seat (Return g) Done = if g == f then one_if (is_killed_return_phase s.killed (s.phases g)) else 0
 ended_in f s seat action answer = 0
 
 -- 1 where a step closes one, told by the state
@@ -284,8 +284,8 @@ none_is : (a : Bool) → one_if a ≡ 0 → a ≡ false
 none_is true e = absurd (omega arith)
 none_is false e = refl
 
--- no frame has an open end and may be dropped
-apart_stage : (b : Bool) (stage : Stage) → one_if (is_open (Head (record { group = 0; order = 0 }) stage)) + one_if (is_drop_stage b stage) ≤ 1
+-- no frame has an open end and is also a killed group's fresh frame
+apart_stage : (b : Bool) (stage : Stage) → one_if (is_open (Head (record { group = 0; order = 0 }) stage)) + one_if (is_killed_return_stage b stage) ≤ 1
 apart_stage true Collected = omega arith
 apart_stage false Collected = omega arith
 apart_stage b (BackAt p) = omega arith
@@ -293,7 +293,7 @@ apart_stage b (BackPassing p) = omega arith
 apart_stage b Ended = omega arith
 apart_stage b stage = omega arith
 
-apart : (killed : ℕ → Bool) (x : Phase) → one_if (is_open x) + one_if (is_drop_phase killed x) ≤ 1
+apart : (killed : ℕ → Bool) (x : Phase) → one_if (is_open x) + one_if (is_killed_return_phase killed x) ≤ 1
 apart killed (Head u stage) = apart_stage (killed u.group) stage
 apart killed InZone = omega arith
 apart killed (Lent p way) = omega arith
@@ -343,15 +343,15 @@ gone_made f s x seat (Unfreeze g n) Done sound holds made =
     omega arith)
 gone_made f s x seat (Return g) Done sound holds made =
     let later = is_open ((after s seat (Return g) Done).phases f) in
-    let drop : ℕ = one_if (is_drop_phase s.killed (s.phases g)) in
-    let e : one_if (is_open (s.phases f)) + cond (g == f) drop 0 ≡ one_if later + cond (g == f) 1 0 =
+    let killed_return : ℕ = one_if (is_killed_return_phase s.killed (s.phases g)) in
+    let e : one_if (is_open (s.phases f)) + cond (g == f) killed_return 0 ≡ one_if later + cond (g == f) 1 0 =
     uses_made f s seat (Return g) Done sound made.legal made.answered in
     ap (λ b. cond (g == f) false b) holds
-    ∙ changed (g == f) (is_open (s.phases f)) later drop 1 e false
+    ∙ changed (g == f) (is_open (s.phases f)) later killed_return 1 e false
     (λ same.
-    let a : cond (g == f) drop 0 ≡ drop = ap (λ b. cond b drop 0) same in
+    let a : cond (g == f) killed_return 0 ≡ killed_return = ap (λ b. cond b killed_return 0) same in
     let b : ◌≡◌ {A = ℕ} (cond (g == f) 1 0) 1 = ap (λ b. cond b 1 0) same in
-    let c : drop ≡ one_if (is_drop_phase s.killed (s.phases f)) = ap (λ (k : ℕ). one_if (is_drop_phase s.killed (s.phases k))) (eqb-true g f same) in
+    let c : killed_return ≡ one_if (is_killed_return_phase s.killed (s.phases f)) = ap (λ (k : ℕ). one_if (is_killed_return_phase s.killed (s.phases k))) (eqb-true g f same) in
     let most = apart s.killed (s.phases f) in
     omega arith)
 gone_made f s x seat (Credit g) Back sound holds made =
@@ -421,30 +421,30 @@ counted_so_along gain loss F zone boot each run legal =
     (at_boot zone) start run (sound_boot zone) (record { legal = λ k. tt; state = refl; sum = omega arith }) legal in
     sym (counts_first gain loss run start) ∙ kept.1.sum ∙ ap (λ n. F (state_of zone run) + n) (counts_last gain loss run start)
 
--- ---- drops
-fresh_drop : (killed : ℕ → Bool) (x : Phase) → Returns killed x → is_killed_group killed (fresh_group x) ≡ is_drop_phase killed x
-fresh_drop killed x (AsEnded u was) = ap (λ y. is_killed_group killed (fresh_group y)) was ∙ sym (ap (is_drop_phase killed) was)
-fresh_drop killed x (AsDrop u was dead) = ap (λ y. is_killed_group killed (fresh_group y)) was ∙ sym (ap (is_drop_phase killed) was)
+-- ---- returns of killed groups' fresh frames
+fresh_killed_return : (killed : ℕ → Bool) (x : Phase) → Returns killed x → is_killed_group killed (fresh_group x) ≡ is_killed_return_phase killed x
+fresh_killed_return killed x (AsEnded u was) = ap (λ y. is_killed_group killed (fresh_group y)) was ∙ sym (ap (is_killed_return_phase killed) was)
+fresh_killed_return killed x (AsKilled u was dead) = ap (λ y. is_killed_group killed (fresh_group y)) was ∙ sym (ap (is_killed_return_phase killed) was)
 
 killed_group_same : (killed later : ℕ → Bool) → ((g : ℕ) → killed g ≡ later g) → (o : Option ℕ) → is_killed_group killed o ≡ is_killed_group later o
 killed_group_same killed later each None = refl
 killed_group_same killed later each (Some g) = each g
 
--- what the run says is a drop, where the frame may come back
-pub drop_is_told : (zone : Zone) (run : Run) → IsLegalRun zone run → (f : ℕ) → may_return (state_of zone run).killed ((state_of zone run).phases f) ≡ true →
-    is_drop run f ≡ is_drop_phase (state_of zone run).killed ((state_of zone run).phases f)
-drop_is_told zone run legal f may =
+-- which return the run says is of a killed group's fresh frame
+pub killed_return_is_told : (zone : Zone) (run : Run) → IsLegalRun zone run → (f : ℕ) → may_return (state_of zone run).killed ((state_of zone run).phases f) ≡ true →
+    is_killed_return run f ≡ is_killed_return_phase (state_of zone run).killed ((state_of zone run).phases f)
+killed_return_is_told zone run legal f may =
     let s = state_of zone run in
     killed_group_same (was_killed run) s.killed (λ g. sym (groups_follow_the_run zone run legal g).killed) ((units_of run).fresh_for f)
     ∙ ap (is_killed_group s.killed) (sym (units_follow_the_run zone run legal f).fresh)
-    ∙ fresh_drop s.killed (s.phases f) (returning_is s.killed (s.phases f) may)
+    ∙ fresh_killed_return s.killed (s.phases f) (returning_is s.killed (s.phases f) may)
 
 ends_same : (f : ℕ) (zone : Zone) (run : Run) (seat : ℕ) (action : Action) (answer : Answer) → IsLegalRun zone run → IsMade (state_of zone run) seat action answer →
     uses_ended f run seat action answer ≡ ended_in f (state_of zone run) seat action answer
 ends_same f zone run seat (Return g) Done legal made =
     let ok = made.legal in
     let may : may_return (state_of zone run).killed ((state_of zone run).phases g) ≡ true = (return_tests (state_of zone run) seat g ok).2 in
-    ap (λ b. if g == f then one_if b else 0) (drop_is_told zone run legal g may)
+    ap (λ b. if g == f then one_if b else 0) (killed_return_is_told zone run legal g may)
 ends_same f zone run seat Lock answer legal made = refl
 ends_same f zone run seat action answer legal made = refl
 
@@ -485,7 +485,7 @@ every_frame_returns_once zone run legal f =
     record {
       once = counted_so_along (uses_ended f) (uses_closed f) (λ t. opens (t.phases f)) zone refl (uses_allowed f zone) run legal;
       gone = gone_is_told zone run legal f;
-      drop = λ seat ok. drop_is_told zone run legal f (grind arith);
+      killed_return = λ seat ok. killed_return_is_told zone run legal f (grind arith);
       none_open_at_put = λ seat made.
           let ok = made.legal in
           let some : nat_le 1 (s.references seat f) ≡ true = (put_tests s seat f ok).2 in

@@ -18,7 +18,7 @@ use Rattle.step_rules.proofs.LegalTests.{collect_tests, consume_tests, credit_te
 use Rattle.step_rules.proofs.LegalTests.{lock_tests, open_visit_tests, pass_back_tests, pass_out_tests, put_tests, report_tests}
 use Rattle.step_rules.proofs.LegalTests.{return_tests, shut_visit_tests, take_in_tests, unfreeze_tests, unlock_tests}
 use Rattle.step_rules.proofs.Sound.{Sound, IsSound}
-use Rattle.step_rules.proofs.PhaseLemmas.{Returns, AsEnded, AsDrop, returning_is, unheld_visit, held_visit, visited, held_live}
+use Rattle.step_rules.proofs.PhaseLemmas.{Returns, AsEnded, AsKilled, returning_is, unheld_visit, held_visit, visited, held_live}
 use Rattle.step_rules.proofs.Referring.{live_from_references, live_from_one, seat_there, sound_referred, sound_frozen, sound_last, sound_unfrozen}
 use Rattle.step_rules.proofs.Passing.{sound_passed_out, sound_taken_in, sound_sent_listed, sound_sent_fresh, sound_sent_back}
 use Rattle.step_rules.proofs.Passing.{sound_collected, sound_consumed, sound_credited}
@@ -32,7 +32,7 @@ cpu_range zone p e = let both = and_parts (nat_le 1 p) (nat_le p zone.cpus) e in
 
 returned : (s : State) (f : ℕ) → IsSound s → Returns s.killed (s.phases f) → Sound s.zone s.hold (without_unit s.phases f) s.references s.parts
 returned s f sound (AsEnded u was) = sound_returned s f u _ sound was refl
-returned s f sound (AsDrop u was killed) = sound_returned s f u _ sound was refl
+returned s f sound (AsKilled u was killed) = sound_returned s f u _ sound was refl
 
 -- each clause of a legal step
 abbrev IsLegalStep : State → ℕ → Action → Type 0

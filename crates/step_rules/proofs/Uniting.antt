@@ -29,7 +29,7 @@ use Rattle.step_rules.proofs.Basics.{at_same, at_other, at_each}
 use Rattle.step_rules.proofs.Sound.{IsSound}
 use Rattle.step_rules.proofs.SoundSteps.{cpu_range}
 use Rattle.step_rules.proofs.PhaseLemmas.{live_is, free_is, out_is, in_hand, InHand as Hand, WasCollected, WasBare, WasEnded}
-use Rattle.step_rules.proofs.PhaseLemmas.{came_back, CameBack, FromList, FromFresh, FromBack, returning_is, Returns, AsEnded, AsDrop}
+use Rattle.step_rules.proofs.PhaseLemmas.{came_back, CameBack, FromList, FromFresh, FromBack, returning_is, Returns, AsEnded, AsKilled}
 use Rattle.step_rules.proofs.Referring.{live_from_one}
 use Rattle.step_rules.proofs.Placing.{within_cases, block_free, in_block, off_block, in_unit, off_unit}
 use Rattle.step_rules.proofs.LocalLaws.{no_illegal}
@@ -129,7 +129,7 @@ unit_marks s g f u x sound unit holds =
 any_unit_marks : (s : State) (g f : ℕ) (x : Marks) → IsSound s → Returns s.killed (s.phases g) → marks (s.phases f) ≡ x →
     marks (without_unit s.phases g f) ≡ (cond (g == f) None x.0, cond (g == f) None x.1)
 any_unit_marks s g f x sound (AsEnded u was) holds = unit_marks s g f u x sound (ap unit_of was) holds
-any_unit_marks s g f x sound (AsDrop u was killed) holds = unit_marks s g f u x sound (ap unit_of was) holds
+any_unit_marks s g f x sound (AsKilled u was killed) holds = unit_marks s g f u x sound (ap unit_of was) holds
 
 -- the marks of frame f after one more step of a seat whose list begins with `front`
 abbrev marks_after : ℕ → ℕ → Marks → Action → Answer → Marks

@@ -26,7 +26,7 @@ use Rattle.step_rules.specs.After.{Run, state_of, IsLegalRun}
 use Rattle.step_rules.specs.Folds.{limit_given, was_killed}
 use Rattle.step_rules.specs.Units.{units_of}
 use Rattle.step_rules.specs.Counts.{references_in, references_out, counted}
-use Rattle.step_rules.specs.Returns.{is_gone, is_drop, times_in}
+use Rattle.step_rules.specs.Returns.{is_gone, is_killed_return, times_in}
 use Rattle.step_rules.specs.Charges.{groups_of, charged_below}
 
 -- ---- what is shown
@@ -120,8 +120,8 @@ ComesBackOnce run seat (Get f) Held = is_gone run f ≡ false
 ComesBackOnce run seat (Put f) Last = is_gone run f ≡ false
 ComesBackOnce run seat (Freeze f n) Done = is_gone run f ≡ false
 ComesBackOnce run seat (Unfreeze f n) Done = (is_some ((units_of run).unit f) ≡ true) × HasNoReference run f
-ComesBackOnce run seat (Return f) Done =
-    ((is_gone run f ≡ true) ⊎ (is_drop run f ≡ true)) × (is_some ((units_of run).unit f) ≡ true) × HasNoReference run f
+ComesBackOnce run seat (Return f) Done = ((is_gone run f ≡ true) ⊎ (is_killed_return run f ≡ true))
+    × (is_some ((units_of run).unit f) ≡ true) × HasNoReference run f
 ComesBackOnce run seat (Credit f) Back = (times_in f ((units_of run).hands seat).fresh ≡ 1) × HasNoReference run f
 ComesBackOnce run seat (Consume g) Took =
     (1 ≤ length ((units_of run).hands seat).list) × IsUnused run (front_of ((units_of run).hands seat).list)

@@ -32,23 +32,24 @@ is_open (Head unit stage) = is_open_stage stage
 is_open _ = false
 
 -- the stage of a fresh frame that was collected, if its group is killed
-abbrev pub is_drop_stage : Bool → Stage → Bool
-is_drop_stage is_killed Collected = is_killed
-is_drop_stage _ _ = false
+abbrev pub is_killed_return_stage : Bool → Stage → Bool
+is_killed_return_stage is_killed Collected = is_killed
+is_killed_return_stage _ _ = false
 
--- a return in this phase is a drop: the frame was collected as a fresh frame, and its group is killed
-abbrev pub is_drop_phase : (ℕ → Bool) → Phase → Bool
-is_drop_phase killed (Head unit stage) = is_drop_stage (killed unit.group) stage
-is_drop_phase _ _ = false
+-- a return in this phase is of a killed group's fresh frame: it was collected as a fresh frame, and its group is
+-- killed
+abbrev pub is_killed_return_phase : (ℕ → Bool) → Phase → Bool
+is_killed_return_phase killed (Head unit stage) = is_killed_return_stage (killed unit.group) stage
+is_killed_return_phase _ _ = false
 
 -- there is a group, and it is killed
 abbrev pub is_killed_group : (ℕ → Bool) → Option ℕ → Bool
 is_killed_group killed None = false
 is_killed_group killed (Some g) = killed g
 
--- a return of the frame is a drop: it is a fresh frame of a killed group
-abbrev pub is_drop : Run → ℕ → Bool
-is_drop run f = is_killed_group (was_killed run) ((units_of run).fresh_for f)
+-- a return of the frame is of a killed group's fresh frame
+abbrev pub is_killed_return : Run → ℕ → Bool
+is_killed_return run f = is_killed_group (was_killed run) ((units_of run).fresh_for f)
 
 -- Whether the last reference of frame f is gone after one more step. A last put and a freeze of all references drop it.
 -- It isn't gone any more once references are put on the frame again or the frame is returned.
@@ -63,13 +64,13 @@ gone_after f old action answer = old
 abbrev pub is_gone : Run → ℕ → Bool
 is_gone run f = fold (λ old e. gone_after f old e.0.action e.1) false run
 
--- 1 if a step after this run ends a use of frame f: a last put, a freeze of all references, a credit, or a return that
--- is a drop
+-- 1 if a step after this run ends a use of frame f: a last put, a freeze of all references, a credit, or the return
+-- of a killed group's fresh frame
 abbrev pub uses_ended : ℕ → Run → ℕ → Action → Answer → ℕ
 uses_ended f run seat (Put g) Last = if g == f then 1 else 0
 uses_ended f run seat (Freeze g n) Done = if g == f then 1 else 0
 uses_ended f run seat (Credit g) Back = if g == f then 1 else 0
-uses_ended f run seat (Return g) Done = if g == f then one_if (is_drop run g) else 0
+uses_ended f run seat (Return g) Done = if g == f then one_if (is_killed_return run g) else 0
 uses_ended f run seat action answer = 0
 
 -- 1 if a step closes an end: the frame is returned or credited, or an unfreeze undoes the end
@@ -96,14 +97,14 @@ abbrev pub counted_with_state : (State → ℕ → Action → Answer → ℕ) �
 counted_with_state count zone run = (fold (with_count count) (at_boot zone, 0) run).1
 
 -- Each use of the frame that ended is closed by a return or a credit, or undone by an unfreeze, except one that is
--- open. No use ends while one is open, so a return that closes no open end is a drop. Open ends and drops are the same
--- in the state as by the run.
+-- open. No use ends while one is open, so a return that closes no open end is of a killed group's fresh frame.
+-- Open ends and such returns are the same in the state as by the run.
 pub record ReturnsOnce (zone : Zone) (run : Run) (f : ℕ) : Type 0 where
   pub once : counted_with_run (uses_ended f) run
       ≡ one_if (is_open ((state_of zone run).phases f)) + counted_with_run (uses_closed f) run
   pub gone : is_gone run f ≡ is_open ((state_of zone run).phases f)
-  pub drop : (seat : ℕ) → is_legal (state_of zone run) seat (Return f) ≡ true →
-      is_drop run f ≡ is_drop_phase (state_of zone run).killed ((state_of zone run).phases f)
+  pub killed_return : (seat : ℕ) → is_legal (state_of zone run) seat (Return f) ≡ true →
+      is_killed_return run f ≡ is_killed_return_phase (state_of zone run).killed ((state_of zone run).phases f)
   pub none_open_at_put : (seat : ℕ) → IsMade (state_of zone run) seat (Put f) Last
       → is_open ((state_of zone run).phases f) ≡ false
   pub none_open_at_freeze : (seat n : ℕ) → IsMade (state_of zone run) seat (Freeze f n) Done
