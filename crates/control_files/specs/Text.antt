@@ -25,8 +25,8 @@ padded-bytes bytes len h =
     rw size (rw (← h.zeros) (take-append-drop len bytes))
 
 -- the fields can be found from the text
-pub padded-view : (bytes : List ℕ) (len : ℕ) → IsPadded bytes len →
-    ◌≡◌ {A = Inside} (record { bytes = padded (take len bytes); len = length (take len bytes) })
+pub padded-view : (bytes : List ℕ) (len : ℕ) → IsPadded bytes len
+    → ◌≡◌ {A = Inside} (record { bytes = padded (take len bytes); len = length (take len bytes) })
     (record { bytes = bytes; len = len })
 padded-view bytes len h =
     let size : length (take len bytes) ≡ len = length-take-le len bytes (omega (arith, h.size, h.fits)) in

@@ -30,8 +30,8 @@ KeepsPromise s run = is_unheld s.hold ≡ true → Promise s.zone run (shown_of 
 
 -- after each beginning of the run that leaves the lock free, the promise holds of whatever shows the state
 abbrev pub AlwaysKeepsPromise : Zone → Run → Type 0
-AlwaysKeepsPromise zone run = (k : ℕ) → is_unheld (state_of zone (take k run)).hold ≡ true →
-    (shown : Shown) → IsShown (state_of zone (take k run)) shown → Promise zone (take k run) shown
+AlwaysKeepsPromise zone run = (k : ℕ) → is_unheld (state_of zone (take k run)).hold ≡ true
+    → (shown : Shown) → IsShown (state_of zone (take k run)) shown → Promise zone (take k run) shown
 
 -- a placed block begins at the first frame of the smallest maximal free block of its order or above (Knuth: the least
 -- sufficient order is split)

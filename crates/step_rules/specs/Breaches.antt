@@ -19,8 +19,7 @@ BreaksPromise run = (shown : Shown) → ¬ Promise small_zone run shown
 abbrev pub past_a_limit : Run
 past_a_limit =
     made 1 Lock Done ∷ made 0 (Make (codes "/a")) (Number 1) ∷ made 0 (Make (codes "/a/b")) (Number 2)
-    ∷ made 0 (SetMax 1 (Some 1)) Done ∷
-    made 0 (Grant 2 1) Granted ∷ made 0 (Grant 2 1) Granted ∷ []
+    ∷ made 0 (SetMax 1 (Some 1)) Done ∷ made 0 (Grant 2 1) Granted ∷ made 0 (Grant 2 1) Granted ∷ []
 
 -- a page is granted to a killed group
 abbrev pub granted_when_killed : Run

@@ -55,16 +55,16 @@ counted count run = sum_by (λ e. count e.0.seat e.0.action e.1) run
 -- After every legal run a seat's references on a frame are those it was given less those it gave up. It is given one by
 -- a get that was Held, and the count of an unfreeze. It gives up one by a put, and the count of a freeze that was Done.
 abbrev pub ReferencesAreCounted : Type 0
-ReferencesAreCounted = (zone : Zone) (run : Run) → IsLegalRun zone run → (seat f : ℕ) →
-    counted (references_in seat f) run
+ReferencesAreCounted = (zone : Zone) (run : Run) → IsLegalRun zone run → (seat f : ℕ)
+    → counted (references_in seat f) run
     ≡ (state_of zone run).references seat f + counted (references_out seat f) run
 
 -- after every legal run the pages of a stock are those filled and credited, less those consumed and drained
 abbrev pub StocksAreCounted : Type 0
-StocksAreCounted = (zone : Zone) (run : Run) → IsLegalRun zone run → (cpu : ℕ) →
-    counted (stock_in cpu) run ≡ (part_after zone run cpu).stock.pages + counted (stock_out cpu) run
+StocksAreCounted = (zone : Zone) (run : Run) → IsLegalRun zone run → (cpu : ℕ)
+    → counted (stock_in cpu) run ≡ (part_after zone run cpu).stock.pages + counted (stock_out cpu) run
 
 -- after every legal run a book is the pages filled, less those drained and absorbed
 abbrev pub BooksAreCounted : Type 0
-BooksAreCounted = (zone : Zone) (run : Run) → IsLegalRun zone run → (cpu : ℕ) →
-    counted (book_in cpu) run ≡ (part_after zone run cpu).book + counted (book_out cpu) run
+BooksAreCounted = (zone : Zone) (run : Run) → IsLegalRun zone run → (cpu : ℕ)
+    → counted (book_in cpu) run ≡ (part_after zone run cpu).book + counted (book_out cpu) run

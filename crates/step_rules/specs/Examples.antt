@@ -27,14 +27,14 @@ made seat action answer = (record { seat = seat; action = action }, answer)
 -- CPU 1 gets frame 0 on its list, and a stock of two pages of the root
 abbrev pub first_visit : Run
 first_visit =
-    made 1 Lock Done ∷ made 0 (OpenVisit 1) Done ∷ made 0 (PassOut 0 1) Done ∷ made 1 (TakeIn 0) Done ∷
-    made 0 (Grant 0 2) Granted ∷ made 0 (Fill 1 0 2) Done ∷ []
+    made 1 Lock Done ∷ made 0 (OpenVisit 1) Done ∷ made 0 (PassOut 0 1) Done ∷ made 1 (TakeIn 0) Done
+    ∷ made 0 (Grant 0 2) Granted ∷ made 0 (Fill 1 0 2) Done ∷ []
 
 -- CPU 1 pays for the frame, which becomes fresh, hands it over to the zone, which keeps it, and reports the page
 abbrev pub hand_over : Run
 hand_over =
-    made 1 (Consume 0) Took ∷ made 1 (PassBack 0) Done ∷ made 0 (Collect 0 1) Done ∷ made 0 (Unfreeze 0 1) Done ∷
-    made 0 (Publish 0) Done ∷ made 1 (Report 1) Done ∷ made 0 (Absorb 1) (Pages 1) ∷ made 0 (ShutVisit 1) Done
+    made 1 (Consume 0) Took ∷ made 1 (PassBack 0) Done ∷ made 0 (Collect 0 1) Done ∷ made 0 (Unfreeze 0 1) Done
+    ∷ made 0 (Publish 0) Done ∷ made 1 (Report 1) Done ∷ made 0 (Absorb 1) (Pages 1) ∷ made 0 (ShutVisit 1) Done
     ∷ made 1 Unlock Done ∷ []
 
 -- CPU 2 pins the frame, the zone gives up its reference, and CPU 2 makes the last put
@@ -46,8 +46,8 @@ last_put =
 abbrev pub second_visit : Run
 second_visit =
     made 2 Lock Done ∷ made 0 (OpenVisit 2) Done ∷ made 2 (PassBack 0) Done ∷ made 0 (Collect 0 2) Done
-    ∷ made 0 (Return 0) Done ∷
-    made 0 (ShutVisit 2) Done ∷ made 0 (DrainStock 1) (Pages 1) ∷ made 0 (Ungrant 0 1) Done ∷ made 2 Unlock Done ∷ []
+    ∷ made 0 (Return 0) Done ∷ made 0 (ShutVisit 2) Done ∷ made 0 (DrainStock 1) (Pages 1) ∷ made 0 (Ungrant 0 1) Done
+    ∷ made 2 Unlock Done ∷ []
 
 -- the life of a frame
 abbrev pub life_of_a_frame : Run
@@ -61,9 +61,8 @@ credited_twice = first_visit ++ made 1 (Consume 0) Took ∷ made 1 (Credit 0) Ba
 abbrev pub placed_again : Run
 placed_again =
     made 1 Lock Done ∷ made 0 (Grant 0 2) Granted ∷ made 0 (PlaceBlock 0 0) (Placed (record { at = 0; order = 0 }))
-    ∷ made 0 (Unfreeze 0 1) Done ∷
-    made 0 (Freeze 0 1) Done ∷ made 0 (Return 0) Done ∷ made 0 (PlaceBlock 0 0) (Placed (record { at = 0; order = 0 }))
-    ∷ []
+    ∷ made 0 (Unfreeze 0 1) Done ∷ made 0 (Freeze 0 1) Done ∷ made 0 (Return 0) Done
+    ∷ made 0 (PlaceBlock 0 0) (Placed (record { at = 0; order = 0 })) ∷ []
 
 -- the unit is returned a second time for one end
 abbrev pub returned_twice : Run
@@ -77,30 +76,27 @@ unlocked_too_soon = made 1 Lock Done ∷ made 0 (Grant 0 2) Granted ∷ made 1 U
 abbrev pub returned_when_killed : Run
 returned_when_killed =
     first_visit ++ made 1 (Consume 0) Took ∷ made 1 (PassBack 0) Done ∷ made 0 (Collect 0 1) Done
-    ∷ made 0 (Return 0) Illegal ∷
-    made 0 (Kill 0) Done ∷ made 0 (Return 0) Done ∷ []
+    ∷ made 0 (Return 0) Illegal ∷ made 0 (Kill 0) Done ∷ made 0 (Return 0) Done ∷ []
 
 -- A frame gets at most 255 references, and none is given on one that has none. A freeze takes all references or none.
 -- The root gets no limit, a killed group gets no page, and a group is killed once.
 abbrev pub at_the_borders : Run
 at_the_borders =
-    made 1 Lock Done ∷ made 0 (SetMax 0 (Some 5)) Illegal ∷ made 0 (Grant 0 1) Granted ∷
-    made 0 (PlaceBlock 0 0) (Placed (record { at = 0; order = 0 })) ∷ made 0 (Unfreeze 0 256) Illegal
-    ∷ made 0 (Unfreeze 0 255) Done ∷
-    made 1 (Get 0) Full ∷ made 0 (Put 0) (Left 254) ∷ made 1 (Get 0) Held ∷ made 1 (Get 1) Zero
-    ∷ made 0 (Freeze 0 254) Missed ∷
-    made 0 (Kill 0) Done ∷ made 0 (Grant 0 1) Illegal ∷ made 0 (Kill 0) Illegal ∷ []
+    made 1 Lock Done ∷ made 0 (SetMax 0 (Some 5)) Illegal ∷ made 0 (Grant 0 1) Granted
+    ∷ made 0 (PlaceBlock 0 0) (Placed (record { at = 0; order = 0 })) ∷ made 0 (Unfreeze 0 256) Illegal
+    ∷ made 0 (Unfreeze 0 255) Done ∷ made 1 (Get 0) Full ∷ made 0 (Put 0) (Left 254) ∷ made 1 (Get 0) Held
+    ∷ made 1 (Get 1) Zero ∷ made 0 (Freeze 0 254) Missed ∷ made 0 (Kill 0) Done ∷ made 0 (Grant 0 1) Illegal
+    ∷ made 0 (Kill 0) Illegal ∷ []
 
 -- A CPU with two frames on its list passes the first back, and not the second. A frame that only a CPU refers to isn't
 -- published.
 abbrev pub in_line : Run
 in_line =
     made 1 Lock Done ∷ made 0 (OpenVisit 1) Done ∷ made 0 (PassOut 0 1) Done ∷ made 1 (TakeIn 0) Done
-    ∷ made 0 (PassOut 1 1) Done ∷
-    made 1 (TakeIn 1) Done ∷ made 1 (PassBack 1) Illegal ∷ made 1 (PassBack 0) Done ∷ made 0 (Collect 0 1) Done
-    ∷ made 0 (Grant 0 1) Granted ∷
-    made 0 (PlaceBlock 0 0) (Placed (record { at = 0; order = 0 })) ∷ made 0 (Unfreeze 0 1) Done ∷ made 2 (Get 0) Held ∷
-    made 0 (Publish 0) Done ∷ made 0 (Put 0) (Left 1) ∷ made 0 (Publish 0) Illegal ∷ []
+    ∷ made 0 (PassOut 1 1) Done ∷ made 1 (TakeIn 1) Done ∷ made 1 (PassBack 1) Illegal ∷ made 1 (PassBack 0) Done
+    ∷ made 0 (Collect 0 1) Done ∷ made 0 (Grant 0 1) Granted
+    ∷ made 0 (PlaceBlock 0 0) (Placed (record { at = 0; order = 0 })) ∷ made 0 (Unfreeze 0 1) Done ∷ made 2 (Get 0) Held
+    ∷ made 0 (Publish 0) Done ∷ made 0 (Put 0) (Left 1) ∷ made 0 (Publish 0) Illegal ∷ []
 
 -- three kinds of events are noted at the root, once, twice and once
 abbrev pub noted : Run
@@ -113,21 +109,19 @@ noted = made 1 Lock Done ∷ made 0 (NoteMax 0) Done ∷ made 0 (NoteOom 0) Done
 abbrev pub group_in_use : Run
 group_in_use =
     made 1 Lock Done ∷ made 0 (Make (codes "/a")) (Number 1) ∷ made 0 (Make (codes "/a/b")) (Number 2)
-    ∷ made 0 (SetMax 1 (Some 1)) Done ∷
-    made 0 (Grant 2 2) (Over 1) ∷ made 0 (Grant 2 1) Granted ∷ made 0 (SetMax 1 (Some 0)) Done ∷
-    made 0 (PlaceBlock 2 0) (Placed (record { at = 0; order = 0 })) ∷ made 0 (Unfreeze 0 1) Done ∷ made 1 (Get 0) Held
-    ∷ made 1 (Get 0) Held ∷
-    made 1 (Put 0) (Left 2) ∷ made 1 (Put 0) (Left 1) ∷ []
+    ∷ made 0 (SetMax 1 (Some 1)) Done ∷ made 0 (Grant 2 2) (Over 1) ∷ made 0 (Grant 2 1) Granted
+    ∷ made 0 (SetMax 1 (Some 0)) Done ∷ made 0 (PlaceBlock 2 0) (Placed (record { at = 0; order = 0 }))
+    ∷ made 0 (Unfreeze 0 1) Done ∷ made 1 (Get 0) Held ∷ made 1 (Get 0) Held ∷ made 1 (Put 0) (Left 2)
+    ∷ made 1 (Put 0) (Left 1) ∷ []
 
 -- A group isn't removed while it has a child or usage. The lower one is killed, its frame is returned all the same, and
 -- the group is removed. A new one gets its number, not killed, and is below the same limit.
 abbrev pub group_comes_and_goes : Run
 group_comes_and_goes =
     group_in_use ++ made 0 (Remove 1) Illegal ∷ made 0 (Remove 2) Illegal ∷ made 0 (NoteOom 2) Done
-    ∷ made 0 (Kill 2) Done ∷
-    made 0 (Freeze 0 1) Done ∷ made 0 (Return 0) Done ∷ made 0 (Remove 2) Done ∷ made 0 (Make (codes "/a/b")) (Number 2)
-    ∷
-    made 0 (NoteMax 2) Done ∷ made 0 (Grant 2 1) (Over 1) ∷ made 1 Unlock Done ∷ []
+    ∷ made 0 (Kill 2) Done ∷ made 0 (Freeze 0 1) Done ∷ made 0 (Return 0) Done ∷ made 0 (Remove 2) Done
+    ∷ made 0 (Make (codes "/a/b")) (Number 2) ∷ made 0 (NoteMax 2) Done ∷ made 0 (Grant 2 1) (Over 1)
+    ∷ made 1 Unlock Done ∷ []
 
 -- Two pages are granted to a group, and it is killed. It gets no more pages, but of these one is placed and one
 -- ungranted. Events are noted at it, its limit is set, its frame is published and returned. A group is made below it
@@ -135,28 +129,25 @@ group_comes_and_goes =
 abbrev pub killed_group_ends : Run
 killed_group_ends =
     made 1 Lock Done ∷ made 0 (Make (codes "/a")) (Number 1) ∷ made 0 (Grant 1 2) Granted ∷ made 0 (Kill 1) Done
-    ∷ made 0 (Grant 1 1) Illegal ∷
-    made 0 (NoteMax 1) Done ∷ made 0 (NoteOom 1) Done ∷ made 0 (SetMax 1 (Some 0)) Done
-    ∷ made 0 (PlaceBlock 1 0) (Placed (record { at = 0; order = 0 })) ∷
-    made 0 (Ungrant 1 1) Done ∷ made 0 (Unfreeze 0 1) Done ∷ made 0 (Publish 0) Done ∷ made 0 (Freeze 0 1) Done
-    ∷ made 0 (Return 0) Done ∷
-    made 0 (Make (codes "/a/b")) (Number 2) ∷ made 0 (Remove 2) Done ∷ made 0 (Remove 1) Done ∷ made 1 Unlock Done ∷ []
+    ∷ made 0 (Grant 1 1) Illegal ∷ made 0 (NoteMax 1) Done ∷ made 0 (NoteOom 1) Done ∷ made 0 (SetMax 1 (Some 0)) Done
+    ∷ made 0 (PlaceBlock 1 0) (Placed (record { at = 0; order = 0 })) ∷ made 0 (Ungrant 1 1) Done
+    ∷ made 0 (Unfreeze 0 1) Done ∷ made 0 (Publish 0) Done ∷ made 0 (Freeze 0 1) Done ∷ made 0 (Return 0) Done
+    ∷ made 0 (Make (codes "/a/b")) (Number 2) ∷ made 0 (Remove 2) Done ∷ made 0 (Remove 1) Done ∷ made 1 Unlock Done
+    ∷ []
 
 -- Two groups are made, one below the other, and the flag of the upper one is set. The flag of the root can't be set,
 -- nor that of a group that doesn't exist.
 abbrev pub group_with_flag : Run
 group_with_flag =
     made 1 Lock Done ∷ made 0 (Make (codes "/a")) (Number 1) ∷ made 0 (Make (codes "/a/b")) (Number 2)
-    ∷ made 0 (SetFlag 0 true) Illegal ∷
-    made 0 (SetFlag 3 true) Illegal ∷ made 0 (SetFlag 1 true) Done ∷ []
+    ∷ made 0 (SetFlag 0 true) Illegal ∷ made 0 (SetFlag 3 true) Illegal ∷ made 0 (SetFlag 1 true) Done ∷ []
 
 -- Both groups are killed, and that is noted once, at the upper one. It can't be noted at the root or at a group that
 -- doesn't exist.
 abbrev pub group_killed_whole : Run
 group_killed_whole =
     group_with_flag ++ made 0 (Kill 1) Done ∷ made 0 (Kill 2) Done ∷ made 0 (NoteGroupKill 0) Illegal
-    ∷ made 0 (NoteGroupKill 3) Illegal ∷
-    made 0 (NoteGroupKill 1) Done ∷ []
+    ∷ made 0 (NoteGroupKill 3) Illegal ∷ made 0 (NoteGroupKill 1) Done ∷ []
 
 -- both groups are removed, and a new group gets the number of the upper one
 abbrev pub group_dies_whole : Run
@@ -169,12 +160,10 @@ group_dies_whole =
 abbrev pub stock_without_a_page : Run
 stock_without_a_page =
     made 1 Lock Done ∷ made 0 (OpenVisit 1) Done ∷ made 0 (PassOut 0 1) Done ∷ made 1 (TakeIn 0) Done
-    ∷ made 0 (PassOut 1 1) Done ∷
-    made 1 (TakeIn 1) Done ∷ made 0 (Grant 0 1) Granted ∷ made 0 (PlaceBlock 0 0) NoFreeBlock ∷ made 0 (Fill 1 0 1) Done
-    ∷
-    made 1 (Consume 5) OtherGroup ∷ made 1 (Consume 0) Took ∷ made 1 (Consume 0) Empty ∷ made 0 (DrainStock 1) (Pages 0)
-    ∷
-    made 1 (Consume 0) Drained ∷ made 1 (Credit 0) Drained ∷ []
+    ∷ made 0 (PassOut 1 1) Done ∷ made 1 (TakeIn 1) Done ∷ made 0 (Grant 0 1) Granted
+    ∷ made 0 (PlaceBlock 0 0) NoFreeBlock ∷ made 0 (Fill 1 0 1) Done ∷ made 1 (Consume 5) OtherGroup
+    ∷ made 1 (Consume 0) Took ∷ made 1 (Consume 0) Empty ∷ made 0 (DrainStock 1) (Pages 0) ∷ made 1 (Consume 0) Drained
+    ∷ made 1 (Credit 0) Drained ∷ []
 
 -- CPU 1 takes the lock
 abbrev pub lock_taken : Run

@@ -15,10 +15,10 @@ use Rattle.step_rules.specs.Returns.{counted_with_state}
 -- after a grant that follows a legal run the usage of the group and of each ancestor is at most its limit
 abbrev pub NoGrantPassesALimit : Type 0
 NoGrantPassesALimit = (zone : Zone) (run : Run) → IsLegalRun zone run → (seat g n : ℕ)
-    → IsMade (state_of zone run) seat (Grant g n) Granted →
-    (m : ℕ) → in_subtree (state_of zone run).groups m g ≡ true →
-    fits_limit (limit_of (state_of zone run).groups m) (usage_of (after (state_of zone run) seat (Grant g n) Granted) m)
-    ≡ true
+    → IsMade (state_of zone run) seat (Grant g n) Granted
+    → (m : ℕ) → in_subtree (state_of zone run).groups m g ≡ true
+    → fits_limit (limit_of (state_of zone run).groups m)
+    (usage_of (after (state_of zone run) seat (Grant g n) Granted) m) ≡ true
 
 -- the pages that a step makes pending for group g: granted to it, or drained from its stock
 abbrev pub pending_in : ℕ → State → ℕ → Action → Answer → ℕ
@@ -36,6 +36,6 @@ pending_out g s seat action answer = 0
 -- after every legal run the pages pending for a group are those granted and drained, less those ungranted, filled and
 -- placed
 abbrev pub PendingIsCounted : Type 0
-PendingIsCounted = (zone : Zone) (run : Run) → IsLegalRun zone run → (g : ℕ) →
-    counted_with_state (pending_in g) zone run
+PendingIsCounted = (zone : Zone) (run : Run) → IsLegalRun zone run → (g : ℕ)
+    → counted_with_state (pending_in g) zone run
     ≡ (state_of zone run).pending g + counted_with_state (pending_out g) zone run

@@ -37,10 +37,10 @@ pushed run step answer = run ++ (step, answer) ∷ []
 -- After a run that shows a CPU a local state, take a local step whose answer also agrees with others' references and
 -- stocks. The step is legal, and the run then shows the CPU the next local state.
 abbrev pub OwnStepIsLegal : Type 0
-OwnStepIsLegal = (zone : Zone) (run : Run) (cpu : ℕ) (local : State) (step : Step) (answer : Answer) →
-    ShowsLocal zone run cpu local → IsLocalStep local cpu step.seat step.action answer
-    → IsCounted (state_of zone run) step.action answer →
-    ShowsLocal zone (pushed run step answer) cpu (after local step.seat step.action answer)
+OwnStepIsLegal = (zone : Zone) (run : Run) (cpu : ℕ) (local : State) (step : Step) (answer : Answer)
+    → ShowsLocal zone run cpu local → IsLocalStep local cpu step.seat step.action answer
+    → IsCounted (state_of zone run) step.action answer
+    → ShowsLocal zone (pushed run step answer) cpu (after local step.seat step.action answer)
 
 -- the step is another CPU's, or any seat's and answered Illegal
 abbrev pub IsOtherOrIllegal : ℕ → ℕ → Answer → Type 0
@@ -48,7 +48,7 @@ IsOtherOrIllegal cpu seat answer = ((seat ≢ 0) × (seat ≢ cpu)) ⊎ (answer 
 
 -- an allowed step of another CPU, and any step that is answered Illegal, leaves the local state as it is
 abbrev pub OtherStepIsHidden : Type 0
-OtherStepIsHidden = (zone : Zone) (run : Run) (cpu : ℕ) (local : State) (step : Step) (answer : Answer) →
-    ShowsLocal zone run cpu local → IsOtherOrIllegal cpu step.seat answer
-    → Allows (state_of zone run) step.seat step.action answer →
-    ShowsLocal zone (pushed run step answer) cpu local
+OtherStepIsHidden = (zone : Zone) (run : Run) (cpu : ℕ) (local : State) (step : Step) (answer : Answer)
+    → ShowsLocal zone run cpu local → IsOtherOrIllegal cpu step.seat answer
+    → Allows (state_of zone run) step.seat step.action answer
+    → ShowsLocal zone (pushed run step answer) cpu local

@@ -15,14 +15,14 @@ lent_to _ = None
 
 -- after every legal run a lent frame is lent to a CPU of the zone
 abbrev pub FramesAreLentToCpus : Type 0
-FramesAreLentToCpus = (zone : Zone) (run : Run) → IsLegalRun zone run → (f cpu : ℕ) →
-    lent_to ((state_of zone run).phases f) ≡ Some cpu → is_cpu zone cpu ≡ true
+FramesAreLentToCpus = (zone : Zone) (run : Run) → IsLegalRun zone run → (f cpu : ℕ)
+    → lent_to ((state_of zone run).phases f) ≡ Some cpu → is_cpu zone cpu ≡ true
 
 -- after every legal run a frame is in transit to or from a CPU only while that CPU's visit is open
 abbrev pub FramesPassInVisits : Type 0
-FramesPassInVisits = (zone : Zone) (run : Run) → IsLegalRun zone run → (f cpu : ℕ) →
-    (passes_out cpu ((state_of zone run).phases f) || passes_back cpu ((state_of zone run).phases f)) ≡ true →
-    (state_of zone run).hold ≡ Visiting cpu
+FramesPassInVisits = (zone : Zone) (run : Run) → IsLegalRun zone run → (f cpu : ℕ)
+    → (passes_out cpu ((state_of zone run).phases f) || passes_back cpu ((state_of zone run).phases f)) ≡ true
+    → (state_of zone run).hold ≡ Visiting cpu
 
 -- each beginning of a legal run is a legal run
 abbrev pub BeginningsAreLegal : Type 0

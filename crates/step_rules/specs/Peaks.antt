@@ -23,8 +23,7 @@ UsageMoves s seat action answer = (m : ℕ) → usage_of (after s seat action an
 -- after every legal run only a grant raises usage
 abbrev pub OnlyGrantsRaiseUsage : Type 0
 OnlyGrantsRaiseUsage = (zone : Zone) (run : Run) → IsLegalRun zone run → (seat : ℕ) (action : Action) (answer : Answer)
-    →
-    Allows (state_of zone run) seat action answer → UsageMoves (state_of zone run) seat action answer
+    → Allows (state_of zone run) seat action answer → UsageMoves (state_of zone run) seat action answer
 
 -- the group has existed in every beginning from the k-th on
 abbrev pub IsThereSince : Zone → Run → ℕ → ℕ → Type 0
@@ -52,8 +51,8 @@ pub record PeaksAreKept : Type 0 where
       → peak ≡ other
   pub boot : (zone : Zone) → IsPeak zone [] 0 0
   pub step : (zone : Zone) (run : Run) (step : Step) (answer : Answer) → IsLegalRun zone run
-      → Allows (state_of zone run) step.seat step.action answer →
-      (m peak : ℕ) → has_group (state_of zone (pushed run step answer)).groups m ≡ true →
-      (has_group (state_of zone run).groups m ≡ true → IsPeak zone run m peak) →
-      IsPeak zone (pushed run step answer) m
+      → Allows (state_of zone run) step.seat step.action answer
+      → (m peak : ℕ) → has_group (state_of zone (pushed run step answer)).groups m ≡ true
+      → (has_group (state_of zone run).groups m ≡ true → IsPeak zone run m peak)
+      → IsPeak zone (pushed run step answer) m
       (peak_follows (state_of zone (pushed run step answer)) step.action answer m peak)

@@ -140,8 +140,8 @@ pub record Promise (zone : Zone) (run : Run) (shown : Shown) : Type 0 where
   pub frames : (f : ℕ) → f < zone.frames → IsInOnePlace zone run shown f
   pub beyond : (f : ℕ) → zone.frames ≤ f → (p : FramePlace) → ¬ Has shown f p
   pub stocks : (cpu : ℕ) → 1 ≤ (shown.stocks cpu).pages → IsPrepaid zone shown cpu
-  pub current : (g : ℕ) → has_group shown.groups g ≡ true →
-      (shown.current g ≡ kept_below shown zone.frames g + prepaid_below shown zone.cpus g)
+  pub current : (g : ℕ) → has_group shown.groups g ≡ true
+      → (shown.current g ≡ kept_below shown zone.frames g + prepaid_below shown zone.cpus g)
       × (shown.current g ≡ charged_below run g)
   pub limits : (k : ℕ) → IfSome (slice_get run k) (λ e. KeepsLimits (take k run) e.0.action e.1)
   pub returns : (k : ℕ) → IfSome (slice_get run k) (λ e. ComesBackOnce (take k run) e.0.seat e.0.action e.1)
@@ -149,5 +149,5 @@ pub record Promise (zone : Zone) (run : Run) (shown : Shown) : Type 0 where
 -- every legal run that leaves the lock free keeps the promise, for whatever shows its state
 abbrev pub ThePromiseIsKept : Type 0
 ThePromiseIsKept = (zone : Zone) (run : Run) (shown : Shown) → IsLegalRun zone run
-    → is_unheld (state_of zone run).hold ≡ true →
-    IsShown (state_of zone run) shown → Promise zone run shown
+    → is_unheld (state_of zone run).hold ≡ true
+    → IsShown (state_of zone run) shown → Promise zone run shown

@@ -41,11 +41,11 @@ IsInterleaved zone run cpu mixed = (k : ℕ)
 -- After a run that shows a CPU a local state, local steps that lead to another, with any allowed steps of other CPUs
 -- between them, make a legal run. It shows the CPU that other state.
 abbrev pub LocalRunsInterleave : Type 0
-LocalRunsInterleave = (zone : Zone) (run : Run) (cpu : ℕ) (a : State) (mixed : Run) (b : State) →
-    ShowsLocal zone run cpu a → IsLocalRun cpu a (own_steps cpu mixed) b → IsInterleaved zone run cpu mixed →
-    ShowsLocal zone (run ++ mixed) cpu b
+LocalRunsInterleave = (zone : Zone) (run : Run) (cpu : ℕ) (a : State) (mixed : Run) (b : State)
+    → ShowsLocal zone run cpu a → IsLocalRun cpu a (own_steps cpu mixed) b → IsInterleaved zone run cpu mixed
+    → ShowsLocal zone (run ++ mixed) cpu b
 
 -- a list of local steps from a to b, then one from b to c, is a list of local steps from a to c
 abbrev pub LocalRunsCompose : Type 0
-LocalRunsCompose = (cpu : ℕ) (a : State) (first : Run) (b : State) (second : Run) (c : State) →
-    IsLocalRun cpu a first b → IsLocalRun cpu b second c → IsLocalRun cpu a (first ++ second) c
+LocalRunsCompose = (cpu : ℕ) (a : State) (first : Run) (b : State) (second : Run) (c : State)
+    → IsLocalRun cpu a first b → IsLocalRun cpu b second c → IsLocalRun cpu a (first ++ second) c

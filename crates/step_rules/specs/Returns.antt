@@ -103,8 +103,8 @@ pub record ReturnsOnce (zone : Zone) (run : Run) (f : ℕ) : Type 0 where
   pub once : counted_with_run (uses_ended f) run
       ≡ one_if (is_open ((state_of zone run).phases f)) + counted_with_run (uses_closed f) run
   pub gone : is_gone run f ≡ is_open ((state_of zone run).phases f)
-  pub killed_return : (seat : ℕ) → is_legal (state_of zone run) seat (Return f) ≡ true →
-      is_killed_return run f ≡ is_killed_return_phase (state_of zone run).killed ((state_of zone run).phases f)
+  pub killed_return : (seat : ℕ) → is_legal (state_of zone run) seat (Return f) ≡ true
+      → is_killed_return run f ≡ is_killed_return_phase (state_of zone run).killed ((state_of zone run).phases f)
   pub none_open_at_put : (seat : ℕ) → IsMade (state_of zone run) seat (Put f) Last
       → is_open ((state_of zone run).phases f) ≡ false
   pub none_open_at_freeze : (seat n : ℕ) → IsMade (state_of zone run) seat (Freeze f n) Done

@@ -20,8 +20,8 @@ pub record LegalityIsSeen (s local : State) (seat : ℕ) (action : Action) : Typ
 -- After a run that shows a CPU a local state, each step of that CPU or of the zone's seat is legal exactly if it is on
 -- the local state. It is answered Illegal exactly if it isn't legal there.
 abbrev pub AllLegalityIsSeen : Type 0
-AllLegalityIsSeen = (zone : Zone) (run : Run) (cpu : ℕ) (local : State) → ShowsLocal zone run cpu local →
-    (seat : ℕ) (action : Action) → (seat ≡ 0) ⊎ (seat ≡ cpu) → LegalityIsSeen (state_of zone run) local seat action
+AllLegalityIsSeen = (zone : Zone) (run : Run) (cpu : ℕ) (local : State) → ShowsLocal zone run cpu local
+    → (seat : ℕ) (action : Action) → (seat ≡ 0) ⊎ (seat ≡ cpu) → LegalityIsSeen (state_of zone run) local seat action
 
 -- the run is legal, and leaves the lock free
 pub record IsFreeAfter (zone : Zone) (run : Run) : Type 0 where
@@ -31,12 +31,12 @@ pub record IsFreeAfter (zone : Zone) (run : Run) : Type 0 where
 -- If a CPU may take the lock, it sees the state after taking it. If a CPU may release the lock by what it sees, the run
 -- stays legal when it does so, and the lock is free then.
 pub record LockIsPassedOn : Type 0 where
-  pub taken : (zone : Zone) (run : Run) (cpu : ℕ) → IsLegalRun zone run → is_legal (state_of zone run) cpu Lock ≡ true →
-      ShowsLocal zone (pushed run (record { seat = cpu; action = Lock }) Done) cpu
+  pub taken : (zone : Zone) (run : Run) (cpu : ℕ) → IsLegalRun zone run → is_legal (state_of zone run) cpu Lock ≡ true
+      → ShowsLocal zone (pushed run (record { seat = cpu; action = Lock }) Done) cpu
       (hide cpu (record (state_of zone run) { hold = HeldBy cpu }))
   pub given_back : (zone : Zone) (run : Run) (cpu : ℕ) (local : State) → ShowsLocal zone run cpu local
-      → is_legal local cpu Unlock ≡ true →
-      IsFreeAfter zone (pushed run (record { seat = cpu; action = Unlock }) Done)
+      → is_legal local cpu Unlock ≡ true
+      → IsFreeAfter zone (pushed run (record { seat = cpu; action = Unlock }) Done)
 
 -- What a CPU sees as it is in the state: the groups with their limits, who is killed, what is pending, each group's
 -- usage, which frames are free, and its own part. Of each other CPU it sees the book, and sees it as the pages of that
