@@ -1,5 +1,5 @@
 -- A walk over `Tree::ancestors` that changes what is kept under the number of each group that it passes. Serves the contracts
--- of `walks::add_until_over`, `take_off`, `raise_peaks` and `count_max`.
+-- of `walks::add_until_over`, `subtract_until`, `raise_peaks` and `count_max`.
 use Rattle.std.proofs.Common.{◌≡◌, ℕ, ◌<◌, Bool, true, false, not, cond, ◌==◌, IsTrue, IfSome, Option, Some, None, List, [], ◌∷◌, length, get_or, set}
 use Rattle.std.proofs.Common.{refl, sym, ap, ◌∙◌, subst, ⊎_elim}
 use Rattle.std.specs.Prelude.{nat_eq}

@@ -220,7 +220,7 @@ impl Charges {
         ensures groups { self.new.groups ≡ self.old.groups }
     {
         if let Some(over) = walks::add_until_over(&self.tree, &mut self.usages, group, pages) {
-            walks::take_off(&self.tree, &mut self.usages, group, Some(over), pages);
+            walks::subtract_until(&self.tree, &mut self.usages, group, Some(over), pages);
             return Err(Over { group: over });
         }
         self.accounts[group.number() as usize].pages += pages;
@@ -240,7 +240,7 @@ impl Charges {
         ensures events { SameEvents self.old self.new }
     {
         self.accounts[group.number() as usize].pages -= pages;
-        walks::take_off(&self.tree, &mut self.usages, group, None, pages);
+        walks::subtract_until(&self.tree, &mut self.usages, group, None, pages);
     }
 
     // Counts one event of this key: for the group itself, and for it and each of its ancestors.

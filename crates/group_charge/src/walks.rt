@@ -53,7 +53,13 @@ pub fn add_until_over(
 
 /// Subtracts the pages from the usage of the group and of each group above it. If an end is given, the walk stops
 /// there: that group and those above it keep their usage.
-pub fn take_off(tree: &Tree, usages: &mut [u32], group: GroupId, end: Option<GroupId>, pages: u32)
+pub fn subtract_until(
+    tree: &Tree,
+    usages: &mut [u32],
+    group: GroupId,
+    end: Option<GroupId>,
+    pages: u32,
+)
     requires legal { AreGroups tree.now }
     requires there { IsTrue (has_group tree.now group) }
     requires size { length usages.old ≡ most_groups }

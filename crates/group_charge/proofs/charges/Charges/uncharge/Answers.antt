@@ -22,8 +22,8 @@ overflow_sub-self c =
     ap (λ (a : Account). a.pages) (read_at kept c.number.result c.args.group c.index-self-number.result (empty_account 0) within c.number.ensures.value) in
     omega (arith, own, read, charged)
 
-pub take_off-requires-clause-enough : goal.take_off-requires-clause-enough
-take_off-requires-clause-enough c = λ m passed.
+pub subtract_until-requires-clause-enough : goal.subtract_until-requires-clause-enough
+subtract_until-requires-clause-enough c = λ m passed.
     let l = ledger_of c.self.inside.tree c.self.inside.accounts in
     let there : IsTrue (has_group l.groups c.args.group) = subst (λ (k : Ledger). IsTrue (has_group k.groups c.args.group)) (sym c.self.view_is) c.requires.there in
     let charged : c.args.pages ≤ pages_of l c.args.group = subst (λ k. c.args.pages ≤ pages_of k c.args.group) (sym c.self.view_is) c.requires.charged in
@@ -51,8 +51,8 @@ invariant_of-self c =
     let charged : c.args.pages ≤ pages_of l c.args.group = subst (λ k. c.args.pages ≤ pages_of k c.args.group) (sym c.self.view_is) c.requires.charged in
     kept_as _ _ _ (with_uncharge l c.args.group c.args.pages) (returns-clause-uncharged c ∙ ap (λ k. with_uncharge k c.args.group c.args.pages) (sym c.self.view_is))
     (AreCharges-taken l c.args.group c.args.pages c.self.invariant.charges) (length-set c.self.inside.accounts c.number.result _ ∙ c.self.invariant.size)
-    (stored_taken l c.self.inside.usages c.take_off.new.usages c.args.group c.args.pages c.self.invariant.charges there charged c.self.invariant.usages_are
-    c.take_off.ensures.size c.take_off.ensures.taken)
+    (stored_taken l c.self.inside.usages c.subtract_until.new.usages c.args.group c.args.pages c.self.invariant.charges there charged c.self.invariant.usages_are
+    c.subtract_until.ensures.size c.subtract_until.ensures.taken)
 
 pub returns-clause-usage : goal.returns-clause-usage
 returns-clause-usage c =

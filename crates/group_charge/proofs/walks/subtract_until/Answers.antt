@@ -2,7 +2,7 @@ use Rattle.std.proofs.Common.{◌≡◌, ◌-◌, ◌<◌, ℕ, not, length, set
 use Rattle.group_charge.specs.Kept.{UsagesPassed, usage_by}
 use Rattle.group_charge.proofs.WalkLemmas.{Walking, before_end, goes_on, goes_on_eq, is_end, no_end, walking_all, walking_on, walking_start}
 use Rattle.group_charge.proofs.WalkLemmas.{walking_tested, walking_turn}
-use Rattle.group_charge.proofs.walks.take_off.Goals as goal
+use Rattle.group_charge.proofs.walks.subtract_until.Goals as goal
 
 pub loop-ancestor-init : goal.loop-ancestor-init
 loop-ancestor-init c =
