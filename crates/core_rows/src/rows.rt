@@ -70,8 +70,8 @@ impl Rows {
     pub fn is_killed(&self, group: GroupId) -> bool
         ensures { result ≡ (state_in self.now).killed group }
     {
-        let g = group.number() as usize;
-        g < self.killed.len() && self.killed[g]
+        let number = group.number() as usize;
+        number < self.killed.len() && self.killed[number]
     }
 
     /// The pages that are pending for a group of this number.
@@ -79,9 +79,9 @@ impl Rows {
     pub fn pending(&self, group: GroupId) -> u128
         ensures { result ≡ (state_in self.now).pending group }
     {
-        let g = group.number() as usize;
-        if g < self.pending.len() {
-            self.pending[g]
+        let number = group.number() as usize;
+        if number < self.pending.len() {
+            self.pending[number]
         } else {
             0
         }

@@ -43,11 +43,11 @@ pub struct SeatRow {
 }
 
 // Removes this frame from the list.
-fn take_out(frames: &mut Vec<u32>, frame: u32)
+fn remove_frame(frames: &mut Vec<u32>, frame: u32)
     ensures frames { frames.new.items ≡ without frame frames.old.items }
     ensures room { vec_capacity frames.new ≡ vec_capacity frames.old }
 {
-    frames.retain(|x| *x != frame);
+    frames.retain(|listed| *listed != frame);
 }
 
 /// Sets the references of the seat on a frame.
@@ -76,9 +76,9 @@ pub(crate) fn unlist_frame(seat: &mut SeatRow, frame: u32, was_fresh: bool)
     ensures part { part_in seat.new ≡ taken_off (part_in seat.old) frame was_fresh }
     ensures kept { KeepsRoom seat.old seat.new }
 {
-    take_out(&mut seat.list, frame);
-    take_out(&mut seat.fresh, frame);
-    take_out(&mut seat.back, frame);
+    remove_frame(&mut seat.list, frame);
+    remove_frame(&mut seat.fresh, frame);
+    remove_frame(&mut seat.back, frame);
     if was_fresh {
         seat.unreported += 1;
     }
@@ -93,7 +93,7 @@ pub(crate) fn pay_front(seat: &mut SeatRow)
     ensures kept { KeepsRoom seat.old seat.new }
 {
     let front = seat.list[0];
-    take_out(&mut seat.list, front);
+    remove_frame(&mut seat.list, front);
     seat.fresh.push_reserved(front);
     seat.pages -= 1;
 }
@@ -106,7 +106,7 @@ pub(crate) fn credit(seat: &mut SeatRow, frame: u32)
     ensures kept { KeepsRoom seat.old seat.new }
 {
     seat.list.push_reserved(frame);
-    take_out(&mut seat.fresh, frame);
+    remove_frame(&mut seat.fresh, frame);
     seat.pages += 1;
 }
 
@@ -175,9 +175,9 @@ pub(crate) fn new_seat(alloc: Global, frames: u32) -> Result<SeatRow, AllocError
     ensures none { IfOk result (λ s. s.references.items ≡ replicate frames 0) }
     ensures room { IfOk result (HasRoom frames) }
 {
-    let n = frames as usize;
-    let references = vec![in alloc; 0; n]?;
-    let list = Vec::with_capacity(alloc, n)?;
+    let count = frames as usize;
+    let references = vec![in alloc; 0; count]?;
+    let list = Vec::with_capacity(alloc, count)?;
     let fresh = Vec::with_capacity(alloc, MOST_FRESH)?;
     let back = Vec::with_capacity(alloc, MOST_BACK)?;
     Ok(SeatRow {

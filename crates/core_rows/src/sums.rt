@@ -93,8 +93,8 @@ impl Rows {
         requires fits { FitsZone self.now }
         ensures { result ≡ no_page_pends (state_in self.now) }
     {
-        for g in 0..64usize {
-            if self.pending[g] != 0 {
+        for number in 0..64usize {
+            if self.pending[number] != 0 {
                 return false;
             }
         }

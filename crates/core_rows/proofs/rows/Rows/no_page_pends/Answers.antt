@@ -9,7 +9,7 @@ use Rattle.core_rows.proofs.rows.Rows.no_page_pends.Goals as goal
 pub returns-then-index-ne0 : goal.returns-then-index-ne0
 returns-then-index-ne0 c =
     let items = c.args.self.now.pending.items in
-    let g = c.loop-g.g in
-    let inside : g < length items = omega (arith, c.args.self.now.pending.ok.0, c.requires.fits.pending, c.loop-g-test.true) in
+    let g = c.loop-number.number in
+    let inside : g < length items = omega (arith, c.args.self.now.pending.ok.0, c.requires.fits.pending, c.loop-number-test.true) in
     let was : c.index.result.now ≡ get_or items g 0 = c.index.ensures ∙ get_or_default items g c.index.result.now 0 inside in
-    all_not 64 (λ g. (state_in c.args.self.now).pending g == 0) g c.loop-g-test.true (ne_eqb (get_or items g 0) 0 (λ e. c.if-index-ne0.true (was ∙ e)))
+    all_not 64 (λ g. (state_in c.args.self.now).pending g == 0) g c.loop-number-test.true (ne_eqb (get_or items g 0) 0 (λ e. c.if-index-ne0.true (was ∙ e)))

@@ -3,5 +3,5 @@ use Rattle.std.proofs.Common.{◌≡◌, ◌<◌, ◌==◌, ℕ, true}
 use Rattle.core_rows.specs.Shown.{state_in}
 use Rattle.core_rows.proofs.rows.Rows.no_page_pends.Given as goal
 
-abbrev pub invariant-loop-g : goal.invariant-loop-g
-invariant-loop-g l = (i : ℕ) → i < l.g → ((state_in l.self).pending i == 0) ≡ true
+abbrev pub invariant-loop-number : goal.invariant-loop-number
+invariant-loop-number l = (i : ℕ) → i < l.number → ((state_in l.self).pending i == 0) ≡ true
