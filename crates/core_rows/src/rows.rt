@@ -4,7 +4,7 @@
 ghost use Rattle.std.specs.Prelude.{◌≡◌, ◌+◌, ◌-◌, ◌<◌, ◌≤◌, ◌^◌, Some, None, MatchOption, IfOk, length, vec_len};
 ghost use Rattle.std.specs.List.{slice_get};
 ghost use Rattle.step_rules.specs.State.{at_boot, front_of, with_at, is_cpu, is_frame};
-ghost use Rattle.step_rules.specs.After.{with_listed, taken_off, paid, credited, with_back, with_report, absorbed};
+ghost use Rattle.step_rules.specs.After.{with_listed, with_unlisted, paid, credited, with_back, with_report, absorbed};
 ghost use Rattle.step_rules.specs.After.{filled, drained, with_phase, with_part, with_references, with_pending};
 ghost use Rattle.core_rows.specs.Shown.{state_in};
 ghost use Rattle.core_rows.specs.Rooms.{FitsZone};
@@ -314,7 +314,7 @@ impl Rows {
         requires cpu { cpu ≤ self.old.cpus }
         requires few { ((state_in self.old).parts cpu).unreported < 2 ^ 100 }
         ensures state { state_in self.new
-            ≡ with_part (state_in self.old) cpu (taken_off ((state_in self.old).parts cpu) frame was_fresh) }
+            ≡ with_part (state_in self.old) cpu (with_unlisted ((state_in self.old).parts cpu) frame was_fresh) }
         ensures fits { FitsZone self.new }
     {
         unlist_frame(&mut self.seats[cpu as usize], frame, was_fresh);

@@ -3,7 +3,7 @@
 ghost use Rattle.std.specs.Prelude.{◌≡◌, ◌+◌, ◌-◌, ◌<◌, ◌≤◌, ◌^◌, IfOk, vec_len, vec_capacity, length, replicate};
 ghost use Rattle.std.specs.Prelude.{slice_set};
 ghost use Rattle.step_rules.specs.State.{no_part, without};
-ghost use Rattle.step_rules.specs.After.{with_listed, taken_off, paid, credited, with_back, with_report, absorbed};
+ghost use Rattle.step_rules.specs.After.{with_listed, with_unlisted, paid, credited, with_back, with_report, absorbed};
 ghost use Rattle.step_rules.specs.After.{filled, drained};
 ghost use Rattle.core_rows.specs.Shown.{part_in};
 ghost use Rattle.core_rows.specs.Rooms.{HasRoom, KeepsCapacity, KeepsRoom};
@@ -73,7 +73,7 @@ pub(crate) fn list_frame(seat: &mut SeatRow, frame: u32)
 /// Removes a frame from the list, the fresh and the back frames; if it was fresh, one more page is unreported.
 pub(crate) fn unlist_frame(seat: &mut SeatRow, frame: u32, was_fresh: bool)
     requires few { seat.old.unreported < 2 ^ 100 }
-    ensures part { part_in seat.new ≡ taken_off (part_in seat.old) frame was_fresh }
+    ensures part { part_in seat.new ≡ with_unlisted (part_in seat.old) frame was_fresh }
     ensures kept { KeepsRoom seat.old seat.new }
 {
     remove_frame(&mut seat.list, frame);

@@ -36,7 +36,7 @@ use Rattle.step_rules.specs.Charges.{charged_below}
 use Rattle.step_rules.specs.Keepers.{StockIsKept}
 use Rattle.step_rules.specs.Lent.{lent_to}
 use Rattle.step_rules.specs.Promise.{Shown, IsShown, Has, HasOnce, IsInUnit, IsInOnePlace, IsPrepaid, kept_below, prepaid_below, KeepsLimits}
-use Rattle.step_rules.specs.Promise.{HasNoReference, IsUnused, ComesBackOnce, ThePromiseIsKept}
+use Rattle.step_rules.specs.Promise.{HasNoReference, IsUnused, ReturnsNoFrameTwice, ThePromiseIsKept}
 use Rattle.step_rules.proofs.LegalTests.{consume_tests, credit_tests, grant_tests, return_tests, unfreeze_tests}
 use Rattle.step_rules.proofs.Lists.{one_if_true}
 use Rattle.step_rules.proofs.PhaseLemmas.{free_is, live_is, listed_is, fresh_is, held_live, none_some, returning_is, Returns, AsEnded, AsKilled}
@@ -284,7 +284,7 @@ limits_kept zone run legal seat (Grant g n) Granted ok = (
 limits_kept zone run legal seat action answer ok = tt
 
 returns_kept : (zone : Zone) (run : Run) → IsLegalRun zone run → (seat : ℕ) (action : Action) (answer : Answer) →
-    Allows (state_of zone run) seat action answer → ComesBackOnce run seat action answer
+    Allows (state_of zone run) seat action answer → ReturnsNoFrameTwice run seat action answer
 returns_kept zone run legal seat (Get f) Held ok =
     let s = state_of zone run in
     let live = live_is (s.phases f) (live_from_references s f (sound_run zone run legal) (held_live (live_references s f) ok.counted)) in
@@ -295,7 +295,7 @@ returns_kept zone run legal seat (Unfreeze f n) Done ok =
     let hand : is_head_in_hand ((state_of zone run).phases f) ≡ true = (unfreeze_tests (state_of zone run) seat f n ok.legal).2 in
     by_hand (in_hand ((state_of zone run).phases f) hand)
   where
-    by_hand : Hand ((state_of zone run).phases f) → ComesBackOnce run seat (Unfreeze f n) Done
+    by_hand : Hand ((state_of zone run).phases f) → ReturnsNoFrameTwice run seat (Unfreeze f n) Done
     by_hand (WasCollected u was) = (unit_told zone run legal f u was, no_reference zone run legal f (ap is_live was))
     by_hand (WasBare u was) = (unit_told zone run legal f u was, no_reference zone run legal f (ap is_live was))
     by_hand (WasEnded u was) = (unit_told zone run legal f u was, no_reference zone run legal f (ap is_live was))
@@ -305,7 +305,7 @@ returns_kept zone run legal seat (Return f) Done ok =
     came_back (every_frame_returns_once zone run legal f) (ok.legal) (returning_is s.killed (s.phases f) may)
   where
     came_back : ReturnsOnce zone run f → is_legal (state_of zone run) seat (Return f) ≡ true →
-        Returns (state_of zone run).killed ((state_of zone run).phases f) → ComesBackOnce run seat (Return f) Done
+        Returns (state_of zone run).killed ((state_of zone run).phases f) → ReturnsNoFrameTwice run seat (Return f) Done
     came_back back may (AsEnded u was) = (
       inl (back.gone ∙ ap is_open was),
       unit_told zone run legal f u was,
@@ -362,6 +362,6 @@ the_promise_is_kept zone run shown legal free is =
           (λ e. KeepsLimits (take k run) e.0.action e.1) (slice_get run k)
           (λ e ok. limits_kept zone (take k run) (legal_from zone run k legal) e.0.seat e.0.action e.1 ok) (legal k);
       returns = λ k. if_each (λ e. Allows (state_of zone (take k run)) e.0.seat e.0.action e.1)
-          (λ e. ComesBackOnce (take k run) e.0.seat e.0.action e.1) (slice_get run k)
+          (λ e. ReturnsNoFrameTwice (take k run) e.0.seat e.0.action e.1) (slice_get run k)
           (λ e ok. returns_kept zone (take k run) (legal_from zone run k legal) e.0.seat e.0.action e.1 ok) (legal k);
     }

@@ -64,8 +64,8 @@ abbrev pub with_listed : Part → ℕ → Part
 with_listed part f = record part { list = with_last part.list f }
 
 -- the part with the frame on none of its lists; if it was fresh, one more page is unreported
-abbrev pub taken_off : Part → ℕ → Bool → Part
-taken_off part f was_fresh = record part {
+abbrev pub with_unlisted : Part → ℕ → Bool → Part
+with_unlisted part f was_fresh = record part {
   list = without f part.list;
   fresh = without f part.fresh;
   back = without f part.back;
@@ -74,7 +74,7 @@ taken_off part f was_fresh = record part {
 
 -- the part without a frame that it passes back; if that one was fresh, one more page is unreported
 abbrev pub without_frame : Part → Phase → ℕ → ℕ → Part
-without_frame part phase cpu f = taken_off part f (has_as FreshFrame cpu phase)
+without_frame part phase cpu f = with_unlisted part f (has_as FreshFrame cpu phase)
 
 -- the part with n of its unreported pages reported
 abbrev pub with_report : Part → ℕ → Part

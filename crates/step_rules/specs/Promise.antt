@@ -115,18 +115,18 @@ IsUnused run f = ((g : ℕ) → ¬ IsInUnit run g f) × HasNoReference run f × 
 -- its last reference, or as a fresh frame of a killed group. A credit is of a frame that is fresh at the CPU, without
 -- references. A frame is paid for, from the front of the list, or placed only while it is in no use. A placed block has
 -- the order asked for.
-abbrev pub ComesBackOnce : Run → ℕ → Action → Answer → Type 0
-ComesBackOnce run seat (Get f) Held = is_gone run f ≡ false
-ComesBackOnce run seat (Put f) Last = is_gone run f ≡ false
-ComesBackOnce run seat (Freeze f n) Done = is_gone run f ≡ false
-ComesBackOnce run seat (Unfreeze f n) Done = (is_some ((units_of run).unit f) ≡ true) × HasNoReference run f
-ComesBackOnce run seat (Return f) Done = ((is_gone run f ≡ true) ⊎ (is_killed_return run f ≡ true))
+abbrev pub ReturnsNoFrameTwice : Run → ℕ → Action → Answer → Type 0
+ReturnsNoFrameTwice run seat (Get f) Held = is_gone run f ≡ false
+ReturnsNoFrameTwice run seat (Put f) Last = is_gone run f ≡ false
+ReturnsNoFrameTwice run seat (Freeze f n) Done = is_gone run f ≡ false
+ReturnsNoFrameTwice run seat (Unfreeze f n) Done = (is_some ((units_of run).unit f) ≡ true) × HasNoReference run f
+ReturnsNoFrameTwice run seat (Return f) Done = ((is_gone run f ≡ true) ⊎ (is_killed_return run f ≡ true))
     × (is_some ((units_of run).unit f) ≡ true) × HasNoReference run f
-ComesBackOnce run seat (Credit f) Back = (times_in f ((units_of run).hands seat).fresh ≡ 1) × HasNoReference run f
-ComesBackOnce run seat (Consume g) Took =
+ReturnsNoFrameTwice run seat (Credit f) Back = (times_in f ((units_of run).hands seat).fresh ≡ 1) × HasNoReference run f
+ReturnsNoFrameTwice run seat (Consume g) Took =
     (1 ≤ length ((units_of run).hands seat).list) × IsUnused run (front_of ((units_of run).hands seat).list)
-ComesBackOnce run seat (PlaceBlock g k) (Placed b) = (b.order ≡ k) × ((f : ℕ) → Covers b f → IsUnused run f)
-ComesBackOnce run seat action answer = Unit {0}
+ReturnsNoFrameTwice run seat (PlaceBlock g k) (Placed b) = (b.order ≡ k) × ((f : ℕ) → Covers b f → IsUnused run f)
+ReturnsNoFrameTwice run seat action answer = Unit {0}
 
 -- ---- the promise
 -- What is shown after the run keeps the promise. The groups are those of the run. The free areas are the maximal blocks
@@ -144,7 +144,7 @@ pub record Promise (zone : Zone) (run : Run) (shown : Shown) : Type 0 where
       → (shown.current g ≡ kept_below shown zone.frames g + prepaid_below shown zone.cpus g)
       × (shown.current g ≡ charged_below run g)
   pub limits : (k : ℕ) → IfSome (slice_get run k) (λ e. KeepsLimits (take k run) e.0.action e.1)
-  pub returns : (k : ℕ) → IfSome (slice_get run k) (λ e. ComesBackOnce (take k run) e.0.seat e.0.action e.1)
+  pub returns : (k : ℕ) → IfSome (slice_get run k) (λ e. ReturnsNoFrameTwice (take k run) e.0.seat e.0.action e.1)
 
 -- every legal run that leaves the lock free keeps the promise, for whatever shows its state
 abbrev pub ThePromiseIsKept : Type 0

@@ -93,11 +93,6 @@ without f frames = filter (λ x. not (x == f)) frames
 abbrev pub with_last : List ℕ → ℕ → List ℕ
 with_last frames f = frames ++ f ∷ []
 
--- the frames with this one at the end if the test is true, else without it
-abbrev pub put_if : Bool → ℕ → List ℕ → List ℕ
-put_if true f frames = with_last frames f
-put_if false f frames = frames
-
 -- the front of a list
 abbrev pub front_of : List ℕ → ℕ
 front_of frames = slice_index_or frames 0 0

@@ -47,7 +47,7 @@ pub fn an_early_unlock_is_illegal()
 
 /// A fresh frame that the zone collected is returned without a last put only if its group is killed. The return is
 /// answered Illegal before the kill, and Done after it.
-pub fn a_killed_groups_fresh_frame_comes_back()
+pub fn a_killed_groups_fresh_frame_is_returned()
     ensures legal { IsLegalRun small_zone returned_when_killed }
     ensures frame_free { (state_of small_zone returned_when_killed).phases 0 ≡ InZone }
 {}
@@ -110,9 +110,9 @@ pub fn a_stock_pays_once()
     ensures { IsLegalRun small_zone stock_without_a_page }
 {}
 
-/// What the run says of that life. The frame is lent to CPU 1 after the first visit. It is published from the hand-over
-/// until it is returned, and gone from the last put until then.
-pub fn the_life_of_a_frame_is_told()
+/// In that life the frame is lent to CPU 1 after the first visit. It is published from the hand-over until it is
+/// returned, and its last reference is gone from the last put until then.
+pub fn a_frame_is_lent_published_and_gone()
     ensures lent { lent_to ((state_of small_zone first_visit).phases 0) ≡ Some 1 }
     ensures published { (is_published (first_visit ++ hand_over) 0 ≡ true) × (is_published life_of_a_frame 0 ≡ false) }
     ensures not_gone { is_gone (first_visit ++ hand_over) 0 ≡ false }
