@@ -199,7 +199,7 @@ fn may_publish(rows: &Rows, seat: u32, frame: u32) -> bool
 fn may_return(rows: &Rows, seat: u32, frame: u32) -> bool
     ensures { result ≡ is_legal (state_in rows.now) seat (Action.Return frame) }
 {
-    may_zone_act(rows.hold, seat) && rows.is_frame(frame) && may_come_back(rows, frame)
+    may_zone_act(rows.hold, seat) && rows.is_frame(frame) && is_returnable(rows, frame)
 }
 
 fn may_note_max(rows: &Rows, seat: u32, group: GroupId) -> bool
@@ -284,7 +284,7 @@ fn may_take_fill(rows: &Rows, cpu: u32, group: GroupId) -> bool
 }
 
 // The frame heads a unit that may be returned: `may_return` of the rules.
-fn may_come_back(rows: &Rows, frame: u32) -> bool
+fn is_returnable(rows: &Rows, frame: u32) -> bool
     ensures { result ≡ may_return (state_in rows.now).killed ((state_in rows.now).phases frame) }
 {
     match rows.phase(frame) {
