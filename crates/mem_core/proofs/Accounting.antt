@@ -27,7 +27,7 @@ use Rattle.step_rules.proofs.Peaking.{peaks_are_kept}
 use Rattle.step_rules.proofs.Noting.{events_are_counted}
 use Rattle.step_rules.proofs.Runs.{after_illegal, state_more}
 use Rattle.mem_core.specs.Accounts.{Account, new_account, account_of, with_note, events_after, account_after, AccountsFollow}
-use Rattle.mem_core.specs.Shown.{AccountsTell}
+use Rattle.mem_core.specs.Shown.{AccountsMatchRun}
 
 -- a group that is there after a step was there before, or the step made it
 there_or_made : (s : State) (seat : ℕ) (action : Action) (answer : Answer) (m : ℕ)
@@ -135,8 +135,8 @@ follow_alike test g groups action answer x y (inr made) =
 
 pub tell_more : (zone : Zone) (run : Run) (step : Step) (answer : Answer) (old new : List Account) → IsLegalRun zone run
     → Allows (state_of zone run) step.seat step.action answer →
-    AccountsTell zone run old → AccountsFollow (after (state_of zone run) step.seat step.action answer) step.action answer old new
-    → AccountsTell zone (pushed run step answer) new
+    AccountsMatchRun zone run old → AccountsFollow (after (state_of zone run) step.seat step.action answer) step.action answer old new
+    → AccountsMatchRun zone (pushed run step answer) new
 tell_more zone run step answer old new legal ok told follow =
     let s : State = state_of zone run in
     let t : State = after s step.seat step.action answer in
@@ -173,7 +173,7 @@ root_alone m there = eqb-true 0 m (or_none (0 == m) (sym (has_group-any initial_
     or_none true e = refl
     or_none false e = e
 
-pub tell_start : (zone : Zone) (accounts : List Account) → ((m : ℕ) → account_of accounts m ≡ new_account) → AccountsTell zone [] accounts
+pub tell_start : (zone : Zone) (accounts : List Account) → ((m : ℕ) → account_of accounts m ≡ new_account) → AccountsMatchRun zone [] accounts
 tell_start zone accounts new = record {
   peaks = λ m there. subst (λ (k : ℕ). IsPeak zone [] k (account_of accounts m).peak) (root_alone m there)
       (subst (IsPeak zone [] 0) (sym (ap (λ (a : Account). a.peak) (new m))) (peaks_are_kept.boot zone));

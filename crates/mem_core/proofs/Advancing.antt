@@ -21,7 +21,7 @@ use Rattle.step_rules.proofs.SoundSteps.{sound_step}
 use Rattle.step_rules.proofs.Runs.{after_illegal, allowed, state_more, legal_more}
 use Rattle.core_rows.specs.Rooms.{PlacesFront, pages_asked}
 use Rattle.core_rows.proofs.Bounding.{IsBounded, bounded_step}
-use Rattle.mem_core.specs.Shown.{CoreState, Shows, AccountsTell, state_shown}
+use Rattle.mem_core.specs.Shown.{CoreState, Shows, AccountsMatchRun, state_shown}
 use Rattle.mem_core.specs.Accounts.{Account, account_after, account_of, AccountsFollow}
 use Rattle.mem_core.proofs.Accounting.{tell_more}
 use Rattle.mem_core.specs.Promise.{PlacesFirst}
@@ -76,7 +76,7 @@ shown_more s t run step answer shows ok zone steps state follow =
       legal = subst (λ (z : Zone). IsLegalRun z (run ++ (step, answer) ∷ [])) (sym zone) (legal_more s.zone run step answer shows.legal here);
       steps = let a = length-append run ((step, answer) ∷ []) in let b = shows.steps in omega arith;
       state = more ∙ ap (λ (z : Zone). state_of z (run ++ (step, answer) ∷ [])) (sym zone);
-      accounts = subst (λ (z : Zone). AccountsTell z (run ++ (step, answer) ∷ []) t.accounts) (sym zone)
+      accounts = subst (λ (z : Zone). AccountsMatchRun z (run ++ (step, answer) ∷ []) t.accounts) (sym zone)
           (tell_more s.zone run step answer s.accounts t.accounts shows.legal here shows.accounts
           (subst (λ (x : State). AccountsFollow (after x step.seat step.action answer) step.action answer s.accounts t.accounts) shows.state follow));
     }

@@ -65,7 +65,7 @@ state_shown s = record {
 }
 
 -- for each existing group the accounts have the peak and the event counts that the run defines
-pub record AccountsTell (zone : Zone) (run : Run) (accounts : List Account) : Type 0 where
+pub record AccountsMatchRun (zone : Zone) (run : Run) (accounts : List Account) : Type 0 where
   pub peaks : (g : ℕ) → has_group (state_of zone run).groups g ≡ true → IsPeak zone run g (account_of accounts g).peak
   pub events : (key : EventKey) (g : ℕ) → has_group (state_of zone run).groups g ≡ true
       → count_of (account_of accounts g).events key ≡ events_of key zone run g
@@ -77,7 +77,7 @@ pub record Shows (s : CoreState) (run : Run) : Type 0 where
   pub legal : IsLegalRun s.zone run
   pub steps : s.steps ≡ length run
   pub state : state_shown s ≡ state_of s.zone run
-  pub accounts : AccountsTell s.zone run s.accounts
+  pub accounts : AccountsMatchRun s.zone run s.accounts
 
 -- the free areas are the maximal blocks of the free frames
 abbrev pub HasMaximalAreas : CoreState → Type 0
