@@ -8,13 +8,13 @@ use group_tree::group::GroupId;
 use group_tree::tree::Tree;
 use std::process::Abort;
 
-/// It holds of the groups, or the test fails. A call is cheaper to prove than the macro in its place.
-pub fn groups_tell(rt: &impl Abort, is: bool) {
+/// It is true, or the test fails. A call is cheaper to prove than the macro in its place.
+pub fn expect_true(rt: &impl Abort, is: bool) {
     assert!(rt; is);
 }
 
 /// The group exists, or the test fails.
-pub fn group_stands(rt: &impl Abort, tree: &Tree, group: GroupId)
+pub fn expect_group(rt: &impl Abort, tree: &Tree, group: GroupId)
     ensures { IsTrue (has_group tree.now group) }
 {
     assert!(rt; tree.contains(group));
@@ -28,11 +28,11 @@ pub fn charge_pages(
     pages: u32,
     answer: Result<(), Over>,
 ) {
-    group_stands(rt, charges.tree(), group);
+    expect_group(rt, charges.tree(), group);
     assert!(rt; charges.fits(pages));
-    groups_tell(rt, charges.try_charge(group, pages) == answer);
+    expect_true(rt, charges.try_charge(group, pages) == answer);
     if let Err(over) = answer {
-        group_stands(rt, charges.tree(), over.group);
+        expect_group(rt, charges.tree(), over.group);
         charges.note_max(over.group);
     }
 }

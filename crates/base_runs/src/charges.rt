@@ -1,6 +1,6 @@
 //! The lines that the README of `group_charge` shows.
 
-use crate::calls::{charge_pages, group_stands, groups_tell};
+use crate::calls::{charge_pages, expect_group, expect_true};
 use group_charge::charges::{Charges, Over};
 use group_tree::event::EventKey;
 use group_tree::group::GroupId;
@@ -9,10 +9,10 @@ use std::test::Fail;
 
 // The group has five pages, and its limit refused one charge.
 fn tells_five_pages(rt: &impl Abort, charges: &Charges, web: GroupId) {
-    group_stands(rt, charges.tree(), web);
-    groups_tell(rt, charges.current(web) == 5);
-    groups_tell(rt, charges.peak(web) == 5);
-    groups_tell(rt, charges.events(web).count(EventKey::Max) == 1);
+    expect_group(rt, charges.tree(), web);
+    expect_true(rt, charges.current(web) == 5);
+    expect_true(rt, charges.peak(web) == 5);
+    expect_true(rt, charges.events(web).count(EventKey::Max) == 1);
 }
 
 #[test]

@@ -1,6 +1,6 @@
 //! The lines that the README of `control_files` shows, and what no script can ask.
 
-use crate::calls::{charge_pages, group_stands, groups_tell};
+use crate::calls::{charge_pages, expect_group, expect_true};
 use control_files::file::{File, file_named, file_text};
 use control_files::flag::{read_flag, write_flag};
 use control_files::limit::{read_limit, write_limit};
@@ -12,10 +12,10 @@ use std::test::Fail;
 
 // The file of the group has this text.
 fn file_reads(rt: &impl Abort, charges: &Charges, group: GroupId, file: File, text: &[u8]) {
-    group_stands(rt, charges.tree(), group);
+    expect_group(rt, charges.tree(), group);
     match file_text(charges, group, file) {
-        Ok(found) => groups_tell(rt, found.as_bytes() == text),
-        Err(_) => groups_tell(rt, false),
+        Ok(found) => expect_true(rt, found.as_bytes() == text),
+        Err(_) => expect_true(rt, false),
     }
 }
 
@@ -28,29 +28,29 @@ fn the_first_lines_of_use(rt: HostRuntime) -> Result<(), Fail> {
     charge_pages(&rt, &mut charges, web, 5, Ok(()));
     file_reads(&rt, &charges, web, File::Max, b"1048576\n");
     file_reads(&rt, &charges, web, File::Current, b"20480\n");
-    groups_tell(&rt, read_limit(b"1 M") == Err(Fault::BadLimit));
+    expect_true(&rt, read_limit(b"1 M") == Err(Fault::BadLimit));
     Ok(())
 }
 
 // In a script no value can end with a line feed, so no script tests this.
 #[test]
 fn limits_and_flags_may_end_with_a_line_feed(rt: HostRuntime) {
-    groups_tell(&rt, read_limit(b"max\n") == Ok(None));
-    groups_tell(&rt, write_limit(None).as_bytes() == b"max\n".as_slice());
-    groups_tell(&rt, read_flag(b" 1\t\n") == Ok(true));
-    groups_tell(&rt, read_flag(b" \n") == Err(Fault::BadLimit));
-    groups_tell(&rt, write_flag(true).as_bytes() == b"1\n".as_slice());
+    expect_true(&rt, read_limit(b"max\n") == Ok(None));
+    expect_true(&rt, write_limit(None).as_bytes() == b"max\n".as_slice());
+    expect_true(&rt, read_flag(b" 1\t\n") == Ok(true));
+    expect_true(&rt, read_flag(b" \n") == Err(Fault::BadLimit));
+    expect_true(&rt, write_flag(true).as_bytes() == b"1\n".as_slice());
 }
 
 #[test]
 fn files_are_found_by_name(rt: HostRuntime) {
-    groups_tell(&rt, file_named(b"memory.oom.group") == Some(File::OomGroup));
-    groups_tell(&rt, File::EventsLocal.name() == "memory.events.local");
-    groups_tell(
+    expect_true(&rt, file_named(b"memory.oom.group") == Some(File::OomGroup));
+    expect_true(&rt, File::EventsLocal.name() == "memory.events.local");
+    expect_true(
         &rt,
         File::OomGroup.is_writable() && File::OomGroup.is_readable(),
     );
-    groups_tell(
+    expect_true(
         &rt,
         !File::Peak.is_writable() && !File::Reclaim.is_readable(),
     );

@@ -3,7 +3,7 @@
 ghost use Rattle.std.specs.Prelude.{IsTrue};
 ghost use Rattle.group_tree.specs.Groups.{has_group};
 
-use crate::calls::groups_tell;
+use crate::calls::expect_true;
 use group_tree::fault::Fault;
 use group_tree::group::GroupId;
 use group_tree::path::PathText;
@@ -46,9 +46,9 @@ fn the_first_lines_of_use(rt: HostRuntime) -> Result<(), Fail> {
 #[test]
 fn a_text_has_at_most_512_bytes(rt: HostRuntime) -> Result<(), Fail> {
     let long = [b'x'; 513];
-    groups_tell(&rt, PathText::of(&long).is_none());
+    expect_true(&rt, PathText::of(&long).is_none());
     let text = PathText::of(&long[..512]).ok_or("too long")?;
-    groups_tell(&rt, text.as_bytes().len() == 512);
+    expect_true(&rt, text.as_bytes().len() == 512);
     Ok(())
 }
 
@@ -109,12 +109,12 @@ fn refusals(group: GroupId) -> [Fault; 22] {
 #[test]
 fn each_refusal_has_its_number_name_and_text(rt: HostRuntime) -> Result<(), Fail> {
     let group = GroupId::of(63).ok_or("no group")?;
-    groups_tell(&rt, GroupId::of(64).is_none());
+    expect_true(&rt, GroupId::of(64).is_none());
     let mut told = String::new(rt.alloc());
     for fault in refusals(group) {
         let line = format!(in rt.alloc(); "{} {}: {fault}\n", fault.number(), fault.name())?;
         told.push_str(line.as_str())?;
     }
-    groups_tell(&rt, told.as_str() == TEXTS);
+    expect_true(&rt, told.as_str() == TEXTS);
     Ok(())
 }
