@@ -37,12 +37,12 @@ pub(crate) fn relist(list: &mut VecDeque<Frame>, fresh: &mut Vec<Frame>, frame: 
     let Some(place) = place_of(fresh.as_slice(), frame) else {
         unreachable!()
     };
-    take_out(fresh, place);
+    remove_at(fresh, place);
     list.push_back_reserved(frame);
 }
 
 // Removes what is at the place. If that is the end, nothing is moved.
-fn take_out(frames: &mut Vec<Frame>, place: usize)
+fn remove_at(frames: &mut Vec<Frame>, place: usize)
     requires { place < vec_len frames.old }
     ensures out { frames.new.items ≡ remove frames.old.items place }
     ensures room { vec_capacity frames.new ≡ vec_capacity frames.old }
