@@ -1,6 +1,6 @@
--- Small runs, to be read beside the table. One is the life of a frame, three end with a refused step, one has a kill.
--- Two reach bounds: of references, limits and kills, and of the order of a list. One notes events. Two have a group,
--- its limit and its kill, one a group that is killed as a whole. In one a stock doesn't pay.
+-- Small runs, to be read beside the table. One is the life of a frame, three end with a refused step, one returns a
+-- killed group's fresh frame. Two reach bounds: of references, limits and kills, and of the order of a list. One notes
+-- events. Two have a group, its limit and its kill, one a group that is killed as a whole. In one a stock doesn't pay.
 use Rattle.std.specs.Prelude.{ℕ, ◌==◌, true, Some, [], ◌∷◌, ◌++◌, codes, replicate, if◌then◌else◌}
 use Rattle.step_rules.specs.declared.step.Step.{Step}
 use Rattle.step_rules.specs.declared.step.Action.{Action}
