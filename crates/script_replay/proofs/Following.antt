@@ -28,8 +28,8 @@ use Rattle.step_rules.specs.declared.phase.Stage.TheVariants.{FreshAt}
 use Rattle.step_rules.specs.declared.phase.Phase.TheVariants as phase
 use Rattle.step_rules.specs.declared.step.Action.{Action}
 use Rattle.step_rules.specs.declared.step.Action.TheVariants as step
-use Rattle.step_rules.specs.declared.step.Answer.{Answer as Said}
-use Rattle.step_rules.specs.declared.step.Answer.TheVariants as says
+use Rattle.step_rules.specs.declared.step.Answer.{Answer as StepAnswer}
+use Rattle.step_rules.specs.declared.step.Answer.TheVariants as step_answer
 use Rattle.step_rules.specs.State.{State}
 use Rattle.step_rules.specs.After.{Run, state_of, IsLegalRun}
 use Rattle.step_watch.specs.Watched.{KnownWatch, Watches}
@@ -249,8 +249,8 @@ module _ (t : KnownTable) (w : KnownStockTable) (run : Run) (locked : KnownLocke
   )
 
   -- a step without the lock
-  step_follows : (action : Action) (said : Said) (after : LockedState) → (kept : OnlyWatched (cpu_makes p action said ∷ []) locked after.locked) →
-      after.cpu.number ≡ p → is_fast action ≡ true → said ≢ says.Illegal →
+  step_follows : (action : Action) (said : StepAnswer) (after : LockedState) → (kept : OnlyWatched (cpu_makes p action said ∷ []) locked after.locked) →
+      after.cpu.number ≡ p → is_fast action ≡ true → said ≢ step_answer.Illegal →
       Makes t (visit_state m c) (cpu_makes p action said ∷ []) (visit_state (record m { watch = after.locked.machine.watch }) after.cpu) →
       GoesOn (cpu_makes p action said ∷ []) → Follows (cpu_makes p action said ∷ []) after
   step_follows action said after kept number quick made leads legal =
@@ -279,9 +279,9 @@ module _ (t : KnownTable) (w : KnownStockTable) (run : Run) (locked : KnownLocke
   got_follows : (g f : ℕ) (after : LockedState) → FastAnswers g (Got f) c after.cpu → OnlyWatched (fast_steps p g (Got f)) locked after.locked → GoesOn (fast_steps p g (Got f)) →
       Follows (fast_steps p g (Got f)) after
   got_follows g f after is kept legal =
-      step_follows (step.Consume g) says.Took after kept (ap (λ (x : KnownCpu). x.number) is.5) refl (λ e. cc)
+      step_follows (step.Consume g) step_answer.Took after kept (ap (λ (x : KnownCpu). x.number) is.5) refl (λ e. cc)
       (fast_calls_lead.got t w run m cpus k c after.cpu this_part g f is
-      (legal_fast_steps_are_decided t run cpus k m c (step.Consume g) says.Took shows is_part refl (λ e. cc) legal)
+      (legal_fast_steps_are_decided t run cpus k m c (step.Consume g) step_answer.Took shows is_part refl (λ e. cc) legal)
       after.locked.machine.watch kept.watched) legal
 
   fast_follows : (g : ℕ) (said : fast.Fast) (after : LockedState) → FastAnswers g said c after.cpu → OnlyWatched (fast_steps p g said) locked after.locked → GoesOn (fast_steps p g said) →
@@ -296,7 +296,7 @@ module _ (t : KnownTable) (w : KnownStockTable) (run : Run) (locked : KnownLocke
   get_follows : (f : ℕ) (after : LockedState) (said : Answer) → f < t.frames → GetsPin f c after.cpu said → OnlyWatched (get_steps p f said) locked after.locked → GoesOn (get_steps p f said) →
       Follows (get_steps p f said) after
   get_follows f after (answer.Got Held) inside is kept legal =
-      step_follows (step.Get f) says.Held after kept (ap (λ (x : KnownCpu). x.number) is.1.2) refl (λ e. cc)
+      step_follows (step.Get f) step_answer.Held after kept (ap (λ (x : KnownCpu). x.number) is.1.2) refl (λ e. cc)
       (fast_calls_lead.held t w run m cpus k c after.cpu this_part f inside is.0 is.1 after.locked.machine.watch kept.watched) legal
   get_follows f after (answer.Got Zero) inside is kept legal =
       unseen_follows after kept (unseen_seat t m c after.cpu is.1.0 f (looked is.1.1.0) is.1.2 is.1.1.2 (λ x. refl))
@@ -317,7 +317,7 @@ module _ (t : KnownTable) (w : KnownStockTable) (run : Run) (locked : KnownLocke
       put_number (put.Left n) a = ap (λ (y : KnownCpu). y.number) a.3
       put_number put.Last a = ap (λ (y : KnownCpu). y.number) a.3
 
-      put_made : (x : Putted) → put_answer x ≢ says.Illegal
+      put_made : (x : Putted) → put_answer x ≢ step_answer.Illegal
       put_made (put.Left n) = λ e. cc
       put_made put.Last = λ e. cc
   put_follows f after (answer.Served (Refused NotPinned)) is kept legal = unseen_follows after kept (unseen_same t m c after.cpu is.1)
@@ -329,7 +329,7 @@ module _ (t : KnownTable) (w : KnownStockTable) (run : Run) (locked : KnownLocke
   locked_follows is_explained seen unseen command reply steps after is shut legal =
       let left_shut : AllShut is.left.machine = subst (λ (l : KnownLocked). AllShut l.machine) is.unlock.locked shut in
       as_made steps (under_lock p is.served.steps) after (is.steps_are ∙ ap (λ (q : ℕ). under_lock q is.served.steps) unseen.number)
-      (λ all. watched_follows (under_lock p is.served.steps) (cpu_makes seen.number step.Unlock says.Done ∷ []) is.left after is.unlock
+      (λ all. watched_follows (under_lock p is.served.steps) (cpu_makes seen.number step.Unlock step_answer.Done ∷ []) is.left after is.unlock
       (served_follows seen unseen is.found is_explained is.found.machine.watch is.lock.locked command reply (locked_state is.left after.cpu) is.served left_shut all)) legal
 
   replied_follows : (is_explained : Bool) (command : Cmd) (steps : Run) (after : LockedState) (said : Answer) → RepliesServed is_explained command (transition t before steps after) said → AllShut after.locked.machine →
@@ -355,10 +355,10 @@ module _ (t : KnownTable) (w : KnownStockTable) (run : Run) (locked : KnownLocke
   release_follows : (is_explained : Bool) (f : ℕ) (steps : Run) (after : LockedState) (said : Answer) (is_noted : Bool) → AnswersRelease is_explained f (transition t before steps after) said is_noted →
       AllShut after.locked.machine → GoesOn steps → Follows steps after
   release_follows is_explained f steps after answer.Listed false is shut legal =
-      as_made steps (cpu_makes p (step.Credit f) says.Back ∷ []) after is.1.steps_are
-      (λ all. step_follows (step.Credit f) says.Back after is.1.locked (ap (λ (x : KnownCpu). x.number) is.0.listed.5) refl (λ e. cc)
+      as_made steps (cpu_makes p (step.Credit f) step_answer.Back ∷ []) after is.1.steps_are
+      (λ all. step_follows (step.Credit f) step_answer.Back after is.1.locked (ap (λ (x : KnownCpu). x.number) is.0.listed.5) refl (λ e. cc)
       (fast_calls_lead.listed t w run m cpus k c after.cpu this_part f is.0.fresh is.0.listed
-      (legal_fast_steps_are_decided t run cpus k m c (step.Credit f) says.Back shows is_part refl (λ e. cc) all)
+      (legal_fast_steps_are_decided t run cpus k m c (step.Credit f) step_answer.Back shows is_part refl (λ e. cc) all)
       after.locked.machine.watch is.1.locked.watched) all) legal
   release_follows is_explained f steps after (answer.Served reply) true is shut legal =
       locked_follows is_explained is.seen (list_unseen t m c f is.seen is.not_listed) (cmd.Release f) reply steps after is.served shut legal

@@ -6,7 +6,7 @@ use Rattle.frame_word.specs.Seats.{KnownTable}
 use Rattle.cpu_part.specs.declared.answers.Fast.TheVariants.{Got}
 use Rattle.cpu_part.specs.Cpus.{KnownCpu}
 use Rattle.step_rules.specs.declared.step.Action.TheVariants as step
-use Rattle.step_rules.specs.declared.step.Answer.TheVariants as says
+use Rattle.step_rules.specs.declared.step.Answer.TheVariants as step_answer
 use Rattle.step_rules.specs.After.{Run, IsLegalRun}
 use Rattle.step_watch.specs.Watched.{KnownWatch, Watches, IsNewWatch, SawRun, has_legal_steps}
 use Rattle.step_watch.proofs.Watching.{watches_none, watches_both, watched_runs_are_legal}
@@ -52,8 +52,8 @@ module _ (t : KnownTable) (before : LockedState) (steps : Run) (after : LockedSt
 
   locked_seen : (is_explained : Bool) (command : Cmd) (seen : KnownCpu) (reply : Reply) → IsServedUnderLock is_explained command seen reply (transition t before steps after) → SeesAll
   locked_seen is_explained command seen reply is =
-      let first : Run = cpu_makes seen.number step.Lock says.Done ∷ [] in
-      let last : Run = cpu_makes seen.number step.Unlock says.Done ∷ [] in
+      let first : Run = cpu_makes seen.number step.Lock step_answer.Done ∷ [] in
+      let last : Run = cpu_makes seen.number step.Unlock step_answer.Done ∷ [] in
       let a : KnownWatch = before.locked.machine.watch in
       let b : KnownWatch = is.found.machine.watch in
       let d : KnownWatch = is.left.machine.watch in

@@ -19,7 +19,7 @@ use Rattle.cpu_part.specs.declared.answers.Dropped.TheVariants as dropped
 use Rattle.cpu_part.specs.Cpus.{KnownCpu, most_pins, times}
 use Rattle.cpu_part.specs.Calls.{FastAnswers, DropAnswers, PinAnswers, UnpinAnswers}
 use Rattle.step_rules.specs.declared.step.Action.TheVariants as step
-use Rattle.step_rules.specs.declared.step.Answer.TheVariants as says
+use Rattle.step_rules.specs.declared.step.Answer.TheVariants as step_answer
 use Rattle.step_rules.specs.After.{Run}
 use Rattle.step_watch.specs.Watched.{KnownWatch, Watches}
 use Rattle.kill_texts.specs.Explanation.{explanation_text}
@@ -92,7 +92,7 @@ pub record TakesNoLock (steps : Run) (call : Transition LockedState) : Type 0 wh
 
 -- a fast allocation that got a frame made one step, which consumes a page; any other made no step
 abbrev pub fast_steps : ℕ → ℕ → cpu.Fast → Run
-fast_steps number group (Got frame) = cpu_makes number (step.Consume group) says.Took ∷ []
+fast_steps number group (Got frame) = cpu_makes number (step.Consume group) step_answer.Took ∷ []
 fast_steps number group other = []
 
 -- Fast: the result of a fast allocation for this group, which takes no lock
@@ -117,7 +117,7 @@ GetsPin frame before after other = ⊥
 
 -- a get that was held made one step; any other made none
 abbrev pub get_steps : (cpu frame : ℕ) → Answer → Run
-get_steps cpu frame (answer.Got Held) = cpu_makes cpu (step.Get frame) says.Held ∷ []
+get_steps cpu frame (answer.Got Held) = cpu_makes cpu (step.Get frame) step_answer.Held ∷ []
 get_steps cpu frame other = []
 
 -- Get: the pin and the answer, without the lock
@@ -158,10 +158,10 @@ pub record IsServedUnderLock (is_explained : Bool) (command : Cmd) (seen : Known
     (call : Transition LockedState) : Type 0 where
   pub found : KnownLocked
   pub left : KnownLocked
-  pub lock : OnlyWatched (cpu_makes seen.number step.Lock says.Done ∷ [])
+  pub lock : OnlyWatched (cpu_makes seen.number step.Lock step_answer.Done ∷ [])
       (locked_with_telling call.before.locked is_explained) found
   pub served : IsServed call.table command reply (locked_state found seen) (locked_state left call.after.cpu)
-  pub unlock : OnlyWatched (cpu_makes seen.number step.Unlock says.Done ∷ []) left call.after.locked
+  pub unlock : OnlyWatched (cpu_makes seen.number step.Unlock step_answer.Done ∷ []) left call.after.locked
   pub steps_are : call.steps ≡ under_lock seen.number served.steps
 
 -- the command of a CPU was served under the lock with this reply, by some steps
@@ -219,7 +219,7 @@ abbrev pub AnswersRelease : (is_explained : Bool) → (frame : ℕ) → Transiti
     → Type 0
 AnswersRelease is_explained frame call answer.Listed false =
     ListsAgain frame call.before.cpu call.after.cpu
-    × TakesNoLock (cpu_makes call.before.cpu.number (step.Credit frame) says.Back ∷ []) call
+    × TakesNoLock (cpu_makes call.before.cpu.number (step.Credit frame) step_answer.Back ∷ []) call
 AnswersRelease is_explained frame call (answer.Served reply) true = ReleasesUnderLock is_explained frame reply call
 AnswersRelease is_explained frame call other is_noted = ⊥
 
